@@ -1,0 +1,10 @@
+pub mod Line
+pub mod Net
+pub mod Rules
+pub mod State
+pub mod Effect
+pub mod History
+pub mod Sim
+pub mod Seq
+pub mod Case
+pub mod Quiet

@@ -1,0 +1,126 @@
+-- The rules of an instance and of a scenario, item by item: each item is judged against those before it (own).
+use Rattle.std.specs.Prelude.{ℕ, ◌+◌, ◌≡◌, ◌==◌, nat_lt, nat_le, Bool, false, not, ◌||◌, ◌&&◌, List, [], ◌∷◌, ◌++◌, length, reverse, if◌then◌else◌, Option, Some, None}
+use Rattle.std.specs.List.{filter, list_any, list_all}
+use Rattle.tw_model.specs.declared.case.Scene.{Scene}
+use Rattle.tw_model.specs.declared.case.Scene.TheVariants.{Fail, Restore, Swap}
+use Rattle.tw_model.specs.declared.net.Link.{Link}
+use Rattle.tw_model.specs.declared.net.Rule.{Rule}
+use Rattle.tw_model.specs.declared.net.Rule.TheVariants.{Range, SelfLink, TwiceLink, Delay, PathOwner, PathEnd, PathRepeats, PathNoLink, TwicePath, TooMany, NoSuchLink, NoSuchPlace, Time}
+use Rattle.tw_model.specs.Line.{Line}
+use Rattle.tw_model.specs.Net.{Net, joins, same_path, begins_at, paths_of}
+
+-- whether the number is in low to high
+abbrev pub is_within : ℕ → ℕ → ℕ → Bool
+is_within low high n = nat_le low n && nat_le n high
+
+-- whether a link joins v and w
+abbrev pub is_linked : List Link → ℕ → ℕ → Bool
+is_linked links v w = list_any (joins v w) links
+
+-- how many links v has
+abbrev pub degree : List Link → ℕ → ℕ
+degree links v = length (filter (λ l. l.first == v || l.second == v) links)
+
+-- how many permitted paths were given for v
+abbrev pub path_count : List Line → ℕ → ℕ
+path_count lines v = length (filter (λ l. l.owner == v) lines)
+
+abbrev pub ends_at : List ℕ → ℕ → Bool
+ends_at p v = begins_at (reverse p) v
+
+-- whether a node stands twice in the path
+abbrev pub repeats : List ℕ → Bool
+repeats [] = false
+repeats (v ∷ p) = list_any (λ w. w == v) p || repeats p
+
+-- whether two neighbouring nodes of the path have no link
+abbrev pub leaves_links : List Link → List ℕ → Bool
+leaves_links links [] = false
+leaves_links links (v ∷ []) = false
+leaves_links links (v ∷ w ∷ p) = not (is_linked links v w) || leaves_links links (w ∷ p)
+
+-- the rules that a number of routers breaks
+abbrev pub nodes_break : ℕ → Rule → Bool
+nodes_break n Range = not (is_within 1 1024 n)
+nodes_break n r = false
+
+-- the rules that a link breaks after those of the net
+abbrev pub link_breaks : Net → Link → Rule → Bool
+link_breaks net l Range = not (nat_lt l.first net.nodes && nat_lt l.second net.nodes)
+link_breaks net l SelfLink = l.first == l.second
+link_breaks net l TwiceLink = is_linked net.links l.first l.second
+link_breaks net l Delay = not (is_within 1 1000000 l.delay)
+link_breaks net l TooMany = nat_le 64 (degree net.links l.first) || nat_le 64 (degree net.links l.second)
+link_breaks net l r = false
+
+-- the rules that a permitted path breaks after those of the net
+abbrev pub line_breaks : Net → Line → Rule → Bool
+line_breaks net p Range = not (nat_lt p.owner net.nodes && list_all (λ v. nat_lt v net.nodes) p.nodes)
+line_breaks net p PathOwner = p.owner == 0 || not (begins_at p.nodes p.owner)
+line_breaks net p PathEnd = not (ends_at p.nodes 0)
+line_breaks net p PathRepeats = repeats p.nodes
+line_breaks net p PathNoLink = leaves_links net.links p.nodes
+line_breaks net p TwicePath = list_any (λ q. q.owner == p.owner && same_path q.nodes p.nodes) net.lines
+line_breaks net p TooMany = nat_le 200 (path_count net.lines p.owner) || nat_lt 32 (length p.nodes)
+line_breaks net p r = false
+
+-- whether v's order has the place, from 1
+abbrev pub has_place : Net → ℕ → ℕ → Bool
+has_place net v i = is_within 1 (length (paths_of net v)) i
+
+-- the rules that a scenario line breaks after count others
+abbrev pub scene_breaks : Net → ℕ → Scene → Rule → Bool
+scene_breaks net count (Fail t a b) Range = not (nat_lt a net.nodes && nat_lt b net.nodes)
+scene_breaks net count (Fail t a b) NoSuchLink = not (is_linked net.links a b)
+scene_breaks net count (Fail t a b) Time = nat_lt 1000000000 t
+scene_breaks net count (Restore t a b) Range = not (nat_lt a net.nodes && nat_lt b net.nodes)
+scene_breaks net count (Restore t a b) NoSuchLink = not (is_linked net.links a b)
+scene_breaks net count (Restore t a b) Time = nat_lt 1000000000 t
+scene_breaks net count (Swap t v i j) Range = not (nat_lt v net.nodes)
+scene_breaks net count (Swap t v i j) NoSuchPlace = not (has_place net v i && has_place net v j)
+scene_breaks net count (Swap t v i j) Time = nat_lt 1000000000 t
+scene_breaks net count s TooMany = nat_le 4096 count
+scene_breaks net count s r = false
+
+-- every rule, in rising order of the codes
+abbrev pub rules_in_order : List Rule
+rules_in_order =
+    Range ∷ SelfLink ∷ TwiceLink ∷ Delay ∷ PathOwner ∷ PathEnd ∷ PathRepeats ∷ PathNoLink ∷ TwicePath ∷ TooMany ∷ NoSuchLink ∷ NoSuchPlace ∷ Time ∷ []
+
+-- the first of the rules that is broken
+abbrev pub lowest : (Rule → Bool) → List Rule → Option Rule
+lowest broken [] = None
+lowest broken (r ∷ rs) = if broken r then Some r else lowest broken rs
+
+abbrev pub nodes_fault : ℕ → Option Rule
+nodes_fault n = lowest (nodes_break n) rules_in_order
+
+abbrev pub link_fault : Net → Link → Option Rule
+link_fault net l = lowest (link_breaks net l) rules_in_order
+
+abbrev pub line_fault : Net → Line → Option Rule
+line_fault net p = lowest (line_breaks net p) rules_in_order
+
+abbrev pub scene_fault : Net → ℕ → Scene → Option Rule
+scene_fault net count s = lowest (scene_breaks net count s) rules_in_order
+
+-- each link keeps the rules after those before it
+abbrev pub LinksFollow : Net → List Link → Type 0
+LinksFollow net [] = Unit {0}
+LinksFollow net (l ∷ links) = (link_fault net l ≡ None) × LinksFollow (record net { links = net.links ++ l ∷ [] }) links
+
+-- each permitted path keeps the rules after those before it
+abbrev pub LinesFollow : Net → List Line → Type 0
+LinesFollow net [] = Unit {0}
+LinesFollow net (p ∷ lines) = (line_fault net p ≡ None) × LinesFollow (record net { lines = net.lines ++ p ∷ [] }) lines
+
+-- each scenario line keeps the rules after count others
+abbrev pub ScenesFollow : Net → ℕ → List Scene → Type 0
+ScenesFollow net count [] = Unit {0}
+ScenesFollow net count (s ∷ scenes) = (scene_fault net count s ≡ None) × ScenesFollow net (count + 1) scenes
+
+-- a net that keeps the rules of an instance
+pub record IsNet (net : Net) : Type 0 where
+  pub nodes : nodes_fault net.nodes ≡ None
+  pub links : LinksFollow (record { nodes = net.nodes; links = []; lines = [] }) net.links
+  pub lines : LinesFollow (record { nodes = net.nodes; links = net.links; lines = [] }) net.lines

@@ -1,0 +1,87 @@
+-- What a router knows, and how it begins (Griffin, Shepherd, Wilfong 2002; sessions and counters own).
+use Rattle.std.specs.Prelude.{ℕ, ◌≡◌, ◌≤◌, ◌==◌, ◌^◌, Bool, true, not, ◌&&◌, List, ◌∷◌, length, map, nat_lt, slice_index_or, if◌then◌else◌}
+use Rattle.std.specs.List.{All, find, list_any, position_or_len}
+use Rattle.std.specs.Option.{unwrap_or}
+use Rattle.tw_event.specs.declared.event.PathNo.{PathNo}
+use Rattle.tw_model.specs.declared.net.Hop.{Hop}
+use Rattle.tw_model.specs.declared.state.Counters.{Counters}
+use Rattle.tw_model.specs.declared.state.Row.{Row}
+use Rattle.tw_model.specs.Net.{Net, IsPath, empty_path, origin_path, path, same_path, is_own, hops_of, paths_of}
+
+-- one row for each neighbour in rising number; the permitted paths best first
+pub record State : Type 0 where
+  pub rib : PathNo
+  pub rows : List Row
+  pub order : List PathNo
+  pub counters : Counters
+
+-- a router of an instance, with its state
+pub record Router : Type 0 where
+  pub net : Net
+  pub node : ℕ
+  pub state : State
+
+-- what a counter of messages or of events reaches at most
+abbrev pub limit : ℕ
+limit = 2 ^ 48
+
+-- whether the neighbour of this row offers q: the link is up, and q is v followed by what was heard
+abbrev pub offers : Net → ℕ → PathNo → Row → Bool
+offers net v q row = row.up && (not (row.heard.0 == 0) && same_path (path net q) (v ∷ path net row.heard))
+
+-- the first path in order that a neighbour offers, or the empty path; at the origin (0)
+abbrev pub best : Net → ℕ → State → PathNo
+best net v s = if v == 0 then origin_path else unwrap_or (find (λ q. list_any (offers net v q) s.rows) s.order) empty_path
+
+-- counters that a router can have
+pub record IsCounted (c : Counters) : Type 0 where
+  pub sent : c.sent ≤ limit
+  pub handled : c.handled ≤ limit
+  pub dropped : c.dropped ≤ c.handled
+  pub changed : c.changed ≤ c.handled
+
+-- a state that router v of this net can have
+pub record IsState (net : Net) (v : ℕ) (s : State) : Type 0 where
+  pub rib : IsPath net s.rib
+  pub hops : length s.rows ≡ length (hops_of net v)
+  pub heard : All (λ row. IsPath net row.heard) s.rows
+  pub sessions : All (λ row. row.session ≤ s.counters.handled) s.rows
+  pub places : length s.order ≡ length (paths_of net v)
+  pub order : All (λ q. is_own net v q ≡ true) s.order
+  pub counters : IsCounted s.counters
+
+-- how many neighbours of v stand before w
+abbrev pub slot : Net → ℕ → ℕ → ℕ
+slot net v w = position_or_len (λ h. h.peer == w) (hops_of net v)
+
+-- whether w is a neighbour of v
+abbrev pub has_peer : Net → ℕ → ℕ → Bool
+has_peer net v w = nat_lt (slot net v w) (length (hops_of net v))
+
+-- what stands where there is no neighbour
+abbrev pub no_hop : Hop
+no_hop = record { peer = 0; delay = 1 }
+
+abbrev pub no_row : Row
+no_row = record { heard = empty_path; up = true; session = 0 }
+
+-- the neighbour of this slot, and what v keeps of it
+abbrev pub hop : Net → ℕ → ℕ → Hop
+hop net v k = slice_index_or (hops_of net v) k no_hop
+
+abbrev pub row : State → ℕ → Row
+row s k = slice_index_or s.rows k no_row
+
+abbrev pub no_counts : Counters
+no_counts = record { sent = 0; handled = 0; dropped = 0; changed = 0 }
+
+abbrev pub fresh_row : Hop → Row
+fresh_row h = record { heard = empty_path; up = true; session = 0 }
+
+-- the state in which router v begins, with these counters
+abbrev pub opening_with : Net → ℕ → Counters → State
+opening_with net v c = record { rib = empty_path; rows = map fresh_row (hops_of net v); order = paths_of net v; counters = c }
+
+-- the state in which router v begins
+abbrev pub opening : Net → ℕ → State
+opening net v = opening_with net v no_counts

@@ -1,0 +1,12 @@
+//! The definitions that the project's contracts speak of, in `specs/`: instances of the stable paths
+//! problem, router states, the effect of an event, the sequential run. Here stands the plain data
+//! that code and definitions share.
+#![tactic(auto)]
+
+mod case;
+mod net;
+mod state;
+
+pub use case::Scene;
+pub use net::{Hop, Link, PathLine, Rule};
+pub use state::{Counters, Row};
