@@ -9,5 +9,4 @@ use crate::event::Event;
 pub fn order_of_events()
     ensures order { (d e : AnEvent) → ⟦<Event as Ord>⟧.cmp d e ≡ event_cmp d e }
     ensures equality { (d e : AnEvent) → IsTrue (⟦<Event as PartialEq>⟧.eq d e) ↔ (d ≡ e) }
-{
-}
+{}

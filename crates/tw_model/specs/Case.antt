@@ -54,4 +54,5 @@ simulation case = record {
   most = 64;
   suits = λ e. suits case.net e.dst e;
   number = λ s. s.counters.sent;
-  full = λ s e. is_full case.net e.dst s e }
+  full = λ s e. is_full case.net e.dst s e;
+}

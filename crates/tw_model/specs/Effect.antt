@@ -37,7 +37,8 @@ abbrev pub settle : Net → ℕ → ℕ → State → Outcome
 settle net v t s =
     if s.rib.0 == (best net v s).0 then record { state = s; sends = [] } else record {
       state = with_rib net v s (best net v s);
-      sends = updates net v t (best net v s) s.counters.sent s }
+      sends = updates net v t (best net v s) s.counters.sent s;
+    }
 
 abbrev pub counted : State → State
 counted s = record s { counters = record s.counters { handled = s.counters.handled + 1 } }
@@ -65,7 +66,8 @@ swapping s i j = record s { order = swap s.order (i - 1) (j - 1) }
 abbrev pub tell : Net → ℕ → ℕ → State → ℕ → Outcome
 tell net v t s k = record {
   state = record s { counters = record s.counters { sent = s.counters.sent + 1 } };
-  sends = update_to v t s.rib s.counters.sent (hop net v k) (row s k) ∷ [] }
+  sends = update_to v t s.rib s.counters.sent (hop net v k) (row s k) ∷ [];
+}
 
 abbrev pub quiet : State → Outcome
 quiet s = record { state = s; sends = [] }
