@@ -5,8 +5,10 @@
 
 mod case;
 mod net;
+mod outcome;
 mod state;
 
 pub use case::Scene;
 pub use net::{Hop, Link, PathLine, Rule};
+pub use outcome::{Outcome, RouterEnd};
 pub use state::{Counters, Row};
