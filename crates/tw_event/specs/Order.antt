@@ -1,6 +1,6 @@
 -- The order of events: by time, then receiver, class, sender, number, body (own).
-use Rattle.std.specs.Prelude.{ℕ}
-use Rattle.std.specs.Ordering.{nat_cmp, ordering_then}
+use Rattle.std.specs.Prelude.{ℕ, Bool}
+use Rattle.std.specs.Ordering.{nat_cmp, ordering_then, is_lt}
 use Rattle.std.specs.declared.cmp.Ordering.{Ordering}
 use Rattle.std.specs.declared.cmp.Ordering.TheVariants.{Equal}
 use Rattle.tw_event.specs.declared.event.Body.{Body}
@@ -40,3 +40,7 @@ event_cmp d e =
     (ordering_then (nat_cmp d.dst e.dst)
     (ordering_then (nat_cmp (place_of (class_of d.body)) (place_of (class_of e.body)))
     (ordering_then (nat_cmp d.src e.src) (ordering_then (nat_cmp d.seq e.seq) (body_cmp d.body e.body)))))
+
+-- whether d is handled before e
+abbrev pub event_before : Event → Event → Bool
+event_before d e = is_lt (event_cmp d e)

@@ -4,6 +4,7 @@ pub mod Rules
 pub mod State
 pub mod Effect
 pub mod History
+pub mod Ordered
 pub mod Sim
 pub mod Seq
 pub mod Case

@@ -1,6 +1,7 @@
 -- The sequential run: again and again the least pending event is handled, and its sends are added (own, after Griffin,
 -- Shepherd, Wilfong 2002).
 use Rattle.std.specs.Prelude.{ℕ, suc, zero, ◌+◌, ◌-◌, ◌^◌, cond, List, [], ◌∷◌, nat_lt, if◌then◌else◌}
+use Rattle.tw_model.specs.Ordered as ordered
 use Rattle.tw_model.specs.Sim.{Sim, state, only}
 
 -- the events handled, newest first, and the events pending, the least first
@@ -11,12 +12,10 @@ pub record World (E : Type 0) : Type 0 where
 module _ {S E : Type 0} (m : Sim S E) where
   -- into its place in the order
   abbrev pub insert : E → List E → List E
-  insert e [] = e ∷ []
-  insert e (x ∷ xs) = cond (m.before x e) (x ∷ insert e xs) (e ∷ x ∷ xs)
+  insert e xs = ordered.insert m.before e xs
 
   abbrev pub insert_all : List E → List E → List E
-  insert_all [] xs = xs
-  insert_all (e ∷ es) xs = insert_all es (insert e xs)
+  insert_all es xs = ordered.insert_all m.before es xs
 
   -- the least pending event is handled, where its time is below t
   abbrev pub turn : ℕ → List E → List E → World E

@@ -1,0 +1,13 @@
+-- Lists that are kept in order: by a test of whether one element comes before another.
+use Rattle.std.specs.Prelude.{Bool, cond, List, [], ◌∷◌}
+
+module _ {E : Type 0} (before : E → E → Bool) where
+  -- into its place in the order
+  abbrev pub insert : E → List E → List E
+  insert e [] = e ∷ []
+  insert e (x ∷ xs) = cond (before x e) (x ∷ insert e xs) (e ∷ x ∷ xs)
+
+  -- each into its place, the first of them first
+  abbrev pub insert_all : List E → List E → List E
+  insert_all [] xs = xs
+  insert_all (e ∷ es) xs = insert_all es (insert e xs)
