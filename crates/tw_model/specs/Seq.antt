@@ -39,8 +39,12 @@ module _ {S E : Type 0} (m : Sim S E) where
   weight t (x ∷ xs) = cond (nat_lt (m.time x) t) ((m.most + 1) ^ (t - m.time x)) 0 + weight t xs
 
   -- when no pending event is below t any more
-  unfoldable pub seq : ℕ → World E
-  seq t = turns (weight t begin.rest) t begin
+  unfoldable pub finished : ℕ → World E → World E
+  finished t w = turns (weight t w.rest) t w
+
+  -- the run to t, from its begin
+  abbrev pub seq : ℕ → World E
+  seq t = finished t begin
 
   -- the events before t in the order handled, the newest first
   abbrev pub log : ℕ → List E

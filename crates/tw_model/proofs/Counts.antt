@@ -1,0 +1,96 @@
+-- Counted lists of events: how often an event stands in a list after an append, an insertion or a filter.
+use Rattle.std.proofs.Common.{◌≡◌, ℕ, suc, zero, ◌+◌, ◌<◌, ◌≤◌, Bool, true, false, cond, List, [], ◌∷◌, ◌++◌, length, reverse, refl, ap, sym, ◌∙◌, subst, ◌⊎◌, inl, inr, ⊎_elim, arith, filter}
+use Rattle.std.proofs.lemmas.Bool.{cases_Bool, cond-true, cond-false, both_ways}
+use Rattle.std.proofs.lemmas.List.{reverse-append}
+use Rattle.tw_model.specs.Sim.{Sim, IsLawful, one, times, only, below}
+use Rattle.tw_model.specs.Seq.{insert, insert_all}
+
+pub none : (n : ℕ) → (0 < n → ⊥) → n ≡ 0
+none zero h = refl
+none (suc n) h = absurd (h (omega arith))
+
+module _ {S E : Type 0} (m : Sim S E) where
+  pub times-append : (e : E) (xs ys : List E) → times m e (xs ++ ys) ≡ times m e xs + times m e ys
+  times-append e [] ys = omega arith
+  times-append e (x ∷ xs) ys = let h = times-append e xs ys in omega arith
+
+  pub times-reverse : (e : E) (xs : List E) → times m e (reverse xs) ≡ times m e xs
+  times-reverse e [] = refl
+  times-reverse e (x ∷ xs) = let h = times-reverse e xs in rw (reverse-append (x ∷ []) xs) (let k = times-append e (reverse xs) (x ∷ []) in omega arith)
+
+  -- an insertion adds one count
+  pub times-insert : (e x : E) (xs : List E) → times m e (insert m x xs) ≡ one m e x + times m e xs
+  times-insert e x [] = refl
+  times-insert e x (y ∷ ys) =
+      elim (cases_Bool (m.before y x)) [
+        | inl b ↦ let h = times-insert e x ys in rw b (omega arith)
+        | inr b ↦ rw b refl
+      ]
+
+  pub times-insert_all : (e : E) (xs ys : List E) → times m e (insert_all m xs ys) ≡ times m e xs + times m e ys
+  times-insert_all e [] ys = omega arith
+  times-insert_all e (x ∷ xs) ys = let h = times-insert_all e xs (insert m x ys) in let k = times-insert e x ys in omega arith
+
+  pub length-insert : (x : E) (xs : List E) → length (insert m x xs) ≡ suc (length xs)
+  length-insert x [] = refl
+  length-insert x (y ∷ ys) =
+      elim (cases_Bool (m.before y x)) [
+        | inl b ↦ let h = length-insert x ys in rw b (ap suc h)
+        | inr b ↦ rw b refl
+      ]
+
+  pub length-insert_all : (xs ys : List E) → length (insert_all m xs ys) ≡ length xs + length ys
+  length-insert_all [] ys = omega arith
+  length-insert_all (x ∷ xs) ys = let h = length-insert_all xs (insert m x ys) in let k = length-insert x ys in omega arith
+
+  -- a filter keeps at most what was there
+  pub times-filter-le : (p : E → Bool) (e : E) (xs : List E) → times m e (filter p xs) ≤ times m e xs
+  times-filter-le p e [] = omega arith
+  times-filter-le p e (x ∷ xs) =
+      let h = times-filter-le p e xs in
+      elim (cases_Bool (p x)) [ inl b ↦ rw b (omega arith) | inr b ↦ rw b (omega arith) ]
+
+  module _ (law : IsLawful m) where
+    pub one_self : (e : E) → one m e e ≡ 1
+    one_self e = rw (law.same_self e) refl
+
+    pub one_cases : (e x : E) → (one m e x ≡ 0) ⊎ (e ≡ x)
+    one_cases e x =
+        elim (cases_Bool (m.same e x)) [
+          | inl b ↦ inr (law.same_is e x b)
+          | inr b ↦ inl (rw b refl)
+        ]
+
+    -- the newest or one of the others
+    pub in_cons : (e x : E) (xs : List E) → 0 < times m e (x ∷ xs) → (e ≡ x) ⊎ (0 < times m e xs)
+    in_cons e x xs h = elim (one_cases e x) [ inl z ↦ inr (omega arith) | inr s ↦ inl s ]
+
+    pub in_head : (x : E) (xs : List E) → 0 < times m x (x ∷ xs)
+    in_head x xs = let h = one_self x in omega arith
+
+    -- an event that passes the test stands as often in what passes, one that fails it never
+    pub times-filter-yes : (p : E → Bool) (e : E) (xs : List E) → p e ≡ true → times m e (filter p xs) ≡ times m e xs
+    times-filter-yes p e [] h = refl
+    times-filter-yes p e (x ∷ xs) h =
+        let k = times-filter-yes p e xs h in
+        elim (cases_Bool (p x)) [
+          | inl b ↦ rw b (omega arith)
+          | inr b ↦ rw b (elim (one_cases e x) [ inl z ↦ omega arith | inr s ↦ absurd (both_ways (p x) b (subst (λ y. p y ≡ true) s h)) ])
+        ]
+
+    pub times-filter-no : (p : E → Bool) (e : E) (xs : List E) → p e ≡ false → times m e (filter p xs) ≡ 0
+    times-filter-no p e [] h = refl
+    times-filter-no p e (x ∷ xs) h =
+        let k = times-filter-no p e xs h in
+        elim (cases_Bool (p x)) [
+          | inl b ↦ rw b (elim (one_cases e x) [ inl z ↦ omega arith | inr s ↦ absurd (both_ways (p x) (subst (λ y. p y ≡ false) s h) b) ])
+          | inr b ↦ rw b (omega arith)
+        ]
+
+    -- what stands in a filtered list passes the test and stood in the list
+    pub in_filter : (p : E → Bool) (e : E) (xs : List E) → 0 < times m e (filter p xs) → (p e ≡ true) × (0 < times m e xs)
+    in_filter p e xs h =
+        elim (cases_Bool (p e)) [
+          | inl b ↦ (b, (let k = times-filter-le p e xs in omega arith))
+          | inr b ↦ (let k = times-filter-no p e xs b in absurd (omega arith))
+        ]
