@@ -1,0 +1,180 @@
+#!/usr/bin/env python3
+"""Makes cases at scale from a seed, and measures the built program on them.
+
+    bench.py make NAME [--seed N] > case.spp     one of: hierarchy gadgets mesh limits
+    bench.py run [NAME ..] [--seed N] [--events N ..]
+
+`run` prints for each case and number of events: the stop, events handled, seconds, events for each second, the
+greatest memory in use, memory for each event beside that of a run to stop 1, and for `limits` the bytes read for
+each second. The stop for a number of events is found by doubling.
+"""
+import argparse
+import pathlib
+import random
+import re
+import resource
+import subprocess
+import sys
+import tempfile
+import time
+
+PROGRAM = pathlib.Path(__file__).resolve().parent.parent / "crates/twarp/out/twarp"
+
+
+def text(nodes, links, paths, scenes=()):
+    lines = ["spp 1", f"nodes {nodes}"]
+    lines += [f"link {a} {b} {d}" for a, b, d in links]
+    lines += ["path " + " ".join(map(str, [path[0], *path])) for path in paths]
+    lines += [" ".join(map(str, scene)) for scene in scenes]
+    return "\n".join([*lines, "end", ""])
+
+
+def hierarchy(rng):
+    """1,000 routers, each with two providers above it; links fail and are repaired."""
+    nodes, links, own = 1000, [], {0: [(0,)]}
+    customers = {v: 0 for v in range(1000)}
+    for v in range(1, nodes):
+        above = [p for p in range(max(0, v // 8 - 3), max(1, v // 4 + 1)) if p < v and customers[p] < 60]
+        providers = rng.sample(above, min(2, len(above)))
+        for p in providers:
+            customers[p] += 1
+            links.append((p, v, rng.randint(1, 20)))
+        paths = [(v, *path) for p in providers for path in own[p] if v not in path and len(path) < 31]
+        rng.shuffle(paths)
+        own[v] = sorted(paths, key=len)[:8]
+    scenes = []
+    for _ in range(1900):
+        a, b, _delay = rng.choice(links)
+        t = rng.randint(50, 100000)
+        scenes += [("fail", t, a, b), ("restore", t + rng.randint(1, 200), a, b)]
+    return text(nodes, links, [path for v in range(1, nodes) for path in own[v]], scenes)
+
+
+def gadgets(rng):
+    """Pairs that disagree and rings of three, by relays on one origin, with all delays 1: they oscillate for ever."""
+    relays, links, paths, free = 64, [], [], 65
+    for relay in range(1, relays + 1):
+        links.append((0, relay, 1))
+        paths.append((relay, 0))
+        places = 14
+        while places >= 2 and free + 3 <= 1024:
+            size = 3 if places >= 3 and rng.random() < 0.3 else 2
+            ring = range(free, free + size)
+            for k, v in enumerate(ring):
+                links.append((relay, v, 1))
+                if size == 3 or k == 0:
+                    links.append((v, ring[(k + 1) % size], 1))
+                paths += [(v, ring[(k + 1) % size], relay, 0), (v, relay, 0)]
+            free, places = free + size, places - size
+    return text(free, links, paths)
+
+
+def mesh(rng):
+    """A full mesh of 60 behind one link to the origin, which fails and is repaired: paths are explored."""
+    nodes = 61
+    links = [(0, 1, 1)] + [(v, w, rng.randint(1, 9)) for v in range(1, nodes) for w in range(v + 1, nodes)]
+    paths = [(1, 0)]
+    for v in range(2, nodes):
+        others = [w for w in range(2, nodes) if w != v]
+        paths.append((v, 1, 0))
+        paths += [(v, w, 1, 0) for w in rng.sample(others, 40)]
+        longer = set()
+        while len(longer) < 150:
+            longer.add((v, *rng.sample(others, rng.choice([2, 3])), 1, 0))
+        paths += sorted(longer, key=lambda path: (len(path), path))
+    scenes = [scene for k in range(2000) for scene in (("fail", 100 + 400 * k, 0, 1), ("restore", 300 + 400 * k, 0, 1))]
+    return text(nodes, links, paths, scenes)
+
+
+def limits(rng):
+    """1,024 routers with 64 links each and 200 paths each, most of them long."""
+    nodes = 1024
+    links = [(v, (v + k) % nodes, rng.randint(1, 1000000)) for v in range(nodes) for k in range(1, 33)]
+    paths = []
+    for v in range(1, nodes):
+        found = set()
+        while len(found) < 200:
+            down = v < nodes // 2
+            left, path = (v if down else nodes - v), [v]
+            steps = rng.randint((left + 31) // 32, min(31, left))
+            cuts = None
+            while cuts is None or max(cuts) > 32:
+                places = sorted(rng.sample(range(1, left), steps - 1)) if steps > 1 else []
+                cuts = [b - a for a, b in zip([0, *places], [*places, left])]
+                if max(cuts) > 32:
+                    cuts = [left // steps + (k < left % steps) for k in range(steps)]
+                    rng.shuffle(cuts)
+            for cut in cuts:
+                left -= cut
+                path.append(left if down else (nodes - left) % nodes)
+            found.add(tuple(path))
+            if v in (1, 1023) or min(v, nodes - v) < 12:
+                break
+        paths += sorted(found, key=lambda path: (len(path), path))
+    return text(nodes, links, paths)
+
+
+CASES = {"hierarchy": hierarchy, "gadgets": gadgets, "mesh": mesh, "limits": limits}
+
+
+def measure(words, case):
+    """The program's output, its seconds and its greatest memory in KiB."""
+    with tempfile.NamedTemporaryFile() as kept:
+        began = time.monotonic()
+        with open(case, "rb") as source:
+            done = subprocess.run(["/usr/bin/env", "python3", "-c", CHILD, kept.name, str(PROGRAM), *words], stdin=source, capture_output=True, check=True)
+        seconds, memory = map(float, pathlib.Path(kept.name).read_text().split())
+        del began
+    return done.stdout.decode(), seconds, memory
+
+
+CHILD = """
+import resource, subprocess, sys, time
+began = time.monotonic()
+done = subprocess.run(sys.argv[2:])
+seconds = time.monotonic() - began
+open(sys.argv[1], "w").write(f"{seconds} {resource.getrusage(resource.RUSAGE_CHILDREN).ru_maxrss}")
+sys.exit(done.returncode)
+"""
+
+
+def handled(report):
+    return sum(int(n) for n in re.findall(r"^router .* handled (\d+)", report, re.M))
+
+
+def run(name, seed, wanted):
+    with tempfile.NamedTemporaryFile("w", suffix=".spp") as file:
+        file.write(CASES[name](random.Random(seed)))
+        file.flush()
+        size = pathlib.Path(file.name).stat().st_size
+        _, seconds, base = measure(["check"], file.name)
+        print(f"{name}: {size} bytes read in {seconds:.2f} s, {size / seconds / 1e6:.1f} MB for each second, {base / 1024:.0f} MiB", flush=True)
+        _, _, base = measure(["seq", "--stop", "1"], file.name)
+        for events in wanted if name != "limits" else []:
+            stop = 16
+            while True:
+                report, seconds, memory = measure(["seq", "--stop", str(stop)], file.name)
+                count = handled(report)
+                if count >= events or stop >= 2**29 or "verdict quiet" in report:
+                    break
+                stop *= 2
+            per = (memory - base) * 1024 / max(count, 1)
+            print(f"{name}: stop {stop}, {count} events in {seconds:.2f} s, {count / seconds:.0f} for each second, {memory / 1024:.0f} MiB, {per:.1f} bytes an event", flush=True)
+
+
+def main():
+    parser = argparse.ArgumentParser(description=__doc__, formatter_class=argparse.RawDescriptionHelpFormatter)
+    parser.add_argument("what", choices=["make", "run"])
+    parser.add_argument("names", nargs="*", choices=[*CASES, []])
+    parser.add_argument("--seed", type=int, default=1)
+    parser.add_argument("--events", type=int, nargs="*", default=[10**5, 10**6, 10**7])
+    line = parser.parse_args()
+    if line.what == "make":
+        sys.stdout.write(CASES[line.names[0]](random.Random(line.seed)))
+        return
+    for name in line.names or CASES:
+        run(name, line.seed, line.events)
+
+
+if __name__ == "__main__":
+    main()
