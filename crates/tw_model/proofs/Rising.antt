@@ -1,0 +1,98 @@
+-- The pending events of a run stay in order, and each suits the router that handles it.
+use Rattle.std.proofs.Common.{◌≡◌, ℕ, suc, zero, ◌+◌, ◌<◌, ◌≤◌, ◌==◌, Bool, true, false, cond, List, [], ◌∷◌, ◌++◌, refl, ap, sym, ◌∙◌, subst, ◌⊎◌, inl, inr, arith, nat_lt}
+use Rattle.std.proofs.lemmas.Bool.{cases_Bool, eqb-true, ltb-true, ltb-false, le-ltb, false_from_ne_true, both_ways}
+use Rattle.tw_model.specs.Sim.{Sim, IsLawful, one, times, only, state}
+use Rattle.tw_model.specs.Seq.{World, begin, finished, insert, insert_all, turn, turns, weight}
+use Rattle.tw_model.proofs.Counts.{in_cons, in_filter, in_head, one_self, times-insert, times-insert_all}
+use Rattle.tw_model.proofs.Seq.{Ends, over, soon, ends, turn_over, turn_soon}
+
+module _ {S E : Type 0} (m : Sim S E) where
+  -- the first ones first
+  abbrev pub IsRising : List E → Type 0
+  IsRising [] = Unit {0}
+  IsRising (x ∷ xs) = ((e : E) → 0 < times m e xs → m.before e x ≡ false) × IsRising xs
+
+  -- each event of a run suits the router that handles it
+  pub record AllSuit (w : World E) : Type 0 where
+    pub handled : (e : E) → 0 < times m e w.log → m.suits e ≡ true
+    pub pending : (e : E) → 0 < times m e w.rest → m.suits e ≡ true
+
+  module _ (law : IsLawful m) where
+    pub not_back : (x y : E) → m.before x y ≡ true → m.before y x ≡ false
+    not_back x y h =
+        false_from_ne_true (m.before y x) (λ k. both_ways (m.before x x) (law.not_self x) (law.trans x y x h k))
+
+    -- what is not before what is not before x is not before x
+    pub not_before : (e y x : E) → m.before e y ≡ false → m.before y x ≡ false → m.before e x ≡ false
+    not_before e y x a b =
+        false_from_ne_true (m.before e x) (λ h.
+        elim (cases_Bool (m.before y e)) [
+          | inl k ↦ both_ways (m.before y x) b (law.trans y e x k h)
+          | inr k ↦ both_ways (m.before y x) b (subst (λ z. m.before z x ≡ true) (law.total e y a k) h)
+        ])
+
+    rising-insert : (x : E) (xs : List E) → IsRising xs → IsRising (insert m x xs)
+    rising-insert x [] r = ((λ e none. absurd (omega arith)), tt)
+    rising-insert x (y ∷ ys) r =
+        elim (cases_Bool (m.before y x)) [
+          | inl b ↦ rw b (
+            ((λ e there. elim (in_cons m law e x ys (let k = times-insert m e x ys in omega arith)) [
+              | inl is ↦ subst (λ z. m.before z y ≡ false) (sym is) (not_back y x b)
+              | inr old ↦ r.0 e old
+            ])),
+            rising-insert x ys r.1,
+          )
+          | inr b ↦ rw b (
+            ((λ e there. elim (in_cons m law e y ys there) [
+              | inl is ↦ subst (λ z. m.before z x ≡ false) (sym is) b
+              | inr old ↦ not_before e y x (r.0 e old) b
+            ])),
+            r,
+          )
+        ]
+
+    pub rising-insert_all : (es xs : List E) → IsRising xs → IsRising (insert_all m es xs)
+    rising-insert_all [] xs r = r
+    rising-insert_all (e ∷ es) xs r = rising-insert_all es (insert m e xs) (rising-insert e xs r)
+
+    rising-turn : (t : ℕ) (w : World E) → Ends m t w → IsRising w.rest → IsRising (turn m t w.log w.rest).rest
+    rising-turn t w (over h) r = subst (λ v. IsRising v.rest) (sym (turn_over m t w h)) r
+    rising-turn t w (soon {log} {x} {rest} h) r =
+        subst (λ v. IsRising v.rest) (sym (turn_soon m t log x rest h)) (rising-insert_all (m.sends (state m (m.dst x) (only m (m.dst x) log)) x) rest r.1)
+
+    pub rising-turns : (n t : ℕ) (w : World E) → IsRising w.rest → IsRising (turns m n t w).rest
+    rising-turns zero t w r = r
+    rising-turns (suc n) t w r = rising-turns n t (turn m t w.log w.rest) (rising-turn t w (ends m t w) r)
+
+    pub rising-begin : IsRising (begin m).rest
+    rising-begin = rising-insert_all m.opening [] tt
+
+    pub suit-begin : AllSuit (begin m)
+    suit-begin = record {
+      handled = λ e none. absurd (omega arith);
+      pending = λ e there. law.suit_opening e (let k = times-insert_all m e m.opening [] in omega arith);
+    }
+
+    suit-turn : (t : ℕ) (w : World E) → Ends m t w → AllSuit w → AllSuit (turn m t w.log w.rest)
+    suit-turn t w (over h) s = subst AllSuit (sym (turn_over m t w h)) s
+    suit-turn t w (soon {log} {x} {rest} h) s =
+        let x_suits = s.pending x (in_head m law x rest) in
+        subst AllSuit (sym (turn_soon m t log x rest h)) (record {
+          handled = λ e there. elim (in_cons m law e x log there) [
+            | inl is ↦ subst (λ z. m.suits z ≡ true) (sym is) x_suits
+            | inr old ↦ s.handled e old
+          ];
+          pending = λ e there.
+              elim (cases_Bool (nat_lt 0 (times m e rest))) [
+                | inl b ↦ s.pending e (let k = ltb-true 0 (times m e rest) b in omega arith)
+                | inr b ↦
+                    law.suit_sends x e (only m (m.dst x) log)
+                    (λ y in_older. let k = in_filter m law (λ z. m.dst z == m.dst x) y log in_older in (eqb-true (m.dst y) (m.dst x) k.0, s.handled y k.1))
+                    x_suits
+                    (let k = ltb-false 0 (times m e rest) b in let l = times-insert_all m e (m.sends (state m (m.dst x) (only m (m.dst x) log)) x) rest in omega arith)
+              ];
+        })
+
+    pub suit-turns : (n t : ℕ) (w : World E) → AllSuit w → AllSuit (turns m n t w)
+    suit-turns zero t w s = s
+    suit-turns (suc n) t w s = suit-turns n t (turn m t w.log w.rest) (suit-turn t w (ends m t w) s)
