@@ -1,8 +1,8 @@
 -- Counted lists of events: how often an event stands in a list after an append, an insertion or a filter.
-use Rattle.std.proofs.Common.{◌≡◌, ℕ, suc, zero, ◌+◌, ◌<◌, ◌≤◌, Bool, true, false, cond, List, [], ◌∷◌, ◌++◌, length, reverse, refl, ap, sym, ◌∙◌, subst, ◌⊎◌, inl, inr, ⊎_elim, arith, filter}
-use Rattle.std.proofs.lemmas.Bool.{cases_Bool, cond-true, cond-false, both_ways}
+use Rattle.std.proofs.Common.{◌≡◌, ℕ, suc, zero, ◌+◌, ◌<◌, ◌≤◌, Bool, true, false, List, [], ◌∷◌, ◌++◌, length, reverse, refl, ap, subst, ◌⊎◌, inl, inr, arith, filter}
+use Rattle.std.proofs.lemmas.Bool.{cases_Bool, both_ways}
 use Rattle.std.proofs.lemmas.List.{reverse-append}
-use Rattle.tw_model.specs.Sim.{Sim, IsLawful, one, times, only, below}
+use Rattle.tw_model.specs.Sim.{Sim, IsLawful, one, times}
 use Rattle.tw_model.specs.Seq.{insert, insert_all}
 
 pub none : (n : ℕ) → (0 < n → ⊥) → n ≡ 0

@@ -1,3 +1,4 @@
 pub mod Counts
 pub mod Seq
 pub mod Rising
+pub mod Within

@@ -1,10 +1,10 @@
 -- The sequential run: its turns come to an end, and running on from a run to an earlier time is running to the later one.
-use Rattle.std.proofs.Common.{◌≡◌, ℕ, suc, zero, ◌+◌, ◌-◌, ◌*◌, ◌^◌, ◌<◌, ◌≤◌, Bool, true, false, cond, List, [], ◌∷◌, ◌++◌, length, refl, ap, sym, ◌∙◌, subst, ◌⊎◌, inl, inr, arith, filter, nat_lt, pow-suc, zero-add, suc-add, if◌then◌else◌}
+use Rattle.std.proofs.Common.{◌≡◌, ℕ, suc, zero, ◌+◌, ◌-◌, ◌*◌, ◌^◌, ◌<◌, ◌≤◌, cond, List, [], ◌∷◌, length, refl, ap, sym, ◌∙◌, subst, inl, inr, arith, nat_lt, pow-suc, zero-add, suc-add}
 use Rattle.std.proofs.Math.Nat.{pow-le-pow_right, one-le-pow, mul-le-mul_right}
-use Rattle.std.proofs.lemmas.Bool.{cases_Bool, ltb-true, ltb-false, lt-ltb, le-ltb, eqb-true}
-use Rattle.tw_model.specs.Sim.{Sim, IsLawful, one, times, only, state}
-use Rattle.tw_model.specs.Seq.{World, begin, finished, insert, insert_all, seq, turn, turns, weight}
-use Rattle.tw_model.proofs.Counts.{in_cons, in_filter, one_self, times-insert_all}
+use Rattle.std.proofs.lemmas.Bool.{cases_Bool, ltb-true, ltb-false, lt-ltb, le-ltb}
+use Rattle.tw_model.specs.Sim.{Sim, IsLawful, times, only, state}
+use Rattle.tw_model.specs.Seq.{World, finished, insert, insert_all, turn, turns, weight}
+use Rattle.tw_model.proofs.Counts.{one_self}
 
 -- the least pending event, if any, is not before t
 abbrev pub IsOver : {S E : Type 0} → Sim S E → ℕ → List E → Type 0
