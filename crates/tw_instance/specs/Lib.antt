@@ -1,0 +1,3 @@
+pub mod Hops
+pub mod Instance
+pub mod Opening

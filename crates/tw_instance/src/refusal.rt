@@ -1,0 +1,37 @@
+use tw_model::Rule;
+
+/// Why an item was refused.
+#[derive(Clone, Copy, PartialEq, Eq, Debug)]
+pub enum Refusal {
+    /// It breaks this rule, and none before it.
+    Rule(Rule),
+    /// Memory ran out.
+    Memory,
+}
+
+/// An item of an instance or of a scenario.
+#[derive(Clone, Copy, PartialEq, Eq, Debug)]
+pub enum Place {
+    /// The number of routers.
+    Nodes,
+    /// A link, from 1.
+    Link(usize),
+    /// A permitted path, from 1.
+    Path(usize),
+    /// A scenario line, from 1.
+    Scene(usize),
+}
+
+/// Why a whole instance or scenario was refused.
+#[derive(Clone, Copy, PartialEq, Eq, Debug)]
+pub enum At {
+    /// The first item that breaks a rule, and the first rule that it breaks.
+    Fault {
+        /// The item.
+        place: Place,
+        /// The rule.
+        rule: Rule,
+    },
+    /// Memory ran out.
+    Memory,
+}
