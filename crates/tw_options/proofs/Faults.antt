@@ -1,0 +1,62 @@
+-- What becomes of the parser's errors.
+use Rattle.std.proofs.Common.{◌≡◌, ◌⊎◌, inl, inr, refl, subst, true, List, []}
+use Rattle.std.specs.Prelude.{IfErr, IsErrAnd, Ok, Err, Result}
+use Rattle.clap.specs.Words.{App, HasKind, IsAmong, Kinds, Text, fault_of, is_simple_and_free, kind_of}
+use Rattle.clap.specs.declared.error.Error.{Error}
+use Rattle.clap.specs.declared.error.kind.ErrorKind.{ErrorKind}
+use Rattle.clap.specs.declared.error.kind.ErrorKind.TheVariants as kind
+use Rattle.tw_options.specs.App.{twarp_app}
+use Rattle.tw_options.specs.Fault.{Answers, Explains, Tells}
+use Rattle.tw_options.specs.declared.fault.LineFault.{LineFault}
+use Rattle.tw_options.specs.declared.fault.LineFault.TheVariants.{Help, Bad, Memory}
+
+is_simple_and_free_app : is_simple_and_free twarp_app ≡ true
+is_simple_and_free_app = refl
+
+-- what the parser says of its own command, it says of ours
+pub taken : (a : App) (words : List Text) → a ≡ twarp_app → (is_simple_and_free a ≡ true → fault_of a words ≡ [])
+    → fault_of twarp_app words ≡ []
+taken a words is h =
+    let g : is_simple_and_free twarp_app ≡ true → fault_of twarp_app words ≡ [] =
+    subst (λ (b : App). is_simple_and_free b ≡ true → fault_of b words ≡ []) is h in
+    g is_simple_and_free_app
+
+refused : (a : App) (words : List Text) (e : Error) → a ≡ twarp_app → (is_simple_and_free a ≡ true → HasKind (fault_of a words) e)
+    → HasKind (fault_of twarp_app words) e
+refused a words e is h =
+    let g : is_simple_and_free twarp_app ≡ true → HasKind (fault_of twarp_app words) e =
+    subst (λ (b : App). is_simple_and_free b ≡ true → HasKind (fault_of b words) e) is h in
+    g is_simple_and_free_app
+
+no_memory : (k : ErrorKind) → Answers k → k ≡ kind.OutOfMemory → ⊥
+no_memory k (inl h) e = cc
+no_memory k (inr h) e = cc
+
+among : (k : ErrorKind) (ks : Kinds) → (k ≡ kind.OutOfMemory → ⊥) → (k ≡ kind.OutOfMemory) ⊎ IsAmong k ks → IsAmong k ks
+among k ks other (inl h) = absurd (other h)
+among k ks other (inr h) = h
+
+explains : (ks : Kinds) (e : Error) (fault : LineFault) → HasKind ks e → Tells e fault → Explains ks fault
+explains ks e (Help x) h t = rw t.0 (t.1, among (kind_of e) ks (no_memory (kind_of e) t.1) h)
+explains ks e (Bad x) h t = rw t.0 (t.1, t.2, inl (among (kind_of e) ks t.2 h))
+explains ks e Memory h t = tt
+
+explains_if_err : {T : Type 0} (ks : Kinds) (e : Error) (r : Result T LineFault) → HasKind ks e → IsErrAnd r (Tells e)
+    → IfErr r (Explains ks)
+explains_if_err ks e (Ok x) h t = tt
+explains_if_err ks e (Err fault) h t = explains ks e fault h t
+
+-- an error of the parser's, as a fault of the line
+pub explains_err : {T : Type 0} (a : App) (words : List Text) (e : Error) (r : Result T LineFault) → a ≡ twarp_app
+    → (is_simple_and_free a ≡ true → HasKind (fault_of a words) e) → IsErrAnd r (Tells e)
+    → IfErr r (Explains (fault_of twarp_app words))
+explains_err a words e r is h t = explains_if_err (fault_of twarp_app words) e r (refused a words e is h) t
+
+no_answer : (k : ErrorKind) → k ≡ kind.ValueValidation → Answers k → ⊥
+no_answer k e (inl h) = cc
+no_answer k e (inr h) = cc
+
+-- an error of our own, at words that the parser takes
+pub unread_explains : (ks : Kinds) (e : Error) → ks ≡ [] → kind_of e ≡ kind.ValueValidation
+    → (let fault : LineFault = Bad e in Explains ks fault)
+unread_explains ks e empty own = (no_answer (kind_of e) own, (λ h. cc), inr (empty, own))

@@ -1,0 +1,38 @@
+ghost use Rattle.std.specs.Prelude.{◌≡◌};
+ghost use Rattle.tw_options.specs.Fault.{Tells};
+ghost use Rattle.tw_options.specs.declared.fault.LineFault.TheVariants.{Memory};
+
+use clap::Error;
+use clap::error::ErrorKind;
+use std::alloc::AllocError;
+
+/// Why a command line asks for nothing.
+#[derive(Debug, Drop)]
+pub enum LineFault {
+    /// It asks for help, which is the text of this error.
+    Help(Error),
+    /// Its words are refused; the error's text says why.
+    Bad(Error),
+    /// Memory was refused.
+    Memory,
+}
+
+impl From<AllocError> for LineFault {
+    ghost from_gives = { λ _ fault. fault ≡ Memory };
+
+    fn from(_error: AllocError) -> LineFault {
+        LineFault::Memory
+    }
+}
+
+impl From<Error> for LineFault {
+    ghost from_gives = { Tells };
+
+    fn from(error: Error) -> LineFault {
+        match error.kind() {
+            ErrorKind::OutOfMemory => LineFault::Memory,
+            ErrorKind::DisplayHelp | ErrorKind::DisplayVersion => LineFault::Help(error),
+            _ => LineFault::Bad(error),
+        }
+    }
+}

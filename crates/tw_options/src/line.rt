@@ -1,0 +1,69 @@
+ghost use Rattle.std.specs.Prelude.{IfSome, ◌≡◌, ◌↔◌, IsTrue, Some, codes};
+ghost use Rattle.clap.specs.Words.{found_of, one_of, rows_of, subcommand_rows_of};
+ghost use Rattle.tw_options.specs.Says.{Says, Sets};
+
+use crate::number::{KEEP, ROUTER, STOP};
+use clap::ArgMatches;
+
+/// What a command line asks for. The input comes from standard input, and times are in ticks.
+#[derive(Clone, Copy, PartialEq, Eq, Debug)]
+pub enum Line {
+    /// Whether the input is a case text.
+    Check,
+    /// The report of the run of a case below `stop`.
+    Seq {
+        /// From 1 to 1,000,000,000.
+        stop: u64,
+        /// Whether the report lists the events.
+        log: bool,
+    },
+    /// One router's events of the run of a case below `stop`, the last ones undone.
+    Trail {
+        /// From 0 to 1,023.
+        router: u32,
+        /// From 1 to 1,000,000,000.
+        stop: u64,
+        /// How many of the events are kept, from 0 to 1,000,000,000.
+        keep: u64,
+    },
+}
+
+/// The line of what the parser found; `None` where that has no subcommand of ours, or an option
+/// without its number.
+pub(crate) fn line_of(matches: &ArgMatches<'_>) -> Option<Line>
+    ensures { IfSome result (Says (subcommand_rows_of matches.now)) }
+{
+    let (name, given) = matches.subcommand()?;
+    match name {
+        "check" => Some(Line::Check),
+        "seq" => seq_line(given),
+        "trail" => trail_line(given),
+        _ => None,
+    }
+}
+
+fn seq_line(given: &ArgMatches<'_>) -> Option<Line>
+    ensures { IfSome result (λ line. Says (Some (codes "seq", rows_of (found_of given.now))) line) }
+{
+    Some(Line::Seq {
+        stop: STOP.read(given)?,
+        log: is_set(given, "log"),
+    })
+}
+
+fn trail_line(given: &ArgMatches<'_>) -> Option<Line>
+    ensures { IfSome result (λ line. Says (Some (codes "trail", rows_of (found_of given.now))) line) }
+{
+    Some(Line::Trail {
+        router: ROUTER.read(given)? as u32,
+        stop: STOP.read(given)?,
+        keep: KEEP.read(given)?,
+    })
+}
+
+// As `get_flag`, whose contract leaves open what it answers where the text is no truth value.
+fn is_set(given: &ArgMatches<'_>, id: &str) -> bool
+    ensures { Sets id.now (rows_of (found_of given.now)) result }
+{
+    given.get_one::<bool>(id).unwrap_or(false)
+}

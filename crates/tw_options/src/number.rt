@@ -1,0 +1,70 @@
+ghost use Rattle.std.specs.Prelude.{IfSome, ◌≡◌, false};
+ghost use Rattle.clap.specs.Words.{found_of, rows_of, rule_of};
+ghost use Rattle.tw_options.specs.App.{number_rule};
+ghost use Rattle.tw_options.specs.Says.{Gives};
+
+use clap::builder::ValueParser;
+use clap::{Arg, ArgAction, ArgMatches};
+use std::alloc::Global;
+
+/// A required option `--id` that takes a number from `least` to `most`.
+#[derive(Clone, Copy)]
+pub(crate) struct NumberOption {
+    pub(crate) id: &'static str,
+    pub(crate) value_name: &'static str,
+    pub(crate) least: u64,
+    pub(crate) most: u64,
+    pub(crate) help: &'static str,
+}
+
+pub(crate) const STOP: NumberOption = NumberOption {
+    id: "stop",
+    value_name: "TICKS",
+    least: 1,
+    most: 1_000_000_000,
+    help: "Handle the events below this time, in ticks: 1 to 1000000000",
+};
+
+pub(crate) const ROUTER: NumberOption = NumberOption {
+    id: "router",
+    value_name: "NUMBER",
+    least: 0,
+    most: 1_023,
+    help: "The router whose events are shown: 0 to 1023, and a router of the case",
+};
+
+pub(crate) const KEEP: NumberOption = NumberOption {
+    id: "keep",
+    value_name: "COUNT",
+    least: 0,
+    most: 1_000_000_000,
+    help: "How many of the router's events stay handled: 0 to 1000000000",
+};
+
+impl NumberOption {
+    /// The option, for the parser.
+    pub(crate) fn arg<'a>(self, alloc: Global) -> Arg<'a>
+        ensures rule { rule_of result ≡ number_rule self.id.now self.least self.most }
+        ensures local { result.global ≡ false }
+    {
+        Arg::new(alloc, self.id)
+            .long(self.id)
+            .value_name(self.value_name)
+            .required(true)
+            .action(ArgAction::Set)
+            .value_parser(ValueParser::unsigned(self.least, self.most))
+            .help(self.help)
+    }
+
+    /// The number that was given, if it lies in the bounds.
+    pub(crate) fn read(self, given: &ArgMatches<'_>) -> Option<u64>
+        ensures { IfSome result (Gives self.id.now self.least self.most (rows_of (found_of given.now))) }
+    {
+        let number = given.get_one::<u64>(self.id)?;
+        if self.least <= number && number <= self.most {
+            Some(number)
+        } else {
+            None
+        }
+    }
+}
