@@ -1,0 +1,283 @@
+ghost use Rattle.std.specs.Prelude.{◌≡◌, ◌+◌, ◌-◌, ◌≤◌, ◌<◌, ◌↔◌, map, length, slice_set, IfOk, IsErrOf, IsTrue};
+ghost use Rattle.std.specs.List.{All};
+ghost use Rattle.tw_model.specs.Net.{IsPath, hops_of, paths_of};
+ghost use Rattle.tw_model.specs.State.{IsCounted, IsState, best as best_of, fresh_row, limit, opening, opening_with, row as row_of};
+ghost use Rattle.tw_model.specs.Effect.{swapping, with_row};
+ghost use Rattle.tw_router.specs.declared.router.OpenFault.TheVariants.{Memory};
+
+use crate::choice::first_offered;
+use std::alloc::{AllocError, Global};
+use std::marker::Model;
+use tw_event::PathNo;
+use tw_instance::Instance;
+use tw_model::{Counters, Hop, Row};
+
+/// What a counter of messages or of events reaches at most.
+const LIMIT: u64 = 1 << 48;
+
+/// Why a router does not begin with given counters.
+#[derive(Clone, Copy, PartialEq, Eq, Debug)]
+pub enum OpenFault {
+    /// A counter is above 2^48, or more events were dropped, or led to a change, than were handled.
+    Counters,
+    /// There is no memory.
+    Memory,
+}
+
+impl From<AllocError> for OpenFault {
+    ghost from_gives = { λ _ e. e ≡ Memory };
+
+    fn from(_error: AllocError) -> OpenFault {
+        OpenFault::Memory
+    }
+}
+
+/// A router of an instance, with what it knows.
+///
+/// It has a row for each neighbour, in rising number; a slot is the place of a row, from 0. Its order has
+/// its permitted paths, the best first.
+#[derive(Drop)]
+pub struct Router<'a> {
+    instance: &'a Instance,
+    node: u32,
+    rib: PathNo,
+    rows: Vec<Row>,
+    order: Vec<PathNo>,
+    counters: Counters,
+}
+
+impl<'a> Model for Router<'a> {
+    ghost use Rattle.tw_model.specs.State as state;
+    ghost use Rattle.tw_router.specs.Valid.{IsRouter};
+
+    ghost Value = { state.Router };
+
+    ghost view = { λ a. record { net = a.instance.now; node = a.node; state = record { rib = a.rib; rows = a.rows.items; order = a.order.items; counters = a.counters } } };
+
+    ghost invariant = { λ a. IsRouter (record { net = a.instance.now; node = a.node; state = record { rib = a.rib; rows = a.rows.items; order = a.order.items; counters = a.counters } }) };
+}
+
+impl<'a> Router<'a> {
+    /// The router of this number as it begins: it knows no path, all links are up, all counters are 0.
+    pub fn new(alloc: Global, instance: &'a Instance, node: u32) -> Result<Router<'a>, AllocError>
+        requires { node < instance.now.nodes }
+        ensures { IfOk result
+            (λ router. router ≡ record { net = instance.now; node = node; state = opening instance.now node }) }
+    {
+        let counters = Counters {
+            sent: 0,
+            handled: 0,
+            dropped: 0,
+            changed: 0,
+        };
+        Router::open(alloc, instance, node, counters)
+    }
+
+    /// The router of this number as it begins, but with these counters.
+    pub fn with_counters(
+        alloc: Global,
+        instance: &'a Instance,
+        node: u32,
+        counters: Counters,
+    ) -> Result<Router<'a>, OpenFault>
+        requires { node < instance.now.nodes }
+        ensures ok { IfOk result
+            (λ router. router ≡ record { net = instance.now; node = node; state = opening_with instance.now node counters }) }
+        ensures counters { IsErrOf result OpenFault.Counters ↔ ¬ IsCounted counters }
+    {
+        if !is_counted(counters) {
+            return Err(OpenFault::Counters);
+        }
+        Ok(Router::open(alloc, instance, node, counters)?)
+    }
+
+    fn open(
+        alloc: Global,
+        instance: &'a Instance,
+        node: u32,
+        counters: Counters,
+    ) -> Result<Router<'a>, AllocError>
+        requires below { node < instance.now.nodes }
+        requires counted { IsCounted counters }
+        ensures { IfOk result
+            (λ router. router ≡ record { net = instance.now; node = node; state = opening_with instance.now node counters }) }
+    {
+        Ok(Router {
+            instance,
+            node,
+            rib: PathNo(0),
+            rows: fresh_rows(alloc, instance.hops(node))?,
+            order: Vec::from_slice(alloc, instance.permitted(node))?,
+            counters,
+        })
+    }
+
+    /// The instance whose router it is.
+    pub fn instance(&self) -> &'a Instance
+        ensures { result.now ≡ self.now.net }
+    {
+        self.instance
+    }
+
+    /// Its number.
+    pub fn node(&self) -> u32
+        ensures value { result ≡ self.now.node }
+        ensures below { self.now.node < self.now.net.nodes }
+        ensures state { IsState self.now.net self.now.node self.now.state }
+    {
+        self.node
+    }
+
+    /// The path that it uses.
+    pub fn rib(&self) -> PathNo
+        ensures { result ≡ self.now.state.rib }
+    {
+        self.rib
+    }
+
+    /// What it keeps of each neighbour, in rising number.
+    pub fn rows(&self) -> &[Row]
+        ensures { result.now ≡ self.now.state.rows }
+    {
+        &self.rows
+    }
+
+    /// What it keeps of the neighbour of a slot.
+    pub fn row(&self, slot: usize) -> Row
+        requires { slot < length self.now.state.rows }
+        ensures { result ≡ row_of self.now.state slot }
+    {
+        self.rows[slot]
+    }
+
+    /// The path last accepted from the neighbour of a slot.
+    pub fn heard(&self, slot: usize) -> PathNo
+        requires { slot < length self.now.state.rows }
+        ensures { result ≡ (row_of self.now.state slot).heard }
+    {
+        self.rows[slot].heard
+    }
+
+    /// Whether the link to the neighbour of a slot is up.
+    pub fn is_up(&self, slot: usize) -> bool
+        requires { slot < length self.now.state.rows }
+        ensures { result ≡ (row_of self.now.state slot).up }
+    {
+        self.rows[slot].up
+    }
+
+    /// How often the link to the neighbour of a slot was repaired.
+    pub fn session(&self, slot: usize) -> u64
+        requires { slot < length self.now.state.rows }
+        ensures { result ≡ (row_of self.now.state slot).session }
+    {
+        self.rows[slot].session
+    }
+
+    /// Its permitted paths, the best first.
+    pub fn order(&self) -> &[PathNo]
+        ensures { result.now ≡ self.now.state.order }
+    {
+        &self.order
+    }
+
+    /// What it counts.
+    pub fn counters(&self) -> Counters
+        ensures value { result ≡ self.now.state.counters }
+        ensures state { IsState self.now.net self.now.node self.now.state }
+    {
+        self.counters
+    }
+
+    /// The first path of its order that is itself followed by what a neighbour told it over a link that
+    /// is up, or else the empty path; at the origin, (0).
+    pub fn best(&self) -> PathNo
+        ensures { result ≡ best_of self.now.net self.now.node self.now.state }
+    {
+        if self.node == 0 {
+            PathNo(1)
+        } else {
+            first_offered(self.instance, self.node, &self.order, &self.rows)
+        }
+    }
+
+    /// Changes the path that it uses.
+    pub fn set_rib(&mut self, path: PathNo)
+        requires { IsPath self.old.net path }
+        ensures { self.new ≡ record self.old { state = record self.old.state { rib = path } } }
+    {
+        self.rib = path;
+    }
+
+    /// Changes the path that was heard from the neighbour of a slot. The instance is the router's own.
+    pub fn set_heard(&mut self, instance: &Instance, slot: usize, path: PathNo)
+        requires own { instance.now ≡ self.old.net }
+        requires slot { slot < length self.old.state.rows }
+        requires path { IsPath self.old.net path }
+        ensures { self.new
+            ≡ record self.old { state = with_row self.old.state slot (record (row_of self.old.state slot) { heard = path }) } }
+    {
+        self.rows[slot].heard = path;
+    }
+
+    /// Changes whether the link to the neighbour of a slot is up. The instance is the router's own.
+    pub fn set_up(&mut self, instance: &Instance, slot: usize, up: bool)
+        requires own { instance.now ≡ self.old.net }
+        requires slot { slot < length self.old.state.rows }
+        ensures { self.new
+            ≡ record self.old { state = with_row self.old.state slot (record (row_of self.old.state slot) { up = up }) } }
+    {
+        self.rows[slot].up = up;
+    }
+
+    /// Changes the number of repairs of the link to the neighbour of a slot.
+    pub fn set_session(&mut self, slot: usize, session: u64)
+        requires slot { slot < length self.old.state.rows }
+        requires session { session ≤ self.old.state.counters.handled }
+        ensures { self.new
+            ≡ record self.old { state = with_row self.old.state slot (record (row_of self.old.state slot) { session = session }) } }
+    {
+        self.rows[slot].session = session;
+    }
+
+    /// Exchanges the paths at two places of its order, from 1. The instance is the router's own.
+    pub fn swap(&mut self, instance: &Instance, first: u32, second: u32)
+        requires own { instance.now ≡ self.old.net }
+        requires first_place { 0 < first }
+        requires first_within { first ≤ length self.old.state.order }
+        requires second_place { 0 < second }
+        requires second_within { second ≤ length self.old.state.order }
+        ensures { self.new ≡ record self.old { state = swapping self.old.state first second } }
+    {
+        self.order.swap(first as usize - 1, second as usize - 1);
+    }
+
+    /// Changes what it counts.
+    pub fn set_counters(&mut self, counters: Counters)
+        requires counted { IsCounted counters }
+        requires sessions { All (λ row. row.session ≤ counters.handled) self.old.state.rows }
+        ensures { self.new ≡ record self.old { state = record self.old.state { counters = counters } } }
+    {
+        self.counters = counters;
+    }
+}
+
+fn fresh_rows(alloc: Global, hops: &[Hop]) -> Result<Vec<Row>, AllocError>
+    ensures { IfOk result (λ rows. rows.items ≡ map fresh_row hops.now) }
+{
+    let fresh = Row {
+        heard: PathNo(0),
+        up: true,
+        session: 0,
+    };
+    hops.iter().map(|_| fresh).collect(alloc)
+}
+
+fn is_counted(counters: Counters) -> bool
+    ensures { IsTrue result ↔ IsCounted counters }
+{
+    counters.sent <= LIMIT
+        && counters.handled <= LIMIT
+        && counters.dropped <= counters.handled
+        && counters.changed <= counters.handled
+}
