@@ -1,0 +1,354 @@
+-- What the rules of an instance give: its neighbours and its paths.
+use Rattle.std.proofs.Common.{◌≡◌, ℕ, suc, zero, ◌+◌, ◌<◌, ◌≤◌, ◌==◌, Bool, true, false, cond, ◌&&◌, ◌||◌, List, [], ◌∷◌, ◌++◌, length, filter, get_or, Option, Some, None, refl, ap, sym, ◌∙◌, subst, inl, inr, arith, nat_lt, nat_le, append-nil, append_assoc}
+use Rattle.std.specs.List.{AllPairs, cons_option, position_or_len, filter_map, find, range_with_len}
+use Rattle.std.specs.Option.{option_map}
+use Rattle.std.proofs.lemmas.Bool.{cases_Bool, both_ways, and_parts, or_parts, or_cases, not-false, ltb-true, leb-true, leb-false, eqb-true, eqb-false, eq-eqb, ne_eqb, lt-ltb, or_left, or_right, false_from_ne_true}
+use Rattle.std.proofs.lemmas.List.{length-append}
+use Rattle.std.proofs.lemmas.List.Elements.{filter-append}
+use Rattle.tw_model.specs.declared.net.Hop.{Hop}
+use Rattle.tw_model.specs.declared.net.Link.{Link}
+use Rattle.tw_model.specs.declared.net.Rule.{Rule}
+use Rattle.tw_model.specs.declared.net.Rule.TheVariants.{Range, SelfLink, TwiceLink, Delay, PathOwner, PathEnd, PathRepeats, PathNoLink, TwicePath, TooMany, NoSuchLink, NoSuchPlace, Time}
+use Rattle.tw_model.specs.Net.{Net, joins, hop_to, hops_of}
+use Rattle.tw_model.specs.State.{has_peer, hop, no_hop, slot}
+use Rattle.tw_model.specs.Rules.{IsNet, LinksFollow, degree, is_linked, link_breaks, link_fault, lowest, rules_in_order}
+use Rattle.tw_model.proofs.Members.{In, in_find, in_filter_map, in_filter_mapped, in_get_or, in_range, place_passes, place_within, range_has, find_agree, find_some}
+
+every : (r : Rule) → In r rules_in_order
+every Range = inl refl
+every SelfLink = inr (inl refl)
+every TwiceLink = inr (inr (inl refl))
+every Delay = inr (inr (inr (inl refl)))
+every PathOwner = inr (inr (inr (inr (inl refl))))
+every PathEnd = inr (inr (inr (inr (inr (inl refl)))))
+every PathRepeats = inr (inr (inr (inr (inr (inr (inl refl))))))
+every PathNoLink = inr (inr (inr (inr (inr (inr (inr (inl refl)))))))
+every TwicePath = inr (inr (inr (inr (inr (inr (inr (inr (inl refl))))))))
+every TooMany = inr (inr (inr (inr (inr (inr (inr (inr (inr (inl refl)))))))))
+every NoSuchLink = inr (inr (inr (inr (inr (inr (inr (inr (inr (inr (inl refl))))))))))
+every NoSuchPlace = inr (inr (inr (inr (inr (inr (inr (inr (inr (inr (inr (inl refl)))))))))))
+every Time = inr (inr (inr (inr (inr (inr (inr (inr (inr (inr (inr (inr (inl refl))))))))))))
+
+lowest_none : (broken : Rule → Bool) (rules : List Rule) → lowest broken rules ≡ None → (r : Rule) → In r rules → broken r ≡ false
+lowest_none broken (x ∷ rules) h r k =
+    elim (cases_Bool (broken x)) [
+      | inl b ↦ (let e = rw b at h in cc)
+      | inr b ↦ elim k [ inl is ↦ subst (λ z. broken z ≡ false) (sym is) b | inr more ↦ lowest_none broken rules (rw b at h) r more ]
+    ]
+lowest_none broken [] h r k = absurd k
+
+-- where no rule is the lowest that is broken, each is kept
+pub kept : (broken : Rule → Bool) → lowest broken rules_in_order ≡ None → (r : Rule) → broken r ≡ false
+kept broken h r = lowest_none broken rules_in_order h r (every r)
+
+-- a link that keeps the rules
+pub record IsLink (nodes : ℕ) (l : Link) : Type 0 where
+  pub first : l.first < nodes
+  pub second : l.second < nodes
+  pub apart : l.first == l.second ≡ false
+  pub least : 1 ≤ l.delay
+  pub most : l.delay ≤ 1000000
+
+is_link : (net : Net) (l : Link) → ((r : Rule) → link_breaks net l r ≡ false) → IsLink net.nodes l
+is_link net l k =
+    let range = and_parts (nat_lt l.first net.nodes) (nat_lt l.second net.nodes) (not-false _ (k Range)) in
+    let delay = and_parts (nat_le 1 l.delay) (nat_le l.delay 1000000) (not-false _ (k Delay)) in
+    record {
+      first = ltb-true l.first net.nodes range.0;
+      second = ltb-true l.second net.nodes range.1;
+      apart = k SelfLink;
+      least = leb-true 1 l.delay delay.0;
+      most = leb-true l.delay 1000000 delay.1;
+    }
+
+links_kept : (net : Net) (links : List Link) → LinksFollow net links → (l : Link) → In l links → IsLink net.nodes l
+links_kept net (x ∷ links) h l (inl e) = subst (IsLink net.nodes) (sym e) (is_link net x (kept (link_breaks net x) h.0))
+links_kept net (x ∷ links) h l (inr k) = links_kept (record net { links = net.links ++ x ∷ [] }) links h.1 l k
+links_kept net [] h l k = absurd k
+
+-- links are between two different routers and take 1 to 1,000,000 ticks
+pub is_link_of : (net : Net) → IsNet net → (l : Link) → In l net.links → IsLink net.nodes l
+is_link_of net is l h = links_kept (record { nodes = net.nodes; links = []; lines = [] }) net.links is.links l h
+
+-- what joins two routers, joins them the other way round
+pub joins_back : (v w : ℕ) (l : Link) → joins v w l ≡ joins w v l
+joins_back v w l = or_other (l.first == v && l.second == w) (l.first == w && l.second == v) where
+  or_other : (a b : Bool) → (a || b) ≡ (b || a)
+  or_other true true = refl
+  or_other true false = refl
+  or_other false true = refl
+  or_other false false = refl
+
+-- two routers joined by a link are different and there
+pub record AreJoined (net : Net) (v w : ℕ) : Type 0 where
+  pub here : v < net.nodes
+  pub there : w < net.nodes
+  pub apart : v ≡ w → ⊥
+
+joined_by : (net : Net) (v w : ℕ) (l : Link) → IsLink net.nodes l → joins v w l ≡ true → AreJoined net v w
+joined_by net v w l is h =
+    let apart = eqb-false l.first l.second is.apart in
+    elim (or_cases (l.first == v && l.second == w) (l.first == w && l.second == v) h) [
+      | inl k ↦ (
+          let p = and_parts (l.first == v) (l.second == w) k in
+          let a = eqb-true l.first v p.0 in
+          let b = eqb-true l.second w p.1 in
+          record { here = subst (λ n. n < net.nodes) a is.first; there = subst (λ n. n < net.nodes) b is.second; apart = λ e. apart (a ∙ e ∙ sym b) })
+      | inr k ↦ (
+          let p = and_parts (l.first == w) (l.second == v) k in
+          let a = eqb-true l.first w p.0 in
+          let b = eqb-true l.second v p.1 in
+          record { here = subst (λ n. n < net.nodes) b is.second; there = subst (λ n. n < net.nodes) a is.first; apart = λ e. apart (a ∙ sym e ∙ sym b) })
+    ]
+
+-- the link behind a hop
+pub record IsHop (net : Net) (v : ℕ) (h : Hop) (l : Link) : Type 0 where
+  pub given : In l net.links
+  pub between : joins v h.peer l ≡ true
+  pub first : find (joins v h.peer) net.links ≡ Some l
+  pub delay : h.delay ≡ l.delay
+
+hop_from : (links : List Link) (v w : ℕ) (h : Hop) (o : Option Link) → find (joins v w) links ≡ o → option_map (λ l. record { peer = w; delay = l.delay }) o ≡ Some h
+    → (l : Link) × (find (joins v w) links ≡ Some l) × (h ≡ record { peer = w; delay = l.delay })
+hop_from links v w h None e k = cc
+hop_from links v w h (Some l) e k = (l, e, (let r : Some h ≡ Some (record { peer = w; delay = l.delay }) = sym k in cc))
+
+pub hop_of : (net : Net) (v : ℕ) (h : Hop) → In h (hops_of net v) → (l : Link) × IsHop net v h l × (h.peer < net.nodes)
+unfolding hops_of
+hop_of net v h k =
+    let a = in_filter_map (hop_to net.links v) h (range_with_len 0 net.nodes) k in
+    let b = hop_from net.links v a.0 h (find (joins v a.0) net.links) refl a.1 in
+    let peer : h.peer ≡ a.0 = ap (λ z. z.peer) b.2 in
+    let found : find (joins v h.peer) net.links ≡ Some b.0 = subst (λ z. find (joins v z) net.links ≡ Some b.0) (sym peer) b.1 in
+    let within = in_range a.0 0 net.nodes a.2 in
+    let r = in_find (joins v h.peer) b.0 net.links found in
+    (b.0, record { given = r.1; between = r.0; first = found; delay = ap (λ z. z.delay) b.2 }, omega arith)
+
+-- a neighbour
+pub record IsNeighbour (net : Net) (v : ℕ) (h : Hop) : Type 0 where
+  pub here : v < net.nodes
+  pub there : h.peer < net.nodes
+  pub apart : v ≡ h.peer → ⊥
+  pub least : 1 ≤ h.delay
+  pub most : h.delay ≤ 1000000
+
+pub neighbour : (net : Net) → IsNet net → (v : ℕ) (h : Hop) → In h (hops_of net v) → IsNeighbour net v h
+neighbour net is v h k =
+    let a = hop_of net v h k in
+    let l = is_link_of net is a.0 a.1.given in
+    let j = joined_by net v h.peer a.0 l a.1.between in
+    let d = a.1.delay in
+    record { here = j.here; there = j.there; apart = j.apart; least = subst (λ n. 1 ≤ n) (sym d) l.least; most = subst (λ n. n ≤ 1000000) (sym d) l.most }
+
+-- routers that a link joins are neighbours
+pub hop_between : (net : Net) (v w : ℕ) → w < net.nodes → is_linked net.links v w ≡ true → (h : Hop) × In h (hops_of net v) × (h.peer ≡ w)
+unfolding hops_of
+hop_between net v w below linked =
+    let f = find_some (joins v w) net.links linked in
+    let h : Hop = record { peer = w; delay = f.0.delay } in
+    let e : hop_to net.links v w ≡ Some h = rw f.1 refl in
+    (h, in_filter_mapped (hop_to net.links v) w h (range_with_len 0 net.nodes) e (range_has w 0 net.nodes (omega arith) (omega arith)), refl)
+
+hop_in : (net : Net) (v w : ℕ) (h : Hop) → hop_to net.links v w ≡ Some h → w < net.nodes → In h (hops_of net v)
+unfolding hops_of
+hop_in net v w h e below =
+    in_filter_mapped (hop_to net.links v) w h (range_with_len 0 net.nodes) e (range_has w 0 net.nodes (omega arith) (omega arith))
+
+-- a neighbour has one back, over the same link
+pub hop_back : (net : Net) → IsNet net → (v : ℕ) (h : Hop) → In h (hops_of net v) → (b : Hop) × In b (hops_of net h.peer) × (b.peer ≡ v) × (b.delay ≡ h.delay)
+hop_back net is v h k =
+    let a = hop_of net v h k in
+    let n = neighbour net is v h k in
+    let l = a.0 in
+    let back = sym (find_agree (joins v h.peer) (joins h.peer v) (joins_back v h.peer) net.links) ∙ a.1.first in
+    let b : Hop = record { peer = v; delay = l.delay } in
+    let e : hop_to net.links h.peer v ≡ Some b = rw back refl in
+    (b, hop_in net h.peer v b e n.here, refl, sym a.1.delay)
+
+-- each neighbour has a higher number than those before it
+Rises : List Hop → Type 0
+Rises [] = Unit {0}
+Rises (h ∷ hs) = ((x : Hop) → In x hs → h.peer < x.peer) × Rises hs
+
+hops_rise : (links : List Link) (v a n : ℕ) → Rises (filter_map (hop_to links v) (range_with_len a n))
+unfolding Rises
+hops_rise links v a zero = tt
+hops_rise links v a (suc n) = at (hop_to links v a) refl (hops_rise links v (a + 1) n) where
+  at : (o : Option Hop) → hop_to links v a ≡ o → Rises (filter_map (hop_to links v) (range_with_len (a + 1) n)) → Rises (cons_option o (filter_map (hop_to links v) (range_with_len (a + 1) n)))
+  at None e r = r
+  at (Some h) e r = (
+    (λ x k.
+        let b = in_filter_map (hop_to links v) x (range_with_len (a + 1) n) k in
+        let within = in_range b.0 (a + 1) n b.2 in
+        let c = hop_from links v b.0 x (find (joins v b.0) links) refl b.1 in
+        let d = hop_from links v a h (find (joins v a) links) refl e in
+        let c_peer : x.peer ≡ b.0 = ap (λ z. z.peer) c.2 in
+        let d_peer : h.peer ≡ a = ap (λ z. z.peer) d.2 in
+        omega arith),
+    r,
+  )
+
+rise_pairs : (hs : List Hop) → Rises hs → (i j : ℕ) (d : Hop) → i < j → j < length hs → (get_or hs i d).peer < (get_or hs j d).peer
+unfolding Rises
+rise_pairs [] r i j d l m = absurd (omega arith)
+rise_pairs (h ∷ hs) r i zero d l m = absurd (omega arith)
+rise_pairs (h ∷ hs) r zero (suc j) d l m = r.0 (get_or hs j d) (in_get_or hs j d (omega arith))
+rise_pairs (h ∷ hs) r (suc i) (suc j) d l m = rise_pairs hs r.1 i j d (omega arith) (omega arith)
+
+-- neighbours stand in strictly rising number
+pub hops_rising : (net : Net) (v : ℕ) → AllPairs (λ a b. a.peer < b.peer) (hops_of net v)
+unfolding hops_of
+hops_rising net v = rise_pairs (hops_of net v) (hops_rise net.links v 0 net.nodes)
+
+-- the place of a neighbour is its slot
+rise_slot : (hs : List Hop) → Rises hs → (k : ℕ) (d : Hop) → k < length hs → position_or_len (λ h. h.peer == (get_or hs k d).peer) hs ≡ k
+unfolding Rises
+rise_slot [] r k d l = absurd (omega arith)
+rise_slot (h ∷ hs) r zero d l = rw (eq-eqb h.peer h.peer refl) refl
+rise_slot (h ∷ hs) r (suc k) d l =
+    let less = r.0 (get_or hs k d) (in_get_or hs k d (omega arith)) in
+    let more = rise_slot hs r.1 k d (omega arith) in
+    rw (ne_eqb h.peer (get_or hs k d).peer (λ e. absurd (omega arith))) (omega arith)
+
+pub slot_at : (net : Net) (v k : ℕ) → k < length (hops_of net v) → slot net v (hop net v k).peer ≡ k
+unfolding hops_of
+slot_at net v k l = rise_slot (hops_of net v) (hops_rise net.links v 0 net.nodes) k no_hop l
+
+-- the neighbour of a slot, and that it is one
+pub hop_in_hops : (net : Net) (v k : ℕ) → k < length (hops_of net v) → In (hop net v k) (hops_of net v)
+hop_in_hops net v k l = in_get_or (hops_of net v) k no_hop l
+
+pub hop_slot : (net : Net) (v w : ℕ) → has_peer net v w ≡ true → (hop net v (slot net v w)).peer ≡ w
+hop_slot net v w h =
+    eqb-true (hop net v (slot net v w)).peer w (place_passes (λ x. x.peer == w) (hops_of net v) no_hop (ltb-true (slot net v w) (length (hops_of net v)) h))
+
+pub has_peer_of : (net : Net) (v : ℕ) (h : Hop) → In h (hops_of net v) → has_peer net v h.peer ≡ true
+has_peer_of net v h k =
+    lt-ltb (slot net v h.peer) (length (hops_of net v)) (place_within (λ x. x.peer == h.peer) h (hops_of net v) (eq-eqb h.peer h.peer refl) k)
+
+has_peer_both : (net : Net) (w v : ℕ) (h : Hop) (x : ℕ) → x ≡ w → In h (hops_of net x) → h.peer ≡ v → has_peer net w v ≡ true
+has_peer_both net w v h x e k p = subst (λ y. has_peer net w y ≡ true) p (has_peer_of net w h (subst (λ y. In h (hops_of net y)) e k))
+
+-- neighbours are neighbours of each other
+pub has_peer_back : (net : Net) → IsNet net → (v w : ℕ) → has_peer net v w ≡ true → has_peer net w v ≡ true
+has_peer_back net is v w h =
+    let k = ltb-true (slot net v w) (length (hops_of net v)) h in
+    let b = hop_back net is v (hop net v (slot net v w)) (hop_in_hops net v (slot net v w) k) in
+    has_peer_both net w v b.0 (hop net v (slot net v w)).peer (hop_slot net v w h) b.1 b.2
+
+-- routers that a link joins are neighbours
+pub has_peer_linked : (net : Net) (v w : ℕ) → w < net.nodes → is_linked net.links v w ≡ true → has_peer net v w ≡ true
+has_peer_linked net v w below linked =
+    let h = hop_between net v w below linked in
+    has_peer_both net v w h.0 v refl h.1 h.2
+
+-- ---- at most 64 neighbours
+
+length_none : {X : Type 0} (p : X → Bool) (xs : List X) → ((x : X) → In x xs → p x ≡ false) → length (filter p xs) ≡ 0
+length_none p [] h = refl
+length_none p (x ∷ xs) h = rw (h x (inl refl)) (length_none p xs (λ y k. h y (inr k)))
+
+length_one : (p : ℕ → Bool) (c : ℕ) → ((w : ℕ) → p w ≡ true → w ≡ c) → (a n : ℕ) → length (filter p (range_with_len a n)) ≤ 1
+length_one p c h a zero = omega arith
+length_one p c h a (suc n) =
+    elim (cases_Bool (p a)) [
+      | inl b ↦ rw b (
+          let is = h a b in
+          let none = length_none p (range_with_len (a + 1) n) (λ w k. let r = in_range w (a + 1) n k in false_from_ne_true (p w) (λ t. let same = h w t in absurd (omega arith))) in
+          omega arith)
+      | inr b ↦ rw b (length_one p c h (a + 1) n)
+    ]
+
+touches : ℕ → Link → Bool
+touches v l = l.first == v || l.second == v
+
+other_end : (v w : ℕ) (l : Link) → joins v w l ≡ true → w ≡ cond (l.first == v) l.second l.first
+other_end v w l h =
+    elim (or_cases (l.first == v && l.second == w) (l.first == w && l.second == v) h) [
+      | inl k ↦ (let p = and_parts (l.first == v) (l.second == w) k in rw p.0 (sym (eqb-true l.second w p.1)))
+      | inr k ↦ (
+          let p = and_parts (l.first == w) (l.second == v) k in
+          let a = eqb-true l.first w p.0 in
+          let b = eqb-true l.second v p.1 in
+          elim (cases_Bool (l.first == v)) [
+            | inl t ↦ rw t (let c = eqb-true l.first v t in sym a ∙ c ∙ sym b)
+            | inr t ↦ rw t (sym a)
+          ])
+    ]
+
+joins_touches : (v w : ℕ) (l : Link) → joins v w l ≡ true → touches v l ≡ true
+unfolding touches
+joins_touches v w l h =
+    elim (or_cases (l.first == v && l.second == w) (l.first == w && l.second == v) h) [
+      | inl k ↦ or_left (l.first == v) (l.second == v) (and_parts (l.first == v) (l.second == w) k).0
+      | inr k ↦ or_right (l.first == v) (l.second == v) (and_parts (l.first == w) (l.second == v) k).1
+    ]
+
+link_gives : (v a n : ℕ) (l : Link) → length (filter (λ w. joins v w l) (range_with_len a n)) ≤ cond (touches v l) 1 0
+link_gives v a n l =
+    elim (cases_Bool (touches v l)) [
+      | inl b ↦ rw b (length_one (λ w. joins v w l) (cond (l.first == v) l.second l.first) (λ w h. other_end v w l h) a n)
+      | inr b ↦ rw b (let none = length_none (λ w. joins v w l) (range_with_len a n) (λ w k. false_from_ne_true (joins v w l) (λ t. both_ways (touches v l) b (joins_touches v w l t))) in omega arith)
+    ]
+
+hops_split : (l : Link) (links : List Link) (v : ℕ) (ws : List ℕ)
+    → length (filter_map (hop_to (l ∷ links) v) ws) ≤ length (filter (λ w. joins v w l) ws) + length (filter_map (hop_to links v) ws)
+hops_split l links v [] = omega arith
+hops_split l links v (w ∷ ws) =
+    let more = hops_split l links v ws in
+    elim (cases_Bool (joins v w l)) [
+      | inl b ↦ rw b (let k = longer (hop_to links v w) (filter_map (hop_to links v) ws) in omega arith)
+      | inr b ↦ rw b (same (hop_to links v w) (filter_map (hop_to (l ∷ links) v) ws) (filter_map (hop_to links v) ws) (length (filter (λ w. joins v w l) ws)) more)
+    ] where
+      longer : (o : Option Hop) (hs : List Hop) → length hs ≤ length (cons_option o hs)
+      longer None hs = omega arith
+      longer (Some h) hs = omega arith
+
+      same : (o : Option Hop) (xs ys : List Hop) (n : ℕ) → length xs ≤ n + length ys → length (cons_option o xs) ≤ n + length (cons_option o ys)
+      same None xs ys n h = h
+      same (Some x) xs ys n h = omega arith
+
+no_hops : (v : ℕ) (ws : List ℕ) → length (filter_map (hop_to [] v) ws) ≡ 0
+no_hops v [] = refl
+no_hops v (w ∷ ws) = no_hops v ws
+
+degree_hops : (links : List Link) (v n : ℕ) → length (filter_map (hop_to links v) (range_with_len 0 n)) ≤ degree links v
+unfolding touches
+degree_hops [] v n = let none = no_hops v (range_with_len 0 n) in omega arith
+degree_hops (l ∷ links) v n =
+    let more = degree_hops links v n in
+    let split = hops_split l links v (range_with_len 0 n) in
+    let one = link_gives v 0 n l in
+    elim (cases_Bool (touches v l)) [ inl b ↦ rw b (let k = rw b at one in omega arith) | inr b ↦ rw b (let k = rw b at one in omega arith) ]
+
+degree_more : (net : Net) (x : Link) → link_fault net x ≡ None → ((v : ℕ) → degree net.links v ≤ 64) → (v : ℕ) → degree (net.links ++ x ∷ []) v ≤ 64
+degree_more net x fault h v =
+    let room = or_parts (nat_le 64 (degree net.links x.first)) (nat_le 64 (degree net.links x.second)) (kept (link_breaks net x) fault TooMany) in
+    let first = leb-false 64 (degree net.links x.first) room.0 in
+    let second = leb-false 64 (degree net.links x.second) room.1 in
+    let touched = λ (l : Link). l.first == v || l.second == v in
+    let whole : length (filter touched (net.links ++ x ∷ [])) ≡ length (filter touched net.links) + length (filter touched (x ∷ []))
+    = ap length (filter-append touched net.links (x ∷ [])) ∙ length-append (filter touched net.links) (filter touched (x ∷ [])) in
+    elim (cases_Bool (touched x)) [
+      | inr b ↦ (let one : length (filter touched (x ∷ [])) ≡ 0 = rw b refl in let old = h v in omega arith)
+      | inl b ↦ (
+          let one : length (filter touched (x ∷ [])) ≡ 1 = rw b refl in
+          elim (or_cases (x.first == v) (x.second == v) b) [
+            | inl e ↦ (let k : degree net.links v < 64 = subst (λ w. degree net.links w < 64) (eqb-true x.first v e) first in omega arith)
+            | inr e ↦ (let k : degree net.links v < 64 = subst (λ w. degree net.links w < 64) (eqb-true x.second v e) second in omega arith)
+          ])
+    ]
+
+degree_few : (net : Net) (links : List Link) → ((v : ℕ) → degree net.links v ≤ 64) → LinksFollow net links → (v : ℕ) → degree (net.links ++ links) v ≤ 64
+degree_few net [] h f v = rw append-nil (h v)
+degree_few net (x ∷ links) h f v =
+    let next = degree_few (record net { links = net.links ++ x ∷ [] }) links (degree_more net x f.0 h) f.1 v in
+    subst (λ l. degree l v ≤ 64) (append_assoc net.links (x ∷ []) links) next
+
+-- a router has at most 64 neighbours
+pub hops_few : (net : Net) → IsNet net → (v : ℕ) → length (hops_of net v) ≤ 64
+unfolding hops_of
+hops_few net is v =
+    let a = degree_few (record { nodes = net.nodes; links = []; lines = [] }) net.links (λ w. omega arith) is.links v in
+    let b = degree_hops net.links v net.nodes in
+    omega arith
