@@ -79,4 +79,13 @@ impl Case {
     {
         self.opening.get(k).copied()
     }
+
+    /// The opening events: the start of the origin, then those of each scenario line in turn, of a
+    /// failure or a repair one at each end.
+    pub fn openings(&self) -> &[Event]
+        ensures value { result.now ≡ opening_events self.now.scenes }
+        ensures case { IsCase self.now }
+    {
+        &self.opening
+    }
 }
