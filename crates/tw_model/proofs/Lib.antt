@@ -4,3 +4,4 @@ pub mod Rising
 pub mod Within
 pub mod Members
 pub mod Nets
+pub mod Paths
