@@ -14,9 +14,10 @@ use std::cmp::Ordering;
 pub struct PathNo(pub u32);
 
 /// What an event does at its router.
-#[derive(Clone, Copy, PartialEq, Eq, PartialOrd, Ord, Hash, Debug)]
+#[derive(Clone, Copy, Default, PartialEq, Eq, PartialOrd, Ord, Hash, Debug)]
 pub enum Body {
     /// The origin begins.
+    #[default]
     Start,
     /// The link to this neighbour fails.
     Fail(u32),
@@ -61,8 +62,8 @@ impl Body {
 /// Something that a router handles, at a time in ticks.
 ///
 /// Two events that differ in any field are different. Events are ordered by time, then receiver,
-/// class, sender, number and body.
-#[derive(Clone, Copy, Hash, Debug)]
+/// class, sender, number and body. The default event is the start of the origin.
+#[derive(Clone, Copy, Default, Hash, Debug)]
 pub struct Event {
     /// When it happens, in ticks.
     pub time: u64,

@@ -17,7 +17,8 @@ pub(crate) fn first_offered(
 ) -> PathNo
     requires order { All (IsPath instance.now) order.now }
     requires heard { All (λ row. IsPath instance.now row.heard) rows.now }
-    ensures { result
+    ensures path { IsPath instance.now result }
+    ensures value { result
         ≡ unwrap_or (find (λ q. list_any (offers instance.now node q) rows.now) order.now) empty_path }
 {
     for path in order {

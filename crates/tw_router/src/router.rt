@@ -192,7 +192,8 @@ impl<'a> Router<'a> {
     /// The first path of its order that is itself followed by what a neighbour told it over a link that
     /// is up, or else the empty path; at the origin, (0).
     pub fn best(&self) -> PathNo
-        ensures { result ≡ best_of self.now.net self.now.node self.now.state }
+        ensures value { result ≡ best_of self.now.net self.now.node self.now.state }
+        ensures path { IsPath self.now.net result }
     {
         if self.node == 0 {
             PathNo(1)
