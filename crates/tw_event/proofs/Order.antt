@@ -12,7 +12,8 @@ use Rattle.tw_event.specs.declared.event.Body.{Body}
 use Rattle.tw_event.specs.declared.event.Body.TheVariants as body
 use Rattle.tw_event.specs.declared.event.Event.{Event}
 use Rattle.tw_event.specs.declared.event.PathNo.{PathNo}
-use Rattle.tw_event.specs.Order.{event_cmp, event_before, body_cmp, class_of, place_of}
+use Rattle.tw_event.specs.contracts.event.EventOrd.TheImpl as event_ord
+use Rattle.tw_event.specs.Order.{event_cmp, event_before, event_same, body_cmp, class_of, place_of}
 
 -- a body as its class and two numbers
 first : Body → ℕ
@@ -144,11 +145,11 @@ eq_equal Equal h = refl
 eq_equal Greater h = cc
 
 -- events that tie are the same
-pub same_is : (d e : Event) → is_eq (event_cmp d e) ≡ true → d ≡ e
+pub same_is : (d e : Event) → event_same d e ≡ true → d ≡ e
 same_is d e h = event_exact d e (eq_equal (event_cmp d e) h)
 
 -- an event ties with itself
-pub same_self : (e : Event) → is_eq (event_cmp e e) ≡ true
+pub same_self : (e : Event) → event_same e e ≡ true
 same_self e = ap is_eq (tied_itself event_total e)
 
 not_later : (m n : ℕ) (o : Ordering) → o ≡ nat_cmp m n → (p : Ordering) → is_lt (ordering_then o p) ≡ true → m ≤ n
@@ -159,3 +160,17 @@ not_later m n Greater e p h = absurd (false≢true h)
 -- what is before an event is no later
 pub before_time : (d e : Event) → event_before d e ≡ true → d.time ≤ e.time
 before_time d e h = not_later d.time e.time (nat_cmp d.time e.time) refl _ h
+
+order_at : (t u r q s p n m : ℕ) (b c : Body) → event_ord.ghosts.cmp (event_of t r s n b) (event_of u q p m c) ≡ event_cmp (event_of t r s n b) (event_of u q p m c)
+unfolding event_of
+order_at t u r q s p n m body.Start body.Start = refl
+order_at t u r q s p n m (body.Fail w) (body.Fail x) = refl
+order_at t u r q s p n m (body.Restore w) (body.Restore x) = refl
+order_at t u r q s p n m (body.Swap i j) (body.Swap k l) = refl
+order_at t u r q s p n m (body.Update a k) (body.Update b l) = refl
+order_at t u r q s p n m _ _ = refl
+
+-- the comparison of the code
+pub event_order : (d e : Event) → event_ord.ghosts.cmp d e ≡ event_cmp d e
+unfolding event_of
+event_order d e = order_at d.time e.time d.dst e.dst d.src e.src d.seq e.seq d.body e.body

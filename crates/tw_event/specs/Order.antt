@@ -1,6 +1,6 @@
 -- The order of events: by time, then receiver, class, sender, number, body (own).
 use Rattle.std.specs.Prelude.{ℕ, Bool}
-use Rattle.std.specs.Ordering.{nat_cmp, ordering_then, is_lt}
+use Rattle.std.specs.Ordering.{nat_cmp, ordering_then, is_lt, is_eq}
 use Rattle.std.specs.declared.cmp.Ordering.{Ordering}
 use Rattle.std.specs.declared.cmp.Ordering.TheVariants.{Equal}
 use Rattle.tw_event.specs.declared.event.Body.{Body}
@@ -44,3 +44,7 @@ event_cmp d e =
 -- whether d is handled before e
 abbrev pub event_before : Event → Event → Bool
 event_before d e = is_lt (event_cmp d e)
+
+-- whether d and e are the same event
+abbrev pub event_same : Event → Event → Bool
+event_same d e = is_eq (event_cmp d e)

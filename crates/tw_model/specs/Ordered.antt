@@ -11,3 +11,9 @@ module _ {E : Type 0} (before : E → E → Bool) where
   abbrev pub insert_all : List E → List E → List E
   insert_all [] xs = xs
   insert_all (e ∷ es) xs = insert_all es (insert e xs)
+
+module _ {E : Type 0} (same : E → E → Bool) where
+  -- without one e
+  abbrev pub take_out : E → List E → List E
+  take_out e [] = []
+  take_out e (x ∷ xs) = cond (same e x) xs (x ∷ take_out e xs)

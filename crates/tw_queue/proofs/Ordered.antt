@@ -1,0 +1,206 @@
+-- Lists that are kept in order: an element goes in and comes out again, and what order they came in does not count.
+use Rattle.std.proofs.Common.{◌≡◌, ℕ, suc, zero, ◌<◌, Bool, true, false, cond, List, [], ◌∷◌, length, get_or, set, refl, ap, sym, ◌∙◌, subst, inl, inr, arith, get_or-set_same, get_or-set_other, length-set, add-one}
+use Rattle.std.specs.List.{AllByRecursion, swap}
+use Rattle.std.specs.List.Sorted.{IsPermutation, IsSortedBy}
+use Rattle.std.proofs.lemmas.Bool.{cases_Bool, cases_eq, false≢true}
+use Rattle.std.proofs.lemmas.List.Sorted.{IsPermutation-keeps}
+use Rattle.tw_model.specs.Ordered.{insert, take_out}
+use Rattle.tw_queue.specs.Heap.{in_order}
+
+pub record IsOrder {E : Type 0} (before same : E → E → Bool) : Type 0 where
+  pub not_self : (x : E) → before x x ≡ false
+  pub trans : (x y z : E) → before x y ≡ true → before y z ≡ true → before x z ≡ true
+  pub total : (x y : E) → before x y ≡ false → before y x ≡ false → x ≡ y
+  pub same_is : (x y : E) → same x y ≡ true → x ≡ y
+  pub same_self : (x : E) → same x x ≡ true
+
+-- each passes
+pub all_weaker : {E : Type 0} (P Q : E → Type 0) → ((x : E) → P x → Q x) → (xs : List E) → AllByRecursion P xs → AllByRecursion Q xs
+all_weaker P Q f [] h = tt
+all_weaker P Q f (x ∷ xs) h = (f x h.0, all_weaker P Q f xs h.1)
+
+module _ {E : Type 0} (before same : E → E → Bool) where
+  pub all-insert : (P : E → Type 0) (e : E) (xs : List E) → P e → AllByRecursion P xs → AllByRecursion P (insert before e xs)
+  all-insert P e [] p h = (p, tt)
+  all-insert P e (x ∷ xs) p h =
+      elim (cases_Bool (before x e)) [
+        | inl b ↦ rw b (h.0, all-insert P e xs p h.1)
+        | inr b ↦ rw b (p, h)
+      ]
+
+  pub all-in_order : (P : E → Type 0) (xs : List E) → AllByRecursion P xs → AllByRecursion P (in_order before xs)
+  unfolding in_order
+  all-in_order P [] h = tt
+  all-in_order P (x ∷ xs) h = all-insert P x (in_order before xs) h.0 (all-in_order P xs h.1)
+
+  all-from_insert : (P : E → Type 0) (e : E) (xs : List E) → AllByRecursion P (insert before e xs) → P e × AllByRecursion P xs
+  all-from_insert P e [] h = h
+  all-from_insert P e (x ∷ xs) h =
+      elim (cases_Bool (before x e)) [
+        | inl b ↦
+            let k : P x × AllByRecursion P (insert before e xs) = rw b at h in
+            let l = all-from_insert P e xs k.1 in
+            (l.0, (k.0, l.1))
+        | inr b ↦ rw b at h
+      ]
+
+  pub all-from_in_order : (P : E → Type 0) (xs : List E) → AllByRecursion P (in_order before xs) → AllByRecursion P xs
+  unfolding in_order
+  all-from_in_order P [] h = tt
+  all-from_in_order P (x ∷ xs) h =
+      let k = all-from_insert P x (in_order before xs) h in
+      (k.0, all-from_in_order P xs k.1)
+
+  pub length-insert : (e : E) (xs : List E) → length (insert before e xs) ≡ suc (length xs)
+  length-insert e [] = refl
+  length-insert e (x ∷ xs) =
+      elim (cases_Bool (before x e)) [
+        | inl b ↦ rw b (ap suc (length-insert e xs))
+        | inr b ↦ rw b refl
+      ]
+
+  pub length-in_order : (xs : List E) → length (in_order before xs) ≡ length xs
+  unfolding in_order
+  length-in_order [] = refl
+  length-in_order (x ∷ xs) = length-insert x (in_order before xs) ∙ ap suc (length-in_order xs)
+
+  -- what none is before goes to the front
+  pub insert_least : (e : E) (xs : List E) → AllByRecursion (λ x. before x e ≡ false) xs → insert before e xs ≡ e ∷ xs
+  insert_least e [] h = refl
+  insert_least e (x ∷ xs) h = rw h.0 refl
+
+  pub in_order_least : (e : E) (xs : List E) → AllByRecursion (λ x. before x e ≡ false) xs → in_order before (e ∷ xs) ≡ e ∷ in_order before xs
+  unfolding in_order
+  in_order_least e xs h =
+      insert_least e (in_order before xs) (all-in_order (λ x. before x e ≡ false) xs h)
+
+  module _ (law : IsOrder before same) where
+    pub asymmetric : (x y : E) → before x y ≡ true → before y x ≡ false
+    asymmetric x y h =
+        elim (cases_Bool (before y x)) [
+          | inl b ↦ absurd (false≢true (sym (law.not_self x) ∙ law.trans x y x h b))
+          | inr b ↦ b
+        ]
+
+    -- what is not after an element is before what that is before
+    before_from : (x e f : E) → before x e ≡ false → before x f ≡ true → before e f ≡ true
+    before_from x e f h k =
+        elim (cases_Bool (before e x)) [
+          | inl b ↦ law.trans e x f b k
+          | inr b ↦ subst (λ y. before y f ≡ true) (law.total x e h b) k
+        ]
+
+    pub not_before_trans : (x y z : E) → before y x ≡ false → before z y ≡ false → before z x ≡ false
+    not_before_trans x y z h k =
+        elim (cases_Bool (before z x)) [
+          | inl b ↦ absurd (false≢true (sym h ∙ before_from z y x k b))
+          | inr b ↦ b
+        ]
+
+    pair : (e f : E) (r : List E) → cond (before f e) (f ∷ e ∷ r) (e ∷ f ∷ r) ≡ cond (before e f) (e ∷ f ∷ r) (f ∷ e ∷ r)
+    pair e f r =
+        elim (cases_Bool (before f e)) [
+          | inl b ↦ rw (b, asymmetric f e b) refl
+          | inr b ↦
+              elim (cases_Bool (before e f)) [
+                | inl c ↦ rw (b, c) refl
+                | inr c ↦ rw (b, c) (ap (λ x. x ∷ f ∷ r) (law.total e f c b) ∙ ap (λ x. f ∷ x ∷ r) (law.total f e b c))
+              ]
+        ]
+
+    behind : (x e : E) (xs : List E) → before x e ≡ true → insert before e (x ∷ xs) ≡ x ∷ insert before e xs
+    behind x e xs b = rw b refl
+
+    ahead : (x e : E) (xs : List E) → before x e ≡ false → insert before e (x ∷ xs) ≡ e ∷ x ∷ xs
+    ahead x e xs b = rw b refl
+
+    round : (e f x : E) (xs : List E) → before x f ≡ true → before x e ≡ false → insert before e (insert before f (x ∷ xs)) ≡ insert before f (insert before e (x ∷ xs))
+    round e f x xs b c =
+        (ap (insert before e) (behind x f xs b) ∙ ahead x e (insert before f xs) c) ∙ sym (ap (insert before f) (ahead x e xs c) ∙ behind e f (x ∷ xs) (before_from x e f c b) ∙ ap (λ r. e ∷ r) (behind x f xs b))
+
+    -- the order in which two go in does not count
+    pub insert-insert : (e f : E) (xs : List E) → insert before e (insert before f xs) ≡ insert before f (insert before e xs)
+    insert-insert e f [] = pair e f []
+    insert-insert e f (x ∷ xs) =
+        elim (cases_Bool (before x f)) [
+          | inl b ↦
+              elim (cases_Bool (before x e)) [
+                | inl c ↦
+                    (ap (insert before e) (behind x f xs b) ∙ behind x e (insert before f xs) c) ∙ ap (λ r. x ∷ r) (insert-insert e f xs) ∙ sym (ap (insert before f) (behind x e xs c) ∙ behind x f (insert before e xs) b)
+                | inr c ↦ round e f x xs b c
+              ]
+          | inr b ↦
+              elim (cases_Bool (before x e)) [
+                | inl c ↦ sym (round f e x xs c b)
+                | inr c ↦
+                    (ap (insert before e) (ahead x f xs b) ∙ ap (λ r. cond (before f e) (f ∷ r) (e ∷ f ∷ x ∷ xs)) (ahead x e xs c)) ∙ pair e f (x ∷ xs) ∙ sym (ap (insert before f) (ahead x e xs c) ∙ ap (λ r. cond (before e f) (e ∷ r) (f ∷ e ∷ x ∷ xs)) (ahead x f xs b))
+              ]
+        ]
+
+    not_same : (x e : E) → before x e ≡ true → same e x ≡ false
+    not_same x e h =
+        elim (cases_Bool (same e x)) [
+          | inl b ↦ absurd (false≢true (sym (law.not_self x) ∙ subst (λ y. before x y ≡ true) (law.same_is e x b) h))
+          | inr b ↦ b
+        ]
+
+    -- what went in comes out
+    pub take_out-insert : (e : E) (xs : List E) → take_out same e (insert before e xs) ≡ xs
+    take_out-insert e [] = rw (law.same_self e) refl
+    take_out-insert e (x ∷ xs) =
+        elim (cases_Bool (before x e)) [
+          | inl b ↦ rw b (rw (not_same x e b) (ap (λ r. x ∷ r) (take_out-insert e xs)))
+          | inr b ↦ rw b (rw (law.same_self e) refl)
+        ]
+
+    insert_injective : (e : E) (xs ys : List E) → insert before e xs ≡ insert before e ys → xs ≡ ys
+    insert_injective e xs ys h =
+        sym (take_out-insert e xs) ∙ ap (take_out same e) h ∙ take_out-insert e ys
+
+    in_order-set : (xs : List E) (i : ℕ) (v d : E) → i < length xs → insert before (get_or xs i d) (in_order before (set xs i v)) ≡ insert before v (in_order before xs)
+    unfolding in_order
+    in_order-set [] i v d h = absurd (omega arith)
+    in_order-set (x ∷ xs) zero v d h = insert-insert x v (in_order before xs)
+    in_order-set (x ∷ xs) (suc i) v d h =
+        insert-insert (get_or xs i d) x (in_order before (set xs i v)) ∙ ap (insert before x) (in_order-set xs i v d (omega arith)) ∙ insert-insert x v (in_order before xs)
+
+    still : (xs : List E) (i j : ℕ) (d : E) → i < length xs → get_or (set xs i (get_or xs j d)) j d ≡ get_or xs j d
+    still xs i j d h =
+        elim (cases_eq j i) [
+          | inl e ↦ subst (λ k. get_or (set xs i (get_or xs j d)) k d ≡ get_or xs j d) (sym e) (get_or-set_same xs i (get_or xs j d) d h)
+          | inr n ↦ get_or-set_other xs i j (get_or xs j d) d n
+        ]
+
+    in_order-set_set : (xs : List E) (i j : ℕ) (d : E) → i < length xs → j < length xs → in_order before (set (set xs i (get_or xs j d)) j (get_or xs i d)) ≡ in_order before xs
+    in_order-set_set xs i j d h k =
+        let a = get_or xs i d in
+        let b = get_or xs j d in
+        let first : insert before a (in_order before (set xs i b)) ≡ insert before b (in_order before xs) = in_order-set xs i b d h in
+        let second : insert before (get_or (set xs i b) j d) (in_order before (set (set xs i b) j a)) ≡ insert before a (in_order before (set xs i b)) = in_order-set (set xs i b) j a d (rw length-set k) in
+        insert_injective b (in_order before (set (set xs i b) j a)) (in_order before xs) (subst (λ v. insert before v (in_order before (set (set xs i b) j a)) ≡ insert before b (in_order before xs)) (still xs i j d h) (second ∙ first))
+
+    in_order-swap : (xs : List E) (i j : ℕ) → i < length xs → j < length xs → in_order before (swap xs i j) ≡ in_order before xs
+    in_order-swap [] i j h k = refl
+    in_order-swap (x ∷ xs) i j h k = in_order-set_set (x ∷ xs) i j x h k
+
+    -- the same elements come into the same order
+    pub in_order-permutation : (xs ys : List E) → IsPermutation xs ys → in_order before ys ≡ in_order before xs
+    in_order-permutation xs ys p =
+        IsPermutation-keeps xs (λ zs. in_order before zs ≡ in_order before xs) refl (λ l i j h k e. in_order-swap l i j h k ∙ e) ys p
+
+    -- what each of the same elements is
+    pub all-permutation : (P : E → Type 0) (xs ys : List E) → IsPermutation xs ys → AllByRecursion P xs → AllByRecursion P ys
+    all-permutation P xs ys p h =
+        all-from_in_order P ys (rw (in_order-permutation xs ys p) (all-in_order P xs h))
+
+  in_order_steps : (xs : List E) → ((k : ℕ) (d : E) → suc k < length xs → before (get_or xs (suc k) d) (get_or xs k d) ≡ false) → in_order before xs ≡ xs
+  unfolding in_order
+  in_order_steps [] h = refl
+  in_order_steps (x ∷ []) h = refl
+  in_order_steps (x ∷ y ∷ xs) h =
+      ap (insert before x) (in_order_steps (y ∷ xs) (λ k d l. h (suc k) d (omega arith))) ∙ rw (h 0 x (omega arith)) refl
+
+  -- a sorted list is in order
+  pub in_order_sorted : (xs : List E) → IsSortedBy before xs → in_order before xs ≡ xs
+  in_order_sorted xs h =
+      in_order_steps xs (λ k d l. rw add-one at (h k d (omega arith) (omega arith)))

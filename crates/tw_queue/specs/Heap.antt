@@ -1,0 +1,14 @@
+-- The heap that holds the pending events.
+use Rattle.std.specs.Prelude.{Bool, List, [], ◌∷◌, map}
+use Rattle.std.specs.declared.cmp.Reverse.{Reverse}
+use Rattle.tw_event.specs.declared.event.Event.{Event}
+use Rattle.tw_model.specs.Ordered.{insert}
+
+-- the events of a heap's items
+abbrev pub events_of : List (Reverse Event) → List Event
+events_of items = map (λ x. x.0) items
+
+-- the elements of a list in order
+unfoldable pub in_order : {E : Type 0} → (E → E → Bool) → List E → List E
+in_order before [] = []
+in_order before (x ∷ xs) = insert before x (in_order before xs)
