@@ -1,2 +1,4 @@
 pub mod Sink
 pub mod Lines
+pub mod Verdict
+pub mod Report

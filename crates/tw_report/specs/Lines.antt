@@ -6,21 +6,25 @@ use Rattle.tw_event.specs.declared.event.Body.{Body}
 use Rattle.tw_event.specs.declared.event.Body.TheVariants.{Start, Fail, Restore, Swap, Update}
 use Rattle.tw_event.specs.declared.event.Event.{Event}
 use Rattle.tw_model.specs.declared.outcome.RouterEnd.{RouterEnd}
-use Rattle.tw_model.specs.Net.{Net, path}
+use Rattle.tw_model.specs.Net.{Net, IsPath, path}
 
--- words with a space between each two, and a line's end
+-- words with a space between each two
+abbrev pub spaced : List (List ℕ) → List ℕ
+spaced words = join_with_byte 32 words
+
+-- a line of these words, with its end
 abbrev pub line : List (List ℕ) → List ℕ
-line words = join_with_byte 32 words ++ 10 ∷ []
+line words = spaced words ++ 10 ∷ []
 
 -- numbers with a space between each two
 abbrev pub numbers_text : List ℕ → List ℕ
-numbers_text numbers = join_with_byte 32 (map decimal numbers)
+numbers_text numbers = spaced (map decimal numbers)
 
 -- a path in parentheses
 abbrev pub path_text : List ℕ → List ℕ
 path_text nodes = 40 ∷ (numbers_text nodes ++ 41 ∷ [])
 
--- what happens, and who made it happen
+-- what happens, with the sender's number of it
 abbrev pub body_words : Net → Event → Body → List (List ℕ)
 body_words net e Start = codes "start" ∷ []
 body_words net e (Fail w) = codes "fail" ∷ decimal w ∷ decimal e.seq ∷ []
@@ -28,12 +32,20 @@ body_words net e (Restore w) = codes "restore" ∷ decimal w ∷ decimal e.seq �
 body_words net e (Swap i j) = codes "swap" ∷ decimal e.seq ∷ decimal i ∷ decimal j ∷ []
 body_words net e (Update q n) = codes "update" ∷ decimal e.src ∷ decimal e.seq ∷ decimal n ∷ path_text (path net q) ∷ []
 
--- an event with its time and its receiver
+-- an event, with its time and its receiver
 abbrev pub event_words : Net → Event → List (List ℕ)
 event_words net e = codes "event" ∷ decimal e.time ∷ decimal e.dst ∷ body_words net e e.body
 
--- router v with its counters and its path
+-- router v, with its counters and its path
 abbrev pub router_words : Net → ℕ → RouterEnd → List (List ℕ)
 router_words net v r =
-    codes "router" ∷ decimal v ∷ codes "sent" ∷ decimal r.counters.sent ∷ codes "handled" ∷ decimal r.counters.handled
-    ∷ codes "dropped" ∷ decimal r.counters.dropped ∷ codes "changed" ∷ decimal r.counters.changed ∷ codes "rib" ∷ path_text (path net r.rib) ∷ []
+    codes "router" ∷ decimal v ∷ codes "sent" ∷ decimal r.counters.sent ∷ codes "handled" ∷ decimal r.counters.handled ∷ codes "dropped" ∷ decimal r.counters.dropped
+    ∷ codes "changed" ∷ decimal r.counters.changed ∷ codes "rib" ∷ path_text (path net r.rib) ∷ []
+
+-- the path that a body names is one of the net
+abbrev pub NamesPath : Net → Body → Type 0
+NamesPath net Start = Unit {0}
+NamesPath net (Fail w) = Unit {0}
+NamesPath net (Restore w) = Unit {0}
+NamesPath net (Swap i j) = Unit {0}
+NamesPath net (Update q n) = IsPath net q

@@ -1,0 +1,45 @@
+ghost use Rattle.std.specs.Prelude.{◌≡◌};
+ghost use Rattle.tw_commands.specs.declared.cause.Cause.TheVariants.{Memory, Device};
+
+use std::alloc::AllocError;
+use thiserror::Error;
+use tw_report::Failed;
+
+/// Why a program stopped before its answer was written.
+#[derive(Clone, Copy, PartialEq, Eq, Debug, Error)]
+pub enum Cause {
+    /// Memory was refused.
+    #[error("stopped memory")]
+    Memory,
+    /// A counter of a router would have passed its limit.
+    #[error("stopped counter")]
+    CounterFull,
+    /// The source or the sink failed.
+    #[error("stopped device")]
+    Device,
+}
+
+impl From<AllocError> for Cause {
+    ghost from_gives = { λ _ cause. cause ≡ Memory };
+
+    fn from(_: AllocError) -> Cause {
+        Cause::Memory
+    }
+}
+
+impl From<Failed> for Cause {
+    ghost from_gives = { λ _ cause. cause ≡ Device };
+
+    fn from(_: Failed) -> Cause {
+        Cause::Device
+    }
+}
+
+/// How a program ended whose answer was written.
+#[derive(Clone, Copy, PartialEq, Eq, Debug)]
+pub enum Status {
+    /// What was asked was done.
+    Done,
+    /// The input, or an option, was refused.
+    Refused,
+}

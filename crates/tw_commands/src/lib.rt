@@ -1,0 +1,9 @@
+//! The programs as calls: each reads a case from any source, runs it and writes its answer to any
+//! sink.
+#![tactic(auto)]
+
+mod cause;
+mod source;
+
+pub use cause::{Cause, Status};
+pub use source::{LIMIT, OverRead, Source, read_all};

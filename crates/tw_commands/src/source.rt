@@ -1,0 +1,105 @@
+ghost use Rattle.std.specs.Prelude.{◌≡◌, ℕ, ◌<◌, ◌≤◌, Bool, false, true, List, length, Option, IfOk, IfErr, OnOk, OnErr};
+ghost use Rattle.std.specs.Io.KnownBytes.{Consumes, ReadConsumes};
+ghost use Rattle.tw_commands.specs.Source.{IsInput, Reader, StopsReading};
+
+use std::alloc::Global;
+use std::io::{ErrorKind, Read};
+use std::marker::Model;
+use tw_report::Failed;
+
+use crate::cause::Cause;
+
+/// How many bytes of its input a program reads at most.
+pub const LIMIT: usize = 67_108_864;
+
+const CHUNK: usize = 16_384;
+
+/// A device that gives bytes until it is at its end or fails. From then on it is not to be used.
+pub trait Source {
+    /// The bytes that it will give, where they are known.
+    ghost remaining: { Self → Option (List ℕ) };
+
+    /// Whether it has failed.
+    ghost failed: { Self → Bool };
+
+    /// Puts bytes at the front of `into` and answers how many: one at least before the end.
+    fn get(&mut self, into: &mut [u8]) -> Result<usize, Failed>
+        requires open { failed self.old ≡ false }
+        requires room { 0 < length into.old }
+        ensures count { IfOk result (λ n. n ≤ length into.new) }
+        ensures bytes { ReadConsumes (remaining self.old) (remaining self.new) result into.new }
+        ensures ok { OnOk result (failed self.new ≡ false) }
+        ensures err { OnErr result (failed self.new ≡ true) };
+
+    /// Whether it has failed.
+    fn has_failed(&self) -> bool
+        ensures { result ≡ failed self.now };
+}
+
+/// The first `LIMIT` bytes of what the source gives, or all where there are no more.
+pub fn read_all<R: Source>(alloc: Global, source: &mut R) -> Result<Vec<u8>, Cause>
+    requires open { R.failed source.old ≡ false }
+    ensures input { IfOk result (λ v. IsInput (R.remaining source.old) v.items) }
+    ensures taken { IfOk result (λ v. Consumes (R.remaining source.old) (R.remaining source.new) v.items) }
+    ensures ok { OnOk result (R.failed source.new ≡ false) }
+    ensures err { IfErr result (λ cause. StopsReading cause (R.failed source.new)) }
+{
+    let mut bytes = Vec::new(alloc);
+    let mut chunk = [0; CHUNK];
+    while bytes.len() < LIMIT {
+        let room = CHUNK.min(LIMIT - bytes.len());
+        let taken = source.get(&mut chunk[..room])?;
+        if taken == 0 {
+            return Ok(bytes);
+        }
+        bytes.extend_from_slice(&chunk[..taken])?;
+    }
+    Ok(bytes)
+}
+
+/// A reader as a `Source`. A read that is interrupted is tried again; any other error is a failure.
+#[derive(Drop)]
+pub struct OverRead<R: Read> {
+    reader: R,
+    failed: bool,
+}
+
+impl<R: Read> Model for OverRead<R> {
+    ghost Value = { Reader };
+
+    ghost view = { λ s. record { remaining = R.remaining s.reader; failed = s.failed } };
+}
+
+impl<R: Read> OverRead<R> {
+    /// A source that gives the reader's bytes.
+    pub fn new(reader: R) -> OverRead<R>
+        ensures { result ≡ record { remaining = R.remaining reader; failed = false } }
+    {
+        OverRead {
+            reader,
+            failed: false,
+        }
+    }
+}
+
+impl<R: Read> Source for OverRead<R> {
+    ghost remaining = { λ s. s.remaining };
+
+    ghost failed = { λ s. s.failed };
+
+    fn get(&mut self, into: &mut [u8]) -> Result<usize, Failed> {
+        for _ in 0..u64::MAX {
+            match self.reader.read(into) {
+                Ok(taken) => return Ok(taken),
+                Err(e) if e.kind() == ErrorKind::Interrupted => {}
+                Err(_) => break,
+            }
+        }
+        self.failed = true;
+        Err(Failed)
+    }
+
+    fn has_failed(&self) -> bool {
+        self.failed
+    }
+}

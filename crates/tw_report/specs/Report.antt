@@ -1,0 +1,51 @@
+-- The report of a run.
+use Rattle.std.specs.Prelude.{ℕ, ◌≡◌, Bool, false, true, List, [], ◌∷◌, ◌++◌, codes, Option, Result, Ok, Err, if◌then◌else◌}
+use Rattle.std.specs.Fmt.{decimal}
+use Rattle.std.specs.Io.KnownBytes.{Appends, Keeps}
+use Rattle.std.specs.List.{All, enumerate_from, flat_map}
+use Rattle.tw_event.specs.declared.event.Event.{Event}
+use Rattle.tw_model.specs.declared.outcome.Outcome.{Outcome}
+use Rattle.tw_model.specs.declared.outcome.RouterEnd.{RouterEnd}
+use Rattle.tw_model.specs.Net.{Net, IsPath}
+use Rattle.tw_report.specs.declared.report.ReportError.{ReportError}
+use Rattle.tw_report.specs.declared.report.ReportError.TheVariants.{Memory, Device}
+use Rattle.tw_report.specs.declared.verdict.Verdict.{Verdict}
+use Rattle.tw_report.specs.declared.verdict.Verdict.TheVariants.{Quiet, Undecided}
+use Rattle.tw_report.specs.Lines.{NamesPath, event_words, line, router_words}
+use Rattle.tw_report.specs.Sink.{Begins}
+
+abbrev pub verdict_words : Verdict → List (List ℕ)
+verdict_words (Quiet c) = codes "verdict" ∷ codes "quiet" ∷ decimal c ∷ []
+verdict_words Undecided = codes "verdict" ∷ codes "open" ∷ []
+
+abbrev pub event_lines : Net → List Event → List ℕ
+event_lines net events = flat_map (λ e. line (event_words net e)) events
+
+-- of each router a line, numbered from v
+abbrev pub router_lines : Net → ℕ → List RouterEnd → List ℕ
+router_lines net v routers = flat_map (λ r. line (router_words net r.0 r.1)) (enumerate_from v routers)
+
+-- the name of the format, the stop and the bound
+unfoldable pub head_lines : Outcome → List ℕ
+head_lines o = line (codes "spp-report" ∷ codes "1" ∷ []) ++ (line (codes "stop" ∷ decimal o.stop ∷ []) ++ line (codes "bound" ∷ decimal o.bound ∷ []))
+
+-- the events, where they are asked for
+abbrev pub logged_lines : Net → Bool → List Event → List ℕ
+logged_lines net log events = if log then event_lines net events else []
+
+-- the whole report
+unfoldable pub report_text : Net → Outcome → Verdict → Bool → List ℕ
+report_text net o verdict log =
+    head_lines o ++ (logged_lines net log o.events.items ++ (router_lines net 0 o.routers.items ++ line (verdict_words verdict)))
+
+-- the paths that the report shows are paths of the net
+pub record HasPaths (net : Net) (o : Outcome) : Type 0 where
+  pub events : All (λ e. NamesPath net e.body) o.events.items
+  pub routers : All (λ r. IsPath net r.rib) o.routers.items
+
+-- at Ok the text was written, and nothing else; at Memory nothing was, and the device is open; at Device a beginning was,
+-- and the device has failed
+abbrev pub Writes : {T : Type 0} → Result T ReportError → Option (List ℕ) → Option (List ℕ) → Bool → List ℕ → Type 0
+Writes (Ok x) old new failed text = Appends old new text × (failed ≡ false)
+Writes (Err Memory) old new failed text = Keeps old new × (failed ≡ false)
+Writes (Err Device) old new failed text = Begins old new text × (failed ≡ true)
