@@ -5,3 +5,7 @@ pub mod Within
 pub mod Members
 pub mod Nets
 pub mod Paths
+pub mod Sends
+pub mod Suits
+pub mod Openings
+pub mod Lawful

@@ -199,3 +199,9 @@ in_times m is x (y ∷ ys) h =
       | inl b ↦ inl (is x y b)
       | inr b ↦ inr (in_times m is x ys (let k : one m x y ≡ 0 = rw b refl in omega arith))
     ]
+
+-- what stands in a list is counted there
+pub times_in : {S E : Type 0} (m : Sim S E) → ((x : E) → m.same x x ≡ true) → (x : E) (xs : List E) → In x xs → 0 < times m x xs
+times_in m self x (y ∷ ys) (inl e) = let k : one m x y ≡ 1 = rw (subst (λ z. m.same x z ≡ true) e (self x)) refl in omega arith
+times_in m self x (y ∷ ys) (inr h) = let k = times_in m self x ys h in omega arith
+times_in m self x [] h = absurd h

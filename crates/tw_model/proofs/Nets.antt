@@ -85,7 +85,7 @@ pub record AreJoined (net : Net) (v w : ℕ) : Type 0 where
   pub there : w < net.nodes
   pub apart : v ≡ w → ⊥
 
-joined_by : (net : Net) (v w : ℕ) (l : Link) → IsLink net.nodes l → joins v w l ≡ true → AreJoined net v w
+pub joined_by : (net : Net) (v w : ℕ) (l : Link) → IsLink net.nodes l → joins v w l ≡ true → AreJoined net v w
 joined_by net v w l is h =
     let apart = eqb-false l.first l.second is.apart in
     elim (or_cases (l.first == v && l.second == w) (l.first == w && l.second == v) h) [
