@@ -9,3 +9,5 @@ pub mod Sends
 pub mod Suits
 pub mod Openings
 pub mod Lawful
+pub mod Unique
+pub mod Closed
