@@ -3,16 +3,10 @@ ghost use Rattle.clap.specs.Words.{app_of};
 ghost use Rattle.clap.specs.declared.builder.command.Command.TheViews.{out-Command as fields_of};
 ghost use Rattle.tw_options.specs.App.{check_app, seq_app, top_app, trail_app, twarp_app};
 
+use crate::help;
 use crate::number::{KEEP, ROUTER, STOP};
 use clap::{Arg, ArgAction, Command};
 use std::alloc::{AllocError, Global};
-
-const STATUSES: &str = "\
-Exit status:
-  0  done
-  1  the input is refused; standard output has one line that says why
-  2  stopped for want of memory, a full counter or a failed device; standard error has one line
-  3  the command line is refused; standard error says why";
 
 /// The whole command.
 pub(crate) fn twarp<'a>(alloc: Global) -> Result<Command<'a>, AllocError>
@@ -29,8 +23,9 @@ fn top<'a>(alloc: Global) -> Command<'a>
     ensures local { (fields_of result).has_globals ≡ false }
 {
     Command::new(alloc, "twarp")
-        .about("Simulates path-vector routing, event by event")
-        .after_help(STATUSES)
+        .about(help::TWARP)
+        .long_about(help::TWARP_LONG)
+        .after_help(help::STATUSES)
         .subcommand_required(true)
 }
 
@@ -39,8 +34,9 @@ fn check<'a>(alloc: Global) -> Command<'a>
     ensures local { (fields_of result).has_globals ≡ false }
 {
     Command::new(alloc, "check")
-        .about("Says whether the input is a case")
-        .after_help(STATUSES)
+        .about(help::CHECK)
+        .long_about(help::CHECK_LONG)
+        .after_help(help::STATUSES)
 }
 
 fn seq<'a>(alloc: Global) -> Result<Command<'a>, AllocError>
@@ -50,10 +46,11 @@ fn seq<'a>(alloc: Global) -> Result<Command<'a>, AllocError>
     let log = Arg::new(alloc, "log")
         .long("log")
         .action(ArgAction::SetTrue)
-        .help("List the events of the run");
+        .help("Report each event of the run too");
     Command::new(alloc, "seq")
-        .about("Runs a case and reports where it stands")
-        .after_help(STATUSES)
+        .about(help::SEQ)
+        .long_about(help::SEQ_LONG)
+        .after_help(help::STATUSES)
         .arg(STOP.arg(alloc))?
         .arg(log)
 }
@@ -63,8 +60,9 @@ fn trail<'a>(alloc: Global) -> Result<Command<'a>, AllocError>
     ensures local { IfOk result (λ command. (fields_of command).has_globals ≡ false) }
 {
     Command::new(alloc, "trail")
-        .about("Handles one router's events and undoes the last ones")
-        .after_help(STATUSES)
+        .about(help::TRAIL)
+        .long_about(help::TRAIL_LONG)
+        .after_help(help::STATUSES)
         .arg(ROUTER.arg(alloc))?
         .arg(STOP.arg(alloc))?
         .arg(KEEP.arg(alloc))

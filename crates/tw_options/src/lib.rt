@@ -10,6 +10,7 @@ ghost use Rattle.tw_options.specs.Says.{Says};
 
 mod command;
 mod fault;
+mod help;
 mod line;
 mod number;
 

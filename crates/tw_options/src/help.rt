@@ -1,0 +1,68 @@
+pub(crate) const TWARP: &str = "Simulates path-vector routing, event by event";
+
+pub(crate) const TWARP_LONG: &str = "\
+Simulates path-vector routing, event by event.
+
+Each router uses the first of its permitted paths that its neighbours offer, and tells them of
+each change. A message takes the delay of its link, in ticks.
+
+Every command reads a case text from standard input and writes its answer to standard output.
+This case has two routers that prefer to go by way of each other:
+
+  spp 1
+  nodes 3
+  link 0 1 1
+  link 0 2 5
+  link 1 2 1
+  path 1 1 2 0
+  path 1 1 0
+  path 2 2 1 0
+  path 2 2 0
+  end
+
+Example:
+  twarp seq --stop 20 --log < case.txt";
+
+pub(crate) const CHECK: &str = "Says whether the input is a case, or which line is at fault";
+
+pub(crate) const CHECK_LONG: &str = "\
+Says whether the input is a case, or which line is at fault.
+
+Reads a case text from standard input. For a case it counts the routers, links, paths and
+scenario lines; else it names the first line at fault, with the rule that the line breaks.
+
+Example:
+  twarp check < case.txt";
+
+pub(crate) const SEQ: &str = "Runs a case up to a time and reports where the routers stand";
+
+pub(crate) const SEQ_LONG: &str = "\
+Runs a case up to a time and reports where the routers stand.
+
+Reads a case text from standard input and handles its events below --stop, one after the other.
+The report has each router's counters and path at the end of the run, and whether the routers
+have come to rest.
+
+Example:
+  twarp seq --stop 20 --log < case.txt";
+
+pub(crate) const TRAIL: &str = "Runs a case, and undoes one router's last events";
+
+pub(crate) const TRAIL_LONG: &str = "\
+Runs a case, and undoes one router's last events.
+
+Reads a case text from standard input and handles its events below --stop, one after the other.
+Then the events of one router are undone, the last one first, until --keep of them are left.
+The answer shows the router before and after, each event undone, and the messages that it had
+sent.
+
+Example:
+  twarp trail --router 1 --stop 20 --keep 0 < case.txt";
+
+pub(crate) const STATUSES: &str = "\
+Exit status:
+  0  done
+  1  the input was refused; one line on standard output says where and why
+  2  stopped for want of memory, by a full counter or by a failed device; one line on standard
+     error says which
+  3  the command line was refused; standard error says why";
