@@ -13,6 +13,8 @@ use Rattle.tw_event.specs.declared.event.Body.TheVariants as body
 use Rattle.tw_event.specs.declared.event.Event.{Event}
 use Rattle.tw_event.specs.declared.event.PathNo.{PathNo}
 use Rattle.tw_event.specs.contracts.event.EventOrd.TheImpl as event_ord
+use Rattle.tw_event.specs.contracts.event.EventOrd.TheImpl.Laws as event_laws
+use Rattle.tw_event.specs.contracts.event.EventPartialEq.TheImpl as event_eqs
 use Rattle.tw_event.specs.Order.{event_cmp, event_before, event_same, body_cmp, class_of, place_of}
 
 -- a body as its class and two numbers
@@ -174,3 +176,7 @@ order_at t u r q s p n m _ _ = refl
 pub event_order : (d e : Event) → event_ord.ghosts.cmp d e ≡ event_cmp d e
 unfolding event_of
 event_order d e = order_at d.time e.time d.dst e.dst d.src e.src d.seq e.seq d.body e.body
+
+-- the equality of the code
+pub event_eq : (d e : Event) → event_eqs.ghosts.eq d e ≡ event_same d e
+event_eq d e = event_laws.matches_eq-law d e ∙ ap is_eq (event_order d e)

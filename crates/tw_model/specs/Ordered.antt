@@ -1,5 +1,6 @@
--- Lists that are kept in order: by a test of whether one element comes before another.
-use Rattle.std.specs.Prelude.{Bool, cond, List, [], ◌∷◌}
+-- Lists that are kept in order: by a test of whether one element comes before another; and how often an element stands in a list, by a test of
+-- whether two are the same.
+use Rattle.std.specs.Prelude.{ℕ, ◌+◌, Bool, cond, List, [], ◌∷◌}
 
 module _ {E : Type 0} (before : E → E → Bool) where
   -- into its place in the order
@@ -13,6 +14,14 @@ module _ {E : Type 0} (before : E → E → Bool) where
   insert_all (e ∷ es) xs = insert_all es (insert e xs)
 
 module _ {E : Type 0} (same : E → E → Bool) where
+  abbrev pub one : E → E → ℕ
+  one e x = cond (same e x) 1 0
+
+  -- how often e stands in a list
+  abbrev pub times : E → List E → ℕ
+  times e [] = 0
+  times e (x ∷ xs) = one e x + times e xs
+
   -- without one e
   abbrev pub take_out : E → List E → List E
   take_out e [] = []

@@ -1,6 +1,7 @@
 -- What is simulated: routers that handle events and send others, whatever they know. Said once for every protocol.
-use Rattle.std.specs.Prelude.{ℕ, ◌+◌, ◌≡◌, ◌≤◌, ◌<◌, ◌==◌, Bool, true, false, cond, List, [], ◌∷◌, ◌++◌, length, nat_lt, ◌↔◌}
+use Rattle.std.specs.Prelude.{ℕ, ◌+◌, ◌≡◌, ◌≤◌, ◌<◌, ◌==◌, Bool, true, false, List, [], ◌∷◌, ◌++◌, length, nat_lt, ◌↔◌}
 use Rattle.std.specs.List.{filter}
+use Rattle.tw_model.specs.Ordered as ordered
 
 -- S is what a router knows, E an event
 pub record Sim (S E : Type 0) : Type 0 where
@@ -26,12 +27,11 @@ pub record Sim (S E : Type 0) : Type 0 where
 
 module _ {S E : Type 0} (m : Sim S E) where
   abbrev pub one : E → E → ℕ
-  one e x = cond (m.same e x) 1 0
+  one e x = ordered.one m.same e x
 
   -- how often e stands in a list
   abbrev pub times : E → List E → ℕ
-  times e [] = 0
-  times e (x ∷ xs) = one e x + times e xs
+  times e xs = ordered.times m.same e xs
 
   -- what router r knows after a history, the newest event first
   abbrev pub state : ℕ → List E → S
