@@ -130,14 +130,16 @@ impl<'a> Router<'a> {
 
     /// The path that it uses.
     pub fn rib(&self) -> PathNo
-        ensures { result ≡ self.now.state.rib }
+        ensures value { result ≡ self.now.state.rib }
+        ensures state { IsState self.now.net self.now.node self.now.state }
     {
         self.rib
     }
 
     /// What it keeps of each neighbour, in rising number.
     pub fn rows(&self) -> &[Row]
-        ensures { result.now ≡ self.now.state.rows }
+        ensures value { result.now ≡ self.now.state.rows }
+        ensures state { IsState self.now.net self.now.node self.now.state }
     {
         &self.rows
     }
@@ -145,7 +147,10 @@ impl<'a> Router<'a> {
     /// What it keeps of the neighbour of a slot.
     pub fn row(&self, slot: usize) -> Row
         requires { slot < length self.now.state.rows }
-        ensures { result ≡ row_of self.now.state slot }
+        ensures value { result ≡ row_of self.now.state slot }
+        ensures heard { IsPath self.now.net result.heard }
+        ensures session { result.session ≤ self.now.state.counters.handled }
+        ensures state { IsState self.now.net self.now.node self.now.state }
     {
         self.rows[slot]
     }
@@ -153,7 +158,8 @@ impl<'a> Router<'a> {
     /// The path last accepted from the neighbour of a slot.
     pub fn heard(&self, slot: usize) -> PathNo
         requires { slot < length self.now.state.rows }
-        ensures { result ≡ (row_of self.now.state slot).heard }
+        ensures value { result ≡ (row_of self.now.state slot).heard }
+        ensures path { IsPath self.now.net result }
     {
         self.rows[slot].heard
     }
@@ -169,14 +175,16 @@ impl<'a> Router<'a> {
     /// How often the link to the neighbour of a slot was repaired.
     pub fn session(&self, slot: usize) -> u64
         requires { slot < length self.now.state.rows }
-        ensures { result ≡ (row_of self.now.state slot).session }
+        ensures value { result ≡ (row_of self.now.state slot).session }
+        ensures most { result ≤ self.now.state.counters.handled }
     {
         self.rows[slot].session
     }
 
     /// Its permitted paths, the best first.
     pub fn order(&self) -> &[PathNo]
-        ensures { result.now ≡ self.now.state.order }
+        ensures value { result.now ≡ self.now.state.order }
+        ensures state { IsState self.now.net self.now.node self.now.state }
     {
         &self.order
     }

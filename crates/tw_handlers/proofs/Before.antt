@@ -1,0 +1,157 @@
+-- The way back leads back: what the event led from, and what it sent.
+use Rattle.std.proofs.Common.{◌≡◌, ℕ, ◌+◌, ◌-◌, ◌<◌, ◌≤◌, ◌==◌, ◌&&◌, Bool, true, false, not, List, [], ◌∷◌, length, get_or, set, get_or-set_same, sym, ap, ◌∙◌, refl, subst, arith, eqb, leb}
+use Rattle.std.proofs.lemmas.Bool.{and_parts, eq-eqb, leb-true, ltb-true, cases_Bool}
+use Rattle.tw_event.specs.declared.event.Body.{Body}
+use Rattle.tw_event.specs.declared.event.Body.TheVariants.{Start, Fail, Restore, Swap, Update}
+use Rattle.tw_event.specs.declared.event.Event.{Event}
+use Rattle.tw_event.specs.declared.event.PathNo.{PathNo}
+use Rattle.tw_model.specs.declared.state.Counters.{Counters}
+use Rattle.tw_model.specs.declared.state.Row.{Row}
+use Rattle.tw_model.specs.Net.{Net, empty_path, hops_of, is_permitted, paths_of}
+use Rattle.tw_model.specs.Rules.{has_place}
+use Rattle.tw_model.specs.State.{IsState, State, best, has_peer, hop, no_row, row, slot}
+use Rattle.tw_model.specs.Effect.{accepts, acts, body_suits, counted, dropping, effect, failing, fits, hearing, restoring, settle, suits, swapping, tell, update_to, updates, ups, with_rib, with_row}
+use Rattle.tw_handlers.specs.declared.record.UndoRecord.{UndoRecord}
+use Rattle.tw_handlers.specs.Record.{IsHandled, heard_before, record_of, takes}
+use Rattle.tw_handlers.specs.Undo.{before, reversing, sends_again, settled_sends, uncounting, undropping, unfailing, unrestoring, unsending, unsettling}
+use Rattle.tw_handlers.proofs.Fitting.{body_suits-fits}
+use Rattle.tw_handlers.proofs.Rows.{back-row, row-with_row, swapping-swapping}
+
+back : (a b : ℕ) → a + b - b ≡ a
+back a b = omega arith
+
+counters-back : (c : Counters) (n : ℕ) → record c { sent = c.sent + n - n; changed = c.changed + 1 - 1 } ≡ c
+counters-back c n = rw (back c.sent n, back c.changed 1) refl
+
+-- a record as settling in s leaves it
+abbrev settled_record : Net → ℕ → ℕ → State → Bool → PathNo → UndoRecord
+settled_record net v t s k h = record { took = k; changed = not (s.rib.0 == (settle net v t s).state.rib.0); rib = s.rib; heard = h }
+
+unsettling-settle : (net : Net) (v t : ℕ) (s : State) (k : Bool) (h : PathNo) (b : Bool) → (s.rib.0 == (best net v s).0) ≡ b → unsettling net v (settle net v t s).state (settled_record net v t s k h) ≡ s
+unsettling-settle net v t s k h true is = rw is (rw (eq-eqb s.rib.0 s.rib.0 refl) refl)
+unsettling-settle net v t s k h false is =
+    rw is (rw is (ap (λ c. record s { counters = c }) (counters-back s.counters (length (ups net v s)))))
+
+settled_sends-settle : (net : Net) (v t : ℕ) (s : State) (k : Bool) (h : PathNo) (b : Bool) → (s.rib.0 == (best net v s).0) ≡ b → settled_sends net v t (settle net v t s).state (settled_record net v t s k h) ≡ (settle net v t s).sends
+settled_sends-settle net v t s k h true is = rw is (rw (eq-eqb s.rib.0 s.rib.0 refl) refl)
+settled_sends-settle net v t s k h false is =
+    rw is (rw is (ap (λ n. updates net v t (best net v s) n s) (back s.counters.sent (length (ups net v s)))))
+
+-- the record of one body, handled aside
+abbrev note : Net → ℕ → State → Event → Body → UndoRecord
+note net v s e b = record {
+  took = takes net v s e b;
+  changed = not (s.rib.0 == (acts net v s e b).state.rib.0);
+  rib = s.rib;
+  heard = heard_before net v s e b;
+}
+
+unfailing-failing : (s : State) (k : ℕ) (u : UndoRecord) → k < length s.rows → (row s k).up ≡ true → u.heard ≡ (row s k).heard → unfailing (failing s k) k u ≡ s
+unfailing-failing s k u h up heard =
+    back-row s k _ _ (ap (λ (r : Row). record r { up = true; heard = u.heard }) (row-with_row s k _ h) ∙ (ap (λ p. record (row s k) { up = true; heard = p }) heard ∙ ap (λ b. record (row s k) { up = b }) (sym up)))
+
+unrestoring-restoring : (s : State) (k : ℕ) → k < length s.rows → (row s k).up ≡ false → unrestoring (restoring s k) k ≡ s
+unrestoring-restoring s k h up =
+    back-row s k _ _ (ap (λ (r : Row). record r { up = false; session = r.session - 1 }) (row-with_row s k _ h) ∙ (ap (λ n. record (row s k) { up = false; session = n }) (back (row s k).session 1) ∙ ap (λ b. record (row s k) { up = b }) (sym up)))
+
+-- another path heard, and the old one heard again
+pub unhearing : (s : State) (k : ℕ) (q : PathNo) → k < length s.rows → hearing (hearing s k q) k (row s k).heard ≡ s
+unhearing s k q h = back-row s k _ _ (ap (λ (r : Row). record r { heard = (row s k).heard }) (row-with_row s k _ h))
+
+uncounting-counted : (s : State) → uncounting (counted s) ≡ s
+uncounting-counted s = ap (λ n. record s { counters = record s.counters { handled = n } }) (back s.counters.handled 1)
+
+unsending-tell : (net : Net) (v t : ℕ) (s : State) (k : ℕ) → unsending (tell net v t s k).state ≡ s
+unsending-tell net v t s k = ap (λ n. record s { counters = record s.counters { sent = n } }) (back s.counters.sent 1)
+
+undropping-dropping : (s : State) → undropping (dropping s) ≡ s
+undropping-dropping s = ap (λ n. record s { counters = record s.counters { dropped = n } }) (back s.counters.dropped 1)
+
+has_slot : (net : Net) (v : ℕ) (s : State) (w : ℕ) → IsState net v s → has_peer net v w ≡ true → slot net v w < length s.rows
+has_slot net v s w state h = subst (λ n. slot net v w < n) (sym state.hops) (ltb-true _ _ h)
+
+has_order : (net : Net) (v : ℕ) (s : State) (i : ℕ) → IsState net v s → has_place net v i ≡ true → i - 1 < length s.order
+has_order net v s i state h =
+    let p = and_parts (leb 1 i) (leb i (length (paths_of net v))) h in
+    let low : 1 ≤ i = leb-true 1 i p.0 in
+    let high : i ≤ length (paths_of net v) = leb-true i _ p.1 in
+    let n : length s.order ≡ length (paths_of net v) = state.places in omega arith
+
+unsettled : (net : Net) (v t : ℕ) (s : State) (k : Bool) (h : PathNo) → unsettling net v (settle net v t s).state (settled_record net v t s k h) ≡ s
+unsettled net v t s k h = unsettling-settle net v t s k h (s.rib.0 == (best net v s).0) refl
+
+resettled : (net : Net) (v t : ℕ) (s : State) (k : Bool) (h : PathNo) → settled_sends net v t (settle net v t s).state (settled_record net v t s k h) ≡ (settle net v t s).sends
+resettled net v t s k h = settled_sends-settle net v t s k h (s.rib.0 == (best net v s).0) refl
+
+fail-back : (net : Net) (v : ℕ) (s : State) (e : Event) (w : ℕ) (b : Bool) → (row s (slot net v w)).up ≡ b → slot net v w < length s.rows → reversing net v (acts net v s e (Fail w)).state e (Fail w) (note net v s e (Fail w)) ≡ s
+fail-back net v s e w true up h =
+    rw up (let u = settled_record net v e.time (failing s (slot net v w)) true (row s (slot net v w)).heard in
+    ap (λ x. unfailing x (slot net v w) u) (unsettled net v e.time (failing s (slot net v w)) true (row s (slot net v w)).heard) ∙ unfailing-failing s (slot net v w) u h up refl)
+fail-back net v s e w false up h = rw up refl
+
+restore-back : (net : Net) (v : ℕ) (s : State) (e : Event) (w : ℕ) (b : Bool) → (row s (slot net v w)).up ≡ b → slot net v w < length s.rows → reversing net v (acts net v s e (Restore w)).state e (Restore w) (note net v s e (Restore w)) ≡ s
+restore-back net v s e w true up h = rw up refl
+restore-back net v s e w false up h =
+    rw up (ap (λ x. unrestoring x (slot net v w)) (unsending-tell net v e.time (restoring s (slot net v w)) (slot net v w)) ∙ unrestoring-restoring s (slot net v w) h up)
+
+update-back : (net : Net) (v : ℕ) (s : State) (e : Event) (q : PathNo) (n : ℕ) (b : Bool) → accepts s (slot net v e.src) n ≡ b → slot net v e.src < length s.rows → reversing net v (acts net v s e (Update q n)).state e (Update q n) (note net v s e (Update q n)) ≡ s
+update-back net v s e q n true is h =
+    rw is (let u = settled_record net v e.time (hearing s (slot net v e.src) q) true (row s (slot net v e.src)).heard in
+    ap (λ x. hearing x (slot net v e.src) u.heard) (unsettled net v e.time (hearing s (slot net v e.src) q) true (row s (slot net v e.src)).heard) ∙ unhearing s (slot net v e.src) q h)
+update-back net v s e q n false is h = rw is (undropping-dropping s)
+
+swap-back : (net : Net) (v : ℕ) (s : State) (e : Event) (i j : ℕ) → i - 1 < length s.order → j - 1 < length s.order → reversing net v (acts net v s e (Swap i j)).state e (Swap i j) (note net v s e (Swap i j)) ≡ s
+swap-back net v s e i j hi hj =
+    ap (λ x. swapping x i j) (unsettled net v e.time (swapping s i j) true empty_path) ∙ swapping-swapping s i j hi hj
+
+acts-back : (net : Net) (v : ℕ) (s : State) (e : Event) (b : Body) → IsState net v s → body_suits net v e b ≡ true → reversing net v (acts net v s e b).state e b (note net v s e b) ≡ s
+acts-back net v s e Start state h = unsettled net v e.time s true empty_path
+acts-back net v s e (Fail w) state h =
+    let p = and_parts _ (has_peer net v w) h in fail-back net v s e w (row s (slot net v w)).up refl (has_slot net v s w state p.1)
+acts-back net v s e (Restore w) state h =
+    let p = and_parts _ (has_peer net v w) h in restore-back net v s e w (row s (slot net v w)).up refl (has_slot net v s w state p.1)
+acts-back net v s e (Swap i j) state h =
+    let p = and_parts _ (has_place net v i && has_place net v j) h in
+    let q = and_parts (has_place net v i) (has_place net v j) p.1 in
+    swap-back net v s e i j (has_order net v s i state q.0) (has_order net v s j state q.1)
+acts-back net v s e (Update q n) state h =
+    let p = and_parts (has_peer net v e.src) (is_permitted net e.src q) h in
+    update-back net v s e q n (accepts s (slot net v e.src) n) refl (has_slot net v s e.src state p.0)
+
+-- from the state that an event left, its record leads back to the state before
+pub before-effect : (net : Net) (v : ℕ) (s : State) (e : Event) → IsState net v s → fits net v e ≡ true → before net v (effect net v s e).state e (record_of net v s e) ≡ s
+before-effect net v s e state h =
+    ap (λ x. reversing net v x e e.body (record_of net v s e)) (uncounting-counted (acts net v s e e.body).state) ∙ acts-back net v s e e.body state (body_suits-fits net v e h)
+
+fail-again : (net : Net) (v : ℕ) (s : State) (e : Event) (w : ℕ) (b : Bool) → (row s (slot net v w)).up ≡ b → sends_again net v (acts net v s e (Fail w)).state e (Fail w) (note net v s e (Fail w)) ≡ (acts net v s e (Fail w)).sends
+fail-again net v s e w true up =
+    rw up (resettled net v e.time (failing s (slot net v w)) true (row s (slot net v w)).heard)
+fail-again net v s e w false up = rw up (rw (eq-eqb s.rib.0 s.rib.0 refl) refl)
+
+restore-again : (net : Net) (v : ℕ) (s : State) (e : Event) (w : ℕ) (b : Bool) → (row s (slot net v w)).up ≡ b → sends_again net v (acts net v s e (Restore w)).state e (Restore w) (note net v s e (Restore w)) ≡ (acts net v s e (Restore w)).sends
+restore-again net v s e w true up = rw up refl
+restore-again net v s e w false up =
+    rw up (let k = slot net v w in ap (λ n. update_to v e.time s.rib n (hop net v k) (row (restoring s k) k) ∷ []) (back s.counters.sent 1))
+
+update-again : (net : Net) (v : ℕ) (s : State) (e : Event) (q : PathNo) (n : ℕ) (b : Bool) → accepts s (slot net v e.src) n ≡ b → sends_again net v (acts net v s e (Update q n)).state e (Update q n) (note net v s e (Update q n)) ≡ (acts net v s e (Update q n)).sends
+update-again net v s e q n true is =
+    rw is (resettled net v e.time (hearing s (slot net v e.src) q) true (row s (slot net v e.src)).heard)
+update-again net v s e q n false is = rw is (rw (eq-eqb s.rib.0 s.rib.0 refl) refl)
+
+acts-again : (net : Net) (v : ℕ) (s : State) (e : Event) (b : Body) → sends_again net v (acts net v s e b).state e b (note net v s e b) ≡ (acts net v s e b).sends
+acts-again net v s e Start = resettled net v e.time s true empty_path
+acts-again net v s e (Fail w) = fail-again net v s e w (row s (slot net v w)).up refl
+acts-again net v s e (Restore w) = restore-again net v s e w (row s (slot net v w)).up refl
+acts-again net v s e (Swap i j) = resettled net v e.time (swapping s i j) true empty_path
+acts-again net v s e (Update q n) = update-again net v s e q n (accepts s (slot net v e.src) n) refl
+
+counted-again : (net : Net) (v : ℕ) (s : State) (e : Event) (b : Body) (u : UndoRecord) → sends_again net v (counted s) e b u ≡ sends_again net v s e b u
+counted-again net v s e Start u = refl
+counted-again net v s e (Fail w) u = refl
+counted-again net v s e (Restore w) u = refl
+counted-again net v s e (Swap i j) u = refl
+counted-again net v s e (Update q n) u = refl
+
+-- from the state that an event left, its record leads back to what it sent
+pub sends_again-effect : (net : Net) (v : ℕ) (s : State) (e : Event) → sends_again net v (effect net v s e).state e e.body (record_of net v s e) ≡ (effect net v s e).sends
+sends_again-effect net v s e = counted-again net v (acts net v s e e.body).state e e.body (record_of net v s e) ∙ acts-again net v s e e.body

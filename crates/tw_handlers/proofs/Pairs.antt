@@ -1,0 +1,16 @@
+-- The neighbours whose link is up, one by one.
+use Rattle.std.proofs.Common.{◌≡◌, ℕ, ◌+◌, ◌<◌, cond, List, ◌∷◌, length, get_or, drop, ap, ap₂, ◌∙◌, false}
+use Rattle.std.proofs.lemmas.List.{drop_more}
+use Rattle.tw_model.specs.declared.net.Hop.{Hop}
+use Rattle.tw_model.specs.declared.state.Row.{Row}
+use Rattle.tw_handlers.specs.Send.{up_pairs}
+
+pub up_pairs-drop : (hops : List Hop) (rows : List Row) (i : ℕ) (h : Hop) (r : Row) → i < length hops → i < length rows
+    → up_pairs (drop i hops) (drop i rows) ≡ cond (get_or rows i r).up ((get_or hops i h, get_or rows i r) ∷ up_pairs (drop (i + 1) hops) (drop (i + 1) rows)) (up_pairs (drop (i + 1) hops) (drop (i + 1) rows))
+up_pairs-drop hops rows i h r a b = ap₂ up_pairs (drop_more hops i h a) (drop_more rows i r b)
+
+-- a link that is down is passed over
+pub up_pairs-skip : (hops : List Hop) (rows : List Row) (i : ℕ) (h : Hop) (r : Row) → i < length hops → i < length rows → (get_or rows i r).up ≡ false
+    → up_pairs (drop i hops) (drop i rows) ≡ up_pairs (drop (i + 1) hops) (drop (i + 1) rows)
+up_pairs-skip hops rows i h r a b down =
+    up_pairs-drop hops rows i h r a b ∙ ap (λ up. cond up ((get_or hops i h, get_or rows i r) ∷ up_pairs (drop (i + 1) hops) (drop (i + 1) rows)) (up_pairs (drop (i + 1) hops) (drop (i + 1) rows))) down

@@ -1,0 +1,58 @@
+-- A row, or two places of the order, written and written back.
+use Rattle.std.proofs.Common.{◌≡◌, ◌≢◌, ℕ, ◌+◌, ◌-◌, ◌<◌, Bool, true, false, List, [], ◌∷◌, length, get_or, set, set-set, get_or-set_same, length-set, sym, ap, ◌∙◌, refl, subst, inl, inr, arith}
+use Rattle.std.proofs.lemmas.List.{set-get_or, same_lists, get_or_default}
+use Rattle.std.proofs.lemmas.List.Edits.{swapped_from_swap, length-swap}
+use Rattle.std.proofs.lemmas.Bool.{cases_eq}
+use Rattle.std.specs.List.{swap}
+use Rattle.tw_model.specs.declared.state.Row.{Row}
+use Rattle.tw_model.specs.State.{State, no_row, row}
+use Rattle.tw_model.specs.Effect.{swapping, with_row}
+
+-- a second write at a place undoes the first where it writes what stood there
+pub set-back : {X : Type 0} (xs : List X) (k : ℕ) (x y d : X) → y ≡ get_or xs k d → set (set xs k x) k y ≡ xs
+set-back xs k x y d e = set-set xs k x y ∙ (ap (set xs k) e ∙ set-get_or xs k d)
+
+-- two places that changed places twice
+swap-at : {X : Type 0} (xs : List X) (i j k : ℕ) (d : X) → i < length xs → j < length xs → get_or (swap (swap xs i j) i j) k d ≡ get_or xs k d
+swap-at xs i j k d hi hj =
+    let n = length-swap xs i j in
+    let p = swapped_from_swap xs (swap xs i j) i j d hi hj refl in
+    let q = swapped_from_swap (swap xs i j) (swap (swap xs i j) i j) i j d (subst (λ m. i < m) (sym n) hi) (subst (λ m. j < m) (sym n) hj) refl in
+    elim (cases_eq k i) [
+      | inl e ↦ subst (λ m. get_or (swap (swap xs i j) i j) m d ≡ get_or xs m d) (sym e) (q.0 ∙ p.1)
+      | inr ne ↦ elim (cases_eq k j) [
+        | inl e ↦ subst (λ m. get_or (swap (swap xs i j) i j) m d ≡ get_or xs m d) (sym e) (q.1 ∙ p.0)
+        | inr nf ↦ q.2 k ne nf ∙ p.2 k ne nf
+      ]
+    ]
+
+pub swap-swap : {X : Type 0} (xs : List X) (i j : ℕ) → i < length xs → j < length xs → swap (swap xs i j) i j ≡ xs
+swap-swap xs i j hi hj =
+    same_lists _ _ (length-swap (swap xs i j) i j ∙ length-swap xs i j) (λ k d h. swap-at xs i j k d hi hj)
+
+-- the parts of a row written one after another
+pub row-written : (s : State) (k : ℕ) (r : Row) → k < length s.rows
+    → let a : State = with_row s k (record (row s k) { heard = r.heard }) in
+    let b : State = with_row a k (record (row a k) { up = r.up }) in
+    with_row b k (record (row b k) { session = r.session }) ≡ with_row s k r
+row-written s k r h =
+    let x : Row = record (row s k) { heard = r.heard } in
+    let y : Row = record x { up = r.up } in
+    let p : get_or (set s.rows k x) k no_row ≡ x = get_or-set_same s.rows k x no_row h in
+    let rows : List Row = set (set s.rows k x) k y in
+    let q : rows ≡ set s.rows k y = set-set s.rows k x y in
+    let same : set (set s.rows k x) k (record (get_or (set s.rows k x) k no_row) { up = r.up }) ≡ set s.rows k y = ap (λ (z : Row). set (set s.rows k x) k (record z { up = r.up })) p ∙ q in
+    let f : List Row → State = λ rows. record s { rows = set rows k (record (get_or rows k no_row) { session = r.session }) } in
+    ap f same ∙ (ap (λ (z : Row). record s { rows = set (set s.rows k y) k (record z { session = r.session }) }) (get_or-set_same s.rows k y no_row h)
+    ∙ ap (λ rows. record s { rows = rows }) (set-set s.rows k y r))
+
+-- a row written and written back
+pub back-row : (s : State) (k : ℕ) (x y : Row) → y ≡ row s k → with_row (with_row s k x) k y ≡ s
+back-row s k x y e = ap (λ rows. record s { rows = rows }) (set-back s.rows k x y no_row e)
+
+pub row-with_row : (s : State) (k : ℕ) (x : Row) → k < length s.rows → row (with_row s k x) k ≡ x
+row-with_row s k x h = get_or-set_same s.rows k x no_row h
+
+-- two places of the order changed and changed back
+pub swapping-swapping : (s : State) (i j : ℕ) → i - 1 < length s.order → j - 1 < length s.order → swapping (swapping s i j) i j ≡ s
+swapping-swapping s i j hi hj = ap (λ order. record s { order = order }) (swap-swap s.order (i - 1) (j - 1) hi hj)

@@ -1,0 +1,3 @@
+pub mod Record
+pub mod Send
+pub mod Undo

@@ -1,0 +1,77 @@
+ghost use Rattle.std.specs.Prelude.{◌≡◌, ◌≤◌, ◌<◌, ◌↔◌, length, IsTrue};
+ghost use Rattle.tw_model.specs.Net.{IsPath, begins_at as begins_at_of, is_own as is_own_of, is_permitted as is_permitted_of};
+ghost use Rattle.tw_model.specs.Rules.{has_place as has_place_of};
+ghost use Rattle.tw_model.specs.State.{has_peer as has_peer_of};
+ghost use Rattle.tw_model.specs.Effect.{body_suits, fits};
+
+use tw_event::{Body, Event, PathNo};
+use tw_instance::Instance;
+
+/// The latest time at which an event is handled, in ticks.
+const LATEST: u64 = 1_000_000_000;
+
+/// Whether the event is one for this router.
+pub(crate) fn does_fit(instance: &Instance, node: u32, event: &Event) -> bool
+    ensures { result ≡ fits instance.now node event.now }
+{
+    event.time <= LATEST && event.dst == node && does_body_suit(instance, node, event)
+}
+
+fn does_body_suit(instance: &Instance, node: u32, event: &Event) -> bool
+    ensures { result ≡ body_suits instance.now node event.now event.now.body }
+{
+    match event.body {
+        Body::Start => event.src == node && node == 0 && event.time == 0,
+        Body::Fail(peer) => event.src == node && has_peer(instance, node, peer),
+        Body::Restore(peer) => event.src == node && has_peer(instance, node, peer),
+        Body::Swap(first, second) => {
+            event.src == node
+                && has_place(instance, node, first)
+                && has_place(instance, node, second)
+        }
+        Body::Update { path, .. } => {
+            has_peer(instance, node, event.src) && is_permitted(instance, event.src, path)
+        }
+    }
+}
+
+fn has_peer(instance: &Instance, node: u32, peer: u32) -> bool
+    ensures { result ≡ has_peer_of instance.now node peer }
+{
+    instance.slot(node, peer).is_some()
+}
+
+fn has_place(instance: &Instance, node: u32, place: u32) -> bool
+    ensures { result ≡ has_place_of instance.now node place }
+{
+    1 <= place && place as usize <= instance.permitted(node).len()
+}
+
+/// Whether the path is empty or permitted at the node.
+fn is_permitted(instance: &Instance, node: u32, path: PathNo) -> bool
+    ensures { result ≡ is_permitted_of instance.now node path }
+{
+    path.0 == 0 || is_own(instance, node, path)
+}
+
+/// Whether the path is one of the instance that begins with the node.
+fn is_own(instance: &Instance, node: u32, path: PathNo) -> bool
+    ensures { result ≡ is_own_of instance.now node path }
+{
+    is_path(instance, path) && begins_at(instance.path(path), node)
+}
+
+fn is_path(instance: &Instance, path: PathNo) -> bool
+    ensures { IsTrue result ↔ IsPath instance.now path }
+{
+    path.0 < 2 || path.0 as usize - 2 < instance.paths().len()
+}
+
+fn begins_at(nodes: &[u32], node: u32) -> bool
+    ensures { result ≡ begins_at_of nodes.now node }
+{
+    match nodes {
+        [first, ..] => *first == node,
+        [] => false,
+    }
+}

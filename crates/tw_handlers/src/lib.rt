@@ -1,0 +1,13 @@
+//! What an event does at a router, and how it is undone.
+#![tactic(auto)]
+
+mod fault;
+mod fit;
+mod handling;
+mod record;
+mod send;
+mod settle;
+
+pub use fault::Fault;
+pub use handling::handle;
+pub use record::UndoRecord;
