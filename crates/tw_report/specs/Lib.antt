@@ -1,4 +1,5 @@
 pub mod Sink
 pub mod Lines
+pub mod Summary
 pub mod Verdict
 pub mod Report

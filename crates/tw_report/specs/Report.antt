@@ -4,7 +4,6 @@ use Rattle.std.specs.Fmt.{decimal}
 use Rattle.std.specs.Io.KnownBytes.{Appends, Keeps}
 use Rattle.std.specs.List.{All, enumerate_from, flat_map}
 use Rattle.tw_event.specs.declared.event.Event.{Event}
-use Rattle.tw_model.specs.declared.outcome.Outcome.{Outcome}
 use Rattle.tw_model.specs.declared.outcome.RouterEnd.{RouterEnd}
 use Rattle.tw_model.specs.Net.{Net, IsPath}
 use Rattle.tw_report.specs.declared.report.ReportError.{ReportError}
@@ -13,6 +12,7 @@ use Rattle.tw_report.specs.declared.verdict.Verdict.{Verdict}
 use Rattle.tw_report.specs.declared.verdict.Verdict.TheVariants.{Quiet, Undecided}
 use Rattle.tw_report.specs.Lines.{NamesPath, event_words, line, router_words}
 use Rattle.tw_report.specs.Sink.{Begins}
+use Rattle.tw_report.specs.Summary.{Summary}
 
 abbrev pub verdict_words : Verdict → List (List ℕ)
 verdict_words (Quiet c) = codes "verdict" ∷ codes "quiet" ∷ decimal c ∷ []
@@ -26,7 +26,7 @@ abbrev pub router_lines : Net → ℕ → List RouterEnd → List ℕ
 router_lines net v routers = flat_map (λ r. line (router_words net r.0 r.1)) (enumerate_from v routers)
 
 -- the name of the format, the stop and the bound
-unfoldable pub head_lines : Outcome → List ℕ
+unfoldable pub head_lines : Summary → List ℕ
 head_lines o = line (codes "spp-report" ∷ codes "1" ∷ []) ++ (line (codes "stop" ∷ decimal o.stop ∷ []) ++ line (codes "bound" ∷ decimal o.bound ∷ []))
 
 -- the events, where they are asked for
@@ -34,14 +34,14 @@ abbrev pub logged_lines : Net → Bool → List Event → List ℕ
 logged_lines net log events = if log then event_lines net events else []
 
 -- the whole report
-unfoldable pub report_text : Net → Outcome → Verdict → Bool → List ℕ
+unfoldable pub report_text : Net → Summary → Verdict → Bool → List ℕ
 report_text net o verdict log =
-    head_lines o ++ (logged_lines net log o.events.items ++ (router_lines net 0 o.routers.items ++ line (verdict_words verdict)))
+    head_lines o ++ (logged_lines net log o.events ++ (router_lines net 0 o.routers ++ line (verdict_words verdict)))
 
 -- the paths that the report shows are paths of the net
-pub record HasPaths (net : Net) (o : Outcome) : Type 0 where
-  pub events : All (λ e. NamesPath net e.body) o.events.items
-  pub routers : All (λ r. IsPath net r.rib) o.routers.items
+pub record HasPaths (net : Net) (o : Summary) : Type 0 where
+  pub events : All (λ e. NamesPath net e.body) o.events
+  pub routers : All (λ r. IsPath net r.rib) o.routers
 
 -- at Ok the text was written, and nothing else; at Memory nothing was, and the device is open; at Device a beginning was,
 -- and the device has failed

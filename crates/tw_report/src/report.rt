@@ -5,6 +5,7 @@ ghost use Rattle.tw_model.specs.Net.{IsPath};
 ghost use Rattle.tw_report.specs.declared.report.ReportError.TheVariants.{Memory, Device};
 ghost use Rattle.tw_report.specs.Lines.{NamesPath, line};
 ghost use Rattle.tw_report.specs.Report.{HasPaths, Writes, event_lines, head_lines, logged_lines, report_text, router_lines, verdict_words};
+ghost use Rattle.tw_report.specs.Summary.{summary_of};
 
 use crate::lines::{event_text, router_text};
 use crate::sink::{Failed, Sink, put_all};
@@ -51,8 +52,8 @@ pub fn write_report<S: Sink>(
     log: bool,
 ) -> Result<(), ReportError>
     requires open { S.failed sink.old ≡ false }
-    requires paths { HasPaths instance.now outcome.now }
-    ensures { Writes result (S.written sink.old) (S.written sink.new) (S.failed sink.new) (report_text instance.now outcome.now verdict log) }
+    requires paths { HasPaths instance.now (summary_of outcome.now) }
+    ensures { Writes result (S.written sink.old) (S.written sink.new) (S.failed sink.new) (report_text instance.now (summary_of outcome.now) verdict log) }
 {
     let text = report_text(alloc, instance, outcome, verdict, log)?;
     put_all(sink, text.as_bytes())?;
@@ -69,8 +70,8 @@ pub fn report_text(
     verdict: Verdict,
     log: bool,
 ) -> Result<String, AllocError>
-    requires { HasPaths instance.now outcome.now }
-    ensures { IfOk result (λ s. string_bytes s ≡ report_text instance.now outcome.now verdict log) }
+    requires { HasPaths instance.now (summary_of outcome.now) }
+    ensures { IfOk result (λ s. string_bytes s ≡ report_text instance.now (summary_of outcome.now) verdict log) }
 {
     let mut text = head_text(alloc, outcome)?;
     push_log(alloc, &mut text, instance, &outcome.events, log)?;
@@ -81,7 +82,7 @@ pub fn report_text(
 
 /// The lines before those of events.
 fn head_text(alloc: Global, outcome: &Outcome) -> Result<String, AllocError>
-    ensures { IfOk result (λ s. string_bytes s ≡ head_lines outcome.now) }
+    ensures { IfOk result (λ s. string_bytes s ≡ head_lines (summary_of outcome.now)) }
 {
     let (stop, bound) = (outcome.stop, outcome.bound);
     format!(in alloc; "spp-report 1\nstop {stop}\nbound {bound}\n")

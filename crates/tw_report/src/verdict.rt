@@ -1,4 +1,5 @@
 ghost use Rattle.std.specs.Prelude.{◌≡◌};
+ghost use Rattle.tw_report.specs.Summary.{summary_of};
 ghost use Rattle.tw_report.specs.Verdict.{verdict_of};
 
 use tw_model::Outcome;
@@ -16,7 +17,7 @@ impl Verdict {
     /// The verdict on a run: quiet exactly where no event is pending, those at or past the stop
     /// included.
     pub fn of(outcome: &Outcome) -> Verdict
-        ensures { result ≡ verdict_of outcome.now }
+        ensures { result ≡ verdict_of (summary_of outcome.now) }
     {
         if outcome.pending.is_empty() {
             Verdict::Quiet(outcome.last_change)
