@@ -1,5 +1,5 @@
 -- What a heap of events holds, in rising order.
-use Rattle.std.proofs.Common.{◌≡◌, ℕ, ◌<◌, false, Some, List, [], ◌∷◌, length, slice_get, get_or, drop, ◌+◌, refl, ap, sym, ◌∙◌, subst, inl, inr, arith}
+use Rattle.std.proofs.Common.{IfSome, ◌==◌, ◌≤◌, ◌↔◌, Bool, true, None, ◌+◌, cond, count_by, filter, nat_lt, ◌≡◌, ℕ, ◌<◌, false, Some, List, [], ◌∷◌, length, slice_get, get_or, drop, ◌+◌, refl, ap, sym, ◌∙◌, subst, inl, inr, arith}
 use Rattle.std.proofs.lemmas.List.{length-map}
 use Rattle.std.specs.BinaryHeap.{IsUpperBound}
 use Rattle.std.specs.List.{AllByRecursion}
@@ -7,16 +7,18 @@ use Rattle.std.specs.List.Sorted.{IsPermutation, IsSorted}
 use Rattle.std.specs.Ordering.{is_lt}
 use Rattle.std.specs.declared.cmp.Reverse.{Reverse}
 use Rattle.std.specs.declared.cmp.Ordering.{Ordering}
-use Rattle.std.proofs.lemmas.Bool.{cases_Bool}
-use Rattle.std.proofs.lemmas.List.Sorted.{IsPermutation-map}
+use Rattle.std.proofs.lemmas.Bool.{cases_Bool, ltb-true, lt-ltb, eqb-true}
+use Rattle.std.proofs.lemmas.List.Sorted.{IsPermutation-map, length_permutation}
+use Rattle.std.proofs.lemmas.List.Sums.{sum_by-cons}
 use Rattle.tw_event.specs.declared.event.Event.{Event}
 use Rattle.tw_event.specs.Order.{event_before, event_same}
 use Rattle.tw_event.specs.contracts.event.EventOrd.TheImpl as event_ord
-use Rattle.tw_event.proofs.Order.{before_not_self, before_trans, before_total, same_is, same_self, event_order}
-use Rattle.tw_model.specs.Ordered.{insert}
-use Rattle.tw_queue.specs.Heap.{events_of, in_order}
+use Rattle.tw_event.specs.contracts.event.EventPartialEq.TheImpl as event_eqs
+use Rattle.tw_event.proofs.Order.{before_not_self, before_trans, before_total, same_is, same_self, event_order, event_eq}
+use Rattle.tw_model.specs.Ordered.{insert, insert_all, one, take_out, times}
+use Rattle.tw_queue.specs.Heap.{earlier, events_of, in_order, least_with}
 use Rattle.tw_queue.specs.Queue.{IsRising, AreFor, IsQueue}
-use Rattle.tw_queue.proofs.Ordered.{IsOrder, all-insert, all_weaker, all-in_order, all-permutation, length-in_order, in_order_least, in_order-permutation, in_order_sorted, asymmetric, not_before_trans}
+use Rattle.tw_queue.proofs.Ordered.{IsOrder, insert_least, ahead, all-filter, all-take_out, behind, cases_zero, times-in_order, insert_all_in_order, length-take_out, take_out-in_order, take_out_none, all-insert, all_weaker, all-in_order, all-permutation, length-in_order, in_order_least, in_order-permutation, in_order_sorted, asymmetric, not_before_trans}
 
 pub event_law : IsOrder event_before event_same
 event_law = record {
@@ -109,3 +111,145 @@ rest_popped x xs ys p h = sym (ap (drop 1) (in_order_popped x xs ys p h))
 pub sorted_events : (items : List (Reverse Event)) (xs ys : List Event) → xs ≡ events_of items → IsPermutation xs ys → IsSorted event_ord.ghosts.cmp ys → ys ≡ in_order event_before (events_of items)
 sorted_events items xs ys e p h =
     sym (in_order_sorted event_before event_same ys (λ k d l m. sym (ap is_lt (event_order (get_or ys (k + 1) d) (get_or ys k d))) ∙ h k d l m)) ∙ in_order-permutation event_before event_same event_law xs ys p ∙ ap (in_order event_before) e
+
+-- how often an event is among the heap's items
+times_items : (e : Event) (items : List (Reverse Event)) → count_by (λ x. event_eqs.ghosts.eq e x.0) items ≡ times event_same e (events_of items)
+times_items e [] = refl
+times_items e (x ∷ xs) =
+    sum_by-cons (λ y. cond (event_eqs.ghosts.eq e y.0) 1 0) x xs ∙ ap (λ b. cond b 1 0 + count_by (λ y. event_eqs.ghosts.eq e y.0) xs) (event_eq e x.0) ∙ ap (λ n. one event_same e x.0 + n) (times_items e xs)
+
+pub times_in_heap : (e : Event) (items : List (Reverse Event)) → count_by (λ x. event_eqs.ghosts.eq e x.0) items ≡ times event_same e (in_order event_before (events_of items))
+times_in_heap e items =
+    times_items e items ∙ sym (times-in_order event_before event_same event_law e (events_of items))
+
+-- the items without the first one that has an event
+abbrev pub without : Event → List (Reverse Event) → List (Reverse Event)
+without e items = take_out (λ x y. event_eqs.ghosts.eq x.0 y.0) (record { 0 = e }) items
+
+events-without : (e : Event) (items : List (Reverse Event)) → events_of (without e items) ≡ take_out event_same e (events_of items)
+events-without e [] = refl
+events-without e (x ∷ xs) =
+    elim (cases_Bool (event_same e x.0)) [
+      | inl b ↦ rw (event_eq e x.0 ∙ b, b) refl
+      | inr b ↦ rw (event_eq e x.0 ∙ b, b) (ap (λ r. x.0 ∷ r) (events-without e xs))
+    ]
+
+module _ (e : Event) (items new : List (Reverse Event)) (p : IsPermutation (without e items) new) where
+  left : IsPermutation (events_of (without e items)) (events_of new)
+  left = IsPermutation-map (λ r. r.0) (without e items) new p
+
+  pub events_removed : in_order event_before (events_of new) ≡ take_out event_same e (in_order event_before (events_of items))
+  events_removed =
+      in_order-permutation event_before event_same event_law (events_of (without e items)) (events_of new) left ∙ ap (in_order event_before) (events-without e items) ∙ sym (take_out-in_order event_before event_same event_law e (events_of items))
+
+  pub homes_removed : (n : ℕ) → AreFor n (events_of items) → AreFor n (events_of new)
+  homes_removed n h =
+      all-permutation event_before event_same event_law (λ d. d.dst < n) (events_of (without e items)) (events_of new) left (rw (events-without e items) (all-take_out event_before event_same (λ d. d.dst < n) e (events_of items) h))
+
+  length_removed : length new ≡ length (take_out event_same e (events_of items))
+  length_removed =
+      sym (length-map new (λ r. r.0)) ∙ length_permutation (events_of (without e items)) (events_of new) left ∙ ap (λ r. length r) (events-without e items)
+
+  same_count : times event_same e (in_order event_before (events_of items)) ≡ times event_same e (events_of items)
+  same_count = times-in_order event_before event_same event_law e (events_of items)
+
+  pub was_there : 0 < times event_same e (in_order event_before (events_of items)) → length new < length items
+  was_there h =
+      let l = length_removed in
+      let m = length-map items (λ r. r.0) in
+      let c = same_count in
+      let t = length-take_out event_before event_same event_law e (events_of items) (omega arith) in
+      omega arith
+
+  pub was_not_there : times event_same e (in_order event_before (events_of items)) ≡ 0 → length new ≡ length items
+  was_not_there h =
+      length_removed ∙ ap (λ r. length r) (take_out_none event_before event_same event_law e (events_of items) (sym same_count ∙ h)) ∙ length-map items (λ r. r.0)
+
+  pub length_after : length new ≤ length items
+  length_after =
+      elim (cases_zero (times event_same e (in_order event_before (events_of items)))) [
+        | inl z ↦ let w = was_not_there z in omega arith
+        | inr h ↦ let w = was_there h in omega arith
+      ]
+
+  found_iff : (nat_lt (length new) (length items) ≡ true) ↔ (0 < times event_same e (in_order event_before (events_of items)))
+  found_iff = (
+    λ b. elim (cases_zero (times event_same e (in_order event_before (events_of items)))) [
+      | inl z ↦ let w = was_not_there z in let k = ltb-true (length new) (length items) b in absurd (omega arith)
+      | inr h ↦ h
+    ],
+    λ h. lt-ltb (length new) (length items) (was_there h),
+  )
+
+  -- whether there is one less
+  pub found_at : (n m : ℕ) (events : List Event) → n ≡ length new → m ≡ length items → in_order event_before (events_of items) ≡ events → (nat_lt n m ≡ true) ↔ (0 < times event_same e events)
+  found_at n m events k l q =
+      subst (λ i. (nat_lt i m ≡ true) ↔ (0 < times event_same e events)) (sym k) (subst (λ i. (nat_lt (length new) i ≡ true) ↔ (0 < times event_same e events)) (sym l) (subst (λ xs. (nat_lt (length new) (length items) ≡ true) ↔ (0 < times event_same e xs)) q found_iff))
+
+-- the events that pass a test, in order
+module _ (p : Event → Bool) where
+  filter_yes : (x : Event) (xs : List Event) → p x ≡ true → filter p (x ∷ xs) ≡ x ∷ filter p xs
+  filter_yes x xs h = rw h refl
+
+  filter_no : (x : Event) (xs : List Event) → p x ≡ false → filter p (x ∷ xs) ≡ filter p xs
+  filter_no x xs h = rw h refl
+
+  filter-insert_yes : (e : Event) (xs : List Event) → p e ≡ true → IsRising xs → filter p (insert event_before e xs) ≡ insert event_before e (filter p xs)
+  filter-insert_yes e [] k h = filter_yes e [] k
+  filter-insert_yes e (x ∷ xs) k h =
+      elim (cases_Bool (event_before x e)) [
+        | inl b ↦
+            ap (filter p) (behind event_before event_same event_law x e xs b) ∙ elim (cases_Bool (p x)) [
+              | inl y ↦
+                  filter_yes x (insert event_before e xs) y ∙ ap (λ r. x ∷ r) (filter-insert_yes e xs k h.1) ∙ sym (behind event_before event_same event_law x e (filter p xs) b) ∙ ap (insert event_before e) (sym (filter_yes x xs y))
+              | inr n ↦
+                  filter_no x (insert event_before e xs) n ∙ filter-insert_yes e xs k h.1 ∙ ap (insert event_before e) (sym (filter_no x xs n))
+            ]
+        | inr b ↦
+            ap (filter p) (ahead event_before event_same event_law x e xs b) ∙ filter_yes e (x ∷ xs) k ∙ sym (insert_least event_before event_same e (filter p (x ∷ xs)) (all-filter event_before event_same (λ y. event_before y e ≡ false) p (x ∷ xs) (b, all_weaker (λ y. event_before y x ≡ false) (λ y. event_before y e ≡ false) (λ y l. not_before_trans event_before event_same event_law e x y b l) xs h.0)))
+      ]
+
+  filter-insert_no : (e : Event) (xs : List Event) → p e ≡ false → filter p (insert event_before e xs) ≡ filter p xs
+  filter-insert_no e [] k = filter_no e [] k
+  filter-insert_no e (x ∷ xs) k =
+      elim (cases_Bool (event_before x e)) [
+        | inl b ↦
+            ap (filter p) (behind event_before event_same event_law x e xs b) ∙ ap (λ r. cond (p x) (x ∷ r) r) (filter-insert_no e xs k)
+        | inr b ↦
+            ap (filter p) (ahead event_before event_same event_law x e xs b) ∙ filter_no e (x ∷ xs) k
+      ]
+
+  filter-in_order : (xs : List Event) → filter p (in_order event_before xs) ≡ in_order event_before (filter p xs)
+  unfolding in_order
+  filter-in_order [] = refl
+  filter-in_order (x ∷ xs) =
+      elim (cases_Bool (p x)) [
+        | inl y ↦
+            filter-insert_yes x (in_order event_before xs) y (rising-in_order xs) ∙ ap (insert event_before x) (filter-in_order xs) ∙ ap (in_order event_before) (sym (filter_yes x xs y))
+        | inr n ↦
+            filter-insert_no x (in_order event_before xs) n ∙ filter-in_order xs ∙ ap (in_order event_before) (sym (filter_no x xs n))
+      ]
+
+first-insert : (e : Event) (xs : List Event) → slice_get (insert event_before e xs) 0 ≡ Some (earlier e (slice_get xs 0))
+first-insert e [] = refl
+first-insert e (x ∷ xs) =
+    elim (cases_Bool (event_before x e)) [ inl b ↦ rw b refl | inr b ↦ rw b refl ]
+
+first-insert_all : (xs ys : List Event) → least_with (slice_get ys 0) xs ≡ slice_get (insert_all event_before xs ys) 0
+first-insert_all [] ys = refl
+first-insert_all (x ∷ xs) ys =
+    ap (λ o. least_with o xs) (sym (first-insert x ys)) ∙ first-insert_all xs (insert event_before x ys)
+
+-- the least of those that pass the test is the first of them in order
+pub least_in_order : (p : Event → Bool) (xs : List Event) → least_with None (filter p xs) ≡ slice_get (filter p (in_order event_before xs)) 0
+least_in_order p xs =
+    first-insert_all (filter p xs) [] ∙ ap (λ r. slice_get r 0) (insert_all_in_order event_before event_same event_law (filter p xs) ∙ sym (filter-in_order p xs))
+
+-- the first of one router's events is for it
+pub home_of_first : (r : ℕ) (xs : List Event) → IfSome (slice_get (filter (λ e. e.dst == r) xs) 0) (λ e. e.dst ≡ r)
+home_of_first r [] = tt
+home_of_first r (x ∷ xs) =
+    elim (cases_Bool (x.dst == r)) [
+      | inl b ↦ rw b (eqb-true x.dst r b)
+      | inr b ↦ rw b (home_of_first r xs)
+    ]

@@ -1,2 +1,3 @@
 pub mod Ordered
+pub mod Once
 pub mod Events

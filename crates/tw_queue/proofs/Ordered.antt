@@ -1,10 +1,10 @@
 -- Lists that are kept in order: an element goes in and comes out again, and what order they came in does not count.
-use Rattle.std.proofs.Common.{◌≡◌, ℕ, suc, zero, ◌<◌, Bool, true, false, cond, List, [], ◌∷◌, length, get_or, set, refl, ap, sym, ◌∙◌, subst, inl, inr, arith, get_or-set_same, get_or-set_other, length-set, add-one}
+use Rattle.std.proofs.Common.{◌+◌, ◌⊎◌, filter, ◌≡◌, ℕ, suc, zero, ◌<◌, Bool, true, false, cond, List, [], ◌∷◌, length, get_or, set, refl, ap, sym, ◌∙◌, subst, inl, inr, arith, get_or-set_same, get_or-set_other, length-set, add-one}
 use Rattle.std.specs.List.{AllByRecursion, swap}
 use Rattle.std.specs.List.Sorted.{IsPermutation, IsSortedBy}
 use Rattle.std.proofs.lemmas.Bool.{cases_Bool, cases_eq, false≢true}
 use Rattle.std.proofs.lemmas.List.Sorted.{IsPermutation-keeps}
-use Rattle.tw_model.specs.Ordered.{insert, take_out}
+use Rattle.tw_model.specs.Ordered.{insert, insert_all, one, take_out, times}
 use Rattle.tw_queue.specs.Heap.{in_order}
 
 pub record IsOrder {E : Type 0} (before same : E → E → Bool) : Type 0 where
@@ -13,6 +13,10 @@ pub record IsOrder {E : Type 0} (before same : E → E → Bool) : Type 0 where
   pub total : (x y : E) → before x y ≡ false → before y x ≡ false → x ≡ y
   pub same_is : (x y : E) → same x y ≡ true → x ≡ y
   pub same_self : (x : E) → same x x ≡ true
+
+pub cases_zero : (n : ℕ) → (n ≡ 0) ⊎ (0 < n)
+cases_zero zero = inl refl
+cases_zero (suc n) = inr (omega arith)
 
 -- each passes
 pub all_weaker : {E : Type 0} (P Q : E → Type 0) → ((x : E) → P x → Q x) → (xs : List E) → AllByRecursion P xs → AllByRecursion Q xs
@@ -108,10 +112,10 @@ module _ {E : Type 0} (before same : E → E → Bool) where
               ]
         ]
 
-    behind : (x e : E) (xs : List E) → before x e ≡ true → insert before e (x ∷ xs) ≡ x ∷ insert before e xs
+    pub behind : (x e : E) (xs : List E) → before x e ≡ true → insert before e (x ∷ xs) ≡ x ∷ insert before e xs
     behind x e xs b = rw b refl
 
-    ahead : (x e : E) (xs : List E) → before x e ≡ false → insert before e (x ∷ xs) ≡ e ∷ x ∷ xs
+    pub ahead : (x e : E) (xs : List E) → before x e ≡ false → insert before e (x ∷ xs) ≡ e ∷ x ∷ xs
     ahead x e xs b = rw b refl
 
     round : (e f x : E) (xs : List E) → before x f ≡ true → before x e ≡ false → insert before e (insert before f (x ∷ xs)) ≡ insert before f (insert before e (x ∷ xs))
@@ -192,6 +196,91 @@ module _ {E : Type 0} (before same : E → E → Bool) where
     pub all-permutation : (P : E → Type 0) (xs ys : List E) → IsPermutation xs ys → AllByRecursion P xs → AllByRecursion P ys
     all-permutation P xs ys p h =
         all-from_in_order P ys (rw (in_order-permutation xs ys p) (all-in_order P xs h))
+
+    -- each in its turn, or one after the other
+    insert_all-insert : (e : E) (xs ys : List E) → insert_all before xs (insert before e ys) ≡ insert before e (insert_all before xs ys)
+    insert_all-insert e [] ys = refl
+    insert_all-insert e (x ∷ xs) ys =
+        ap (insert_all before xs) (insert-insert x e ys) ∙ insert_all-insert e xs (insert before x ys)
+
+    pub insert_all_in_order : (xs : List E) → insert_all before xs [] ≡ in_order before xs
+    unfolding in_order
+    insert_all_in_order [] = refl
+    insert_all_in_order (x ∷ xs) = insert_all-insert x xs [] ∙ ap (insert before x) (insert_all_in_order xs)
+
+    times-insert : (e x : E) (xs : List E) → times same e (insert before x xs) ≡ one same e x + times same e xs
+    times-insert e x [] = refl
+    times-insert e x (y ∷ ys) =
+        elim (cases_Bool (before y x)) [
+          | inl b ↦ let h = times-insert e x ys in rw b (omega arith)
+          | inr b ↦ rw b refl
+        ]
+
+    -- how often an element stands in a list does not change
+    pub times-in_order : (e : E) (xs : List E) → times same e (in_order before xs) ≡ times same e xs
+    unfolding in_order
+    times-in_order e [] = refl
+    times-in_order e (x ∷ xs) =
+        times-insert e x (in_order before xs) ∙ ap (λ n. one same e x + n) (times-in_order e xs)
+
+    -- what is not there does not come out
+    pub take_out_none : (e : E) (xs : List E) → times same e xs ≡ 0 → take_out same e xs ≡ xs
+    take_out_none e [] h = refl
+    take_out_none e (x ∷ xs) h =
+        elim (cases_Bool (same e x)) [
+          | inl b ↦
+              absurd (omega (arith, rw b at h))
+          | inr b ↦
+              let k : 0 + times same e xs ≡ 0 = rw b at h in
+              rw b (ap (λ r. x ∷ r) (take_out_none e xs (omega arith)))
+        ]
+
+    -- what is there comes out
+    pub insert-take_out : (e : E) (xs : List E) → 0 < times same e xs → insert before e (in_order before (take_out same e xs)) ≡ in_order before xs
+    unfolding in_order
+    insert-take_out e [] h = absurd (omega arith)
+    insert-take_out e (x ∷ xs) h =
+        elim (cases_Bool (same e x)) [
+          | inl b ↦ rw b (ap (λ y. insert before y (in_order before xs)) (law.same_is e x b))
+          | inr b ↦
+              let k : 0 < 0 + times same e xs = rw b at h in
+              rw b (insert-insert e x (in_order before (take_out same e xs)) ∙ ap (insert before x) (insert-take_out e xs (omega arith)))
+        ]
+
+    pub length-take_out : (e : E) (xs : List E) → 0 < times same e xs → suc (length (take_out same e xs)) ≡ length xs
+    length-take_out e [] h = absurd (omega arith)
+    length-take_out e (x ∷ xs) h =
+        elim (cases_Bool (same e x)) [
+          | inl b ↦ rw b refl
+          | inr b ↦
+              let k : 0 < 0 + times same e xs = rw b at h in
+              rw b (ap suc (length-take_out e xs (omega arith)))
+        ]
+
+    pub take_out-in_order : (e : E) (xs : List E) → take_out same e (in_order before xs) ≡ in_order before (take_out same e xs)
+    take_out-in_order e xs =
+        elim (cases_zero (times same e xs)) [
+          | inl z ↦
+              take_out_none e (in_order before xs) (times-in_order e xs ∙ z) ∙ ap (in_order before) (sym (take_out_none e xs z))
+          | inr h ↦
+              ap (take_out same e) (sym (insert-take_out e xs h)) ∙ take_out-insert e (in_order before (take_out same e xs))
+        ]
+
+  pub all-take_out : (P : E → Type 0) (e : E) (xs : List E) → AllByRecursion P xs → AllByRecursion P (take_out same e xs)
+  all-take_out P e [] h = tt
+  all-take_out P e (x ∷ xs) h =
+      elim (cases_Bool (same e x)) [
+        | inl b ↦ rw b h.1
+        | inr b ↦ rw b (h.0, all-take_out P e xs h.1)
+      ]
+
+  pub all-filter : (P : E → Type 0) (p : E → Bool) (xs : List E) → AllByRecursion P xs → AllByRecursion P (filter p xs)
+  all-filter P p [] h = tt
+  all-filter P p (x ∷ xs) h =
+      elim (cases_Bool (p x)) [
+        | inl b ↦ rw b (h.0, all-filter P p xs h.1)
+        | inr b ↦ rw b (all-filter P p xs h.1)
+      ]
 
   in_order_steps : (xs : List E) → ((k : ℕ) (d : E) → suc k < length xs → before (get_or xs (suc k) d) (get_or xs k d) ≡ false) → in_order before xs ≡ xs
   unfolding in_order

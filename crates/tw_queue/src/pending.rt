@@ -1,7 +1,9 @@
 ghost use Rattle.std.specs.Prelude.{◌≡◌, ◌↔◌, ◌+◌, ◌<◌, ◌≤◌, ◌==◌, IfNone, IfOk, IfSome, IsOk, IsTrue, OnErr, OnOk, OnSome, List, [], ◌∷◌, drop, filter, length, option_map, slice_get, count_by};
 ghost use Rattle.tw_event.specs.Order.{event_before, event_same};
-ghost use Rattle.tw_model.specs.Ordered.{insert, take_out};
-ghost use Rattle.tw_queue.specs.Heap.{events_of};
+ghost use Rattle.tw_model.specs.Ordered.{insert, take_out, times};
+ghost use Rattle.std.specs.BinaryHeap.{heap_capacity, heap_items, IsHeap};
+ghost use Rattle.std.specs.List.Sorted.{IsPermutation};
+ghost use Rattle.tw_queue.specs.Heap.{earlier, events_of, least_with};
 ghost use Rattle.tw_queue.specs.Queue.{IsQueue};
 
 use std::alloc::{AllocError, Global};
@@ -61,6 +63,7 @@ impl Pending {
     /// Makes room for `additional` more events, so that inserting them cannot fail.
     pub fn reserve(&mut self, additional: usize) -> Result<(), AllocError>
         ensures ok { OnOk result (additional ≤ self.new.room) }
+        ensures full { OnErr result (self.old.room < additional) }
         ensures routers { self.new.routers ≡ self.old.routers }
         ensures events { self.new.events ≡ self.old.events }
         ensures room { self.old.room ≤ self.new.room }
@@ -84,6 +87,7 @@ impl Pending {
     /// The least event.
     pub fn least(&self) -> Option<Event>
         ensures first { result ≡ slice_get self.now.events 0 }
+        ensures home { IfSome result (λ e. e.dst < self.now.routers) }
         ensures queue { IsQueue self.now }
     {
         let event = self.heap.peek()?;
@@ -110,6 +114,33 @@ impl Pending {
         Some(event.0)
     }
 
+    /// How often this event is pending.
+    pub fn count(&self, event: &Event) -> usize
+        ensures { result ≡ times event_same event.now self.now.events }
+    {
+        count_of(self.heap.as_slice(), event)
+    }
+
+    /// Takes out one event that equals `event`, and tells whether there was one. It takes no memory.
+    pub fn remove_one(&mut self, event: &Event) -> bool
+        ensures found { IsTrue result ↔ (0 < times event_same event.now self.old.events) }
+        ensures events { self.new.events ≡ take_out event_same event.now self.old.events }
+        ensures routers { self.new.routers ≡ self.old.routers }
+        ensures room { self.old.room ≤ self.new.room }
+    {
+        let before = self.heap.len();
+        remove_from(&mut self.heap, *event);
+        self.heap.len() < before
+    }
+
+    /// The least event for this router.
+    pub fn least_at(&self, router: u32) -> Option<Event>
+        ensures first { result ≡ slice_get (filter (λ e. e.dst == router) self.now.events) 0 }
+        ensures home { IfSome result (λ e. e.dst ≡ router) }
+    {
+        least_of(self.heap.as_slice(), router)
+    }
+
     /// All events, in rising order.
     pub fn list(&self, alloc: Global) -> Result<Vec<Event>, AllocError>
         ensures events { IfOk result (λ v. v.items ≡ self.now.events) }
@@ -125,4 +156,47 @@ fn events_of(alloc: Global, items: &[Reverse<Event>]) -> Result<Vec<Event>, Allo
     ensures { IfOk result (λ v. v.items ≡ events_of items.now) }
 {
     items.iter().map(|item| item.0).collect(alloc)
+}
+
+fn count_of(items: &[Reverse<Event>], event: &Event) -> usize
+    ensures { result ≡ count_by (λ x. ⟦<Event as PartialEq>⟧.eq event.now x.0) items.now }
+{
+    items.iter().filter(|item| *event == item.0).count()
+}
+
+// Removes one item with this event, if there is one.
+fn remove_from(heap: &mut BinaryHeap<Reverse<Event>>, event: Event)
+    ensures items { IsPermutation (take_out (λ x y. ⟦<Event as PartialEq>⟧.eq x.0 y.0) (record { 0 = event }) (heap_items heap.old)) (heap_items heap.new) }
+    ensures capacity { heap_capacity heap.new ≡ heap_capacity heap.old }
+    ensures heap_order { IsHeap ⟦<Reverse<Event> as Ord>⟧.cmp (heap_items heap.new) }
+{
+    let mut removed = false;
+    heap.retain(move |item| {
+        let removes = !removed && event == item.0;
+        removed |= removes;
+        !removes
+    });
+}
+
+// The least of the events for this router.
+fn least_of(items: &[Reverse<Event>], router: u32) -> Option<Event>
+    ensures { result ≡ least_with None (filter (λ e. e.dst == router) (events_of items.now)) }
+{
+    let mut least = None;
+    for item in items {
+        if item.0.dst == router {
+            least = Some(earlier(item.0, least));
+        }
+    }
+    least
+}
+
+// The one of the two events that comes first.
+fn earlier(event: Event, least: Option<Event>) -> Event
+    ensures { result ≡ earlier event least }
+{
+    match least {
+        Some(other) if other < event => other,
+        _ => event,
+    }
 }
