@@ -18,7 +18,7 @@ IsInput None bytes = Unit {0}
 IsInput (Some xs) bytes = bytes ≡ take limit xs
 
 -- why reading stopped, and whether the device has failed
-abbrev pub StopsReading : Cause → Bool → Type 0
-StopsReading Memory failed = failed ≡ false
-StopsReading CounterFull failed = ⊥
-StopsReading Device failed = failed ≡ true
+abbrev pub IsCauseOf : Cause → Bool → Type 0
+IsCauseOf Memory failed = failed ≡ false
+IsCauseOf CounterFull failed = ⊥
+IsCauseOf Device failed = failed ≡ true

@@ -2,6 +2,7 @@
 //! sink.
 #![tactic(auto)]
 
+mod answer;
 mod cause;
 mod source;
 

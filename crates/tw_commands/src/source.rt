@@ -1,13 +1,12 @@
 ghost use Rattle.std.specs.Prelude.{◌≡◌, ℕ, ◌<◌, ◌≤◌, Bool, false, true, List, length, Option, IfOk, IfErr, OnOk, OnErr};
 ghost use Rattle.std.specs.Io.KnownBytes.{Consumes, ReadConsumes};
-ghost use Rattle.tw_commands.specs.Source.{IsInput, Reader, StopsReading};
+ghost use Rattle.tw_commands.specs.Source.{IsInput, Reader, IsCauseOf};
 
+use crate::cause::Cause;
 use std::alloc::Global;
 use std::io::{ErrorKind, Read};
 use std::marker::Model;
 use tw_report::Failed;
-
-use crate::cause::Cause;
 
 /// How many bytes of its input a program reads at most.
 pub const LIMIT: usize = 67_108_864;
@@ -42,7 +41,7 @@ pub fn read_all<R: Source>(alloc: Global, source: &mut R) -> Result<Vec<u8>, Cau
     ensures input { IfOk result (λ v. IsInput (R.remaining source.old) v.items) }
     ensures taken { IfOk result (λ v. Consumes (R.remaining source.old) (R.remaining source.new) v.items) }
     ensures ok { OnOk result (R.failed source.new ≡ false) }
-    ensures err { IfErr result (λ cause. StopsReading cause (R.failed source.new)) }
+    ensures err { IfErr result (λ cause. IsCauseOf cause (R.failed source.new)) }
 {
     let mut bytes = Vec::new(alloc);
     let mut chunk = [0; CHUNK];

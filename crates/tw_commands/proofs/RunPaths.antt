@@ -1,0 +1,59 @@
+-- The paths that a run shows are paths of its instance.
+use Rattle.std.proofs.Common.{◌≡◌, ℕ, ◌<◌, ◌==◌, true, List, [], ◌∷◌, length, reverse, map, subst, sym, inl, inr, arith}
+use Rattle.std.specs.List.{All}
+use Rattle.std.proofs.lemmas.Bool.{cases_Bool, and_parts, eqb-true}
+use Rattle.tw_event.specs.declared.event.Body.{Body}
+use Rattle.tw_event.specs.declared.event.Body.TheVariants.{Start, Fail, Restore, Swap, Update}
+use Rattle.tw_event.specs.declared.event.Event.{Event}
+use Rattle.tw_event.specs.declared.event.PathNo.{PathNo}
+use Rattle.tw_event.proofs.Order.{same_is, same_self}
+use Rattle.tw_model.specs.Net.{Net, IsPath, is_own, is_permitted, paths}
+use Rattle.tw_model.specs.Effect.{body_suits, suits}
+use Rattle.tw_model.specs.State.{has_peer}
+use Rattle.tw_model.specs.Sim.{only, state, times}
+use Rattle.tw_model.specs.Seq.{at, begin, finished, log, weight}
+use Rattle.tw_model.specs.Case.{Case, IsCase, simulation}
+use Rattle.tw_model.proofs.Counts.{times-reverse}
+use Rattle.tw_model.proofs.Lawful.{lawful}
+use Rattle.tw_model.proofs.Members.{In, all_from_in, in_filter, in_times, times_in}
+use Rattle.tw_model.proofs.Paths.{own_is_path}
+use Rattle.tw_model.proofs.Rising.{suit-begin, suit-turns}
+use Rattle.tw_model.proofs.Suits.{own_state}
+use Rattle.tw_report.specs.Lines.{NamesPath}
+
+permitted_is_path : (net : Net) (v : ℕ) (q : PathNo) → is_permitted net v q ≡ true → IsPath net q
+permitted_is_path net v q h =
+    elim (cases_Bool (q.0 == 0)) [
+      | inl b ↦ (let none = eqb-true q.0 0 b in omega arith)
+      | inr b ↦ (own_is_path net v q (rw b at h)).0
+    ]
+
+names_path : (net : Net) (v : ℕ) (e : Event) (b : Body) → body_suits net v e b ≡ true → NamesPath net b
+names_path net v e Start h = tt
+names_path net v e (Fail w) h = tt
+names_path net v e (Restore w) h = tt
+names_path net v e (Swap i j) h = tt
+names_path net v e (Update q n) h = permitted_is_path net e.src q (and_parts (has_peer net v e.src) (is_permitted net e.src q) h).1
+
+module _ (case : Case) (is : IsCase case) where
+  logged_suits : (t : ℕ) (e : Event) → 0 < times (simulation case) e (log (simulation case) t) → suits case.net e.dst e ≡ true
+  unfolding finished
+  logged_suits t e h =
+      (suit-turns (simulation case) (lawful case is) (weight (simulation case) t (begin (simulation case)).rest) t (begin (simulation case)) (suit-begin (simulation case) (lawful case is))).handled e h
+
+  logged_names : (t : ℕ) (e : Event) → In e (reverse (log (simulation case) t)) → NamesPath case.net e.body
+  logged_names t e h =
+      let there = times_in (simulation case) same_self e (reverse (log (simulation case) t)) h in
+      let same = times-reverse (simulation case) e (log (simulation case) t) in
+      let fit = logged_suits t e (rw same at there) in
+      names_path case.net e.dst e e.body (and_parts (e.dst == e.dst) (body_suits case.net e.dst e e.body) fit).1
+
+  -- the events of the run, in the order handled
+  pub events_name_paths : (t : ℕ) → All (λ e. NamesPath case.net e.body) (reverse (log (simulation case) t))
+  events_name_paths t = all_from_in (λ e. NamesPath case.net e.body) (reverse (log (simulation case) t)) (logged_names t)
+
+  -- a router's path, whatever it has handled
+  pub rib_is_path : (v : ℕ) (events : List Event) → IsPath case.net (state (simulation case) v (only (simulation case) v events)).rib
+  rib_is_path v events =
+      let own = own_state case v (only (simulation case) v events) (λ y k. let home = (in_filter (λ x. x.dst == v) y events k).0 in eqb-true y.dst v home) in
+      permitted_is_path case.net v (state (simulation case) v (only (simulation case) v events)).rib own.rib
