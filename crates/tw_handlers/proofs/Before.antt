@@ -13,29 +13,53 @@ use Rattle.tw_model.specs.State.{IsState, State, best, has_peer, hop, no_row, ro
 use Rattle.tw_model.specs.Effect.{accepts, acts, body_suits, counted, dropping, effect, failing, fits, hearing, restoring, settle, suits, swapping, tell, update_to, updates, ups, with_rib, with_row}
 use Rattle.tw_handlers.specs.declared.record.UndoRecord.{UndoRecord}
 use Rattle.tw_handlers.specs.Record.{IsHandled, heard_before, record_of, takes}
-use Rattle.tw_handlers.specs.Undo.{before, reversing, sends_again, settled_sends, uncounting, undropping, unfailing, unrestoring, unsending, unsettling}
+use Rattle.tw_handlers.specs.Undo.{before, counters_before, moved_back, sends_again, settled_sends, uncounted, unfailing, unrestoring, unsettled, with_old_rib}
 use Rattle.tw_handlers.proofs.Fitting.{body_suits-fits}
 use Rattle.tw_handlers.proofs.Rows.{back-row, row-with_row, swapping-swapping}
 
 back : (a b : ℕ) → a + b - b ≡ a
 back a b = omega arith
 
-counters-back : (c : Counters) (n : ℕ) → record c { sent = c.sent + n - n; changed = c.changed + 1 - 1 } ≡ c
-counters-back c n = rw (back c.sent n, back c.changed 1) refl
+counters-back : (c : Counters) (n : ℕ)
+    → record c { sent = c.sent + n - n; handled = c.handled + 1 - 1; changed = c.changed + 1 - 1 } ≡ c
+counters-back c n = rw (back c.sent n, back c.handled 1, back c.changed 1) refl
+
+uncounted-back : (c : Counters) → uncounted (record c { handled = c.handled + 1 }) ≡ c
+uncounted-back c = rw (back c.handled 1) refl
 
 -- a record as settling in s leaves it
 abbrev settled_record : Net → ℕ → ℕ → State → Bool → PathNo → UndoRecord
-settled_record net v t s k h = record { took = k; changed = not (s.rib.0 == (settle net v t s).state.rib.0); rib = s.rib; heard = h }
+settled_record net v t s k h = record {
+  took = k;
+  changed = not (s.rib.0 == (settle net v t s).state.rib.0);
+  rib = s.rib;
+  heard = h;
+}
 
-unsettling-settle : (net : Net) (v t : ℕ) (s : State) (k : Bool) (h : PathNo) (b : Bool) → (s.rib.0 == (best net v s).0) ≡ b → unsettling net v (settle net v t s).state (settled_record net v t s k h) ≡ s
-unsettling-settle net v t s k h true is = rw is (rw (eq-eqb s.rib.0 s.rib.0 refl) refl)
-unsettling-settle net v t s k h false is =
+-- the way back from settling
+abbrev settled_back : Net → ℕ → State → UndoRecord → State
+settled_back net v s u = record (with_old_rib s u) { counters = unsettled net v s u }
+
+back-settled : (net : Net) (v t : ℕ) (s : State) (k : Bool) (h : PathNo) (b : Bool) → (s.rib.0 == (best net v s).0) ≡ b
+    → settled_back net v (counted (settle net v t s).state) (settled_record net v t s k h) ≡ s
+back-settled net v t s k h true is =
+    rw is (rw (eq-eqb s.rib.0 s.rib.0 refl) (ap (λ c. record s { counters = c }) (uncounted-back s.counters)))
+back-settled net v t s k h false is =
     rw is (rw is (ap (λ c. record s { counters = c }) (counters-back s.counters (length (ups net v s)))))
 
-settled_sends-settle : (net : Net) (v t : ℕ) (s : State) (k : Bool) (h : PathNo) (b : Bool) → (s.rib.0 == (best net v s).0) ≡ b → settled_sends net v t (settle net v t s).state (settled_record net v t s k h) ≡ (settle net v t s).sends
-settled_sends-settle net v t s k h true is = rw is (rw (eq-eqb s.rib.0 s.rib.0 refl) refl)
-settled_sends-settle net v t s k h false is =
+back-settle : (net : Net) (v t : ℕ) (s : State) (k : Bool) (h : PathNo)
+    → settled_back net v (counted (settle net v t s).state) (settled_record net v t s k h) ≡ s
+back-settle net v t s k h = back-settled net v t s k h (s.rib.0 == (best net v s).0) refl
+
+again-settled : (net : Net) (v t : ℕ) (s : State) (k : Bool) (h : PathNo) (b : Bool) → (s.rib.0 == (best net v s).0) ≡ b
+    → settled_sends net v t (settle net v t s).state (settled_record net v t s k h) ≡ (settle net v t s).sends
+again-settled net v t s k h true is = rw is (rw (eq-eqb s.rib.0 s.rib.0 refl) refl)
+again-settled net v t s k h false is =
     rw is (rw is (ap (λ n. updates net v t (best net v s) n s) (back s.counters.sent (length (ups net v s)))))
+
+again-settle : (net : Net) (v t : ℕ) (s : State) (k : Bool) (h : PathNo)
+    → settled_sends net v t (settle net v t s).state (settled_record net v t s k h) ≡ (settle net v t s).sends
+again-settle net v t s k h = again-settled net v t s k h (s.rib.0 == (best net v s).0) refl
 
 -- the record of one body, handled aside
 abbrev note : Net → ℕ → State → Event → Body → UndoRecord
@@ -58,15 +82,6 @@ unrestoring-restoring s k h up =
 pub unhearing : (s : State) (k : ℕ) (q : PathNo) → k < length s.rows → hearing (hearing s k q) k (row s k).heard ≡ s
 unhearing s k q h = back-row s k _ _ (ap (λ (r : Row). record r { heard = (row s k).heard }) (row-with_row s k _ h))
 
-uncounting-counted : (s : State) → uncounting (counted s) ≡ s
-uncounting-counted s = ap (λ n. record s { counters = record s.counters { handled = n } }) (back s.counters.handled 1)
-
-unsending-tell : (net : Net) (v t : ℕ) (s : State) (k : ℕ) → unsending (tell net v t s k).state ≡ s
-unsending-tell net v t s k = ap (λ n. record s { counters = record s.counters { sent = n } }) (back s.counters.sent 1)
-
-undropping-dropping : (s : State) → undropping (dropping s) ≡ s
-undropping-dropping s = ap (λ n. record s { counters = record s.counters { dropped = n } }) (back s.counters.dropped 1)
-
 has_slot : (net : Net) (v : ℕ) (s : State) (w : ℕ) → IsState net v s → has_peer net v w ≡ true → slot net v w < length s.rows
 has_slot net v s w state h = subst (λ n. slot net v w < n) (sym state.hops) (ltb-true _ _ h)
 
@@ -77,35 +92,53 @@ has_order net v s i state h =
     let high : i ≤ length (paths_of net v) = leb-true i _ p.1 in
     let n : length s.order ≡ length (paths_of net v) = state.places in omega arith
 
-unsettled : (net : Net) (v t : ℕ) (s : State) (k : Bool) (h : PathNo) → unsettling net v (settle net v t s).state (settled_record net v t s k h) ≡ s
-unsettled net v t s k h = unsettling-settle net v t s k h (s.rib.0 == (best net v s).0) refl
+-- the way back from one body
+abbrev back_by : Net → ℕ → State → Event → Body → UndoRecord → State
+back_by net v s e b u =
+    record (moved_back net v (with_old_rib s u) e b u) { counters = counters_before net v s b u }
 
-resettled : (net : Net) (v t : ℕ) (s : State) (k : Bool) (h : PathNo) → settled_sends net v t (settle net v t s).state (settled_record net v t s k h) ≡ (settle net v t s).sends
-resettled net v t s k h = settled_sends-settle net v t s k h (s.rib.0 == (best net v s).0) refl
+-- where the event did nothing
+quiet-back : (net : Net) (v : ℕ) (s : State) → record s { counters = uncounted (counted s).counters } ≡ s
+quiet-back net v s = ap (λ c. record s { counters = c }) (uncounted-back s.counters)
 
-fail-back : (net : Net) (v : ℕ) (s : State) (e : Event) (w : ℕ) (b : Bool) → (row s (slot net v w)).up ≡ b → slot net v w < length s.rows → reversing net v (acts net v s e (Fail w)).state e (Fail w) (note net v s e (Fail w)) ≡ s
+fail-back : (net : Net) (v : ℕ) (s : State) (e : Event) (w : ℕ) (b : Bool) → (row s (slot net v w)).up ≡ b → slot net v w < length s.rows
+    → back_by net v (counted (acts net v s e (Fail w)).state) e (Fail w) (note net v s e (Fail w)) ≡ s
 fail-back net v s e w true up h =
-    rw up (let u = settled_record net v e.time (failing s (slot net v w)) true (row s (slot net v w)).heard in
-    ap (λ x. unfailing x (slot net v w) u) (unsettled net v e.time (failing s (slot net v w)) true (row s (slot net v w)).heard) ∙ unfailing-failing s (slot net v w) u h up refl)
-fail-back net v s e w false up h = rw up refl
+    rw up (let k = slot net v w in
+    let u = settled_record net v e.time (failing s k) true (row s k).heard in
+    ap (λ x. unfailing x k u) (back-settle net v e.time (failing s k) true (row s k).heard) ∙ unfailing-failing s k u h up refl)
+fail-back net v s e w false up h = rw up (rw (eq-eqb s.rib.0 s.rib.0 refl) (quiet-back net v s))
 
-restore-back : (net : Net) (v : ℕ) (s : State) (e : Event) (w : ℕ) (b : Bool) → (row s (slot net v w)).up ≡ b → slot net v w < length s.rows → reversing net v (acts net v s e (Restore w)).state e (Restore w) (note net v s e (Restore w)) ≡ s
-restore-back net v s e w true up h = rw up refl
+restore-counters : (c : Counters) → record (uncounted (record c { sent = c.sent + 1; handled = c.handled + 1 })) { sent = c.sent + 1 - 1 } ≡ c
+restore-counters c = rw (back c.sent 1, back c.handled 1) refl
+
+restore-back : (net : Net) (v : ℕ) (s : State) (e : Event) (w : ℕ) (b : Bool) → (row s (slot net v w)).up ≡ b → slot net v w < length s.rows
+    → back_by net v (counted (acts net v s e (Restore w)).state) e (Restore w) (note net v s e (Restore w)) ≡ s
+restore-back net v s e w true up h = rw up (rw (eq-eqb s.rib.0 s.rib.0 refl) (quiet-back net v s))
 restore-back net v s e w false up h =
-    rw up (ap (λ x. unrestoring x (slot net v w)) (unsending-tell net v e.time (restoring s (slot net v w)) (slot net v w)) ∙ unrestoring-restoring s (slot net v w) h up)
+    rw up (rw (eq-eqb s.rib.0 s.rib.0 refl) (let k = slot net v w in
+    ap (λ c. record (unrestoring (restoring s k) k) { counters = c }) (restore-counters s.counters) ∙ unrestoring-restoring s k h up))
 
-update-back : (net : Net) (v : ℕ) (s : State) (e : Event) (q : PathNo) (n : ℕ) (b : Bool) → accepts s (slot net v e.src) n ≡ b → slot net v e.src < length s.rows → reversing net v (acts net v s e (Update q n)).state e (Update q n) (note net v s e (Update q n)) ≡ s
+dropped-counters : (c : Counters) → record (uncounted (record c { handled = c.handled + 1; dropped = c.dropped + 1 })) { dropped = c.dropped + 1 - 1 } ≡ c
+dropped-counters c = rw (back c.handled 1, back c.dropped 1) refl
+
+update-back : (net : Net) (v : ℕ) (s : State) (e : Event) (q : PathNo) (n : ℕ) (b : Bool) → accepts s (slot net v e.src) n ≡ b → slot net v e.src < length s.rows
+    → back_by net v (counted (acts net v s e (Update q n)).state) e (Update q n) (note net v s e (Update q n)) ≡ s
 update-back net v s e q n true is h =
-    rw is (let u = settled_record net v e.time (hearing s (slot net v e.src) q) true (row s (slot net v e.src)).heard in
-    ap (λ x. hearing x (slot net v e.src) u.heard) (unsettled net v e.time (hearing s (slot net v e.src) q) true (row s (slot net v e.src)).heard) ∙ unhearing s (slot net v e.src) q h)
-update-back net v s e q n false is h = rw is (undropping-dropping s)
+    rw is (let k = slot net v e.src in
+    let u = settled_record net v e.time (hearing s k q) true (row s k).heard in
+    ap (λ x. hearing x k u.heard) (back-settle net v e.time (hearing s k q) true (row s k).heard) ∙ unhearing s k q h)
+update-back net v s e q n false is h =
+    rw is (rw (eq-eqb s.rib.0 s.rib.0 refl) (ap (λ c. record s { counters = c }) (dropped-counters s.counters)))
 
-swap-back : (net : Net) (v : ℕ) (s : State) (e : Event) (i j : ℕ) → i - 1 < length s.order → j - 1 < length s.order → reversing net v (acts net v s e (Swap i j)).state e (Swap i j) (note net v s e (Swap i j)) ≡ s
+swap-back : (net : Net) (v : ℕ) (s : State) (e : Event) (i j : ℕ) → i - 1 < length s.order → j - 1 < length s.order
+    → back_by net v (counted (acts net v s e (Swap i j)).state) e (Swap i j) (note net v s e (Swap i j)) ≡ s
 swap-back net v s e i j hi hj =
-    ap (λ x. swapping x i j) (unsettled net v e.time (swapping s i j) true empty_path) ∙ swapping-swapping s i j hi hj
+    ap (λ x. swapping x i j) (back-settle net v e.time (swapping s i j) true empty_path) ∙ swapping-swapping s i j hi hj
 
-acts-back : (net : Net) (v : ℕ) (s : State) (e : Event) (b : Body) → IsState net v s → body_suits net v e b ≡ true → reversing net v (acts net v s e b).state e b (note net v s e b) ≡ s
-acts-back net v s e Start state h = unsettled net v e.time s true empty_path
+acts-back : (net : Net) (v : ℕ) (s : State) (e : Event) (b : Body) → IsState net v s → body_suits net v e b ≡ true
+    → back_by net v (counted (acts net v s e b).state) e b (note net v s e b) ≡ s
+acts-back net v s e Start state h = back-settle net v e.time s true empty_path
 acts-back net v s e (Fail w) state h =
     let p = and_parts _ (has_peer net v w) h in fail-back net v s e w (row s (slot net v w)).up refl (has_slot net v s w state p.1)
 acts-back net v s e (Restore w) state h =
@@ -119,13 +152,13 @@ acts-back net v s e (Update q n) state h =
     update-back net v s e q n (accepts s (slot net v e.src) n) refl (has_slot net v s e.src state p.0)
 
 -- from the state that an event left, its record leads back to the state before
-pub before-effect : (net : Net) (v : ℕ) (s : State) (e : Event) → IsState net v s → fits net v e ≡ true → before net v (effect net v s e).state e (record_of net v s e) ≡ s
-before-effect net v s e state h =
-    ap (λ x. reversing net v x e e.body (record_of net v s e)) (uncounting-counted (acts net v s e e.body).state) ∙ acts-back net v s e e.body state (body_suits-fits net v e h)
+pub before-effect : (net : Net) (v : ℕ) (s : State) (e : Event) → IsState net v s → fits net v e ≡ true
+    → before net v (effect net v s e).state e (record_of net v s e) ≡ s
+before-effect net v s e state h = acts-back net v s e e.body state (body_suits-fits net v e h)
 
 fail-again : (net : Net) (v : ℕ) (s : State) (e : Event) (w : ℕ) (b : Bool) → (row s (slot net v w)).up ≡ b → sends_again net v (acts net v s e (Fail w)).state e (Fail w) (note net v s e (Fail w)) ≡ (acts net v s e (Fail w)).sends
 fail-again net v s e w true up =
-    rw up (resettled net v e.time (failing s (slot net v w)) true (row s (slot net v w)).heard)
+    rw up (again-settle net v e.time (failing s (slot net v w)) true (row s (slot net v w)).heard)
 fail-again net v s e w false up = rw up (rw (eq-eqb s.rib.0 s.rib.0 refl) refl)
 
 restore-again : (net : Net) (v : ℕ) (s : State) (e : Event) (w : ℕ) (b : Bool) → (row s (slot net v w)).up ≡ b → sends_again net v (acts net v s e (Restore w)).state e (Restore w) (note net v s e (Restore w)) ≡ (acts net v s e (Restore w)).sends
@@ -135,14 +168,14 @@ restore-again net v s e w false up =
 
 update-again : (net : Net) (v : ℕ) (s : State) (e : Event) (q : PathNo) (n : ℕ) (b : Bool) → accepts s (slot net v e.src) n ≡ b → sends_again net v (acts net v s e (Update q n)).state e (Update q n) (note net v s e (Update q n)) ≡ (acts net v s e (Update q n)).sends
 update-again net v s e q n true is =
-    rw is (resettled net v e.time (hearing s (slot net v e.src) q) true (row s (slot net v e.src)).heard)
+    rw is (again-settle net v e.time (hearing s (slot net v e.src) q) true (row s (slot net v e.src)).heard)
 update-again net v s e q n false is = rw is (rw (eq-eqb s.rib.0 s.rib.0 refl) refl)
 
 acts-again : (net : Net) (v : ℕ) (s : State) (e : Event) (b : Body) → sends_again net v (acts net v s e b).state e b (note net v s e b) ≡ (acts net v s e b).sends
-acts-again net v s e Start = resettled net v e.time s true empty_path
+acts-again net v s e Start = again-settle net v e.time s true empty_path
 acts-again net v s e (Fail w) = fail-again net v s e w (row s (slot net v w)).up refl
 acts-again net v s e (Restore w) = restore-again net v s e w (row s (slot net v w)).up refl
-acts-again net v s e (Swap i j) = resettled net v e.time (swapping s i j) true empty_path
+acts-again net v s e (Swap i j) = again-settle net v e.time (swapping s i j) true empty_path
 acts-again net v s e (Update q n) = update-again net v s e q n (accepts s (slot net v e.src) n) refl
 
 counted-again : (net : Net) (v : ℕ) (s : State) (e : Event) (b : Body) (u : UndoRecord) → sends_again net v (counted s) e b u ≡ sends_again net v s e b u

@@ -2,3 +2,4 @@ pub mod Rows
 pub mod Fitting
 pub mod Before
 pub mod Pairs
+pub mod Handled

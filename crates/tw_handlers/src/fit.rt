@@ -1,7 +1,7 @@
 ghost use Rattle.std.specs.Prelude.{◌≡◌, ◌≤◌, ◌<◌, ◌↔◌, length, IsTrue};
-ghost use Rattle.tw_model.specs.Net.{IsPath, begins_at as begins_at_of, is_own as is_own_of, is_permitted as is_permitted_of};
+ghost use Rattle.tw_model.specs.Net.{IsPath, begins_at as begins_at_of, hops_of, is_own as is_own_of, is_permitted as is_permitted_of};
 ghost use Rattle.tw_model.specs.Rules.{has_place as has_place_of};
-ghost use Rattle.tw_model.specs.State.{has_peer as has_peer_of};
+ghost use Rattle.tw_model.specs.State.{has_peer as has_peer_of, slot as slot_of};
 ghost use Rattle.tw_model.specs.Effect.{body_suits, fits};
 
 use tw_event::{Body, Event, PathNo};
@@ -74,4 +74,13 @@ fn begins_at(nodes: &[u32], node: u32) -> bool
         [first, ..] => *first == node,
         [] => false,
     }
+}
+
+/// The slot of a neighbour.
+pub(crate) fn slot_of_peer(instance: &Instance, node: u32, peer: u32) -> usize
+    requires { IsTrue (has_peer_of instance.now node peer) }
+    ensures value { result ≡ slot_of instance.now node peer }
+    ensures within { result < length (hops_of instance.now node) }
+{
+    instance.slot(node, peer).unwrap()
 }

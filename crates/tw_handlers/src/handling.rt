@@ -5,7 +5,7 @@ ghost use Rattle.tw_model.specs.Effect.{counted, dropping, effect, fits, is_full
 ghost use Rattle.tw_handlers.specs.Record.{IsHandled, record_of};
 
 use crate::fault::Fault;
-use crate::fit::does_fit;
+use crate::fit::{does_fit, slot_of_peer};
 use crate::record::UndoRecord;
 use crate::send::News;
 use crate::settle::{LIMIT, count_handled, put_row, settle};
@@ -321,12 +321,4 @@ fn count_dropped(router: &mut Router<'_>)
         dropped: counters.dropped + 1,
         ..counters
     });
-}
-
-fn slot_of_peer(instance: &Instance, node: u32, peer: u32) -> usize
-    requires { IsTrue (has_peer instance.now node peer) }
-    ensures value { result ≡ slot_of instance.now node peer }
-    ensures within { result < length (hops_of instance.now node) }
-{
-    instance.slot(node, peer).unwrap()
 }

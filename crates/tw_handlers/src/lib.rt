@@ -7,7 +7,9 @@ mod handling;
 mod record;
 mod send;
 mod settle;
+mod undoing;
 
 pub use fault::Fault;
 pub use handling::handle;
 pub use record::UndoRecord;
+pub use undoing::undo;

@@ -1,0 +1,258 @@
+ghost use Rattle.std.specs.Prelude.{◌≡◌, ◌-◌, ◌≤◌, ◌<◌, [], ◌∷◌, ◌++◌, length, IsTrue, OnErr, OnOk};
+ghost use Rattle.tw_model.specs.Net.{IsPath};
+ghost use Rattle.tw_model.specs.State.{IsState, State as AState, has_peer, hop, row as row_of, slot as slot_of};
+ghost use Rattle.tw_model.specs.Effect.{effect, fits, update_to};
+ghost use Rattle.tw_handlers.specs.Record.{IsHandled};
+ghost use Rattle.tw_handlers.specs.Undo.{before, counters_before as counters_before_of, moved_back, sends_again, settled_sends, unsettled};
+
+use crate::fit::slot_of_peer;
+use crate::record::UndoRecord;
+use crate::send::{News, count_up, push_updates};
+use crate::settle::put_row;
+use smallvec::SmallVec;
+use std::alloc::AllocError;
+use tw_event::{Body, Event};
+use tw_instance::Instance;
+use tw_model::{Counters, Row};
+use tw_router::Router;
+
+/// Undoes the event that the router handled last, and adds what it had sent to `sends`, in that order.
+///
+/// The instance is the router's own, and the record is the answer of handling the event. Where there is
+/// no memory, the router and the list are as they were.
+pub fn undo(
+    instance: &Instance,
+    router: &mut Router<'_>,
+    event: &Event,
+    note: UndoRecord,
+    sends: &mut SmallVec<Event, 8>,
+) -> Result<(), AllocError>
+    requires own { instance.now ≡ router.old.net }
+    requires handled { (s : AState) × IsHandled router.old.net router.old.node s event.now note router.old.state }
+    ensures state { (s : AState) → IsHandled router.old.net router.old.node s event.now note router.old.state
+        → OnOk result (router.new ≡ record router.old { state = s }) }
+    ensures sends { (s : AState) → IsHandled router.old.net router.old.node s event.now note router.old.state
+        → OnOk result (sends.new.items ≡ sends.old.items ++ (effect router.old.net router.old.node s event.now).sends) }
+    ensures err { OnErr result (router.new ≡ router.old) }
+    ensures unsent { OnErr result (sends.new.items ≡ sends.old.items) }
+{
+    send_again(instance, router, event, note, sends)?;
+    go_back(instance, router, event, note);
+    Ok(())
+}
+
+/// Adds what the event had sent.
+fn send_again(
+    instance: &Instance,
+    router: &Router<'_>,
+    event: &Event,
+    note: UndoRecord,
+    sends: &mut SmallVec<Event, 8>,
+) -> Result<(), AllocError>
+    requires own { instance.now ≡ router.now.net }
+    requires fits { IsTrue (fits router.now.net router.now.node event.now) }
+    ensures ok { OnOk result (sends.new.items
+        ≡ sends.old.items ++ sends_again router.now.net router.now.node router.now.state event.now event.now.body note) }
+    ensures err { OnErr result (sends.new.items ≡ sends.old.items) }
+{
+    match event.body {
+        Body::Start => send_settled(instance, router, event, note, sends),
+        Body::Fail(_) => send_settled(instance, router, event, note, sends),
+        Body::Restore(peer) => {
+            if note.took {
+                send_restored(instance, router, event, peer, sends)
+            } else {
+                Ok(())
+            }
+        }
+        Body::Swap(_, _) => send_settled(instance, router, event, note, sends),
+        Body::Update { .. } => send_settled(instance, router, event, note, sends),
+    }
+}
+
+/// Adds the updates of the present path, where the event had changed it.
+fn send_settled(
+    instance: &Instance,
+    router: &Router<'_>,
+    event: &Event,
+    note: UndoRecord,
+    sends: &mut SmallVec<Event, 8>,
+) -> Result<(), AllocError>
+    requires own { instance.now ≡ router.now.net }
+    requires time { event.now.time ≤ 1000000000 }
+    ensures ok { OnOk result (sends.new.items
+        ≡ sends.old.items ++ settled_sends router.now.net router.now.node event.now.time router.now.state note) }
+    ensures err { OnErr result (sends.new.items ≡ sends.old.items) }
+{
+    if !note.changed {
+        return Ok(());
+    }
+    let src = router.node();
+    let hops = instance.hops(src);
+    let rows = router.rows();
+    let count = count_up(hops, rows);
+    sends.reserve(count as usize)?;
+    let news = News {
+        src,
+        time: event.time,
+        path: router.rib(),
+    };
+    let first = router.counters().sent.saturating_sub(count);
+    push_updates(news, first, hops, rows, sends);
+    Ok(())
+}
+
+/// Adds the update to the neighbour whose link had been restored.
+fn send_restored(
+    instance: &Instance,
+    router: &Router<'_>,
+    event: &Event,
+    peer: u32,
+    sends: &mut SmallVec<Event, 8>,
+) -> Result<(), AllocError>
+    requires own { instance.now ≡ router.now.net }
+    requires time { event.now.time ≤ 1000000000 }
+    requires neighbour { IsTrue (has_peer router.now.net router.now.node peer) }
+    ensures ok { let k = slot_of router.now.net router.now.node peer in OnOk result (sends.new.items
+        ≡ sends.old.items ++ update_to router.now.node event.now.time router.now.state.rib (router.now.state.counters.sent - 1) (hop router.now.net router.now.node k) (row_of router.now.state k) ∷ []) }
+    ensures err { OnErr result (sends.new.items ≡ sends.old.items) }
+{
+    let src = router.node();
+    let slot = slot_of_peer(instance, src, peer);
+    let hops = instance.hops(src);
+    let seq = router.counters().sent.saturating_sub(1);
+    let news = News {
+        src,
+        time: event.time,
+        path: router.rib(),
+    };
+    sends.reserve(1)?;
+    sends.push_reserved(news.update(seq, hops[slot], router.row(slot)));
+    Ok(())
+}
+
+/// Puts the router into the state from which the event led.
+fn go_back(instance: &Instance, router: &mut Router<'_>, event: &Event, note: UndoRecord)
+    requires own { instance.now ≡ router.old.net }
+    requires fits { IsTrue (fits router.old.net router.old.node event.now) }
+    requires rib { IsPath router.old.net note.rib }
+    requires heard { IsPath router.old.net note.heard }
+    requires earlier { IsState router.old.net router.old.node (before router.old.net router.old.node router.old.state event.now note) }
+    ensures { router.new
+        ≡ record router.old { state = before router.old.net router.old.node router.old.state event.now note } }
+{
+    let counters = counters_before(instance, router, event, note);
+    if note.changed {
+        router.set_rib(note.rib);
+    }
+    move_back(instance, router, event, note);
+    router.set_counters(counters);
+}
+
+/// Writes the row or the order as they were before the event.
+fn move_back(instance: &Instance, router: &mut Router<'_>, event: &Event, note: UndoRecord)
+    requires own { instance.now ≡ router.old.net }
+    requires fits { IsTrue (fits router.old.net router.old.node event.now) }
+    requires heard { IsPath router.old.net note.heard }
+    ensures { router.new
+        ≡ record router.old { state = moved_back router.old.net router.old.node router.old.state event.now event.now.body note } }
+{
+    let node = router.node();
+    match event.body {
+        Body::Start => {}
+        Body::Swap(first, second) => router.swap(instance, first, second),
+        Body::Fail(peer) => {
+            if note.took {
+                let slot = slot_of_peer(instance, node, peer);
+                let session = router.session(slot);
+                let row = Row {
+                    heard: note.heard,
+                    up: true,
+                    session,
+                };
+                put_row(instance, router, slot, row);
+            }
+        }
+        Body::Restore(peer) => {
+            if note.took {
+                let slot = slot_of_peer(instance, node, peer);
+                let row = router.row(slot);
+                let repaired_less = Row {
+                    heard: row.heard,
+                    up: false,
+                    session: row.session.saturating_sub(1),
+                };
+                put_row(instance, router, slot, repaired_less);
+            }
+        }
+        Body::Update { .. } => {
+            if note.took {
+                let slot = slot_of_peer(instance, node, event.src);
+                router.set_heard(instance, slot, note.heard);
+            }
+        }
+    }
+}
+
+/// The counters before the event.
+fn counters_before(
+    instance: &Instance,
+    router: &Router<'_>,
+    event: &Event,
+    note: UndoRecord,
+) -> Counters
+    requires { instance.now ≡ router.now.net }
+    ensures { result ≡ counters_before_of router.now.net router.now.node router.now.state event.now.body note }
+{
+    let counters = router.counters();
+    let handled = counters.handled.saturating_sub(1);
+    match event.body {
+        Body::Restore(_) => {
+            let sent = if note.took {
+                counters.sent.saturating_sub(1)
+            } else {
+                counters.sent
+            };
+            Counters {
+                sent,
+                handled,
+                ..counters
+            }
+        }
+        Body::Update { .. } => {
+            if note.took {
+                unsettled_counters(instance, router, note)
+            } else {
+                Counters {
+                    handled,
+                    dropped: counters.dropped.saturating_sub(1),
+                    ..counters
+                }
+            }
+        }
+        Body::Start => unsettled_counters(instance, router, note),
+        Body::Fail(_) => unsettled_counters(instance, router, note),
+        Body::Swap(_, _) => unsettled_counters(instance, router, note),
+    }
+}
+
+fn unsettled_counters(instance: &Instance, router: &Router<'_>, note: UndoRecord) -> Counters
+    requires { instance.now ≡ router.now.net }
+    ensures { result ≡ unsettled router.now.net router.now.node router.now.state note }
+{
+    let counters = router.counters();
+    let handled = counters.handled.saturating_sub(1);
+    if !note.changed {
+        return Counters {
+            handled,
+            ..counters
+        };
+    }
+    let count = count_up(instance.hops(router.node()), router.rows());
+    Counters {
+        sent: counters.sent.saturating_sub(count),
+        handled,
+        dropped: counters.dropped,
+        changed: counters.changed.saturating_sub(1),
+    }
+}
