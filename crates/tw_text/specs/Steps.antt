@@ -1,0 +1,63 @@
+-- What the steps of reading a line return.
+use Rattle.std.specs.Prelude.{ℕ, ◌≤◌, ◌≡◌, Bool, not, ◌||◌, List, length, Option, None, Some, Result, Ok, Err, option_map, if◌then◌else◌}
+use Rattle.tw_instance.specs.declared.refusal.Refusal.{Refusal}
+use Rattle.tw_instance.specs.declared.refusal.Refusal.TheVariants as refusal
+use Rattle.tw_model.specs.Net.{paths}
+use Rattle.tw_model.specs.Rules.{lowest, rules_in_order}
+use Rattle.tw_model.specs.declared.net.Rule.{Rule}
+use Rattle.tw_text.specs.declared.draft.Draft.{Draft}
+use Rattle.tw_text.specs.declared.draft.LineError.{LineError}
+use Rattle.tw_text.specs.declared.draft.LineError.TheVariants as error
+use Rattle.tw_text.specs.declared.fault.LineFault.{LineFault}
+use Rattle.tw_text.specs.declared.fault.LineFault.TheVariants as x
+use Rattle.tw_text.specs.declared.fault.TextFault.{TextFault}
+use Rattle.tw_text.specs.declared.fault.TextFault.TheVariants.{At, Memory}
+use Rattle.tw_text.specs.declared.statement.Statement.{Statement}
+use Rattle.tw_text.specs.declared.statement.WordsError.{WordsError}
+use Rattle.tw_text.specs.declared.statement.WordsError.TheVariants as words
+use Rattle.tw_text.specs.declared.statement.WordsFault.{WordsFault}
+use Rattle.tw_text.specs.declared.statement.WordsFault.TheVariants.{Word, Number}
+use Rattle.tw_text.specs.Table.{breaks, is_done, is_misplaced, net_of}
+
+abbrev pub words_fault : WordsFault → LineFault
+words_fault Word = x.Word
+words_fault Number = x.Number
+
+abbrev pub words_error : WordsError → LineError
+words_error (words.Fault fault) = error.Fault (words_fault fault)
+words_error words.Memory = error.Memory
+
+abbrev pub refusal_error : Refusal → LineError
+refusal_error (refusal.Rule rule) = error.Fault (x.Rule rule)
+refusal_error refusal.Memory = error.Memory
+
+-- a function returned the fault, or what comes next where there is none, unless memory ran out
+abbrev pub Steps : Result Draft LineError → Option LineFault → Draft → Type 0
+Steps (Ok d) fault next = (fault ≡ None) × (d ≡ next)
+Steps (Err error.Memory) fault next = Unit {0}
+Steps (Err (error.Fault f)) fault next = fault ≡ Some f
+
+abbrev pub of_rule : Option Rule → Option LineFault
+of_rule broken = option_map (λ r. x.Rule r) broken
+
+-- the lowest fault of a line that says this, from line 2 on
+abbrev pub fault_after : Draft → Statement → Bool → Option LineFault
+fault_after d s ended =
+    if is_misplaced d s then Some x.Order
+    else if not ended || is_done d then Some x.End
+    else of_rule (lowest (breaks d s) rules_in_order)
+
+-- fewer routers, and fewer paths, than a `u32` numbers
+pub record IsSmall (d : Draft) : Type 0 where
+  pub nodes : (net_of d).nodes ≤ 1024
+  pub paths : length (paths (net_of d)) ≤ 204602
+
+-- the lowest fault of a line of these words, from line 2 on
+abbrev pub said_fault : Draft → Result Statement WordsFault → Bool → Option LineFault
+said_fault d (Ok s) ended = fault_after d s ended
+said_fault d (Err e) ended = Some (words_fault e)
+
+-- the error of line k, as one of the text
+abbrev pub at_line : LineError → ℕ → TextFault
+at_line error.Memory k = Memory
+at_line (error.Fault f) k = At k f

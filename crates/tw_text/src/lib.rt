@@ -1,0 +1,13 @@
+//! Texts of cases: reading, writing, and the fault of a text that is none.
+#![tactic(auto)]
+
+mod draft;
+mod fault;
+mod read;
+mod statement;
+mod words;
+mod write;
+
+pub use fault::{LineFault, TextFault};
+pub use read::read_case;
+pub use write::write_case;

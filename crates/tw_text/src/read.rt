@@ -1,0 +1,80 @@
+ghost use Rattle.std.specs.Prelude.{◌≡◌, ◌<◌, length, map};
+ghost use Rattle.tw_text.specs.Reading.{Told, case_at, case_of, finishes, reads, reads_parts};
+ghost use Rattle.tw_text.specs.Steps.{at_line};
+
+use crate::draft::{Draft, LineError, read_line};
+use crate::fault::{LineFault, TextFault};
+use crate::words::split_lines;
+use std::alloc::{AllocError, Global};
+use tw_instance::Case;
+
+impl From<AllocError> for TextFault {
+    ghost use Rattle.tw_text.specs.declared.fault.TextFault.TheVariants.{Memory};
+
+    ghost from_gives = { λ _ fault. fault ≡ Memory };
+
+    fn from(_error: AllocError) -> TextFault {
+        TextFault::Memory
+    }
+}
+
+/// The case of a text. A refused text is refused at its first line that has a fault, with the lowest
+/// fault of that line.
+pub fn read_case(alloc: Global, text: &[u8]) -> Result<Case, TextFault> {
+    let parts = split_lines(alloc, text)?;
+    read_parts(alloc, &parts)
+}
+
+fn read_parts(alloc: Global, parts: &[&[u8]]) -> Result<Case, TextFault>
+    requires { 0 < length parts.now }
+{
+    let last = parts.len() - 1;
+    let draft = read_ended(alloc, &parts[..last])?;
+    finish(alloc, draft, parts[last], parts.len())
+}
+
+fn read_ended(alloc: Global, lines: &[&[u8]]) -> Result<Draft, TextFault> {
+    let mut draft = Draft::Start;
+    for (i, line) in lines.iter().enumerate() {
+        match read_line(alloc, draft, line, true) {
+            Ok(next) => draft = next,
+            Err(error) => return Err(at_line(error, i + 1)),
+        }
+    }
+    Ok(draft)
+}
+
+/// The case, given what follows the last line end: a line's beginning, or nothing.
+fn finish(alloc: Global, draft: Draft, rest: &[u8], line: usize) -> Result<Case, TextFault> {
+    if rest.is_empty() {
+        return case_at(draft, line);
+    }
+    match read_line(alloc, draft, rest, false) {
+        Ok(_) => Err(TextFault::At {
+            line,
+            fault: LineFault::End,
+        }),
+        Err(error) => Err(at_line(error, line)),
+    }
+}
+
+fn case_at(draft: Draft, line: usize) -> Result<Case, TextFault>
+    ensures { Told result (case_at draft line) }
+{
+    match draft {
+        Draft::Done(case) => Ok(case),
+        _ => Err(TextFault::At {
+            line,
+            fault: LineFault::End,
+        }),
+    }
+}
+
+fn at_line(error: LineError, line: usize) -> TextFault
+    ensures { result ≡ at_line error line }
+{
+    match error {
+        LineError::Fault(fault) => TextFault::At { line, fault },
+        LineError::Memory => TextFault::Memory,
+    }
+}

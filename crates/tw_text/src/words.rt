@@ -1,0 +1,58 @@
+ghost use Rattle.std.specs.Char.{is_ascii_digit};
+ghost use Rattle.std.specs.List.{list_all};
+ghost use Rattle.std.specs.Prelude.{◌≡◌, ◌≤◌, ◌==◌, length, map, IfOk, if◌then◌else◌};
+ghost use Rattle.std.specs.Str.Parse.{digits_value};
+ghost use Rattle.tw_text.specs.Words.{is_plain, words, parts_of, number_of};
+
+use std::alloc::{AllocError, Global};
+
+/// Whether each byte of the line is a space, a letter a to z, or a digit.
+pub(crate) fn is_plain_line(line: &[u8]) -> bool
+    ensures { result ≡ list_all is_plain line.now }
+{
+    line.iter().all(|byte| is_plain(*byte))
+}
+
+fn is_plain(byte: u8) -> bool
+    ensures { result ≡ is_plain byte }
+{
+    matches!(byte, b' ' | b'a'..=b'z' | b'0'..=b'9')
+}
+
+/// What stands between the spaces of a line.
+pub(crate) fn split_words(alloc: Global, line: &[u8]) -> Result<Vec<&[u8]>, AllocError>
+    ensures { IfOk result (λ v. map (λ x. x.now) v.items ≡ words line.now) }
+{
+    line.split(|byte| *byte == b' ').collect(alloc)
+}
+
+/// The lines of a text, and what follows the last line end.
+pub(crate) fn split_lines(alloc: Global, text: &[u8]) -> Result<Vec<&[u8]>, AllocError>
+    ensures { IfOk result (λ v. map (λ x. x.now) v.items ≡ parts_of text.now) }
+{
+    text.split(|byte| *byte == b'\n').collect(alloc)
+}
+
+/// The number that a word is, if it is one: at most ten digits, with no zero in front.
+pub(crate) fn number_of(word: &[u8]) -> Option<u64>
+    ensures { result ≡ number_of word.now }
+{
+    if word.is_empty() || word.len() > 10 || (word.len() > 1 && word[0] == b'0') {
+        return None;
+    }
+    digits_value(word)
+}
+
+fn digits_value(digits: &[u8]) -> Option<u64>
+    requires { length digits.now ≤ 10 }
+    ensures { result ≡ (if list_all is_ascii_digit digits.now then Some (digits_value 10 digits.now) else None) }
+{
+    let mut value: u64 = 0;
+    for digit in digits {
+        if !digit.is_ascii_digit() {
+            return None;
+        }
+        value = value * 10 + u64::from(*digit - b'0');
+    }
+    Some(value)
+}

@@ -1,0 +1,102 @@
+ghost use Rattle.std.specs.Prelude.{◌≡◌, ◌∷◌, ◌++◌, decimal, IfOk, OnOk};
+ghost use Rattle.std.specs.List.{flat_map};
+ghost use Rattle.std.specs.String.{string_bytes};
+ghost use Rattle.tw_text.specs.Text.{line_text, link_words, path_words, scene_words, text_of};
+
+use std::alloc::{AllocError, Global};
+use tw_instance::Case;
+use tw_model::{Link, PathLine, Scene};
+
+/// The text of a case, which `read_case` reads as that case.
+pub fn write_case(alloc: Global, case: &Case) -> Result<Vec<u8>, AllocError>
+    ensures { IfOk result (λ v. v.items ≡ text_of case.now) }
+{
+    let instance = case.instance();
+    let nodes = instance.nodes();
+    let mut text = format!(in alloc; "spp 1\nnodes {nodes}\n")?;
+    push_links(&mut text, instance.links())?;
+    push_paths(&mut text, instance.paths())?;
+    push_scenes(&mut text, case.scenario())?;
+    text.push_str("end\n")?;
+    Ok(text.into_bytes())
+}
+
+fn push_links(text: &mut String, links: &[Link]) -> Result<(), AllocError>
+    ensures { OnOk result (string_bytes text.new ≡ string_bytes text.old ++ flat_map (λ l. line_text (link_words l)) links.now) }
+{
+    for link in links {
+        push_link(text, link)?;
+    }
+    Ok(())
+}
+
+fn push_link(text: &mut String, link: &Link) -> Result<(), AllocError>
+    ensures { OnOk result (string_bytes text.new ≡ string_bytes text.old ++ line_text (link_words link.now)) }
+{
+    let Link {
+        first,
+        second,
+        delay,
+    } = *link;
+    writeln!(text, "link {first} {second} {delay}")
+}
+
+fn push_paths(text: &mut String, paths: &[PathLine]) -> Result<(), AllocError>
+    ensures { OnOk result (string_bytes text.new ≡ string_bytes text.old ++ flat_map (λ p. line_text (path_words p)) paths.now) }
+{
+    for path in paths {
+        push_path(text, path.owner, &path.nodes)?;
+    }
+    Ok(())
+}
+
+fn push_path(text: &mut String, owner: u32, nodes: &[u32]) -> Result<(), AllocError>
+    ensures { OnOk result (string_bytes text.new ≡ string_bytes text.old ++ line_text (path_words (record { owner = owner; nodes = nodes.now }))) }
+{
+    write!(text, "path {owner}")?;
+    push_nodes(text, nodes)?;
+    text.push('\n')?;
+    Ok(())
+}
+
+/// Adds each node with a space before it.
+fn push_nodes(text: &mut String, nodes: &[u32]) -> Result<(), AllocError>
+    ensures { OnOk result (string_bytes text.new ≡ string_bytes text.old ++ flat_map (λ n. 32 ∷ decimal n) nodes.now) }
+{
+    for node in nodes {
+        write!(text, " {node}")?;
+    }
+    Ok(())
+}
+
+fn push_scenes(text: &mut String, scenes: &[Scene]) -> Result<(), AllocError>
+    ensures { OnOk result (string_bytes text.new ≡ string_bytes text.old ++ flat_map (λ s. line_text (scene_words s)) scenes.now) }
+{
+    for scene in scenes {
+        push_scene(text, scene)?;
+    }
+    Ok(())
+}
+
+fn push_scene(text: &mut String, scene: &Scene) -> Result<(), AllocError>
+    ensures { OnOk result (string_bytes text.new ≡ string_bytes text.old ++ line_text (scene_words scene.now)) }
+{
+    match *scene {
+        Scene::Fail {
+            time,
+            first,
+            second,
+        } => writeln!(text, "fail {time} {first} {second}"),
+        Scene::Restore {
+            time,
+            first,
+            second,
+        } => writeln!(text, "restore {time} {first} {second}"),
+        Scene::Swap {
+            time,
+            node,
+            first,
+            second,
+        } => writeln!(text, "swap {time} {node} {first} {second}"),
+    }
+}
