@@ -1,3 +1,4 @@
 pub mod Hops
 pub mod Instance
 pub mod Opening
+pub mod Tables

@@ -1,12 +1,14 @@
-ghost use Rattle.std.specs.Prelude.{◌≡◌, ℕ, ◌+◌, ◌==◌, ◌<◌, ◌≤◌, List, [], ◌∷◌, ◌++◌, length, true, IfOk, IfSome, OnErr, OnOk, SomeIff, IsTrue, slice_index_or, map};
+ghost use Rattle.std.specs.Prelude.{◌≡◌, ◌↔◌, ℕ, ◌+◌, ◌==◌, ◌<◌, ◌≤◌, List, [], ◌∷◌, ◌++◌, length, true, IfOk, IfSome, OnErr, OnOk, SomeIff, IsTrue, slice_index_or, map};
 ghost use Rattle.std.specs.List.{All, find, position};
 ghost use Rattle.tw_event.specs.declared.event.PathNo.{PathNo as APathNo};
 ghost use Rattle.tw_model.specs.Net.{IsPath, empty_path, hops_of, is_own, origin_path, path, paths, paths_of, same_path};
-ghost use Rattle.tw_model.specs.Rules.{IsNet};
+ghost use Rattle.tw_model.specs.declared.net.Rule.{Rule as ARule};
+ghost use Rattle.tw_model.specs.Rules.{IsNet, line_fault, link_fault, nodes_fault};
 ghost use Rattle.tw_model.specs.State.{has_peer, hop, slot as slot_of};
 ghost use Rattle.tw_instance.specs.Hops.{AreDistinct, AreRising, IsGoodHop};
 
 use crate::refusal::{At, Refusal};
+use crate::{faults, tables};
 use std::alloc::Global;
 use std::marker::Model;
 use tw_event::PathNo;
@@ -42,28 +44,52 @@ impl Instance {
     /// An instance of so many routers, with no link and no permitted path.
     pub fn new(alloc: Global, nodes: u32) -> Result<Instance, Refusal>
         ensures ok { IfOk result (λ i. i ≡ record { nodes = nodes; links = []; lines = [] }) }
+        ensures rule { (r : ARule) → (result ≡ Err (Refusal.Rule r)) ↔ (nodes_fault nodes ≡ Some r) }
     {
-        let _ = (alloc, nodes);
-        Err(Refusal::Memory)
+        if let Some(rule) = faults::nodes_fault(nodes) {
+            return Err(Refusal::Rule(rule));
+        }
+        let hops = tables::empty_rows(alloc, nodes)?;
+        let permitted = tables::opening_orders(alloc, nodes)?;
+        Ok(Instance {
+            nodes,
+            links: Vec::new(alloc),
+            paths: Vec::new(alloc),
+            hops,
+            permitted,
+        })
     }
 
     /// Adds a link. An error leaves the instance as it was.
     pub fn add_link(&mut self, link: Link) -> Result<(), Refusal>
         ensures ok { OnOk result (self.new ≡ record self.old { links = self.old.links ++ link ∷ [] }) }
+        ensures rule { (r : ARule) → (result ≡ Err (Refusal.Rule r)) ↔ (link_fault self.old link ≡ Some r) }
         ensures err { OnErr result (self.new ≡ self.old) }
     {
-        let _ = link;
-        Err(Refusal::Memory)
+        if let Some(rule) = faults::link_fault(self, &link) {
+            return Err(Refusal::Rule(rule));
+        }
+        self.links.reserve(1)?;
+        tables::join(&mut self.hops, &link)?;
+        self.links.push_reserved(link);
+        Ok(())
     }
 
     /// Adds a permitted path, worse than those of its owner before it. An error leaves the instance
     /// as it was.
     pub fn add_path(&mut self, path: PathLine) -> Result<(), Refusal>
         ensures ok { OnOk result (self.new ≡ record self.old { lines = self.old.lines ++ path ∷ [] }) }
+        ensures rule { (r : ARule) → (result ≡ Err (Refusal.Rule r)) ↔ (line_fault self.old path ≡ Some r) }
         ensures err { OnErr result (self.new ≡ self.old) }
     {
-        let _ = path;
-        Err(Refusal::Memory)
+        if let Some(rule) = faults::line_fault(self, &path) {
+            return Err(Refusal::Rule(rule));
+        }
+        let number = PathNo(self.paths.len() as u32 + 2);
+        self.paths.reserve(1)?;
+        tables::list(&mut self.permitted, path.owner, number)?;
+        self.paths.push_reserved(path);
+        Ok(())
     }
 
     /// An instance with these links and permitted paths, or the first item that is refused, in the
@@ -116,7 +142,7 @@ impl Instance {
         ensures good { All (IsGoodHop self.now.nodes) result.now }
         ensures rising { AreRising result.now }
     {
-        row_of(&self.hops, node)
+        tables::row_of(&self.hops, node)
     }
 
     /// The numbers of a router's permitted paths, best first; none where there is no such router.
@@ -127,7 +153,7 @@ impl Instance {
         ensures paths { All (IsPath self.now) result.now }
         ensures own { All (λ q. is_own self.now node q ≡ true) result.now }
     {
-        row_of(&self.permitted, node)
+        tables::row_of(&self.permitted, node)
     }
 
     /// The place of a neighbour among a router's neighbours, from 0.
@@ -167,6 +193,7 @@ impl Instance {
     pub fn number(&self, nodes: &[u32]) -> Option<PathNo>
         ensures some { IfSome result (λ q. IsPath self.now q × (path self.now q ≡ nodes.now)) }
         ensures only { (q : APathNo) → IsPath self.now q → path self.now q ≡ nodes.now → result ≡ Some q }
+        ensures net { IsNet self.now }
     {
         let _ = &self.nodes;
         match nodes {
@@ -222,14 +249,5 @@ fn is_made_of(nodes: &[u32], first: u32, rest: &[u32]) -> bool
     match nodes {
         [] => false,
         [node, others @ ..] => *node == first && others == rest,
-    }
-}
-
-fn row_of<T>(rows: &[Vec<T>], node: u32) -> &[T]
-    ensures { result.now ≡ slice_index_or (map (λ r. r.items) rows.now) node [] }
-{
-    match rows.get(node as usize) {
-        Some(row) => row,
-        None => &[],
     }
 }

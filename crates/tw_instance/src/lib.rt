@@ -2,8 +2,10 @@
 #![tactic(auto)]
 
 mod case;
+mod faults;
 mod instance;
 mod refusal;
+mod tables;
 
 pub use case::Case;
 pub use instance::Instance;

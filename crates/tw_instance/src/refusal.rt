@@ -1,3 +1,7 @@
+ghost use Rattle.std.specs.Prelude.{◌≡◌};
+ghost use Rattle.tw_instance.specs.declared.refusal.Refusal.TheVariants.{Memory};
+
+use std::alloc::AllocError;
 use tw_model::Rule;
 
 /// Why an item was refused.
@@ -7,6 +11,14 @@ pub enum Refusal {
     Rule(Rule),
     /// Memory ran out.
     Memory,
+}
+
+impl From<AllocError> for Refusal {
+    ghost from_gives = { λ _ refusal. refusal ≡ Memory };
+
+    fn from(_error: AllocError) -> Refusal {
+        Refusal::Memory
+    }
 }
 
 /// An item of an instance or of a scenario.

@@ -2,7 +2,8 @@ use Rattle.std.proofs.Common.{◌≡◌, ◌<◌, ℕ, ◌-◌, suc, length, sli
 use Rattle.std.proofs.lemmas.List.{length-map}
 use Rattle.tw_model.specs.declared.net.PathLine.{PathLine}
 use Rattle.tw_model.specs.Net.{Net, empty_path}
-use Rattle.tw_instance.specs.Hops.{AreDistinct}
+use Rattle.tw_model.specs.Rules.{IsNet}
+use Rattle.tw_model.proofs.Paths.{path_exact}
 use Rattle.tw_instance.proofs.Paths.{path-empty, path-origin, path-line, index-map}
 use Rattle.tw_instance.proofs.instance.Instance.path.Goals as goal
 
@@ -25,5 +26,5 @@ returns-in_default-clause-value c =
 
 pub returns-in_default-clause-empty : goal.returns-in_default-clause-empty
 returns-in_default-clause-empty c e =
-    let apart = subst AreDistinct c.self.view_is c.self.invariant.distinct in
+    let apart = path_exact c.args.self.now (subst IsNet c.self.view_is c.self.invariant.net) in
     apart c.args.number empty_path (omega arith) (omega arith) (sym (returns-in_default-clause-value c) ∙ (e ∙ sym (path-empty c.args.self.now empty_path refl)))

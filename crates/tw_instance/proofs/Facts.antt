@@ -1,0 +1,80 @@
+-- Tests that code makes, and what they say of a net.
+use Rattle.std.proofs.Common.{◌≡◌, ℕ, suc, zero, ◌<◌, ◌≤◌, ◌==◌, true, false, not, ◌&&◌, ◌||◌, List, [], ◌∷◌, length, nat_le, Option, Some, is_some, IfSome, refl, ap, sym, ◌∙◌, subst, inl, inr, arith}
+use Rattle.std.specs.List.{AllByRecursion, list_any}
+use Rattle.std.proofs.lemmas.Bool.{and_parts, both_ways, cases_lt, eqb-true, eqb-false, false_from_ne_true, ne_eqb, not-false, not-true, or_cases, or_parts}
+use Rattle.tw_event.specs.declared.event.PathNo.{PathNo}
+use Rattle.tw_model.specs.Line.{Line}
+use Rattle.tw_model.specs.declared.net.Link.{Link}
+use Rattle.tw_model.specs.Net.{Net, IsPath, begins_at, hop_to, hops_of, joins, path, paths_of, same_path}
+use Rattle.tw_model.specs.Rules.{IsNet, is_linked, path_count}
+use Rattle.tw_model.proofs.Paths.{same_path_is}
+use Rattle.tw_instance.proofs.Hops.{any-linked, named_hop, none_past}
+use Rattle.tw_instance.proofs.Links.{IsGoodLink, good_links}
+use Rattle.tw_instance.proofs.Lines.{listed, taken}
+
+-- ---- links
+
+no_join : (nodes : ℕ) (l : Link) (v w : ℕ) → IsGoodLink nodes l → nodes ≤ w → joins v w l ≡ false
+no_join nodes l v w good out =
+    let a : (l.second == w) ≡ false = ne_eqb l.second w (λ e. let below = good.second in omega arith) in
+    let b : (l.first == w) ≡ false = ne_eqb l.first w (λ e. let below = good.first in omega arith) in
+    false_from_ne_true (joins v w l) (λ t. (elim (or_cases (l.first == v && l.second == w) (l.first == w && l.second == v) t) [
+      | inl h ↦ both_ways (l.second == w) a (and_parts (l.first == v) (l.second == w) h).1
+      | inr h ↦ both_ways (l.first == w) b (and_parts (l.first == w) (l.second == v) h).0
+    ]))
+
+no_link : (nodes : ℕ) (links : List Link) (v w : ℕ) → AllByRecursion (IsGoodLink nodes) links → nodes ≤ w → is_linked links v w ≡ false
+no_link nodes [] v w all out = refl
+no_link nodes (l ∷ links) v w all out = rw (no_join nodes l v w all.0 out) (no_link nodes links v w all.1 out)
+
+-- w is a neighbour of v exactly where a link joins them
+pub peer-linked : (net : Net) (v w : ℕ) → IsNet net → list_any (λ x. x.peer == w) (hops_of net v) ≡ is_linked net.links v w
+unfolding hops_of
+peer-linked net v w h =
+    elim (cases_lt w net.nodes) [
+      | inl below ↦ any-linked net v w below
+      | inr out ↦ (none_past (hop_to net.links v) (named_hop net.links v) w net.nodes 0 (omega arith) ∙ sym (no_link net.nodes net.links v w (good_links net.nodes [] net.links h.links) out))
+    ]
+
+-- ---- permitted paths
+
+none_of_origin : (nodes : ℕ) (lines : List Line) → AllByRecursion (λ p. (0 < p.owner) × (p.owner < nodes)) lines → path_count lines 0 ≡ 0
+none_of_origin nodes [] all = refl
+none_of_origin nodes (p ∷ lines) all = let no : (p.owner == 0) ≡ false = ne_eqb p.owner 0 (λ e. let some = all.0.0 in omega arith) in rw no (none_of_origin nodes lines all.1)
+
+-- whether a router has as many permitted paths as it may
+pub full-counted : (net : Net) (v : ℕ) → IsNet net → nat_le 200 (length (paths_of net v)) ≡ nat_le 200 (path_count net.lines v)
+full-counted net zero h =
+    let all = listed net h in
+    ap (λ xs. nat_le 200 (length xs)) all.origin ∙ ap (nat_le 200) (sym (none_of_origin net.nodes net.lines all.owners))
+full-counted net (suc v) h = ap (nat_le 200) ((listed net h).counts (suc v) (omega arith))
+
+none_given : (count owner : ℕ) (nodes : List ℕ) (lines : List Line) → AllByRecursion (λ p. (0 < p.owner) × (p.owner < count)) lines → AllByRecursion (λ p. begins_at p.nodes p.owner ≡ true) lines
+    → (owner == 0 || not (begins_at nodes owner)) ≡ true → list_any (λ q. q.owner == owner && same_path q.nodes nodes) lines ≡ false
+none_given count owner nodes [] owners begin mis = refl
+none_given count owner nodes (q ∷ lines) owners begin mis =
+    let other : (q.owner == owner && same_path q.nodes nodes) ≡ false = false_from_ne_true (q.owner == owner && same_path q.nodes nodes) (λ t.
+    (let both = and_parts (q.owner == owner) (same_path q.nodes nodes) t in
+    let e = eqb-true q.owner owner both.0 in
+    let same = same_path_is q.nodes nodes both.1 in
+    let begins : begins_at nodes owner ≡ true = subst (λ v. begins_at nodes v ≡ true) e (subst (λ ns. begins_at ns q.owner ≡ true) same begin.0) in
+    elim (or_cases (owner == 0) (not (begins_at nodes owner)) mis) [
+      | inl z ↦ (let zero_is = eqb-true owner 0 z in let some = owners.0.0 in absurd (omega arith))
+      | inr other ↦ both_ways (begins_at nodes owner) (not-true (begins_at nodes owner) other) begins
+    ])) in
+    rw other (none_given count owner nodes lines owners.1 begin.1 mis)
+
+-- nodes that begin elsewhere were not given for this owner
+pub not_given : (net : Net) (owner : ℕ) (nodes : List ℕ) → IsNet net → (owner == 0 || not (begins_at nodes owner)) ≡ true
+    → list_any (λ q. q.owner == owner && same_path q.nodes nodes) net.lines ≡ false
+not_given net owner nodes h mis =
+    let all = listed net h in none_given net.nodes owner nodes net.lines all.owners all.begin mis
+
+-- nodes were given for their owner exactly where they have a number
+pub given_number : (net : Net) (owner : ℕ) (nodes : List ℕ) (o : Option PathNo) → IsNet net → (owner == 0 || not (begins_at nodes owner)) ≡ false
+    → IfSome o (λ q. IsPath net q × (path net q ≡ nodes)) → ((q : PathNo) → IsPath net q → path net q ≡ nodes → o ≡ Some q)
+    → is_some o ≡ list_any (λ q. q.owner == owner && same_path q.nodes nodes) net.lines
+given_number net owner nodes o h mis found only =
+    let parts = or_parts (owner == 0) (not (begins_at nodes owner)) mis in
+    let ne = eqb-false owner 0 parts.0 in
+    taken net (record { owner = owner; nodes = nodes }) o h (omega arith) (not-false (begins_at nodes owner) parts.1) found only

@@ -1,0 +1,256 @@
+-- The neighbours of a router, and what one more link adds to them.
+use Rattle.std.proofs.Common.{◌≡◌, ℕ, suc, zero, ◌+◌, ◌<◌, ◌≤◌, ◌==◌, Bool, true, false, cond, ◌&&◌, ◌||◌, List, [], ◌∷◌, ◌++◌, length, refl, ap, sym, ◌∙◌, inl, inr, arith, nat_lt, Option, Some, None, is_some, find, filter_map, option_map, IfSome, insert}
+use Rattle.std.specs.List.{range_with_len, list_any, AllByRecursion, cons_option, position_or_len}
+use Rattle.std.proofs.lemmas.Bool.{cases_Bool, cases_eq, eq-eqb, lt-ltb, le-ltb, ne_eqb, and_left, and_right, false_from_ne_true}
+use Rattle.std.proofs.Math.Bool.{or_comm}
+use Rattle.tw_model.specs.declared.net.Hop.{Hop}
+use Rattle.tw_model.specs.declared.net.Link.{Link}
+use Rattle.tw_model.specs.Net.{Net, hop_to, hops_of, joins}
+use Rattle.tw_model.specs.Rules.{is_linked}
+use Rattle.tw_instance.specs.Hops.{AreRising}
+use Rattle.tw_instance.specs.Tables.{with_hop}
+
+or_from_both : (a b : Bool) → a ≡ false → b ≡ false → (a || b) ≡ false
+or_from_both a b f g = rw (f, g) refl
+
+-- ---- hops that are listed by their number
+
+-- h gives of each number a hop of that number, or none
+abbrev pub IsNamed : (ℕ → Option Hop) → Type 0
+IsNamed h = (w : ℕ) → IfSome (h w) (λ x. x.peer ≡ w)
+
+-- the hops of so many numbers from a on
+abbrev pub hops_from : (ℕ → Option Hop) → ℕ → ℕ → List Hop
+hops_from h a n = filter_map h (range_with_len a n)
+
+joined : (P : Hop → Type 0) (o : Option Hop) (xs : List Hop) → IfSome o P → AllByRecursion P xs → AllByRecursion P (cons_option o xs)
+joined P None xs p all = all
+joined P (Some x) xs p all = (p, all)
+
+-- what holds of the hop of each number from a on holds of each of them
+pub all_from : (P : Hop → Type 0) (h : ℕ → Option Hop) (n a : ℕ) → ((w : ℕ) → a ≤ w → w < a + n → IfSome (h w) P) → AllByRecursion P (hops_from h a n)
+all_from P h zero a each = tt
+all_from P h (suc n) a each =
+    let rest = all_from P h n (a + 1) (λ w low high. each w (omega arith) (omega arith)) in
+    joined P (h a) (hops_from h (a + 1) n) (each a (omega arith) (omega arith)) rest
+
+pub if_some_weaker : (P Q : Hop → Type 0) → ((x : Hop) → P x → Q x) → (o : Option Hop) → IfSome o P → IfSome o Q
+if_some_weaker P Q f None h = tt
+if_some_weaker P Q f (Some x) h = f x h
+
+rising_on : (o : Option Hop) (a : ℕ) (xs : List Hop) → IfSome o (λ x. x.peer ≡ a) → ((x : Hop) → x.peer ≡ a → AllByRecursion (λ y. x.peer < y.peer) xs) → AreRising xs → AreRising (cons_option o xs)
+rising_on None a xs e above rest = rest
+rising_on (Some x) a xs e above rest = (above x e, rest)
+
+pub rising_from : (h : ℕ → Option Hop) → IsNamed h → (n a : ℕ) → AreRising (hops_from h a n)
+rising_from h named zero a = tt
+rising_from h named (suc n) a =
+    rising_on (h a) a (hops_from h (a + 1) n) (named a)
+    (λ x e. all_from (λ y. x.peer < y.peer) h n (a + 1) (λ w low high. if_some_weaker (λ y. y.peer ≡ w) (λ y. x.peer < y.peer) (λ y k. omega arith) (h w) (named w)))
+    (rising_from h named n (a + 1))
+
+-- ---- a hop in its place among others in rising number
+
+pub length-with_hop : (x : Hop) (ys : List Hop) → length (with_hop x ys) ≡ suc (length ys)
+length-with_hop x [] = refl
+length-with_hop x (y ∷ ys) =
+    elim (cases_Bool (nat_lt x.peer y.peer)) [
+      | inl t ↦ rw t refl
+      | inr f ↦ rw f (ap suc (length-with_hop x ys))
+    ]
+
+insert_next : (y x : Hop) (n : ℕ) (ys : List Hop) → insert (y ∷ ys) (1 + n) x ≡ y ∷ insert ys n x
+insert_next y x n ys = let e : 1 + n ≡ suc n = omega arith in rw e refl
+
+-- it stands before the first of a higher number
+pub insert_hop : (x : Hop) (ys : List Hop) → insert ys (position_or_len (λ y. nat_lt x.peer y.peer) ys) x ≡ with_hop x ys
+insert_hop x [] = refl
+insert_hop x (y ∷ ys) =
+    elim (cases_Bool (nat_lt x.peer y.peer)) [
+      | inl t ↦ rw t refl
+      | inr f ↦ rw f (insert_next y x (position_or_len (λ z. nat_lt x.peer z.peer) ys) ys ∙ ap (λ zs. y ∷ zs) (insert_hop x ys))
+    ]
+
+before_all : (x : Hop) (ys : List Hop) → AllByRecursion (λ y. x.peer < y.peer) ys → with_hop x ys ≡ x ∷ ys
+before_all x [] h = refl
+before_all x (y ∷ ys) h = rw (lt-ltb x.peer y.peer h.0) refl
+
+after_lower : (o : Option Hop) (x : Hop) (xs : List Hop) → IfSome o (λ y. y.peer < x.peer) → with_hop x (cons_option o xs) ≡ cons_option o (with_hop x xs)
+after_lower None x xs h = refl
+after_lower (Some y) x xs h = rw (le-ltb x.peer y.peer (omega arith)) refl
+
+hops_same : (h k : ℕ → Option Hop) (n a : ℕ) → ((w : ℕ) → a ≤ w → k w ≡ h w) → hops_from k a n ≡ hops_from h a n
+hops_same h k zero a same = refl
+hops_same h k (suc n) a same = rw (same a (omega arith)) (ap (cons_option (h a)) (hops_same h k n (a + 1) (λ w low. same w (omega arith))))
+
+-- where only the hop of b is new, it comes in its place
+pub hops_more : (h k : ℕ → Option Hop) → IsNamed h → (b : ℕ) (x : Hop) → x.peer ≡ b → h b ≡ None → k b ≡ Some x → ((w : ℕ) → (w ≡ b → ⊥) → k w ≡ h w)
+    → (n a : ℕ) → a ≤ b → b < a + n → hops_from k a n ≡ with_hop x (hops_from h a n)
+hops_more h k named b x e none some same zero a low high = absurd (omega arith)
+hops_more h k named b x e none some same (suc n) a low high =
+    elim (cases_eq a b) [
+      | inl here ↦
+          (let none' : h a ≡ None = ap h here ∙ none in
+          let some' : k a ≡ Some x = ap k here ∙ some in
+          let rest = hops_same h k n (a + 1) (λ w from. same w (λ i. let j : w ≡ b = i in omega arith)) in
+          let above = all_from (λ y. x.peer < y.peer) h n (a + 1) (λ w from below. if_some_weaker (λ y. y.peer ≡ w) (λ y. x.peer < y.peer) (λ y i. omega arith) (h w) (named w)) in
+          rw (none', some') (ap (λ xs. x ∷ xs) rest ∙ sym (before_all x (hops_from h (a + 1) n) above)))
+      | inr other ↦
+          (let lower = if_some_weaker (λ y. y.peer ≡ a) (λ y. y.peer < x.peer) (λ y i. let ne : a ≡ b → ⊥ = other in omega arith) (h a) (named a) in
+          let rest = hops_more h k named b x e none some same n (a + 1) (let ne : a ≡ b → ⊥ = other in omega arith) (omega arith) in
+          rw (same a other) (ap (cons_option (h a)) rest ∙ sym (after_lower (h a) x (hops_from h (a + 1) n) lower)))
+    ]
+
+-- ---- a search among them
+
+any_joined : (o : Option Hop) (w : ℕ) (xs : List Hop) → IfSome o (λ x. x.peer ≡ w → ⊥) → list_any (λ x. x.peer == w) (cons_option o xs) ≡ list_any (λ x. x.peer == w) xs
+any_joined None w xs h = refl
+any_joined (Some x) w xs h = rw (ne_eqb x.peer w h) refl
+
+any_first : (o : Option Hop) (w : ℕ) (xs : List Hop) → IfSome o (λ x. x.peer ≡ w) → list_any (λ x. x.peer == w) xs ≡ false → list_any (λ x. x.peer == w) (cons_option o xs) ≡ is_some o
+any_first None w xs h none = none
+any_first (Some x) w xs h none = rw (eq-eqb x.peer w h) refl
+
+none_from : (h : ℕ → Option Hop) → IsNamed h → (w n a : ℕ) → w < a → list_any (λ x. x.peer == w) (hops_from h a n) ≡ false
+none_from h named w zero a low = refl
+none_from h named w (suc n) a low =
+    any_joined (h a) w (hops_from h (a + 1) n) (if_some_weaker (λ x. x.peer ≡ a) (λ x. x.peer ≡ w → ⊥) (λ x i j. omega arith) (h a) (named a))
+    ∙ none_from h named w n (a + 1) (omega arith)
+
+pub none_past : (h : ℕ → Option Hop) → IsNamed h → (w n a : ℕ) → a + n ≤ w → list_any (λ x. x.peer == w) (hops_from h a n) ≡ false
+none_past h named w zero a out = refl
+none_past h named w (suc n) a out =
+    any_joined (h a) w (hops_from h (a + 1) n) (if_some_weaker (λ x. x.peer ≡ a) (λ x. x.peer ≡ w → ⊥) (λ x i j. omega arith) (h a) (named a))
+    ∙ none_past h named w n (a + 1) (omega arith)
+
+-- w is among them where h gives a hop of w
+pub any_from : (h : ℕ → Option Hop) → IsNamed h → (w n a : ℕ) → a ≤ w → w < a + n → list_any (λ x. x.peer == w) (hops_from h a n) ≡ is_some (h w)
+any_from h named w zero a low high = absurd (omega arith)
+any_from h named w (suc n) a low high =
+    elim (cases_eq a w) [
+      | inl here ↦ (let first : IfSome (h a) (λ x. x.peer ≡ w) = if_some_weaker (λ x. x.peer ≡ a) (λ x. x.peer ≡ w) (λ x i. i ∙ here) (h a) (named a) in
+          any_first (h a) w (hops_from h (a + 1) n) first (none_from h named w n (a + 1) (omega arith)) ∙ ap (λ v. is_some (h v)) here)
+      | inr other ↦
+          (any_joined (h a) w (hops_from h (a + 1) n) (if_some_weaker (λ x. x.peer ≡ a) (λ x. x.peer ≡ w → ⊥) (λ x i j. other (sym i ∙ j)) (h a) (named a))
+          ∙ any_from h named w n (a + 1) (let ne : a ≡ w → ⊥ = other in omega arith) (omega arith))
+    ]
+
+pub same_truth : (a b : Bool) → (a ≡ true → b ≡ true) → (b ≡ true → a ≡ true) → a ≡ b
+same_truth true b f g = sym (f refl)
+same_truth false b f g = sym (false_from_ne_true b (λ t. let h : false ≡ true = g t in cc))
+
+-- ---- of a net
+
+named_of : (o : Option Link) (w : ℕ) → IfSome (option_map (λ l. record { peer = w; delay = l.delay }) o) (λ (x : Hop). x.peer ≡ w)
+named_of None w = tt
+named_of (Some l) w = refl
+
+pub named_hop : (links : List Link) (v w : ℕ) → IfSome (hop_to links v w) (λ x. x.peer ≡ w)
+named_hop links v w = named_of (find (joins v w) links) w
+
+joins_turned : (v w : ℕ) (l : Link) → joins v w l ≡ joins w v l
+joins_turned v w l = or_comm (l.first == v && l.second == w) (l.first == w && l.second == v)
+
+find_turned : (links : List Link) (v w : ℕ) → find (joins v w) links ≡ find (joins w v) links
+find_turned [] v w = refl
+find_turned (l ∷ links) v w = rw (joins_turned v w l) (ap (λ o. cond (joins w v l) (Some l) o) (find_turned links v w))
+
+is_some_hop : (o : Option Link) (w : ℕ) → is_some (option_map (λ l. let h : Hop = record { peer = w; delay = l.delay } in h) o) ≡ is_some o
+is_some_hop None w = refl
+is_some_hop (Some l) w = refl
+
+-- a link that joins them is found exactly where they are linked
+pub found-linked : (links : List Link) (v w : ℕ) → is_some (hop_to links v w) ≡ is_linked links v w
+found-linked [] v w = refl
+found-linked (l ∷ links) v w =
+    elim (cases_Bool (joins v w l)) [
+      | inl t ↦ rw t refl
+      | inr f ↦ rw f (found-linked links v w)
+    ]
+
+pub linked_turned : (links : List Link) (v w : ℕ) → is_linked links v w ≡ is_linked links w v
+linked_turned links v w =
+    sym (found-linked links v w) ∙ (is_some_hop (find (joins v w) links) w ∙ (ap is_some (find_turned links v w) ∙ (sym (is_some_hop (find (joins w v) links) v) ∙ found-linked links w v)))
+
+none_found : {X : Type 0} (o : Option X) → is_some o ≡ false → o ≡ None
+none_found None h = refl
+none_found (Some x) h = absurd (cc)
+
+-- a router is a neighbour exactly where a link joins them
+pub any-linked : (net : Net) (v w : ℕ) → w < net.nodes → list_any (λ x. x.peer == w) (hops_of net v) ≡ is_linked net.links v w
+unfolding hops_of
+any-linked net v w h = any_from (hop_to net.links v) (named_hop net.links v) w net.nodes 0 (omega arith) (omega arith) ∙ found-linked net.links v w
+
+-- ---- one more link
+
+find_more : {X : Type 0} (p : X → Bool) (xs : List X) (y : X) → p y ≡ false → find p (xs ++ y ∷ []) ≡ find p xs
+find_more p [] y h = rw h refl
+find_more p (x ∷ xs) y h = ap (λ o. cond (p x) (Some x) o) (find_more p xs y h)
+
+find_new : {X : Type 0} (p : X → Bool) (xs : List X) (y : X) → p y ≡ true → find p xs ≡ None → find p (xs ++ y ∷ []) ≡ Some y
+find_new p [] y h none = rw h refl
+find_new p (x ∷ xs) y h none =
+    elim (cases_Bool (p x)) [
+      | inl t ↦ let some : Some x ≡ None = rw t at none in absurd (cc)
+      | inr f ↦ rw f (find_new p xs y h (rw f at none))
+    ]
+
+find_none : (links : List Link) (v w : ℕ) → is_linked links v w ≡ false → find (joins v w) links ≡ None
+find_none links v w h = none_found _ (sym (is_some_hop (find (joins v w) links) w) ∙ (found-linked links v w ∙ h))
+
+abbrev hop_for : ℕ → Option Link → Option Hop
+hop_for w o = option_map (λ l. record { peer = w; delay = l.delay }) o
+
+-- a link adds its other end to the neighbours of an end
+pub hops_added : (net : Net) (l : Link) (v w : ℕ) → w < net.nodes → joins v w l ≡ true → ((u : ℕ) → (u ≡ w → ⊥) → joins v u l ≡ false) → is_linked net.links v w ≡ false
+    → hops_of (record net { links = net.links ++ l ∷ [] }) v ≡ with_hop (record { peer = w; delay = l.delay }) (hops_of net v)
+unfolding hops_of
+hops_added net l v w below ends only new =
+    let none = find_none net.links v w new in
+    hops_more (hop_to net.links v) (hop_to (net.links ++ l ∷ []) v) (named_hop net.links v) w (record { peer = w; delay = l.delay }) refl
+    (ap (hop_for w) none)
+    (ap (hop_for w) (find_new (joins v w) net.links l ends none))
+    (λ u ne. ap (hop_for u) (find_more (joins v u) net.links l (only u ne)))
+    net.nodes 0 (omega arith) (omega arith)
+
+-- and none to those of others
+pub hops_kept : (net : Net) (l : Link) (v : ℕ) → ((u : ℕ) → joins v u l ≡ false) → hops_of (record net { links = net.links ++ l ∷ [] }) v ≡ hops_of net v
+unfolding hops_of
+hops_kept net l v none = hops_same (hop_to net.links v) (hop_to (net.links ++ l ∷ []) v) net.nodes 0 (λ u low. ap (hop_for u) (find_more (joins v u) net.links l (none u)))
+
+joins_first : (l : Link) → joins l.first l.second l ≡ true
+joins_first l = rw (eq-eqb l.first l.first refl, eq-eqb l.second l.second refl) refl
+
+joins_first_only : (l : Link) (u : ℕ) → (l.first ≡ l.second → ⊥) → (u ≡ l.second → ⊥) → joins l.first u l ≡ false
+joins_first_only l u apart ne =
+    let a : (l.second == u) ≡ false = ne_eqb l.second u (λ e. ne (sym e)) in
+    let b : (l.second == l.first) ≡ false = ne_eqb l.second l.first (λ e. apart (sym e)) in
+    or_from_both (l.first == l.first && l.second == u) (l.first == u && l.second == l.first) (and_right (l.first == l.first) (l.second == u) a) (and_right (l.first == u) (l.second == l.first) b)
+
+joins_second_only : (l : Link) (u : ℕ) → (l.first ≡ l.second → ⊥) → (u ≡ l.first → ⊥) → joins l.second u l ≡ false
+joins_second_only l u apart ne =
+    or_from_both (l.first == l.second && l.second == u) (l.first == u && l.second == l.second) (and_left (l.first == l.second) (l.second == u) (ne_eqb l.first l.second apart)) (and_left (l.first == u) (l.second == l.second) (ne_eqb l.first u (λ e. ne (sym e))))
+
+joins_apart : (l : Link) (v u : ℕ) → (v ≡ l.first → ⊥) → (v ≡ l.second → ⊥) → joins v u l ≡ false
+joins_apart l v u ne nf =
+    let a : (l.first == v) ≡ false = ne_eqb l.first v (λ e. ne (sym e)) in
+    let b : (l.second == v) ≡ false = ne_eqb l.second v (λ e. nf (sym e)) in
+    or_from_both (l.first == v && l.second == u) (l.first == u && l.second == v) (and_left (l.first == v) (l.second == u) a) (and_right (l.first == u) (l.second == v) b)
+
+-- the neighbours after one more link: its ends have each other
+pub record IsJoined (net : Net) (l : Link) : Type 0 where
+  pub first : hops_of (record net { links = net.links ++ l ∷ [] }) l.first ≡ with_hop (record { peer = l.second; delay = l.delay }) (hops_of net l.first)
+  pub second : hops_of (record net { links = net.links ++ l ∷ [] }) l.second ≡ with_hop (record { peer = l.first; delay = l.delay }) (hops_of net l.second)
+  pub others : (v : ℕ) → (v ≡ l.first → ⊥) → (v ≡ l.second → ⊥) → hops_of (record net { links = net.links ++ l ∷ [] }) v ≡ hops_of net v
+
+pub is_joined : (net : Net) (l : Link) → l.first < net.nodes → l.second < net.nodes → (l.first ≡ l.second → ⊥) → is_linked net.links l.first l.second ≡ false → IsJoined net l
+is_joined net l below below' apart new = record {
+  first = hops_added net l l.first l.second below' (joins_first l) (λ u ne. joins_first_only l u apart ne) new;
+  second = hops_added net l l.second l.first below (joins_turned l.second l.first l ∙ joins_first l) (λ u ne. joins_second_only l u apart ne) (linked_turned net.links l.second l.first ∙ new);
+  others = λ v ne nf. hops_kept net l v (λ u. joins_apart l v u ne nf);
+}
+
+-- no hop to anyone where there is no link
+pub none_there : (n a v : ℕ) → hops_from (hop_to [] v) a n ≡ []
+none_there zero a v = refl
+none_there (suc n) a v = none_there n (a + 1) v

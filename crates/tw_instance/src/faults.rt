@@ -1,0 +1,201 @@
+//! The first rule that an item breaks after those of an instance.
+
+ghost use Rattle.std.specs.Prelude.{◌≡◌, ◌∷◌, ◌==◌, ◌&&◌, ◌||◌, not, nat_le, nat_lt};
+ghost use Rattle.std.specs.List.{list_all, list_any};
+ghost use Rattle.tw_model.specs.Net.{begins_at as begins_at_spec, same_path};
+ghost use Rattle.tw_model.specs.Rules.{degree, ends_at, is_linked as linked, leaves_links as leaving, line_breaks as line_breaks_of, line_fault as line_fault_of, link_breaks as link_breaks_of, link_fault as link_fault_of, lowest, nodes_fault as nodes_fault_of, path_count, repeats as repeating};
+
+use crate::instance::Instance;
+use tw_model::{Hop, Link, PathLine, Rule};
+
+/// The rules in rising order of their codes.
+const RULES: [Rule; 13] = [
+    Rule::Range,
+    Rule::SelfLink,
+    Rule::TwiceLink,
+    Rule::Delay,
+    Rule::PathOwner,
+    Rule::PathEnd,
+    Rule::PathRepeats,
+    Rule::PathNoLink,
+    Rule::TwicePath,
+    Rule::TooMany,
+    Rule::NoSuchLink,
+    Rule::NoSuchPlace,
+    Rule::Time,
+];
+
+pub fn nodes_fault(nodes: u32) -> Option<Rule>
+    ensures { result ≡ nodes_fault_of nodes }
+{
+    if nodes < 1 || 1024 < nodes {
+        return Some(Rule::Range);
+    }
+    None
+}
+
+pub fn link_fault(instance: &Instance, link: &Link) -> Option<Rule>
+    ensures { result ≡ link_fault_of instance.now link.now }
+{
+    first_in_link(instance, link, &RULES)
+}
+
+fn first_in_link(instance: &Instance, link: &Link, rules: &[Rule]) -> Option<Rule>
+    ensures { result ≡ lowest (link_breaks_of instance.now link.now) rules.now }
+{
+    for rule in rules {
+        if link_breaks(instance, link, *rule) {
+            return Some(*rule);
+        }
+    }
+    None
+}
+
+pub fn line_fault(instance: &Instance, path: &PathLine) -> Option<Rule>
+    ensures { result ≡ line_fault_of instance.now path.now }
+{
+    first_in_line(instance, path, &RULES)
+}
+
+fn first_in_line(instance: &Instance, path: &PathLine, rules: &[Rule]) -> Option<Rule>
+    ensures { result ≡ lowest (line_breaks_of instance.now path.now) rules.now }
+{
+    for rule in rules {
+        if line_breaks(instance, path, *rule) {
+            return Some(*rule);
+        }
+    }
+    None
+}
+
+fn link_breaks(instance: &Instance, link: &Link, rule: Rule) -> bool
+    ensures { result ≡ link_breaks_of instance.now link.now rule }
+{
+    match rule {
+        Rule::Range => link.first >= instance.nodes() || link.second >= instance.nodes(),
+        Rule::SelfLink => link.first == link.second,
+        Rule::TwiceLink => is_linked(instance, link.first, link.second),
+        Rule::Delay => link.delay < 1 || 1_000_000 < link.delay,
+        Rule::TooMany => has_all_links(instance, link.first)
+            || has_all_links(instance, link.second),
+        _ => false,
+    }
+}
+
+fn line_breaks(instance: &Instance, path: &PathLine, rule: Rule) -> bool
+    ensures { result ≡ line_breaks_of instance.now path.now rule }
+{
+    let owner = path.owner;
+    let nodes = path.nodes.as_slice();
+    match rule {
+        Rule::Range => owner >= instance.nodes() || !are_below(nodes, instance.nodes()),
+        Rule::PathOwner => is_misowned(owner, nodes),
+        Rule::PathEnd => !ends_at_origin(nodes),
+        Rule::PathRepeats => repeats(nodes),
+        Rule::PathNoLink => leaves_links(instance, nodes),
+        Rule::TwicePath => is_given(instance, owner, nodes),
+        Rule::TooMany => has_all_paths(instance, owner) || nodes.len() > 32,
+        _ => false,
+    }
+}
+
+/// Whether a router has as many links as it may.
+fn has_all_links(instance: &Instance, node: u32) -> bool
+    ensures { result ≡ nat_le 64 (degree instance.now.links node) }
+{
+    instance.hops(node).len() >= 64
+}
+
+/// Whether a router has as many permitted paths as it may.
+fn has_all_paths(instance: &Instance, node: u32) -> bool
+    ensures { result ≡ nat_le 200 (path_count instance.now.lines node) }
+{
+    instance.permitted(node).len() >= 200
+}
+
+/// Whether these nodes were given for the router.
+fn is_given(instance: &Instance, owner: u32, nodes: &[u32]) -> bool
+    ensures { result ≡ list_any (λ q. q.owner == owner && same_path q.nodes nodes.now) instance.now.lines }
+{
+    let number = instance.number(nodes);
+    if is_misowned(owner, nodes) {
+        return false;
+    }
+    number.is_some()
+}
+
+fn is_linked(instance: &Instance, first: u32, second: u32) -> bool
+    ensures { result ≡ linked instance.now.links first second }
+{
+    has_peer(instance.hops(first), second)
+}
+
+fn has_peer(hops: &[Hop], peer: u32) -> bool
+    ensures { result ≡ list_any (λ h. h.peer == peer) hops.now }
+{
+    hops.iter().any(|hop| hop.peer == peer)
+}
+
+fn are_below(nodes: &[u32], count: u32) -> bool
+    ensures { result ≡ list_all (λ v. nat_lt v count) nodes.now }
+{
+    nodes.iter().all(|node| *node < count)
+}
+
+/// Whether these nodes cannot be a path of this owner: it is the origin, or they begin elsewhere.
+fn is_misowned(owner: u32, nodes: &[u32]) -> bool
+    ensures { result ≡ (owner == 0 || not (begins_at_spec nodes.now owner)) }
+{
+    owner == 0 || !begins_at(nodes, owner)
+}
+
+fn begins_at(nodes: &[u32], node: u32) -> bool
+    ensures { result ≡ begins_at_spec nodes.now node }
+{
+    match nodes {
+        [] => false,
+        [first, ..] => *first == node,
+    }
+}
+
+fn ends_at_origin(nodes: &[u32]) -> bool
+    ensures { result ≡ ends_at nodes.now 0 }
+{
+    match nodes {
+        [] => false,
+        [.., last] => *last == 0,
+    }
+}
+
+fn repeats(nodes: &[u32]) -> bool
+    ensures { result ≡ repeating nodes.now }
+{
+    for (i, node) in nodes.iter().enumerate() {
+        if nodes[i + 1..].contains(node) {
+            return true;
+        }
+    }
+    false
+}
+
+fn leaves_links(instance: &Instance, nodes: &[u32]) -> bool
+    ensures { result ≡ leaving instance.now.links nodes.now }
+{
+    match nodes {
+        [] => false,
+        [first, rest @ ..] => leaves_links_from(instance, *first, rest),
+    }
+}
+
+fn leaves_links_from(instance: &Instance, first: u32, rest: &[u32]) -> bool
+    ensures { result ≡ leaving instance.now.links (first ∷ rest.now) }
+{
+    let mut last = first;
+    for node in rest {
+        if !is_linked(instance, last, *node) {
+            return true;
+        }
+        last = *node;
+    }
+    false
+}

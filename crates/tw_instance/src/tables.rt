@@ -1,0 +1,101 @@
+//! Rows of neighbours and of path numbers, one for each router.
+
+ghost use Rattle.std.specs.Prelude.{◌≡◌, ◌≢◌, ◌<◌, ◌≤◌, List, [], ◌∷◌, ◌++◌, length, slice_index_or, slice_set, map, replicate, IfOk, OnErr, OnOk, vec_len, vec_capacity, ◌-◌};
+ghost use Rattle.std.specs.List.{insert, position_or_len};
+ghost use Rattle.std.specs.Prelude.{nat_lt};
+ghost use Rattle.tw_model.specs.Net.{origin_path};
+ghost use Rattle.tw_instance.specs.Tables.{items, row, with_hop};
+
+use std::alloc::{AllocError, Global};
+use tw_event::PathNo;
+use tw_model::{Hop, Link};
+
+pub fn row_of<T>(rows: &[Vec<T>], node: u32) -> &[T]
+    ensures { result.now ≡ row rows.now node }
+{
+    match rows.get(node as usize) {
+        Some(row) => row,
+        None => &[],
+    }
+}
+
+pub fn empty_rows<T: Drop>(alloc: Global, count: u32) -> Result<Vec<Vec<T>>, AllocError>
+    ensures { IfOk result (λ rows. items rows.items ≡ replicate count []) }
+{
+    let mut rows = Vec::new(alloc);
+    for _ in 0..count {
+        rows.push(Vec::new(alloc))?;
+    }
+    Ok(rows)
+}
+
+/// The orders of the routers before any path was given: the origin has (0).
+pub fn opening_orders(alloc: Global, count: u32) -> Result<Vec<Vec<PathNo>>, AllocError>
+    requires { 0 < count }
+    ensures { IfOk result (λ rows. items rows.items ≡ (origin_path ∷ []) ∷ replicate (count - 1) []) }
+{
+    let mut rows = empty_rows(alloc, count)?;
+    rows[0].push(PathNo(1))?;
+    Ok(rows)
+}
+
+/// Makes the two ends of a link neighbours of each other.
+pub fn join(rows: &mut [Vec<Hop>], link: &Link) -> Result<(), AllocError>
+    requires first { link.now.first < length rows.old }
+    requires second { link.now.second < length rows.old }
+    requires apart { link.now.first ≢ link.now.second }
+    ensures ok { OnOk result (items rows.new ≡ slice_set (slice_set (items rows.old)
+        link.now.first (with_hop (record { peer = link.now.second; delay = link.now.delay }) (row rows.old link.now.first)))
+        link.now.second (with_hop (record { peer = link.now.first; delay = link.now.delay }) (row rows.old link.now.second))) }
+    ensures err { OnErr result (items rows.new ≡ items rows.old) }
+{
+    let (first, second) = (link.first as usize, link.second as usize);
+    rows[first].reserve(1)?;
+    rows[second].reserve(1)?;
+    insert_reserved(
+        &mut rows[first],
+        Hop {
+            peer: link.second,
+            delay: link.delay,
+        },
+    );
+    insert_reserved(
+        &mut rows[second],
+        Hop {
+            peer: link.first,
+            delay: link.delay,
+        },
+    );
+    Ok(())
+}
+
+/// Puts a neighbour in its place among others in rising number, where there is room.
+fn insert_reserved(row: &mut Vec<Hop>, hop: Hop)
+    requires { vec_len row.old < vec_capacity row.old }
+    ensures { row.new.items ≡ with_hop hop row.old.items }
+{
+    let place = place_above(row, hop.peer);
+    let _ = row.insert(place, hop);
+}
+
+fn place_above(row: &[Hop], peer: u32) -> usize
+    ensures value { result ≡ position_or_len (λ h. nat_lt peer h.peer) row.now }
+    ensures within { result ≤ length row.now }
+{
+    for (i, hop) in row.iter().enumerate() {
+        if peer < hop.peer {
+            return i;
+        }
+    }
+    row.len()
+}
+
+/// Puts a path number behind those of a router.
+pub fn list(rows: &mut [Vec<PathNo>], node: u32, number: PathNo) -> Result<(), AllocError>
+    requires { node < length rows.old }
+    ensures ok { OnOk result (items rows.new ≡ slice_set (items rows.old) node (row rows.old node ++ number ∷ [])) }
+    ensures err { OnErr result (items rows.new ≡ items rows.old) }
+{
+    rows[node as usize].push(number)?;
+    Ok(())
+}
