@@ -11,3 +11,7 @@ pub mod Openings
 pub mod Lawful
 pub mod Unique
 pub mod Closed
+pub mod Rows
+pub mod LinkHeard
+pub mod LinkTold
+pub mod LinkLast

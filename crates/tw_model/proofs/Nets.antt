@@ -166,12 +166,11 @@ hop_back net is v h k =
     (b, hop_in net h.peer v b e n.here, refl, sym a.1.delay)
 
 -- each neighbour has a higher number than those before it
-Rises : List Hop → Type 0
+abbrev pub Rises : List Hop → Type 0
 Rises [] = Unit {0}
 Rises (h ∷ hs) = ((x : Hop) → In x hs → h.peer < x.peer) × Rises hs
 
 hops_rise : (links : List Link) (v a n : ℕ) → Rises (filter_map (hop_to links v) (range_with_len a n))
-unfolding Rises
 hops_rise links v a zero = tt
 hops_rise links v a (suc n) = at (hop_to links v a) refl (hops_rise links v (a + 1) n) where
   at : (o : Option Hop) → hop_to links v a ≡ o → Rises (filter_map (hop_to links v) (range_with_len (a + 1) n)) → Rises (cons_option o (filter_map (hop_to links v) (range_with_len (a + 1) n)))
@@ -189,11 +188,14 @@ hops_rise links v a (suc n) = at (hop_to links v a) refl (hops_rise links v (a +
   )
 
 rise_pairs : (hs : List Hop) → Rises hs → (i j : ℕ) (d : Hop) → i < j → j < length hs → (get_or hs i d).peer < (get_or hs j d).peer
-unfolding Rises
 rise_pairs [] r i j d l m = absurd (omega arith)
 rise_pairs (h ∷ hs) r i zero d l m = absurd (omega arith)
 rise_pairs (h ∷ hs) r zero (suc j) d l m = r.0 (get_or hs j d) (in_get_or hs j d (omega arith))
 rise_pairs (h ∷ hs) r (suc i) (suc j) d l m = rise_pairs hs r.1 i j d (omega arith) (omega arith)
+
+pub hops_rises : (net : Net) (v : ℕ) → Rises (hops_of net v)
+unfolding hops_of
+hops_rises net v = hops_rise net.links v 0 net.nodes
 
 -- neighbours stand in strictly rising number
 pub hops_rising : (net : Net) (v : ℕ) → AllPairs (λ a b. a.peer < b.peer) (hops_of net v)
@@ -202,7 +204,6 @@ hops_rising net v = rise_pairs (hops_of net v) (hops_rise net.links v 0 net.node
 
 -- the place of a neighbour is its slot
 rise_slot : (hs : List Hop) → Rises hs → (k : ℕ) (d : Hop) → k < length hs → position_or_len (λ h. h.peer == (get_or hs k d).peer) hs ≡ k
-unfolding Rises
 rise_slot [] r k d l = absurd (omega arith)
 rise_slot (h ∷ hs) r zero d l = rw (eq-eqb h.peer h.peer refl) refl
 rise_slot (h ∷ hs) r (suc k) d l =
