@@ -38,7 +38,7 @@ among k ks other (inr h) = h
 
 explains : (ks : Kinds) (e : Error) (fault : LineFault) → HasKind ks e → Tells e fault → Explains ks fault
 explains ks e (Help x) h t = rw t.0 (t.1, among (kind_of e) ks (no_memory (kind_of e) t.1) h)
-explains ks e (Bad x) h t = rw t.0 (t.1, t.2, inl (among (kind_of e) ks t.2 h))
+explains ks e (Bad x) h t = rw t.0 (t.1, t.2, among (kind_of e) ks t.2 h)
 explains ks e Memory h t = tt
 
 explains_if_err : {T : Type 0} (ks : Kinds) (e : Error) (r : Result T LineFault) → HasKind ks e → IsErrAnd r (Tells e)
@@ -51,12 +51,3 @@ pub explains_err : {T : Type 0} (a : App) (words : List Text) (e : Error) (r : R
     → (is_simple_and_free a ≡ true → HasKind (fault_of a words) e) → IsErrAnd r (Tells e)
     → IfErr r (Explains (fault_of twarp_app words))
 explains_err a words e r is h t = explains_if_err (fault_of twarp_app words) e r (refused a words e is h) t
-
-no_answer : (k : ErrorKind) → k ≡ kind.ValueValidation → Answers k → ⊥
-no_answer k e (inl h) = cc
-no_answer k e (inr h) = cc
-
--- an error of our own, at words that the parser takes
-pub unread_explains : (ks : Kinds) (e : Error) → ks ≡ [] → kind_of e ≡ kind.ValueValidation
-    → (let fault : LineFault = Bad e in Explains ks fault)
-unread_explains ks e empty own = (no_answer (kind_of e) own, (λ h. cc), inr (empty, own))

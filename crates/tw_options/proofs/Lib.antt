@@ -1,2 +1,5 @@
 pub mod Faults
+pub mod Fit
+pub mod Kept
 pub mod Read
+pub mod Stop

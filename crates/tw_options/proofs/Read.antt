@@ -1,10 +1,12 @@
 -- What the typed getters of the matches answer, in terms of the rows.
-use Rattle.std.proofs.Common.{◌≡◌, ◌≤◌, ◌<◌, ◌^◌, ◌↔◌, ap, sym, refl, true, false, ℕ, Bool, IsTrue, Option, Some, None, List, codes}
-use Rattle.std.specs.Prelude.{unwrap_or}
-use Rattle.std.specs.Str.Parse.{IsNumeral, ParsesBool, digits_value, without_leading_plus}
+use Rattle.std.proofs.Common.{◌≡◌, ◌↔◌, ◌∙◌, ap, refl, true, false, ℕ, Bool, IsTrue, Option, Some, None, IsSome, subst, List, codes}
+use Rattle.std.specs.Prelude.{Err, Ok, Result, unwrap_or}
+use Rattle.std.specs.Str.Parse.{ParsesBool, ParsesUnsigned}
+use Rattle.clap.specs.Values.{IsUnsignedIn}
 use Rattle.clap.specs.Words.{ReadsOne, Row, Text, one_of, one_text, rows_of}
 use Rattle.clap.specs.declared.parser.matches.Found.{Found}
 use Rattle.clap.proofs.WalkLemmas.{one_text-rows}
+use Rattle.tw_options.specs.Fit.{HasNumber}
 use Rattle.tw_options.specs.Says.{Gives, Sets}
 
 module _ (E : Type 0) where
@@ -26,28 +28,40 @@ module _ (E : Type 0) where
       → Sets id (rows_of f) (unwrap_or r false)
   sets f id r none some = rw (← one_text-rows f id) (sets_if_any (one_text f id) r none some)
 
-module _ (id : Text) (least most : ℕ) (rows : List Row) (n : ℕ) where
-  gives_if_any : (o : Option Text) → o ≡ one_of id rows → (o ≡ None → Some n ≡ None)
-      → ((t : Text) → o ≡ Some t → (IsNumeral 10 (without_leading_plus t) × (digits_value 10 (without_leading_plus t) < 2 ^ 64))
-      × (n ≡ digits_value 10 (without_leading_plus t)))
-      → least ≤ n → n ≤ most → Gives id least most rows n
-  gives_if_any None is none some low high =
-      let bad = none refl in
-      cc
-  gives_if_any (Some t) is none some low high =
-      let read = some t refl in record {
-        text = t;
-        given = sym is;
-        numeral = read.0.0;
-        value = read.1;
-        low = low;
-        high = high;
-      }
+-- a text in the bounds that is read as a number
+gives_text : (E : Type 0) (id t : Text) (least most : ℕ) (rows : List Row) (r : Option ℕ) → one_of id rows ≡ Some t → IsUnsignedIn least most t
+    → ReadsOne {T = ℕ} {E = E} (λ u x. ParsesUnsigned 64 10 u x) t r → (n : ℕ) × (r ≡ Some n) × Gives id least most rows n
+gives_text E id t least most rows (Some n) given passed h = (
+  n,
+  refl,
+  record {
+    text = t;
+    given = given;
+    numeral = passed.0;
+    value = h.1;
+    low = rw h.1 passed.2;
+    high = rw h.1 passed.3;
+  },
+)
+gives_text E id t least most rows None given passed h = absurd (h.1 (passed.0, passed.1))
 
--- a number that was read at an option, in its bounds
-pub gives : (f : Found) (id : Text) (least most n : ℕ) → (one_text f id ≡ None → Some n ≡ None)
-    → ((t : Text) → one_text f id ≡ Some t → (IsNumeral 10 (without_leading_plus t) × (digits_value 10 (without_leading_plus t) < 2 ^ 64))
-    × (n ≡ digits_value 10 (without_leading_plus t)))
-    → least ≤ n → n ≤ most → Gives id least most (rows_of f) n
-gives f id least most n none some low high =
-    gives_if_any id least most (rows_of f) n (one_text f id) (one_text-rows f id) none some low high
+only : (E : Type 0) (G : Text → Result ℕ E → Type 0) (t : Text) (r : Option ℕ)
+    → ((u : Text) (x : Result ℕ E) → G u x → ParsesUnsigned 64 10 u x) → ReadsOne G t r → ReadsOne {T = ℕ} {E = E} (λ u x. ParsesUnsigned 64 10 u x) t r
+only E G t (Some n) reads h = reads t (Ok n) h
+only E G t None reads h = (h.0, reads t (Err h.0) h.1)
+
+-- an option that has a number in the bounds gives it
+pub gives : (E : Type 0) (G : Text → Result ℕ E → Type 0) (f : Found) (id : Text) (least most : ℕ) (r : Option ℕ)
+    → ((u : Text) (x : Result ℕ E) → G u x → ParsesUnsigned 64 10 u x) → ((t : Text) → one_text f id ≡ Some t → ReadsOne G t r)
+    → HasNumber id least most (rows_of f) → (n : ℕ) × (r ≡ Some n) × Gives id least most (rows_of f) n
+gives E G f id least most r reads value has =
+    gives_text E id has.0 least most (rows_of f) r has.1 has.2
+    (only E G has.0 r reads (value has.0 (one_text-rows f id ∙ has.1)))
+
+pub is_some_of : {X : Type 0} (P : X → Type 0) (r : Option X) → (x : X) × (r ≡ Some x) × P x → IsSome r
+is_some_of P r h = rw h.1 refl
+
+pub value_of : {X : Type 0} (P : X → Type 0) (r : Option X) (y : X) → (x : X) × (r ≡ Some x) × P x → r ≡ Some y → P y
+value_of P r y h is =
+    let same : h.0 ≡ y = cc in
+    subst P same h.2

@@ -1,5 +1,5 @@
 -- Why a command line asks for nothing.
-use Rattle.std.specs.Prelude.{◌≡◌, ◌⊎◌, []}
+use Rattle.std.specs.Prelude.{◌≡◌, ◌⊎◌}
 use Rattle.clap.specs.Words.{IsAmong, Kinds, kind_of}
 use Rattle.clap.specs.declared.error.Error.{Error}
 use Rattle.clap.specs.declared.error.kind.ErrorKind.{ErrorKind}
@@ -21,6 +21,5 @@ Tells error Memory = kind_of error ≡ kind.OutOfMemory
 abbrev pub Explains : Kinds → LineFault → Type 0
 Explains kinds (Help e) = Answers (kind_of e) × IsAmong (kind_of e) kinds
 Explains kinds (Bad e) =
-    (Answers (kind_of e) → ⊥) × (kind_of e ≡ kind.OutOfMemory → ⊥)
-    × (IsAmong (kind_of e) kinds ⊎ ((kinds ≡ []) × (kind_of e ≡ kind.ValueValidation)))
+    (Answers (kind_of e) → ⊥) × (kind_of e ≡ kind.OutOfMemory → ⊥) × IsAmong (kind_of e) kinds
 Explains kinds Memory = Unit {0}

@@ -1,3 +1,4 @@
 pub mod App
 pub mod Fault
 pub mod Says
+pub mod Fit

@@ -1,5 +1,6 @@
-ghost use Rattle.std.specs.Prelude.{IfSome, ◌≡◌, ◌↔◌, IsTrue, Some, codes};
-ghost use Rattle.clap.specs.Words.{found_of, one_of, rows_of, subcommand_rows_of};
+ghost use Rattle.std.specs.Prelude.{Some, codes};
+ghost use Rattle.clap.specs.Words.{found_of, rows_of, subcommand_rows_of};
+ghost use Rattle.tw_options.specs.Fit.{HasNumber, HasTrail, IsFit};
 ghost use Rattle.tw_options.specs.Says.{Says, Sets};
 
 use crate::number::{KEEP, ROUTER, STOP};
@@ -28,37 +29,39 @@ pub enum Line {
     },
 }
 
-/// The line of what the parser found; `None` where that has no subcommand of ours, or an option
-/// without its number.
-pub(crate) fn line_of(matches: &ArgMatches<'_>) -> Option<Line>
-    ensures { IfSome result (Says (subcommand_rows_of matches.now)) }
+/// The line of what the parser found.
+pub(crate) fn line_of(matches: &ArgMatches<'_>) -> Line
+    requires { IsFit (subcommand_rows_of matches.now) }
+    ensures { Says (subcommand_rows_of matches.now) result }
 {
-    let (name, given) = matches.subcommand()?;
+    let (name, given) = matches.subcommand().unwrap();
     match name {
-        "check" => Some(Line::Check),
+        "check" => Line::Check,
         "seq" => seq_line(given),
         "trail" => trail_line(given),
-        _ => None,
+        _ => unreachable!(),
     }
 }
 
-fn seq_line(given: &ArgMatches<'_>) -> Option<Line>
-    ensures { IfSome result (λ line. Says (Some (codes "seq", rows_of (found_of given.now))) line) }
+fn seq_line(given: &ArgMatches<'_>) -> Line
+    requires { HasNumber (codes "stop") 1 1000000000 (rows_of (found_of given.now)) }
+    ensures { Says (Some (codes "seq", rows_of (found_of given.now))) result }
 {
-    Some(Line::Seq {
-        stop: STOP.read(given)?,
+    Line::Seq {
+        stop: STOP.read(given),
         log: is_set(given, "log"),
-    })
+    }
 }
 
-fn trail_line(given: &ArgMatches<'_>) -> Option<Line>
-    ensures { IfSome result (λ line. Says (Some (codes "trail", rows_of (found_of given.now))) line) }
+fn trail_line(given: &ArgMatches<'_>) -> Line
+    requires { HasTrail (rows_of (found_of given.now)) }
+    ensures { Says (Some (codes "trail", rows_of (found_of given.now))) result }
 {
-    Some(Line::Trail {
-        router: ROUTER.read(given)? as u32,
-        stop: STOP.read(given)?,
-        keep: KEEP.read(given)?,
-    })
+    Line::Trail {
+        router: ROUTER.read(given) as u32,
+        stop: STOP.read(given),
+        keep: KEEP.read(given),
+    }
 }
 
 // As `get_flag`, whose contract leaves open what it answers where the text is no truth value.

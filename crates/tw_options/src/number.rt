@@ -1,6 +1,7 @@
-ghost use Rattle.std.specs.Prelude.{IfSome, ◌≡◌, false};
+ghost use Rattle.std.specs.Prelude.{◌≡◌, false};
 ghost use Rattle.clap.specs.Words.{found_of, rows_of, rule_of};
 ghost use Rattle.tw_options.specs.App.{number_rule};
+ghost use Rattle.tw_options.specs.Fit.{HasNumber};
 ghost use Rattle.tw_options.specs.Says.{Gives};
 
 use clap::builder::ValueParser;
@@ -56,15 +57,11 @@ impl NumberOption {
             .help(self.help)
     }
 
-    /// The number that was given, if it lies in the bounds.
-    pub(crate) fn read(self, given: &ArgMatches<'_>) -> Option<u64>
-        ensures { IfSome result (Gives self.id.now self.least self.most (rows_of (found_of given.now))) }
+    /// The number that was given.
+    pub(crate) fn read(self, given: &ArgMatches<'_>) -> u64
+        requires { HasNumber self.id.now self.least self.most (rows_of (found_of given.now)) }
+        ensures { Gives self.id.now self.least self.most (rows_of (found_of given.now)) result }
     {
-        let number = given.get_one::<u64>(self.id)?;
-        if self.least <= number && number <= self.most {
-            Some(number)
-        } else {
-            None
-        }
+        given.get_one::<u64>(self.id).unwrap()
     }
 }

@@ -1,0 +1,25 @@
+-- What the parser lets through.
+use Rattle.std.specs.Prelude.{◌≡◌, ◌⊎◌, ℕ, List, Option, Some, None, codes}
+use Rattle.clap.specs.Values.{IsUnsignedIn}
+use Rattle.clap.specs.Words.{Row, Text, one_of}
+
+-- the option id has a text, which is a number in the bounds
+abbrev pub HasNumber : Text → ℕ → ℕ → List Row → Type 0
+HasNumber id least most rows = (text : Text) × (one_of id rows ≡ Some text) × IsUnsignedIn least most text
+
+-- the numbers that `trail` asks for
+pub record HasTrail (rows : List Row) : Type 0 where
+  pub router : HasNumber (codes "router") 0 1023 rows
+  pub stop : HasNumber (codes "stop") 1 1000000000 rows
+  pub keep : HasNumber (codes "keep") 0 1000000000 rows
+
+-- a subcommand of ours was matched, with each option that it requires
+pub record Fits (name : Text) (rows : List Row) : Type 0 where
+  pub known : (name ≡ codes "check") ⊎ ((name ≡ codes "seq") ⊎ (name ≡ codes "trail"))
+  pub seq : name ≡ codes "seq" → HasNumber (codes "stop") 1 1000000000 rows
+  pub trail : name ≡ codes "trail" → HasTrail rows
+
+-- a subcommand was matched, and fits
+abbrev pub IsFit : Option (Text × List Row) → Type 0
+IsFit None = ⊥
+IsFit (Some found) = Fits found.0 found.1
