@@ -1,3 +1,4 @@
 pub mod Record
 pub mod Send
 pub mod Undo
+pub mod Trail

@@ -7,9 +7,11 @@ mod handling;
 mod record;
 mod send;
 mod settle;
+mod trail;
 mod undoing;
 
 pub use fault::Fault;
 pub use handling::handle;
 pub use record::UndoRecord;
+pub use trail::Trail;
 pub use undoing::undo;

@@ -132,7 +132,7 @@ fn send_restored(
 }
 
 /// Puts the router into the state from which the event led.
-fn go_back(instance: &Instance, router: &mut Router<'_>, event: &Event, note: UndoRecord)
+pub(crate) fn go_back(instance: &Instance, router: &mut Router<'_>, event: &Event, note: UndoRecord)
     requires own { instance.now ≡ router.old.net }
     requires fits { IsTrue (fits router.old.net router.old.node event.now) }
     requires rib { IsPath router.old.net note.rib }
