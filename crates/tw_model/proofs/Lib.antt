@@ -15,3 +15,6 @@ pub mod Rows
 pub mod LinkHeard
 pub mod LinkTold
 pub mod LinkLast
+pub mod Settled
+pub mod Agreed
+pub mod Quiet

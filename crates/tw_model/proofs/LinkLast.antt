@@ -20,10 +20,10 @@ use Rattle.tw_model.proofs.Sends.{tells_effect}
 use Rattle.tw_model.proofs.LinkHeard.{Change, Falls, Line, agree_along, change_along, line_along, row_along, row_state, rows_full, since_soon, taken, raised, lowered, nothing}
 use Rattle.tw_model.proofs.LinkTold.{IsTold, Tell, tell_effect, told, untold}
 
-same_cmp : (m n : ℕ) → m ≡ n → nat_cmp m n ≡ Equal
+pub same_cmp : (m n : ℕ) → m ≡ n → nat_cmp m n ≡ Equal
 same_cmp m n e = rw (le-ltb m n (omega arith), eq-eqb m n e) refl
 
-less_cmp : (m n : ℕ) → m < n → nat_cmp m n ≡ Less
+pub less_cmp : (m n : ℕ) → m < n → nat_cmp m n ≡ Less
 less_cmp m n h = rw (lt-ltb m n h) refl
 
 -- of two updates from one router to another the earlier sent comes first, unless it arrives later
@@ -47,11 +47,10 @@ pub older_history : (net : Net) (a : ℕ) (e : Event) (h : List Event) → IsHis
 older_history net a e h is = record { home = λ x k. is.home x (inr k); suit = λ x k. is.suit x (inr k); falls = is.falls.1 }
 
 module _ (case : Case) (is : IsCase case) (a b : ℕ) (there : has_peer case.net a b ≡ true) where
-  delay : ℕ
+  abbrev pub delay : ℕ
   delay = (hop case.net a (slot case.net a b)).delay
 
   delay_least : 1 ≤ delay
-  unfolding delay
   delay_least =
       (neighbour case.net is.net a (hop case.net a (slot case.net a b)) (hop_in_hops case.net a (slot case.net a b) (ltb-true (slot case.net a b) (length (hops_of case.net a)) there))).least
 
@@ -64,7 +63,7 @@ module _ (case : Case) (is : IsCase case) (a b : ℕ) (there : has_peer case.net
       (tell_effect case.net a b there (state (simulation case) a h) e (rows_full case a h (λ x k. his.home x (inr k))) (his.suit e (inl refl)))
 
   -- an update that was sent to b in a history of events up to time t
-  record WasSent (t : ℕ) (h : List Event) (x : Event) : Type 0 where
+  pub record WasSent (t : ℕ) (h : List Event) (x : Event) : Type 0 where
     pub src : x.src ≡ a
     pub time : x.time ≤ t + delay
     pub seq : x.seq < (state (simulation case) a h).counters.sent
@@ -75,14 +74,13 @@ module _ (case : Case) (is : IsCase case) (a b : ℕ) (there : has_peer case.net
   was_told : (t : ℕ) (e : Event) (h : List Event) → IsHistory case.net a (e ∷ h) → e.time ≤ t → (before after : State) (sends : List Event)
       → Tell case.net a b there e.time before after sends → (x : Event) → In x sends → x.dst ≡ b
       → (x.src ≡ a) × (x.time ≤ t + delay) × ((q : PathNo) × (n : ℕ) × (x.body ≡ Update q n))
-  unfolding delay
   was_told t e h his soon before after sends (told u i is only) x k d =
       let same = only x k d in
       let time : x.time ≡ e.time + (hop case.net a (slot case.net a b)).delay = ap (λ z. z.time) same ∙ is.time in
       (ap (λ z. z.src) same ∙ is.src, omega arith, (after.rib, (row after (slot case.net a b)).session, ap (λ z. z.body) same ∙ is.body))
   was_told t e h his soon before after sends (untold none kept) x k d = absurd (none x k d)
 
-  was_sent : (t : ℕ) (h : List Event) → IsHistory case.net a h → ((e : Event) → In e h → e.time ≤ t) → (x : Event) → In x (sent (simulation case) a h) → x.dst ≡ b → WasSent t h x
+  pub was_sent : (t : ℕ) (h : List Event) → IsHistory case.net a h → ((e : Event) → In e h → e.time ≤ t) → (x : Event) → In x (sent (simulation case) a h) → x.dst ≡ b → WasSent t h x
   was_sent t [] his soon x i d = absurd i
   was_sent t (e ∷ h) his soon x i d =
       let tells = tells_effect case is.net e.dst (state (simulation case) a h) e in
@@ -119,7 +117,6 @@ module _ (case : Case) (is : IsCase case) (a b : ℕ) (there : has_peer case.net
       → IsTold case.net a b there e.time (state (simulation case) a h) (state (simulation case) a (e ∷ h)) u
       → ((y : Event) → In y ((simulation case).sends (state (simulation case) a h) e) → y.dst ≡ b → y ≡ u)
       → IsLast (e ∷ h) (state (simulation case) a (e ∷ h)).rib (line_along b (e ∷ h))
-  unfolding delay
   last_new e h his u i tells only =
       let rows = row_state case a b there (e ∷ h) his.home in
       let session : (row (state (simulation case) a (e ∷ h)) (slot case.net a b)).session ≡ (line_along b (e ∷ h)).session

@@ -53,7 +53,7 @@ one_place n (p ∷ ps) r x y (inr i) (inl j) e =
 one_place n (p ∷ ps) r x y (inr i) (inr j) e = one_place (n + 1) ps r.1 x y i j e
 
 -- the row beside a neighbour is that of its slot
-zip_row : (hs : List Hop) (rs : List Row) → Rises hs → (p : Hop × Row) → In p (zip hs rs)
+pub zip_row : (hs : List Hop) (rs : List Row) → Rises hs → (p : Hop × Row) → In p (zip hs rs)
     → (p.0 ≡ get_or hs (position_or_len (λ h. h.peer == p.0.peer) hs) no_hop) × (p.1 ≡ get_or rs (position_or_len (λ h. h.peer == p.0.peer) hs) no_row)
 zip_row [] rs r p i = absurd i
 zip_row (h ∷ hs) [] r p i = absurd i

@@ -177,6 +177,11 @@ module _ {X Y : Type 0} where
         | inr k ↦ (let r = in_flat_map f y xs k in (r.0, r.1, inr r.2))
       ]
 
+  pub in_flat_mapped : (f : X → List Y) (x : X) (y : Y) (xs : List X) → In y (f x) → In x xs → In y (flat_map f xs)
+  in_flat_mapped f x y (z ∷ xs) h (inl e) = in_left y (f z) (flat_map f xs) (subst (λ w. In y (f w)) e h)
+  in_flat_mapped f x y (z ∷ xs) h (inr k) = in_right y (f z) (flat_map f xs) (in_flat_mapped f x y xs h k)
+  in_flat_mapped f x y [] h k = absurd k
+
 pub in_range : (k a n : ℕ) → In k (range_with_len a n) → (a ≤ k) × (k < a + n)
 in_range k a zero h = absurd h
 in_range k a (suc n) (inl e) = (omega arith, omega arith)

@@ -1,0 +1,227 @@
+-- When a run is over, both ends of a link have handled the same failures and repairs of it, in the same order.
+use Rattle.std.proofs.Common.{◌≡◌, ℕ, ◌==◌, Bool, true, false, List, [], ◌∷◌, map, filter, refl, ap, sym, ◌∙◌, subst, inl, inr}
+use Rattle.std.specs.List.{enumerate_from}
+use Rattle.std.specs.Ordering.{is_lt}
+use Rattle.std.specs.declared.cmp.Ordering.TheVariants.{Equal}
+use Rattle.std.proofs.lemmas.Bool.{cases_Bool, false≢true, eqb-true, eq-eqb}
+use Rattle.tw_event.specs.declared.event.Body.{Body}
+use Rattle.tw_event.specs.declared.event.Body.TheVariants.{Start, Fail, Restore, Swap, Update}
+use Rattle.tw_event.specs.declared.event.Event.{Event}
+use Rattle.tw_event.specs.Order.{body_cmp, class_of, event_before, event_cmp}
+use Rattle.tw_event.proofs.Order.{same_is, same_self}
+use Rattle.tw_model.specs.declared.case.Scene.{Scene}
+use Rattle.tw_model.specs.declared.case.Scene.TheVariants as scene
+use Rattle.tw_model.specs.Sim.{IsFalling}
+use Rattle.tw_model.specs.Case.{Case, IsCase, opening_event, opening_events, scene_events, simulation}
+use Rattle.tw_model.proofs.Members.{In, in_filter, in_filtered, in_flat_mapped, in_map, in_mapped, in_times, times_in}
+use Rattle.tw_model.proofs.Openings.{opening_of}
+use Rattle.tw_model.proofs.Unique.{same_falling}
+use Rattle.tw_model.proofs.Lawful.{lawful}
+use Rattle.tw_model.proofs.LinkHeard.{Falls, Line, line_after, line_along}
+use Rattle.tw_model.proofs.LinkLast.{same_cmp}
+
+-- whether the body is a failure or a repair of the link to w
+abbrev pub about : ℕ → Body → Bool
+about w Start = false
+about w (Fail x) = x == w
+about w (Restore x) = x == w
+about w (Swap i j) = false
+about w (Update q n) = false
+
+-- the same failure or repair, of the link to w
+abbrev pub turn_to : ℕ → Body → Body
+turn_to w Start = Start
+turn_to w (Fail x) = Fail w
+turn_to w (Restore x) = Restore w
+turn_to w (Swap i j) = Swap i j
+turn_to w (Update q n) = Update q n
+
+-- the event as it happens at v, the other end of the link to w
+abbrev pub mirror : ℕ → ℕ → Event → Event
+mirror v w e = record { time = e.time; dst = v; src = v; seq = e.seq; body = turn_to w e.body }
+
+abbrev pub marks : ℕ → List Event → List Event
+marks w h = filter (λ e. about w e.body) h
+
+-- other events leave the link alone
+other_after : (w t : ℕ) (b : Body) (l : Line) → about w b ≡ false → line_after w t b l ≡ l
+other_after w t Start l h = refl
+other_after w t (Fail x) l h = rw h refl
+other_after w t (Restore x) l h = rw h refl
+other_after w t (Swap i j) l h = refl
+other_after w t (Update q n) l h = refl
+
+line_marks : (w : ℕ) (h : List Event) → line_along w h ≡ line_along w (marks w h)
+line_marks w [] = refl
+line_marks w (e ∷ h) =
+    elim (cases_Bool (about w e.body)) [
+      | inl b ↦ rw b (ap (line_after w e.time e.body) (line_marks w h))
+      | inr b ↦ rw b (other_after w e.time e.body (line_along w h) b ∙ line_marks w h)
+    ]
+
+turned_after : (v w t : ℕ) (b : Body) (l : Line) → about v b ≡ true → line_after v t b l ≡ line_after w t (turn_to w b) l
+turned_after v w t Start l h = cc
+turned_after v w t (Fail x) l h = rw (h, eq-eqb w w refl) refl
+turned_after v w t (Restore x) l h = rw (h, eq-eqb w w refl) refl
+turned_after v w t (Swap i j) l h = cc
+turned_after v w t (Update q n) l h = cc
+
+line_mirror : (v w : ℕ) (xs : List Event) → ((e : Event) → In e xs → about v e.body ≡ true) → line_along v xs ≡ line_along w (map (mirror v w) xs)
+line_mirror v w [] all = refl
+line_mirror v w (e ∷ xs) all =
+    ap (line_after v e.time e.body) (line_mirror v w xs (λ x k. all x (inr k))) ∙ turned_after v w e.time e.body (line_along w (map (mirror v w) xs)) (all e (inl refl))
+
+-- an event of router w about its link to v
+pub record IsMark (w v : ℕ) (e : Event) : Type 0 where
+  pub dst : e.dst ≡ w
+  pub src : e.src ≡ w
+  pub about : about v e.body ≡ true
+
+turned_class : (w : ℕ) (b : Body) → class_of (turn_to w b) ≡ class_of b
+turned_class w Start = refl
+turned_class w (Fail x) = refl
+turned_class w (Restore x) = refl
+turned_class w (Swap i j) = refl
+turned_class w (Update q n) = refl
+
+about_cmp : (v : ℕ) (b c : Body) → about v b ≡ true → about v c ≡ true → body_cmp b c ≡ Equal
+about_cmp v (Fail x) (Fail y) h k = same_cmp x y (eqb-true x v h ∙ sym (eqb-true y v k))
+about_cmp v (Restore x) (Restore y) h k = same_cmp x y (eqb-true x v h ∙ sym (eqb-true y v k))
+about_cmp v (Swap i j) (Swap k l) h m = absurd (false≢true h)
+about_cmp v (Update q n) (Update p m) h k = absurd (false≢true h)
+about_cmp v b c h k = refl
+
+turned_about : (v w : ℕ) (b : Body) → about v b ≡ true → about w (turn_to w b) ≡ true
+turned_about v w (Fail x) h = eq-eqb w w refl
+turned_about v w (Restore x) h = eq-eqb w w refl
+turned_about v w Start h = h
+turned_about v w (Swap i j) h = h
+turned_about v w (Update q n) h = h
+
+-- at the other end they come in the same order
+mirror_cmp : (v w : ℕ) (x y : Event) → IsMark w v x → IsMark w v y → event_cmp (mirror v w x) (mirror v w y) ≡ event_cmp x y
+mirror_cmp v w x y m n =
+    let dst = same_cmp x.dst y.dst (m.dst ∙ sym n.dst) in
+    let src = same_cmp x.src y.src (m.src ∙ sym n.src) in
+    let body = about_cmp v x.body y.body m.about n.about in
+    let turned = about_cmp w (turn_to w x.body) (turn_to w y.body) (turned_about v w x.body m.about) (turned_about v w y.body n.about) in
+    rw (dst, src, body, turned, same_cmp v v refl, turned_class w x.body, turned_class w y.body) refl
+
+turned_back : (v w : ℕ) (b : Body) → about v b ≡ true → turn_to v (turn_to w b) ≡ b
+turned_back v w (Fail x) h = ap Fail (sym (eqb-true x v h))
+turned_back v w (Restore x) h = ap Restore (sym (eqb-true x v h))
+turned_back v w Start h = refl
+turned_back v w (Swap i j) h = refl
+turned_back v w (Update q n) h = refl
+
+mirror_back : (v w : ℕ) (e : Event) → IsMark w v e → mirror w v (mirror v w e) ≡ e
+mirror_back v w e m =
+    let body = turned_back v w e.body m.about in
+    let dst = m.dst in
+    let src = m.src in
+    λ i. record { time = e.time; dst = sym dst i; src = sym src i; seq = e.seq; body = body i }
+
+mirror_mark : (v w : ℕ) (e : Event) → IsMark w v e → IsMark v w (mirror v w e)
+mirror_mark v w e m = record { dst = refl; src = refl; about = turned_about v w e.body m.about }
+
+-- a scenario line about a link opens with an event at each end
+mirror_scene : (v w n : ℕ) (s : Scene) (e : Event) → In e (scene_events n s) → IsMark w v e → In (mirror v w e) (scene_events n s)
+mirror_scene v w n (scene.Fail t a b) e (inl is) m =
+    let here : a ≡ w = sym (ap (λ z. z.dst) is) ∙ m.dst in
+    let there : b ≡ v = eqb-true b v (subst (λ z. about v z.body ≡ true) is m.about) in
+    inr (inl (ap (mirror v w) is ∙ (λ i. opening_event n t (sym there i) (Fail (sym here i)))))
+mirror_scene v w n (scene.Fail t a b) e (inr (inl is)) m =
+    let here : b ≡ w = sym (ap (λ z. z.dst) is) ∙ m.dst in
+    let there : a ≡ v = eqb-true a v (subst (λ z. about v z.body ≡ true) is m.about) in
+    inl (ap (mirror v w) is ∙ (λ i. opening_event n t (sym there i) (Fail (sym here i))))
+mirror_scene v w n (scene.Restore t a b) e (inl is) m =
+    let here : a ≡ w = sym (ap (λ z. z.dst) is) ∙ m.dst in
+    let there : b ≡ v = eqb-true b v (subst (λ z. about v z.body ≡ true) is m.about) in
+    inr (inl (ap (mirror v w) is ∙ (λ i. opening_event n t (sym there i) (Restore (sym here i)))))
+mirror_scene v w n (scene.Restore t a b) e (inr (inl is)) m =
+    let here : b ≡ w = sym (ap (λ z. z.dst) is) ∙ m.dst in
+    let there : a ≡ v = eqb-true a v (subst (λ z. about v z.body ≡ true) is m.about) in
+    inl (ap (mirror v w) is ∙ (λ i. opening_event n t (sym there i) (Restore (sym here i))))
+mirror_scene v w n (scene.Swap t x i j) e (inl is) m =
+    absurd (false≢true (subst (λ z. about v z.body ≡ true) is m.about))
+mirror_scene v w n (scene.Fail t a b) e (inr (inr z)) m = absurd z
+mirror_scene v w n (scene.Restore t a b) e (inr (inr z)) m = absurd z
+mirror_scene v w n (scene.Swap t x i j) e (inr z) m = absurd z
+
+module _ (case : Case) (is : IsCase case) where
+  mirror_opening : (v w : ℕ) (e : Event) → In e (opening_events case.scenes) → IsMark w v e → In (mirror v w e) (opening_events case.scenes)
+  mirror_opening v w e h m =
+      elim (opening_of case is e h) [
+        | inl start ↦ absurd (false≢true (subst (λ z. about v z.body ≡ true) start m.about))
+        | inr o ↦ inr (in_flat_mapped (λ l. scene_events l.0 l.1) o.0 (mirror v w e) (enumerate_from 1 case.scenes) (mirror_scene v w o.0.0 o.0.1 e o.2 m) o.1)
+      ]
+
+  pub falling_from : (xs : List Event) → Falls xs → IsFalling (simulation case) xs
+  falling_from [] f = tt
+  falling_from (x ∷ xs) f = ((λ e k. f.0 e (in_times (simulation case) same_is e xs k)), falling_from xs f.1)
+
+  pub falls_from : (xs : List Event) → IsFalling (simulation case) xs → Falls xs
+  falls_from [] f = tt
+  falls_from (x ∷ xs) f = ((λ e k. f.0 e (times_in (simulation case) same_self e xs k)), falls_from xs f.1)
+
+  same_falls : (xs ys : List Event) → Falls xs → Falls ys → ((e : Event) → In e xs → In e ys) → ((e : Event) → In e ys → In e xs) → xs ≡ ys
+  same_falls xs ys f g to back =
+      same_falling (simulation case) (lawful case is) xs ys (falling_from xs f) (falling_from ys g)
+      (λ e k. times_in (simulation case) same_self e ys (to e (in_times (simulation case) same_is e xs k)))
+      (λ e k. times_in (simulation case) same_self e xs (back e (in_times (simulation case) same_is e ys k)))
+
+  falls-filter : (p : Event → Bool) (xs : List Event) → Falls xs → Falls (filter p xs)
+  falls-filter p [] f = tt
+  falls-filter p (x ∷ xs) f =
+      elim (cases_Bool (p x)) [
+        | inl b ↦ rw b ((λ e k. f.0 e (in_filter p e xs k).1), falls-filter p xs f.1)
+        | inr b ↦ rw b (falls-filter p xs f.1)
+      ]
+
+  falls-mirror : (v w : ℕ) (xs : List Event) → ((e : Event) → In e xs → IsMark w v e) → Falls xs → Falls (map (mirror v w) xs)
+  falls-mirror v w [] all f = tt
+  falls-mirror v w (x ∷ xs) all f = (
+    (λ e k.
+        let o = in_map (mirror v w) e xs k in
+        subst (λ z. event_before z (mirror v w x) ≡ true) (sym o.1) (ap is_lt (mirror_cmp v w o.0 x (all o.0 (inr o.2)) (all x (inl refl))) ∙ f.0 o.0 o.2)),
+    falls-mirror v w xs (λ e k. all e (inr k)) f.1,
+  )
+
+  -- the history of a router that has handled all its opening events
+  pub record HasOpened (r : ℕ) (h : List Event) : Type 0 where
+    pub falls : Falls h
+    pub home : (e : Event) → In e h → e.dst ≡ r
+    pub opened : (e : Event) → In e (opening_events case.scenes) → e.dst ≡ r → In e h
+    pub links : (e : Event) (x : ℕ) → In e h → about x e.body ≡ true → In e (opening_events case.scenes)
+
+  opening_source : (e : Event) (v : ℕ) → about v e.body ≡ true → In e (opening_events case.scenes) → e.src ≡ e.dst
+  opening_source e v a h =
+      elim (opening_of case is e h) [
+        | inl start ↦ absurd (false≢true (subst (λ z. about v z.body ≡ true) start a))
+        | inr o ↦ o.3.src
+      ]
+
+  mark_of : (r x : ℕ) (h : List Event) → HasOpened r h → (e : Event) → In e (marks x h) → IsMark r x e × In e (opening_events case.scenes)
+  mark_of r x h has e k =
+      let f = in_filter (λ z. about x z.body) e h k in
+      let home = has.home e f.1 in
+      let o = has.links e x f.1 f.0 in
+      (record { dst = home; src = opening_source e x f.0 o ∙ home; about = f.0 }, o)
+
+  mirrored : (v w : ℕ) (here there : List Event) → HasOpened v here → HasOpened w there → (e : Event) → In e (marks v there) → In (mirror v w e) (marks w here)
+  mirrored v w here there has_here has_there e k =
+      let m = mark_of w v there has_there e k in
+      in_filtered (λ z. about w z.body) (mirror v w e) here (turned_about v w e.body m.0.about) (has_here.opened (mirror v w e) (mirror_opening v w e m.1 m.0) refl)
+
+  -- both ends of a link know it alike
+  pub ends_agree : (v w : ℕ) (here there : List Event) → HasOpened v here → HasOpened w there → line_along w here ≡ line_along v there
+  ends_agree v w here there has_here has_there =
+      let same : map (mirror v w) (marks v there) ≡ marks w here = same_falls (map (mirror v w) (marks v there)) (marks w here)
+      (falls-mirror v w (marks v there) (λ e k. (mark_of w v there has_there e k).0) (falls-filter (λ e. about v e.body) there has_there.falls))
+      (falls-filter (λ e. about w e.body) here has_here.falls)
+      (λ e k. let o = in_map (mirror v w) e (marks v there) k in subst (λ z. In z (marks w here)) (sym o.1) (mirrored v w here there has_here has_there o.0 o.2))
+      (λ e k.
+      let m = mark_of v w here has_here e k in
+      subst (λ z. In z (map (mirror v w) (marks v there))) (mirror_back w v e m.0)
+      (in_mapped (mirror v w) (mirror w v e) (marks v there) (mirrored w v there here has_there has_here e k))) in
+      line_marks w here ∙ (ap (line_along w) (sym same) ∙ (sym (line_mirror v w (marks v there) (λ e k. (mark_of w v there has_there e k).0.about)) ∙ sym (line_marks v there)))

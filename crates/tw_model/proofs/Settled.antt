@@ -1,0 +1,117 @@
+-- A router uses the best path that its neighbours offer, the origin once it has started.
+use Rattle.std.proofs.Common.{◌≡◌, ℕ, suc, zero, ◌+◌, ◌==◌, Bool, true, false, ◌||◌, List, [], ◌∷◌, map, get_or, set, None, refl, ap, sym, ◌∙◌, subst, inl, inr, if◌then◌else◌}
+use Rattle.std.specs.List.{find, list_any}
+use Rattle.std.specs.Option.{unwrap_or}
+use Rattle.std.proofs.lemmas.Bool.{cases_Bool, and_parts, eqb-true, ne_eqb}
+use Rattle.tw_event.specs.declared.event.Body.{Body}
+use Rattle.tw_event.specs.declared.event.Body.TheVariants.{Start, Fail, Restore, Swap, Update}
+use Rattle.tw_event.specs.declared.event.Event.{Event}
+use Rattle.tw_event.specs.declared.event.PathNo.{PathNo}
+use Rattle.tw_model.specs.declared.net.Hop.{Hop}
+use Rattle.tw_model.specs.declared.state.Row.{Row}
+use Rattle.tw_model.specs.Net.{Net, empty_path, hops_of, origin_path, paths_of}
+use Rattle.tw_model.specs.State.{State, best, fresh_row, has_peer, no_row, offers, opening, row, slot}
+use Rattle.tw_model.specs.Effect.{acts, accepts, body_suits, effect, failing, hearing, restoring, settle, swapping}
+use Rattle.tw_model.specs.Sim.{state}
+use Rattle.tw_model.specs.Case.{Case, opening_event, simulation}
+use Rattle.tw_model.proofs.Members.{In, find_agree}
+use Rattle.tw_model.proofs.LinkHeard.{agree_along, row_state, state_home}
+use Rattle.tw_model.proofs.LinkLast.{IsHistory, older_history}
+
+same_number : (p q : PathNo) → (p.0 == q.0) ≡ true → p ≡ q
+same_number p q h = let e = eqb-true p.0 q.0 h in λ i. record { 0 = e i }
+
+-- after settling, a router uses the best path
+settle_best : (net : Net) (v t : ℕ) (s : State) → (settle net v t s).state.rib ≡ best net v (settle net v t s).state
+settle_best net v t s =
+    elim (cases_Bool (s.rib.0 == (best net v s).0)) [
+      | inl b ↦ rw b (same_number s.rib (best net v s) b)
+      | inr b ↦ rw b refl
+    ]
+
+-- a write of what passes where it stood leaves whether any passes
+any_set : {X : Type 0} (p : X → Bool) (xs : List X) (k : ℕ) (y d : X) → p y ≡ p (get_or xs k d) → list_any p (set xs k y) ≡ list_any p xs
+any_set p [] k y d h = refl
+any_set p (x ∷ xs) zero y d h = rw h refl
+any_set p (x ∷ xs) (suc k) y d h = ap (λ b. p x || b) (any_set p xs k y d h)
+
+-- a link that comes up offers nothing yet
+restored_offers : (net : Net) (v : ℕ) (q : PathNo) (r : Row) → r.up ≡ false → r.heard ≡ empty_path
+    → offers net v q (record r { up = true; session = r.session + 1 }) ≡ offers net v q r
+restored_offers net v q r down none = rw (down, none) refl
+
+restored_best : (net : Net) (v k : ℕ) (s : State) → (row s k).up ≡ false → (row s k).heard ≡ empty_path → best net v (restoring s k) ≡ best net v s
+restored_best net v k s down none =
+    ap (λ o. if v == 0 then origin_path else unwrap_or o empty_path)
+    (find_agree (λ q. list_any (offers net v q) (restoring s k).rows) (λ q. list_any (offers net v q) s.rows)
+    (λ q. any_set (offers net v q) s.rows k (record (row s k) { up = true; session = (row s k).session + 1 }) no_row (restored_offers net v q (row s k) down none)) s.order)
+
+-- either the router has settled, or nothing that matters has changed
+data Settles (net : Net) (v : ℕ) (b : Body) (s after : State) : Type 0 where
+  settled : after.rib ≡ best net v after → Settles net v b s after
+  kept : after.rib ≡ s.rib → best net v after ≡ best net v s → (b ≡ Start → ⊥) → Settles net v b s after
+
+settles_acts : (net : Net) (v : ℕ) (s : State) (e : Event) (b : Body) → ((w : ℕ) → b ≡ Restore w → (row s (slot net v w)).up ≡ false → (row s (slot net v w)).heard ≡ empty_path)
+    → Settles net v b s (acts net v s e b).state
+settles_acts net v s e Start none = settled (settle_best net v e.time s)
+settles_acts net v s e (Fail x) none =
+    elim (cases_Bool (row s (slot net v x)).up) [
+      | inl c ↦ rw c (settled (settle_best net v e.time (failing s (slot net v x))))
+      | inr c ↦ rw c (kept refl refl (λ d. cc))
+    ]
+settles_acts net v s e (Restore x) none =
+    elim (cases_Bool (row s (slot net v x)).up) [
+      | inl c ↦ rw c (kept refl refl (λ d. cc))
+      | inr c ↦ (let best_kept = restored_best net v (slot net v x) s c (none x refl c) in rw c (kept refl best_kept (λ d. cc)))
+    ]
+settles_acts net v s e (Swap i j) none = settled (settle_best net v e.time (swapping s i j))
+settles_acts net v s e (Update q n) none =
+    elim (cases_Bool (accepts s (slot net v e.src) n)) [
+      | inl c ↦ rw c (settled (settle_best net v e.time (hearing s (slot net v e.src) q)))
+      | inr c ↦ rw c (kept refl refl (λ d. cc))
+    ]
+
+settles_effect : (net : Net) (v : ℕ) (s : State) (e : Event) → ((w : ℕ) → e.body ≡ Restore w → (row s (slot net v w)).up ≡ false → (row s (slot net v w)).heard ≡ empty_path)
+    → Settles net v e.body s (effect net v s e).state
+settles_effect net v s e none = as_counted (acts net v s e e.body).state (settles_acts net v s e e.body none) where
+  as_counted : (z : State) → Settles net v e.body s z → Settles net v e.body s (record z { counters = record z.counters { handled = z.counters.handled + 1 } })
+  as_counted z (settled h) = settled h
+  as_counted z (kept r b d) = kept r b d
+
+-- ---- along a history
+
+none_offered : (net : Net) (v : ℕ) (q : PathNo) (hs : List Hop) → list_any (offers net v q) (map fresh_row hs) ≡ false
+none_offered net v q [] = refl
+none_offered net v q (h ∷ hs) = none_offered net v q hs
+
+find_none : {X : Type 0} (p : X → Bool) (xs : List X) → ((x : X) → p x ≡ false) → find p xs ≡ None
+find_none p [] h = refl
+find_none p (x ∷ xs) h = rw (h x) (find_none p xs h)
+
+opening_best : (net : Net) (v : ℕ) → (v ≡ 0 → ⊥) → empty_path ≡ best net v (opening net v)
+opening_best net v other =
+    rw (ne_eqb v 0 other) (sym (ap (λ o. unwrap_or o empty_path) (find_none (λ q. list_any (offers net v q) (opening net v).rows) (paths_of net v) (λ q. none_offered net v q (hops_of net v)))))
+
+abbrev pub start : Event
+start = opening_event 0 0 0 Start
+
+module _ (case : Case) (v : ℕ) where
+  best_step : (e : Event) (h : List Event) (s after : State) → Settles case.net v e.body s after → ((v ≡ 0 → In start h) → s.rib ≡ best case.net v s)
+      → (v ≡ 0 → In start (e ∷ h)) → after.rib ≡ best case.net v after
+  best_step e h s after (settled is) old started = is
+  best_step e h s after (kept rib best_kept other) old started =
+      rib ∙ (old (λ z. elim (started z) [ inl is ↦ absurd (other (sym (ap (λ x. x.body) is))) | inr i ↦ i ]) ∙ sym best_kept)
+
+  -- a router's path is its best one; the origin's, once it has started
+  pub best_along : (h : List Event) → IsHistory case.net v h → (v ≡ 0 → In start h) → (state (simulation case) v h).rib ≡ best case.net v (state (simulation case) v h)
+  best_along [] his started = opening_best case.net v (λ z. started z)
+  best_along (e ∷ h) his started =
+      let older = older_history case.net v e h his in
+      let none = λ (w : ℕ) (is : e.body ≡ Restore w) (down : (row (state (simulation case) v h) (slot case.net v w)).up ≡ false).
+      (let suit : body_suits case.net v e (Restore w) ≡ true = subst (λ b. body_suits case.net v e b ≡ true) is (his.suit e (inl refl)) in
+      let there = (and_parts (e.src == v) (has_peer case.net v w) suit).1 in
+      let same = row_state case v w there h older.home in
+      ap (λ r. r.heard) same ∙ (agree_along w h).heard (sym (ap (λ r. r.up) same) ∙ down)) in
+      subst (λ s. s.rib ≡ best case.net v s) (sym (state_home case v e h (his.home e (inl refl))))
+      (best_step e h (state (simulation case) v h) (effect case.net v (state (simulation case) v h) e).state
+      (settles_effect case.net v (state (simulation case) v h) e none) (λ st. best_along h older st) started)
