@@ -8,7 +8,7 @@ use Rattle.std.specs.Ordering.{is_lt}
 use Rattle.std.specs.declared.cmp.Reverse.{Reverse}
 use Rattle.std.specs.declared.cmp.Ordering.{Ordering}
 use Rattle.std.proofs.lemmas.Bool.{cases_Bool, ltb-true, lt-ltb, eqb-true}
-use Rattle.std.proofs.lemmas.List.Sorted.{IsPermutation-map, length_permutation}
+use Rattle.std.proofs.lemmas.List.Sorted.{IsPermutation-map}
 use Rattle.std.proofs.lemmas.List.Sums.{sum_by-cons}
 use Rattle.tw_event.specs.declared.event.Event.{Event}
 use Rattle.tw_event.specs.Order.{event_before, event_same}
@@ -18,7 +18,7 @@ use Rattle.tw_event.proofs.Order.{before_not_self, before_trans, before_total, s
 use Rattle.tw_model.specs.Ordered.{insert, insert_all, one, take_out, times}
 use Rattle.tw_queue.specs.Heap.{earlier, events_of, in_order, least_with}
 use Rattle.tw_queue.specs.Queue.{IsRising, AreFor, IsQueue}
-use Rattle.tw_queue.proofs.Ordered.{IsOrder, insert_least, ahead, all-filter, all-take_out, behind, cases_zero, times-in_order, insert_all_in_order, length-take_out, take_out-in_order, take_out_none, all-insert, all_weaker, all-in_order, all-permutation, length-in_order, in_order_least, in_order-permutation, in_order_sorted, asymmetric, not_before_trans}
+use Rattle.tw_queue.proofs.Ordered.{IsOrder, insert_least, ahead, all-filter, all-take_out, behind, cases_zero, times-in_order, insert_all_in_order, length-take_out, length-take_out-le, take_out-in_order, take_out_none, all-insert, all_weaker, all-in_order, all-permutation, length-in_order, in_order_least, in_order-permutation, in_order_sorted, asymmetric, not_before_trans}
 
 pub event_law : IsOrder event_before event_same
 event_law = record {
@@ -146,45 +146,26 @@ module _ (e : Event) (items new : List (Reverse Event)) (p : IsPermutation (with
   homes_removed n h =
       all-permutation event_before event_same event_law (λ d. d.dst < n) (events_of (without e items)) (events_of new) left (rw (events-without e items) (all-take_out event_before event_same (λ d. d.dst < n) e (events_of items) h))
 
-  length_removed : length new ≡ length (take_out event_same e (events_of items))
+  pub length_removed : length new ≤ length items
   length_removed =
-      sym (length-map new (λ r. r.0)) ∙ length_permutation (events_of (without e items)) (events_of new) left ∙ ap (λ r. length r) (events-without e items)
-
-  same_count : times event_same e (in_order event_before (events_of items)) ≡ times event_same e (events_of items)
-  same_count = times-in_order event_before event_same event_law e (events_of items)
-
-  pub was_there : 0 < times event_same e (in_order event_before (events_of items)) → length new < length items
-  was_there h =
-      let l = length_removed in
-      let m = length-map items (λ r. r.0) in
-      let c = same_count in
-      let t = length-take_out event_before event_same event_law e (events_of items) (omega arith) in
+      let n = length-events new in
+      let l = length-events items in
+      let r = ap (λ xs. length xs) events_removed in
+      let t = length-take_out-le event_before event_same e (in_order event_before (events_of items)) in
       omega arith
 
-  pub was_not_there : times event_same e (in_order event_before (events_of items)) ≡ 0 → length new ≡ length items
-  was_not_there h =
-      length_removed ∙ ap (λ r. length r) (take_out_none event_before event_same event_law e (events_of items) (sym same_count ∙ h)) ∙ length-map items (λ r. r.0)
-
-  pub length_after : length new ≤ length items
-  length_after =
-      elim (cases_zero (times event_same e (in_order event_before (events_of items)))) [
-        | inl z ↦ let w = was_not_there z in omega arith
-        | inr h ↦ let w = was_there h in omega arith
-      ]
-
-  found_iff : (nat_lt (length new) (length items) ≡ true) ↔ (0 < times event_same e (in_order event_before (events_of items)))
-  found_iff = (
-    λ b. elim (cases_zero (times event_same e (in_order event_before (events_of items)))) [
-      | inl z ↦ let w = was_not_there z in let k = ltb-true (length new) (length items) b in absurd (omega arith)
-      | inr h ↦ h
-    ],
-    λ h. lt-ltb (length new) (length items) (was_there h),
-  )
-
-  -- whether there is one less
-  pub found_at : (n m : ℕ) (events : List Event) → n ≡ length new → m ≡ length items → in_order event_before (events_of items) ≡ events → (nat_lt n m ≡ true) ↔ (0 < times event_same e events)
-  found_at n m events k l q =
-      subst (λ i. (nat_lt i m ≡ true) ↔ (0 < times event_same e events)) (sym k) (subst (λ i. (nat_lt (length new) i ≡ true) ↔ (0 < times event_same e events)) (sym l) (subst (λ xs. (nat_lt (length new) (length items) ≡ true) ↔ (0 < times event_same e xs)) q found_iff))
+-- whether there is one less
+pub found_iff : (e : Event) (old new : List Event) (n m : ℕ) → new ≡ take_out event_same e old → n ≡ length new → m ≡ length old → (nat_lt n m ≡ true) ↔ (0 < times event_same e old)
+found_iff e old new n m h k l =
+    elim (cases_zero (times event_same e old)) [
+      | inl z ↦
+          let t = ap (λ xs. length xs) (h ∙ take_out_none event_before event_same event_law e old z) in
+          (λ b. let u = ltb-true n m b in omega arith, λ w. absurd (omega arith))
+      | inr p ↦
+          let t = ap (λ xs. length xs) h in
+          let u = length-take_out event_before event_same event_law e old p in
+          (λ b. p, λ w. lt-ltb n m (omega arith))
+    ]
 
 -- the events that pass a test, in order
 module _ (p : Event → Bool) where

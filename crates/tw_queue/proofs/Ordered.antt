@@ -1,5 +1,5 @@
 -- Lists that are kept in order: an element goes in and comes out again, and what order they came in does not count.
-use Rattle.std.proofs.Common.{◌+◌, ◌⊎◌, filter, ◌≡◌, ℕ, suc, zero, ◌<◌, Bool, true, false, cond, List, [], ◌∷◌, length, get_or, set, refl, ap, sym, ◌∙◌, subst, inl, inr, arith, get_or-set_same, get_or-set_other, length-set, add-one}
+use Rattle.std.proofs.Common.{◌≤◌, ◌+◌, ◌⊎◌, filter, ◌≡◌, ℕ, suc, zero, ◌<◌, Bool, true, false, cond, List, [], ◌∷◌, length, get_or, set, refl, ap, sym, ◌∙◌, subst, inl, inr, arith, get_or-set_same, get_or-set_other, length-set, add-one}
 use Rattle.std.specs.List.{AllByRecursion, swap}
 use Rattle.std.specs.List.Sorted.{IsPermutation, IsSortedBy}
 use Rattle.std.proofs.lemmas.Bool.{cases_Bool, cases_eq, false≢true}
@@ -265,6 +265,12 @@ module _ {E : Type 0} (before same : E → E → Bool) where
           | inr h ↦
               ap (take_out same e) (sym (insert-take_out e xs h)) ∙ take_out-insert e (in_order before (take_out same e xs))
         ]
+
+  pub length-take_out-le : (e : E) (xs : List E) → length (take_out same e xs) ≤ length xs
+  length-take_out-le e [] = omega arith
+  length-take_out-le e (x ∷ xs) =
+      let h = length-take_out-le e xs in
+      elim (cases_Bool (same e x)) [ inl b ↦ rw b (omega arith) | inr b ↦ rw b (omega arith) ]
 
   pub all-take_out : (P : E → Type 0) (e : E) (xs : List E) → AllByRecursion P xs → AllByRecursion P (take_out same e xs)
   all-take_out P e [] h = tt

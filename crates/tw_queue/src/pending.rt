@@ -128,9 +128,9 @@ impl Pending {
         ensures routers { self.new.routers ≡ self.old.routers }
         ensures room { self.old.room ≤ self.new.room }
     {
-        let before = self.heap.len();
+        let before = self.len();
         remove_from(&mut self.heap, *event);
-        self.heap.len() < before
+        self.len() < before
     }
 
     /// The least event for this router.
