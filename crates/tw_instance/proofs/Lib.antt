@@ -6,3 +6,5 @@ pub mod Lines
 pub mod Rows
 pub mod Facts
 pub mod Sound
+pub mod Told
+pub mod Scenes

@@ -1,8 +1,12 @@
-ghost use Rattle.std.specs.Prelude.{◌≡◌, [], ◌∷◌, ◌++◌, IfOk, OnErr, OnOk, slice_get, List};
+ghost use Rattle.std.specs.Prelude.{◌≡◌, ◌↔◌, length, [], ◌∷◌, ◌++◌, IfOk, OnErr, OnOk, slice_get, List};
+ghost use Rattle.tw_model.specs.declared.net.Rule.{Rule as ARule};
 ghost use Rattle.tw_model.specs.Case.{IsCase, opening_events};
+ghost use Rattle.tw_model.specs.Rules.{scene_fault};
+ghost use Rattle.tw_instance.specs.Build.{Tells, scenes_fault};
 
 use crate::instance::Instance;
-use crate::refusal::{At, Refusal};
+use crate::refusal::{At, Place, Refusal};
+use crate::{faults, opening};
 use std::alloc::{AllocError, Global};
 use std::marker::Model;
 use tw_event::Event;
@@ -35,25 +39,55 @@ impl Case {
     pub fn new(alloc: Global, instance: Instance) -> Result<Case, AllocError>
         ensures { IfOk result (λ c. c ≡ record { net = instance; scenes = [] }) }
     {
-        let _ = (alloc, instance);
-        Err(AllocError)
+        // Each instance keeps the rules, which this read tells.
+        let _ = instance.nodes();
+        let opening = opening::start(alloc)?;
+        Ok(Case {
+            instance,
+            scenario: Vec::new(alloc),
+            opening,
+        })
     }
 
     /// Adds a scenario line. An error leaves the case as it was.
     pub fn add(&mut self, scene: Scene) -> Result<(), Refusal>
         ensures ok { OnOk result (self.new ≡ record self.old { scenes = self.old.scenes ++ scene ∷ [] }) }
+        ensures rule { (r : ARule) → (result ≡ Err (Refusal.Rule r)) ↔ (scene_fault self.old.net (length self.old.scenes) scene ≡ Some r) }
+        ensures kept { OnOk result (scene_fault self.old.net (length self.old.scenes) scene ≡ None) }
         ensures err { OnErr result (self.new ≡ self.old) }
     {
-        let _ = scene;
-        Err(Refusal::Memory)
+        let count = self.scenario.len();
+        if let Some(rule) = faults::scene_fault(&self.instance, count, &scene) {
+            return Err(Refusal::Rule(rule));
+        }
+        self.scenario.reserve(1)?;
+        opening::add(&mut self.opening, count as u64 + 1, &scene)?;
+        self.scenario.push_reserved(scene);
+        Ok(())
     }
 
     /// A case of this instance with these scenario lines, or the first that is refused.
     pub fn build(alloc: Global, instance: Instance, scenes: Vec<Scene>) -> Result<Case, At>
         ensures ok { IfOk result (λ c. c ≡ record { net = instance; scenes = scenes.items }) }
+        ensures fault { Tells result (scenes_fault instance 0 scenes.items) }
     {
-        let _ = (alloc, instance, scenes);
-        Err(At::Memory)
+        let mut case = Case::new(alloc, instance)?;
+        case.add_all(&scenes)?;
+        Ok(case)
+    }
+
+    fn add_all(&mut self, scenes: &[Scene]) -> Result<(), At>
+        requires { self.old.scenes ≡ [] }
+        ensures ok { OnOk result (self.new ≡ record self.old { scenes = scenes.now }) }
+        ensures fault { Tells result (scenes_fault self.old.net 0 scenes.now) }
+    {
+        for (i, scene) in scenes.iter().enumerate() {
+            match self.add(*scene) {
+                Ok(()) => {}
+                Err(refusal) => return Err(refusal.at(Place::Scene(i + 1))),
+            }
+        }
+        Ok(())
     }
 
     /// The instance.

@@ -2,11 +2,12 @@
 
 ghost use Rattle.std.specs.Prelude.{◌≡◌, ◌∷◌, ◌==◌, ◌&&◌, ◌||◌, not, nat_le, nat_lt};
 ghost use Rattle.std.specs.List.{list_all, list_any};
+ghost use Rattle.tw_model.specs.declared.case.Scene.TheVariants as AScene;
 ghost use Rattle.tw_model.specs.Net.{begins_at as begins_at_spec, same_path};
-ghost use Rattle.tw_model.specs.Rules.{degree, ends_at, is_linked as linked, leaves_links as leaving, line_breaks as line_breaks_of, line_fault as line_fault_of, link_breaks as link_breaks_of, link_fault as link_fault_of, lowest, nodes_fault as nodes_fault_of, path_count, repeats as repeating};
+ghost use Rattle.tw_model.specs.Rules.{degree, ends_at, has_place as has_place_of, is_linked as linked, leaves_links as leaving, line_breaks as line_breaks_of, line_fault as line_fault_of, link_breaks as link_breaks_of, link_fault as link_fault_of, lowest, nodes_fault as nodes_fault_of, path_count, repeats as repeating, scene_breaks as scene_breaks_of, scene_fault as scene_fault_of};
 
 use crate::instance::Instance;
-use tw_model::{Hop, Link, PathLine, Rule};
+use tw_model::{Hop, Link, PathLine, Rule, Scene};
 
 /// The rules in rising order of their codes.
 const RULES: [Rule; 13] = [
@@ -68,6 +69,23 @@ fn first_in_line(instance: &Instance, path: &PathLine, rules: &[Rule]) -> Option
     None
 }
 
+pub fn scene_fault(instance: &Instance, count: usize, scene: &Scene) -> Option<Rule>
+    ensures { result ≡ scene_fault_of instance.now count scene.now }
+{
+    first_in_scene(instance, count, scene, &RULES)
+}
+
+fn first_in_scene(instance: &Instance, count: usize, scene: &Scene, rules: &[Rule]) -> Option<Rule>
+    ensures { result ≡ lowest (scene_breaks_of instance.now count scene.now) rules.now }
+{
+    for rule in rules {
+        if scene_breaks(instance, count, scene, *rule) {
+            return Some(*rule);
+        }
+    }
+    None
+}
+
 fn link_breaks(instance: &Instance, link: &Link, rule: Rule) -> bool
     ensures { result ≡ link_breaks_of instance.now link.now rule }
 {
@@ -97,6 +115,77 @@ fn line_breaks(instance: &Instance, path: &PathLine, rule: Rule) -> bool
         Rule::TooMany => has_all_paths(instance, owner) || nodes.len() > 32,
         _ => false,
     }
+}
+
+fn scene_breaks(instance: &Instance, count: usize, scene: &Scene, rule: Rule) -> bool
+    ensures { result ≡ scene_breaks_of instance.now count scene.now rule }
+{
+    match *scene {
+        Scene::Fail {
+            time,
+            first,
+            second,
+        }
+        | Scene::Restore {
+            time,
+            first,
+            second,
+        } => link_scene_breaks(instance, count, time, first, second, rule),
+        Scene::Swap {
+            time,
+            node,
+            first,
+            second,
+        } => swap_breaks(instance, count, time, node, first, second, rule),
+    }
+}
+
+fn link_scene_breaks(
+    instance: &Instance,
+    count: usize,
+    time: u64,
+    first: u32,
+    second: u32,
+    rule: Rule,
+) -> bool
+    ensures fail { result ≡ scene_breaks_of instance.now count (AScene.Fail time first second) rule }
+    ensures restore { result ≡ scene_breaks_of instance.now count (AScene.Restore time first second) rule }
+{
+    match rule {
+        Rule::Range => first >= instance.nodes() || second >= instance.nodes(),
+        Rule::NoSuchLink => !is_linked(instance, first, second),
+        Rule::Time => time > 1_000_000_000,
+        Rule::TooMany => count >= 4096,
+        _ => false,
+    }
+}
+
+fn swap_breaks(
+    instance: &Instance,
+    count: usize,
+    time: u64,
+    node: u32,
+    first: u32,
+    second: u32,
+    rule: Rule,
+) -> bool
+    ensures { result ≡ scene_breaks_of instance.now count (AScene.Swap time node first second) rule }
+{
+    match rule {
+        Rule::Range => node >= instance.nodes(),
+        Rule::NoSuchPlace => !has_place(instance, node, first)
+            || !has_place(instance, node, second),
+        Rule::Time => time > 1_000_000_000,
+        Rule::TooMany => count >= 4096,
+        _ => false,
+    }
+}
+
+/// Whether a router's order has this place, from 1.
+fn has_place(instance: &Instance, node: u32, place: u32) -> bool
+    ensures { result ≡ has_place_of instance.now node place }
+{
+    1 <= place && place as usize <= instance.permitted(node).len()
 }
 
 /// Whether a router has as many links as it may.

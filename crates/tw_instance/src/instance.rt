@@ -5,9 +5,10 @@ ghost use Rattle.tw_model.specs.Net.{IsPath, empty_path, hops_of, is_own, origin
 ghost use Rattle.tw_model.specs.declared.net.Rule.{Rule as ARule};
 ghost use Rattle.tw_model.specs.Rules.{IsNet, line_fault, link_fault, nodes_fault};
 ghost use Rattle.tw_model.specs.State.{has_peer, hop, slot as slot_of};
+ghost use Rattle.tw_instance.specs.Build.{Tells, instance_fault, lines_fault, links_fault};
 ghost use Rattle.tw_instance.specs.Hops.{AreDistinct, AreRising, IsGoodHop};
 
-use crate::refusal::{At, Refusal};
+use crate::refusal::{At, Place, Refusal};
 use crate::{faults, tables};
 use std::alloc::Global;
 use std::marker::Model;
@@ -45,6 +46,7 @@ impl Instance {
     pub fn new(alloc: Global, nodes: u32) -> Result<Instance, Refusal>
         ensures ok { IfOk result (λ i. i ≡ record { nodes = nodes; links = []; lines = [] }) }
         ensures rule { (r : ARule) → (result ≡ Err (Refusal.Rule r)) ↔ (nodes_fault nodes ≡ Some r) }
+        ensures kept { OnOk result (nodes_fault nodes ≡ None) }
     {
         if let Some(rule) = faults::nodes_fault(nodes) {
             return Err(Refusal::Rule(rule));
@@ -64,6 +66,7 @@ impl Instance {
     pub fn add_link(&mut self, link: Link) -> Result<(), Refusal>
         ensures ok { OnOk result (self.new ≡ record self.old { links = self.old.links ++ link ∷ [] }) }
         ensures rule { (r : ARule) → (result ≡ Err (Refusal.Rule r)) ↔ (link_fault self.old link ≡ Some r) }
+        ensures kept { OnOk result (link_fault self.old link ≡ None) }
         ensures err { OnErr result (self.new ≡ self.old) }
     {
         if let Some(rule) = faults::link_fault(self, &link) {
@@ -80,6 +83,7 @@ impl Instance {
     pub fn add_path(&mut self, path: PathLine) -> Result<(), Refusal>
         ensures ok { OnOk result (self.new ≡ record self.old { lines = self.old.lines ++ path ∷ [] }) }
         ensures rule { (r : ARule) → (result ≡ Err (Refusal.Rule r)) ↔ (line_fault self.old path ≡ Some r) }
+        ensures kept { OnOk result (line_fault self.old path ≡ None) }
         ensures err { OnErr result (self.new ≡ self.old) }
     {
         if let Some(rule) = faults::line_fault(self, &path) {
@@ -101,9 +105,41 @@ impl Instance {
         paths: Vec<PathLine>,
     ) -> Result<Instance, At>
         ensures ok { IfOk result (λ i. i ≡ record { nodes = nodes; links = links.items; lines = paths.items }) }
+        ensures fault { Tells result (instance_fault nodes links.items paths.items) }
     {
-        let _ = (alloc, nodes, links, paths);
-        Err(At::Memory)
+        let mut instance = match Instance::new(alloc, nodes) {
+            Ok(instance) => instance,
+            Err(refusal) => return Err(refusal.at(Place::Nodes)),
+        };
+        instance.add_links(&links)?;
+        instance.add_paths(paths)?;
+        Ok(instance)
+    }
+
+    fn add_links(&mut self, links: &[Link]) -> Result<(), At>
+        ensures ok { OnOk result (self.new ≡ record self.old { links = self.old.links ++ links.now }) }
+        ensures fault { Tells result (links_fault self.old 1 links.now) }
+    {
+        for (i, link) in links.iter().enumerate() {
+            match self.add_link(*link) {
+                Ok(()) => {}
+                Err(refusal) => return Err(refusal.at(Place::Link(i + 1))),
+            }
+        }
+        Ok(())
+    }
+
+    fn add_paths(&mut self, paths: Vec<PathLine>) -> Result<(), At>
+        ensures ok { OnOk result (self.new ≡ record self.old { lines = self.old.lines ++ paths.items }) }
+        ensures fault { Tells result (lines_fault self.old 1 paths.items) }
+    {
+        for (i, path) in paths.into_iter().enumerate() {
+            match self.add_path(path) {
+                Ok(()) => {}
+                Err(refusal) => return Err(refusal.at(Place::Path(i + 1))),
+            }
+        }
+        Ok(())
     }
 
     /// The number of routers, 1 to 1,024.

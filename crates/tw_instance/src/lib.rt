@@ -4,6 +4,7 @@
 mod case;
 mod faults;
 mod instance;
+mod opening;
 mod refusal;
 mod tables;
 

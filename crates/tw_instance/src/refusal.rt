@@ -1,4 +1,6 @@
 ghost use Rattle.std.specs.Prelude.{◌≡◌};
+ghost use Rattle.tw_instance.specs.Refused.{refused_at};
+ghost use Rattle.tw_instance.specs.declared.refusal.At.TheVariants as at_memory;
 ghost use Rattle.tw_instance.specs.declared.refusal.Refusal.TheVariants.{Memory};
 
 use std::alloc::AllocError;
@@ -13,11 +15,31 @@ pub enum Refusal {
     Memory,
 }
 
+impl Refusal {
+    /// The refusal of a whole, where this item was refused.
+    pub(crate) fn at(self, place: Place) -> At
+        ensures { result ≡ refused_at place self }
+    {
+        match self {
+            Refusal::Rule(rule) => At::Fault { place, rule },
+            Refusal::Memory => At::Memory,
+        }
+    }
+}
+
 impl From<AllocError> for Refusal {
     ghost from_gives = { λ _ refusal. refusal ≡ Memory };
 
     fn from(_error: AllocError) -> Refusal {
         Refusal::Memory
+    }
+}
+
+impl From<AllocError> for At {
+    ghost from_gives = { λ _ at. at ≡ at_memory.Memory };
+
+    fn from(_error: AllocError) -> At {
+        At::Memory
     }
 }
 

@@ -1,0 +1,6 @@
+use Rattle.std.proofs.Common.{◌≡◌, drop}
+use Rattle.tw_model.specs.Rules.{lowest, scene_breaks}
+use Rattle.tw_instance.proofs.faults.first_in_scene.Given as goal
+
+abbrev pub invariant-loop-rule : goal.invariant-loop-rule
+invariant-loop-rule l = lowest (scene_breaks l.instance l.count l.scene) (drop l.rule-index l.rules) ≡ lowest (scene_breaks l.instance l.count l.scene) l.rules
