@@ -9,3 +9,4 @@ pub mod Sim
 pub mod Seq
 pub mod Case
 pub mod Quiet
+pub mod Summary

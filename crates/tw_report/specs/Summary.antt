@@ -1,23 +1,2 @@
--- What a run left, as lists.
-use Rattle.std.specs.Prelude.{ℕ, List}
-use Rattle.tw_event.specs.declared.event.Event.{Event}
-use Rattle.tw_model.specs.declared.outcome.Outcome.{Outcome}
-use Rattle.tw_model.specs.declared.outcome.RouterEnd.{RouterEnd}
-
-pub record Summary : Type 0 where
-  pub stop : ℕ
-  pub bound : ℕ
-  pub events : List Event
-  pub routers : List RouterEnd
-  pub pending : List Event
-  pub last_change : ℕ
-
-abbrev pub summary_of : Outcome → Summary
-summary_of o = record {
-  stop = o.stop;
-  bound = o.bound;
-  events = o.events.items;
-  routers = o.routers.items;
-  pending = o.pending.items;
-  last_change = o.last_change;
-}
+-- What a run left, as lists: passed on from the model.
+pub use Rattle.tw_model.specs.Summary.{Summary, summary_of}

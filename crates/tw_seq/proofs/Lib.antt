@@ -1,0 +1,6 @@
+pub mod Steps
+pub mod Handled
+pub mod Homes
+pub mod Next
+pub mod Fields
+pub mod Going

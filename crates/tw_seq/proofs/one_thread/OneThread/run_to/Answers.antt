@@ -1,0 +1,21 @@
+use Rattle.std.proofs.Common.{◌∙◌}
+use Rattle.tw_seq.specs.Run.{complete}
+use Rattle.tw_seq.proofs.Going.{complete_at, continues_next, weight_next}
+use Rattle.tw_seq.proofs.one_thread.OneThread.run_to.Goals as goal
+
+pub loop-event-smaller : goal.loop-event-smaller
+loop-event-smaller c = weight_next c.loop-event.self c.handle_next.new.self c.in-Some.event c.in-Some.ensures.begun c.in-Some.ensures.some c.in_ok-handle_next.ensures.ok
+
+pub loop-event-preserved : goal.loop-event-preserved
+loop-event-preserved c =
+    let next = c.in_ok-handle_next.ensures.ok in
+    record {
+      case = next.0 ∙ c.loop-event.invariant.case;
+      stop = next.1 ∙ c.loop-event.invariant.stop;
+      goes_on = continues_next c.args.self.now c.loop-event.self c.handle_next.new.self c.loop-event.invariant.case c.loop-event.invariant.goes_on next;
+    }
+
+pub returns-clause-ok : goal.returns-clause-ok
+returns-clause-ok c =
+    complete_at c.loop-event.self c.in_default.ensures.begun c.in_default.ensures.none
+    ∙ λ i. complete (c.loop-event.invariant.case i) (c.loop-event.invariant.stop i)

@@ -1,0 +1,4 @@
+pub mod Turn
+pub mod Run
+pub mod Outcome
+pub mod Thread

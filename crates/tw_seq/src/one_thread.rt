@@ -1,0 +1,176 @@
+ghost use Rattle.std.specs.Prelude.{◌≡◌, ◌≤◌, ◌<◌, max, IfNone, IfOk, IfSome, OnErr, OnOk, IsErrOf};
+ghost use Rattle.tw_model.specs.Summary.{summary_of};
+ghost use Rattle.tw_seq.specs.Outcome.{least, outcome_of};
+ghost use Rattle.tw_seq.specs.Run.{Continues, IsBegun, IsNext, IsNextRun, IsOver, IsStuck, complete, opened, router_after};
+
+use crate::fault::RunFault;
+use crate::routers::{opening_routers, router_ends};
+use crate::turn::{handle_at, insert_each, opening_queue};
+use smallvec::SmallVec;
+use std::alloc::{AllocError, Global};
+use std::marker::Model;
+use tw_event::Event;
+use tw_instance::Case;
+use tw_model::Outcome;
+use tw_queue::Pending;
+use tw_router::Router;
+
+/// The sequential run of a case: again and again the least pending event is handled at its router, and
+/// what it sends becomes pending.
+#[derive(Drop)]
+pub struct OneThread<'a> {
+    case: &'a Case,
+    stop: u64,
+    routers: Vec<Router<'a>>,
+    pending: Pending,
+    events: Vec<Event>,
+    last_change: u64,
+}
+
+impl<'a> Model for OneThread<'a> {
+    ghost use Rattle.tw_seq.specs.Run.{Run};
+
+    ghost Value = { Run };
+
+    ghost use Rattle.tw_seq.specs.Thread.{IsThread, run_of};
+
+    ghost view = { run_of };
+
+    ghost invariant = { IsThread };
+}
+
+impl<'a> OneThread<'a> {
+    /// The run of this case before its first event.
+    pub fn new(alloc: Global, case: &'a Case) -> Result<OneThread<'a>, AllocError>
+        ensures { IfOk result (λ run. run ≡ opened case.now) }
+    {
+        let routers = opening_routers(alloc, case.instance())?;
+        let pending = opening_queue(alloc, case)?;
+        Ok(OneThread {
+            case,
+            stop: 0,
+            routers,
+            pending,
+            events: Vec::new(alloc),
+            last_change: 0,
+        })
+    }
+
+    /// Handles all events before `stop`, and before each stop asked for earlier.
+    ///
+    /// After a fault the events before the refused one stand handled, and nothing else has changed; a
+    /// later call goes on from there.
+    pub fn run_to(&mut self, stop: u64) -> Result<(), RunFault>
+        requires { stop ≤ 1000000000 }
+        ensures ok { OnOk result (self.new ≡ complete self.old.case (max self.old.stop stop)) }
+        ensures case { self.new.case ≡ self.old.case }
+        ensures stop { self.new.stop ≡ max self.old.stop stop }
+        ensures goes_on { Continues self.old self.new }
+        ensures begun { IsBegun self.new }
+        ensures full { IsErrOf result RunFault.CounterFull → IsStuck self.new }
+    {
+        self.raise_stop(stop);
+        while let Some(event) = self.next() {
+            self.handle_next(&event)?;
+        }
+        Ok(())
+    }
+
+    /// The events handled, in their order.
+    pub fn handled(&self) -> &[Event]
+        ensures value { result.now ≡ self.now.events }
+        ensures begun { IsBegun self.now }
+    {
+        &self.events
+    }
+
+    /// A router as the events handled left it.
+    pub fn router(&self, router: u32) -> &Router<'a>
+        requires { router < self.now.case.net.nodes }
+        ensures value { result.now ≡ router_after self.now.case self.now.events router }
+        ensures begun { IsBegun self.now }
+    {
+        &self.routers[router as usize]
+    }
+
+    /// The pending events, in their order.
+    pub fn pending(&self, alloc: Global) -> Result<Vec<Event>, AllocError>
+        ensures value { IfOk result (λ events. events.items ≡ self.now.pending) }
+        ensures begun { IsBegun self.now }
+    {
+        self.pending.list(alloc)
+    }
+
+    /// The least of the stop and of the times pending: all events before it are handled.
+    fn bound(&self) -> u64
+        ensures { result ≡ least self.now.pending self.now.stop }
+    {
+        let stop = self.stop;
+        match self.next() {
+            Some(event) => event.time,
+            None => stop,
+        }
+    }
+
+    /// What the run has left so far.
+    pub fn outcome(&self, alloc: Global) -> Result<Outcome, AllocError>
+        ensures value { IfOk result (λ outcome. summary_of outcome ≡ outcome_of self.now) }
+        ensures begun { IsBegun self.now }
+    {
+        let events = Vec::from_slice(alloc, &self.events)?;
+        let routers = router_ends(alloc, &self.routers)?;
+        let pending = self.pending.list(alloc)?;
+        Ok(Outcome {
+            stop: self.stop,
+            bound: self.bound(),
+            events,
+            routers,
+            pending,
+            last_change: self.last_change,
+        })
+    }
+
+    /// The stop becomes the greater of itself and `stop`.
+    fn raise_stop(&mut self, stop: u64)
+        requires { stop ≤ 1000000000 }
+        ensures { self.new ≡ record self.old { stop = max self.old.stop stop } }
+    {
+        if self.stop < stop {
+            self.stop = stop;
+        }
+    }
+
+    /// The least pending event, where it is before the stop.
+    fn next(&self) -> Option<Event>
+        ensures some { IfSome result (λ e. IsNext self.now e) }
+        ensures none { IfNone result (IsOver self.now.stop self.now.pending) }
+        ensures begun { IsBegun self.now }
+    {
+        let event = self.pending.least()?;
+        if event.time < self.stop {
+            Some(event)
+        } else {
+            None
+        }
+    }
+
+    /// Handles the least pending event. An error leaves the run as it was.
+    fn handle_next(&mut self, event: &Event) -> Result<(), RunFault>
+        requires { IsNext self.old event.now }
+        ensures ok { OnOk result (IsNextRun self.old self.new) }
+        ensures err { OnErr result (self.new ≡ self.old) }
+        ensures full { IsErrOf result RunFault.CounterFull → IsStuck self.old }
+    {
+        let mut sends: SmallVec<Event, 8> = SmallVec::new(*self.events.allocator());
+        self.events.reserve(1)?;
+        self.pending.reserve(64)?;
+        let changed = handle_at(self.case.instance(), &mut self.routers, event, &mut sends)?;
+        self.pending.take_least();
+        insert_each(&mut self.pending, &sends);
+        self.events.push_reserved(*event);
+        if changed {
+            self.last_change = event.time;
+        }
+        Ok(())
+    }
+}

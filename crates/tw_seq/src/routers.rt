@@ -1,0 +1,42 @@
+ghost use Rattle.std.specs.Prelude.{◌≡◌, map, IfOk};
+ghost use Rattle.std.specs.List.{range_with_len};
+ghost use Rattle.tw_model.specs.State.{opening};
+ghost use Rattle.tw_seq.specs.Outcome.{end_of};
+
+use std::alloc::{AllocError, Global};
+use tw_instance::Instance;
+use tw_model::RouterEnd;
+use tw_router::Router;
+
+/// Every router of the instance as it begins, in rising number.
+pub(crate) fn opening_routers<'a>(
+    alloc: Global,
+    instance: &'a Instance,
+) -> Result<Vec<Router<'a>>, AllocError>
+    ensures { IfOk result
+        (λ routers. routers.items
+        ≡ map (λ r. record { net = instance.now; node = r; state = opening instance.now r }) (range_with_len 0 instance.now.nodes)) }
+{
+    let mut routers = Vec::new(alloc);
+    for node in 0..instance.nodes() {
+        routers.push(Router::new(alloc, instance, node)?)?;
+    }
+    Ok(routers)
+}
+
+/// How each router stands.
+pub(crate) fn router_ends(
+    alloc: Global,
+    routers: &[Router<'_>],
+) -> Result<Vec<RouterEnd>, AllocError>
+    ensures { IfOk result (λ ends. ends.items ≡ map (λ router. end_of router.state) routers.now) }
+{
+    let mut ends = Vec::new(alloc);
+    for router in routers {
+        ends.push(RouterEnd {
+            counters: router.counters(),
+            rib: router.rib(),
+        })?;
+    }
+    Ok(ends)
+}

@@ -1,0 +1,71 @@
+ghost use Rattle.std.specs.Prelude.{◌≡◌, ◌≤◌, ◌<◌, [], ◌++◌, length, slice_index_or, slice_set, IfOk, OnErr, OnOk, IsErrOf, IsTrue, not, ◌==◌};
+ghost use Rattle.tw_event.specs.Order.{event_before};
+ghost use Rattle.tw_model.specs.Case.{opening_events};
+ghost use Rattle.tw_model.specs.Effect.{fits, is_full};
+ghost use Rattle.tw_model.specs.Ordered.{insert_all};
+ghost use Rattle.tw_queue.specs.Queue.{AreFor};
+ghost use Rattle.tw_seq.specs.Turn.{effect_at, after_event, no_router};
+
+use crate::fault::RunFault;
+use smallvec::SmallVec;
+use std::alloc::{AllocError, Global};
+use tw_event::Event;
+use tw_handlers::{Fault, handle};
+use tw_instance::{Case, Instance};
+use tw_queue::Pending;
+use tw_router::Router;
+
+/// Handles an event at its router, puts what it sends at the end of `sends`, and tells whether the
+/// router's path changed. An error leaves all unchanged.
+pub(crate) fn handle_at(
+    instance: &Instance,
+    routers: &mut [Router<'_>],
+    event: &Event,
+    sends: &mut SmallVec<Event, 8>,
+) -> Result<bool, RunFault>
+    requires within { event.now.dst < length routers.old }
+    requires net { (slice_index_or routers.old event.now.dst no_router).net ≡ instance.now }
+    requires fits { IsTrue (fits (slice_index_or routers.old event.now.dst no_router).net (slice_index_or routers.old event.now.dst no_router).node event.now) }
+    ensures routers { OnOk result
+        (routers.new ≡ slice_set routers.old event.now.dst (after_event (slice_index_or routers.old event.now.dst no_router) event.now)) }
+    ensures sends { OnOk result
+        (sends.new.items ≡ sends.old.items ++ (effect_at (slice_index_or routers.old event.now.dst no_router) event.now).sends) }
+    ensures changed { IfOk result
+        (λ changed. changed ≡ not ((slice_index_or routers.old event.now.dst no_router).state.rib.0 == (after_event (slice_index_or routers.old event.now.dst no_router) event.now).state.rib.0)) }
+    ensures err { OnErr result (routers.new ≡ routers.old) }
+    ensures full { IsErrOf result RunFault.CounterFull
+        → IsTrue (is_full (slice_index_or routers.old event.now.dst no_router).net (slice_index_or routers.old event.now.dst no_router).node (slice_index_or routers.old event.now.dst no_router).state event.now) }
+{
+    let router = &mut routers[event.dst as usize];
+    match handle(instance, router, event, sends) {
+        Ok(note) => Ok(note.changed),
+        Err(Fault::Foreign) => unreachable!(),
+        Err(Fault::CounterFull) => Err(RunFault::CounterFull),
+        Err(Fault::Memory) => Err(RunFault::Memory),
+    }
+}
+
+/// Adds events for which there is room, each in its place.
+pub(crate) fn insert_each(pending: &mut Pending, events: &[Event])
+    requires homes { AreFor pending.old.routers events.now }
+    requires room { length events.now ≤ pending.old.room }
+    ensures events { pending.new.events ≡ insert_all event_before events.now pending.old.events }
+    ensures routers { pending.new.routers ≡ pending.old.routers }
+{
+    for event in events {
+        pending.insert(*event).unwrap();
+    }
+}
+
+/// The opening events of a case.
+pub(crate) fn opening_queue(alloc: Global, case: &Case) -> Result<Pending, AllocError>
+    ensures events { IfOk result
+        (λ pending. pending.events ≡ insert_all event_before (opening_events case.now.scenes) []) }
+    ensures routers { IfOk result (λ pending. pending.routers ≡ case.now.net.nodes) }
+{
+    let events = case.openings();
+    let mut pending = Pending::new(alloc, case.instance().nodes())?;
+    pending.reserve(events.len())?;
+    insert_each(&mut pending, events);
+    Ok(pending)
+}
