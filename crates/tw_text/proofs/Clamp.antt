@@ -42,7 +42,7 @@ all-below : (p : List ℕ) (k : ℕ) → k ≤ 1024 → list_all (λ v. nat_lt v
 all-below [] k h = refl
 all-below (n ∷ p) k h = rw (clamp-below n k h, all-below p k h) refl
 
-both : (a b : Bool) → (a && b) ≡ true → (a ≡ true) × (b ≡ true)
+pub both : (a b : Bool) → (a && b) ≡ true → (a ≡ true) × (b ≡ true)
 both true true h = (refl, refl)
 both true false h = absurd (cc)
 both false b h = absurd (cc)
@@ -110,7 +110,7 @@ filter-short p (x ∷ xs) =
     ]
 
 -- a router has no more paths than there are
-few_places : (net : Net) (v : ℕ) → length (paths net) ≤ 204602 → length (paths_of net v) ≤ 204602
+pub few_places : (net : Net) (v : ℕ) → length (paths net) ≤ 204602 → length (paths_of net v) ≤ 204602
 unfolding paths_of
 few_places net v h =
     rw length-map (omega (arith, filter-short (λ k. begins_at (slice_index_or (paths net) k []) v) (range_with_len 0 (length (paths net))), length-range_with_len 0 (length (paths net))))
@@ -119,7 +119,7 @@ and-false : (a : Bool) → (a && false) ≡ false
 and-false true = refl
 and-false false = refl
 
-not_false : (a : Bool) → not a ≡ false → a ≡ true
+pub not_false : (a : Bool) → not a ≡ false → a ≡ true
 not_false true h = refl
 not_false false h = absurd (cc)
 

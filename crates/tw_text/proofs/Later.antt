@@ -17,7 +17,7 @@ use Rattle.tw_text.specs.Words.{is_plain, words}
 use Rattle.tw_text.proofs.Clamp.{clamped_fault, clamped_is}
 use Rattle.tw_text.proofs.Faults.{later_fault}
 
-with_line-later : (d : Draft) (line : List ℕ) → is_start d ≡ false → with_line d line ≡ with_said d (statement_of (words line))
+pub with_line-later : (d : Draft) (line : List ℕ) → is_start d ≡ false → with_line d line ≡ with_said d (statement_of (words line))
 unfolding with_line
 with_line-later Start line h = absurd (cc)
 with_line-later Header line h = refl

@@ -5,3 +5,14 @@ pub mod Clamp
 pub mod Later
 pub mod Reading
 pub mod Writing
+pub mod Numerals
+pub mod Splits
+pub mod Said
+pub mod Adding
+pub mod Unsaid
+pub mod Short
+pub mod Lines
+pub mod Parts
+pub mod Only
+pub mod Found
+pub mod Told

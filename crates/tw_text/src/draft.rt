@@ -103,7 +103,9 @@ pub(crate) fn read_line(
     draft: Draft,
     line: &[u8],
     ended: bool,
-) -> Result<Draft, LineError> {
+) -> Result<Draft, LineError>
+    ensures { Steps result (fault_of draft line.now ended) (with_line draft line.now) }
+{
     if !is_plain_line(line) {
         return Err(LineError::Fault(LineFault::Byte));
     }
@@ -129,6 +131,7 @@ fn read_header(line: &[u8], ended: bool) -> Result<Draft, LineError>
 fn read_later(alloc: Global, draft: Draft, line: &[u8], ended: bool) -> Result<Draft, LineError>
     requires plain { list_all is_plain line.now ≡ true }
     requires later { is_start draft ≡ false }
+    ensures { Steps result (fault_of draft line.now ended) (with_line draft line.now) }
 {
     // A number that no `u32` holds is above that of any router and any place.
     let nodes = draft.nodes();
@@ -143,7 +146,9 @@ fn take_statement(
     draft: Draft,
     statement: Statement,
     ended: bool,
-) -> Result<Draft, LineError> {
+) -> Result<Draft, LineError>
+    ensures { Steps result (fault_after draft statement ended) (with_statement draft statement) }
+{
     match statement {
         Statement::Nodes(nodes) => take_nodes(alloc, draft, nodes, ended),
         Statement::Link(link) => take_link(draft, link, ended),
@@ -153,7 +158,9 @@ fn take_statement(
     }
 }
 
-fn take_nodes(alloc: Global, draft: Draft, nodes: u32, ended: bool) -> Result<Draft, LineError> {
+fn take_nodes(alloc: Global, draft: Draft, nodes: u32, ended: bool) -> Result<Draft, LineError>
+    ensures { Steps result (fault_after draft (Statement.Nodes nodes) ended) (with_statement draft (Statement.Nodes nodes)) }
+{
     match draft {
         Draft::Header => {
             check_end(ended)?;
@@ -163,7 +170,9 @@ fn take_nodes(alloc: Global, draft: Draft, nodes: u32, ended: bool) -> Result<Dr
     }
 }
 
-fn take_link(draft: Draft, link: Link, ended: bool) -> Result<Draft, LineError> {
+fn take_link(draft: Draft, link: Link, ended: bool) -> Result<Draft, LineError>
+    ensures { Steps result (fault_after draft (Statement.Link link) ended) (with_statement draft (Statement.Link link)) }
+{
     match draft {
         Draft::Links(instance) => {
             check_end(ended)?;
@@ -173,7 +182,9 @@ fn take_link(draft: Draft, link: Link, ended: bool) -> Result<Draft, LineError> 
     }
 }
 
-fn take_path(draft: Draft, path: PathLine, ended: bool) -> Result<Draft, LineError> {
+fn take_path(draft: Draft, path: PathLine, ended: bool) -> Result<Draft, LineError>
+    ensures { Steps result (fault_after draft (Statement.Path path) ended) (with_statement draft (Statement.Path path)) }
+{
     match draft {
         Draft::Links(instance) | Draft::Paths(instance) => {
             check_end(ended)?;
@@ -183,7 +194,9 @@ fn take_path(draft: Draft, path: PathLine, ended: bool) -> Result<Draft, LineErr
     }
 }
 
-fn take_scene(alloc: Global, draft: Draft, scene: Scene, ended: bool) -> Result<Draft, LineError> {
+fn take_scene(alloc: Global, draft: Draft, scene: Scene, ended: bool) -> Result<Draft, LineError>
+    ensures { Steps result (fault_after draft (Statement.Scene scene) ended) (with_statement draft (Statement.Scene scene)) }
+{
     match draft {
         Draft::Links(instance) | Draft::Paths(instance) => {
             check_end(ended)?;
@@ -221,21 +234,29 @@ fn check_end(ended: bool) -> Result<(), LineFault>
     if ended { Ok(()) } else { Err(LineFault::End) }
 }
 
-fn new_instance(alloc: Global, nodes: u32) -> Result<Draft, LineError> {
+fn new_instance(alloc: Global, nodes: u32) -> Result<Draft, LineError>
+    ensures { Steps result (of_rule (nodes_fault nodes)) (Draft.Links (record { nodes = nodes; links = []; lines = [] })) }
+{
     Ok(Draft::Links(Instance::new(alloc, nodes)?))
 }
 
-fn with_link(mut instance: Instance, link: Link) -> Result<Draft, LineError> {
+fn with_link(mut instance: Instance, link: Link) -> Result<Draft, LineError>
+    ensures { Steps result (of_rule (link_fault instance link)) (Draft.Links (record instance { links = instance.links ++ link ∷ [] })) }
+{
     instance.add_link(link)?;
     Ok(Draft::Links(instance))
 }
 
-fn with_path(mut instance: Instance, path: PathLine) -> Result<Draft, LineError> {
+fn with_path(mut instance: Instance, path: PathLine) -> Result<Draft, LineError>
+    ensures { Steps result (of_rule (line_fault instance path)) (Draft.Paths (record instance { lines = instance.lines ++ path ∷ [] })) }
+{
     instance.add_path(path)?;
     Ok(Draft::Paths(instance))
 }
 
-fn with_scene(mut case: Case, scene: Scene) -> Result<Draft, LineError> {
+fn with_scene(mut case: Case, scene: Scene) -> Result<Draft, LineError>
+    ensures { Steps result (of_rule (scene_fault case.net (length case.scenes) scene)) (Draft.Scenes (record case { scenes = case.scenes ++ scene ∷ [] })) }
+{
     case.add(scene)?;
     Ok(Draft::Scenes(case))
 }

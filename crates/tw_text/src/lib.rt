@@ -3,6 +3,7 @@
 
 mod draft;
 mod fault;
+pub mod laws;
 mod read;
 mod statement;
 mod words;

@@ -1,6 +1,8 @@
-ghost use Rattle.std.specs.Prelude.{◌≡◌, ◌<◌, length, map};
+ghost use Rattle.std.specs.Prelude.{◌≡◌, ◌<◌, length, map, IfOk};
+ghost use Rattle.tw_model.specs.Case.{Case as ACase, IsCase};
 ghost use Rattle.tw_text.specs.Reading.{Told, case_at, case_of, finishes, reads, reads_parts};
 ghost use Rattle.tw_text.specs.Steps.{at_line};
+ghost use Rattle.tw_text.specs.Text.{text_of};
 
 use crate::draft::{Draft, LineError, read_line};
 use crate::fault::{LineFault, TextFault};
@@ -18,22 +20,35 @@ impl From<AllocError> for TextFault {
     }
 }
 
-/// The case of a text. A refused text is refused at its first line that has a fault, with the lowest
-/// fault of that line.
-pub fn read_case(alloc: Global, text: &[u8]) -> Result<Case, TextFault> {
+/// The case of a text. A text that is none is refused at its first line that has a fault, with the
+/// lowest fault of that line.
+pub fn read_case(alloc: Global, text: &[u8]) -> Result<Case, TextFault>
+    ensures found { IfOk result (λ c. IsCase c × (text.now ≡ text_of c)) }
+    ensures only { (c : ACase) → IsCase c → text.now ≡ text_of c → Told result (Ok c) }
+    ensures exact { Told result (case_of text.now) }
+{
+    read_exactly(alloc, text)
+}
+
+fn read_exactly(alloc: Global, text: &[u8]) -> Result<Case, TextFault>
+    ensures { Told result (case_of text.now) }
+{
     let parts = split_lines(alloc, text)?;
     read_parts(alloc, &parts)
 }
 
 fn read_parts(alloc: Global, parts: &[&[u8]]) -> Result<Case, TextFault>
     requires { 0 < length parts.now }
+    ensures { Told result (reads_parts (map (λ p. p.now) parts.now)) }
 {
     let last = parts.len() - 1;
     let draft = read_ended(alloc, &parts[..last])?;
     finish(alloc, draft, parts[last], parts.len())
 }
 
-fn read_ended(alloc: Global, lines: &[&[u8]]) -> Result<Draft, TextFault> {
+fn read_ended(alloc: Global, lines: &[&[u8]]) -> Result<Draft, TextFault>
+    ensures { Told result (reads Draft.Start 1 (map (λ l. l.now) lines.now)) }
+{
     let mut draft = Draft::Start;
     for (i, line) in lines.iter().enumerate() {
         match read_line(alloc, draft, line, true) {
@@ -45,7 +60,9 @@ fn read_ended(alloc: Global, lines: &[&[u8]]) -> Result<Draft, TextFault> {
 }
 
 /// The case, given what follows the last line end: a line's beginning, or nothing.
-fn finish(alloc: Global, draft: Draft, rest: &[u8], line: usize) -> Result<Case, TextFault> {
+fn finish(alloc: Global, draft: Draft, rest: &[u8], line: usize) -> Result<Case, TextFault>
+    ensures { Told result (finishes draft line rest.now) }
+{
     if rest.is_empty() {
         return case_at(draft, line);
     }

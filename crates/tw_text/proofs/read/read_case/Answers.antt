@@ -1,9 +1,8 @@
-use Rattle.std.proofs.Common.{sym, ap, ◌==◌, length, arith}
-use Rattle.std.proofs.lemmas.List.{length-map}
-use Rattle.std.proofs.lemmas.List.Splits.{length-slice_split}
-use Rattle.tw_text.specs.Reading.{case_of}
+use Rattle.tw_text.proofs.Told.{found_told, only_told}
 use Rattle.tw_text.proofs.read.read_case.Goals as goal
 
-pub read_parts-requires : goal.read_parts-requires
-read_parts-requires c =
-    omega (arith, ap length c.deref.ensures.value, ap length c.in_ok-parts.ensures, length-map c.in_ok-parts.parts.items (λ x. x.now), length-slice_split (λ b. b == 10) c.args.text.now)
+pub returns-clause-found : goal.returns-clause-found
+returns-clause-found c = found_told _ c.args.text.now c.read_exactly.ensures
+
+pub returns-clause-only : goal.returns-clause-only
+returns-clause-only c = λ d is e. only_told _ c.args.text.now d is e c.read_exactly.ensures
