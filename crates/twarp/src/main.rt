@@ -1,0 +1,75 @@
+//! The program `twarp`: simulates path-vector routing, event by event.
+#![tactic(auto)]
+
+use std::env;
+use std::io::{self, BufWriter, Write};
+use std::process::ExitCode;
+use tw_commands::{Cause, OverRead, Status, check_io, seq_io, trail_io};
+use tw_options::{Line, LineFault, options};
+use tw_report::OverWrite;
+
+/// The exit status of words that are no command line.
+const BAD_LINE: u8 = 3;
+
+fn main(rt: HostRuntime) -> ExitCode {
+    let words: Vec<String> = match env::args(&rt) {
+        Ok(words) => match words.collect(rt.alloc()) {
+            Ok(words) => words,
+            Err(_) => return stopped(&rt, Cause::Memory),
+        },
+        Err(error) if error.kind() == io::ErrorKind::OutOfMemory => {
+            return stopped(&rt, Cause::Memory);
+        }
+        Err(_) => {
+            let _ = eprintln!(rt; "error: a word of the command line is no text in UTF-8");
+            return ExitCode::from(BAD_LINE);
+        }
+    };
+    match options(rt.alloc(), words.as_slice()) {
+        Ok(line) => run(&rt, line),
+        Err(LineFault::Help(text)) => match text.print(&rt) {
+            Ok(()) => ExitCode::SUCCESS,
+            Err(_) => stopped(&rt, Cause::Device),
+        },
+        Err(LineFault::Bad(text)) => {
+            let _ = text.print(&rt);
+            ExitCode::from(BAD_LINE)
+        }
+        Err(LineFault::Memory) => stopped(&rt, Cause::Memory),
+    }
+}
+
+/// Does what the line asks, from standard input to standard output.
+fn run<R: Input + Print + Eprint + AllocGlobal>(rt: &R, line: Line) -> ExitCode {
+    match answer(rt, line) {
+        Ok(Status::Done) => ExitCode::SUCCESS,
+        Ok(Status::Refused) => ExitCode::from(1),
+        Err(cause) => stopped(rt, cause),
+    }
+}
+
+fn answer<R: Input + Print + AllocGlobal>(rt: &R, line: Line) -> Result<Status, Cause> {
+    let alloc = rt.alloc();
+    let mut source = OverRead::new(rt.reader());
+    let mut sink = OverWrite::new(match BufWriter::new(alloc, io::writer(rt)) {
+        Ok(writer) => writer,
+        Err(_) => return Err(Cause::Memory),
+    });
+    let status = match line {
+        Line::Check => check_io(alloc, &mut source, &mut sink)?,
+        Line::Seq { stop, log } => seq_io(alloc, &mut source, &mut sink, stop, log)?,
+        Line::Trail { router, stop, keep } => {
+            trail_io(alloc, &mut source, &mut sink, router, stop, keep)?
+        }
+    };
+    match sink.into_writer().flush() {
+        Ok(()) => Ok(status),
+        Err(_) => Err(Cause::Device),
+    }
+}
+
+/// Says the cause on standard error.
+fn stopped(rt: &impl Eprint, cause: Cause) -> ExitCode {
+    let _ = rt.eprintln(cause);
+    ExitCode::from(2)
+}
