@@ -1,0 +1,11 @@
+use Rattle.tw_model.specs.Case.{simulation}
+use Rattle.tw_model.proofs.Closed as closed
+use Rattle.tw_model.proofs.Unique as unique
+use Rattle.tw_model.proofs.Lawful.{lawful, numbered}
+use Rattle.tw_seq.proofs.laws.closed_unique.Goals as goal
+
+pub returns-clause-closed : goal.returns-clause-closed
+returns-clause-closed c = λ case is t. closed.log_closed (simulation case) (lawful case is) (numbered case is) t
+
+pub returns-clause-unique : goal.returns-clause-unique
+returns-clause-unique c = λ case is t one two first second. unique.same_lists (simulation case) (lawful case is) t one two first second
