@@ -159,7 +159,7 @@ impl Instance {
         ensures value { result.now ≡ self.now.links }
         ensures net { IsNet self.now }
     {
-        &self.links
+        self.links.as_slice()
     }
 
     /// The permitted paths, as they were given.
@@ -167,7 +167,7 @@ impl Instance {
         ensures value { result.now ≡ self.now.lines }
         ensures net { IsNet self.now }
     {
-        &self.paths
+        self.paths.as_slice()
     }
 
     /// The neighbours of a router in rising number; none where there is no such router.
@@ -231,7 +231,8 @@ impl Instance {
         ensures only { (q : APathNo) → IsPath self.now q → path self.now q ≡ nodes.now → result ≡ Some q }
         ensures net { IsNet self.now }
     {
-        let _ = &self.nodes;
+        // Opens the invariant, from which each answer follows.
+        let _ = &self.links;
         match nodes {
             [] => Some(PathNo(0)),
             [first, rest @ ..] => self.number_at(*first, rest),
@@ -256,7 +257,8 @@ impl Instance {
         ensures own { IfSome result (λ q. IsPath self.now q × IsTrue (is_own self.now node q)) }
         ensures only { (q : APathNo) → path self.now q ≡ node ∷ rest.now → result ≡ Some q }
     {
-        let _ = &self.nodes;
+        // Opens the invariant, from which each answer follows.
+        let _ = &self.links;
         find_path(self, self.permitted(node), node, rest)
     }
 }
