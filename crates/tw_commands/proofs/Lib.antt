@@ -1,3 +1,4 @@
 pub mod Input
 pub mod Kept
+pub mod Leaving
 pub mod RunPaths

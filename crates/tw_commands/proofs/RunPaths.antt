@@ -1,6 +1,6 @@
 -- The paths that a run shows are paths of its instance.
 use Rattle.std.proofs.Common.{◌≡◌, ℕ, ◌<◌, ◌==◌, true, List, [], ◌∷◌, length, reverse, map, subst, sym, inl, inr, arith}
-use Rattle.std.specs.List.{All}
+use Rattle.std.specs.List.{All, range_with_len}
 use Rattle.std.proofs.lemmas.Bool.{cases_Bool, and_parts, eqb-true}
 use Rattle.tw_event.specs.declared.event.Body.{Body}
 use Rattle.tw_event.specs.declared.event.Body.TheVariants.{Start, Fail, Restore, Swap, Update}
@@ -15,11 +15,14 @@ use Rattle.tw_model.specs.Seq.{at, begin, finished, log, weight}
 use Rattle.tw_model.specs.Case.{Case, IsCase, simulation}
 use Rattle.tw_model.proofs.Counts.{times-reverse}
 use Rattle.tw_model.proofs.Lawful.{lawful}
-use Rattle.tw_model.proofs.Members.{In, all_from_in, in_filter, in_times, times_in}
+use Rattle.tw_model.proofs.Members.{In, all_from_in, in_filter, in_map, times_in}
 use Rattle.tw_model.proofs.Paths.{own_is_path}
 use Rattle.tw_model.proofs.Rising.{suit-begin, suit-turns}
 use Rattle.tw_model.proofs.Suits.{own_state}
 use Rattle.tw_report.specs.Lines.{NamesPath}
+use Rattle.tw_report.specs.Report.{HasPaths}
+use Rattle.tw_seq.specs.Outcome.{end_of, outcome_of}
+use Rattle.tw_seq.specs.Run.{complete, state_after}
 
 permitted_is_path : (net : Net) (v : ℕ) (q : PathNo) → is_permitted net v q ≡ true → IsPath net q
 permitted_is_path net v q h =
@@ -57,3 +60,12 @@ module _ (case : Case) (is : IsCase case) where
   rib_is_path v events =
       let own = own_state case v (only (simulation case) v events) (λ y k. let home = (in_filter (λ x. x.dst == v) y events k).0 in eqb-true y.dst v home) in
       permitted_is_path case.net v (state (simulation case) v (only (simulation case) v events)).rib own.rib
+
+  -- all that the report of the run shows
+  pub has_paths : (t : ℕ) → HasPaths case.net (outcome_of (complete case t))
+  has_paths t = record {
+    events = events_name_paths t;
+    routers = all_from_in (λ r. IsPath case.net r.rib) (outcome_of (complete case t)).routers (λ r there.
+        let of = in_map (λ v. end_of (state_after case (complete case t).events v)) r (range_with_len 0 case.net.nodes) there in
+        subst (λ x. IsPath case.net x.rib) (sym of.1) (rib_is_path of.0 (reverse (complete case t).events)));
+  }

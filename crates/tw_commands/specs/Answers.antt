@@ -1,6 +1,8 @@
 -- What a program writes, and what it leaves where it stops.
 use Rattle.std.specs.Prelude.{ℕ, ◌≡◌, ◌⊎◌, Bool, false, true, List, Option, Result, Ok, Err}
 use Rattle.std.specs.Io.KnownBytes.{Appends, Keeps}
+use Rattle.std.specs.String.{string_bytes}
+use Rattle.tw_commands.specs.declared.answer.Answer.{Answer}
 use Rattle.tw_commands.specs.declared.cause.Cause.{Cause}
 use Rattle.tw_commands.specs.declared.cause.Cause.TheVariants.{Memory, CounterFull, Device}
 use Rattle.tw_commands.specs.declared.cause.Status.{Status}
@@ -11,6 +13,13 @@ use Rattle.tw_report.specs.Sink.{Begins}
 pub record Output : Type 0 where
   pub status : Status
   pub text : List ℕ
+
+-- what a program is to write, unless it stops before; full says whether a counter can be
+abbrev pub Gives : Result Answer Cause → Output → Type 0 → Type 0
+Gives (Ok a) output full = (a.status ≡ output.status) × (string_bytes a.text ≡ output.text)
+Gives (Err Memory) output full = Unit {0}
+Gives (Err CounterFull) output full = full
+Gives (Err Device) output full = ⊥
 
 -- what stopped a program has written nothing, and no device has failed
 pub record StopsBefore (old new : Option (List ℕ)) (reader writer : Bool) : Type 0 where
@@ -38,12 +47,12 @@ pub record IsDone (status : Status) (output : Output) (old new : Option (List �
   pub writer_open : writer ≡ false
 
 -- what a program leaves that is to write this output
-abbrev pub Leaves : Result Status Cause → Output → Option (List ℕ) → Option (List ℕ) → Bool → Bool → Type 0
-Leaves (Ok status) output old new reader writer = IsDone status output old new reader writer
-Leaves (Err Memory) output old new reader writer = StopsBefore old new reader writer
-Leaves (Err CounterFull) output old new reader writer = StopsBefore old new reader writer
-Leaves (Err Device) output old new reader writer = StopsReading old new reader writer ⊎ StopsWriting output.text old new reader writer
+abbrev pub Leaves : Result Status Cause → Output → Type 0 → Option (List ℕ) → Option (List ℕ) → Bool → Bool → Type 0
+Leaves (Ok status) output full old new reader writer = IsDone status output old new reader writer
+Leaves (Err Memory) output full old new reader writer = StopsBefore old new reader writer
+Leaves (Err CounterFull) output full old new reader writer = full × StopsBefore old new reader writer
+Leaves (Err Device) output full old new reader writer = StopsReading old new reader writer ⊎ StopsWriting output.text old new reader writer
 
 -- what a program leaves that is to write the output of its input
-abbrev pub Answers : Result Status Cause → (List ℕ → Output) → Option (List ℕ) → Option (List ℕ) → Option (List ℕ) → Bool → Bool → Type 0
-Answers result output known old new reader writer = (input : List ℕ) × IsInput known input × Leaves result (output input) old new reader writer
+abbrev pub Answers : Result Status Cause → (List ℕ → Output) → (List ℕ → Type 0) → Option (List ℕ) → Option (List ℕ) → Option (List ℕ) → Bool → Bool → Type 0
+Answers result output full known old new reader writer = (input : List ℕ) × IsInput known input × Leaves result (output input) (full input) old new reader writer

@@ -1,2 +1,5 @@
+pub mod Cause
 pub mod Source
 pub mod Answers
+pub mod Check
+pub mod Seq

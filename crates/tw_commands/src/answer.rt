@@ -15,7 +15,7 @@ pub(crate) struct Answer {
 /// Writes an answer whole.
 pub(crate) fn write_answer<W: Sink>(sink: &mut W, answer: &Answer) -> Result<Status, Cause>
     requires { W.failed sink.old ≡ false }
-    ensures { Leaves result (record { status = answer.now.status; text = string_bytes answer.now.text }) (W.written sink.old) (W.written sink.new) false (W.failed sink.new) }
+    ensures { Leaves result (record { status = answer.now.status; text = string_bytes answer.now.text }) ⊥ (W.written sink.old) (W.written sink.new) false (W.failed sink.new) }
 {
     put_all(sink, answer.text.as_bytes())?;
     Ok(answer.status)

@@ -1,9 +1,11 @@
 ghost use Rattle.std.specs.Prelude.{◌≡◌};
 ghost use Rattle.tw_commands.specs.declared.cause.Cause.TheVariants.{Memory, Device};
+ghost use Rattle.tw_commands.specs.Cause.{cause_of};
 
 use std::alloc::AllocError;
 use thiserror::Error;
 use tw_report::Failed;
+use tw_seq::RunFault;
 
 /// Why a program stopped before its answer was written.
 #[derive(Clone, Copy, PartialEq, Eq, Debug, Error)]
@@ -32,6 +34,17 @@ impl From<Failed> for Cause {
 
     fn from(_: Failed) -> Cause {
         Cause::Device
+    }
+}
+
+impl From<RunFault> for Cause {
+    ghost from_gives = { λ fault cause. cause ≡ cause_of fault };
+
+    fn from(fault: RunFault) -> Cause {
+        match fault {
+            RunFault::CounterFull => Cause::CounterFull,
+            RunFault::Memory => Cause::Memory,
+        }
     }
 }
 

@@ -4,7 +4,11 @@
 
 mod answer;
 mod cause;
+mod check;
+mod seq;
 mod source;
 
 pub use cause::{Cause, Status};
+pub use check::check_io;
+pub use seq::seq_io;
 pub use source::{LIMIT, OverRead, Source, read_all};

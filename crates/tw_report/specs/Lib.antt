@@ -1,5 +1,4 @@
 pub mod Sink
 pub mod Lines
-pub mod Summary
 pub mod Verdict
 pub mod Report

@@ -12,7 +12,7 @@ use Rattle.tw_report.specs.declared.verdict.Verdict.{Verdict}
 use Rattle.tw_report.specs.declared.verdict.Verdict.TheVariants.{Quiet, Undecided}
 use Rattle.tw_report.specs.Lines.{NamesPath, event_words, line, router_words}
 use Rattle.tw_report.specs.Sink.{Begins}
-use Rattle.tw_report.specs.Summary.{Summary}
+use Rattle.tw_model.specs.Summary.{Summary}
 
 abbrev pub verdict_words : Verdict → List (List ℕ)
 verdict_words (Quiet c) = codes "verdict" ∷ codes "quiet" ∷ decimal c ∷ []

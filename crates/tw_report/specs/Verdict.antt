@@ -3,7 +3,7 @@ use Rattle.std.specs.Prelude.{ℕ, List, [], ◌∷◌}
 use Rattle.tw_event.specs.declared.event.Event.{Event}
 use Rattle.tw_report.specs.declared.verdict.Verdict.{Verdict}
 use Rattle.tw_report.specs.declared.verdict.Verdict.TheVariants.{Quiet, Undecided}
-use Rattle.tw_report.specs.Summary.{Summary}
+use Rattle.tw_model.specs.Summary.{Summary}
 
 -- quiet since time c where nothing is pending, however late; else open
 abbrev pub verdict_over : ℕ → List Event → Verdict

@@ -5,7 +5,7 @@ ghost use Rattle.tw_model.specs.Net.{IsPath};
 ghost use Rattle.tw_report.specs.declared.report.ReportError.TheVariants.{Memory, Device};
 ghost use Rattle.tw_report.specs.Lines.{NamesPath, line};
 ghost use Rattle.tw_report.specs.Report.{HasPaths, Writes, event_lines, head_lines, logged_lines, report_text, router_lines, verdict_words};
-ghost use Rattle.tw_report.specs.Summary.{summary_of};
+ghost use Rattle.tw_model.specs.Summary.{summary_of};
 
 use crate::lines::{event_text, router_text};
 use crate::sink::{Failed, Sink, put_all};

@@ -1,5 +1,5 @@
 ghost use Rattle.std.specs.Prelude.{◌≡◌};
-ghost use Rattle.tw_report.specs.Summary.{summary_of};
+ghost use Rattle.tw_model.specs.Summary.{summary_of};
 ghost use Rattle.tw_report.specs.Verdict.{verdict_of};
 
 use tw_model::Outcome;

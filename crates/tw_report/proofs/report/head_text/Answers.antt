@@ -4,7 +4,7 @@ use Rattle.std.specs.Fmt.{decimal}
 use Rattle.std.specs.String.{string_bytes}
 use Rattle.tw_report.specs.Lines.{line}
 use Rattle.tw_report.specs.Report.{head_lines}
-use Rattle.tw_report.specs.Summary.{Summary, summary_of}
+use Rattle.tw_model.specs.Summary.{Summary, summary_of}
 use Rattle.tw_report.proofs.report.head_text.Goals as goal
 
 -- the first three lines without inner ends

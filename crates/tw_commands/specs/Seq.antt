@@ -1,0 +1,37 @@
+-- What `seq` writes.
+use Rattle.std.specs.Prelude.{ℕ, ◌≡◌, Bool, List, Ok}
+use Rattle.tw_commands.specs.declared.cause.Status.TheVariants.{Done}
+use Rattle.tw_commands.specs.Answers.{Output}
+use Rattle.tw_commands.specs.Check.{for_case}
+use Rattle.tw_model.specs.Case.{Case}
+use Rattle.tw_model.specs.Summary.{Summary}
+use Rattle.tw_report.specs.Report.{report_text}
+use Rattle.tw_report.specs.Verdict.{verdict_of}
+use Rattle.tw_seq.specs.Outcome.{outcome_of}
+use Rattle.tw_seq.specs.Run.{Continues, IsStuck, Run, complete, opened}
+use Rattle.tw_text.specs.Reading.{case_of}
+
+-- the report with its own verdict
+abbrev pub reported : Case → Bool → Summary → Output
+reported case log o = record { status = Done; text = report_text case.net o (verdict_of o) log }
+
+-- the report of the sequential run of the case to the stop
+abbrev pub seq_report : ℕ → Bool → Case → Output
+seq_report stop log case = reported case log (outcome_of (complete case stop))
+
+unfoldable pub seq_output : ℕ → Bool → List ℕ → Output
+seq_output stop log input = for_case (seq_report stop log) (case_of input)
+
+-- on its way to the stop the run of the case comes to an event that would pass a counter's limit
+pub record GetsStuck (case : Case) (stop : ℕ) : Type 0 where
+  pub run : Run
+  pub own : run.case ≡ case
+  pub to_stop : run.stop ≡ stop
+  pub reached : Continues (opened case) run
+  pub stuck : IsStuck run
+
+-- the same for the case of a text
+pub record StopsFull (stop : ℕ) (input : List ℕ) : Type 0 where
+  pub case : Case
+  pub read : case_of input ≡ Ok case
+  pub stuck : GetsStuck case stop
