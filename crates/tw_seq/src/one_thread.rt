@@ -56,10 +56,12 @@ impl<'a> OneThread<'a> {
         })
     }
 
-    /// Handles all events before `stop`, and before each stop asked for earlier.
+    /// Handles all events before `stop`, in ticks, and before each stop asked for earlier. A stop is at
+    /// most 1,000,000,000.
     ///
     /// After a fault the events before the refused one stand handled, and nothing else has changed; a
-    /// later call goes on from there.
+    /// later call goes on from there. It is `CounterFull` only where handling the least pending event
+    /// would pass a counter's limit.
     pub fn run_to(&mut self, stop: u64) -> Result<(), RunFault>
         requires { stop ≤ 1000000000 }
         ensures ok { OnOk result (self.new ≡ complete self.old.case (max self.old.stop stop)) }
