@@ -5,9 +5,9 @@ use Rattle.tw_event.specs.declared.event.Body.TheVariants.{Update}
 use Rattle.tw_event.specs.declared.event.Event.{Event}
 use Rattle.tw_event.specs.declared.event.PathNo.{PathNo}
 use Rattle.tw_model.specs.Net.{IsPath, Net, is_own, is_permitted}
+use Rattle.tw_model.proofs.Paths.{own_is_path}
 use Rattle.tw_model.specs.State.{has_peer}
 use Rattle.tw_model.specs.Effect.{body_suits, fits, suits}
-use Rattle.tw_router.proofs.Opening.{IsPath-from_own}
 
 pub body_suits-fits : (net : Net) (v : ℕ) (e : Event) → fits net v e ≡ true → body_suits net v e e.body ≡ true
 body_suits-fits net v e h =
@@ -18,7 +18,7 @@ IsPath-from_permitted : (net : Net) (v : ℕ) (q : PathNo) → is_permitted net 
 IsPath-from_permitted net v q h =
     elim (or_cases (q.0 == 0) (is_own net v q) h) [
       | inl e ↦ (let z : q.0 ≡ 0 = eqb-true q.0 0 e in omega arith)
-      | inr own ↦ IsPath-from_own net v q own
+      | inr own ↦ (own_is_path net v q own).0
     ]
 
 -- the path of an update that fits is one of the instance

@@ -1,4 +1,4 @@
--- The permitted paths of a router are its own, and what is its own is a path.
+-- How a router begins.
 use Rattle.std.proofs.Common.{◌≡◌, ℕ, ◌<◌, ◌≤◌, true, false, List, [], ◌∷◌, length, get_or, map, sym, ap, ◌∙◌, refl, subst, inl, inr, arith}
 use Rattle.std.proofs.lemmas.Bool.{cases_lt, false≢true}
 use Rattle.std.proofs.lemmas.List.{get_or_past, length-map}
@@ -8,19 +8,11 @@ use Rattle.tw_event.specs.declared.event.PathNo.{PathNo}
 use Rattle.tw_model.specs.declared.state.Counters.{Counters}
 use Rattle.tw_model.specs.declared.state.Row.{Row}
 use Rattle.tw_model.specs.Net.{IsPath, Net, begins_at, empty_path, hops_of, is_own, path, paths, paths_of}
+use Rattle.tw_model.proofs.Paths.{own_is_path}
 use Rattle.tw_model.specs.State.{IsCounted, IsState, fresh_row}
 
--- a number whose nodes begin with a router stands for a path
-pub IsPath-from_own : (net : Net) (v : ℕ) (q : PathNo) → is_own net v q ≡ true → IsPath net q
-unfolding path
-IsPath-from_own net v q own =
-    elim (cases_lt q.0 (length (paths net))) [
-      | inl h ↦ h
-      | inr h ↦ absurd (false≢true (subst (λ p. begins_at p v ≡ true) (get_or_past (paths net) q.0 [] h) own))
-    ]
-
 pub all-paths : (net : Net) (v : ℕ) (order : List PathNo) → All (λ q. is_own net v q ≡ true) order → All (IsPath net) order
-all-paths net v order own = All-weaker (λ q. is_own net v q ≡ true) (IsPath net) (IsPath-from_own net v) order own
+all-paths net v order own = All-weaker (λ q. is_own net v q ≡ true) (IsPath net) (λ q own. (own_is_path net v q own).0) order own
 
 -- the state in which a router begins is one that it can have
 pub IsState-opening : (net : Net) (v : ℕ) (c : Counters) (rows : List Row) (order : List PathNo)

@@ -1,1 +1,2 @@
+pub mod Nodes
 pub mod Valid

@@ -1,8 +1,9 @@
 ghost use Rattle.std.specs.Prelude.{◌≡◌, ◌+◌, ◌-◌, ◌≤◌, ◌<◌, ◌↔◌, map, length, slice_set, IfOk, IsErrOf, IsTrue};
 ghost use Rattle.std.specs.List.{All};
-ghost use Rattle.tw_model.specs.Net.{IsPath, hops_of, paths_of};
+ghost use Rattle.tw_model.specs.Net.{IsPath, hops_of, path as path_of, paths_of};
 ghost use Rattle.tw_model.specs.State.{IsCounted, IsState, best as best_of, fresh_row, limit, opening, opening_with, row as row_of};
 ghost use Rattle.tw_model.specs.Effect.{swapping, with_row};
+ghost use Rattle.tw_router.specs.Nodes.{best_nodes, heard_of, order_of};
 ghost use Rattle.tw_router.specs.declared.router.OpenFault.TheVariants.{Memory};
 
 use crate::choice::first_offered;
@@ -202,6 +203,8 @@ impl<'a> Router<'a> {
     pub fn best(&self) -> PathNo
         ensures value { result ≡ best_of self.now.net self.now.node self.now.state }
         ensures path { IsPath self.now.net result }
+        ensures nodes { path_of self.now.net result
+            ≡ best_nodes self.now.node (heard_of self.now.net self.now.state) (order_of self.now.net self.now.state) }
     {
         if self.node == 0 {
             PathNo(1)

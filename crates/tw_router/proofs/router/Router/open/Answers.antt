@@ -9,6 +9,7 @@ use Rattle.tw_router.proofs.router.Router.open.Goals as goal
 pub invariant_of-result : goal.invariant_of-result
 invariant_of-result c =
     record {
+      net = c.hops.ensures.net;
       node = c.requires.below;
       state = IsState-opening c.args.instance.now c.args.node c.args.counters _ _ c.requires.counted
           (c.in_ok-fresh_rows.ensures ∙ ap (map fresh_row) c.hops.ensures.value)
