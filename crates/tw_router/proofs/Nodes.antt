@@ -8,10 +8,9 @@ use Rattle.tw_event.specs.declared.event.PathNo.{PathNo}
 use Rattle.tw_model.specs.declared.state.Row.{Row}
 use Rattle.tw_model.specs.Net.{IsPath, Net, empty_path, path, same_path}
 use Rattle.tw_model.specs.Rules.{IsNet}
-use Rattle.tw_model.specs.State.{Router, State, best, offers}
+use Rattle.tw_model.specs.State.{IsState, Router, State, best, offers}
 use Rattle.tw_model.proofs.Paths.{path_empty, path_origin, path_some}
 use Rattle.tw_router.specs.Nodes.{Heard, best_nodes, heard_of, is_heard_of, order_of}
-use Rattle.tw_router.specs.Valid.{IsRouter}
 
 some_length : (p : List ℕ) → (p ≡ [] → ⊥) → 0 < length p
 some_length [] empty = absurd (empty refl)
@@ -49,7 +48,8 @@ best-nodes-at net valid v s within false is =
     rw is (find-nodes net (λ q. list_any (offers net v q) s.rows) (is_heard_of v (heard_of net s)) (λ q. offers-nodes net valid v q s.rows within) s.order)
 
 -- the nodes of the best path are the best path by nodes
-pub best-nodes : (router : Router) → IsRouter router → (p : PathNo) → p ≡ best router.net router.node router.state
+pub best-nodes : (router : Router) → IsNet router.net → IsState router.net router.node router.state
+    → (p : PathNo) → p ≡ best router.net router.node router.state
     → path router.net p ≡ best_nodes router.node (heard_of router.net router.state) (order_of router.net router.state)
-best-nodes router valid p is =
-    ap (path router.net) is ∙ best-nodes-at router.net valid.net router.node router.state valid.state.heard (router.node == 0) refl
+best-nodes router valid state p is =
+    ap (path router.net) is ∙ best-nodes-at router.net valid router.node router.state state.heard (router.node == 0) refl

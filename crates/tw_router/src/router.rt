@@ -1,6 +1,7 @@
 ghost use Rattle.std.specs.Prelude.{◌≡◌, ◌+◌, ◌-◌, ◌≤◌, ◌<◌, ◌↔◌, map, length, slice_set, IfOk, IsErrOf, IsTrue};
 ghost use Rattle.std.specs.List.{All};
 ghost use Rattle.tw_model.specs.Net.{IsPath, hops_of, path as path_of, paths_of};
+ghost use Rattle.tw_model.specs.Rules.{IsNet};
 ghost use Rattle.tw_model.specs.State.{IsCounted, IsState, best as best_of, fresh_row, limit, opening, opening_with, row as row_of};
 ghost use Rattle.tw_model.specs.Effect.{swapping, with_row};
 ghost use Rattle.tw_router.specs.Nodes.{best_nodes, heard_of, order_of};
@@ -124,6 +125,7 @@ impl<'a> Router<'a> {
     pub fn node(&self) -> u32
         ensures value { result ≡ self.now.node }
         ensures below { self.now.node < self.now.net.nodes }
+        ensures net { IsNet self.now.net }
         ensures state { IsState self.now.net self.now.node self.now.state }
     {
         self.node
@@ -162,7 +164,7 @@ impl<'a> Router<'a> {
         ensures value { result ≡ (row_of self.now.state slot).heard }
         ensures path { IsPath self.now.net result }
     {
-        self.rows[slot].heard
+        self.row(slot).heard
     }
 
     /// Whether the link to the neighbour of a slot is up.
@@ -170,7 +172,7 @@ impl<'a> Router<'a> {
         requires { slot < length self.now.state.rows }
         ensures { result ≡ (row_of self.now.state slot).up }
     {
-        self.rows[slot].up
+        self.row(slot).up
     }
 
     /// How often the link to the neighbour of a slot was repaired.
@@ -179,7 +181,7 @@ impl<'a> Router<'a> {
         ensures value { result ≡ (row_of self.now.state slot).session }
         ensures most { result ≤ self.now.state.counters.handled }
     {
-        self.rows[slot].session
+        self.row(slot).session
     }
 
     /// Its permitted paths, the best first.
@@ -206,10 +208,11 @@ impl<'a> Router<'a> {
         ensures nodes { path_of self.now.net result
             ≡ best_nodes self.now.node (heard_of self.now.net self.now.state) (order_of self.now.net self.now.state) }
     {
-        if self.node == 0 {
+        let node = self.node();
+        if node == 0 {
             PathNo(1)
         } else {
-            first_offered(self.instance, self.node, &self.order, &self.rows)
+            first_offered(self.instance, node, self.order(), self.rows())
         }
     }
 
