@@ -239,7 +239,8 @@ impl Instance {
         }
     }
 
-    /// The path that is `node` followed by this path, where it is permitted at `node`.
+    /// The path that is `node` followed by this path, where it is permitted at `node`. `slot` is the
+    /// place of the neighbour that the path came from; the answer is the same for each of them.
     pub fn extend(&self, node: u32, slot: usize, number: PathNo) -> Option<PathNo>
         requires router { node < self.now.nodes }
         requires slot { slot < length (hops_of self.now node) }
