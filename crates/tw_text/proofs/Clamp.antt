@@ -1,5 +1,5 @@
 -- A node or a place that a `u32` does not hold breaks the same rules as the greatest that it holds.
-use Rattle.std.proofs.Common.{◌≡◌, ℕ, ◌<◌, ◌≤◌, min, nat_lt, nat_le, Bool, true, false, not, ◌&&◌, ◌||◌, List, [], ◌∷◌, length, map, Option, Some, None, Result, Ok, Err, refl, ap, sym, ◌∙◌, inl, inr, arith, slice_index_or, if◌then◌else◌}
+use Rattle.std.proofs.Common.{◌≡◌, ℕ, ◌≤◌, nat_lt, nat_le, Bool, true, false, not, ◌&&◌, ◌||◌, List, [], ◌∷◌, length, map, Option, Some, None, refl, ap, sym, ◌∙◌, inl, inr, arith, slice_index_or, if◌then◌else◌}
 use Rattle.std.proofs.lemmas.Bool.{cases_Bool}
 use Rattle.std.proofs.lemmas.Bool.Decides.{nat_tests}
 use Rattle.std.specs.List.{list_all}
@@ -10,8 +10,7 @@ use Rattle.std.specs.List.{filter, range_with_len}
 use Rattle.tw_model.proofs.Within.{none_broken}
 use Rattle.tw_model.specs.Line.{Line}
 use Rattle.tw_model.specs.Net.{Net, begins_at, paths, paths_of}
-use Rattle.tw_model.specs.Rules.{has_place, is_within, lowest, rules_in_order, nodes_break, link_breaks, line_breaks, scene_breaks}
-use Rattle.tw_model.specs.declared.case.Scene.{Scene}
+use Rattle.tw_model.specs.Rules.{has_place, is_within, lowest, rules_in_order}
 use Rattle.tw_model.specs.declared.case.Scene.TheVariants.{Fail, Restore, Swap}
 use Rattle.tw_model.specs.declared.net.Link.{Link}
 use Rattle.tw_model.specs.declared.net.Rule.{Rule}
@@ -21,9 +20,9 @@ use Rattle.tw_text.specs.declared.draft.Draft.TheVariants.{Start, Header, Links,
 use Rattle.tw_text.specs.declared.fault.LineFault.TheVariants as x
 use Rattle.tw_text.specs.declared.statement.Statement.{Statement}
 use Rattle.tw_text.specs.declared.statement.Statement.TheVariants as say
-use Rattle.tw_text.specs.Statements.{clamp, clamped, clamped_scene}
+use Rattle.tw_text.specs.Statements.{clamp, clamped}
 use Rattle.tw_text.specs.Steps.{IsSmall, fault_after, of_rule}
-use Rattle.tw_text.specs.Table.{breaks, is_done, is_misplaced, net_of, scenes_of}
+use Rattle.tw_text.specs.Table.{breaks, is_done, is_misplaced, net_of}
 
 clamp-same : (n : ℕ) → n ≤ 204602 → clamp n ≡ n
 clamp-same n h = omega arith

@@ -1,5 +1,5 @@
 -- The lowest fault of a line, test by test.
-use Rattle.std.proofs.Common.{◌≡◌, ℕ, Bool, true, false, not, ◌&&◌, ◌||◌, cond, List, [], ◌∷◌, map, Option, Some, None, Result, Ok, Err, refl, ap, sym, ◌∙◌, inl, inr, bytes_eq, codes, if◌then◌else◌}
+use Rattle.std.proofs.Common.{◌≡◌, ℕ, Bool, true, false, not, ◌&&◌, ◌||◌, cond, List, [], ◌∷◌, map, Option, Some, None, Result, Ok, Err, refl, ap, sym, ◌∙◌, inl, inr, bytes_eq, codes}
 use Rattle.std.proofs.lemmas.Bool.{cases_Bool}
 use Rattle.std.specs.List.{find, list_all}
 use Rattle.tw_model.specs.Rules.{lowest, rules_in_order}
@@ -12,8 +12,8 @@ use Rattle.tw_text.specs.declared.statement.Statement.{Statement}
 use Rattle.tw_text.specs.declared.statement.WordsFault.{WordsFault}
 use Rattle.tw_text.specs.declared.statement.WordsFault.TheVariants.{Word, Number}
 use Rattle.tw_text.specs.Statements.{statement_of}
-use Rattle.tw_text.specs.Steps.{fault_after, of_rule, said_fault}
-use Rattle.tw_text.specs.Table.{breaks, fault_of, faults_in_order, from_second, has_no_number, holds, if_said, is_done, is_misplaced, is_no_statement, is_start}
+use Rattle.tw_text.specs.Steps.{of_rule, said_fault}
+use Rattle.tw_text.specs.Table.{breaks, fault_of, from_second, has_no_number, holds, if_said, is_done, is_misplaced, is_no_statement, is_start}
 use Rattle.tw_text.specs.Words.{is_plain, words}
 
 -- the lowest rule, among the faults

@@ -1,30 +1,29 @@
 -- A text that is read as a case is the text of that case, and the case keeps the rules.
-use Rattle.std.proofs.Common.{◌≡◌, ℕ, suc, ◌+◌, ◌-◌, ◌<◌, ◌==◌, Bool, true, false, not, ◌||◌, List, [], ◌∷◌, ◌++◌, length, map, take, bytes_eq, codes, cond, Option, Some, None, Result, Ok, Err, refl, ap, sym, ◌∙◌, append_assoc, inl, inr, arith, add-one, add-zero, subst, if◌then◌else◌}
+use Rattle.std.proofs.Common.{◌≡◌, ℕ, suc, ◌+◌, ◌-◌, ◌==◌, true, false, List, [], ◌∷◌, ◌++◌, length, map, take, bytes_eq, codes, Option, Some, None, Result, Ok, Err, refl, ap, sym, ◌∙◌, append_assoc, inl, inr, arith, subst}
 use Rattle.std.proofs.lemmas.Bool.{cases_Bool}
 use Rattle.std.proofs.lemmas.List.{append-nil, map-append}
 use Rattle.std.proofs.lemmas.List.Splits.{length-slice_split}
 use Rattle.std.specs.Cmp.Lexicographic.{bytes_decides}
-use Rattle.std.specs.List.{AllByRecursion, flat_map, join_with_byte, list_all}
+use Rattle.std.specs.List.{flat_map, join_with_byte}
 use Rattle.tw_model.specs.Case.{Case, IsCase}
 use Rattle.tw_model.specs.Line.{Line}
 use Rattle.tw_model.specs.Net.{Net}
-use Rattle.tw_model.specs.Rules.{IsNet, LinksFollow, LinesFollow, ScenesFollow, line_fault, link_fault, lowest, nodes_fault, rules_in_order, scene_fault}
+use Rattle.tw_model.specs.Rules.{IsNet, LinksFollow, LinesFollow, ScenesFollow, line_fault, link_fault, lowest, rules_in_order, scene_fault}
 use Rattle.tw_model.specs.declared.case.Scene.{Scene}
 use Rattle.tw_model.specs.declared.net.Link.{Link}
 use Rattle.tw_model.specs.declared.net.Rule.{Rule}
 use Rattle.tw_text.specs.declared.draft.Draft.{Draft}
 use Rattle.tw_text.specs.declared.draft.Draft.TheVariants.{Start, Header, Links, Paths, Scenes, Done}
-use Rattle.tw_text.specs.declared.fault.LineFault.{LineFault}
 use Rattle.tw_text.specs.declared.fault.LineFault.TheVariants as x
 use Rattle.tw_text.specs.declared.statement.Statement.{Statement}
 use Rattle.tw_text.specs.declared.statement.Statement.TheVariants as say
 use Rattle.tw_text.specs.declared.statement.WordsFault.{WordsFault}
-use Rattle.tw_text.specs.Reading.{case_of, reads, reads_parts}
+use Rattle.tw_text.specs.Reading.{case_of, reads}
 use Rattle.tw_text.specs.Statements.{statement_of}
 use Rattle.tw_text.specs.Steps.{fault_after, of_rule, said_fault}
 use Rattle.tw_text.specs.Table.{breaks, fault_of, is_done, is_misplaced, is_start, with_line, with_said, with_statement}
 use Rattle.tw_text.specs.Text.{text_of}
-use Rattle.tw_text.specs.Words.{is_plain, parts_of, words}
+use Rattle.tw_text.specs.Words.{parts_of, words}
 use Rattle.tw_text.proofs.Faults.{later_fault, start_fault}
 use Rattle.tw_text.proofs.Later.{with_line-later}
 use Rattle.tw_text.proofs.Lines.{Fits, text_line}

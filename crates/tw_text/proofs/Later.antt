@@ -1,11 +1,10 @@
 -- A line from the second on, by what its words say.
-use Rattle.std.proofs.Common.{◌≡◌, ℕ, Bool, true, false, List, Option, Some, None, Result, Ok, Err, refl, ap, sym, ◌∙◌}
+use Rattle.std.proofs.Common.{◌≡◌, ℕ, Bool, true, false, List, Some, Result, Ok, Err, refl, ap, sym, ◌∙◌}
 use Rattle.std.specs.List.{list_all}
 use Rattle.tw_text.specs.declared.draft.Draft.{Draft}
 use Rattle.tw_text.specs.declared.draft.Draft.TheVariants.{Start, Header, Links, Paths, Scenes, Done}
 use Rattle.tw_text.specs.declared.draft.LineError.{LineError}
 use Rattle.tw_text.specs.declared.draft.LineError.TheVariants as error
-use Rattle.tw_text.specs.declared.fault.LineFault.{LineFault}
 use Rattle.tw_text.specs.declared.statement.Statement.{Statement}
 use Rattle.tw_text.specs.declared.statement.WordsError.{WordsError}
 use Rattle.tw_text.specs.declared.statement.WordsError.TheVariants as words_error

@@ -1,5 +1,5 @@
 -- The line of a statement.
-use Rattle.std.proofs.Common.{◌≡◌, ℕ, suc, Bool, true, false, not, ◌||◌, List, [], ◌∷◌, Option, Some, None, Result, Ok, Err, refl, ap, sym, ◌∙◌}
+use Rattle.std.proofs.Common.{◌≡◌, ℕ, true, false, List, [], ◌∷◌, None, Ok, refl, ap, ◌∙◌}
 use Rattle.std.specs.List.{AllByRecursion, join_with_byte, list_all}
 use Rattle.tw_model.specs.Rules.{lowest, rules_in_order}
 use Rattle.tw_model.specs.declared.case.Scene.TheVariants.{Fail, Restore, Swap}

@@ -1,8 +1,8 @@
 -- The text of a case is read as that case.
-use Rattle.std.proofs.Common.{◌≡◌, ℕ, suc, ◌+◌, ◌-◌, ◌<◌, ◌≤◌, ◌==◌, Bool, true, false, not, ◌||◌, ◌&&◌, List, [], ◌∷◌, ◌++◌, length, map, take, get_or, Option, Some, None, Result, Ok, Err, refl, ap, sym, ◌∙◌, append_assoc, arith, add-one, codes, decimal, subst}
-use Rattle.std.proofs.lemmas.List.{append-nil, length_push, length-append, map-append, take_at, get_or_at}
+use Rattle.std.proofs.Common.{◌≡◌, ℕ, suc, ◌≤◌, true, false, List, [], ◌∷◌, ◌++◌, length, map, None, Ok, refl, ap, sym, ◌∙◌, append_assoc, codes}
+use Rattle.std.proofs.lemmas.List.{append-nil, length_push, map-append}
 use Rattle.std.proofs.lemmas.List.Folds.{flat_map-map}
-use Rattle.std.specs.List.{AllByRecursion, flat_map, join_with_byte, list_all}
+use Rattle.std.specs.List.{flat_map, join_with_byte}
 use Rattle.tw_model.specs.Case.{Case, IsCase}
 use Rattle.tw_model.specs.Line.{Line}
 use Rattle.tw_model.specs.Net.{Net}
@@ -13,12 +13,12 @@ use Rattle.tw_text.specs.declared.draft.Draft.{Draft}
 use Rattle.tw_text.specs.declared.draft.Draft.TheVariants.{Start, Header, Links, Paths, Scenes, Done}
 use Rattle.tw_text.specs.declared.statement.Statement.{Statement}
 use Rattle.tw_text.specs.declared.statement.Statement.TheVariants as say
-use Rattle.tw_text.specs.Reading.{case_of, reads, reads_parts, then_finishes, finishes}
+use Rattle.tw_text.specs.Reading.{case_of, reads, reads_parts}
 use Rattle.tw_text.specs.Table.{fault_of, is_done, is_misplaced, is_start, net_of, scenes_of, with_line, with_statement}
-use Rattle.tw_text.specs.Text.{end_words, header_words, line_text, lines_of, link_words, nodes_words, path_words, scene_words, text_of}
-use Rattle.tw_text.specs.Words.{is_plain, parts_of}
+use Rattle.tw_text.specs.Text.{end_words, lines_of, link_words, path_words, scene_words, text_of}
+use Rattle.tw_text.specs.Words.{parts_of}
 use Rattle.tw_text.proofs.Faults.{start_fault}
-use Rattle.tw_text.proofs.Lines.{Fits, line-adds, line-fault, plain-line, text_line}
+use Rattle.tw_text.proofs.Lines.{Fits, line-adds, line-fault, text_line}
 use Rattle.tw_text.proofs.Parts.{all-plain, reads_parts-lines}
 use Rattle.tw_text.proofs.Said.{IsSayable}
 use Rattle.tw_text.proofs.Short.{line_short, link_short, nodes_short, nodes_small, scene_short}

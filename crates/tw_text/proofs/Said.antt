@@ -1,22 +1,17 @@
 -- The words of a statement, and the statement of words.
-use Rattle.std.proofs.Common.{◌≡◌, ℕ, ◌<◌, ◌^◌, ◌==◌, Bool, true, false, List, [], ◌∷◌, length, map, codes, decimal, bytes_eq, Option, Some, None, Result, Ok, Err, refl, ap, sym, ◌∙◌, inl, inr, arith, if◌then◌else◌}
-use Rattle.std.proofs.lemmas.Bool.{cases_Bool}
+use Rattle.std.proofs.Common.{◌≡◌, ℕ, ◌<◌, ◌^◌, ◌==◌, false, List, [], ◌∷◌, length, map, decimal, Ok, refl, ap}
 use Rattle.std.proofs.lemmas.List.{length-map}
-use Rattle.std.specs.Cmp.Lexicographic.{bytes_decides}
-use Rattle.std.specs.List.{AllByRecursion, list_any}
+use Rattle.std.specs.List.{AllByRecursion}
 use Rattle.std.specs.Option.{ok_or}
 use Rattle.tw_model.specs.Line.{Line}
 use Rattle.tw_model.specs.declared.case.Scene.{Scene}
 use Rattle.tw_model.specs.declared.case.Scene.TheVariants.{Fail, Restore, Swap}
-use Rattle.tw_model.specs.declared.net.Link.{Link}
 use Rattle.tw_text.specs.declared.statement.Statement.{Statement}
 use Rattle.tw_text.specs.declared.statement.Statement.TheVariants as say
-use Rattle.tw_text.specs.declared.statement.WordsFault.{WordsFault}
-use Rattle.tw_text.specs.declared.statement.WordsFault.TheVariants.{Word, Number}
-use Rattle.tw_text.specs.Statements.{◌>>=◌, number_at, numbers_of, said_at, statement_of, with_one, with_three, with_four, nodes_of, link_of, owned_path, path_of, fail_of, restore_of, swap_of, end_of, said_by, plain_statement}
+use Rattle.tw_text.specs.declared.statement.WordsFault.TheVariants.{Number}
+use Rattle.tw_text.specs.Statements.{number_at, numbers_of, said_at, statement_of}
 use Rattle.tw_text.specs.Text.{end_words, link_words, nodes_words, path_words, scene_words}
-use Rattle.tw_text.specs.Words.{number_of}
-use Rattle.tw_text.proofs.Numerals.{number_is, number_of-decimal, decimal-digits, decimal-some}
+use Rattle.tw_text.proofs.Numerals.{number_of-decimal, decimal-digits, decimal-some}
 use Rattle.tw_text.proofs.Splits.{IsWord, digits_are_signs, none_empty}
 
 -- the words that say it

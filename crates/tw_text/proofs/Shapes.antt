@@ -1,5 +1,5 @@
 -- Words of a statement that wants another number of them.
-use Rattle.std.proofs.Common.{◌≡◌, ◌≢◌, ◌==◌, ℕ, List, [], ◌∷◌, ◌||◌, length, map, refl, ap, Result, Ok, Err}
+use Rattle.std.proofs.Common.{◌≡◌, ◌≢◌, ◌==◌, ℕ, List, [], ◌∷◌, ◌||◌, length, map, refl, ap, Result, Err}
 use Rattle.std.specs.Borrow.{Bor}
 use Rattle.std.specs.List.{list_any}
 use Rattle.tw_text.specs.declared.statement.Statement.{Statement}

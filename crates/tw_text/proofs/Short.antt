@@ -1,5 +1,5 @@
 -- The numbers of a case that keeps the rules have at most ten digits.
-use Rattle.std.proofs.Common.{◌≡◌, ℕ, suc, ◌<◌, ◌≤◌, ◌^◌, ◌+◌, ◌==◌, nat_lt, nat_le, Bool, true, false, not, ◌&&◌, ◌||◌, List, [], ◌∷◌, length, map, Option, Some, None, refl, ap, sym, ◌∙◌, arith}
+use Rattle.std.proofs.Common.{◌≡◌, ℕ, ◌≤◌, ◌==◌, nat_lt, true, false, not, ◌&&◌, List, [], ◌∷◌, length, None, arith}
 use Rattle.std.proofs.lemmas.Bool.{and_parts, or_parts, not-false}
 use Rattle.std.proofs.lemmas.Bool.Decides.{nat_tests}
 use Rattle.std.proofs.lemmas.List.{length-map}
@@ -7,7 +7,7 @@ use Rattle.std.specs.List.{AllByRecursion, list_all}
 use Rattle.tw_instance.proofs.Lines.{few_lines}
 use Rattle.tw_model.proofs.Within.{none_broken}
 use Rattle.tw_model.specs.Line.{Line}
-use Rattle.tw_model.specs.Net.{Net, begins_at, paths, paths_of}
+use Rattle.tw_model.specs.Net.{Net, begins_at, paths_of}
 use Rattle.tw_model.specs.Rules.{IsNet, has_place, is_within, line_breaks, line_fault, link_breaks, link_fault, nodes_break, nodes_fault, scene_breaks, scene_fault}
 use Rattle.tw_model.specs.declared.case.Scene.{Scene}
 use Rattle.tw_model.specs.declared.case.Scene.TheVariants.{Fail, Restore, Swap}

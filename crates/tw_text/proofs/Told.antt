@@ -1,5 +1,5 @@
 -- What was told of a text, by the text of the case.
-use Rattle.std.proofs.Common.{◌≡◌, ℕ, List, Result, Ok, Err, IfOk, refl, ap, sym, ◌∙◌}
+use Rattle.std.proofs.Common.{◌≡◌, ℕ, List, Result, Ok, Err, IfOk, ap, sym, ◌∙◌}
 use Rattle.tw_model.specs.Case.{Case, IsCase}
 use Rattle.tw_text.specs.declared.fault.TextFault.{TextFault}
 use Rattle.tw_text.specs.declared.fault.TextFault.TheVariants.{At, Memory}

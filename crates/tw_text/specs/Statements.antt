@@ -1,5 +1,5 @@
 -- What the words of a line say.
-use Rattle.std.specs.Prelude.{ℕ, min, ◌≡◌, ◌==◌, Bool, List, [], ◌∷◌, length, map, if◌then◌else◌, Option, Result, Ok, Err, bytes_eq, codes}
+use Rattle.std.specs.Prelude.{ℕ, min, ◌≡◌, ◌==◌, List, [], ◌∷◌, length, map, if◌then◌else◌, Result, Ok, Err, bytes_eq, codes}
 use Rattle.std.specs.List.{list_any}
 use Rattle.std.specs.Option.{ok_or}
 use Rattle.std.specs.Result.{result_map_both}

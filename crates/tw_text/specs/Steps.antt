@@ -1,5 +1,5 @@
 -- What the steps of reading a line return.
-use Rattle.std.specs.Prelude.{ℕ, ◌≤◌, ◌≡◌, Bool, not, ◌||◌, List, length, Option, None, Some, Result, Ok, Err, option_map, if◌then◌else◌}
+use Rattle.std.specs.Prelude.{ℕ, ◌≤◌, ◌≡◌, Bool, not, ◌||◌, length, Option, None, Some, Result, Ok, Err, option_map, if◌then◌else◌}
 use Rattle.tw_instance.specs.declared.refusal.Refusal.{Refusal}
 use Rattle.tw_instance.specs.declared.refusal.Refusal.TheVariants as refusal
 use Rattle.tw_model.specs.Net.{paths}

@@ -1,8 +1,7 @@
 -- The table of faults, and what a line without a fault adds.
-use Rattle.std.specs.Prelude.{ℕ, ◌≤◌, ◌==◌, Bool, true, false, not, ◌||◌, ◌&&◌, List, [], ◌∷◌, ◌++◌, length, map, Option, None, Some, Result, Ok, Err, bytes_eq, codes, ◌≡◌}
+use Rattle.std.specs.Prelude.{ℕ, Bool, true, false, not, ◌||◌, ◌&&◌, List, [], ◌∷◌, ◌++◌, length, map, Option, Result, Ok, Err, bytes_eq, codes}
 use Rattle.std.specs.List.{find, list_all}
-use Rattle.tw_model.specs.Case.{Case}
-use Rattle.tw_model.specs.Net.{Net, paths}
+use Rattle.tw_model.specs.Net.{Net}
 use Rattle.tw_model.specs.Rules.{nodes_break, link_breaks, line_breaks, scene_breaks, rules_in_order}
 use Rattle.tw_model.specs.declared.case.Scene.{Scene}
 use Rattle.tw_model.specs.declared.net.Rule.{Rule}

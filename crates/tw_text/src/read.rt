@@ -67,10 +67,7 @@ fn finish(alloc: Global, draft: Draft, rest: &[u8], line: usize) -> Result<Case,
         return case_at(draft, line);
     }
     match read_line(alloc, draft, rest, false) {
-        Ok(_) => Err(TextFault::At {
-            line,
-            fault: LineFault::End,
-        }),
+        Ok(_) => Err(end_fault(line)),
         Err(error) => Err(at_line(error, line)),
     }
 }
@@ -80,10 +77,17 @@ fn case_at(draft: Draft, line: usize) -> Result<Case, TextFault>
 {
     match draft {
         Draft::Done(case) => Ok(case),
-        _ => Err(TextFault::At {
-            line,
-            fault: LineFault::End,
-        }),
+        _ => Err(end_fault(line)),
+    }
+}
+
+/// The fault of a line that is missing or is not ended.
+fn end_fault(line: usize) -> TextFault
+    ensures { result ≡ TextFault.At line LineFault.End }
+{
+    TextFault::At {
+        line,
+        fault: LineFault::End,
     }
 }
 

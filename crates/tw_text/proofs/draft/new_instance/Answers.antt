@@ -1,5 +1,5 @@
 use Rattle.std.proofs.lemmas.Result.{err_from_is_err_and}
-use Rattle.tw_text.proofs.Adding.{added, refused}
+use Rattle.tw_text.proofs.Adding.{refused}
 use Rattle.tw_text.proofs.draft.new_instance.Goals as goal
 
 pub returns-in_err-new : goal.returns-in_err-new

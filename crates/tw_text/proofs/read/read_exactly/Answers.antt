@@ -1,4 +1,4 @@
-use Rattle.std.proofs.Common.{sym, ap, ◌==◌, length, arith}
+use Rattle.std.proofs.Common.{ap, ◌==◌, length, arith}
 use Rattle.std.proofs.lemmas.List.{length-map}
 use Rattle.std.proofs.lemmas.List.Splits.{length-slice_split}
 use Rattle.tw_text.specs.Reading.{case_of}
