@@ -20,8 +20,7 @@ use Rattle.tw_text.specs.declared.draft.Draft.TheVariants.{Start, Header, Links,
 use Rattle.tw_text.specs.declared.fault.LineFault.TheVariants as x
 use Rattle.tw_text.specs.declared.statement.Statement.{Statement}
 use Rattle.tw_text.specs.declared.statement.Statement.TheVariants as say
-use Rattle.tw_text.specs.Statements.{clamp, clamped}
-use Rattle.tw_text.specs.Steps.{IsSmall, fault_after, of_rule}
+use Rattle.tw_text.specs.Steps.{clamp, clamped, IsSmall, fault_after, of_rule}
 use Rattle.tw_text.specs.Table.{breaks, is_done, is_misplaced, net_of}
 
 clamp-same : (n : ℕ) → n ≤ 204602 → clamp n ≡ n

@@ -9,8 +9,8 @@ use Rattle.tw_text.specs.declared.statement.Statement.{Statement}
 use Rattle.tw_text.specs.declared.statement.WordsError.{WordsError}
 use Rattle.tw_text.specs.declared.statement.WordsError.TheVariants as words_error
 use Rattle.tw_text.specs.declared.statement.WordsFault.{WordsFault}
-use Rattle.tw_text.specs.Statements.{Gives, clamped, result_map, statement_of}
-use Rattle.tw_text.specs.Steps.{IsSmall, Steps, fault_after, said_fault, words_error, words_fault}
+use Rattle.tw_text.specs.Statements.{statement_of}
+use Rattle.tw_text.specs.Steps.{Gives, clamped, result_map, IsSmall, Steps, fault_after, said_fault, words_error, words_fault}
 use Rattle.tw_text.specs.Table.{fault_of, is_start, with_line, with_said, with_statement}
 use Rattle.tw_text.specs.Words.{is_plain, words}
 use Rattle.tw_text.proofs.Clamp.{clamped_fault, clamped_is}

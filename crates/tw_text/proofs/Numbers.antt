@@ -6,7 +6,8 @@ use Rattle.std.specs.List.{list_all}
 use Rattle.std.specs.Str.Parse.{digits_value_after}
 use Rattle.std.proofs.lemmas.List.{at_drop_more}
 use Rattle.tw_text.specs.declared.statement.WordsFault.{WordsFault}
-use Rattle.tw_text.specs.Statements.{◌>>=◌, clamp, number_at, numbers_of, result_map}
+use Rattle.tw_text.specs.Statements.{◌>>=◌, number_at, numbers_of}
+use Rattle.tw_text.specs.Steps.{clamp, result_map}
 
 -- the number that these digits write behind those of n, if they are digits
 abbrev pub number_after : ℕ → List ℕ → Option ℕ

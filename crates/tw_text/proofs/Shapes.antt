@@ -5,7 +5,8 @@ use Rattle.std.specs.List.{list_any}
 use Rattle.tw_text.specs.declared.statement.Statement.{Statement}
 use Rattle.tw_text.specs.declared.statement.WordsFault.{WordsFault}
 use Rattle.tw_text.specs.declared.statement.WordsFault.TheVariants.{Word}
-use Rattle.tw_text.specs.Statements.{clamped, result_map, with_four}
+use Rattle.tw_text.specs.Statements.{with_four}
+use Rattle.tw_text.specs.Steps.{clamped, result_map}
 
 pub with_four-not : (f : List ℕ → List ℕ → List ℕ → List ℕ → Result Statement WordsFault) (ws : List (Bor (List ℕ))) → length ws ≢ 4
     → Err Word ≡ result_map clamped (with_four f (map (λ w. w.now) ws))

@@ -5,6 +5,7 @@ use Rattle.tw_model.specs.declared.net.Rule.TheVariants as rule
 use Rattle.tw_text.specs.declared.fault.LineFault.{LineFault}
 use Rattle.tw_text.specs.declared.fault.LineFault.TheVariants as x
 
+-- the code of a rule
 abbrev pub rule_code : Rule → List ℕ
 rule_code rule.Range = codes "I1"
 rule_code rule.SelfLink = codes "I2"
@@ -20,6 +21,7 @@ rule_code rule.NoSuchLink = codes "I11"
 rule_code rule.NoSuchPlace = codes "I12"
 rule_code rule.Time = codes "I13"
 
+-- its name
 abbrev pub rule_name : Rule → List ℕ
 rule_name rule.Range = codes "Range"
 rule_name rule.SelfLink = codes "SelfLink"
@@ -35,6 +37,7 @@ rule_name rule.NoSuchLink = codes "NoSuchLink"
 rule_name rule.NoSuchPlace = codes "NoSuchPlace"
 rule_name rule.Time = codes "Time"
 
+-- the code of a fault of a line
 abbrev pub fault_code : LineFault → List ℕ
 fault_code x.Byte = codes "X1"
 fault_code x.Header = codes "X2"
@@ -44,6 +47,7 @@ fault_code x.Order = codes "X5"
 fault_code x.End = codes "X6"
 fault_code (x.Rule r) = rule_code r
 
+-- its name
 abbrev pub fault_name : LineFault → List ℕ
 fault_name x.Byte = codes "Byte"
 fault_name x.Header = codes "Header"

@@ -14,6 +14,7 @@ use Rattle.tw_text.specs.Words.{parts_of}
 abbrev pub Spot : Type 0
 Spot = ℕ × LineFault
 
+-- the fault of this line, or what comes after
 abbrev pub unless_fault : {A : Type 0} → Option LineFault → ℕ → Result A Spot → Result A Spot
 unless_fault (Some f) line read = Err (line, f)
 unless_fault None line read = read
@@ -32,6 +33,7 @@ case_at d k = Err (k, x.End)
 abbrev pub finishes : Draft → ℕ → List ℕ → Result Case Spot
 finishes d k rest = if length rest == 0 then case_at d k else unless_fault (fault_of d rest false) k (Err (k, x.End))
 
+-- the same behind the ended lines
 abbrev pub then_finishes : Result Draft Spot → ℕ → List ℕ → Result Case Spot
 then_finishes (Ok d) k rest = finishes d k rest
 then_finishes (Err e) k rest = Err e

@@ -16,6 +16,7 @@ use Rattle.tw_text.specs.declared.statement.WordsFault.TheVariants.{Word, Number
 use Rattle.tw_text.specs.Statements.{statement_of}
 use Rattle.tw_text.specs.Words.{is_plain, words}
 
+-- before line 2 there is no router
 abbrev pub no_net : Net
 no_net = record { nodes = 0; links = []; lines = [] }
 
@@ -47,7 +48,7 @@ abbrev pub is_done : Draft → Bool
 is_done (Done case) = true
 is_done d = false
 
--- whether the line says something that may not stand here
+-- whether the line says something that may not stand here: line 2 says nodes, and no other line does; no link follows a path, and no link or path a scenario line
 abbrev pub is_misplaced : Draft → Statement → Bool
 is_misplaced Start s = true
 is_misplaced Header (say.Nodes n) = false
@@ -72,14 +73,17 @@ breaks d say.End r = false
 abbrev pub from_second : Draft → Bool → Bool
 from_second d holds = not (is_start d) && holds
 
+-- whether the words are none of a line
 abbrev pub is_no_statement : Result Statement WordsFault → Bool
 is_no_statement (Err Word) = true
 is_no_statement said = false
 
+-- whether a word is no number where one stands
 abbrev pub has_no_number : Result Statement WordsFault → Bool
 has_no_number (Err Number) = true
 has_no_number said = false
 
+-- the test of what the line says
 abbrev pub if_said : Result Statement WordsFault → (Statement → Bool) → Bool
 if_said (Ok s) test = test s
 if_said (Err e) test = false
@@ -110,6 +114,7 @@ with_statement d (say.Path p) = Paths (let net = net_of d in record net { lines 
 with_statement d (say.Scene s) = Scenes (record { net = net_of d; scenes = scenes_of d ++ s ∷ [] })
 with_statement d say.End = Done (record { net = net_of d; scenes = scenes_of d })
 
+-- what words without a fault add
 abbrev pub with_said : Draft → Result Statement WordsFault → Draft
 with_said d (Ok s) = with_statement d s
 with_said d (Err e) = d

@@ -1,6 +1,7 @@
 ghost use Rattle.std.specs.List.{list_any};
 ghost use Rattle.std.specs.Prelude.{◌≡◌, ◌==◌, ◌∷◌, length, map};
-ghost use Rattle.tw_text.specs.Statements.{Gives, GivesList, clamp, clamped, result_map, number_at, numbers_of, with_one, with_three, with_four, nodes_of, link_of, owned_path, path_of, fail_of, restore_of, swap_of, end_of, plain_statement, said_by, said_at, statement_of};
+ghost use Rattle.tw_text.specs.Statements.{number_at, numbers_of, with_one, with_three, with_four, nodes_of, link_of, owned_path, path_of, fail_of, restore_of, swap_of, end_of, plain_statement, said_by, said_at, statement_of};
+ghost use Rattle.tw_text.specs.Steps.{Gives, GivesList, clamp, clamped, result_map};
 ghost use Rattle.tw_text.specs.Words.{words};
 
 use crate::words::{number_of, split_words};
