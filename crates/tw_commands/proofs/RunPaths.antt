@@ -1,17 +1,17 @@
 -- The paths that a run shows are paths of its instance.
-use Rattle.std.proofs.Common.{◌≡◌, ℕ, ◌<◌, ◌==◌, true, List, [], ◌∷◌, length, reverse, map, subst, sym, inl, inr, arith}
+use Rattle.std.proofs.Common.{◌≡◌, ℕ, ◌<◌, ◌==◌, true, List, reverse, subst, sym, inl, inr, arith}
 use Rattle.std.specs.List.{All, range_with_len}
 use Rattle.std.proofs.lemmas.Bool.{cases_Bool, and_parts, eqb-true}
 use Rattle.tw_event.specs.declared.event.Body.{Body}
 use Rattle.tw_event.specs.declared.event.Body.TheVariants.{Start, Fail, Restore, Swap, Update}
 use Rattle.tw_event.specs.declared.event.Event.{Event}
 use Rattle.tw_event.specs.declared.event.PathNo.{PathNo}
-use Rattle.tw_event.proofs.Order.{same_is, same_self}
-use Rattle.tw_model.specs.Net.{Net, IsPath, is_own, is_permitted, paths}
+use Rattle.tw_event.proofs.Order.{same_self}
+use Rattle.tw_model.specs.Net.{Net, IsPath, is_permitted}
 use Rattle.tw_model.specs.Effect.{body_suits, suits}
 use Rattle.tw_model.specs.State.{has_peer}
 use Rattle.tw_model.specs.Sim.{only, state, times}
-use Rattle.tw_model.specs.Seq.{at, begin, finished, log, weight}
+use Rattle.tw_model.specs.Seq.{begin, finished, log, weight}
 use Rattle.tw_model.specs.Case.{Case, IsCase, simulation}
 use Rattle.tw_model.proofs.Counts.{times-reverse}
 use Rattle.tw_model.proofs.Lawful.{lawful}
@@ -24,14 +24,14 @@ use Rattle.tw_report.specs.Report.{HasPaths}
 use Rattle.tw_seq.specs.Outcome.{end_of, outcome_of}
 use Rattle.tw_seq.specs.Run.{complete, state_after}
 
-permitted_is_path : (net : Net) (v : ℕ) (q : PathNo) → is_permitted net v q ≡ true → IsPath net q
+pub permitted_is_path : (net : Net) (v : ℕ) (q : PathNo) → is_permitted net v q ≡ true → IsPath net q
 permitted_is_path net v q h =
     elim (cases_Bool (q.0 == 0)) [
       | inl b ↦ (let none = eqb-true q.0 0 b in omega arith)
       | inr b ↦ (own_is_path net v q (rw b at h)).0
     ]
 
-names_path : (net : Net) (v : ℕ) (e : Event) (b : Body) → body_suits net v e b ≡ true → NamesPath net b
+pub names_path : (net : Net) (v : ℕ) (e : Event) (b : Body) → body_suits net v e b ≡ true → NamesPath net b
 names_path net v e Start h = tt
 names_path net v e (Fail w) h = tt
 names_path net v e (Restore w) h = tt
@@ -39,7 +39,7 @@ names_path net v e (Swap i j) h = tt
 names_path net v e (Update q n) h = permitted_is_path net e.src q (and_parts (has_peer net v e.src) (is_permitted net e.src q) h).1
 
 module _ (case : Case) (is : IsCase case) where
-  logged_suits : (t : ℕ) (e : Event) → 0 < times (simulation case) e (log (simulation case) t) → suits case.net e.dst e ≡ true
+  pub logged_suits : (t : ℕ) (e : Event) → 0 < times (simulation case) e (log (simulation case) t) → suits case.net e.dst e ≡ true
   unfolding finished
   logged_suits t e h =
       (suit-turns (simulation case) (lawful case is) (weight (simulation case) t (begin (simulation case)).rest) t (begin (simulation case)) (suit-begin (simulation case) (lawful case is))).handled e h

@@ -3,3 +3,4 @@ pub mod Source
 pub mod Answers
 pub mod Check
 pub mod Seq
+pub mod Trail

@@ -1,4 +1,4 @@
-use Rattle.tw_commands.specs.Check.{accepted, check_output}
+use Rattle.tw_commands.specs.Check.{check_output}
 use Rattle.tw_commands.proofs.Leaving.{gives_refusal}
 use Rattle.tw_commands.proofs.check.check_answer.Goals as goal
 

@@ -1,6 +1,7 @@
 use Rattle.std.proofs.lemmas.Result.{err_from_is_err_and}
 use Rattle.tw_commands.proofs.Kept.{keeps_self, some_input}
 use Rattle.tw_commands.proofs.Leaving.{leaves_answer, leaves_unread, leaves_unanswered}
+use Rattle.tw_commands.specs.Check.{check_output}
 use Rattle.tw_commands.proofs.check.check_io.Goals as goal
 
 pub returns-in_err-input : goal.returns-in_err-input
@@ -18,4 +19,4 @@ returns-in_err-answer g c =
 pub returns : goal.returns
 returns g c =
     let gives = rw c.deref.ensures.value at c.in_ok-answer.ensures in
-    (c.in_ok-input.input.items, c.in_ok-input.ensures.input, rw c.in_ok-input.ensures.ok (leaves_answer c.in_ok-answer.answer _ _ _ _ _ _ _ gives c.write_answer.ensures))
+    (c.in_ok-input.input.items, c.in_ok-input.ensures.input, rw c.in_ok-input.ensures.ok (leaves_answer c.in_ok-answer.answer (check_output c.in_ok-input.input.items) ⊥ _ _ _ _ _ gives c.write_answer.ensures))

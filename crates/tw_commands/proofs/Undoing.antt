@@ -1,0 +1,157 @@
+-- The events of a trail are undone one after the other, and their lines follow each other.
+use Rattle.std.proofs.Common.{◌≡◌, ℕ, zero, suc, false, ◌-◌, ◌≤◌, ◌<◌, ◌==◌, true, List, [], ◌∷◌, ◌++◌, length, take, drop, get_or, refl, sym, ap, subst, ◌∙◌, inl, arith, codes, append_assoc, append-nil, nat_le}
+use Rattle.std.specs.List.{All}
+use Rattle.std.proofs.lemmas.Bool.{and_parts}
+use Rattle.std.proofs.lemmas.List.{drop-append-le, length-take-le}
+use Rattle.tw_commands.proofs.Counting.{never_full}
+use Rattle.tw_commands.proofs.RunPaths.{names_path, permitted_is_path}
+use Rattle.tw_commands.specs.Trail.{router_line, trail_text, undo_lines, undone_lines}
+use Rattle.tw_event.specs.declared.event.Event.{Event}
+use Rattle.tw_handlers.proofs.Undone.{undone-last}
+use Rattle.tw_handlers.specs.Trail.{History}
+use Rattle.tw_model.specs.Net.{Net}
+use Rattle.tw_model.specs.State.{IsCounted, Router, State, opening}
+use Rattle.tw_model.specs.Effect.{body_suits, effect, fits, is_full, suits}
+use Rattle.tw_model.specs.History.{state_after, undone}
+use Rattle.tw_model.proofs.Members.{In, all_from_in, in_from_all, in_right}
+use Rattle.tw_model.proofs.Suits.{IsOwnState, own_effect, to_effect}
+use Rattle.tw_report.proofs.Pieces.{four_pieces}
+use Rattle.tw_report.specs.Lines.{NamesPath, line}
+
+suit_of : (net : Net) (v : ℕ) (e : Event) → fits net v e ≡ true → body_suits net v e e.body ≡ true
+suit_of net v e h = (and_parts (e.dst == v) (body_suits net v e e.body) (and_parts (nat_le e.time 1000000000) (suits net v e) h).1).1
+
+-- an event for a router names a path
+pub event_named : (net : Net) (v : ℕ) (e : Event) → fits net v e ≡ true → NamesPath net e.body
+event_named net v e h = names_path net v e e.body (suit_of net v e h)
+
+pub own_after : (net : Net) (v : ℕ) (s : State) (events : List Event) → IsOwnState net v s → IsOwnState net v (state_after net v s events)
+own_after net v s [] own = own
+own_after net v s (e ∷ events) own = own_after net v (effect net v s e).state events (own_effect net v s e own)
+
+-- and so do the events that it sends
+pub sends_named : (net : Net) (v : ℕ) (s : State) (e : Event) → IsOwnState net v s → fits net v e ≡ true → All (λ x. NamesPath net x.body) (effect net v s e).sends
+sends_named net v s e own h = all_from_in (λ x. NamesPath net x.body) (effect net v s e).sends (λ x there.
+    let to = to_effect net v s e (suit_of net v e h) own x there in
+    subst (λ b. NamesPath net b) (sym to.body.2) (permitted_is_path net v to.body.0 to.body.3))
+
+last_fits : (P : Event → Type 0) (events older : List Event) (e : Event) → events ≡ older ++ e ∷ [] → All P events → P e
+last_fits P events older e is all = in_from_all P events all e (subst (λ xs. In e xs) (sym is) (in_right e older (e ∷ []) (inl refl)))
+
+pub last_fits_router : (net : Net) (v : ℕ) (events older : List Event) (e : Event) → events ≡ older ++ e ∷ [] → All (λ x. fits net v x ≡ true) events → fits net v e ≡ true
+last_fits_router net v events older e is all = last_fits (λ x. fits net v x ≡ true) events older e is all
+
+length_push : (older : List Event) (e : Event) → length (older ++ e ∷ []) - 1 ≡ length older
+length_push [] e = refl
+length_push (x ∷ older) e = let h = length_push older e in let some : 1 ≤ length (older ++ e ∷ []) = some_push older e in omega arith
+  where
+    some_push : (older : List Event) (e : Event) → 1 ≤ length (older ++ e ∷ [])
+    some_push [] e = omega arith
+    some_push (x ∷ older) e = omega arith
+
+last_undone : (net : Net) (v : ℕ) (s : State) (events older : List Event) (e : Event) → events ≡ older ++ e ∷ []
+    → undone net v s events (length events - 1) ≡ (effect net v (state_after net v s older) e).sends
+last_undone net v s events older e is = rw (is, length_push older e) (undone-last net v s older e)
+
+-- what undoing the last event added to a list that was empty
+pub last_sends : (net own : Net) (v : ℕ) (s : State) (events older start added : List Event) (e : Event) (count : ℕ) → own ≡ net → events ≡ older ++ e ∷ [] → count ≡ length events → start ≡ []
+    → added ≡ start ++ undone net v s events (count - 1) → added ≡ (effect own v (state_after own v s older) e).sends
+last_sends net own v s events older start added e count same is counted none h =
+    h ∙ rw (none, counted, same) (last_undone net v s events older e is)
+
+undone_more : (net : Net) (v : ℕ) (s : State) (events : List Event) (e : Event)
+    → undone_lines net v s (events ++ e ∷ []) ≡ undo_lines net e (effect net v (state_after net v s events) e).sends ++ undone_lines net v s events
+undone_more net v s [] e = sym (append-nil (undo_lines net e (effect net v s e).sends))
+undone_more net v s (x ∷ events) e =
+    ap (λ bs. bs ++ undo_lines net x (effect net v s x).sends) (undone_more net v (effect net v s x).state events e)
+    ∙ append_assoc (undo_lines net e (effect net v (state_after net v s (x ∷ events)) e).sends) (undone_lines net v (effect net v s x).state events) (undo_lines net x (effect net v s x).sends)
+
+state_after-append : (net : Net) (v : ℕ) (s : State) (xs ys : List Event) → state_after net v s (xs ++ ys) ≡ state_after net v (state_after net v s xs) ys
+state_after-append net v s [] ys = refl
+state_after-append net v s (x ∷ xs) ys = state_after-append net v (effect net v s x).state xs ys
+
+take_last : (events : List Event) (n : ℕ) (d : Event) → n < length events → take (suc n) events ≡ take n events ++ get_or events n d ∷ []
+take_last [] n d h = absurd (omega arith)
+take_last (x ∷ events) zero d h = refl
+take_last (x ∷ events) (suc n) d h = ap (λ xs. x ∷ xs) (take_last events n d (omega arith))
+
+take_both : (events : List Event) (keep n : ℕ) → keep ≤ n → take keep events ++ drop keep (take n events) ≡ take n events
+take_both events zero n h = refl
+take_both events (suc keep) zero h = absurd (omega arith)
+take_both [] (suc keep) (suc n) h = refl
+take_both (x ∷ events) (suc keep) (suc n) h = ap (λ xs. x ∷ xs) (take_both events keep n (omega arith))
+
+-- the lines of the events past the first keep ones: those of the last one, and then of the others
+undone_step : (net : Net) (v : ℕ) (s : State) (events : List Event) (keep n : ℕ) (d : Event) → keep ≤ n → n < length events
+    → undone_lines net v (state_after net v s (take keep events)) (drop keep (take (suc n) events))
+    ≡ undo_lines net (get_or events n d) (effect net v (state_after net v s (take n events)) (get_or events n d)).sends
+    ++ undone_lines net v (state_after net v s (take keep events)) (drop keep (take n events))
+undone_step net v s events keep n d h k =
+    let kept = state_after net v s (take keep events) in
+    let front = take n events in
+    let long : keep ≤ length front = omega (arith, length-take-le n events (omega arith)) in
+    let parts : drop keep (take (suc n) events) ≡ drop keep front ++ get_or events n d ∷ [] = ap (drop keep) (take_last events n d k) ∙ drop-append-le keep front (get_or events n d ∷ []) long in
+    let after : state_after net v kept (drop keep front) ≡ state_after net v s front = sym (state_after-append net v s (take keep events) (drop keep front)) ∙ ap (state_after net v s) (take_both events keep n h) in
+    rw (parts, undone_more net v kept (drop keep front) (get_or events n d), after) refl
+
+take_less : (events : List Event) (n m : ℕ) → n ≤ m → take n (take m events) ≡ take n events
+take_less events zero m h = refl
+take_less events (suc n) zero h = absurd (omega arith)
+take_less [] (suc n) (suc m) h = refl
+take_less (x ∷ events) (suc n) (suc m) h = ap (λ xs. x ∷ xs) (take_less events n m (omega arith))
+
+shorter : (events : List Event) (left : ℕ) → left ≤ length events → take (length (take left events) - 1) (take left events) ≡ take (left - 1) events
+shorter events left h = rw (length-take-le left events h) (take_less events (left - 1) left (omega arith))
+
+-- one event less is left on the trail
+pub trail_step : (t : History) (from : Router) (events : List Event) (left : ℕ) → t ≡ record { opening = from; events = take left events } → left ≤ length events
+    → (let u : History = record { opening = t.opening; events = take (length t.events - 1) t.events } in u) ≡ record { opening = from; events = take (left - 1) events }
+trail_step t from events left is h = rw (is, shorter events left h) refl
+
+-- and its lines are told
+pub text_step : (t : History) (from : Router) (events : List Event) (keep left : ℕ) (d : Event) (net : Net) (before after whole : List ℕ) → t ≡ record { opening = from; events = take left events } → keep < left → left ≤ length events
+    → before ++ undone_lines net from.node (state_after net from.node from.state (take keep events)) (drop keep (take left events)) ≡ whole
+    → after ≡ before ++ undo_lines net (get_or events (left - 1) d) (effect net t.opening.node (state_after net t.opening.node t.opening.state (take (length t.events - 1) t.events)) (get_or events (left - 1) d)).sends
+    → after ++ undone_lines net from.node (state_after net from.node from.state (take keep events)) (drop keep (take (left - 1) events)) ≡ whole
+text_step t from events keep left d net before after whole is some most all added =
+    let last = left - 1 in
+    let e = get_or events last d in
+    let rest = undone_lines net from.node (state_after net from.node from.state (take keep events)) (drop keep (take last events)) in
+    let told = undo_lines net e (effect net from.node (state_after net from.node from.state (take last events)) e).sends in
+    let P : History → Type 0 = λ u. after ≡ before ++ undo_lines net e (effect net u.opening.node (state_after net u.opening.node u.opening.state (take (length u.events - 1) u.events)) e).sends in
+    let now : P (record { opening = from; events = take left events }) = subst P is added in
+    let grown : after ≡ before ++ told = rw (shorter events left most) at now in
+    let up : left ≡ suc last = omega arith in
+    let step = undone_step net from.node from.state events keep last d (omega arith) (omega arith) in
+    let all_up = rw up at all in
+    rw grown (append_assoc before told rest ∙ (ap (λ bs. before ++ bs) (sym step) ∙ all_up))
+
+-- an event that the trail comes to is for its router
+pub fits_now : (t : History) (from : Router) (events : List Event) (i : ℕ) (d : Event) → t ≡ record { opening = from; events = take i events } → i < length events
+    → All (λ e. fits from.net from.node e ≡ true) events → fits t.opening.net t.opening.node (get_or events i d) ≡ true
+fits_now t from events i d is h all = rw is (all i d h)
+
+-- and no counter is full there
+pub not_full_now : (t : History) (from : Router) (events : List Event) (i : ℕ) (d : Event) → t ≡ record { opening = from; events = take i events } → i < length events
+    → IsCounted (state_after from.net from.node from.state events).counters → is_full t.opening.net t.opening.node (state_after t.opening.net t.opening.node t.opening.state t.events) (get_or events i d) ≡ false
+not_full_now t from events i d is h within = rw is (never_full from.net from.node from.state events i d within h)
+
+-- the four parts of what `trail` writes
+pub trail_lines : (net : Net) (v : ℕ) (events : List Event) (keep : ℕ) (fresh end back : Router) (over all kept : History) (a b d e : List ℕ)
+    → fresh ≡ record { net = net; node = v; state = opening net v } → over ≡ record { opening = fresh; events = [] } → all ≡ record over { events = events }
+    → end ≡ record all.opening { state = state_after all.opening.net all.opening.node all.opening.state all.events }
+    → kept ≡ record all { events = take keep events } → back ≡ record kept.opening { state = state_after kept.opening.net kept.opening.node kept.opening.state kept.events }
+    → a ≡ line (codes "spp-trail" ∷ codes "1" ∷ []) → b ≡ a ++ router_line net end.node end.state
+    → d ≡ b ++ undone_lines net all.opening.node (state_after net all.opening.node all.opening.state (take keep events)) (drop keep events)
+    → e ≡ d ++ router_line net back.node back.state → e ≡ trail_text net v events keep
+unfolding trail_text
+trail_lines net v events keep fresh end back over all kept a b d e is_fresh is_over is_all is_end is_kept is_back is_a is_b is_d is_e =
+    let router : Router = record { net = net; node = v; state = opening net v } in
+    let as_all : all ≡ record { opening = router; events = events } = rw (is_over, is_fresh) at is_all in
+    let as_end : end ≡ record router { state = state_after net v (opening net v) events } = rw as_all at is_end in
+    let as_kept : kept ≡ record { opening = router; events = take keep events } = rw as_all at is_kept in
+    let as_back : back ≡ record router { state = state_after net v (opening net v) (take keep events) } = rw as_kept at is_back in
+    let as_b = rw as_end at is_b in
+    let as_d = rw as_all at is_d in
+    let as_e = rw as_back at is_e in
+    as_e ∙ four_pieces _ _ _ _ _ _ _ is_a as_b as_d

@@ -1,0 +1,53 @@
+-- What `trail` writes: a router after its events of a run, what undoing takes back, and the router after that.
+use Rattle.std.specs.Prelude.{ℕ, ◌==◌, List, [], ◌∷◌, ◌++◌, codes, drop, take, nat_lt, if◌then◌else◌}
+use Rattle.std.specs.List.{filter, flat_map}
+use Rattle.tw_event.specs.declared.event.Event.{Event}
+use Rattle.tw_commands.specs.declared.cause.Status.TheVariants.{Done}
+use Rattle.tw_commands.specs.Answers.{Output}
+use Rattle.tw_commands.specs.Check.{for_case, refused}
+use Rattle.tw_model.specs.Case.{Case}
+use Rattle.tw_model.specs.Net.{Net}
+use Rattle.tw_model.specs.State.{State, opening}
+use Rattle.tw_model.specs.Effect.{effect}
+use Rattle.tw_model.specs.History.{state_after}
+use Rattle.tw_report.specs.Lines.{event_words, line, router_words}
+use Rattle.tw_seq.specs.Run.{complete}
+use Rattle.tw_text.specs.Reading.{case_of}
+
+-- how a router stands
+abbrev pub router_line : Net → ℕ → State → List ℕ
+router_line net v s = line (router_words net v (record { counters = s.counters; rib = s.rib }))
+
+-- what an event had sent
+abbrev pub send_lines : Net → List Event → List ℕ
+send_lines net sends = flat_map (λ x. line (codes "send" ∷ event_words net x)) sends
+
+-- an event that is undone, and then what it had sent
+abbrev pub undo_lines : Net → Event → List Event → List ℕ
+undo_lines net e sends = line (codes "undo" ∷ event_words net e) ++ send_lines net sends
+
+-- events that router v handled one after the other, from s on, are undone, the last one first
+abbrev pub undone_lines : Net → ℕ → State → List Event → List ℕ
+undone_lines net v s [] = []
+undone_lines net v s (e ∷ events) = undone_lines net v (effect net v s e).state events ++ undo_lines net e (effect net v s e).sends
+
+-- router v handles the events, and undoes all but the first ones, as many as keep says
+unfoldable pub trail_text : Net → ℕ → List Event → ℕ → List ℕ
+trail_text net v events keep =
+    let kept = state_after net v (opening net v) (take keep events) in
+    line (codes "spp-trail" ∷ codes "1" ∷ [])
+    ++ (router_line net v (state_after net v (opening net v) events) ++ (undone_lines net v kept (drop keep events) ++ router_line net v kept))
+
+-- the events of router v
+abbrev pub events_at : ℕ → List Event → List Event
+events_at v events = filter (λ e. e.dst == v) events
+
+-- router v handles its events of the run of the case to the stop; refused where the case has no such router
+abbrev pub followed : ℕ → ℕ → ℕ → Case → Output
+followed v stop keep case =
+    if nat_lt v case.net.nodes
+    then record { status = Done; text = trail_text case.net v (events_at v (complete case stop).events) keep }
+    else refused (line (codes "refused" ∷ codes "option" ∷ codes "N1" ∷ codes "Router" ∷ []))
+
+unfoldable pub trail_output : ℕ → ℕ → ℕ → List ℕ → Output
+trail_output v stop keep input = for_case (followed v stop keep) (case_of input)
