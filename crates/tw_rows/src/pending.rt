@@ -1,0 +1,52 @@
+//! Pending events by calls.
+
+ghost use Rattle.std.specs.Prelude.{◌≡◌, ◌<◌};
+
+use std::alloc::AllocError;
+use tw_event::{Body, Event, PathNo};
+use tw_queue::Pending;
+
+/// The origin's update for a neighbour.
+fn offer(time: u64, dst: u32, seq: u64) -> Event
+    ensures { result.dst ≡ dst }
+{
+    Event {
+        time,
+        dst,
+        src: 0,
+        seq,
+        body: Body::Update {
+            path: PathNo(1),
+            session: 0,
+        },
+    }
+}
+
+/// Inserts the event, once more where memory was refused.
+fn insert(pending: &mut Pending, event: Event) -> Result<(), AllocError>
+    requires { event.dst < pending.old.routers }
+    ensures { pending.new.routers ≡ pending.old.routers }
+{
+    match pending.insert(event) {
+        Err(_) => pending.insert(event),
+        done => done,
+    }
+}
+
+#[test]
+fn an_event_is_counted_as_often_as_it_was_inserted(rt: HostRuntime) {
+    let (first, second) = (offer(1, 1, 0), offer(5, 2, 1));
+    let Ok(mut pending) = Pending::new(rt.alloc(), 3) else {
+        panic!(rt; "no memory")
+    };
+    assert!(rt; insert(&mut pending, first).is_ok());
+    assert!(rt; insert(&mut pending, first).is_ok());
+    assert!(rt; insert(&mut pending, second).is_ok());
+    assert!(rt; pending.count(&first) == 2 && pending.len() == 3);
+    assert!(rt; pending.least_time() == Some(1) && pending.least() == Some(first));
+    assert!(rt; pending.least_at(2) == Some(second) && pending.least_at(0) == None);
+    assert!(rt; pending.remove_one(&first));
+    assert!(rt; pending.remove_one(&first));
+    assert!(rt; !pending.remove_one(&first));
+    assert!(rt; pending.take_least() == Some(second) && pending.is_empty());
+}

@@ -1,0 +1,152 @@
+//! What the programs write.
+
+ghost use Rattle.std.specs.Prelude.{◌≡◌, false};
+
+use crate::devices::{AMPLE, Page, Tape};
+use crate::texts::{
+    ALONE, ALONE_LOG, DISAGREE, DISAGREE_LOG, DISAGREE_TO_SEVEN, DISAGREE_TRAIL,
+    FAILURE_AND_REPAIR, FAILURE_AND_REPAIR_LOG, FAILURE_AND_REPAIR_TRAIL, RANK_EXCHANGE,
+    RANK_EXCHANGE_TRAIL, SECOND_FAILURE, SECOND_FAILURE_TRAIL,
+};
+use std::alloc::Global;
+use tw_commands::{Cause, Status, check_io, seq_io};
+
+/// A program, with its options.
+#[derive(Clone, Copy, Debug)]
+pub(crate) enum Asked {
+    Check,
+    Seq { stop: u16, log: bool },
+    Trail { router: u16, stop: u16, keep: u64 },
+}
+
+fn run(alloc: Global, asked: Asked, tape: &mut Tape<'_>, page: &mut Page) -> Result<Status, Cause>
+    requires source { tape.old.failed ≡ false }
+    requires sink { page.old.failed ≡ false }
+{
+    match asked {
+        Asked::Check => check_io(alloc, tape, page),
+        Asked::Seq { stop, log } => seq_io(alloc, tape, page, u64::from(stop), log),
+        Asked::Trail { router, stop, keep } => {
+            let _ = (router, stop, keep);
+            Err(Cause::Device)
+        }
+    }
+}
+
+/// How the program ends on a text, and the page that it wrote, which takes `room` bytes, `most` in
+/// one call. It is run once more where memory was refused and nothing stands on the page.
+pub(crate) fn answer(
+    alloc: Global,
+    asked: Asked,
+    text: &str,
+    room: usize,
+    most: usize,
+) -> Option<(Result<Status, Cause>, Page)> {
+    for _ in 0..2 {
+        let Ok(mut page) = Page::new(alloc, room, most) else {
+            continue;
+        };
+        let mut tape = Tape::new(text.as_bytes(), usize::MAX);
+        match run(alloc, asked, &mut tape, &mut page) {
+            Err(Cause::Memory) if page.bytes().is_empty() => {}
+            status => return Some((status, page)),
+        }
+    }
+    None
+}
+
+/// Whether the program ends so, having written just this.
+pub(crate) fn answers(
+    alloc: Global,
+    asked: Asked,
+    text: &str,
+    status: Status,
+    written: &str,
+) -> bool {
+    match answer(alloc, asked, text, AMPLE, AMPLE) {
+        Some((ended, page)) => ended == Ok(status) && page.bytes() == written.as_bytes(),
+        None => false,
+    }
+}
+
+#[test]
+fn reports_and_trails_are_written_to_the_byte(rt: HostRuntime) {
+    let seq = |stop, log| Asked::Seq { stop, log };
+    let trail = |router, stop, keep| Asked::Trail { router, stop, keep };
+    let rows = [
+        (ALONE, seq(10, true), ALONE_LOG),
+        (DISAGREE, seq(20, true), DISAGREE_LOG),
+        (FAILURE_AND_REPAIR, seq(20, true), FAILURE_AND_REPAIR_LOG),
+        (DISAGREE, seq(7, false), DISAGREE_TO_SEVEN),
+        (DISAGREE, trail(1, 20, 0), DISAGREE_TRAIL),
+        (FAILURE_AND_REPAIR, trail(2, 8, 2), FAILURE_AND_REPAIR_TRAIL),
+        (SECOND_FAILURE, trail(2, 5, 1), SECOND_FAILURE_TRAIL),
+        (RANK_EXCHANGE, trail(1, 20, 2), RANK_EXCHANGE_TRAIL),
+        (
+            DISAGREE,
+            Asked::Check,
+            "accepted nodes 3 links 3 paths 4 scenario 0\n",
+        ),
+        (
+            FAILURE_AND_REPAIR,
+            Asked::Check,
+            "accepted nodes 3 links 2 paths 2 scenario 2\n",
+        ),
+    ];
+    for (text, asked, written) in rows {
+        assert!(rt;
+            answers(rt.alloc(), asked, text, Status::Done, written),
+            "{asked:?}"
+        );
+    }
+}
+
+#[test]
+fn a_sink_that_fails_has_a_beginning(rt: HostRuntime) {
+    let asked = Asked::Seq {
+        stop: 20,
+        log: true,
+    };
+    let whole = DISAGREE_LOG.as_bytes();
+    for room in 0..whole.len() {
+        for most in [AMPLE, 1] {
+            let Some((ended, page)) = answer(rt.alloc(), asked, DISAGREE, room, most) else {
+                panic!(rt; "no answer")
+            };
+            assert!(rt; ended == Err(Cause::Device), "after {room} bytes");
+            assert!(rt; page.bytes() == &whole[..room], "after {room} bytes");
+        }
+    }
+}
+
+#[test]
+fn a_sink_may_take_a_byte_at_a_time(rt: HostRuntime) {
+    let asked = Asked::Seq {
+        stop: 20,
+        log: true,
+    };
+    let Some((ended, page)) = answer(rt.alloc(), asked, DISAGREE, AMPLE, 1) else {
+        panic!(rt; "no answer")
+    };
+    assert!(rt; ended == Ok(Status::Done) && page.bytes() == DISAGREE_LOG.as_bytes());
+}
+
+#[test]
+fn a_source_that_fails_leaves_nothing_written(rt: HostRuntime) {
+    for asked in [
+        Asked::Check,
+        Asked::Seq {
+            stop: 20,
+            log: true,
+        },
+    ] {
+        for left in [0, 1, 20] {
+            let mut tape = Tape::new(DISAGREE.as_bytes(), left);
+            let Ok(mut page) = Page::new(rt.alloc(), AMPLE, AMPLE) else {
+                continue;
+            };
+            let ended = run(rt.alloc(), asked, &mut tape, &mut page);
+            assert!(rt; ended.is_err() && page.bytes().is_empty());
+        }
+    }
+}
