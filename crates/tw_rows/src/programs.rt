@@ -9,7 +9,7 @@ use crate::texts::{
     RANK_EXCHANGE_TRAIL, SECOND_FAILURE, SECOND_FAILURE_TRAIL,
 };
 use std::alloc::Global;
-use tw_commands::{Cause, Status, check_io, seq_io};
+use tw_commands::{Cause, Status, check_io, seq_io, trail_io};
 
 /// A program, with its options.
 #[derive(Clone, Copy, Debug)]
@@ -27,8 +27,7 @@ fn run(alloc: Global, asked: Asked, tape: &mut Tape<'_>, page: &mut Page) -> Res
         Asked::Check => check_io(alloc, tape, page),
         Asked::Seq { stop, log } => seq_io(alloc, tape, page, u64::from(stop), log),
         Asked::Trail { router, stop, keep } => {
-            let _ = (router, stop, keep);
-            Err(Cause::Device)
+            trail_io(alloc, tape, page, u32::from(router), u64::from(stop), keep)
         }
     }
 }

@@ -6,7 +6,7 @@ ghost use Rattle.twarp.specs.Runs.{IsRunnable};
 use std::env;
 use std::io::{self, BufWriter, Write};
 use std::process::ExitCode;
-use tw_commands::{Cause, OverRead, Status, check_io, seq_io};
+use tw_commands::{Cause, OverRead, Status, check_io, seq_io, trail_io};
 use tw_options::{Line, LineFault, options};
 use tw_report::OverWrite;
 
@@ -65,8 +65,7 @@ fn answer<R: Input + Print + AllocGlobal>(rt: &R, line: Line) -> Result<Status, 
         Line::Check => check_io(alloc, &mut source, &mut sink)?,
         Line::Seq { stop, log } => seq_io(alloc, &mut source, &mut sink, stop, log)?,
         Line::Trail { router, stop, keep } => {
-            let _ = (router, stop, keep);
-            return Err(Cause::Device)
+            trail_io(alloc, &mut source, &mut sink, router, stop, keep)?
         }
     };
     match sink.into_writer().flush() {
