@@ -84,12 +84,7 @@ fn handle_start(
 {
     let rib = router.rib();
     let changed = settle(instance, router, event.time, sends)?;
-    Ok(UndoRecord {
-        took: true,
-        changed,
-        rib,
-        heard: EMPTY,
-    })
+    Ok(UndoRecord::taken(changed, rib, EMPTY))
 }
 
 fn handle_fail(
@@ -120,12 +115,7 @@ fn handle_fail(
     let rib = router.rib();
     if !row.up {
         count_handled(router);
-        return Ok(UndoRecord {
-            took: false,
-            changed: false,
-            rib,
-            heard: row.heard,
-        });
+        return Ok(UndoRecord::idle(rib, row.heard));
     }
     let down = Row {
         heard: EMPTY,
@@ -134,12 +124,7 @@ fn handle_fail(
     };
     put_row(instance, router, slot, down);
     match settle(instance, router, event.time, sends) {
-        Ok(changed) => Ok(UndoRecord {
-            took: true,
-            changed,
-            rib,
-            heard: row.heard,
-        }),
+        Ok(changed) => Ok(UndoRecord::taken(changed, rib, row.heard)),
         Err(fault) => {
             put_row(instance, router, slot, row);
             Err(fault)
@@ -176,12 +161,7 @@ fn handle_restore(
     let counters = router.counters();
     if row.up {
         count_handled(router);
-        return Ok(UndoRecord {
-            took: false,
-            changed: false,
-            rib,
-            heard: EMPTY,
-        });
+        return Ok(UndoRecord::idle(rib, EMPTY));
     }
     if counters.sent >= LIMIT {
         return Err(Fault::CounterFull);
@@ -207,12 +187,7 @@ fn handle_restore(
         changed: counters.changed,
     });
     put_row(instance, router, slot, repaired);
-    Ok(UndoRecord {
-        took: true,
-        changed: false,
-        rib,
-        heard: EMPTY,
-    })
+    Ok(UndoRecord::taken(false, rib, EMPTY))
 }
 
 fn handle_swap(
@@ -245,12 +220,7 @@ fn handle_swap(
     let rib = router.rib();
     router.swap(instance, first, second);
     match settle(instance, router, event.time, sends) {
-        Ok(changed) => Ok(UndoRecord {
-            took: true,
-            changed,
-            rib,
-            heard: EMPTY,
-        }),
+        Ok(changed) => Ok(UndoRecord::taken(changed, rib, EMPTY)),
         Err(fault) => {
             router.swap(instance, first, second);
             Err(fault)
@@ -288,21 +258,11 @@ fn handle_update(
     let rib = router.rib();
     if !row.up || row.session != session {
         count_dropped(router);
-        return Ok(UndoRecord {
-            took: false,
-            changed: false,
-            rib,
-            heard: row.heard,
-        });
+        return Ok(UndoRecord::idle(rib, row.heard));
     }
     router.set_heard(instance, slot, path);
     match settle(instance, router, event.time, sends) {
-        Ok(changed) => Ok(UndoRecord {
-            took: true,
-            changed,
-            rib,
-            heard: row.heard,
-        }),
+        Ok(changed) => Ok(UndoRecord::taken(changed, rib, row.heard)),
         Err(fault) => {
             router.set_heard(instance, slot, row.heard);
             Err(fault)
