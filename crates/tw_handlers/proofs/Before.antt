@@ -1,18 +1,18 @@
 -- The way back leads back: what the event led from, and what it sent.
-use Rattle.std.proofs.Common.{◌≡◌, ℕ, ◌+◌, ◌-◌, ◌<◌, ◌≤◌, ◌==◌, ◌&&◌, Bool, true, false, not, List, [], ◌∷◌, length, get_or, set, get_or-set_same, sym, ap, ◌∙◌, refl, subst, arith, eqb, leb}
-use Rattle.std.proofs.lemmas.Bool.{and_parts, eq-eqb, leb-true, ltb-true, cases_Bool}
+use Rattle.std.proofs.Common.{◌≡◌, ℕ, ◌+◌, ◌-◌, ◌<◌, ◌≤◌, ◌==◌, ◌&&◌, Bool, true, false, not, [], ◌∷◌, length, sym, ap, ◌∙◌, refl, subst, arith, leb}
+use Rattle.std.proofs.lemmas.Bool.{and_parts, eq-eqb, leb-true, ltb-true}
 use Rattle.tw_event.specs.declared.event.Body.{Body}
 use Rattle.tw_event.specs.declared.event.Body.TheVariants.{Start, Fail, Restore, Swap, Update}
 use Rattle.tw_event.specs.declared.event.Event.{Event}
 use Rattle.tw_event.specs.declared.event.PathNo.{PathNo}
 use Rattle.tw_model.specs.declared.state.Counters.{Counters}
 use Rattle.tw_model.specs.declared.state.Row.{Row}
-use Rattle.tw_model.specs.Net.{Net, empty_path, hops_of, is_permitted, paths_of}
+use Rattle.tw_model.specs.Net.{Net, empty_path, is_permitted, paths_of}
 use Rattle.tw_model.specs.Rules.{has_place}
-use Rattle.tw_model.specs.State.{IsState, State, best, has_peer, hop, no_row, row, slot}
-use Rattle.tw_model.specs.Effect.{accepts, acts, body_suits, counted, dropping, effect, failing, fits, hearing, restoring, settle, suits, swapping, tell, update_to, updates, ups, with_rib, with_row}
+use Rattle.tw_model.specs.State.{IsState, State, best, has_peer, hop, row, slot}
+use Rattle.tw_model.specs.Effect.{accepts, acts, body_suits, counted, effect, failing, fits, hearing, restoring, settle, swapping, update_to, updates, ups}
 use Rattle.tw_handlers.specs.declared.record.UndoRecord.{UndoRecord}
-use Rattle.tw_handlers.specs.Record.{IsHandled, heard_before, record_of, takes}
+use Rattle.tw_handlers.specs.Record.{heard_before, record_of, takes}
 use Rattle.tw_handlers.specs.Undo.{before, counters_before, moved_back, sends_again, settled_sends, uncounted, unfailing, unrestoring, unsettled, with_old_rib}
 use Rattle.tw_handlers.proofs.Fitting.{body_suits-fits}
 use Rattle.tw_handlers.proofs.Rows.{back-row, row-with_row, swapping-swapping}

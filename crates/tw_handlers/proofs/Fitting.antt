@@ -1,5 +1,5 @@
 -- What an event that fits says of its parts.
-use Rattle.std.proofs.Common.{◌≡◌, ℕ, ◌<◌, ◌==◌, true, length, leb, inl, inr, subst, sym, arith}
+use Rattle.std.proofs.Common.{◌≡◌, ℕ, ◌==◌, true, leb, inl, inr, subst, arith}
 use Rattle.std.proofs.lemmas.Bool.{and_parts, eqb-true, or_cases}
 use Rattle.tw_event.specs.declared.event.Body.TheVariants.{Update}
 use Rattle.tw_event.specs.declared.event.Event.{Event}

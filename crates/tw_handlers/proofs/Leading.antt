@@ -1,5 +1,5 @@
 -- One event more, or one less, of those that led to the present state.
-use Rattle.std.proofs.Common.{◌≡◌, ℕ, ◌+◌, ◌-◌, arith, length, get_or, take, ap₂, List, [], ◌∷◌, ◌++◌, map, sym, ap, ◌∙◌, refl, subst}
+use Rattle.std.proofs.Common.{◌≡◌, ℕ, ◌+◌, ◌-◌, arith, length, get_or, take, ap₂, List, [], ◌∷◌, ◌++◌, sym, ap, ◌∙◌, refl, subst}
 use Rattle.std.proofs.lemmas.List.{length_push, map_push, take_all, take_more}
 use Rattle.tw_event.specs.declared.event.Event.{Event}
 use Rattle.tw_model.specs.Net.{Net}

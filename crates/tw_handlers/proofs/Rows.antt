@@ -1,6 +1,6 @@
 -- A row, or two places of the order, written and written back.
-use Rattle.std.proofs.Common.{◌≡◌, ◌≢◌, ℕ, ◌+◌, ◌-◌, ◌<◌, Bool, true, false, List, [], ◌∷◌, length, get_or, set, set-set, get_or-set_same, length-set, sym, ap, ◌∙◌, refl, subst, inl, inr, arith}
-use Rattle.std.proofs.lemmas.List.{set-get_or, same_lists, get_or_default}
+use Rattle.std.proofs.Common.{◌≡◌, ℕ, ◌-◌, ◌<◌, List, length, get_or, set, set-set, get_or-set_same, sym, ap, ◌∙◌, refl, subst, inl, inr}
+use Rattle.std.proofs.lemmas.List.{set-get_or, same_lists}
 use Rattle.std.proofs.lemmas.List.Edits.{swapped_from_swap, length-swap}
 use Rattle.std.proofs.lemmas.Bool.{cases_eq}
 use Rattle.std.specs.List.{swap}

@@ -1,10 +1,8 @@
 -- A trail of which the last events are undone one by one.
-use Rattle.std.proofs.Common.{◌≡◌, ℕ, ◌-◌, ◌<◌, ◌≤◌, List, [], ◌++◌, append-nil, append_assoc, length, drop, take, min, reverse, sym, ap, ◌∙◌, refl, subst, arith}
+use Rattle.std.proofs.Common.{◌≡◌, ℕ, ◌-◌, ◌<◌, ◌≤◌, List, [], ◌++◌, append-nil, append_assoc, length, drop, take, min, reverse, sym, ap, ◌∙◌, subst, arith}
 use Rattle.std.proofs.lemmas.List.{drop_all, drop_min, length-take-le, take-take, take_all, take_min}
 use Rattle.std.specs.List.{flat_map}
 use Rattle.tw_event.specs.declared.event.Event.{Event}
-use Rattle.tw_model.specs.Net.{Net}
-use Rattle.tw_model.specs.State.{State}
 use Rattle.tw_model.specs.History.{sends_of, undone}
 use Rattle.tw_handlers.specs.Trail.{History}
 use Rattle.tw_handlers.proofs.Undone.{length-sends_of, undone-take}

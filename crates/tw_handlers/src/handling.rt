@@ -1,6 +1,6 @@
-ghost use Rattle.std.specs.Prelude.{◌≡◌, ◌≢◌, ℕ, ◌+◌, ◌≤◌, ◌<◌, ◌↔◌, ◌++◌, false, length, IfOk, IsTrue, OnErr, OnOk};
-ghost use Rattle.tw_model.specs.Net.{IsPath, hops_of};
-ghost use Rattle.tw_model.specs.State.{has_peer, limit, slot as slot_of};
+ghost use Rattle.std.specs.Prelude.{◌≡◌, ◌≢◌, ◌+◌, ◌≤◌, ◌<◌, ◌↔◌, ◌++◌, false, length, IfOk, IsTrue, OnErr, OnOk};
+ghost use Rattle.tw_model.specs.Net.{IsPath};
+ghost use Rattle.tw_model.specs.State.{has_peer, limit};
 ghost use Rattle.tw_model.specs.Effect.{counted, dropping, effect, fits, is_full};
 ghost use Rattle.tw_handlers.specs.Record.{IsHandled, record_of};
 

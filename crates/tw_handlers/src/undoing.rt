@@ -1,4 +1,4 @@
-ghost use Rattle.std.specs.Prelude.{◌≡◌, ◌-◌, ◌≤◌, ◌<◌, [], ◌∷◌, ◌++◌, length, IsTrue, OnErr, OnOk};
+ghost use Rattle.std.specs.Prelude.{◌≡◌, ◌-◌, ◌≤◌, ◌<◌, [], ◌∷◌, ◌++◌, IsTrue, OnErr, OnOk};
 ghost use Rattle.tw_model.specs.Net.{IsPath};
 ghost use Rattle.tw_model.specs.State.{IsState, State as AState, has_peer, hop, row as row_of, slot as slot_of};
 ghost use Rattle.tw_model.specs.Effect.{effect, fits, update_to};

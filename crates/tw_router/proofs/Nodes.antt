@@ -1,5 +1,5 @@
 -- The best path by numbers is the best path by nodes.
-use Rattle.std.proofs.Common.{◌≡◌, ℕ, ◌<◌, ◌==◌, Bool, true, false, cond, not, ◌||◌, ◌&&◌, List, [], ◌∷◌, length, map, eqb, ltb, sym, ap, ap₂, ◌∙◌, refl, arith, inl, inr}
+use Rattle.std.proofs.Common.{◌≡◌, ℕ, ◌<◌, ◌==◌, Bool, true, false, not, ◌||◌, ◌&&◌, List, [], ◌∷◌, length, map, ltb, sym, ap, ap₂, ◌∙◌, refl, arith, inl, inr}
 use Rattle.std.specs.List.{All, find, list_any}
 use Rattle.std.specs.Option.{unwrap_or}
 use Rattle.std.proofs.lemmas.Bool.{cases_Bool, eqb-false, eqb-true, lt-ltb}
@@ -10,7 +10,7 @@ use Rattle.tw_model.specs.Net.{IsPath, Net, empty_path, path, same_path}
 use Rattle.tw_model.specs.Rules.{IsNet}
 use Rattle.tw_model.specs.State.{IsState, Router, State, best, offers}
 use Rattle.tw_model.proofs.Paths.{path_empty, path_origin, path_some}
-use Rattle.tw_router.specs.Nodes.{Heard, best_nodes, heard_of, is_heard_of, order_of}
+use Rattle.tw_router.specs.Nodes.{best_nodes, heard_of, is_heard_of, order_of}
 
 some_length : (p : List ℕ) → (p ≡ [] → ⊥) → 0 < length p
 some_length [] empty = absurd (empty refl)

@@ -1,13 +1,12 @@
 -- How a router begins.
-use Rattle.std.proofs.Common.{◌≡◌, ℕ, ◌<◌, ◌≤◌, true, false, List, [], ◌∷◌, length, get_or, map, sym, ap, ◌∙◌, refl, subst, inl, inr, arith}
-use Rattle.std.proofs.lemmas.Bool.{cases_lt, false≢true}
-use Rattle.std.proofs.lemmas.List.{get_or_past, length-map}
+use Rattle.std.proofs.Common.{◌≡◌, ℕ, ◌≤◌, true, List, length, map, ap, ◌∙◌, arith}
+use Rattle.std.proofs.lemmas.List.{length-map}
 use Rattle.std.proofs.lemmas.List.Elements.{All-map, All-same, All-weaker}
 use Rattle.std.specs.List.{All}
 use Rattle.tw_event.specs.declared.event.PathNo.{PathNo}
 use Rattle.tw_model.specs.declared.state.Counters.{Counters}
 use Rattle.tw_model.specs.declared.state.Row.{Row}
-use Rattle.tw_model.specs.Net.{IsPath, Net, begins_at, empty_path, hops_of, is_own, path, paths, paths_of}
+use Rattle.tw_model.specs.Net.{IsPath, Net, empty_path, hops_of, is_own, paths_of}
 use Rattle.tw_model.proofs.Paths.{own_is_path}
 use Rattle.tw_model.specs.State.{IsCounted, IsState, fresh_row}
 

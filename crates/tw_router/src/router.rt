@@ -1,8 +1,8 @@
-ghost use Rattle.std.specs.Prelude.{◌≡◌, ◌+◌, ◌-◌, ◌≤◌, ◌<◌, ◌↔◌, map, length, slice_set, IfOk, IsErrOf, IsTrue};
+ghost use Rattle.std.specs.Prelude.{◌≡◌, ◌-◌, ◌≤◌, ◌<◌, ◌↔◌, map, length, IfOk, IsErrOf, IsTrue};
 ghost use Rattle.std.specs.List.{All};
-ghost use Rattle.tw_model.specs.Net.{IsPath, hops_of, path as path_of, paths_of};
+ghost use Rattle.tw_model.specs.Net.{IsPath, path as path_of};
 ghost use Rattle.tw_model.specs.Rules.{IsNet};
-ghost use Rattle.tw_model.specs.State.{IsCounted, IsState, best as best_of, fresh_row, limit, opening, opening_with, row as row_of};
+ghost use Rattle.tw_model.specs.State.{IsCounted, IsState, best as best_of, fresh_row, opening, opening_with, row as row_of};
 ghost use Rattle.tw_model.specs.Effect.{swapping, with_row};
 ghost use Rattle.tw_router.specs.Nodes.{best_nodes, heard_of, order_of};
 ghost use Rattle.tw_router.specs.declared.router.OpenFault.TheVariants.{Memory};

@@ -1,5 +1,5 @@
 use Rattle.std.proofs.Common.{ap}
-use Rattle.tw_model.specs.State.{Router, State}
+use Rattle.tw_model.specs.State.{State}
 use Rattle.tw_handlers.proofs.Rows.{back-row}
 use Rattle.tw_handlers.proofs.handling.handle_fail.Goals as goal
 

@@ -1,5 +1,5 @@
 use Rattle.std.proofs.Common.{ap, arith}
-use Rattle.tw_model.specs.State.{Router, State}
+use Rattle.tw_model.specs.State.{State}
 use Rattle.tw_handlers.proofs.Rows.{swapping-swapping}
 use Rattle.tw_handlers.proofs.handling.handle_swap.Goals as goal
 

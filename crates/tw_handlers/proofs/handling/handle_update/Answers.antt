@@ -1,6 +1,6 @@
 use Rattle.std.proofs.Common.{ap, ap₂, length, arith}
 use Rattle.tw_model.specs.Net.{hops_of}
-use Rattle.tw_model.specs.State.{Router, State}
+use Rattle.tw_model.specs.State.{State}
 use Rattle.tw_handlers.proofs.Before.{unhearing}
 use Rattle.tw_handlers.proofs.handling.handle_update.Goals as goal
 

@@ -1,8 +1,8 @@
-use Rattle.std.proofs.Common.{◌≡◌, ◌+◌, ◌++◌, ◌≤◌, ◌<◌, List, drop, length, subst, arith}
+use Rattle.std.proofs.Common.{◌≡◌, ◌+◌, ◌++◌, ◌≤◌, ◌<◌, List, length, subst, arith}
 use Rattle.smallvec.specs.SmallVec.{HasRoomFor}
 use Rattle.tw_model.specs.declared.net.Hop.{Hop}
 use Rattle.tw_model.specs.declared.state.Row.{Row}
-use Rattle.tw_model.specs.State.{limit, no_hop, no_row}
+use Rattle.tw_model.specs.State.{limit, no_hop}
 use Rattle.tw_handlers.specs.Send.{up_pairs, updates_to}
 use Rattle.tw_handlers.proofs.Pairs.{up_pairs-skip}
 use Rattle.tw_handlers.proofs.send.push_updates.Goals as goal

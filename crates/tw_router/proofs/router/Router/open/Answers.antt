@@ -1,4 +1,4 @@
-use Rattle.std.proofs.Common.{sym, ap, ◌∙◌, List, subst, true, ◌≡◌, map}
+use Rattle.std.proofs.Common.{ap, ◌∙◌, List, subst, true, ◌≡◌, map}
 use Rattle.std.specs.List.{All}
 use Rattle.tw_event.specs.declared.event.PathNo.{PathNo}
 use Rattle.tw_model.specs.Net.{is_own}
