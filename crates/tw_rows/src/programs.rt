@@ -100,22 +100,49 @@ fn reports_and_trails_are_written_to_the_byte(rt: HostRuntime) {
     }
 }
 
+const ACCEPTED: &str = "accepted nodes 3 links 3 paths 4 scenario 0\n";
+
+/// Whether each shorter page has a beginning of what the program writes on DISAGREE, and tells that
+/// it failed.
+fn fails_with_a_beginning(alloc: Global, asked: Asked, whole: &[u8], most: usize) -> bool {
+    for room in 0..whole.len() {
+        let Some((ended, page)) = answer(alloc, asked, DISAGREE, room, most) else {
+            return false;
+        };
+        if ended != Err(Cause::Device) || page.bytes() != &whole[..room] {
+            return false;
+        }
+    }
+    true
+}
+
 #[test]
 fn a_sink_that_fails_has_a_beginning(rt: HostRuntime) {
     let asked = Asked::Seq {
         stop: 20,
         log: true,
     };
-    let whole = DISAGREE_LOG.as_bytes();
-    for room in 0..whole.len() {
+    let rows = [(asked, DISAGREE_LOG), (Asked::Check, ACCEPTED)];
+    for (asked, text) in rows {
         for most in [AMPLE, 1] {
-            let Some((ended, page)) = answer(rt.alloc(), asked, DISAGREE, room, most) else {
-                panic!(rt; "no answer")
-            };
-            assert!(rt; ended == Err(Cause::Device), "after {room} bytes");
-            assert!(rt; page.bytes() == &whole[..room], "after {room} bytes");
+            assert!(rt;
+                fails_with_a_beginning(rt.alloc(), asked, text.as_bytes(), most),
+                "{asked:?}"
+            );
         }
     }
+}
+
+#[test]
+fn the_first_line_stands_where_a_sink_takes_thirteen_bytes(rt: HostRuntime) {
+    let asked = Asked::Seq {
+        stop: 10,
+        log: true,
+    };
+    let Some((ended, page)) = answer(rt.alloc(), asked, ALONE, 13, AMPLE) else {
+        panic!(rt; "no answer")
+    };
+    assert!(rt; ended == Err(Cause::Device) && page.bytes() == b"spp-report 1\n".as_slice());
 }
 
 #[test]
@@ -124,21 +151,21 @@ fn a_sink_may_take_a_byte_at_a_time(rt: HostRuntime) {
         stop: 20,
         log: true,
     };
-    let Some((ended, page)) = answer(rt.alloc(), asked, DISAGREE, AMPLE, 1) else {
-        panic!(rt; "no answer")
-    };
-    assert!(rt; ended == Ok(Status::Done) && page.bytes() == DISAGREE_LOG.as_bytes());
+    for (asked, text) in [(asked, DISAGREE_LOG), (Asked::Check, ACCEPTED)] {
+        let Some((ended, page)) = answer(rt.alloc(), asked, DISAGREE, AMPLE, 1) else {
+            panic!(rt; "no answer")
+        };
+        assert!(rt; ended == Ok(Status::Done) && page.bytes() == text.as_bytes());
+    }
 }
 
 #[test]
 fn a_source_that_fails_leaves_nothing_written(rt: HostRuntime) {
-    for asked in [
-        Asked::Check,
-        Asked::Seq {
-            stop: 20,
-            log: true,
-        },
-    ] {
+    let seq = Asked::Seq {
+        stop: 20,
+        log: true,
+    };
+    for asked in [Asked::Check, seq] {
         for left in [0, 1, 20] {
             let mut tape = Tape::new(DISAGREE.as_bytes(), left);
             let Ok(mut page) = Page::new(rt.alloc(), AMPLE, AMPLE) else {
