@@ -47,7 +47,7 @@ fn report_run(alloc: Global, case: &Case, stop: u64, log: bool) -> Result<Answer
 {
     let mut run = OneThread::new(alloc, case)?;
     run.run_to(stop)?;
-    let outcome = run.outcome(alloc)?;
+    let outcome = run.into_outcome(alloc)?;
     let verdict = Verdict::of(&outcome);
     let text = report_text(alloc, case.instance(), &outcome, verdict, log)?;
     Ok(Answer {

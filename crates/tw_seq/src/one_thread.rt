@@ -1,4 +1,4 @@
-ghost use Rattle.std.specs.Prelude.{◌≡◌, ◌≤◌, ◌<◌, max, IfNone, IfOk, IfSome, OnErr, OnOk, IsErrOf};
+ghost use Rattle.std.specs.Prelude.{◌≡◌, ◌≤◌, ◌<◌, [], max, IfNone, IfOk, IfSome, OnErr, OnOk, IsErrOf};
 ghost use Rattle.tw_model.specs.Summary.{summary_of};
 ghost use Rattle.tw_seq.specs.Outcome.{least, outcome_of};
 ghost use Rattle.tw_seq.specs.Run.{Continues, IsBegun, IsNext, IsNextRun, IsOver, IsStuck, complete, opened, router_after};
@@ -119,13 +119,32 @@ impl<'a> OneThread<'a> {
         ensures value { IfOk result (λ outcome. summary_of outcome ≡ outcome_of self.now) }
         ensures begun { IsBegun self.now }
     {
-        let events = Vec::from_slice(alloc, &self.events)?;
+        let mut outcome = self.without_events(alloc)?;
+        outcome.events = Vec::from_slice(alloc, &self.events)?;
+        Ok(outcome)
+    }
+
+    /// What the run has left. It takes no memory for the events handled: they are moved out of the run.
+    pub fn into_outcome(self, alloc: Global) -> Result<Outcome, AllocError>
+        ensures value { IfOk result (λ outcome. summary_of outcome ≡ outcome_of self.entry) }
+        ensures begun { IsBegun self.entry }
+    {
+        let mut outcome = self.without_events(alloc)?;
+        outcome.events = self.events;
+        Ok(outcome)
+    }
+
+    /// What the run has left so far, but for the events handled.
+    fn without_events(&self, alloc: Global) -> Result<Outcome, AllocError>
+        ensures value { IfOk result (λ outcome. summary_of outcome ≡ record (outcome_of self.now) { events = [] }) }
+        ensures begun { IsBegun self.now }
+    {
         let routers = router_ends(alloc, &self.routers)?;
         let pending = self.pending.list(alloc)?;
         Ok(Outcome {
             stop: self.stop,
             bound: self.bound(),
-            events,
+            events: Vec::new(alloc),
             routers,
             pending,
             last_change: self.last_change,

@@ -1,16 +1,16 @@
-use Rattle.std.proofs.Common.{ap, map, sym, ◌∙◌}
+use Rattle.std.proofs.Common.{ap, map, sym, ◌∙◌, []}
 use Rattle.tw_seq.specs.Outcome.{end_of, least, outcome_of}
 use Rattle.tw_seq.proofs.Going.{ends_of}
-use Rattle.tw_seq.proofs.one_thread.OneThread.outcome.Goals as goal
+use Rattle.tw_seq.proofs.one_thread.OneThread.without_events.Goals as goal
 
 pub returns-clause-value : goal.returns-clause-value
 returns-clause-value c =
     let a = c.self.inside in
     let bound = c.bound.ensures ∙ ap (λ run. least run.pending run.stop) (sym c.self.view_is) in
-    let events = c.in_ok-events.ensures.items ∙ c.deref.ensures.value in
     let routers = ends_of a.case.now a.events.items a.routers.items c.in_ok-routers.routers.items c.self.invariant.routers
-    (c.in_ok-routers.ensures ∙ ap (map (λ router. end_of router.state)) c.deref-2.ensures.value) in
+    (c.in_ok-routers.ensures ∙ ap (map (λ router. end_of router.state)) c.deref.ensures.value) in
     let pending = c.in_ok-pending.ensures.events in
+    let events = c.new.ensures.items in
     let change = c.self.invariant.change in
     (λ i. record { stop = a.stop; bound = bound i; events = events i; routers = routers i; pending = pending i; last_change = change i })
-    ∙ ap outcome_of c.self.view_is
+    ∙ ap (λ run. record (outcome_of run) { events = [] }) c.self.view_is
