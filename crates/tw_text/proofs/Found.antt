@@ -1,10 +1,9 @@
 -- A text that is read as a case is the text of that case, and the case keeps the rules.
-use Rattle.std.proofs.Common.{◌≡◌, ℕ, suc, ◌+◌, ◌-◌, ◌==◌, true, false, List, [], ◌∷◌, ◌++◌, length, map, take, bytes_eq, codes, Option, Some, None, Result, Ok, Err, refl, ap, sym, ◌∙◌, append_assoc, inl, inr, arith, subst}
+use Rattle.std.proofs.Common.{◌≡◌, ℕ, suc, ◌+◌, true, false, List, [], ◌∷◌, ◌++◌, length, map, bytes_eq, codes, Option, Some, None, Result, Ok, Err, refl, ap, ap₂, sym, ◌∙◌, append_assoc, inl, inr, arith, subst}
 use Rattle.std.proofs.lemmas.Bool.{cases_Bool}
 use Rattle.std.proofs.lemmas.List.{append-nil, map-append}
-use Rattle.std.proofs.lemmas.List.Splits.{length-slice_split}
 use Rattle.std.specs.Cmp.Lexicographic.{bytes_decides}
-use Rattle.std.specs.List.{flat_map, join_with_byte}
+use Rattle.std.specs.List.{join_with_byte}
 use Rattle.tw_model.specs.Case.{Case, IsCase}
 use Rattle.tw_model.specs.Line.{Line}
 use Rattle.tw_model.specs.Net.{Net}
@@ -28,7 +27,7 @@ use Rattle.tw_text.proofs.Faults.{later_fault, start_fault}
 use Rattle.tw_text.proofs.Later.{with_line-later}
 use Rattle.tw_text.proofs.Lines.{Fits, text_line}
 use Rattle.tw_text.proofs.Only.{bare_lines, text_of-lines}
-use Rattle.tw_text.proofs.Parts.{plain-from_none, reads-first, reads-none, reads_parts-is}
+use Rattle.tw_text.proofs.Parts.{plain-from_none, reads-first, reads-last, reads-none}
 use Rattle.tw_text.proofs.Splits.{join-words, lines-text}
 use Rattle.tw_text.proofs.Unsaid.{statement_of-is}
 
@@ -194,21 +193,19 @@ step (Paths net) line h none = later_step (Paths net) line refl h none
 step (Scenes c) line h none = later_step (Scenes c) line refl h none
 step (Done c) line h none = later_step (Done c) line refl h none
 
--- lines without a fault are those of the draft that they lead to
-leads : (d e : Draft) (k : ℕ) (lines : List (List ℕ)) → IsDraft d → reads d k lines ≡ Ok e → IsDraft e × (items e ≡ items d ++ lines)
-leads d e k [] h r = let same = reads-none d e k r in (subst IsDraft same h, ap items (sym same) ∙ sym (append-nil (items d)))
-leads d e k (l ∷ lines) h r =
-    let w = reads-first d e k l lines r in
+-- the parts of which a case was read are its lines, and nothing after them
+leads : (d : Draft) (c : Case) (k : ℕ) (parts : List (List ℕ)) → IsDraft d → reads d k parts ≡ Ok c → IsCase c × (items d ++ parts ≡ items (Done c) ++ [] ∷ [])
+leads d c k [] h r = absurd (reads-none d c k r)
+leads d c k (rest ∷ []) h r = let w = reads-last d c k rest r in (subst IsDraft w.1 h, ap₂ (λ d rest. items d ++ rest ∷ []) w.1 w.0)
+leads d c k (l ∷ next ∷ parts) h r =
+    let w = reads-first d c k l (next ∷ parts) (omega arith) r in
     let s = step d l h w.0 in
-    let rest = leads (with_line d l) e (suc k) lines s.draft w.1 in
-    (rest.0, rest.1 ∙ ap (λ t. t ++ lines) s.lines ∙ append_assoc (items d) (l ∷ []) lines)
+    let rest = leads (with_line d l) c (suc k) (next ∷ parts) s.draft w.1 in
+    (rest.0, sym (append_assoc (items d) (l ∷ []) (next ∷ parts)) ∙ ap (λ t. t ++ next ∷ parts) (sym s.lines) ∙ rest.1)
 
 -- what was read is the case of the text
 pub case_of-is : (text : List ℕ) (c : Case) → case_of text ≡ Ok c → IsCase c × (text ≡ text_of c)
 unfolding case_of
 case_of-is text c h =
-    let n = length-slice_split (λ b. b == 10) text in
-    let w = reads_parts-is c (parts_of text) (omega arith) h in
-    let lines = take (length (parts_of text) - 1) (parts_of text) in
-    let l = leads Start (Done c) 1 lines tt w.0 in
-    (l.0, lines-text text lines w.1 ∙ ap (flat_map (λ l. l ++ 10 ∷ [])) (sym l.1) ∙ sym (text_of-lines c))
+    let l = leads Start c 1 (parts_of text) tt h in
+    (l.0, lines-text text (items (Done c)) l.1 ∙ sym (text_of-lines c))

@@ -1,40 +1,62 @@
--- The lines that are left to read.
-use Rattle.std.proofs.Common.{◌≡◌, ℕ, suc, ◌+◌, ◌<◌, List, length, get_or, drop, map, true, None, Result, Ok, Err, refl, ◌∙◌, arith, add-one}
-use Rattle.std.specs.Borrow.{Bor}
-use Rattle.std.proofs.lemmas.List.{at_drop_more, at_drop_all}
+-- The part of a text that is left to read.
+use Rattle.std.proofs.Common.{◌≡◌, ℕ, suc, ◌+◌, ◌<◌, ◌==◌, nat_lt, true, false, List, [], ◌∷◌, length, take, drop, Some, None, Err, refl, ap, ◌∙◌, inl, inr, arith, add-one}
+use Rattle.std.proofs.lemmas.Bool.{cases_Bool}
+use Rattle.std.proofs.lemmas.Bool.Decides.{nat_tests}
+use Rattle.std.proofs.lemmas.List.Elements.{All-from_get_or}
+use Rattle.std.proofs.lemmas.List.Splits.{length-slice_split, slice_split_first, slice_split_none}
+use Rattle.std.proofs.lemmas.List.Sums.{fails_before_first}
+use Rattle.std.specs.List.{position, position_or_len}
 use Rattle.tw_model.specs.Case.{Case}
 use Rattle.tw_text.specs.declared.draft.Draft.{Draft}
 use Rattle.tw_text.specs.declared.draft.LineError.{LineError}
 use Rattle.tw_text.specs.declared.draft.LineError.TheVariants as error
-use Rattle.tw_text.specs.declared.fault.TextFault.{TextFault}
-use Rattle.tw_text.specs.declared.fault.TextFault.TheVariants.{At, Memory}
-use Rattle.tw_text.specs.Reading.{Spot, Told, reads, then_finishes, unless_fault}
+use Rattle.tw_text.specs.Reading.{Told, finishes, reads, unless_fault}
 use Rattle.tw_text.specs.Steps.{Steps, at_line}
 use Rattle.tw_text.specs.Table.{fault_of, with_line}
+use Rattle.tw_text.specs.Words.{parts_of}
 
-reads-more : (d : Draft) (k : ℕ) (lines : List (Bor (List ℕ))) (i : ℕ) (w : Bor (List ℕ)) → i < length lines
-    → reads d k (map (λ l. l.now) (drop i lines))
-    ≡ unless_fault (fault_of d (get_or lines i w).now true) k (reads (with_line d (get_or lines i w).now) (suc k) (map (λ l. l.now) (drop (i + 1) lines)))
+-- the first part ends at the first line end
+parts-Some : (text : List ℕ) (i : ℕ) → position (λ b. b == 10) text ≡ Some i → parts_of text ≡ take i text ∷ parts_of (drop (i + 1) text)
+parts-Some text i h =
+    let n = position_or_len (λ b. b == 10) text in
+    elim (cases_Bool (nat_lt n (length text))) [
+      | inl t ↦ let g : Some n ≡ Some i = rw t at h in let e : n ≡ i = cc in slice_split_first (λ b. b == 10) text 0 (grind (arith, nat_tests)) ∙ ap (λ n. take n text ∷ parts_of (drop (n + 1) text)) e
+      | inr f ↦ absurd (let g : None ≡ Some i = rw f at h in cc)
+    ]
+
+-- where there is no line end, the text is the one part
+parts-None : (text : List ℕ) → position (λ b. b == 10) text ≡ None → parts_of text ≡ text ∷ []
+parts-None text h =
+    let n = position_or_len (λ b. b == 10) text in
+    elim (cases_Bool (nat_lt n (length text))) [
+      | inl t ↦ absurd (let g : Some n ≡ None = rw t at h in cc)
+      | inr f ↦ slice_split_none (λ b. b == 10) text (All-from_get_or (λ b. (b == 10) ≡ false) text 0 (λ i m. fails_before_first (λ b. b == 10) text i 0 (grind (arith, nat_tests))))
+    ]
+
+pub reads-more : (d : Draft) (k : ℕ) (line : List ℕ) (parts : List (List ℕ)) → 0 < length parts
+    → reads d k (line ∷ parts) ≡ unless_fault (fault_of d line true) k (reads (with_line d line) (suc k) parts)
 unfolding reads
-reads-more d k lines i w h = at_drop_more (λ ls. reads d k (map (λ l. l.now) ls)) lines i w h
+reads-more d k line [] h = absurd (omega arith)
+reads-more d k line (next ∷ parts) h = refl
+
+reads-line : (d : Draft) (k : ℕ) (text : List ℕ) (i : ℕ) → position (λ b. b == 10) text ≡ Some i
+    → reads d k (parts_of text) ≡ unless_fault (fault_of d (take i text) true) k (reads (with_line d (take i text)) (suc k) (parts_of (drop (i + 1) text)))
+reads-line d k text i h =
+    let n = length-slice_split (λ b. b == 10) (drop (i + 1) text) in
+    ap (reads d k) (parts-Some text i h) ∙ reads-more d k (take i text) (parts_of (drop (i + 1) text)) (omega arith)
 
 -- one line without a fault
-pub read_on : (d next : Draft) (k : ℕ) (lines : List (Bor (List ℕ))) (i : ℕ) (w : Bor (List ℕ)) → i < length lines
-    → (fault_of d (get_or lines i w).now true ≡ None) × (next ≡ with_line d (get_or lines i w).now)
-    → reads d k (map (λ l. l.now) (drop i lines)) ≡ reads next (k + 1) (map (λ l. l.now) (drop (i + 1) lines))
-read_on d next k lines i w h e = reads-more d k lines i w h ∙ rw (e.0, e.1, add-one k) refl
+pub read_on : (d next : Draft) (k : ℕ) (text : List ℕ) (i : ℕ) → position (λ b. b == 10) text ≡ Some i
+    → (fault_of d (take i text) true ≡ None) × (next ≡ with_line d (take i text)) → reads d k (parts_of text) ≡ reads next (k + 1) (parts_of (drop (i + 1) text))
+read_on d next k text i h e = reads-line d k text i h ∙ rw (e.0, e.1, add-one k) refl
 
 -- a line with a fault
-pub stopped : (d next : Draft) (k : ℕ) (lines : List (Bor (List ℕ))) (i : ℕ) (w : Bor (List ℕ)) (error : LineError) → i < length lines
-    → Steps (Err error) (fault_of d (get_or lines i w).now true) next → Told {A = Draft} (Err (at_line error k)) (reads d k (map (λ l. l.now) (drop i lines)))
-stopped d next k lines i w error.Memory h e = tt
-stopped d next k lines i w (error.Fault f) h e = reads-more d k lines i w h ∙ rw e refl
+pub stopped : (d next : Draft) (k : ℕ) (text : List ℕ) (i : ℕ) (error : LineError) → position (λ b. b == 10) text ≡ Some i
+    → Steps (Err error) (fault_of d (take i text) true) next → Told {A = Case} (Err (at_line error k)) (reads d k (parts_of text))
+stopped d next k text i error.Memory h e = tt
+stopped d next k text i (error.Fault f) h e = reads-line d k text i h ∙ rw e refl
 
-pub read_all : (d : Draft) (k : ℕ) (lines : List (Bor (List ℕ))) (i : ℕ) → length lines ≡ i → reads d k (map (λ l. l.now) (drop i lines)) ≡ Ok d
+-- no line end is left
+pub read_all : (d : Draft) (k : ℕ) (text : List ℕ) → position (λ b. b == 10) text ≡ None → reads d k (parts_of text) ≡ finishes d k text
 unfolding reads
-read_all d k lines i h = at_drop_all (λ ls. reads d k (map (λ l. l.now) ls)) lines i (omega arith)
-
--- the fault of an ended line is that of the text
-pub finished : (fault : TextFault) (read : Result Draft Spot) (k : ℕ) (rest : List ℕ) → Told {A = Draft} (Err fault) read → Told {A = Case} (Err fault) (then_finishes read k rest)
-finished Memory read k rest h = tt
-finished (At line fault) read k rest h = rw h refl
+read_all d k text h = ap (reads d k) (parts-None text h)

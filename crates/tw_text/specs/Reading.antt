@@ -1,5 +1,5 @@
 -- Reading a whole text, line by line.
-use Rattle.std.specs.Prelude.{ℕ, suc, ◌-◌, ◌==◌, true, false, List, [], ◌∷◌, length, take, slice_index_or, if◌then◌else◌, Option, Some, None, Result, Ok, Err, ◌≡◌}
+use Rattle.std.specs.Prelude.{ℕ, suc, ◌==◌, true, false, List, [], ◌∷◌, length, if◌then◌else◌, Option, Some, None, Result, Ok, Err, ◌≡◌}
 use Rattle.tw_model.specs.Case.{Case}
 use Rattle.tw_text.specs.declared.draft.Draft.{Draft}
 use Rattle.tw_text.specs.declared.draft.Draft.TheVariants.{Start, Done}
@@ -19,11 +19,6 @@ abbrev pub unless_fault : {A : Type 0} → Option LineFault → ℕ → Result A
 unless_fault (Some f) line read = Err (line, f)
 unless_fault None line read = read
 
--- the ended lines, of which the first is line k
-unfoldable pub reads : Draft → ℕ → List (List ℕ) → Result Draft Spot
-reads d k [] = Ok d
-reads d k (line ∷ lines) = unless_fault (fault_of d line true) k (reads (with_line d line) (suc k) lines)
-
 -- the case, where the last line was read; else line k is missing
 abbrev pub case_at : Draft → ℕ → Result Case Spot
 case_at (Done case) k = Ok case
@@ -33,18 +28,15 @@ case_at d k = Err (k, x.End)
 abbrev pub finishes : Draft → ℕ → List ℕ → Result Case Spot
 finishes d k rest = if length rest == 0 then case_at d k else unless_fault (fault_of d rest false) k (Err (k, x.End))
 
--- the same behind the ended lines
-abbrev pub then_finishes : Result Draft Spot → ℕ → List ℕ → Result Case Spot
-then_finishes (Ok d) k rest = finishes d k rest
-then_finishes (Err e) k rest = Err e
-
--- the ended lines, and what follows the last line end
-abbrev pub reads_parts : List (List ℕ) → Result Case Spot
-reads_parts parts = then_finishes (reads Start 1 (take (length parts - 1) parts)) (length parts) (slice_index_or parts (length parts - 1) [])
+-- the parts of a text, of which the first is line k: ended lines, and what follows the last line end
+unfoldable pub reads : Draft → ℕ → List (List ℕ) → Result Case Spot
+reads d k [] = Err (k, x.End)
+reads d k (rest ∷ []) = finishes d k rest
+reads d k (line ∷ next ∷ parts) = unless_fault (fault_of d line true) k (reads (with_line d line) (suc k) (next ∷ parts))
 
 -- the case of a text, or its first line with a fault, and the lowest fault of that line
 unfoldable pub case_of : List ℕ → Result Case Spot
-case_of text = reads_parts (parts_of text)
+case_of text = reads Start 1 (parts_of text)
 
 -- a function returned what reading gives, unless memory ran out
 abbrev pub Told : {A : Type 0} → Result A TextFault → Result A Spot → Type 0

@@ -1,12 +1,12 @@
-ghost use Rattle.std.specs.Prelude.{◌≡◌, ◌<◌, length, map, IfOk};
+ghost use Rattle.std.specs.Prelude.{◌≡◌, IfOk};
 ghost use Rattle.tw_model.specs.Case.{Case as ACase, IsCase};
-ghost use Rattle.tw_text.specs.Reading.{Told, case_at, case_of, finishes, reads, reads_parts};
+ghost use Rattle.tw_text.specs.Reading.{Told, case_at, case_of, finishes};
 ghost use Rattle.tw_text.specs.Steps.{at_line};
 ghost use Rattle.tw_text.specs.Text.{text_of};
 
 use crate::draft::{Draft, LineError, read_line};
 use crate::fault::{LineFault, TextFault};
-use crate::words::split_lines;
+use crate::words::line_end;
 use std::alloc::{AllocError, Global};
 use tw_instance::Case;
 
@@ -33,30 +33,18 @@ pub fn read_case(alloc: Global, text: &[u8]) -> Result<Case, TextFault>
 fn read_exactly(alloc: Global, text: &[u8]) -> Result<Case, TextFault>
     ensures { Told result (case_of text.now) }
 {
-    let parts = split_lines(alloc, text)?;
-    read_parts(alloc, &parts)
-}
-
-fn read_parts(alloc: Global, parts: &[&[u8]]) -> Result<Case, TextFault>
-    requires { 0 < length parts.now }
-    ensures { Told result (reads_parts (map (λ p. p.now) parts.now)) }
-{
-    let last = parts.len() - 1;
-    let draft = read_ended(alloc, &parts[..last])?;
-    finish(alloc, draft, parts[last], parts.len())
-}
-
-fn read_ended(alloc: Global, lines: &[&[u8]]) -> Result<Draft, TextFault>
-    ensures { Told result (reads Draft.Start 1 (map (λ l. l.now) lines.now)) }
-{
     let mut draft = Draft::Start;
-    for (i, line) in lines.iter().enumerate() {
-        match read_line(alloc, draft, line, true) {
+    let mut line = 1;
+    let mut rest = text;
+    while let Some(end) = line_end(rest) {
+        match read_line(alloc, draft, &rest[..end], true) {
             Ok(next) => draft = next,
-            Err(error) => return Err(at_line(error, i + 1)),
+            Err(error) => return Err(at_line(error, line)),
         }
+        rest = &rest[end + 1..];
+        line += 1;
     }
-    Ok(draft)
+    finish(alloc, draft, rest, line)
 }
 
 /// The case, given what follows the last line end: a line's beginning, or nothing.

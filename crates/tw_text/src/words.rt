@@ -1,8 +1,8 @@
 ghost use Rattle.std.specs.Char.{is_ascii_digit};
-ghost use Rattle.std.specs.List.{list_all};
+ghost use Rattle.std.specs.List.{list_all, position};
 ghost use Rattle.std.specs.Prelude.{◌≡◌, ◌≤◌, ◌==◌, length, map, IfOk, if◌then◌else◌};
 ghost use Rattle.std.specs.Str.Parse.{digits_value};
-ghost use Rattle.tw_text.specs.Words.{is_plain, words, parts_of, number_of};
+ghost use Rattle.tw_text.specs.Words.{is_plain, words, number_of};
 
 use std::alloc::{AllocError, Global};
 
@@ -26,11 +26,11 @@ pub(crate) fn split_words(alloc: Global, line: &[u8]) -> Result<Vec<&[u8]>, Allo
     line.split(|byte| *byte == b' ').collect(alloc)
 }
 
-/// The lines of a text, and what follows the last line end.
-pub(crate) fn split_lines(alloc: Global, text: &[u8]) -> Result<Vec<&[u8]>, AllocError>
-    ensures { IfOk result (λ v. map (λ x. x.now) v.items ≡ parts_of text.now) }
+/// Where the first line end of a text stands, if there is one.
+pub(crate) fn line_end(text: &[u8]) -> Option<usize>
+    ensures { result ≡ position (λ b. b == 10) text.now }
 {
-    text.split(|byte| *byte == b'\n').collect(alloc)
+    text.iter().position(|byte| *byte == b'\n')
 }
 
 /// The number that a word is, if it is one: at most ten digits, with no zero in front.

@@ -1,13 +1,29 @@
-use Rattle.std.proofs.Common.{ap, ◌==◌, length, arith}
-use Rattle.std.proofs.lemmas.List.{length-map}
-use Rattle.std.proofs.lemmas.List.Splits.{length-slice_split}
+use Rattle.std.proofs.Common.{◌==◌, ◌+◌, refl, sym, ◌∙◌, arith}
+use Rattle.std.proofs.lemmas.List.{length-drop, take_rest}
+use Rattle.std.proofs.lemmas.List.Quantifiers.{position-Some}
 use Rattle.tw_text.specs.Reading.{case_of}
+use Rattle.tw_text.proofs.Reading.{read_all, read_on, stopped}
 use Rattle.tw_text.proofs.read.read_exactly.Goals as goal
 
-pub read_parts-requires : goal.read_parts-requires
-read_parts-requires c =
-    omega (arith, ap length c.deref.ensures.value, ap length c.in_ok-parts.ensures, length-map c.in_ok-parts.parts.items (λ x. x.now), length-slice_split (λ b. b == 10) c.args.text.now)
+pub loop-end-init : goal.loop-end-init
+unfolding case_of
+loop-end-init c = record { line = omega arith; same = refl }
+
+pub returns-in-Err : goal.returns-in-Err
+returns-in-Err c =
+    rw (c.at_line.ensures, ← c.loop-end.invariant.same) (stopped c.loop-end.draft _ c.loop-end.line c.loop-end.rest.now c.in-Some.end c.in-Err.error (sym c.in-Some.ensures) c.in-Err.ensures)
+
+pub loop-end-preserved : goal.loop-end-preserved
+loop-end-preserved c =
+    let rest = c.loop-end.rest.now in
+    let end = c.in-Some.end in
+    let first = sym c.in-Some.ensures in
+    let p = position-Some (λ b. b == 10) rest end 0 first in
+    let n = length-drop (end + 1) rest in
+    rw (take_rest rest (end + 1)) (record {
+      line = omega (arith, c.loop-end.invariant.line, n, p.0);
+      same = sym (read_on c.loop-end.draft c.in-Ok.next c.loop-end.line rest end first c.in-Ok.ensures) ∙ c.loop-end.invariant.same;
+    })
 
 pub returns : goal.returns
-unfolding case_of
-returns c = rw (← c.in_ok-parts.ensures, ← c.deref.ensures.value) c.read_parts.ensures
+returns c = rw (sym (c.loop-end.invariant.same), read_all c.loop-end.draft c.loop-end.line c.loop-end.rest.now (sym c.line_end.ensures ∙ c.in_default.is)) c.finish.ensures
