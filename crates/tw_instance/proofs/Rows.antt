@@ -1,5 +1,5 @@
 -- Rows, one for each router: what a write to one leaves.
-use Rattle.std.proofs.Common.{arith, Result, Ok, Err, OnErr, ◌≡◌, ℕ, ◌<◌, List, [], length, get_or, set, ap, sym, ◌∙◌}
+use Rattle.std.proofs.Common.{arith, Result, Ok, Err, OnErr, ◌≡◌, ℕ, ◌<◌, List, [], ◌∷◌, ◌++◌, length, get_or, set, ap, sym, ◌∙◌}
 use Rattle.std.proofs.lemmas.List.{length-set, map-set, set-get_or, get_or-map, get_or-set_other}
 use Rattle.std.specs.declared.vec.Vec.{Vec}
 use Rattle.tw_instance.specs.Tables.{items, row, with_hop}
@@ -17,6 +17,16 @@ row_at rows i d h = get_or-map (λ r. r.items) rows i d [] h
 pub items_same : {X Z : Type 0} (rows : List (Vec X Z)) (i : ℕ) (v d : Vec X Z) → v.items ≡ (get_or rows i d).items → items (set rows i v) ≡ items rows
 items_same rows i v d e =
     items-set rows i v (get_or rows i d).items e ∙ (sym (map-set (λ r. r.items) rows i (get_or rows i d)) ∙ ap items (set-get_or rows i d))
+
+-- an item behind those of a row, with room made in it first
+pub items-push : {X Z : Type 0} (rows : List (Vec X Z)) (i : ℕ) (v w a b : Vec X Z) (x : X) → i < length rows → v.items ≡ (get_or rows i a).items → w.items ≡ (get_or (set rows i v) i b).items ++ x ∷ []
+    → items (set (set rows i v) i w) ≡ set (items rows) i (row rows i ++ x ∷ [])
+items-push rows i v w a b x below room pushed =
+    let ready = set rows i v in
+    let long : i < length ready = omega (arith, length-set rows i v) in
+    let same : items ready ≡ items rows = items_same rows i v a room in
+    let here : (get_or ready i b).items ≡ row rows i = sym (row_at ready i b long) ∙ ap (λ t. get_or t i []) same in
+    items-set ready i w (row rows i ++ x ∷ []) (pushed ∙ ap (λ ys. ys ++ x ∷ []) here) ∙ ap (λ t. set t i (row rows i ++ x ∷ [])) same
 
 -- two rows after each other, with room made in both first
 pub items-join : {Z : Type 0} (rows : List (Vec Hop Z)) (f s : ℕ) (v w x y a b c d : Vec Hop Z) (h k : Hop) → f < length rows → s < length rows → (f ≡ s → ⊥)

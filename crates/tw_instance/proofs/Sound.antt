@@ -60,7 +60,7 @@ is_whole net h = record {
 
 -- ---- the rows of an instance that is made or grows
 
-empty_row : {X : Type 0} (n v : ℕ) → (let none : List X = [] in get_or (replicate n none) v none ≡ none)
+pub empty_row : {X : Type 0} (n v : ℕ) → (let none : List X = [] in get_or (replicate n none) v none ≡ none)
 empty_row zero v = refl
 empty_row (suc n) zero = refl
 empty_row (suc n) (suc v) = empty_row n v

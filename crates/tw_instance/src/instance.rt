@@ -1,4 +1,4 @@
-ghost use Rattle.std.specs.Prelude.{◌≡◌, ◌↔◌, ℕ, ◌+◌, ◌==◌, ◌<◌, ◌≤◌, List, [], ◌∷◌, ◌++◌, length, true, IfOk, IfSome, OnErr, OnOk, SomeIff, IsTrue, slice_index_or, map};
+ghost use Rattle.std.specs.Prelude.{◌≡◌, ◌↔◌, ℕ, ◌+◌, ◌==◌, ◌<◌, ◌≤◌, List, [], ◌∷◌, ◌++◌, length, true, IfOk, IfSome, OnErr, OnOk, SomeIff, IsTrue, slice_index_or, map, drop};
 ghost use Rattle.std.specs.List.{All, find, position};
 ghost use Rattle.tw_event.specs.declared.event.PathNo.{PathNo as APathNo};
 ghost use Rattle.tw_model.specs.Net.{IsPath, empty_path, hops_of, is_own, origin_path, path, paths, paths_of, same_path};
@@ -7,12 +7,14 @@ ghost use Rattle.tw_model.specs.Rules.{IsNet, line_fault, link_fault, nodes_faul
 ghost use Rattle.tw_model.specs.State.{has_peer, hop, slot as slot_of};
 ghost use Rattle.tw_instance.specs.Build.{Tells, instance_fault, lines_fault, links_fault};
 ghost use Rattle.tw_instance.specs.Hops.{AreDistinct, AreRising, IsGoodHop};
+ghost use Rattle.tw_instance.specs.Tables.{key, tail_key};
 
 use crate::refusal::{At, Place, Refusal};
 use crate::{faults, tables};
 use std::alloc::Global;
 use std::marker::Model;
 use tw_event::PathNo;
+use tw_lanes::first_equal;
 use tw_model::{Hop, Link, PathLine};
 
 /// An instance of the stable paths problem: routers, links with delays, and permitted paths.
@@ -27,6 +29,8 @@ pub struct Instance {
     hops: Vec<Vec<Hop>>,
     /// Of each router its permitted paths, best first.
     permitted: Vec<Vec<PathNo>>,
+    /// Of each of them, in the same order, the key of the path without its first node.
+    tail_keys: Vec<Vec<u32>>,
 }
 
 impl Model for Instance {
@@ -52,13 +56,15 @@ impl Instance {
             return Err(Refusal::Rule(rule));
         }
         let hops = tables::empty_rows(alloc, nodes)?;
-        let permitted = tables::opening_orders(alloc, nodes)?;
+        let permitted = tables::opening_rows(alloc, nodes, PathNo(1))?;
+        let tail_keys = tables::opening_rows(alloc, nodes, tables::key_of(&[]))?;
         Ok(Instance {
             nodes,
             links: Vec::new(alloc),
             paths: Vec::new(alloc),
             hops,
             permitted,
+            tail_keys,
         })
     }
 
@@ -90,8 +96,15 @@ impl Instance {
             return Err(Refusal::Rule(rule));
         }
         let number = PathNo(self.paths.len() as u32 + 2);
+        let key = tail_key(&path.nodes);
         self.paths.reserve(1)?;
-        tables::list(&mut self.permitted, path.owner, number)?;
+        tables::list(
+            &mut self.permitted,
+            &mut self.tail_keys,
+            path.owner,
+            number,
+            key,
+        )?;
         self.paths.push_reserved(path);
         Ok(())
     }
@@ -260,7 +273,15 @@ impl Instance {
     {
         // Opens the invariant, from which each answer follows.
         let _ = &self.links;
-        find_path(self, self.permitted(node), node, rest)
+        let numbers = self.permitted(node);
+        find_path(self, numbers, self.tail_keys(node), node, rest)
+    }
+
+    /// Of each permitted path of a router, best first, the key of the path without its first node.
+    fn tail_keys(&self, node: u32) -> &[u32]
+        ensures { result.now ≡ map (tail_key self.now) (paths_of self.now node) }
+    {
+        tables::row_of(&self.tail_keys, node)
     }
 }
 
@@ -270,16 +291,39 @@ fn place_of(hops: &[Hop], peer: u32) -> Option<usize>
     hops.iter().position(|hop| hop.peer == peer)
 }
 
-fn find_path(instance: &Instance, numbers: &[PathNo], node: u32, rest: &[u32]) -> Option<PathNo>
-    requires { All (IsPath instance.now) numbers.now }
+/// The first of these paths that is `node` followed by `rest`, given the key of each path without
+/// its first node. Nodes are compared only where the key is that of `rest`.
+fn find_path(
+    instance: &Instance,
+    numbers: &[PathNo],
+    keys: &[u32],
+    node: u32,
+    rest: &[u32],
+) -> Option<PathNo>
+    requires paths { All (IsPath instance.now) numbers.now }
+    requires keys { keys.now ≡ map (tail_key instance.now) numbers.now }
     ensures { result ≡ find (λ q. same_path (path instance.now q) (node ∷ rest.now)) numbers.now }
 {
-    for number in numbers {
-        if is_made_of(instance.path(*number), node, rest) {
-            return Some(*number);
+    let key = tables::key_of(rest);
+    let mut start = 0;
+    while let Some(skipped) = first_equal(&keys[start..], key) {
+        let number = numbers[start + skipped];
+        if is_made_of(instance.path(number), node, rest) {
+            return Some(number);
         }
+        start += skipped + 1;
     }
     None
+}
+
+/// The key of these nodes without the first.
+fn tail_key(nodes: &[u32]) -> u32
+    ensures { result ≡ key (drop 1 nodes.now) }
+{
+    match nodes {
+        [] => tables::key_of(&[]),
+        [_, rest @ ..] => tables::key_of(rest),
+    }
 }
 
 fn is_made_of(nodes: &[u32], first: u32, rest: &[u32]) -> bool

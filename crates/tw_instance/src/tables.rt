@@ -1,10 +1,9 @@
-//! Rows of neighbours and of path numbers, one for each router.
+//! Rows of neighbours, of path numbers and of keys, one for each router.
 
-ghost use Rattle.std.specs.Prelude.{◌≡◌, ◌≢◌, ◌<◌, ◌≤◌, List, [], ◌∷◌, ◌++◌, length, slice_index_or, slice_set, map, replicate, IfOk, OnErr, OnOk, vec_len, vec_capacity, ◌-◌};
+ghost use Rattle.std.specs.Prelude.{◌≡◌, ◌≢◌, ◌<◌, ◌≤◌, List, [], ◌∷◌, ◌++◌, length, slice_index_or, slice_set, map, replicate, IfOk, OnErr, OnOk, vec_len, vec_capacity, ◌-◌, ◌+◌, ◌*◌, ◌%◌, ◌^◌};
 ghost use Rattle.std.specs.List.{insert, position_or_len};
 ghost use Rattle.std.specs.Prelude.{nat_lt};
-ghost use Rattle.tw_model.specs.Net.{origin_path};
-ghost use Rattle.tw_instance.specs.Tables.{items, row, with_hop};
+ghost use Rattle.tw_instance.specs.Tables.{items, key, row, with_hop};
 
 use std::alloc::{AllocError, Global};
 use tw_event::PathNo;
@@ -29,13 +28,13 @@ pub fn empty_rows<T: Drop>(alloc: Global, count: u32) -> Result<Vec<Vec<T>>, All
     Ok(rows)
 }
 
-/// The orders of the routers before any path was given: the origin has (0).
-pub fn opening_orders(alloc: Global, count: u32) -> Result<Vec<Vec<PathNo>>, AllocError>
+/// The rows before any path was given: the origin has one item.
+pub fn opening_rows<T: Drop>(alloc: Global, count: u32, item: T) -> Result<Vec<Vec<T>>, AllocError>
     requires { 0 < count }
-    ensures { IfOk result (λ rows. items rows.items ≡ (origin_path ∷ []) ∷ replicate (count - 1) []) }
+    ensures { IfOk result (λ rows. items rows.items ≡ (item ∷ []) ∷ replicate (count - 1) []) }
 {
     let mut rows = empty_rows(alloc, count)?;
-    rows[0].push(PathNo(1))?;
+    rows[0].push(item)?;
     Ok(rows)
 }
 
@@ -90,12 +89,37 @@ fn place_above(row: &[Hop], peer: u32) -> usize
     row.len()
 }
 
-/// Puts a path number behind those of a router.
-pub fn list(rows: &mut [Vec<PathNo>], node: u32, number: PathNo) -> Result<(), AllocError>
-    requires { node < length rows.old }
-    ensures ok { OnOk result (items rows.new ≡ slice_set (items rows.old) node (row rows.old node ++ number ∷ [])) }
-    ensures err { OnErr result (items rows.new ≡ items rows.old) }
+/// Puts a path number and its key behind those of a router.
+pub fn list(
+    numbers: &mut [Vec<PathNo>],
+    keys: &mut [Vec<u32>],
+    node: u32,
+    number: PathNo,
+    key: u32,
+) -> Result<(), AllocError>
+    requires number { node < length numbers.old }
+    requires key { node < length keys.old }
+    ensures numbers { OnOk result (items numbers.new ≡ slice_set (items numbers.old) node (row numbers.old node ++ number ∷ [])) }
+    ensures keys { OnOk result (items keys.new ≡ slice_set (items keys.old) node (row keys.old node ++ key ∷ [])) }
+    ensures err { OnErr result ((items numbers.new ≡ items numbers.old) × (items keys.new ≡ items keys.old)) }
 {
-    rows[node as usize].push(number)?;
+    let node = node as usize;
+    numbers[node].reserve(1)?;
+    keys[node].reserve(1)?;
+    numbers[node].push_reserved(number);
+    keys[node].push_reserved(key);
     Ok(())
+}
+
+/// A number that equal lists of nodes share.
+pub fn key_of(nodes: &[u32]) -> u32
+    ensures { result ≡ key nodes.now }
+{
+    nodes.iter().fold(0, |key, node| next_key(key, *node))
+}
+
+fn next_key(key: u32, node: u32) -> u32
+    ensures { result ≡ (key * 1000003 + node) % 2 ^ 32 }
+{
+    key.wrapping_mul(1_000_003).wrapping_add(node)
 }

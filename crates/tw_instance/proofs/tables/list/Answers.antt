@@ -1,12 +1,24 @@
-use Rattle.std.proofs.Common.{◌∷◌, ◌++◌, [], ap, sym, ◌∙◌}
-use Rattle.tw_instance.proofs.Rows.{items-set, items_same, on_err, row_at}
+use Rattle.std.proofs.Common.{refl}
+use Rattle.tw_instance.proofs.Rows.{items-push, items_same, on_err}
 use Rattle.tw_instance.proofs.tables.list.Goals as goal
 
-pub returns-in_err-push-clause-err : goal.returns-in_err-push-clause-err
-returns-in_err-push-clause-err c =
-    on_err c.from_residual.result _ (items_same c.args.rows.now c.args.node c.push.new.self c.index-rows-node.result c.in_err-push.ensures.items)
+pub returns-in_err-reserve-clause-err : goal.returns-in_err-reserve-clause-err
+returns-in_err-reserve-clause-err c =
+    on_err c.from_residual.result _ (items_same c.args.numbers.now c.args.node c.reserve.new.self c.index-numbers-node.result c.in_err-reserve.ensures.items, refl)
 
-pub returns-clause-ok : goal.returns-clause-ok
-returns-clause-ok c =
-    items-set c.args.rows.now c.args.node c.push.new.self _
-    (c.in_ok-push.ensures.items ∙ ap (λ ys. ys ++ c.args.number ∷ []) (sym (row_at c.args.rows.now c.args.node c.index-rows-node.result c.requires)))
+pub returns-in_err-reserve-2-clause-err : goal.returns-in_err-reserve-2-clause-err
+returns-in_err-reserve-2-clause-err c =
+    on_err c.from_residual-in_err-reserve-2.result _ (
+      items_same c.args.numbers.now c.args.node c.reserve.new.self c.index-numbers-node.result c.in_ok-reserve.ensures.items,
+      items_same c.args.keys.now c.args.node c.reserve-2.new.self c.index-keys-node.result c.in_err-reserve-2.ensures.items,
+    )
+
+pub returns-clause-numbers : goal.returns-clause-numbers
+returns-clause-numbers c =
+    items-push c.args.numbers.now c.args.node c.reserve.new.self c.push_reserved.new.self c.index-numbers-node.result c.index-numbers-node-2.result c.args.number c.requires.number
+    c.in_ok-reserve.ensures.items c.push_reserved.ensures.items
+
+pub returns-clause-keys : goal.returns-clause-keys
+returns-clause-keys c =
+    items-push c.args.keys.now c.args.node c.reserve-2.new.self c.push_reserved-2.new.self c.index-keys-node.result c.index-keys-node-2.result c.args.key c.requires.key
+    c.in_ok-reserve-2.ensures.items c.push_reserved-2.ensures.items

@@ -12,4 +12,4 @@ returns-clause-own c = found_own _ _ _ _ (found_path _ _ _ _ _ c.find_path.ensur
 
 pub returns-clause-only : goal.returns-clause-only
 returns-clause-only c q h =
-    c.find_path.ensures ∙ (rw c.permitted.ensures.value (finds_path c.args.self.now (path_exact c.args.self.now (subst IsNet c.self.view_is c.self.invariant.net)) q _ _ h))
+    c.find_path.ensures ∙ (rw c.permitted-numbers.ensures.value (finds_path c.args.self.now (path_exact c.args.self.now (subst IsNet c.self.view_is c.self.invariant.net)) q _ _ h))
