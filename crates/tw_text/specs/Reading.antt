@@ -28,7 +28,7 @@ case_at d k = Err (k, x.End)
 abbrev pub finishes : Draft → ℕ → List ℕ → Result Case Spot
 finishes d k rest = if length rest == 0 then case_at d k else unless_fault (fault_of d rest false) k (Err (k, x.End))
 
--- the parts of a text, of which the first is line k: ended lines, and what follows the last line end
+-- the parts of a text, one at least, of which the first is line k: ended lines, and what follows the last line end
 unfoldable pub reads : Draft → ℕ → List (List ℕ) → Result Case Spot
 reads d k [] = Err (k, x.End)
 reads d k (rest ∷ []) = finishes d k rest
