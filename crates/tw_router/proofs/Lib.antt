@@ -1,2 +1,4 @@
 pub mod Nodes
 pub mod Opening
+pub mod Places
+pub mod Ranking

@@ -1,2 +1,3 @@
 pub mod Nodes
+pub mod Ranks
 pub mod Valid

@@ -1,17 +1,19 @@
 ghost use Rattle.std.specs.Prelude.{◌≡◌, ◌-◌, ◌≤◌, ◌<◌, ◌↔◌, map, length, IfOk, IsErrOf, IsTrue};
-ghost use Rattle.std.specs.List.{All};
+ghost use Rattle.std.specs.List.{All, position};
 ghost use Rattle.tw_model.specs.Net.{IsPath, path as path_of};
 ghost use Rattle.tw_model.specs.Rules.{IsNet};
-ghost use Rattle.tw_model.specs.State.{IsCounted, IsState, best as best_of, fresh_row, opening, opening_with, row as row_of};
+ghost use Rattle.tw_model.specs.State.{IsCounted, IsState, best as best_of, fresh_row, offers, opening, opening_with, row as row_of};
 ghost use Rattle.tw_model.specs.Effect.{swapping, with_row};
 ghost use Rattle.tw_router.specs.Nodes.{best_nodes, heard_of, order_of};
+ghost use Rattle.tw_router.specs.Ranks.{rank_row as rank_row_of};
 ghost use Rattle.tw_router.specs.declared.router.OpenFault.TheVariants.{Memory};
 
-use crate::choice::first_offered;
+use crate::ranks::{rank_of, refresh};
 use std::alloc::{AllocError, Global};
 use std::marker::Model;
 use tw_event::PathNo;
 use tw_instance::Instance;
+use tw_lanes::{best_rank, first_equal};
 use tw_model::{Counters, Hop, Row};
 
 /// What a counter of messages or of events reaches at most.
@@ -37,7 +39,9 @@ impl From<AllocError> for OpenFault {
 /// A router of an instance, with what it knows.
 ///
 /// It has a row for each neighbour, in rising number; a slot is the place of a row, from 0. Its order has
-/// its permitted paths, the best first.
+/// its permitted paths, the best first. A neighbour whose link is up offers the router's number followed by
+/// the path that it told. Each slot has a rank: how many paths of the order stand from the offered one on,
+/// and 0 where none of them is offered. So the path of the greatest rank is the best.
 #[derive(Drop)]
 pub struct Router<'a> {
     instance: &'a Instance,
@@ -45,18 +49,19 @@ pub struct Router<'a> {
     rib: PathNo,
     rows: Vec<Row>,
     order: Vec<PathNo>,
+    ranks: Vec<u32>,
     counters: Counters,
 }
 
 impl<'a> Model for Router<'a> {
     ghost use Rattle.tw_model.specs.State as state;
-    ghost use Rattle.tw_router.specs.Valid.{IsRouter};
+    ghost use Rattle.tw_router.specs.Ranks.{IsRanked};
 
     ghost Value = { state.Router };
 
     ghost view = { λ a. record { net = a.instance.now; node = a.node; state = record { rib = a.rib; rows = a.rows.items; order = a.order.items; counters = a.counters } } };
 
-    ghost invariant = { λ a. IsRouter (record { net = a.instance.now; node = a.node; state = record { rib = a.rib; rows = a.rows.items; order = a.order.items; counters = a.counters } }) };
+    ghost invariant = { λ a. IsRanked (record { net = a.instance.now; node = a.node; state = record { rib = a.rib; rows = a.rows.items; order = a.order.items; counters = a.counters } }) a.ranks.items };
 }
 
 impl<'a> Router<'a> {
@@ -104,12 +109,14 @@ impl<'a> Router<'a> {
         ensures { IfOk result
             (λ router. router ≡ record { net = instance.now; node = node; state = opening_with instance.now node counters }) }
     {
+        let hops = instance.hops(node);
         Ok(Router {
             instance,
             node,
             rib: PathNo(0),
-            rows: fresh_rows(alloc, instance.hops(node))?,
+            rows: fresh_rows(alloc, hops)?,
             order: Vec::from_slice(alloc, instance.permitted(node))?,
+            ranks: vec![in alloc; 0; hops.len()]?,
             counters,
         })
     }
@@ -192,6 +199,15 @@ impl<'a> Router<'a> {
         &self.order
     }
 
+    /// The rank of each slot. Of a router with three permitted paths it is 3 where the neighbour offers the
+    /// best of them, 1 where it offers the last, and 0 where it offers none: the link is down, or it told no
+    /// path, or one that no permitted path goes on with.
+    pub fn rank_row(&self) -> &[u32]
+        ensures { result.now ≡ rank_row_of self.now }
+    {
+        &self.ranks
+    }
+
     /// What it counts.
     pub fn counters(&self) -> Counters
         ensures value { result ≡ self.now.state.counters }
@@ -210,9 +226,25 @@ impl<'a> Router<'a> {
     {
         let node = self.node();
         if node == 0 {
-            PathNo(1)
-        } else {
-            first_offered(self.instance, node, self.order(), self.rows())
+            return PathNo(1);
+        }
+        let (order, ranks) = (self.order(), self.rank_row());
+        match self.best_slot() {
+            Some(slot) => order[order.len() - ranks[slot] as usize],
+            None => PathNo(0),
+        }
+    }
+
+    /// The slot of the first neighbour that offers the best path, at a router other than the origin.
+    fn best_slot(&self) -> Option<usize>
+        requires { 0 < self.now.node }
+        ensures { result
+            ≡ position (offers self.now.net self.now.node (best_of self.now.net self.now.node self.now.state)) self.now.state.rows }
+    {
+        let ranks = self.rank_row();
+        match best_rank(ranks) {
+            0 => None,
+            best => first_equal(ranks, best),
         }
     }
 
@@ -232,7 +264,11 @@ impl<'a> Router<'a> {
         ensures { self.new
             ≡ record self.old { state = with_row self.old.state slot (record (row_of self.old.state slot) { heard = path }) } }
     {
-        self.rows[slot].heard = path;
+        let row = Row {
+            heard: path,
+            ..self.row(slot)
+        };
+        self.set_row(instance, slot, row);
     }
 
     /// Changes whether the link to the neighbour of a slot is up. The instance is the router's own.
@@ -242,7 +278,23 @@ impl<'a> Router<'a> {
         ensures { self.new
             ≡ record self.old { state = with_row self.old.state slot (record (row_of self.old.state slot) { up = up }) } }
     {
-        self.rows[slot].up = up;
+        let row = Row {
+            up,
+            ..self.row(slot)
+        };
+        self.set_row(instance, slot, row);
+    }
+
+    /// Writes a row, and the rank that the slot then has.
+    fn set_row(&mut self, instance: &Instance, slot: usize, row: Row)
+        requires own { instance.now ≡ self.old.net }
+        requires slot { slot < length self.old.state.rows }
+        requires path { IsPath self.old.net row.heard }
+        requires session { row.session ≤ self.old.state.counters.handled }
+        ensures { self.new ≡ record self.old { state = with_row self.old.state slot row } }
+    {
+        self.ranks[slot] = rank_of(instance, self.node, slot, &self.order, row);
+        self.rows[slot] = row;
     }
 
     /// Changes the number of repairs of the link to the neighbour of a slot.
@@ -265,6 +317,8 @@ impl<'a> Router<'a> {
         ensures { self.new ≡ record self.old { state = swapping self.old.state first second } }
     {
         self.order.swap(first as usize - 1, second as usize - 1);
+        let node = self.node;
+        refresh(instance, node, &self.order, &self.rows, &mut self.ranks);
     }
 
     /// Changes what it counts.

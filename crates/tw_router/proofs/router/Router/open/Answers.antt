@@ -1,18 +1,28 @@
-use Rattle.std.proofs.Common.{ap, ◌∙◌, List, subst, true, ◌≡◌, map}
+use Rattle.std.proofs.Common.{ap, ◌≤◌, ◌∙◌, List, subst, true, ◌≡◌, map, length, sym, rules}
 use Rattle.std.specs.List.{All}
 use Rattle.tw_event.specs.declared.event.PathNo.{PathNo}
 use Rattle.tw_model.specs.Net.{is_own}
 use Rattle.tw_model.specs.State.{fresh_row}
+use Rattle.tw_router.specs.Ranks.{rank}
 use Rattle.tw_router.proofs.Opening.{IsState-opening}
+use Rattle.tw_router.proofs.Ranking.{rank_fresh}
 use Rattle.tw_router.proofs.router.Router.open.Goals as goal
 
 pub invariant_of-result : goal.invariant_of-result
 invariant_of-result c =
+    let order = c.in_ok-from_slice.field-0.items in
+    let rows = c.in_ok-fresh_rows.ensures in
     record {
-      net = c.hops.ensures.net;
-      node = c.requires.below;
-      state = IsState-opening c.args.instance.now c.args.node c.args.counters _ _ c.requires.counted
-          (c.in_ok-fresh_rows.ensures ∙ ap (map fresh_row) c.hops.ensures.value)
-          (c.in_ok-from_slice.ensures.items ∙ c.permitted.ensures.value)
-          (subst (λ (order : List PathNo). All (λ q. is_own c.args.instance.now c.args.node q ≡ true) order) c.permitted.ensures.value c.permitted.ensures.own);
+      valid = record {
+        net = c.hops-hops.ensures.net;
+        node = c.requires.below;
+        state = IsState-opening c.args.instance.now c.args.node c.args.counters _ _ c.requires.counted
+            (c.in_ok-fresh_rows.ensures ∙ ap (map fresh_row) c.hops-hops.ensures.value)
+            (c.in_ok-from_slice.ensures.items ∙ c.permitted.ensures.value)
+            (subst (λ (order : List PathNo). All (λ q. is_own c.args.instance.now c.args.node q ≡ true) order) c.permitted.ensures.value c.permitted.ensures.own);
+      };
+      few = subst (λ (order : List PathNo). length order ≤ 200) (sym c.in_ok-from_slice.ensures.items) c.permitted.ensures.few;
+      ranks = c.in_ok-vec.ensures.items_if_clones_equal (search rules)
+          ∙ (rank_fresh c.args.instance.now c.args.node order c.hops-hops.result.now
+          ∙ sym (ap (map (rank c.args.instance.now c.args.node order)) c.in_ok-fresh_rows.ensures));
     }
