@@ -33,6 +33,7 @@ pub(crate) fn handle_at(
     ensures changed { IfOk result
         (λ changed. changed ≡ not ((slice_index_or routers.old event.now.dst no_router).state.rib.0 == (after_event (slice_index_or routers.old event.now.dst no_router) event.now).state.rib.0)) }
     ensures err { OnErr result (routers.new ≡ routers.old) }
+    ensures unsent { OnErr result (sends.new.items ≡ sends.old.items) }
     ensures full { IsErrOf result RunFault.CounterFull
         → IsTrue (is_full (slice_index_or routers.old event.now.dst no_router).net (slice_index_or routers.old event.now.dst no_router).node (slice_index_or routers.old event.now.dst no_router).state event.now) }
 {
