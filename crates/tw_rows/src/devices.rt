@@ -99,3 +99,22 @@ impl Source for Tape<'_> {
         self.failed
     }
 }
+
+/// A source that gives line ends without end.
+#[derive(Drop)]
+pub(crate) struct Endless;
+
+impl Source for Endless {
+    ghost remaining = { λ s. None };
+
+    ghost failed = { λ s. false };
+
+    fn get(&mut self, into: &mut [u8]) -> Result<usize, Failed> {
+        into.fill(b'\n');
+        Ok(into.len())
+    }
+
+    fn has_failed(&self) -> bool {
+        false
+    }
+}

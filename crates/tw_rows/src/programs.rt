@@ -2,7 +2,7 @@
 
 ghost use Rattle.std.specs.Prelude.{◌≡◌, false};
 
-use crate::devices::{AMPLE, Page, Tape};
+use crate::devices::{AMPLE, Endless, Page, Tape};
 use crate::texts::{
     ALONE, ALONE_LOG, DISAGREE, DISAGREE_LOG, DISAGREE_TO_SEVEN, DISAGREE_TRAIL,
     FAILURE_AND_REPAIR, FAILURE_AND_REPAIR_LOG, FAILURE_AND_REPAIR_TRAIL, RANK_EXCHANGE,
@@ -175,4 +175,28 @@ fn a_source_that_fails_leaves_nothing_written(rt: HostRuntime) {
             assert!(rt; ended.is_err() && page.bytes().is_empty());
         }
     }
+}
+
+/// How `check` ends on line ends without end, and what it wrote. It is run once more where memory was
+/// refused.
+fn check_endless(alloc: Global) -> Option<(Result<Status, Cause>, Page)> {
+    for _ in 0..2 {
+        let Ok(mut page) = Page::new(alloc, AMPLE, AMPLE) else {
+            continue;
+        };
+        match check_io(alloc, &mut Endless, &mut page) {
+            Err(Cause::Memory) => {}
+            ended => return Some((ended, page)),
+        }
+    }
+    None
+}
+
+#[test]
+fn line_ends_without_end_are_refused(rt: HostRuntime) {
+    let Some((ended, page)) = check_endless(rt.alloc()) else {
+        panic!(rt; "no answer")
+    };
+    assert!(rt; ended == Ok(Status::Refused));
+    assert!(rt; page.bytes() == b"refused line 1 X2 Header\n".as_slice());
 }
