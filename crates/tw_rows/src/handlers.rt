@@ -9,6 +9,7 @@ use std::mem::size_of;
 use tw_event::{Body, Event, PathNo};
 use tw_handlers::{Fault, Trail, UndoRecord, handle, undo};
 use tw_instance::{Case, Instance};
+use tw_lanes::first_equal;
 use tw_model::Counters;
 use tw_router::{OpenFault, Router};
 use tw_text::{TextFault, read_case, write_case};
@@ -111,6 +112,29 @@ fn a_trail_goes_back_to_each_earlier_state(rt: HostRuntime) {
     assert!(rt; back(&mut trail, instance, 0, &mut sends) == (PathNo(0), 0));
     assert!(rt; times(&sends, &[(5, 4), (5, 5), (4, 2), (4, 3), (2, 0), (2, 1)]));
     assert!(rt; trail.router().counters() == NO_COUNTS);
+}
+
+#[test]
+fn the_rank_row_follows_what_is_heard_and_goes_back(rt: HostRuntime) {
+    let alloc = rt.alloc();
+    let Ok(case) = case(alloc, DISAGREE) else {
+        panic!(rt; "the case is refused")
+    };
+    let instance = case.instance();
+    assert!(rt; instance.nodes() == 3);
+    let Ok(router) = router(alloc, instance, NO_COUNTS) else {
+        panic!(rt; "the router is refused")
+    };
+    let mut trail = Trail::over(alloc, router);
+    assert!(rt; trail.router().rank_row() == [0, 0].as_slice());
+    assert!(rt; step(&mut trail, instance, &update(1, 0, 0, 1, 0)) == Ok((PathNo(3), 2)));
+    assert!(rt; trail.router().rank_row() == [1, 0].as_slice());
+    assert!(rt; step(&mut trail, instance, &update(3, 2, 1, 5, 0)) == Ok((PathNo(2), 4)));
+    assert!(rt; trail.router().rank_row() == [1, 2].as_slice());
+    assert!(rt; first_equal(trail.router().rank_row(), 2) == Some(1));
+    let mut sends = SmallVec::new(alloc);
+    assert!(rt; back(&mut trail, instance, 0, &mut sends) == (PathNo(0), 0));
+    assert!(rt; trail.router().rank_row() == [0, 0].as_slice());
 }
 
 #[test]
