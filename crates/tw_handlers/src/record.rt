@@ -1,8 +1,12 @@
-ghost use Rattle.std.specs.Prelude.{◌≡◌, true, false};
+ghost use Rattle.std.specs.Prelude.{◌≡◌, ◌≤◌, true, false};
 
+use std::mem::size_of;
 use tw_event::PathNo;
 
-/// What undoing an event needs beside the event and the state that it left. It has at most 16 bytes.
+const SIZE: usize = size_of::<UndoRecord>();
+
+/// What undoing an event needs beside the event and the state that it left. It holds no collection, and
+/// what the event sent is made again from the state.
 #[derive(Clone, Copy, PartialEq, Eq, Debug)]
 pub struct UndoRecord {
     /// Whether the event took effect: it was not dropped, and its link not already down or up.
@@ -17,6 +21,13 @@ pub struct UndoRecord {
 }
 
 impl UndoRecord {
+    /// How many bytes a record takes: at most 16.
+    pub fn size() -> usize
+        ensures { result ≤ 16 }
+    {
+        SIZE
+    }
+
     /// The record of an event that took effect.
     pub(crate) fn taken(changed: bool, rib: PathNo, heard: PathNo) -> UndoRecord
         ensures { result ≡ record { took = true; changed = changed; rib = rib; heard = heard } }
