@@ -1,4 +1,4 @@
-ghost use Rattle.std.specs.Prelude.{◌≡◌, ◌<◌, ◌≤◌, ◌-◌, ◌==◌, ◌↔◌, length, map, IsTrue};
+ghost use Rattle.std.specs.Prelude.{◌≡◌, ◌<◌, ◌≤◌, ◌-◌, ◌==◌, ◌↔◌, length, map, slice_set, IsTrue};
 ghost use Rattle.std.specs.List.{All, position_or_len};
 ghost use Rattle.tw_event.specs.declared.event.PathNo.{PathNo as APathNo};
 ghost use Rattle.tw_model.specs.Net.{IsPath, hops_of};
@@ -25,18 +25,31 @@ pub(crate) fn refresh(
     ensures { ranks.new ≡ map (rank instance.now node order.now) rows.now }
 {
     for (slot, row) in rows.iter().enumerate() {
-        ranks[slot] = rank_of(instance, node, slot, order, *row);
+        refresh_slot(instance, node, slot, order, *row, ranks);
     }
 }
 
-/// The rank of the path that the neighbour of a slot offers, and 0 where it offers none.
-pub(crate) fn rank_of(
+/// Writes the rank of one slot anew.
+pub(crate) fn refresh_slot(
     instance: &Instance,
     node: u32,
     slot: usize,
     order: &[PathNo],
     row: Row,
-) -> u32
+    ranks: &mut [u32],
+)
+    requires router { node < instance.now.nodes }
+    requires slot { slot < length (hops_of instance.now node) }
+    requires rank { slot < length ranks.old }
+    requires path { IsPath instance.now row.heard }
+    requires few { length order.now ≤ 200 }
+    ensures { ranks.new ≡ slice_set ranks.old slot (rank instance.now node order.now row) }
+{
+    ranks[slot] = rank_of(instance, node, slot, order, row);
+}
+
+/// The rank of the path that the neighbour of a slot offers, and 0 where it offers none.
+fn rank_of(instance: &Instance, node: u32, slot: usize, order: &[PathNo], row: Row) -> u32
     requires router { node < instance.now.nodes }
     requires slot { slot < length (hops_of instance.now node) }
     requires path { IsPath instance.now row.heard }

@@ -8,7 +8,7 @@ ghost use Rattle.tw_router.specs.Nodes.{best_nodes, heard_of, order_of};
 ghost use Rattle.tw_router.specs.Ranks.{rank_row as rank_row_of};
 ghost use Rattle.tw_router.specs.declared.router.OpenFault.TheVariants.{Memory};
 
-use crate::ranks::{rank_of, refresh};
+use crate::ranks::{refresh, refresh_slot};
 use std::alloc::{AllocError, Global};
 use std::marker::Model;
 use tw_event::PathNo;
@@ -293,7 +293,8 @@ impl<'a> Router<'a> {
         requires session { row.session ≤ self.old.state.counters.handled }
         ensures { self.new ≡ record self.old { state = with_row self.old.state slot row } }
     {
-        self.ranks[slot] = rank_of(instance, self.node, slot, &self.order, row);
+        let node = self.node;
+        refresh_slot(instance, node, slot, &self.order, row, &mut self.ranks);
         self.rows[slot] = row;
     }
 
