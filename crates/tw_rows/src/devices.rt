@@ -100,9 +100,23 @@ impl Source for Tape<'_> {
     }
 }
 
-/// A source that gives line ends without end.
+/// A source that gives line ends without end, and counts them.
 #[derive(Drop)]
-pub(crate) struct Endless;
+pub(crate) struct Endless {
+    given: usize,
+}
+
+impl Endless {
+    /// A source that has given nothing yet.
+    pub(crate) fn new() -> Endless {
+        Endless { given: 0 }
+    }
+
+    /// How many bytes it gave.
+    pub(crate) fn given(&self) -> usize {
+        self.given
+    }
+}
 
 impl Source for Endless {
     ghost remaining = { λ s. None };
@@ -111,6 +125,7 @@ impl Source for Endless {
 
     fn get(&mut self, into: &mut [u8]) -> Result<usize, Failed> {
         into.fill(b'\n');
+        self.given = self.given.saturating_add(into.len());
         Ok(into.len())
     }
 

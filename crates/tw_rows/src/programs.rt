@@ -177,16 +177,17 @@ fn a_source_that_fails_leaves_nothing_written(rt: HostRuntime) {
     }
 }
 
-/// How `check` ends on line ends without end, and what it wrote. It is run once more where memory was
-/// refused.
-fn check_endless(alloc: Global) -> Option<(Result<Status, Cause>, Page)> {
+/// How `check` ends on line ends without end, how many it read, and what it wrote. It is run once
+/// more where memory was refused.
+fn check_endless(alloc: Global) -> Option<(Result<Status, Cause>, usize, Page)> {
     for _ in 0..2 {
         let Ok(mut page) = Page::new(alloc, AMPLE, AMPLE) else {
             continue;
         };
-        match check_io(alloc, &mut Endless, &mut page) {
+        let mut source = Endless::new();
+        match check_io(alloc, &mut source, &mut page) {
             Err(Cause::Memory) => {}
-            ended => return Some((ended, page)),
+            ended => return Some((ended, source.given(), page)),
         }
     }
     None
@@ -194,9 +195,9 @@ fn check_endless(alloc: Global) -> Option<(Result<Status, Cause>, Page)> {
 
 #[test]
 fn line_ends_without_end_are_refused(rt: HostRuntime) {
-    let Some((ended, page)) = check_endless(rt.alloc()) else {
+    let Some((ended, read, page)) = check_endless(rt.alloc()) else {
         panic!(rt; "no answer")
     };
-    assert!(rt; ended == Ok(Status::Refused));
+    assert!(rt; ended == Ok(Status::Refused) && read == 67_108_864);
     assert!(rt; page.bytes() == b"refused line 1 X2 Header\n".as_slice());
 }
