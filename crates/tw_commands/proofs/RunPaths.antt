@@ -1,11 +1,10 @@
 -- The paths that a run shows are paths of its instance.
-use Rattle.std.proofs.Common.{◌≡◌, ℕ, ◌<◌, ◌==◌, true, List, reverse, subst, sym, inl, inr, arith}
+use Rattle.std.proofs.Common.{◌≡◌, ℕ, ◌<◌, ◌==◌, true, List, reverse, subst, sym}
 use Rattle.std.specs.List.{All, range_with_len}
-use Rattle.std.proofs.lemmas.Bool.{cases_Bool, and_parts, eqb-true}
+use Rattle.std.proofs.lemmas.Bool.{and_parts, eqb-true}
 use Rattle.tw_event.specs.declared.event.Body.{Body}
 use Rattle.tw_event.specs.declared.event.Body.TheVariants.{Start, Fail, Restore, Swap, Update}
 use Rattle.tw_event.specs.declared.event.Event.{Event}
-use Rattle.tw_event.specs.declared.event.PathNo.{PathNo}
 use Rattle.tw_event.proofs.Order.{same_self}
 use Rattle.tw_model.specs.Net.{Net, IsPath, is_permitted}
 use Rattle.tw_model.specs.Effect.{body_suits, suits}
@@ -16,20 +15,13 @@ use Rattle.tw_model.specs.Case.{Case, IsCase, simulation}
 use Rattle.tw_model.proofs.Counts.{times-reverse}
 use Rattle.tw_model.proofs.Lawful.{lawful}
 use Rattle.tw_model.proofs.Members.{In, all_from_in, in_filter, in_map, times_in}
-use Rattle.tw_model.proofs.Paths.{own_is_path}
+use Rattle.tw_model.proofs.Paths.{permitted_is_path}
 use Rattle.tw_model.proofs.Rising.{suit-begin, suit-turns}
 use Rattle.tw_model.proofs.Suits.{own_state}
 use Rattle.tw_report.specs.Lines.{NamesPath}
 use Rattle.tw_report.specs.Report.{HasPaths}
 use Rattle.tw_seq.specs.Outcome.{end_of, outcome_of}
 use Rattle.tw_seq.specs.Run.{complete, state_after}
-
-pub permitted_is_path : (net : Net) (v : ℕ) (q : PathNo) → is_permitted net v q ≡ true → IsPath net q
-permitted_is_path net v q h =
-    elim (cases_Bool (q.0 == 0)) [
-      | inl b ↦ (let none = eqb-true q.0 0 b in omega arith)
-      | inr b ↦ (own_is_path net v q (rw b at h)).0
-    ]
 
 pub names_path : (net : Net) (v : ℕ) (e : Event) (b : Body) → body_suits net v e b ≡ true → NamesPath net b
 names_path net v e Start h = tt

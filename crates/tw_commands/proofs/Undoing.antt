@@ -1,29 +1,28 @@
 -- The events of a trail are undone one after the other, and their lines follow each other.
-use Rattle.std.proofs.Common.{◌≡◌, ℕ, zero, suc, false, ◌-◌, ◌≤◌, ◌<◌, ◌==◌, true, List, [], ◌∷◌, ◌++◌, length, take, drop, get_or, refl, sym, ap, subst, ◌∙◌, inl, arith, codes, append_assoc, append-nil, nat_le}
+use Rattle.std.proofs.Common.{◌≡◌, ℕ, suc, false, ◌-◌, ◌≤◌, ◌<◌, true, List, [], ◌∷◌, ◌++◌, length, take, drop, get_or, refl, sym, ap, subst, ◌∙◌, inl, arith, codes, append_assoc, append-nil}
 use Rattle.std.specs.List.{All}
-use Rattle.std.proofs.lemmas.Bool.{and_parts}
-use Rattle.std.proofs.lemmas.List.{drop-append-le, length-take-le}
+use Rattle.std.proofs.Math.Seq.{take-suc}
+use Rattle.std.proofs.lemmas.List.{drop-append-le, length-take-le, length_push, take-append-drop, take-take}
+use Rattle.std.proofs.lemmas.List.Sums.{fold-append}
 use Rattle.tw_commands.proofs.Counting.{never_full}
-use Rattle.tw_commands.proofs.RunPaths.{names_path, permitted_is_path}
+use Rattle.tw_commands.proofs.RunPaths.{names_path}
 use Rattle.tw_commands.specs.Trail.{router_line, trail_text, undo_lines, undone_lines}
 use Rattle.tw_event.specs.declared.event.Event.{Event}
 use Rattle.tw_handlers.proofs.Undone.{undone-last}
 use Rattle.tw_handlers.specs.Trail.{History}
 use Rattle.tw_model.specs.Net.{Net}
 use Rattle.tw_model.specs.State.{IsCounted, Router, State, opening}
-use Rattle.tw_model.specs.Effect.{body_suits, effect, fits, is_full, suits}
+use Rattle.tw_model.specs.Effect.{effect, fits, is_full}
 use Rattle.tw_model.specs.History.{state_after, undone}
 use Rattle.tw_model.proofs.Members.{In, all_from_in, in_from_all, in_right}
-use Rattle.tw_model.proofs.Suits.{IsOwnState, own_effect, to_effect}
+use Rattle.tw_model.proofs.Paths.{permitted_is_path}
+use Rattle.tw_model.proofs.Suits.{IsOwnState, body_suits-fits, own_effect, to_effect}
 use Rattle.tw_report.proofs.Pieces.{four_pieces}
 use Rattle.tw_report.specs.Lines.{NamesPath, line}
 
-suit_of : (net : Net) (v : ℕ) (e : Event) → fits net v e ≡ true → body_suits net v e e.body ≡ true
-suit_of net v e h = (and_parts (e.dst == v) (body_suits net v e e.body) (and_parts (nat_le e.time 1000000000) (suits net v e) h).1).1
-
 -- an event for a router names a path
 pub event_named : (net : Net) (v : ℕ) (e : Event) → fits net v e ≡ true → NamesPath net e.body
-event_named net v e h = names_path net v e e.body (suit_of net v e h)
+event_named net v e h = names_path net v e e.body (body_suits-fits net v e h)
 
 pub own_after : (net : Net) (v : ℕ) (s : State) (events : List Event) → IsOwnState net v s → IsOwnState net v (state_after net v s events)
 own_after net v s [] own = own
@@ -32,7 +31,7 @@ own_after net v s (e ∷ events) own = own_after net v (effect net v s e).state 
 -- and so do the events that it sends
 pub sends_named : (net : Net) (v : ℕ) (s : State) (e : Event) → IsOwnState net v s → fits net v e ≡ true → All (λ x. NamesPath net x.body) (effect net v s e).sends
 sends_named net v s e own h = all_from_in (λ x. NamesPath net x.body) (effect net v s e).sends (λ x there.
-    let to = to_effect net v s e (suit_of net v e h) own x there in
+    let to = to_effect net v s e (body_suits-fits net v e h) own x there in
     subst (λ b. NamesPath net b) (sym to.body.2) (permitted_is_path net v to.body.0 to.body.3))
 
 last_fits : (P : Event → Type 0) (events older : List Event) (e : Event) → events ≡ older ++ e ∷ [] → All P events → P e
@@ -41,17 +40,9 @@ last_fits P events older e is all = in_from_all P events all e (subst (λ xs. In
 pub last_fits_router : (net : Net) (v : ℕ) (events older : List Event) (e : Event) → events ≡ older ++ e ∷ [] → All (λ x. fits net v x ≡ true) events → fits net v e ≡ true
 last_fits_router net v events older e is all = last_fits (λ x. fits net v x ≡ true) events older e is all
 
-length_push : (older : List Event) (e : Event) → length (older ++ e ∷ []) - 1 ≡ length older
-length_push [] e = refl
-length_push (x ∷ older) e = let h = length_push older e in let some : 1 ≤ length (older ++ e ∷ []) = some_push older e in omega arith
-  where
-    some_push : (older : List Event) (e : Event) → 1 ≤ length (older ++ e ∷ [])
-    some_push [] e = omega arith
-    some_push (x ∷ older) e = omega arith
-
 last_undone : (net : Net) (v : ℕ) (s : State) (events older : List Event) (e : Event) → events ≡ older ++ e ∷ []
     → undone net v s events (length events - 1) ≡ (effect net v (state_after net v s older) e).sends
-last_undone net v s events older e is = rw (is, length_push older e) (undone-last net v s older e)
+last_undone net v s events older e is = let less : length (older ++ e ∷ []) - 1 ≡ length older = omega (arith, length_push older e) in rw (is, less) (undone-last net v s older e)
 
 -- what undoing the last event added to a list that was empty
 pub last_sends : (net own : Net) (v : ℕ) (s : State) (events older start added : List Event) (e : Event) (count : ℕ) → own ≡ net → events ≡ older ++ e ∷ [] → count ≡ length events → start ≡ []
@@ -66,20 +57,8 @@ undone_more net v s (x ∷ events) e =
     ap (λ bs. bs ++ undo_lines net x (effect net v s x).sends) (undone_more net v (effect net v s x).state events e)
     ∙ append_assoc (undo_lines net e (effect net v (state_after net v s (x ∷ events)) e).sends) (undone_lines net v (effect net v s x).state events) (undo_lines net x (effect net v s x).sends)
 
-state_after-append : (net : Net) (v : ℕ) (s : State) (xs ys : List Event) → state_after net v s (xs ++ ys) ≡ state_after net v (state_after net v s xs) ys
-state_after-append net v s [] ys = refl
-state_after-append net v s (x ∷ xs) ys = state_after-append net v (effect net v s x).state xs ys
-
-take_last : (events : List Event) (n : ℕ) (d : Event) → n < length events → take (suc n) events ≡ take n events ++ get_or events n d ∷ []
-take_last [] n d h = absurd (omega arith)
-take_last (x ∷ events) zero d h = refl
-take_last (x ∷ events) (suc n) d h = ap (λ xs. x ∷ xs) (take_last events n d (omega arith))
-
 take_both : (events : List Event) (keep n : ℕ) → keep ≤ n → take keep events ++ drop keep (take n events) ≡ take n events
-take_both events zero n h = refl
-take_both events (suc keep) zero h = absurd (omega arith)
-take_both [] (suc keep) (suc n) h = refl
-take_both (x ∷ events) (suc keep) (suc n) h = ap (λ xs. x ∷ xs) (take_both events keep n (omega arith))
+take_both events keep n h = ap (λ xs. xs ++ drop keep (take n events)) (sym (take-take keep n events h)) ∙ take-append-drop keep (take n events)
 
 -- the lines of the events past the first keep ones: those of the last one, and then of the others
 undone_step : (net : Net) (v : ℕ) (s : State) (events : List Event) (keep n : ℕ) (d : Event) → keep ≤ n → n < length events
@@ -90,18 +69,12 @@ undone_step net v s events keep n d h k =
     let kept = state_after net v s (take keep events) in
     let front = take n events in
     let long : keep ≤ length front = omega (arith, length-take-le n events (omega arith)) in
-    let parts : drop keep (take (suc n) events) ≡ drop keep front ++ get_or events n d ∷ [] = ap (drop keep) (take_last events n d k) ∙ drop-append-le keep front (get_or events n d ∷ []) long in
-    let after : state_after net v kept (drop keep front) ≡ state_after net v s front = sym (state_after-append net v s (take keep events) (drop keep front)) ∙ ap (state_after net v s) (take_both events keep n h) in
+    let parts : drop keep (take (suc n) events) ≡ drop keep front ++ get_or events n d ∷ [] = ap (drop keep) (take-suc events n d k) ∙ drop-append-le keep front (get_or events n d ∷ []) long in
+    let after : state_after net v kept (drop keep front) ≡ state_after net v s front = sym (fold-append (λ s e. (effect net v s e).state) s (take keep events) (drop keep front)) ∙ ap (state_after net v s) (take_both events keep n h) in
     rw (parts, undone_more net v kept (drop keep front) (get_or events n d), after) refl
 
-take_less : (events : List Event) (n m : ℕ) → n ≤ m → take n (take m events) ≡ take n events
-take_less events zero m h = refl
-take_less events (suc n) zero h = absurd (omega arith)
-take_less [] (suc n) (suc m) h = refl
-take_less (x ∷ events) (suc n) (suc m) h = ap (λ xs. x ∷ xs) (take_less events n m (omega arith))
-
 shorter : (events : List Event) (left : ℕ) → left ≤ length events → take (length (take left events) - 1) (take left events) ≡ take (left - 1) events
-shorter events left h = rw (length-take-le left events h) (take_less events (left - 1) left (omega arith))
+shorter events left h = rw (length-take-le left events h) (take-take (left - 1) left events (omega arith))
 
 -- one event less is left on the trail
 pub trail_step : (t : History) (from : Router) (events : List Event) (left : ℕ) → t ≡ record { opening = from; events = take left events } → left ≤ length events

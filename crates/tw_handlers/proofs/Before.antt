@@ -14,7 +14,7 @@ use Rattle.tw_model.specs.Effect.{accepts, acts, body_suits, counted, effect, fa
 use Rattle.tw_handlers.specs.declared.record.UndoRecord.{UndoRecord}
 use Rattle.tw_handlers.specs.Record.{heard_before, record_of, takes}
 use Rattle.tw_handlers.specs.Undo.{before, counters_before, moved_back, sends_again, settled_sends, uncounted, unfailing, unrestoring, unsettled, with_old_rib}
-use Rattle.tw_handlers.proofs.Fitting.{body_suits-fits}
+use Rattle.tw_model.proofs.Suits.{body_suits-fits}
 use Rattle.tw_handlers.proofs.Rows.{back-row, row-with_row, swapping-swapping}
 
 back : (a b : ℕ) → a + b - b ≡ a

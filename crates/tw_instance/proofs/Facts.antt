@@ -1,40 +1,30 @@
 -- Tests that code makes, and what they say of a net.
-use Rattle.std.proofs.Common.{◌≡◌, ℕ, suc, zero, ◌<◌, ◌≤◌, ◌==◌, true, false, not, ◌&&◌, ◌||◌, List, [], ◌∷◌, length, nat_le, Option, Some, is_some, IfSome, refl, ap, sym, ◌∙◌, subst, inl, inr, arith}
+use Rattle.std.proofs.Common.{◌≡◌, ℕ, suc, zero, ◌<◌, ◌==◌, true, false, not, ◌&&◌, ◌||◌, List, [], ◌∷◌, length, nat_le, Option, Some, is_some, IfSome, refl, ap, sym, ◌∙◌, subst, inl, inr, arith}
 use Rattle.std.specs.List.{AllByRecursion, list_any}
-use Rattle.std.proofs.lemmas.Bool.{and_parts, both_ways, cases_lt, eqb-true, eqb-false, false_from_ne_true, ne_eqb, not-false, not-true, or_cases, or_parts}
+use Rattle.std.proofs.lemmas.Bool.{and_parts, both_ways, eq-eqb, eqb-true, eqb-false, false_from_ne_true, ne_eqb, not-false, not-true, or_cases, or_parts}
 use Rattle.tw_event.specs.declared.event.PathNo.{PathNo}
 use Rattle.tw_model.specs.Line.{Line}
-use Rattle.tw_model.specs.declared.net.Link.{Link}
-use Rattle.tw_model.specs.Net.{Net, IsPath, begins_at, hop_to, hops_of, joins, path, paths_of, same_path}
+use Rattle.tw_model.specs.Net.{Net, IsPath, begins_at, hops_of, joins, path, paths_of, same_path}
 use Rattle.tw_model.specs.Rules.{IsNet, is_linked, path_count}
+use Rattle.tw_model.proofs.Members.{any_from_in, in_from_any}
+use Rattle.tw_model.proofs.Nets.{hop_between, hop_of, is_link_of, joined_by}
 use Rattle.tw_model.proofs.Paths.{same_path_is}
-use Rattle.tw_instance.proofs.Hops.{any-linked, named_hop, none_past}
-use Rattle.tw_instance.proofs.Links.{IsGoodLink, good_links}
-use Rattle.tw_instance.proofs.Lines.{listed, taken}
+use Rattle.tw_instance.proofs.Lines.{listed, same_truth, taken}
 
 -- ---- links
 
-no_join : (nodes : ℕ) (l : Link) (v w : ℕ) → IsGoodLink nodes l → nodes ≤ w → joins v w l ≡ false
-no_join nodes l v w good out =
-    let a : (l.second == w) ≡ false = ne_eqb l.second w (λ e. let below = good.second in omega arith) in
-    let b : (l.first == w) ≡ false = ne_eqb l.first w (λ e. let below = good.first in omega arith) in
-    false_from_ne_true (joins v w l) (λ t. (elim (or_cases (l.first == v && l.second == w) (l.first == w && l.second == v) t) [
-      | inl h ↦ both_ways (l.second == w) a (and_parts (l.first == v) (l.second == w) h).1
-      | inr h ↦ both_ways (l.first == w) b (and_parts (l.first == w) (l.second == v) h).0
-    ]))
-
-no_link : (nodes : ℕ) (links : List Link) (v w : ℕ) → AllByRecursion (IsGoodLink nodes) links → nodes ≤ w → is_linked links v w ≡ false
-no_link nodes [] v w all out = refl
-no_link nodes (l ∷ links) v w all out = rw (no_join nodes l v w all.0 out) (no_link nodes links v w all.1 out)
-
 -- w is a neighbour of v exactly where a link joins them
 pub peer-linked : (net : Net) (v w : ℕ) → IsNet net → list_any (λ x. x.peer == w) (hops_of net v) ≡ is_linked net.links v w
-unfolding hops_of
-peer-linked net v w h =
-    elim (cases_lt w net.nodes) [
-      | inl below ↦ any-linked net v w below
-      | inr out ↦ (none_past (hop_to net.links v) (named_hop net.links v) w net.nodes 0 (omega arith) ∙ sym (no_link net.nodes net.links v w (good_links net.nodes [] net.links h.links) out))
-    ]
+peer-linked net v w is = same_truth _ _
+    (λ t.
+    let h = in_from_any (λ x. x.peer == w) (hops_of net v) t in
+    let l = hop_of net v h.0 h.2 in
+    any_from_in (joins v w) l.0 net.links (subst (λ u. joins v u l.0 ≡ true) (eqb-true h.0.peer w h.1) l.1.between) l.1.given)
+    (λ t.
+    let l = in_from_any (joins v w) net.links t in
+    let below = (joined_by net v w l.0 (is_link_of net is l.0 l.2) l.1).there in
+    let h = hop_between net v w below t in
+    any_from_in (λ x. x.peer == w) h.0 (hops_of net v) (eq-eqb h.0.peer w h.2) h.1)
 
 -- ---- permitted paths
 

@@ -1,17 +1,13 @@
 -- The neighbours of a router, and what one more link adds to them.
-use Rattle.std.proofs.Common.{◌≡◌, ℕ, suc, zero, ◌+◌, ◌<◌, ◌≤◌, ◌==◌, Bool, true, false, cond, ◌&&◌, ◌||◌, List, [], ◌∷◌, ◌++◌, length, refl, ap, sym, ◌∙◌, inl, inr, arith, nat_lt, Option, Some, None, is_some, find, filter_map, option_map, IfSome, insert}
-use Rattle.std.specs.List.{range_with_len, list_any, AllByRecursion, cons_option, position_or_len}
-use Rattle.std.proofs.lemmas.Bool.{cases_Bool, cases_eq, eq-eqb, lt-ltb, le-ltb, ne_eqb, and_left, and_right, false_from_ne_true}
-use Rattle.std.proofs.Math.Bool.{or_comm}
+use Rattle.std.proofs.Common.{◌≡◌, ℕ, suc, zero, ◌+◌, ◌<◌, ◌≤◌, ◌==◌, Bool, true, false, cond, ◌&&◌, List, [], ◌∷◌, ◌++◌, length, refl, ap, sym, ◌∙◌, inl, inr, arith, nat_lt, Option, Some, None, find, filter_map, option_map, IfSome, insert}
+use Rattle.std.specs.List.{range_with_len, AllByRecursion, cons_option, position_or_len}
+use Rattle.std.proofs.lemmas.Bool.{cases_Bool, cases_eq, eq-eqb, lt-ltb, le-ltb, ne_eqb, and_left, and_right, or_from, or_parts}
 use Rattle.tw_model.specs.declared.net.Hop.{Hop}
 use Rattle.tw_model.specs.declared.net.Link.{Link}
 use Rattle.tw_model.specs.Net.{Net, hop_to, hops_of, joins}
 use Rattle.tw_model.specs.Rules.{is_linked}
-use Rattle.tw_instance.specs.Hops.{AreRising}
+use Rattle.tw_model.proofs.Nets.{joins_back, linked_back}
 use Rattle.tw_instance.specs.Tables.{with_hop}
-
-or_from_both : (a b : Bool) → a ≡ false → b ≡ false → (a || b) ≡ false
-or_from_both a b f g = rw (f, g) refl
 
 -- ---- hops that are listed by their number
 
@@ -37,17 +33,6 @@ all_from P h (suc n) a each =
 pub if_some_weaker : (P Q : Hop → Type 0) → ((x : Hop) → P x → Q x) → (o : Option Hop) → IfSome o P → IfSome o Q
 if_some_weaker P Q f None h = tt
 if_some_weaker P Q f (Some x) h = f x h
-
-rising_on : (o : Option Hop) (a : ℕ) (xs : List Hop) → IfSome o (λ x. x.peer ≡ a) → ((x : Hop) → x.peer ≡ a → AllByRecursion (λ y. x.peer < y.peer) xs) → AreRising xs → AreRising (cons_option o xs)
-rising_on None a xs e above rest = rest
-rising_on (Some x) a xs e above rest = (above x e, rest)
-
-pub rising_from : (h : ℕ → Option Hop) → IsNamed h → (n a : ℕ) → AreRising (hops_from h a n)
-rising_from h named zero a = tt
-rising_from h named (suc n) a =
-    rising_on (h a) a (hops_from h (a + 1) n) (named a)
-    (λ x e. all_from (λ y. x.peer < y.peer) h n (a + 1) (λ w low high. if_some_weaker (λ y. y.peer ≡ w) (λ y. x.peer < y.peer) (λ y k. omega arith) (h w) (named w)))
-    (rising_from h named n (a + 1))
 
 -- ---- a hop in its place among others in rising number
 
@@ -101,44 +86,6 @@ hops_more h k named b x e none some same (suc n) a low high =
           rw (same a other) (ap (cons_option (h a)) rest ∙ sym (after_lower (h a) x (hops_from h (a + 1) n) lower)))
     ]
 
--- ---- a search among them
-
-any_joined : (o : Option Hop) (w : ℕ) (xs : List Hop) → IfSome o (λ x. x.peer ≡ w → ⊥) → list_any (λ x. x.peer == w) (cons_option o xs) ≡ list_any (λ x. x.peer == w) xs
-any_joined None w xs h = refl
-any_joined (Some x) w xs h = rw (ne_eqb x.peer w h) refl
-
-any_first : (o : Option Hop) (w : ℕ) (xs : List Hop) → IfSome o (λ x. x.peer ≡ w) → list_any (λ x. x.peer == w) xs ≡ false → list_any (λ x. x.peer == w) (cons_option o xs) ≡ is_some o
-any_first None w xs h none = none
-any_first (Some x) w xs h none = rw (eq-eqb x.peer w h) refl
-
-none_from : (h : ℕ → Option Hop) → IsNamed h → (w n a : ℕ) → w < a → list_any (λ x. x.peer == w) (hops_from h a n) ≡ false
-none_from h named w zero a low = refl
-none_from h named w (suc n) a low =
-    any_joined (h a) w (hops_from h (a + 1) n) (if_some_weaker (λ x. x.peer ≡ a) (λ x. x.peer ≡ w → ⊥) (λ x i j. omega arith) (h a) (named a))
-    ∙ none_from h named w n (a + 1) (omega arith)
-
-pub none_past : (h : ℕ → Option Hop) → IsNamed h → (w n a : ℕ) → a + n ≤ w → list_any (λ x. x.peer == w) (hops_from h a n) ≡ false
-none_past h named w zero a out = refl
-none_past h named w (suc n) a out =
-    any_joined (h a) w (hops_from h (a + 1) n) (if_some_weaker (λ x. x.peer ≡ a) (λ x. x.peer ≡ w → ⊥) (λ x i j. omega arith) (h a) (named a))
-    ∙ none_past h named w n (a + 1) (omega arith)
-
--- w is among them where h gives a hop of w
-pub any_from : (h : ℕ → Option Hop) → IsNamed h → (w n a : ℕ) → a ≤ w → w < a + n → list_any (λ x. x.peer == w) (hops_from h a n) ≡ is_some (h w)
-any_from h named w zero a low high = absurd (omega arith)
-any_from h named w (suc n) a low high =
-    elim (cases_eq a w) [
-      | inl here ↦ (let first : IfSome (h a) (λ x. x.peer ≡ w) = if_some_weaker (λ x. x.peer ≡ a) (λ x. x.peer ≡ w) (λ x i. i ∙ here) (h a) (named a) in
-          any_first (h a) w (hops_from h (a + 1) n) first (none_from h named w n (a + 1) (omega arith)) ∙ ap (λ v. is_some (h v)) here)
-      | inr other ↦
-          (any_joined (h a) w (hops_from h (a + 1) n) (if_some_weaker (λ x. x.peer ≡ a) (λ x. x.peer ≡ w → ⊥) (λ x i j. other (sym i ∙ j)) (h a) (named a))
-          ∙ any_from h named w n (a + 1) (let ne : a ≡ w → ⊥ = other in omega arith) (omega arith))
-    ]
-
-pub same_truth : (a b : Bool) → (a ≡ true → b ≡ true) → (b ≡ true → a ≡ true) → a ≡ b
-same_truth true b f g = sym (f refl)
-same_truth false b f g = sym (false_from_ne_true b (λ t. let h : false ≡ true = g t in cc))
-
 -- ---- of a net
 
 named_of : (o : Option Link) (w : ℕ) → IfSome (option_map (λ l. record { peer = w; delay = l.delay }) o) (λ (x : Hop). x.peer ≡ w)
@@ -147,39 +94,6 @@ named_of (Some l) w = refl
 
 pub named_hop : (links : List Link) (v w : ℕ) → IfSome (hop_to links v w) (λ x. x.peer ≡ w)
 named_hop links v w = named_of (find (joins v w) links) w
-
-joins_turned : (v w : ℕ) (l : Link) → joins v w l ≡ joins w v l
-joins_turned v w l = or_comm (l.first == v && l.second == w) (l.first == w && l.second == v)
-
-find_turned : (links : List Link) (v w : ℕ) → find (joins v w) links ≡ find (joins w v) links
-find_turned [] v w = refl
-find_turned (l ∷ links) v w = rw (joins_turned v w l) (ap (λ o. cond (joins w v l) (Some l) o) (find_turned links v w))
-
-is_some_hop : (o : Option Link) (w : ℕ) → is_some (option_map (λ l. let h : Hop = record { peer = w; delay = l.delay } in h) o) ≡ is_some o
-is_some_hop None w = refl
-is_some_hop (Some l) w = refl
-
--- a link that joins them is found exactly where they are linked
-pub found-linked : (links : List Link) (v w : ℕ) → is_some (hop_to links v w) ≡ is_linked links v w
-found-linked [] v w = refl
-found-linked (l ∷ links) v w =
-    elim (cases_Bool (joins v w l)) [
-      | inl t ↦ rw t refl
-      | inr f ↦ rw f (found-linked links v w)
-    ]
-
-pub linked_turned : (links : List Link) (v w : ℕ) → is_linked links v w ≡ is_linked links w v
-linked_turned links v w =
-    sym (found-linked links v w) ∙ (is_some_hop (find (joins v w) links) w ∙ (ap is_some (find_turned links v w) ∙ (sym (is_some_hop (find (joins w v) links) v) ∙ found-linked links w v)))
-
-none_found : {X : Type 0} (o : Option X) → is_some o ≡ false → o ≡ None
-none_found None h = refl
-none_found (Some x) h = absurd (cc)
-
--- a router is a neighbour exactly where a link joins them
-pub any-linked : (net : Net) (v w : ℕ) → w < net.nodes → list_any (λ x. x.peer == w) (hops_of net v) ≡ is_linked net.links v w
-unfolding hops_of
-any-linked net v w h = any_from (hop_to net.links v) (named_hop net.links v) w net.nodes 0 (omega arith) (omega arith) ∙ found-linked net.links v w
 
 -- ---- one more link
 
@@ -196,7 +110,8 @@ find_new p (x ∷ xs) y h none =
     ]
 
 find_none : (links : List Link) (v w : ℕ) → is_linked links v w ≡ false → find (joins v w) links ≡ None
-find_none links v w h = none_found _ (sym (is_some_hop (find (joins v w) links) w) ∙ (found-linked links v w ∙ h))
+find_none [] v w h = refl
+find_none (l ∷ links) v w h = let parts = or_parts (joins v w l) (is_linked links v w) h in rw parts.0 (find_none links v w parts.1)
 
 abbrev hop_for : ℕ → Option Link → Option Hop
 hop_for w o = option_map (λ l. record { peer = w; delay = l.delay }) o
@@ -225,17 +140,17 @@ joins_first_only : (l : Link) (u : ℕ) → (l.first ≡ l.second → ⊥) → (
 joins_first_only l u apart ne =
     let a : (l.second == u) ≡ false = ne_eqb l.second u (λ e. ne (sym e)) in
     let b : (l.second == l.first) ≡ false = ne_eqb l.second l.first (λ e. apart (sym e)) in
-    or_from_both (l.first == l.first && l.second == u) (l.first == u && l.second == l.first) (and_right (l.first == l.first) (l.second == u) a) (and_right (l.first == u) (l.second == l.first) b)
+    or_from (l.first == l.first && l.second == u) (l.first == u && l.second == l.first) (and_right (l.first == l.first) (l.second == u) a) (and_right (l.first == u) (l.second == l.first) b)
 
 joins_second_only : (l : Link) (u : ℕ) → (l.first ≡ l.second → ⊥) → (u ≡ l.first → ⊥) → joins l.second u l ≡ false
 joins_second_only l u apart ne =
-    or_from_both (l.first == l.second && l.second == u) (l.first == u && l.second == l.second) (and_left (l.first == l.second) (l.second == u) (ne_eqb l.first l.second apart)) (and_left (l.first == u) (l.second == l.second) (ne_eqb l.first u (λ e. ne (sym e))))
+    or_from (l.first == l.second && l.second == u) (l.first == u && l.second == l.second) (and_left (l.first == l.second) (l.second == u) (ne_eqb l.first l.second apart)) (and_left (l.first == u) (l.second == l.second) (ne_eqb l.first u (λ e. ne (sym e))))
 
 joins_apart : (l : Link) (v u : ℕ) → (v ≡ l.first → ⊥) → (v ≡ l.second → ⊥) → joins v u l ≡ false
 joins_apart l v u ne nf =
     let a : (l.first == v) ≡ false = ne_eqb l.first v (λ e. ne (sym e)) in
     let b : (l.second == v) ≡ false = ne_eqb l.second v (λ e. nf (sym e)) in
-    or_from_both (l.first == v && l.second == u) (l.first == u && l.second == v) (and_left (l.first == v) (l.second == u) a) (and_right (l.first == u) (l.second == v) b)
+    or_from (l.first == v && l.second == u) (l.first == u && l.second == v) (and_left (l.first == v) (l.second == u) a) (and_right (l.first == u) (l.second == v) b)
 
 -- the neighbours after one more link: its ends have each other
 pub record IsJoined (net : Net) (l : Link) : Type 0 where
@@ -246,7 +161,7 @@ pub record IsJoined (net : Net) (l : Link) : Type 0 where
 pub is_joined : (net : Net) (l : Link) → l.first < net.nodes → l.second < net.nodes → (l.first ≡ l.second → ⊥) → is_linked net.links l.first l.second ≡ false → IsJoined net l
 is_joined net l below below' apart new = record {
   first = hops_added net l l.first l.second below' (joins_first l) (λ u ne. joins_first_only l u apart ne) new;
-  second = hops_added net l l.second l.first below (joins_turned l.second l.first l ∙ joins_first l) (λ u ne. joins_second_only l u apart ne) (linked_turned net.links l.second l.first ∙ new);
+  second = hops_added net l l.second l.first below (joins_back l.second l.first l ∙ joins_first l) (λ u ne. joins_second_only l u apart ne) (linked_back net.links l.second l.first ∙ new);
   others = λ v ne nf. hops_kept net l v (λ u. joins_apart l v u ne nf);
 }
 

@@ -9,8 +9,9 @@ use Rattle.tw_model.specs.declared.net.Link.{Link}
 use Rattle.tw_model.specs.Line.{Line}
 use Rattle.tw_model.specs.Net.{Net, IsPath, origin_path, path, paths, paths_of}
 use Rattle.tw_model.specs.Rules.{IsNet, line_fault, nodes_fault}
+use Rattle.tw_model.proofs.Nets.{nodes_within}
 use Rattle.tw_instance.specs.Tables.{items, key, row, tail_key}
-use Rattle.tw_instance.proofs.Lines.{is_listed, length-paths, net_alone, next_line, no_lines, nodes_within, paths_push}
+use Rattle.tw_instance.proofs.Lines.{is_listed, length-paths, next_line, no_lines, paths_push}
 use Rattle.tw_instance.proofs.Paths.{path-origin}
 use Rattle.tw_instance.proofs.Sound.{empty_row, is_router, length-items}
 
@@ -36,7 +37,7 @@ keys_alone net k (suc v) none is =
 
 pub first_keys : {Z : Type 0} (net : Net) (k : ℕ) (rows : List (Vec ℕ Z)) → nodes_fault net.nodes ≡ None → net.lines ≡ [] → k ≡ key [] → items rows ≡ (k ∷ []) ∷ replicate (net.nodes - 1) [] → HasKeys net rows
 first_keys net k rows fault none is e =
-    let some = (nodes_within (record { nodes = net.nodes; links = []; lines = [] }) (net_alone net.nodes fault)).0 in
+    let some = (nodes_within net.nodes fault).0 in
     let n = length-items rows in
     let long = ap length e in
     let others = length-replicate (net.nodes - 1) (let no : List ℕ = [] in no) in

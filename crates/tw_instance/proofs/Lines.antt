@@ -1,7 +1,7 @@
 -- What the rules give of a net's permitted paths, and what one more path adds.
 use Rattle.std.proofs.Common.{◌≡◌, ℕ, suc, zero, ◌+◌, ◌-◌, ◌*◌, ◌<◌, ◌≤◌, ◌==◌, Bool, true, false, not, cond, ◌&&◌, List, [], ◌∷◌, ◌++◌, length, map, get_or, refl, ap, sym, ◌∙◌, subst, inl, inr, arith, nat_lt, nat_le, Option, Some, None, is_some, filter, IfSome, append_assoc}
 use Rattle.std.specs.List.{AllByRecursion, list_all, list_any, range_with_len}
-use Rattle.std.proofs.lemmas.Bool.{cases_Bool, cases_eq, eqb-true, eqb-false, eq-eqb, ltb-true, ne_eqb, and_parts, and_from, or_parts, not-false, leb-false, leb-true}
+use Rattle.std.proofs.lemmas.Bool.{cases_Bool, cases_eq, eqb-true, eqb-false, eq-eqb, ltb-true, ne_eqb, and_parts, and_from, or_parts, not-false, leb-false, false_from_ne_true}
 use Rattle.std.proofs.lemmas.List.Elements.{All-from_recursion, filter-append}
 use Rattle.std.proofs.lemmas.List.Folds.{list_any_at, Any-from_list_any}
 use Rattle.std.proofs.lemmas.List.{append-nil, length_push, length-map, map-append, map_push, get_or_append_left, get_or_push}
@@ -10,11 +10,11 @@ use Rattle.tw_model.specs.declared.net.Link.{Link}
 use Rattle.tw_model.specs.declared.net.Rule.TheVariants.{Range, PathOwner, TwicePath, TooMany}
 use Rattle.tw_model.specs.Line.{Line}
 use Rattle.tw_model.specs.Net.{Net, IsPath, begins_at, origin_path, path, paths, paths_of, same_path}
-use Rattle.tw_model.specs.Rules.{IsNet, LinesFollow, nodes_break, nodes_fault, line_breaks, line_fault, path_count}
-use Rattle.tw_model.proofs.Within.{none_broken}
+use Rattle.tw_model.specs.Rules.{IsNet, LinesFollow, line_breaks, line_fault, path_count}
+use Rattle.tw_model.proofs.Nets.{nodes_within}
+use Rattle.tw_model.proofs.Unbroken.{none_broken}
 use Rattle.tw_model.proofs.Paths.{same_path_is, same_path_self}
 use Rattle.tw_instance.proofs.Paths.{index-map, path-empty, path-line, path-origin}
-use Rattle.tw_instance.proofs.Hops.{same_truth}
 
 -- ---- the rules of a path
 
@@ -61,9 +61,6 @@ filter_within p q (suc n) a same =
 
 abbrev places : List (List ℕ) → ℕ → List ℕ
 places ps v = filter (λ k. begins_at (get_or ps k []) v) (range_with_len 0 (length ps))
-
-filter_one : (p : ℕ → Bool) (k : ℕ) → filter p (k ∷ []) ≡ cond (p k) (k ∷ []) []
-filter_one p k = refl
 
 places_more : (ps : List (List ℕ)) (x : List ℕ) (v : ℕ) → places (ps ++ x ∷ []) v ≡ places ps v ++ cond (begins_at x v) (length ps ∷ []) []
 places_more ps x v =
@@ -223,15 +220,10 @@ bounded (suc m) lines all few =
     let most = few (suc m) in
     omega arith
 
-pub nodes_within : (net : Net) → IsNet net → (1 ≤ net.nodes) × (net.nodes ≤ 1024)
-nodes_within net h =
-    let both = and_parts (nat_le 1 net.nodes) (nat_le net.nodes 1024) (not-false (nat_le 1 net.nodes && nat_le net.nodes 1024) (none_broken (nodes_break net.nodes) h.nodes Range)) in
-    (leb-true 1 net.nodes both.0, leb-true net.nodes 1024 both.1)
-
 pub few_lines : (net : Net) → IsNet net → length net.lines ≤ 204600
 few_lines net h =
     let all = listed net h in
-    let n = nodes_within net h in
+    let n = nodes_within net.nodes h.nodes in
     let e : net.nodes ≡ suc (net.nodes - 1) = let some = n.0 in omega arith in
     let most = bounded (net.nodes - 1) net.lines (subst (λ k. AllByRecursion (λ p. (0 < p.owner) × (p.owner < k)) net.lines) e all.owners) all.few in
     let high = n.1 in
@@ -266,6 +258,10 @@ found_given net p (suc (suc k)) h some begins is e =
     let below : k < length net.lines = omega arith in
     given_at net p k h begins below (sym (index-map net.lines k p below) ∙ (sym (path-line net (no (suc (suc k))) k refl) ∙ e))
 
+pub same_truth : (a b : Bool) → (a ≡ true → b ≡ true) → (b ≡ true → a ≡ true) → a ≡ b
+same_truth true b f g = sym (f refl)
+same_truth false b f g = sym (false_from_ne_true b (λ t. let h : false ≡ true = g t in cc))
+
 given_found : (net : Net) (p : Line) (o : Option PathNo) → ((q : PathNo) → IsPath net q → path net q ≡ p.nodes → o ≡ Some q)
     → list_any (λ q. q.owner == p.owner && same_path q.nodes p.nodes) net.lines ≡ true → is_some o ≡ true
 given_found net p o only t =
@@ -284,23 +280,3 @@ pub taken : (net : Net) (p : Line) (o : Option PathNo) → IsNet net → 0 < p.o
     → is_some o ≡ list_any (λ q. q.owner == p.owner && same_path q.nodes p.nodes) net.lines
 taken net p None h some begins found only = same_truth _ _ (λ t. absurd (cc)) (λ t. given_found net p None only t)
 taken net p (Some q) h some begins found only = sym (found_given net p q.0 h some begins found.0 found.1)
-
--- ---- a net with one more path
-
-lines_follow_push : (net : Net) (before lines : List Line) (p : Line) → LinesFollow (record net { lines = before }) lines
-    → line_fault (record net { lines = before ++ lines }) p ≡ None → LinesFollow (record net { lines = before }) (lines ++ p ∷ [])
-lines_follow_push net before [] p h next = (subst (λ ls. line_fault (record net { lines = ls }) p ≡ None) (append-nil before) next, tt)
-lines_follow_push net before (q ∷ lines) p h next =
-    (h.0, lines_follow_push net (before ++ q ∷ []) lines p h.1 (subst (λ ls. line_fault (record net { lines = ls }) p ≡ None) (sym (append_assoc before (q ∷ []) lines)) next))
-
--- a net keeps the rules with one more path that keeps them
-pub net_with_line : (net : Net) (p : Line) → IsNet net → line_fault net p ≡ None → IsNet (record net { lines = net.lines ++ p ∷ [] })
-net_with_line net p h next = record {
-  nodes = h.nodes;
-  links = h.links;
-  lines = lines_follow_push net [] net.lines p h.lines next;
-}
-
--- a net without links and paths keeps the rules where its number of routers does
-pub net_alone : (nodes : ℕ) → nodes_fault nodes ≡ None → IsNet (record { nodes = nodes; links = []; lines = [] })
-net_alone nodes h = record { nodes = h; links = tt; lines = tt }

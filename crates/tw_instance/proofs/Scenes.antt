@@ -8,18 +8,14 @@ use Rattle.tw_model.specs.declared.case.Scene.{Scene}
 use Rattle.tw_model.specs.declared.net.Rule.{Rule as ARule}
 use Rattle.tw_model.specs.Case.{IsCase, opening_event, opening_events, scene_events}
 use Rattle.tw_model.specs.Net.{Net}
-use Rattle.tw_model.specs.Rules.{ScenesFollow, scene_fault}
+use Rattle.tw_model.specs.Rules.{scene_fault}
+use Rattle.tw_model.proofs.Grown.{case_with_scene}
 use Rattle.tw_instance.specs.declared.refusal.Refusal.TheVariants.{Rule}
 use Rattle.tw_instance.proofs.Told.{IsOf}
 
 -- the rule that is told is the fault's
 pub says : (T : Type 0) (fault : Option ARule) (rule : ARule) → fault ≡ Some rule → IsOf T (Rule rule) fault
 says T fault rule h r = (λ e. cc, λ f. cc)
-
-follow_more : (net : Net) (count : ℕ) (scenes : List Scene) (s : Scene) → ScenesFollow net count scenes → scene_fault net (count + length scenes) s ≡ None → ScenesFollow net count (scenes ++ s ∷ [])
-follow_more net count [] s h none = ((let e : count + 0 ≡ count = omega arith in subst (λ n. scene_fault net n s ≡ None) e none), tt)
-follow_more net count (x ∷ scenes) s h none =
-    (h.0, follow_more net (count + 1) scenes s h.1 (let e : count + suc (length scenes) ≡ count + 1 + length scenes = omega arith in subst (λ n. scene_fault net n s ≡ None) e none))
 
 -- the events of scenario lines from number n on
 abbrev events_from : ℕ → List Scene → List Event
@@ -40,11 +36,10 @@ pub record IsWithScene (net : Net) (scenes : List Scene) (events : List Event) :
 pub with_scene : (net : Net) (scenes more : List Scene) (events after : List Event) (count number : ℕ) (s : Scene) → IsCase (record { net = net; scenes = scenes }) → events ≡ opening_events scenes
     → count ≡ length scenes → scene_fault net count s ≡ None → number ≡ count + 1 → more ≡ scenes ++ s ∷ [] → after ≡ events ++ scene_events number s → IsWithScene net more after
 with_scene net scenes more events after count number s h opening long none next is done =
-    let follows = follow_more net 0 scenes s h.scenes (let e : count ≡ 0 + length scenes = omega arith in subst (λ n. scene_fault net n s ≡ None) e none) in
     let place : number ≡ 1 + length scenes = omega arith in
     let grown = events_more 1 scenes s in
     record {
-      case = record { net = h.net; scenes = subst (ScenesFollow net 0) (sym is) follows };
+      case = subst (λ ls. IsCase (record { net = net; scenes = ls })) (sym is) (case_with_scene net scenes s h (subst (λ n. scene_fault net n s ≡ None) long none));
       opening = done ∙ (ap (λ es. es ++ scene_events number s) opening ∙ (ap (λ k. opening_events scenes ++ scene_events k s) place
           ∙ (ap (λ (es : List Event). opening_event 0 0 0 Start ∷ es) (sym grown) ∙ ap opening_events (sym is))));
     }

@@ -11,12 +11,14 @@ use Rattle.tw_model.specs.Rules.{IsNet, line_fault, link_fault, nodes_fault}
 use Rattle.tw_model.specs.declared.net.Hop.{Hop}
 use Rattle.tw_model.specs.declared.net.Link.{Link}
 use Rattle.tw_model.specs.Line.{Line}
+use Rattle.tw_model.proofs.Grown.{net_alone, net_with_line, net_with_link}
+use Rattle.tw_model.proofs.Nets.{hops_few, nodes_within}
 use Rattle.tw_model.proofs.Paths.{own_is_path, path_exact, paths_own}
 use Rattle.tw_instance.specs.Hops.{AreDistinct, AreRising, IsGoodHop}
 use Rattle.tw_instance.proofs.Hops.{IsJoined, is_joined}
 use Rattle.tw_instance.specs.Tables.{items, row, with_hop}
-use Rattle.tw_instance.proofs.Links.{few_hops, good_hops, net_with_link, next_link, no_links, rising_hops}
-use Rattle.tw_instance.proofs.Lines.{IsListedAt, few_lines, is_listed, length-paths, listed, net_alone, net_with_line, next_line, no_lines, nodes_within}
+use Rattle.tw_instance.proofs.Links.{good_hops, next_link, no_links, rising_hops}
+use Rattle.tw_instance.proofs.Lines.{IsListedAt, few_lines, is_listed, length-paths, listed, next_line, no_lines}
 
 -- what is known of router v
 pub record IsRouter (net : Net) (v : ℕ) : Type 0 where
@@ -33,7 +35,7 @@ few_paths_of net (suc v) h = let few = (listed net h).few (suc v) in let same = 
 
 pub is_router : (net : Net) (v : ℕ) → IsNet net → IsRouter net v
 is_router net v h = record {
-  few_hops = few_hops net v h;
+  few_hops = hops_few net h v;
   good = good_hops net v h;
   rising = rising_hops net v;
   few_paths = few_paths_of net v h;
@@ -52,8 +54,8 @@ pub record IsWhole (net : Net) : Type 0 where
 pub is_whole : (net : Net) → IsNet net → IsWhole net
 is_whole net h = record {
   kept = h;
-  some = (nodes_within net h).0;
-  most = (nodes_within net h).1;
+  some = (nodes_within net.nodes h.nodes).0;
+  most = (nodes_within net.nodes h.nodes).1;
   few_paths = (let few = few_lines net h in let n = length-paths net in omega arith);
   distinct = path_exact net h;
 }
@@ -179,7 +181,7 @@ pub made : {Y Z : Type 0} (nodes : ℕ) (links : List Link) (lines : List Line) 
 made nodes links lines hops orders none no_link no_line h o =
     let net : Net = record { nodes = nodes; links = []; lines = [] } in
     let kept = net_alone nodes none in
-    let some = (nodes_within net kept).0 in
+    let some = (nodes_within nodes none).0 in
     let same : net ≡ record { nodes = nodes; links = links; lines = lines } = λ i. record { nodes = nodes; links = sym no_link i; lines = sym no_line i } in
     subst (λ n. IsMade n hops orders) same (record {
       kept = kept;

@@ -121,9 +121,6 @@ mirror_back v w e m =
     let src = m.src in
     λ i. record { time = e.time; dst = sym dst i; src = sym src i; seq = e.seq; body = body i }
 
-mirror_mark : (v w : ℕ) (e : Event) → IsMark w v e → IsMark v w (mirror v w e)
-mirror_mark v w e m = record { dst = refl; src = refl; about = turned_about v w e.body m.about }
-
 -- a scenario line about a link opens with an event at each end
 mirror_scene : (v w n : ℕ) (s : Scene) (e : Event) → In e (scene_events n s) → IsMark w v e → In (mirror v w e) (scene_events n s)
 mirror_scene v w n (scene.Fail t a b) e (inl is) m =

@@ -1,10 +1,12 @@
 pub mod Counts
 pub mod Seq
 pub mod Rising
-pub mod Within
+pub mod Unbroken
+pub mod Grown
 pub mod Members
 pub mod Nets
 pub mod Paths
+pub mod Within
 pub mod Sends
 pub mod Suits
 pub mod Openings

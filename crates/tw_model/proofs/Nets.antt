@@ -1,68 +1,49 @@
 -- What the rules of an instance give: its neighbours and its paths.
 use Rattle.std.proofs.Common.{◌≡◌, ℕ, suc, zero, ◌+◌, ◌<◌, ◌≤◌, ◌==◌, Bool, true, false, cond, ◌&&◌, ◌||◌, List, [], ◌∷◌, ◌++◌, length, filter, get_or, Option, Some, None, refl, ap, sym, ◌∙◌, subst, inl, inr, arith, nat_lt, nat_le, append-nil, append_assoc}
-use Rattle.std.specs.List.{AllPairs, cons_option, position_or_len, filter_map, find, range_with_len}
+use Rattle.std.specs.List.{cons_option, position_or_len, filter_map, find, range_with_len}
 use Rattle.std.specs.Option.{option_map}
 use Rattle.std.proofs.lemmas.Bool.{cases_Bool, both_ways, and_parts, or_parts, or_cases, not-false, ltb-true, leb-true, leb-false, eqb-true, eqb-false, eq-eqb, ne_eqb, lt-ltb, or_left, or_right, false_from_ne_true}
+use Rattle.std.proofs.Math.Bool.{or_comm}
 use Rattle.std.proofs.lemmas.List.{length-append}
 use Rattle.std.proofs.lemmas.List.Elements.{filter-append}
 use Rattle.tw_model.specs.declared.net.Hop.{Hop}
 use Rattle.tw_model.specs.declared.net.Link.{Link}
 use Rattle.tw_model.specs.declared.net.Rule.{Rule}
-use Rattle.tw_model.specs.declared.net.Rule.TheVariants.{Range, SelfLink, TwiceLink, Delay, PathOwner, PathEnd, PathRepeats, PathNoLink, TwicePath, TooMany, NoSuchLink, NoSuchPlace, Time}
+use Rattle.tw_model.specs.declared.net.Rule.TheVariants.{Range, SelfLink, Delay, TooMany}
 use Rattle.tw_model.specs.Net.{Net, joins, hop_to, hops_of}
 use Rattle.tw_model.specs.State.{has_peer, hop, no_hop, slot}
-use Rattle.tw_model.specs.Rules.{IsNet, LinksFollow, degree, is_linked, link_breaks, link_fault, lowest, rules_in_order}
+use Rattle.tw_model.specs.Rules.{IsNet, LinksFollow, degree, is_linked, link_breaks, link_fault, nodes_break, nodes_fault}
+use Rattle.tw_model.proofs.Unbroken.{none_broken}
 use Rattle.tw_model.proofs.Members.{In, in_find, in_filter_map, in_filter_mapped, in_get_or, in_range, place_passes, place_within, range_has, find_agree, find_some}
 
-every : (r : Rule) → In r rules_in_order
-every Range = inl refl
-every SelfLink = inr (inl refl)
-every TwiceLink = inr (inr (inl refl))
-every Delay = inr (inr (inr (inl refl)))
-every PathOwner = inr (inr (inr (inr (inl refl))))
-every PathEnd = inr (inr (inr (inr (inr (inl refl)))))
-every PathRepeats = inr (inr (inr (inr (inr (inr (inl refl))))))
-every PathNoLink = inr (inr (inr (inr (inr (inr (inr (inl refl)))))))
-every TwicePath = inr (inr (inr (inr (inr (inr (inr (inr (inl refl))))))))
-every TooMany = inr (inr (inr (inr (inr (inr (inr (inr (inr (inl refl)))))))))
-every NoSuchLink = inr (inr (inr (inr (inr (inr (inr (inr (inr (inr (inl refl))))))))))
-every NoSuchPlace = inr (inr (inr (inr (inr (inr (inr (inr (inr (inr (inr (inl refl)))))))))))
-every Time = inr (inr (inr (inr (inr (inr (inr (inr (inr (inr (inr (inr (inl refl))))))))))))
-
-lowest_none : (broken : Rule → Bool) (rules : List Rule) → lowest broken rules ≡ None → (r : Rule) → In r rules → broken r ≡ false
-lowest_none broken (x ∷ rules) h r k =
-    elim (cases_Bool (broken x)) [
-      | inl b ↦ (let e = rw b at h in cc)
-      | inr b ↦ elim k [ inl is ↦ subst (λ z. broken z ≡ false) (sym is) b | inr more ↦ lowest_none broken rules (rw b at h) r more ]
-    ]
-lowest_none broken [] h r k = absurd k
-
--- where no rule is the lowest that is broken, each is kept
-pub kept : (broken : Rule → Bool) → lowest broken rules_in_order ≡ None → (r : Rule) → broken r ≡ false
-kept broken h r = lowest_none broken rules_in_order h r (every r)
+-- a number of routers that keeps the rules
+pub nodes_within : (n : ℕ) → nodes_fault n ≡ None → (1 ≤ n) × (n ≤ 1024)
+nodes_within n h =
+    let both = and_parts (nat_le 1 n) (nat_le n 1024) (not-false (nat_le 1 n && nat_le n 1024) (none_broken (nodes_break n) h Range)) in
+    (leb-true 1 n both.0, leb-true n 1024 both.1)
 
 -- a link that keeps the rules
 pub record IsLink (nodes : ℕ) (l : Link) : Type 0 where
   pub first : l.first < nodes
   pub second : l.second < nodes
-  pub apart : l.first == l.second ≡ false
+  pub apart : l.first ≡ l.second → ⊥
   pub least : 1 ≤ l.delay
   pub most : l.delay ≤ 1000000
 
-is_link : (net : Net) (l : Link) → ((r : Rule) → link_breaks net l r ≡ false) → IsLink net.nodes l
+pub is_link : (net : Net) (l : Link) → ((r : Rule) → link_breaks net l r ≡ false) → IsLink net.nodes l
 is_link net l k =
     let range = and_parts (nat_lt l.first net.nodes) (nat_lt l.second net.nodes) (not-false _ (k Range)) in
     let delay = and_parts (nat_le 1 l.delay) (nat_le l.delay 1000000) (not-false _ (k Delay)) in
     record {
       first = ltb-true l.first net.nodes range.0;
       second = ltb-true l.second net.nodes range.1;
-      apart = k SelfLink;
+      apart = eqb-false l.first l.second (k SelfLink);
       least = leb-true 1 l.delay delay.0;
       most = leb-true l.delay 1000000 delay.1;
     }
 
 links_kept : (net : Net) (links : List Link) → LinksFollow net links → (l : Link) → In l links → IsLink net.nodes l
-links_kept net (x ∷ links) h l (inl e) = subst (IsLink net.nodes) (sym e) (is_link net x (kept (link_breaks net x) h.0))
+links_kept net (x ∷ links) h l (inl e) = subst (IsLink net.nodes) (sym e) (is_link net x (none_broken (link_breaks net x) h.0))
 links_kept net (x ∷ links) h l (inr k) = links_kept (record net { links = net.links ++ x ∷ [] }) links h.1 l k
 links_kept net [] h l k = absurd k
 
@@ -72,12 +53,11 @@ is_link_of net is l h = links_kept (record { nodes = net.nodes; links = []; line
 
 -- what joins two routers, joins them the other way round
 pub joins_back : (v w : ℕ) (l : Link) → joins v w l ≡ joins w v l
-joins_back v w l = or_other (l.first == v && l.second == w) (l.first == w && l.second == v) where
-  or_other : (a b : Bool) → (a || b) ≡ (b || a)
-  or_other true true = refl
-  or_other true false = refl
-  or_other false true = refl
-  or_other false false = refl
+joins_back v w l = or_comm (l.first == v && l.second == w) (l.first == w && l.second == v)
+
+pub linked_back : (links : List Link) (v w : ℕ) → is_linked links v w ≡ is_linked links w v
+linked_back [] v w = refl
+linked_back (l ∷ links) v w = rw (joins_back v w l, linked_back links v w) refl
 
 -- two routers joined by a link are different and there
 pub record AreJoined (net : Net) (v w : ℕ) : Type 0 where
@@ -87,18 +67,17 @@ pub record AreJoined (net : Net) (v w : ℕ) : Type 0 where
 
 pub joined_by : (net : Net) (v w : ℕ) (l : Link) → IsLink net.nodes l → joins v w l ≡ true → AreJoined net v w
 joined_by net v w l is h =
-    let apart = eqb-false l.first l.second is.apart in
     elim (or_cases (l.first == v && l.second == w) (l.first == w && l.second == v) h) [
       | inl k ↦ (
           let p = and_parts (l.first == v) (l.second == w) k in
           let a = eqb-true l.first v p.0 in
           let b = eqb-true l.second w p.1 in
-          record { here = subst (λ n. n < net.nodes) a is.first; there = subst (λ n. n < net.nodes) b is.second; apart = λ e. apart (a ∙ e ∙ sym b) })
+          record { here = subst (λ n. n < net.nodes) a is.first; there = subst (λ n. n < net.nodes) b is.second; apart = λ e. is.apart (a ∙ e ∙ sym b) })
       | inr k ↦ (
           let p = and_parts (l.first == w) (l.second == v) k in
           let a = eqb-true l.first w p.0 in
           let b = eqb-true l.second v p.1 in
-          record { here = subst (λ n. n < net.nodes) b is.second; there = subst (λ n. n < net.nodes) a is.first; apart = λ e. apart (a ∙ sym e ∙ sym b) })
+          record { here = subst (λ n. n < net.nodes) b is.second; there = subst (λ n. n < net.nodes) a is.first; apart = λ e. is.apart (a ∙ sym e ∙ sym b) })
     ]
 
 -- the link behind a hop
@@ -187,20 +166,9 @@ hops_rise links v a (suc n) = at (hop_to links v a) refl (hops_rise links v (a +
     r,
   )
 
-rise_pairs : (hs : List Hop) → Rises hs → (i j : ℕ) (d : Hop) → i < j → j < length hs → (get_or hs i d).peer < (get_or hs j d).peer
-rise_pairs [] r i j d l m = absurd (omega arith)
-rise_pairs (h ∷ hs) r i zero d l m = absurd (omega arith)
-rise_pairs (h ∷ hs) r zero (suc j) d l m = r.0 (get_or hs j d) (in_get_or hs j d (omega arith))
-rise_pairs (h ∷ hs) r (suc i) (suc j) d l m = rise_pairs hs r.1 i j d (omega arith) (omega arith)
-
 pub hops_rises : (net : Net) (v : ℕ) → Rises (hops_of net v)
 unfolding hops_of
 hops_rises net v = hops_rise net.links v 0 net.nodes
-
--- neighbours stand in strictly rising number
-pub hops_rising : (net : Net) (v : ℕ) → AllPairs (λ a b. a.peer < b.peer) (hops_of net v)
-unfolding hops_of
-hops_rising net v = rise_pairs (hops_of net v) (hops_rise net.links v 0 net.nodes)
 
 -- the place of a neighbour is its slot
 rise_slot : (hs : List Hop) → Rises hs → (k : ℕ) (d : Hop) → k < length hs → position_or_len (λ h. h.peer == (get_or hs k d).peer) hs ≡ k
@@ -324,7 +292,7 @@ degree_hops (l ∷ links) v n =
 
 degree_more : (net : Net) (x : Link) → link_fault net x ≡ None → ((v : ℕ) → degree net.links v ≤ 64) → (v : ℕ) → degree (net.links ++ x ∷ []) v ≤ 64
 degree_more net x fault h v =
-    let room = or_parts (nat_le 64 (degree net.links x.first)) (nat_le 64 (degree net.links x.second)) (kept (link_breaks net x) fault TooMany) in
+    let room = or_parts (nat_le 64 (degree net.links x.first)) (nat_le 64 (degree net.links x.second)) (none_broken (link_breaks net x) fault TooMany) in
     let first = leb-false 64 (degree net.links x.first) room.0 in
     let second = leb-false 64 (degree net.links x.second) room.1 in
     let touched = λ (l : Link). l.first == v || l.second == v in

@@ -17,13 +17,14 @@ use Rattle.tw_model.specs.Effect.{suits}
 use Rattle.tw_model.specs.Sim.{times}
 use Rattle.tw_model.specs.Case.{Case, IsCase, opening_event, opening_events, scene_events, simulation}
 use Rattle.tw_model.proofs.Counts.{none, times-append}
-use Rattle.tw_model.proofs.Members.{In, in_enumerate, in_flat_map, any_from_in, in_from_any, in_times}
-use Rattle.tw_model.proofs.Nets.{has_peer_linked, is_link_of, joined_by, joins_back, kept}
+use Rattle.tw_model.proofs.Members.{In, in_enumerate, in_flat_map, in_from_any, in_times}
+use Rattle.tw_model.proofs.Nets.{has_peer_linked, is_link_of, joined_by, linked_back}
+use Rattle.tw_model.proofs.Unbroken.{none_broken}
 use Rattle.tw_model.proofs.Sends.{one_le}
 
 scenes_kept : (net : Net) (count : ℕ) (scenes : List Scene) → ScenesFollow net count scenes → (s : Scene) → In s scenes
     → (n : ℕ) × ((r : Rule) → scene_breaks net n s r ≡ false)
-scenes_kept net count (x ∷ scenes) h s (inl e) = (count, subst (λ z. (r : Rule) → scene_breaks net count z r ≡ false) (sym e) (kept (scene_breaks net count x) h.0))
+scenes_kept net count (x ∷ scenes) h s (inl e) = (count, subst (λ z. (r : Rule) → scene_breaks net count z r ≡ false) (sym e) (none_broken (scene_breaks net count x) h.0))
 scenes_kept net count (x ∷ scenes) h s (inr k) = scenes_kept net (count + 1) scenes h.1 s k
 scenes_kept net count [] h s k = absurd k
 
@@ -35,16 +36,11 @@ pub record AreEnds (net : Net) (a b : ℕ) : Type 0 where
   pub there : has_peer net a b ≡ true
   pub back : has_peer net b a ≡ true
 
-linked_back : (net : Net) (a b : ℕ) → is_linked net.links a b ≡ true → is_linked net.links b a ≡ true
-linked_back net a b h =
-    let l = in_from_any (joins a b) net.links h in
-    any_from_in (joins b a) l.0 net.links (sym (joins_back a b l.0) ∙ l.1) l.2
-
 are_ends : (net : Net) → IsNet net → (a b : ℕ) → is_linked net.links a b ≡ true → AreEnds net a b
 are_ends net is a b h =
     let l = in_from_any (joins a b) net.links h in
     let j = joined_by net a b l.0 (is_link_of net is l.0 l.2) l.1 in
-    record { first = j.here; second = j.there; apart = j.apart; there = has_peer_linked net a b j.there h; back = has_peer_linked net b a j.here (linked_back net a b h) }
+    record { first = j.here; second = j.there; apart = j.apart; there = has_peer_linked net a b j.there h; back = has_peer_linked net b a j.here (sym (linked_back net.links a b) ∙ h) }
 
 -- what the rules of a scenario give of a line
 abbrev pub SceneFits : Net → Scene → Type 0

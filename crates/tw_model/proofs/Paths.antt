@@ -2,16 +2,16 @@
 use Rattle.std.proofs.Common.{◌≡◌, ℕ, suc, zero, ◌<◌, ◌≤◌, ◌==◌, true, not, ◌&&◌, List, [], ◌∷◌, ◌++◌, length, map, get_or, None, refl, ap, sym, ◌∙◌, subst, inl, inr, arith, ◌↔◌}
 use Rattle.std.specs.Prelude.{nat_eq}
 use Rattle.std.specs.List.{All, list_any, range_with_len}
-use Rattle.std.proofs.lemmas.Bool.{cases_lt, both_ways, and_parts, and_from, or_parts, not-false, eqb-true, eqb-false, eq-eqb}
+use Rattle.std.proofs.lemmas.Bool.{cases_lt, both_ways, and_parts, and_from, or_cases, or_parts, not-false, eqb-true, eqb-false, eq-eqb}
 use Rattle.std.proofs.lemmas.Cmp.{nat_list_eq_equiv}
 use Rattle.std.proofs.lemmas.List.{get_or_past}
 use Rattle.tw_event.specs.declared.event.PathNo.{PathNo}
 use Rattle.tw_model.specs.declared.net.Rule.TheVariants.{PathOwner, TwicePath}
 use Rattle.tw_model.specs.Line.{Line}
-use Rattle.tw_model.specs.Net.{Net, paths, path, IsPath, empty_path, origin_path, same_path, begins_at, paths_of, is_own}
+use Rattle.tw_model.specs.Net.{Net, paths, path, IsPath, empty_path, origin_path, same_path, begins_at, paths_of, is_own, is_permitted}
 use Rattle.tw_model.specs.Rules.{IsNet, LinesFollow, line_breaks, line_fault}
 use Rattle.tw_model.proofs.Members.{In, in_left, in_right, in_map, in_mapped, in_filter, in_filtered, in_get_or, in_range, range_has, any_from_in, all_from_in}
-use Rattle.tw_model.proofs.Nets.{kept}
+use Rattle.tw_model.proofs.Unbroken.{none_broken}
 
 -- ---- lists of nodes
 
@@ -41,7 +41,7 @@ pub record IsLine (p : Line) : Type 0 where
 
 is_line : (net : Net) (p : Line) → line_fault net p ≡ None → IsLine p
 is_line net p fault =
-    let k = or_parts (p.owner == 0) (not (begins_at p.nodes p.owner)) (kept (line_breaks net p) fault PathOwner) in
+    let k = or_parts (p.owner == 0) (not (begins_at p.nodes p.owner)) (none_broken (line_breaks net p) fault PathOwner) in
     record { owner = eqb-false p.owner 0 k.0; begins = not-false (begins_at p.nodes p.owner) k.1 }
 
 lines_kept : (net : Net) (lines : List Line) → LinesFollow net lines → (p : Line) → In p lines → IsLine p
@@ -59,7 +59,7 @@ AreApart (p ∷ ps) = ((q : List ℕ) → In q ps → p ≡ q → ⊥) × AreApa
 
 lines_new : (net : Net) (lines : List Line) → LinesFollow net lines → (q : Line) → IsLine q → In q net.lines → (p : Line) → In p lines → q.nodes ≡ p.nodes → ⊥
 lines_new net (x ∷ lines) h q is k p (inl e) same =
-    let fresh = kept (line_breaks net x) h.0 TwicePath in
+    let fresh = none_broken (line_breaks net x) h.0 TwicePath in
     let line = is_line net x h.0 in
     let nodes : q.nodes ≡ x.nodes = same ∙ ap (λ l. l.nodes) e in
     let owners = begins_once q.nodes q.owner x.owner is.begins (subst (λ n. begins_at n x.owner ≡ true) (sym nodes) line.begins) in
@@ -145,6 +145,13 @@ own_is_path net v q h = (
       let b : begins_at [] v ≡ true = subst (λ p. begins_at p v ≡ true) e h in
       cc),
 )
+
+pub permitted_is_path : (net : Net) (v : ℕ) (q : PathNo) → is_permitted net v q ≡ true → IsPath net q
+permitted_is_path net v q h =
+    elim (or_cases (q.0 == 0) (is_own net v q) h) [
+      | inl none ↦ (let zero_is = eqb-true q.0 0 none in omega arith)
+      | inr own ↦ (own_is_path net v q own).0
+    ]
 
 -- the paths of v are those that begin at v
 pub in_paths_of : (net : Net) (v : ℕ) (q : PathNo) → In q (paths_of net v) ↔ (IsPath net q × (is_own net v q ≡ true))

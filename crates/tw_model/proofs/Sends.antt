@@ -1,9 +1,10 @@
 -- What an event at a router sends: later than itself, from its router, numbered, each once, at most 64, to neighbours.
-use Rattle.std.proofs.Common.{◌≡◌, ℕ, ◌+◌, ◌<◌, ◌≤◌, ◌==◌, Bool, List, [], ◌∷◌, length, map, filter, ap, inl, inr, arith, nat_lt}
+use Rattle.std.proofs.Common.{◌≡◌, ℕ, ◌+◌, ◌<◌, ◌≤◌, ◌==◌, List, [], ◌∷◌, length, map, ap, inl, inr, arith, nat_lt}
 use Rattle.std.specs.List.{enumerate_from, zip}
 use Rattle.std.proofs.lemmas.Bool.{cases_Bool, ltb-true, ltb-false}
 use Rattle.std.proofs.lemmas.List.{length-map}
 use Rattle.std.proofs.lemmas.List.FromFn.{length-enumerate_from}
+use Rattle.std.proofs.lemmas.List.Sums.{count_by-le-length, length-filter}
 use Rattle.tw_event.specs.declared.event.Body.{Body}
 use Rattle.tw_event.specs.declared.event.Body.TheVariants.{Start, Fail, Restore, Swap, Update}
 use Rattle.tw_event.specs.declared.event.Event.{Event}
@@ -81,15 +82,12 @@ module _ (case : Case) where
   zip_few (h ∷ hs) [] = omega arith
   zip_few (h ∷ hs) (r ∷ rs) = let k = zip_few hs rs in omega arith
 
-  filter_few : {X : Type 0} (p : X → Bool) (xs : List X) → length (filter p xs) ≤ length xs
-  filter_few p [] = omega arith
-  filter_few p (x ∷ xs) = let k = filter_few p xs in elim (cases_Bool (p x)) [ inl b ↦ rw b (omega arith) | inr b ↦ rw b (omega arith) ]
-
   few_updates : (v t : ℕ) (q : PathNo) (n : ℕ) (s : State) → IsNet case.net → length (updates case.net v t q n s) ≤ 64
   few_updates v t q n s is =
       let a = length-map (enumerate_from n (ups case.net v s)) (λ e. update_to v t q e.0 e.1.0 e.1.1) in
       let b = length-enumerate_from n (ups case.net v s) in
-      let c = filter_few (λ p. p.1.up) (zip (hops_of case.net v) s.rows) in
+      let c = length-filter (λ p. p.1.up) (zip (hops_of case.net v) s.rows) in
+      let few = count_by-le-length (λ p. p.1.up) (zip (hops_of case.net v) s.rows) in
       let d = zip_few (hops_of case.net v) s.rows in
       let e = hops_few case.net is v in
       omega arith

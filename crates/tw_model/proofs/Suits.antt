@@ -1,5 +1,5 @@
 -- What a router knows and sends is permitted: its path is its own or empty, and an update goes to a neighbour of its sender.
-use Rattle.std.proofs.Common.{◌≡◌, ℕ, ◌==◌, Bool, true, List, [], ◌∷◌, length, Option, Some, None, refl, ap, sym, subst, inl, inr}
+use Rattle.std.proofs.Common.{◌≡◌, ℕ, ◌==◌, Bool, true, List, [], ◌∷◌, length, Option, Some, None, refl, ap, sym, subst, inl, inr, nat_le}
 use Rattle.std.specs.List.{enumerate_from, find, list_any, zip}
 use Rattle.std.specs.Option.{unwrap_or}
 use Rattle.std.proofs.lemmas.Bool.{cases_Bool, and_parts, and_from, or_right, eqb-true, eq-eqb, ltb-true}
@@ -11,12 +11,16 @@ use Rattle.tw_model.specs.declared.net.Hop.{Hop}
 use Rattle.tw_model.specs.Net.{Net, hops_of, is_own, is_permitted, empty_path}
 use Rattle.tw_model.specs.Rules.{IsNet}
 use Rattle.tw_model.specs.State.{State, best, has_peer, hop, offers, row, slot, opening}
-use Rattle.tw_model.specs.Effect.{acts, accepts, body_suits, effect, failing, hearing, settle, suits, swapping, update_to, ups}
+use Rattle.tw_model.specs.Effect.{acts, accepts, body_suits, effect, failing, fits, hearing, settle, suits, swapping, update_to, ups}
 use Rattle.tw_model.specs.Sim.{state}
 use Rattle.tw_model.specs.Case.{Case, simulation}
 use Rattle.tw_model.proofs.Members.{In, in_enumerate, in_filter, in_find, in_map, in_swap, in_zip}
 use Rattle.tw_model.proofs.Nets.{has_peer_back, has_peer_of, hop_in_hops}
 use Rattle.tw_model.proofs.Paths.{in_paths_of, path_origin}
+
+-- an event that fits a router suits it
+pub body_suits-fits : (net : Net) (v : ℕ) (e : Event) → fits net v e ≡ true → body_suits net v e e.body ≡ true
+body_suits-fits net v e h = (and_parts (e.dst == v) (body_suits net v e e.body) (and_parts (nat_le e.time 1000000000) (suits net v e) h).1).1
 
 -- a router's path is its own or empty, and its order holds own paths
 pub record IsOwnState (net : Net) (v : ℕ) (s : State) : Type 0 where

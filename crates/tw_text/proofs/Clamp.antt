@@ -1,13 +1,15 @@
 -- A node or a place that a `u32` does not hold breaks the same rules as the greatest that it holds.
-use Rattle.std.proofs.Common.{◌≡◌, ℕ, ◌≤◌, nat_lt, nat_le, Bool, true, false, not, ◌&&◌, ◌||◌, List, [], ◌∷◌, length, map, Option, Some, None, refl, ap, sym, ◌∙◌, inl, inr, arith, slice_index_or, if◌then◌else◌}
-use Rattle.std.proofs.lemmas.Bool.{cases_Bool}
+use Rattle.std.proofs.Common.{◌≡◌, ℕ, ◌≤◌, nat_lt, nat_le, Bool, true, false, not, ◌&&◌, ◌||◌, List, [], ◌∷◌, length, map, Option, Some, None, refl, ap, ap₂, sym, ◌∙◌, inl, inr, arith, slice_index_or, if◌then◌else◌}
+use Rattle.std.proofs.lemmas.Bool.{and_parts, cases_Bool, not-false}
+use Rattle.std.proofs.Math.Bool.{and-false}
 use Rattle.std.proofs.lemmas.Bool.Decides.{nat_tests}
 use Rattle.std.specs.List.{list_all}
 use Rattle.std.proofs.lemmas.Bool.{cases_lt}
 use Rattle.std.proofs.lemmas.List.{length-map}
 use Rattle.std.proofs.lemmas.List.FromFn.{length-range_with_len}
-use Rattle.std.specs.List.{filter, range_with_len}
-use Rattle.tw_model.proofs.Within.{none_broken}
+use Rattle.std.proofs.lemmas.List.Sums.{count_by-le-length, length-filter}
+use Rattle.std.specs.List.{range_with_len}
+use Rattle.tw_model.proofs.Unbroken.{none_broken}
 use Rattle.tw_model.specs.Line.{Line}
 use Rattle.tw_model.specs.Net.{Net, begins_at, paths, paths_of}
 use Rattle.tw_model.specs.Rules.{has_place, is_within, lowest, rules_in_order}
@@ -40,14 +42,9 @@ all-below : (p : List ℕ) (k : ℕ) → k ≤ 1024 → list_all (λ v. nat_lt v
 all-below [] k h = refl
 all-below (n ∷ p) k h = rw (clamp-below n k h, all-below p k h) refl
 
-pub both : (a b : Bool) → (a && b) ≡ true → (a ≡ true) × (b ≡ true)
-both true true h = (refl, refl)
-both true false h = absurd (cc)
-both false b h = absurd (cc)
-
 all-same : (p : List ℕ) (k : ℕ) → k ≤ 1024 → list_all (λ v. nat_lt v k) p ≡ true → map clamp p ≡ p
 all-same [] k h t = refl
-all-same (n ∷ p) k h t = let w = both (nat_lt n k) (list_all (λ v. nat_lt v k) p) t in rw (below n k h w.0, all-same p k h w.1) refl
+all-same (n ∷ p) k h t = let w = and_parts (nat_lt n k) (list_all (λ v. nat_lt v k) p) t in rw (below n k h w.0, all-same p k h w.1) refl
 
 -- the two break the same lowest rule, and are one where they break none
 record IsSame (d : Draft) (s : Statement) : Type 0 where
@@ -98,31 +95,13 @@ misplaced-clamped (Done case) (say.Path p) = refl
 misplaced-clamped (Done case) (say.Scene t) = refl
 misplaced-clamped (Done case) say.End = refl
 
-filter-short : {X : Type 0} (p : X → Bool) (xs : List X) → length (filter p xs) ≤ length xs
-filter-short p [] = omega arith
-filter-short p (x ∷ xs) =
-    let rest = filter-short p xs in
-    elim (cases_Bool (p x)) [
-      | inl t ↦ rw t (omega arith)
-      | inr f ↦ rw f (omega arith)
-    ]
-
 -- a router has no more paths than there are
 pub few_places : (net : Net) (v : ℕ) → length (paths net) ≤ 204602 → length (paths_of net v) ≤ 204602
 unfolding paths_of
 few_places net v h =
-    rw length-map (omega (arith, filter-short (λ k. begins_at (slice_index_or (paths net) k []) v) (range_with_len 0 (length (paths net))), length-range_with_len 0 (length (paths net))))
-
-and-false : (a : Bool) → (a && false) ≡ false
-and-false true = refl
-and-false false = refl
-
-pub not_false : (a : Bool) → not a ≡ false → a ≡ true
-not_false true h = refl
-not_false false h = absurd (cc)
-
-ap2 : {A B C : Type 0} (f : A → B → C) {a a' : A} {b b' : B} → a ≡ a' → b ≡ b' → f a b ≡ f a' b'
-ap2 f e g = rw (e, g) refl
+    let own = λ (k : ℕ). begins_at (slice_index_or (paths net) k []) v in
+    let all = range_with_len 0 (length (paths net)) in
+    rw length-map (omega (arith, length-filter own all, count_by-le-length own all, length-range_with_len 0 (length (paths net))))
 
 no_rule : (misplaced end : Bool) (rule : Option Rule)
     → (if misplaced then Some x.Order else if end then Some x.End else of_rule rule) ≡ None → rule ≡ None
@@ -142,8 +121,8 @@ link-same : (d : Draft) (l : Link) → (net_of d).nodes ≤ 1024 → IsSame d (s
 link-same d l h =
     let k = (net_of d).nodes in
     elim (cases_Bool (nat_lt l.first k && nat_lt l.second k)) [
-      | inl t ↦ (let w = both (nat_lt l.first k) (nat_lt l.second k) t in
-          same_at d (say.Link l) (ap2 (λ a b. say.Link (record { first = a; second = b; delay = l.delay })) (below l.first k h w.0) (below l.second k h w.1)))
+      | inl t ↦ (let w = and_parts (nat_lt l.first k) (nat_lt l.second k) t in
+          same_at d (say.Link l) (ap₂ (λ a b. say.Link (record { first = a; second = b; delay = l.delay })) (below l.first k h w.0) (below l.second k h w.1)))
       | inr f ↦ out_of_range d (say.Link l) (rw (clamp-below l.first k h, clamp-below l.second k h, f) refl) (rw f refl)
     ]
 
@@ -151,8 +130,8 @@ path-same : (d : Draft) (p : Line) → (net_of d).nodes ≤ 1024 → IsSame d (s
 path-same d p h =
     let k = (net_of d).nodes in
     elim (cases_Bool (nat_lt p.owner k && list_all (λ v. nat_lt v k) p.nodes)) [
-      | inl t ↦ (let w = both (nat_lt p.owner k) (list_all (λ v. nat_lt v k) p.nodes) t in
-          same_at d (say.Path p) (ap2 (λ a b. say.Path (record { owner = a; nodes = b })) (below p.owner k h w.0) (all-same p.nodes k h w.1)))
+      | inl t ↦ (let w = and_parts (nat_lt p.owner k) (list_all (λ v. nat_lt v k) p.nodes) t in
+          same_at d (say.Path p) (ap₂ (λ a b. say.Path (record { owner = a; nodes = b })) (below p.owner k h w.0) (all-same p.nodes k h w.1)))
       | inr f ↦ out_of_range d (say.Path p) (rw (clamp-below p.owner k h, all-below p.nodes k h, f) refl) (rw f refl)
     ]
 
@@ -160,7 +139,7 @@ fail-same : (d : Draft) (t a b : ℕ) → (net_of d).nodes ≤ 1024 → IsSame d
 fail-same d t a b h =
     let k = (net_of d).nodes in
     elim (cases_Bool (nat_lt a k && nat_lt b k)) [
-      | inl y ↦ (let w = both (nat_lt a k) (nat_lt b k) y in same_at d (say.Scene (Fail t a b)) (ap2 (λ a b. say.Scene (Fail t a b)) (below a k h w.0) (below b k h w.1)))
+      | inl y ↦ (let w = and_parts (nat_lt a k) (nat_lt b k) y in same_at d (say.Scene (Fail t a b)) (ap₂ (λ a b. say.Scene (Fail t a b)) (below a k h w.0) (below b k h w.1)))
       | inr f ↦ out_of_range d (say.Scene (Fail t a b)) (rw (clamp-below a k h, clamp-below b k h, f) refl) (rw f refl)
     ]
 
@@ -168,7 +147,7 @@ restore-same : (d : Draft) (t a b : ℕ) → (net_of d).nodes ≤ 1024 → IsSam
 restore-same d t a b h =
     let k = (net_of d).nodes in
     elim (cases_Bool (nat_lt a k && nat_lt b k)) [
-      | inl y ↦ (let w = both (nat_lt a k) (nat_lt b k) y in same_at d (say.Scene (Restore t a b)) (ap2 (λ a b. say.Scene (Restore t a b)) (below a k h w.0) (below b k h w.1)))
+      | inl y ↦ (let w = and_parts (nat_lt a k) (nat_lt b k) y in same_at d (say.Scene (Restore t a b)) (ap₂ (λ a b. say.Scene (Restore t a b)) (below a k h w.0) (below b k h w.1)))
       | inr f ↦ out_of_range d (say.Scene (Restore t a b)) (rw (clamp-below a k h, clamp-below b k h, f) refl) (rw f refl)
     ]
 
@@ -184,7 +163,7 @@ swap-same d t v i j h =
       | inl y ↦ (let e = below v k h.nodes y in record {
         fault = rw (e, clamp-within i (length (paths_of (net_of d) v)) few, clamp-within j (length (paths_of (net_of d) v)) few) refl;
         kept = λ none.
-            let w = both (has_place (net_of d) v i) (has_place (net_of d) v j) (not_false (has_place (net_of d) v i && has_place (net_of d) v j) (none_broken (breaks d (say.Scene (Swap t v i j))) none NoSuchPlace)) in
+            let w = and_parts (has_place (net_of d) v i) (has_place (net_of d) v j) (not-false (has_place (net_of d) v i && has_place (net_of d) v j) (none_broken (breaks d (say.Scene (Swap t v i j))) none NoSuchPlace)) in
             rw (e, placed (length (paths_of (net_of d) v)) i few w.0, placed (length (paths_of (net_of d) v)) j few w.1) refl;
       })
       | inr f ↦ out_of_range d (say.Scene (Swap t v i j)) (rw (clamp-below v k h.nodes, f) refl) (rw f refl)

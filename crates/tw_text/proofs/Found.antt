@@ -1,5 +1,5 @@
 -- A text that is read as a case is the text of that case, and the case keeps the rules.
-use Rattle.std.proofs.Common.{◌≡◌, ℕ, suc, ◌+◌, true, false, List, [], ◌∷◌, ◌++◌, length, map, bytes_eq, codes, Option, Some, None, Result, Ok, Err, refl, ap, ap₂, sym, ◌∙◌, append_assoc, inl, inr, arith, subst}
+use Rattle.std.proofs.Common.{◌≡◌, ℕ, suc, true, false, List, [], ◌∷◌, ◌++◌, map, bytes_eq, codes, Option, Some, None, Result, Ok, Err, refl, ap, ap₂, sym, ◌∙◌, append_assoc, inl, inr, arith, subst}
 use Rattle.std.proofs.lemmas.Bool.{cases_Bool}
 use Rattle.std.proofs.lemmas.List.{append-nil, map-append}
 use Rattle.std.specs.Cmp.Lexicographic.{bytes_decides}
@@ -7,10 +7,11 @@ use Rattle.std.specs.List.{join_with_byte}
 use Rattle.tw_model.specs.Case.{Case, IsCase}
 use Rattle.tw_model.specs.Line.{Line}
 use Rattle.tw_model.specs.Net.{Net}
-use Rattle.tw_model.specs.Rules.{IsNet, LinksFollow, LinesFollow, ScenesFollow, line_fault, link_fault, lowest, rules_in_order, scene_fault}
+use Rattle.tw_model.specs.Rules.{IsNet, link_fault, lowest, rules_in_order}
 use Rattle.tw_model.specs.declared.case.Scene.{Scene}
 use Rattle.tw_model.specs.declared.net.Link.{Link}
 use Rattle.tw_model.specs.declared.net.Rule.{Rule}
+use Rattle.tw_model.proofs.Grown.{case_alone, case_with_scene, net_alone, net_with_line, net_with_link}
 use Rattle.tw_text.specs.declared.draft.Draft.{Draft}
 use Rattle.tw_text.specs.declared.draft.Draft.TheVariants.{Start, Header, Links, Paths, Scenes, Done}
 use Rattle.tw_text.specs.declared.fault.LineFault.TheVariants as x
@@ -54,22 +55,6 @@ IsDraft (Paths net) = IsNet net
 IsDraft (Scenes c) = IsCase c
 IsDraft (Done c) = IsCase c
 
--- one more item that keeps the rules
-links_push : (n : ℕ) (before links : List Link) (l : Link) → LinksFollow (record { nodes = n; links = before; lines = [] }) links
-    → link_fault (record { nodes = n; links = before ++ links; lines = [] }) l ≡ None → LinksFollow (record { nodes = n; links = before; lines = [] }) (links ++ l ∷ [])
-links_push n before [] l h f = (rw append-nil at f, tt)
-links_push n before (m ∷ links) l h f = (h.0, links_push n (before ++ m ∷ []) links l h.1 (rw (append_assoc before (m ∷ []) links) f))
-
-lines_push : (n : ℕ) (links : List Link) (before lines : List Line) (p : Line) → LinesFollow (record { nodes = n; links = links; lines = before }) lines
-    → line_fault (record { nodes = n; links = links; lines = before ++ lines }) p ≡ None → LinesFollow (record { nodes = n; links = links; lines = before }) (lines ++ p ∷ [])
-lines_push n links before [] p h f = (rw append-nil at f, tt)
-lines_push n links before (q ∷ lines) p h f = (h.0, lines_push n links (before ++ q ∷ []) lines p h.1 (rw (append_assoc before (q ∷ []) lines) f))
-
-scenes_push : (net : Net) (count whole : ℕ) (scenes : List Scene) (s : Scene) → count + length scenes ≡ whole → ScenesFollow net count scenes → scene_fault net whole s ≡ None
-    → ScenesFollow net count (scenes ++ s ∷ [])
-scenes_push net count whole [] s e h f = let same : whole ≡ count = omega arith in (rw same at f, tt)
-scenes_push net count whole (t ∷ scenes) s e h f = (h.0, scenes_push net (count + 1) whole scenes s (omega arith) h.1 f)
-
 -- the lines of a draft with one more item
 module _ (a b c : List (List ℕ)) (x : List ℕ) where
   after_links : (a ++ x ∷ []) ++ ([] ++ []) ≡ (a ++ ([] ++ [])) ++ x ∷ []
@@ -88,22 +73,15 @@ record Adds (d : Draft) (s : Statement) : Type 0 where
 
 add_link : (net : Net) (l : Link) → IsNet net → net.lines ≡ [] → link_fault net l ≡ None → Adds (Links net) (say.Link l)
 add_link net l h none f = record {
-  draft = (record { nodes = h.nodes; links = links_push net.nodes [] net.links l h.links f; lines = rw none tt }, none);
+  draft = (net_with_link net l h f, none);
   lines = rw (none, map-append (λ l. text_line (say.Link l)) net.links (l ∷ []))
       (ap (λ t. codes "spp 1" ∷ text_line (say.Nodes net.nodes) ∷ t) (after_links (map (λ l. text_line (say.Link l)) net.links) [] [] (text_line (say.Link l))));
 }
-
-path_net : (net : Net) (p : Line) → IsNet net → line_fault net p ≡ None → IsNet (record net { lines = net.lines ++ p ∷ [] })
-path_net net p h f = record { nodes = h.nodes; links = h.links; lines = lines_push net.nodes net.links [] net.lines p h.lines f }
 
 path_lines : (net : Net) (p : Line) → built (record net { lines = net.lines ++ p ∷ [] }) [] ≡ built net [] ++ text_line (say.Path p) ∷ []
 path_lines net p =
     rw (map-append (λ p. text_line (say.Path p)) net.lines (p ∷ []))
     (ap (λ t. codes "spp 1" ∷ text_line (say.Nodes net.nodes) ∷ t) (after_paths (map (λ l. text_line (say.Link l)) net.links) (map (λ p. text_line (say.Path p)) net.lines) [] (text_line (say.Path p))))
-
-scene_case : (net : Net) (scenes : List Scene) (s : Scene) → IsCase (record { net = net; scenes = scenes }) → scene_fault net (length scenes) s ≡ None
-    → IsCase (record { net = net; scenes = scenes ++ s ∷ [] })
-scene_case net scenes s h f = record { net = h.net; scenes = scenes_push net 0 (length scenes) scenes s (omega arith) h.scenes f }
 
 scene_lines : (net : Net) (scenes : List Scene) (s : Scene) → built net (scenes ++ s ∷ []) ≡ built net scenes ++ text_line (say.Scene s) ∷ []
 scene_lines net scenes s =
@@ -114,30 +92,27 @@ end_lines : (net : Net) (scenes : List Scene) → bare_lines (record { net = net
 end_lines net scenes =
     ap (λ t. codes "spp 1" ∷ text_line (say.Nodes net.nodes) ∷ t) (after_scenes (map (λ l. text_line (say.Link l)) net.links) (map (λ p. text_line (say.Path p)) net.lines) (map (λ s. text_line (say.Scene s)) scenes) (text_line say.End))
 
-empty_case : (net : Net) → IsNet net → IsCase (record { net = net; scenes = [] })
-empty_case net h = record { net = h; scenes = tt }
-
 adds : (d : Draft) (s : Statement) → IsDraft d → Fits d s → Adds d s
 adds Start s h f = absurd (let e = f.later in cc)
-adds Header (say.Nodes n) h f = record { draft = (record { nodes = f.kept; links = tt; lines = tt }, refl); lines = refl }
+adds Header (say.Nodes n) h f = record { draft = (net_alone n f.kept, refl); lines = refl }
 adds Header (say.Link l) h f = absurd (let e = f.placed in cc)
 adds Header (say.Path p) h f = absurd (let e = f.placed in cc)
 adds Header (say.Scene s) h f = absurd (let e = f.placed in cc)
 adds Header say.End h f = absurd (let e = f.placed in cc)
 adds (Links net) (say.Nodes n) h f = absurd (let e = f.placed in cc)
 adds (Links net) (say.Link l) h f = add_link net l h.0 h.1 f.kept
-adds (Links net) (say.Path p) h f = record { draft = path_net net p h.0 f.kept; lines = path_lines net p }
-adds (Links net) (say.Scene s) h f = record { draft = scene_case net [] s (empty_case net h.0) f.kept; lines = scene_lines net [] s }
-adds (Links net) say.End h f = record { draft = empty_case net h.0; lines = end_lines net [] }
+adds (Links net) (say.Path p) h f = record { draft = net_with_line net p h.0 f.kept; lines = path_lines net p }
+adds (Links net) (say.Scene s) h f = record { draft = case_with_scene net [] s (case_alone net h.0) f.kept; lines = scene_lines net [] s }
+adds (Links net) say.End h f = record { draft = case_alone net h.0; lines = end_lines net [] }
 adds (Paths net) (say.Nodes n) h f = absurd (let e = f.placed in cc)
 adds (Paths net) (say.Link l) h f = absurd (let e = f.placed in cc)
-adds (Paths net) (say.Path p) h f = record { draft = path_net net p h f.kept; lines = path_lines net p }
-adds (Paths net) (say.Scene s) h f = record { draft = scene_case net [] s (empty_case net h) f.kept; lines = scene_lines net [] s }
-adds (Paths net) say.End h f = record { draft = empty_case net h; lines = end_lines net [] }
+adds (Paths net) (say.Path p) h f = record { draft = net_with_line net p h f.kept; lines = path_lines net p }
+adds (Paths net) (say.Scene s) h f = record { draft = case_with_scene net [] s (case_alone net h) f.kept; lines = scene_lines net [] s }
+adds (Paths net) say.End h f = record { draft = case_alone net h; lines = end_lines net [] }
 adds (Scenes c) (say.Nodes n) h f = absurd (let e = f.placed in cc)
 adds (Scenes c) (say.Link l) h f = absurd (let e = f.placed in cc)
 adds (Scenes c) (say.Path p) h f = absurd (let e = f.placed in cc)
-adds (Scenes c) (say.Scene s) h f = record { draft = scene_case c.net c.scenes s h f.kept; lines = scene_lines c.net c.scenes s }
+adds (Scenes c) (say.Scene s) h f = record { draft = case_with_scene c.net c.scenes s h f.kept; lines = scene_lines c.net c.scenes s }
 adds (Scenes c) say.End h f = record { draft = h; lines = end_lines c.net c.scenes }
 adds (Done c) s h f = absurd (let e = f.unended in cc)
 

@@ -1,9 +1,11 @@
 -- The text of a case is read as that case.
-use Rattle.std.proofs.Common.{◌≡◌, ℕ, suc, ◌≤◌, true, false, List, [], ◌∷◌, ◌++◌, length, map, None, Ok, refl, ap, sym, ◌∙◌, append_assoc, codes, arith}
+use Rattle.std.proofs.Common.{◌≡◌, ℕ, suc, ◌≤◌, true, false, List, [], ◌∷◌, ◌++◌, length, map, None, Ok, refl, ap, ap₂, sym, ◌∙◌, append_assoc, codes, arith}
 use Rattle.std.proofs.lemmas.List.{append-nil, length-append, length_push, map-append}
 use Rattle.std.proofs.lemmas.List.Folds.{flat_map-map}
+use Rattle.std.proofs.lemmas.Simd.{map-map}
 use Rattle.std.specs.List.{flat_map, join_with_byte}
 use Rattle.tw_model.specs.Case.{Case, IsCase}
+use Rattle.tw_model.proofs.Nets.{nodes_within}
 use Rattle.tw_model.specs.Line.{Line}
 use Rattle.tw_model.specs.Net.{Net}
 use Rattle.tw_model.specs.Rules.{IsNet, LinksFollow, LinesFollow, ScenesFollow}
@@ -22,7 +24,7 @@ use Rattle.tw_text.proofs.Lines.{Fits, line-adds, line-fault, text_line}
 use Rattle.tw_text.proofs.Parts.{all-plain}
 use Rattle.tw_text.proofs.Reading.{reads-more}
 use Rattle.tw_text.proofs.Said.{IsSayable}
-use Rattle.tw_text.proofs.Short.{line_short, link_short, nodes_short, nodes_small, scene_short}
+use Rattle.tw_text.proofs.Short.{line_short, link_short, nodes_short, scene_short}
 use Rattle.tw_text.proofs.Splits.{parts-lines}
 
 -- reading these lines and nothing after them leads from d to the case
@@ -118,26 +120,19 @@ with_header = refl
 goes_case : (c : Case) → IsCase c → Goes Start (bare_lines c) c
 goes_case c h =
     let n = c.net.nodes in
-    let small = nodes_small n h.net.nodes in
+    let small = (nodes_within n h.net.nodes).1 in
     goes_on Start Header c (codes "spp 1") _ (start_fault (codes "spp 1") true refl) with_header
     (goes_say Header c (say.Nodes n) _ (nodes_short n h.net.nodes) (record { later = refl; placed = refl; unended = refl; kept = h.net.nodes })
     (goes_links n [] c.net.links _ c small h.net.links
     (goes_paths (bare n c.net.links) [] c.net.lines (Links (bare n c.net.links)) c _ small h.net.lines (takes_links (bare n c.net.links)) (λ next t.
     goes_scenes c.net [] c.scenes next c _ h.net h.scenes t.scenes (λ last u. goes_done c.net c.scenes last u)))))
 
-joined : {a b c d : List (List ℕ)} → a ≡ b → c ≡ d → a ++ c ≡ b ++ d
-joined p q = rw (p, q) refl
-
-map-map : {X : Type 0} (f : List (List ℕ) → List ℕ) (g : X → List (List ℕ)) (xs : List X) → map f (map g xs) ≡ map (λ x. f (g x)) xs
-map-map f g [] = refl
-map-map f g (x ∷ xs) = ap (λ t. f (g x) ∷ t) (map-map f g xs)
-
 map-lines : (c : Case) → map (join_with_byte 32) (lines_of c) ≡ bare_lines c
 map-lines c =
     let end = end_words ∷ [] in
     let scenes = map-append (join_with_byte 32) (map scene_words c.scenes) end ∙ ap (λ t. t ++ text_line say.End ∷ []) (map-map (join_with_byte 32) scene_words c.scenes) in
-    let paths = map-append (join_with_byte 32) (map path_words c.net.lines) (map scene_words c.scenes ++ end) ∙ joined (map-map (join_with_byte 32) path_words c.net.lines) scenes in
-    let links = map-append (join_with_byte 32) (map link_words c.net.links) (map path_words c.net.lines ++ (map scene_words c.scenes ++ end)) ∙ joined (map-map (join_with_byte 32) link_words c.net.links) paths in
+    let paths = map-append (join_with_byte 32) (map path_words c.net.lines) (map scene_words c.scenes ++ end) ∙ ap₂ (λ xs ys. xs ++ ys) (map-map (join_with_byte 32) path_words c.net.lines) scenes in
+    let links = map-append (join_with_byte 32) (map link_words c.net.links) (map path_words c.net.lines ++ (map scene_words c.scenes ++ end)) ∙ ap₂ (λ xs ys. xs ++ ys) (map-map (join_with_byte 32) link_words c.net.links) paths in
     ap (λ t. codes "spp 1" ∷ text_line (say.Nodes c.net.nodes) ∷ t) links
 
 pub text_of-lines : (c : Case) → text_of c ≡ flat_map (λ l. l ++ 10 ∷ []) (bare_lines c)

@@ -5,10 +5,11 @@ use Rattle.std.proofs.lemmas.Bool.Decides.{nat_tests}
 use Rattle.std.proofs.lemmas.List.{length-map}
 use Rattle.std.specs.List.{AllByRecursion, list_all}
 use Rattle.tw_instance.proofs.Lines.{few_lines}
-use Rattle.tw_model.proofs.Within.{none_broken}
+use Rattle.tw_model.proofs.Nets.{nodes_within}
+use Rattle.tw_model.proofs.Unbroken.{none_broken}
 use Rattle.tw_model.specs.Line.{Line}
 use Rattle.tw_model.specs.Net.{Net, begins_at, paths_of}
-use Rattle.tw_model.specs.Rules.{IsNet, has_place, is_within, line_breaks, line_fault, link_breaks, link_fault, nodes_break, nodes_fault, scene_breaks, scene_fault}
+use Rattle.tw_model.specs.Rules.{IsNet, has_place, is_within, line_breaks, line_fault, link_breaks, link_fault, nodes_fault, scene_breaks, scene_fault}
 use Rattle.tw_model.specs.declared.case.Scene.{Scene}
 use Rattle.tw_model.specs.declared.case.Scene.TheVariants.{Fail, Restore, Swap}
 use Rattle.tw_model.specs.declared.net.Link.{Link}
@@ -17,11 +18,8 @@ use Rattle.tw_text.specs.declared.statement.Statement.TheVariants as say
 use Rattle.tw_text.proofs.Clamp.{few_places}
 use Rattle.tw_text.proofs.Said.{IsSayable, IsShort, IsShortPath, IsShortScene}
 
-pub nodes_small : (n : ℕ) → nodes_fault n ≡ None → n ≤ 1024
-nodes_small n h = let e : not (is_within 1 1024 n) ≡ false = none_broken (nodes_break n) h Range in grind (arith, nat_tests)
-
 pub nodes_short : (n : ℕ) → nodes_fault n ≡ None → IsShort n
-nodes_short n h = let e = nodes_small n h in omega arith
+nodes_short n h = let within = nodes_within n h in let small = within.1 in omega arith
 
 ends_short : (k a b : ℕ) → k ≤ 1024 → not (nat_lt a k && nat_lt b k) ≡ false → IsShort a × IsShort b
 ends_short k a b small h =
@@ -64,13 +62,13 @@ time_short t h = grind (arith, nat_tests)
 
 pub scene_short : (net : Net) (count : ℕ) (s : Scene) → IsNet net → scene_fault net count s ≡ None → IsShortScene s
 scene_short net count (Fail t a b) is h =
-    let ends = ends_short net.nodes a b (nodes_small net.nodes is.nodes) (none_broken (scene_breaks net count (Fail t a b)) h Range) in
+    let ends = ends_short net.nodes a b (nodes_within net.nodes is.nodes).1 (none_broken (scene_breaks net count (Fail t a b)) h Range) in
     (time_short t (none_broken (scene_breaks net count (Fail t a b)) h Time), ends.0, ends.1)
 scene_short net count (Restore t a b) is h =
-    let ends = ends_short net.nodes a b (nodes_small net.nodes is.nodes) (none_broken (scene_breaks net count (Restore t a b)) h Range) in
+    let ends = ends_short net.nodes a b (nodes_within net.nodes is.nodes).1 (none_broken (scene_breaks net count (Restore t a b)) h Range) in
     (time_short t (none_broken (scene_breaks net count (Restore t a b)) h Time), ends.0, ends.1)
 scene_short net count (Swap t v i j) is h =
-    let small = nodes_small net.nodes is.nodes in
+    let small = (nodes_within net.nodes is.nodes).1 in
     let few = places_small net v is in
     let node = not-false (nat_lt v net.nodes) (none_broken (scene_breaks net count (Swap t v i j)) h Range) in
     let places = and_parts (has_place net v i) (has_place net v j) (not-false (has_place net v i && has_place net v j) (none_broken (scene_breaks net count (Swap t v i j)) h NoSuchPlace)) in (

@@ -1,6 +1,7 @@
 -- Words and lines that are joined are cut where they were joined.
 use Rattle.std.proofs.Common.{◌≡◌, ℕ, ◌==◌, nat_le, Bool, true, false, ◌&&◌, ◌||◌, List, [], ◌∷◌, ◌++◌, length, refl, ap, sym, ◌∙◌, append_assoc, arith}
 use Rattle.std.proofs.lemmas.Bool.{and_parts}
+use Rattle.std.proofs.Math.Bool.{or-true}
 use Rattle.std.proofs.lemmas.Bool.Decides.{nat_tests}
 use Rattle.std.proofs.lemmas.List.{append-nil}
 use Rattle.std.proofs.lemmas.List.Folds.{list_all-append}
@@ -36,12 +37,8 @@ sign_apart b h = grind (arith, nat_tests)
 plain_apart : (b : ℕ) → is_plain b ≡ true → (b == 10) ≡ false
 plain_apart b h = grind (arith, nat_tests)
 
-or_true : (a : Bool) → (a || true) ≡ true
-or_true true = refl
-or_true false = refl
-
 sign_plain : (b : ℕ) → is_sign b ≡ true → is_plain b ≡ true
-sign_plain b h = rw h (or_true (b == 32))
+sign_plain b h = rw h (or-true (b == 32))
 
 all_plain : (w : List ℕ) → list_all is_sign w ≡ true → list_all is_plain w ≡ true
 all_plain [] h = refl

@@ -1,5 +1,5 @@
 -- The text of a case, part by part.
-use Rattle.std.proofs.Common.{◌≡◌, ℕ, List, [], ◌∷◌, ◌++◌, map, codes, decimal, refl, ap, sym, ◌∙◌, append_assoc}
+use Rattle.std.proofs.Common.{◌≡◌, ℕ, List, [], ◌∷◌, ◌++◌, map, codes, decimal, ap, ap₂, sym, ◌∙◌, append_assoc}
 use Rattle.std.proofs.lemmas.List.{append-nil}
 use Rattle.std.proofs.lemmas.List.Concat.{flat_map-append}
 use Rattle.std.proofs.lemmas.List.Folds.{flat_map-map}
@@ -10,9 +10,6 @@ use Rattle.tw_model.specs.Net.{Net}
 use Rattle.tw_model.specs.declared.case.Scene.{Scene}
 use Rattle.tw_model.specs.declared.net.Link.{Link}
 use Rattle.tw_text.specs.Text.{end_words, header_words, line_text, link_words, nodes_words, path_words, scene_words, text_of}
-
-ap2 : {a b c d : List ℕ} → a ≡ b → c ≡ d → a ++ c ≡ b ++ d
-ap2 p q = rw (p, q) refl
 
 -- numbers behind a word, each with a space before it
 join-numbers : (w : List ℕ) (ns : List ℕ) → join_with_byte 32 (w ∷ map decimal ns) ≡ w ++ flat_map (λ n. 32 ∷ decimal n) ns
@@ -39,8 +36,8 @@ text-parts : (case : Case) → text_of case ≡ line_text header_words ++ (line_
 unfolding text_of
 text-parts case =
     let scenes = flat_map-append line_text (map scene_words case.scenes) (end_words ∷ []) ∙ ap (λ t. t ++ (line_text end_words ++ [])) (flat_map-map line_text scene_words case.scenes) in
-    let paths = flat_map-append line_text (map path_words case.net.lines) (map scene_words case.scenes ++ end_words ∷ []) ∙ ap2 (flat_map-map line_text path_words case.net.lines) scenes in
-    let links = flat_map-append line_text (map link_words case.net.links) (map path_words case.net.lines ++ (map scene_words case.scenes ++ end_words ∷ [])) ∙ ap2 (flat_map-map line_text link_words case.net.links) paths in
+    let paths = flat_map-append line_text (map path_words case.net.lines) (map scene_words case.scenes ++ end_words ∷ []) ∙ ap₂ (λ xs ys. xs ++ ys) (flat_map-map line_text path_words case.net.lines) scenes in
+    let links = flat_map-append line_text (map link_words case.net.links) (map path_words case.net.lines ++ (map scene_words case.scenes ++ end_words ∷ [])) ∙ ap₂ (λ xs ys. xs ++ ys) (flat_map-map line_text link_words case.net.links) paths in
     ap (λ t. line_text header_words ++ (line_text (nodes_words case.net.nodes) ++ t)) links
 
 six : (h n l p s e : List ℕ) → ((((h ++ n) ++ l) ++ p) ++ s) ++ e ≡ h ++ (n ++ (l ++ (p ++ (s ++ (e ++ [])))))

@@ -3,4 +3,4 @@ use Rattle.tw_instance.proofs.Links.{counted}
 use Rattle.tw_instance.proofs.faults.has_all_links.Goals as goal
 
 pub returns : goal.returns
-returns c = ap (nat_le 64) (ap length c.hops.ensures.value ∙ (counted c.args.instance.now c.hops.ensures.net c.args.node).0)
+returns c = ap (nat_le 64) (ap length c.hops.ensures.value ∙ counted c.args.instance.now c.hops.ensures.net c.args.node)

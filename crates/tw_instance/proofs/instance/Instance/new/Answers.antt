@@ -1,7 +1,7 @@
 use Rattle.std.proofs.Common.{sym, ◌∙◌}
 use Rattle.tw_model.specs.Net.{Net}
 use Rattle.tw_instance.proofs.KeyRows.{first_keys}
-use Rattle.tw_instance.proofs.Lines.{net_alone}
+use Rattle.tw_model.proofs.Grown.{net_alone}
 use Rattle.tw_instance.proofs.Sound.{made}
 use Rattle.tw_instance.proofs.instance.Instance.new.Goals as goal
 

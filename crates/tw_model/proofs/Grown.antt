@@ -1,0 +1,80 @@
+-- A net, or a case, that keeps the rules keeps them with one more item that keeps them.
+use Rattle.std.proofs.Common.{◌≡◌, ℕ, ◌+◌, true, false, not, List, [], ◌∷◌, ◌++◌, length, None, refl, ◌∙◌, append_assoc, append-nil, arith}
+use Rattle.std.proofs.lemmas.Bool.{not-false, or_left, or_parts}
+use Rattle.std.proofs.lemmas.List.Folds.{list_any-append}
+use Rattle.tw_model.specs.declared.case.Scene.{Scene}
+use Rattle.tw_model.specs.declared.net.Link.{Link}
+use Rattle.tw_model.specs.declared.net.Rule.TheVariants.{PathNoLink}
+use Rattle.tw_model.specs.Case.{IsCase}
+use Rattle.tw_model.specs.Line.{Line}
+use Rattle.tw_model.specs.Net.{Net, joins}
+use Rattle.tw_model.specs.Rules.{IsNet, LinksFollow, LinesFollow, ScenesFollow, is_linked, leaves_links, line_breaks, line_fault, link_fault, nodes_fault, scene_fault}
+use Rattle.tw_model.proofs.Unbroken.{none_broken}
+
+-- a net without links and paths keeps the rules where its number of routers does
+pub net_alone : (nodes : ℕ) → nodes_fault nodes ≡ None → IsNet (record { nodes = nodes; links = []; lines = [] })
+net_alone nodes h = record { nodes = h; links = tt; lines = tt }
+
+-- ---- one more link
+
+links_follow_more : (nodes : ℕ) (before links : List Link) (l : Link) → LinksFollow (record { nodes = nodes; links = before; lines = [] }) links
+    → link_fault (record { nodes = nodes; links = before ++ links; lines = [] }) l ≡ None → LinksFollow (record { nodes = nodes; links = before; lines = [] }) (links ++ l ∷ [])
+links_follow_more nodes before [] l h next = (rw append-nil at next, tt)
+links_follow_more nodes before (k ∷ links) l h next = (h.0, links_follow_more nodes (before ++ k ∷ []) links l h.1 (rw (append_assoc before (k ∷ []) links) next))
+
+linked_more : (links : List Link) (l : Link) (v w : ℕ) → is_linked links v w ≡ true → is_linked (links ++ l ∷ []) v w ≡ true
+linked_more links l v w h = list_any-append (joins v w) links (l ∷ []) ∙ or_left (is_linked links v w) (is_linked (l ∷ []) v w) h
+
+leaves_less : (links : List Link) (l : Link) (p : List ℕ) → leaves_links links p ≡ false → leaves_links (links ++ l ∷ []) p ≡ false
+leaves_less links l [] h = refl
+leaves_less links l (v ∷ []) h = refl
+leaves_less links l (v ∷ w ∷ p) h =
+    let parts = or_parts (not (is_linked links v w)) (leaves_links links (w ∷ p)) h in
+    let linked : is_linked (links ++ l ∷ []) v w ≡ true = linked_more links l v w (not-false (is_linked links v w) parts.0) in
+    rw linked (leaves_less links l (w ∷ p) parts.1)
+
+line_fault_more : (net : Net) (l : Link) (p : Line) → line_fault net p ≡ None → line_fault (record net { links = net.links ++ l ∷ [] }) p ≡ None
+line_fault_more net l p h =
+    let e : leaves_links net.links p.nodes ≡ false = none_broken (line_breaks net p) h PathNoLink in
+    rw (leaves_less net.links l p.nodes e) (rw e at h)
+
+lines_follow_more : (nodes : ℕ) (links : List Link) (before lines : List Line) (l : Link) → LinesFollow (record { nodes = nodes; links = links; lines = before }) lines
+    → LinesFollow (record { nodes = nodes; links = links ++ l ∷ []; lines = before }) lines
+lines_follow_more nodes links before [] l h = tt
+lines_follow_more nodes links before (p ∷ lines) l h =
+    (line_fault_more (record { nodes = nodes; links = links; lines = before }) l p h.0, lines_follow_more nodes links (before ++ p ∷ []) lines l h.1)
+
+pub net_with_link : (net : Net) (l : Link) → IsNet net → link_fault net l ≡ None → IsNet (record net { links = net.links ++ l ∷ [] })
+net_with_link net l h next = record {
+  nodes = h.nodes;
+  links = links_follow_more net.nodes [] net.links l h.links next;
+  lines = lines_follow_more net.nodes net.links [] net.lines l h.lines;
+}
+
+-- ---- one more path
+
+lines_follow_push : (net : Net) (before lines : List Line) (p : Line) → LinesFollow (record net { lines = before }) lines
+    → line_fault (record net { lines = before ++ lines }) p ≡ None → LinesFollow (record net { lines = before }) (lines ++ p ∷ [])
+lines_follow_push net before [] p h next = (rw append-nil at next, tt)
+lines_follow_push net before (q ∷ lines) p h next = (h.0, lines_follow_push net (before ++ q ∷ []) lines p h.1 (rw (append_assoc before (q ∷ []) lines) next))
+
+pub net_with_line : (net : Net) (p : Line) → IsNet net → line_fault net p ≡ None → IsNet (record net { lines = net.lines ++ p ∷ [] })
+net_with_line net p h next = record {
+  nodes = h.nodes;
+  links = h.links;
+  lines = lines_follow_push net [] net.lines p h.lines next;
+}
+
+-- ---- one more scenario line
+
+pub case_alone : (net : Net) → IsNet net → IsCase (record { net = net; scenes = [] })
+case_alone net h = record { net = h; scenes = tt }
+
+scenes_follow_push : (net : Net) (count whole : ℕ) (scenes : List Scene) (s : Scene) → count + length scenes ≡ whole → ScenesFollow net count scenes → scene_fault net whole s ≡ None
+    → ScenesFollow net count (scenes ++ s ∷ [])
+scenes_follow_push net count whole [] s e h next = let same : whole ≡ count = omega arith in (rw same at next, tt)
+scenes_follow_push net count whole (t ∷ scenes) s e h next = (h.0, scenes_follow_push net (count + 1) whole scenes s (omega arith) h.1 next)
+
+pub case_with_scene : (net : Net) (scenes : List Scene) (s : Scene) → IsCase (record { net = net; scenes = scenes }) → scene_fault net (length scenes) s ≡ None
+    → IsCase (record { net = net; scenes = scenes ++ s ∷ [] })
+case_with_scene net scenes s h next = record { net = h.net; scenes = scenes_follow_push net 0 (length scenes) scenes s (omega arith) h.scenes next }
