@@ -1,9 +1,13 @@
 -- The neighbours whose link is up, one by one.
 use Rattle.std.proofs.Common.{◌≡◌, ℕ, ◌+◌, ◌<◌, cond, List, ◌∷◌, length, get_or, drop, ap, ap₂, ◌∙◌, false}
-use Rattle.std.proofs.lemmas.List.{drop_more}
+use Rattle.std.proofs.lemmas.List.{drop_more, length-map}
+use Rattle.std.proofs.lemmas.List.FromFn.{length-enumerate_from}
+use Rattle.std.specs.List.{enumerate_from}
+use Rattle.tw_event.specs.declared.event.PathNo.{PathNo}
 use Rattle.tw_model.specs.declared.net.Hop.{Hop}
 use Rattle.tw_model.specs.declared.state.Row.{Row}
-use Rattle.tw_handlers.specs.Send.{up_pairs}
+use Rattle.tw_model.specs.Effect.{update_to}
+use Rattle.tw_handlers.specs.Send.{up_pairs, updates_to}
 
 pub up_pairs-drop : (hops : List Hop) (rows : List Row) (i : ℕ) (h : Hop) (r : Row) → i < length hops → i < length rows
     → up_pairs (drop i hops) (drop i rows) ≡ cond (get_or rows i r).up ((get_or hops i h, get_or rows i r) ∷ up_pairs (drop (i + 1) hops) (drop (i + 1) rows)) (up_pairs (drop (i + 1) hops) (drop (i + 1) rows))
@@ -14,3 +18,8 @@ pub up_pairs-skip : (hops : List Hop) (rows : List Row) (i : ℕ) (h : Hop) (r :
     → up_pairs (drop i hops) (drop i rows) ≡ up_pairs (drop (i + 1) hops) (drop (i + 1) rows)
 up_pairs-skip hops rows i h r a b down =
     up_pairs-drop hops rows i h r a b ∙ ap (λ up. cond up ((get_or hops i h, get_or rows i r) ∷ up_pairs (drop (i + 1) hops) (drop (i + 1) rows)) (up_pairs (drop (i + 1) hops) (drop (i + 1) rows))) down
+
+-- one update to each neighbour
+pub length-updates_to : (v t : ℕ) (q : PathNo) (n : ℕ) (pairs : List (Hop × Row)) → length (updates_to v t q n pairs) ≡ length pairs
+length-updates_to v t q n pairs =
+    length-map (enumerate_from n pairs) (λ e. update_to v t q e.0 e.1.0 e.1.1) ∙ length-enumerate_from n pairs

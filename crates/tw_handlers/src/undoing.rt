@@ -1,4 +1,5 @@
-ghost use Rattle.std.specs.Prelude.{◌≡◌, ◌-◌, ◌≤◌, ◌<◌, [], ◌∷◌, ◌++◌, IsTrue, OnErr, OnOk};
+ghost use Rattle.std.specs.Prelude.{◌≡◌, ◌-◌, ◌≤◌, ◌<◌, [], ◌∷◌, ◌++◌, length, IsOk, IsTrue, OnErr, OnOk};
+ghost use Rattle.smallvec.specs.SmallVec.{HasRoomFor};
 ghost use Rattle.tw_model.specs.Net.{IsPath};
 ghost use Rattle.tw_model.specs.State.{IsState, State as AState, has_peer, hop, row as row_of, slot as slot_of};
 ghost use Rattle.tw_model.specs.Effect.{effect, fits, update_to};
@@ -19,7 +20,8 @@ use tw_router::Router;
 /// Undoes the event that the router handled last, and adds what it had sent to `sends`, in that order.
 ///
 /// The instance is the router's own, and the record is the answer of handling the event. Where there is
-/// no memory, the router and the list are as they were.
+/// no memory, the router and the list are as they were. It cannot fail where the list has room for what
+/// the event had sent.
 pub fn undo(
     instance: &Instance,
     router: &mut Router<'_>,
@@ -33,6 +35,8 @@ pub fn undo(
         → OnOk result (router.new ≡ record router.old { state = s }) }
     ensures sends { (s : AState) → IsHandled router.old.net router.old.node s event.now note router.old.state
         → OnOk result (sends.new.items ≡ sends.old.items ++ (effect router.old.net router.old.node s event.now).sends) }
+    ensures succeeds { (s : AState) → IsHandled router.old.net router.old.node s event.now note router.old.state
+        → HasRoomFor sends.old (length (effect router.old.net router.old.node s event.now).sends) → IsOk result }
     ensures err { OnErr result (router.new ≡ router.old) }
     ensures unsent { OnErr result (sends.new.items ≡ sends.old.items) }
 {
@@ -53,6 +57,8 @@ fn send_again(
     requires fits { IsTrue (fits router.now.net router.now.node event.now) }
     ensures ok { OnOk result (sends.new.items
         ≡ sends.old.items ++ sends_again router.now.net router.now.node router.now.state event.now event.now.body note) }
+    ensures succeeds { HasRoomFor sends.old (length (sends_again router.now.net router.now.node router.now.state event.now event.now.body note))
+        → IsOk result }
     ensures err { OnErr result (sends.new.items ≡ sends.old.items) }
 {
     match event.body {
@@ -82,6 +88,8 @@ fn send_settled(
     requires time { event.now.time ≤ 1000000000 }
     ensures ok { OnOk result (sends.new.items
         ≡ sends.old.items ++ settled_sends router.now.net router.now.node event.now.time router.now.state note) }
+    ensures succeeds { HasRoomFor sends.old (length (settled_sends router.now.net router.now.node event.now.time router.now.state note))
+        → IsOk result }
     ensures err { OnErr result (sends.new.items ≡ sends.old.items) }
 {
     if !note.changed {
@@ -115,6 +123,7 @@ fn send_restored(
     requires neighbour { IsTrue (has_peer router.now.net router.now.node peer) }
     ensures ok { let k = slot_of router.now.net router.now.node peer in OnOk result (sends.new.items
         ≡ sends.old.items ++ update_to router.now.node event.now.time router.now.state.rib (router.now.state.counters.sent - 1) (hop router.now.net router.now.node k) (row_of router.now.state k) ∷ []) }
+    ensures succeeds { HasRoomFor sends.old 1 → IsOk result }
     ensures err { OnErr result (sends.new.items ≡ sends.old.items) }
 {
     let src = router.node();
