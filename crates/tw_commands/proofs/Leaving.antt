@@ -1,5 +1,5 @@
 -- A program that has its answer leaves what it is to leave.
-use Rattle.std.proofs.Common.{◌≡◌, ℕ, Bool, false, List, Option, Result, Ok, Err, subst, ◌∙◌, inl, inr}
+use Rattle.std.proofs.Common.{◌≡◌, ℕ, Bool, false, List, Option, Result, Ok, Err, refl, subst, ◌∙◌, inl, inr}
 use Rattle.std.specs.Io.KnownBytes.{Appends, Keeps}
 use Rattle.std.specs.String.{string_bytes}
 use Rattle.tw_commands.specs.declared.answer.Answer.{Answer}
@@ -7,10 +7,13 @@ use Rattle.tw_commands.specs.declared.cause.Cause.{Cause}
 use Rattle.tw_commands.specs.declared.cause.Cause.TheVariants.{Memory, CounterFull, Device}
 use Rattle.tw_commands.specs.declared.cause.Status.{Status}
 use Rattle.tw_commands.specs.Answers.{Gives, Leaves, Output}
+use Rattle.tw_commands.specs.Cause.{cause_of}
 use Rattle.tw_commands.specs.Check.{Refuses, for_case, refused}
 use Rattle.tw_commands.specs.Source.{IsCauseOf}
 use Rattle.tw_model.specs.Case.{Case}
 use Rattle.tw_report.specs.Sink.{Begins}
+use Rattle.tw_seq.specs.declared.fault.RunFault.{RunFault}
+use Rattle.tw_seq.specs.declared.fault.RunFault.TheVariants as run
 use Rattle.tw_text.specs.declared.fault.TextFault.{TextFault}
 use Rattle.tw_text.specs.declared.fault.TextFault.TheVariants.{At}
 use Rattle.tw_text.specs.declared.fault.TextFault.TheVariants as text
@@ -48,6 +51,11 @@ gives_weaker (Ok a) output full more f h = h
 gives_weaker (Err Memory) output full more f h = tt
 gives_weaker (Err CounterFull) output full more f h = f h
 gives_weaker (Err Device) output full more f h = h
+
+-- a run that doesn't reach its stop gives no output
+pub gives_fault : (fault : RunFault) (output : Output) (full : Type 0) → (fault ≡ run.CounterFull → full) → Gives (Err (cause_of fault)) output full
+gives_fault run.CounterFull output full f = f refl
+gives_fault run.Memory output full f = tt
 
 -- the refusal of a text is the output for it
 pub gives_refusal : (fault : TextFault) (result : Result Answer Cause) (read : Result Case Spot) (output : Case → Output) (full : Type 0)

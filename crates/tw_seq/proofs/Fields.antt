@@ -1,11 +1,10 @@
 -- The fields of a run on one thread, once the least pending event is handled.
-use Rattle.std.proofs.Common.{◌≡◌, ◌≤◌, ℕ, ◌==◌, Bool, not, List, [], ◌∷◌, ◌++◌, length, reverse, set, get_or, drop, take, ◌+◌, Option, Some, None, OnSome, IfNone, arith, refl, ap, sym, ◌∙◌, subst, if◌then◌else◌}
+use Rattle.std.proofs.Common.{◌≡◌, ◌≤◌, ℕ, ◌==◌, Bool, not, List, [], ◌∷◌, ◌++◌, length, reverse, set, get_or, drop, take, refl, ap, sym, ◌∙◌, subst, if◌then◌else◌}
 use Rattle.tw_event.specs.declared.event.Event.{Event}
 use Rattle.tw_event.specs.Order.{event_before}
 use Rattle.tw_model.specs.Ordered.{insert_all}
 use Rattle.tw_model.specs.Quiet.{last_change}
 use Rattle.tw_model.specs.State.{Router}
-use Rattle.tw_queue.specs.Queue.{Queue}
 use Rattle.tw_seq.specs.declared.one_thread.OneThread.TheInside.{Inside}
 use Rattle.tw_seq.specs.Run.{IsBegun, IsNext, IsNextRun, routers_after, world}
 use Rattle.tw_seq.specs.Thread.{IsThread, run_of}
@@ -23,11 +22,6 @@ take_front (w ∷ ws) ys = ap (λ l. w ∷ l) (take_front ws ys)
 -- a vector with as many other items has these
 pub other_items : {A : Type 0} (n : ℕ) (ws ys : List A) → length ws ≡ n → take n (ws ++ ys) ≡ ws
 other_items n ws ys h = subst (λ k. take k (ws ++ ys) ≡ ws) h (take_front ws ys)
-
--- what takes out an event leaves no less room
-pub room_left : (o : Option Event) (q r : Queue) → OnSome o (r.room ≡ q.room + 1) → IfNone o (r ≡ q) → q.room ≤ r.room
-room_left None q r some none = let k = ap (λ z. z.room) none in omega arith
-room_left (Some e) q r some none = omega arith
 
 module _ (a b : Inside) (e : Event) (old : List Router) where
   -- b has what handling e in a gives

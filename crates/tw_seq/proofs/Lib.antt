@@ -3,4 +3,5 @@ pub mod Handled
 pub mod Homes
 pub mod Next
 pub mod Fields
+pub mod Back
 pub mod Going

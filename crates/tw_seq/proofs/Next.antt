@@ -39,6 +39,12 @@ module _ (run : Run) (routers : List Router) (e : Event) (begun : IsBegun run) (
   next_stuck h =
       (e, next.0, next.1, next.2, subst (λ r. is_full r.net r.node r.state e ≡ true) next_router h)
 
+  -- where the run is stuck, this event is the one that is full
+  pub next_full : IsStuck run → is_full (get_or routers e.dst no_router).net (get_or routers e.dst no_router).node (get_or routers e.dst no_router).state e ≡ true
+  next_full stuck =
+      let same : stuck.0 ≡ e = cc (stuck.2, next.1) in
+      subst (λ r. is_full r.net r.node r.state e ≡ true) (sym next_router) (subst (λ x. is_full run.case.net x.dst (state_after run.case run.events x.dst) x ≡ true) same stuck.4)
+
   -- its sends
   pub next_sends : (effect_at (get_or routers e.dst no_router) e).sends ≡ sends_of run e
   next_sends = ap (λ r. (effect_at r e).sends) next_router
@@ -46,9 +52,6 @@ module _ (run : Run) (routers : List Router) (e : Event) (begun : IsBegun run) (
   pub next_homes : (sends : List Event) (n : ℕ) → sends ≡ (effect_at (get_or routers e.dst no_router) e).sends → n ≡ run.case.net.nodes → AllByRecursion (λ x. x.dst < n) sends
   next_homes sends n is count =
       subst (λ k. AllByRecursion (λ x. x.dst < k) sends) (sym count) (subst (AllByRecursion (λ x. x.dst < run.case.net.nodes)) (sym (is ∙ next_sends)) (sends_home run e next.0 (lawful run.case begun.case) begun next.1 next.2))
-
-  pub next_few : (sends : List Event) → sends ≡ (effect_at (get_or routers e.dst no_router) e).sends → length sends ≤ 64
-  next_few sends is = subst (λ l. length l ≤ 64) (sym (is ∙ next_sends)) ((lawful run.case begun.case).few (state_after run.case run.events e.dst) e)
 
   -- every router afterwards
   pub next_routers : set routers e.dst (after_event (get_or routers e.dst no_router) e) ≡ routers_after run.case (run.events ++ e ∷ [])

@@ -5,7 +5,7 @@ ghost use Rattle.tw_seq.specs.Run.{Continues, IsBegun, IsNext, IsNextRun, IsOver
 
 use crate::fault::RunFault;
 use crate::routers::{opening_routers, router_ends};
-use crate::turn::{handle_at, insert_each, opening_queue};
+use crate::turn::{handle_at, insert_each, make_room, opening_queue, undo_at};
 use smallvec::SmallVec;
 use std::alloc::{AllocError, Global};
 use std::marker::Model;
@@ -60,8 +60,8 @@ impl<'a> OneThread<'a> {
     /// most 1,000,000,000.
     ///
     /// After a fault the events before the refused one stand handled, and nothing else has changed; a
-    /// later call goes on from there. It is `CounterFull` only where handling the least pending event
-    /// would pass a counter's limit.
+    /// later call goes on from there. It is `CounterFull` exactly where handling the least pending event
+    /// would pass a counter's limit, and want of memory else.
     pub fn run_to(&mut self, stop: u64) -> Result<(), RunFault>
         requires { stop ≤ 1000000000 }
         ensures ok { OnOk result (self.new ≡ complete self.old.case (max self.old.stop stop)) }
@@ -70,6 +70,7 @@ impl<'a> OneThread<'a> {
         ensures goes_on { Continues self.old self.new }
         ensures begun { IsBegun self.new }
         ensures full { IsErrOf result RunFault.CounterFull → IsStuck self.new }
+        ensures stuck { IsStuck self.new → IsErrOf result RunFault.CounterFull }
     {
         self.raise_stop(stop);
         while let Some(event) = self.next() {
@@ -181,15 +182,19 @@ impl<'a> OneThread<'a> {
         ensures ok { OnOk result (IsNextRun self.old self.new) }
         ensures err { OnErr result (self.new ≡ self.old) }
         ensures full { IsErrOf result RunFault.CounterFull → IsStuck self.old }
+        ensures stuck { IsStuck self.old → IsErrOf result RunFault.CounterFull }
     {
+        let instance = self.case.instance();
         let mut sends: SmallVec<Event, 8> = SmallVec::new(*self.events.allocator());
-        self.events.reserve(1)?;
-        self.pending.reserve(64)?;
-        let changed = handle_at(self.case.instance(), &mut self.routers, event, &mut sends)?;
+        let note = handle_at(instance, &mut self.routers, event, &mut sends)?;
+        if let Err(error) = make_room(&mut self.events, &mut self.pending, sends.len()) {
+            undo_at(instance, &mut self.routers, event, note, &mut sends);
+            return Err(RunFault::from(error));
+        }
         self.pending.take_least();
         insert_each(&mut self.pending, &sends);
         self.events.push_reserved(*event);
-        if changed {
+        if note.changed {
             self.last_change = event.time;
         }
         Ok(())

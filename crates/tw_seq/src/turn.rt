@@ -1,8 +1,10 @@
-ghost use Rattle.std.specs.Prelude.{◌≡◌, ◌≤◌, ◌<◌, [], ◌++◌, length, slice_index_or, slice_set, IfOk, OnErr, OnOk, IsErrOf, IsTrue, not, ◌==◌};
+ghost use Rattle.std.specs.Prelude.{◌≡◌, ◌≤◌, ◌<◌, [], ◌++◌, length, slice_index_or, slice_set, vec_capacity, vec_len, IfOk, OnErr, OnOk, IsErrOf, IsTrue, not, ◌==◌, ◌↔◌};
 ghost use Rattle.tw_event.specs.Order.{event_before};
 ghost use Rattle.tw_model.specs.Case.{opening_events};
-ghost use Rattle.tw_model.specs.Effect.{fits, is_full};
+ghost use Rattle.tw_model.specs.Effect.{effect, fits, is_full};
 ghost use Rattle.tw_model.specs.Ordered.{insert_all};
+ghost use Rattle.tw_model.specs.State.{State};
+ghost use Rattle.tw_handlers.specs.Record.{IsHandled};
 ghost use Rattle.tw_queue.specs.Queue.{AreFor};
 ghost use Rattle.tw_seq.specs.Turn.{effect_at, after_event, no_router};
 
@@ -10,19 +12,19 @@ use crate::fault::RunFault;
 use smallvec::SmallVec;
 use std::alloc::{AllocError, Global};
 use tw_event::Event;
-use tw_handlers::{Fault, handle};
+use tw_handlers::{Fault, UndoRecord, handle, undo};
 use tw_instance::{Case, Instance};
 use tw_queue::Pending;
 use tw_router::Router;
 
-/// Handles an event at its router, puts what it sends at the end of `sends`, and tells whether the
-/// router's path changed. An error leaves all unchanged.
+/// Handles an event at its router, puts what it sends at the end of `sends`, and answers what undoing it
+/// needs. An error leaves all unchanged.
 pub(crate) fn handle_at(
     instance: &Instance,
     routers: &mut [Router<'_>],
     event: &Event,
     sends: &mut SmallVec<Event, 8>,
-) -> Result<bool, RunFault>
+) -> Result<UndoRecord, RunFault>
     requires within { event.now.dst < length routers.old }
     requires net { (slice_index_or routers.old event.now.dst no_router).net ≡ instance.now }
     requires fits { IsTrue (fits (slice_index_or routers.old event.now.dst no_router).net (slice_index_or routers.old event.now.dst no_router).node event.now) }
@@ -30,20 +32,60 @@ pub(crate) fn handle_at(
         (routers.new ≡ slice_set routers.old event.now.dst (after_event (slice_index_or routers.old event.now.dst no_router) event.now)) }
     ensures sends { OnOk result
         (sends.new.items ≡ sends.old.items ++ (effect_at (slice_index_or routers.old event.now.dst no_router) event.now).sends) }
+    ensures handled { let router = slice_index_or routers.old event.now.dst no_router in IfOk result
+        (λ note. IsHandled router.net router.node router.state event.now note (after_event router event.now).state) }
     ensures changed { IfOk result
-        (λ changed. changed ≡ not ((slice_index_or routers.old event.now.dst no_router).state.rib.0 == (after_event (slice_index_or routers.old event.now.dst no_router) event.now).state.rib.0)) }
+        (λ note. note.changed ≡ not ((slice_index_or routers.old event.now.dst no_router).state.rib.0 == (after_event (slice_index_or routers.old event.now.dst no_router) event.now).state.rib.0)) }
     ensures err { OnErr result (routers.new ≡ routers.old) }
     ensures unsent { OnErr result (sends.new.items ≡ sends.old.items) }
     ensures full { IsErrOf result RunFault.CounterFull
-        → IsTrue (is_full (slice_index_or routers.old event.now.dst no_router).net (slice_index_or routers.old event.now.dst no_router).node (slice_index_or routers.old event.now.dst no_router).state event.now) }
+        ↔ IsTrue (is_full (slice_index_or routers.old event.now.dst no_router).net (slice_index_or routers.old event.now.dst no_router).node (slice_index_or routers.old event.now.dst no_router).state event.now) }
 {
     let router = &mut routers[event.dst as usize];
     match handle(instance, router, event, sends) {
-        Ok(note) => Ok(note.changed),
+        Ok(note) => Ok(note),
         Err(Fault::Foreign) => unreachable!(),
         Err(Fault::CounterFull) => Err(RunFault::CounterFull),
         Err(Fault::Memory) => Err(RunFault::Memory),
     }
+}
+
+/// Takes back the event that its router handled last. This cannot fail: the list that held what the event
+/// sent has room for it again.
+pub(crate) fn undo_at(
+    instance: &Instance,
+    routers: &mut [Router<'_>],
+    event: &Event,
+    note: UndoRecord,
+    sends: &mut SmallVec<Event, 8>,
+)
+    requires within { event.now.dst < length routers.old }
+    requires net { (slice_index_or routers.old event.now.dst no_router).net ≡ instance.now }
+    requires handled { let router = slice_index_or routers.old event.now.dst no_router in (s : State)
+        × IsHandled router.net router.node s event.now note router.state × (length (effect router.net router.node s event.now).sends ≤ sends.old.capacity) }
+    ensures { let router = slice_index_or routers.old event.now.dst no_router in (s : State)
+        → IsHandled router.net router.node s event.now note router.state
+        → routers.new ≡ slice_set routers.old event.now.dst (record router { state = s }) }
+{
+    let router = &mut routers[event.dst as usize];
+    sends.clear();
+    undo(instance, router, event, note, sends).unwrap();
+}
+
+/// Makes room for one more event handled and for `count` more pending.
+pub(crate) fn make_room(
+    events: &mut Vec<Event>,
+    pending: &mut Pending,
+    count: usize,
+) -> Result<(), AllocError>
+    ensures events { events.new.items ≡ events.old.items }
+    ensures place { OnOk result (vec_len events.new < vec_capacity events.new) }
+    ensures routers { pending.new.routers ≡ pending.old.routers }
+    ensures pending { pending.new.events ≡ pending.old.events }
+    ensures room { OnOk result (count ≤ pending.new.room) }
+{
+    events.reserve(1)?;
+    pending.reserve(count)
 }
 
 /// Adds events for which there is room, each in its place.

@@ -1,4 +1,4 @@
-use Rattle.std.proofs.Common.{◌≡◌, ℕ, ◌∷◌, get_or, arith, if◌then◌else◌, [], ◌++◌, drop, refl, ap, sym, ◌∙◌, subst, Err}
+use Rattle.std.proofs.Common.{◌≡◌, ℕ, ◌<◌, ◌∷◌, get_or, set, length, arith, if◌then◌else◌, [], ◌++◌, drop, refl, ap, sym, ◌∙◌, subst, Err}
 use Rattle.std.specs.Vec.{with_items}
 use Rattle.std.proofs.lemmas.Result.{err_from_is_err_and}
 use Rattle.tw_event.specs.Order.{event_before}
@@ -6,11 +6,12 @@ use Rattle.tw_model.specs.Ordered.{insert_all}
 use Rattle.tw_seq.specs.declared.fault.RunFault.TheVariants.{CounterFull}
 use Rattle.tw_seq.specs.Run.{IsNext, IsNextRun, IsStuck}
 use Rattle.tw_seq.specs.Thread.{run_of}
-use Rattle.tw_seq.specs.Turn.{effect_at, no_router}
-use Rattle.tw_seq.proofs.Fields.{IsRenewed, from_empty, other_items, renewed_next, renewed_thread, room_left}
-use Rattle.tw_seq.proofs.Next.{next_few, next_fits, next_homes, next_net, next_stuck, next_within}
+use Rattle.tw_seq.specs.Turn.{after_event, effect_at, no_router}
+use Rattle.tw_seq.proofs.Back.{back_handled, back_net, back_room, back_routers, back_thread}
+use Rattle.tw_seq.proofs.Fields.{IsRenewed, from_empty, other_items, renewed_next, renewed_thread}
+use Rattle.tw_seq.proofs.Next.{next_fits, next_full, next_homes, next_net, next_stuck, next_within}
 use Rattle.tw_seq.proofs.one_thread.OneThread.handle_next.Goals as goal
-use Rattle.tw_seq.proofs.one_thread.OneThread.handle_next.Goals.{After-self, After-deref, After-push_reserved, then-changed, else-changed}
+use Rattle.tw_seq.proofs.one_thread.OneThread.handle_next.Goals.{After-self, After-deref, After-deref_mut-in-Err, After-push_reserved, then-note, else-note}
 
 next : (c : After-self) → IsNext (run_of c.self.inside) c.args.event.now
 next c = subst (λ run. IsNext run c.args.event.now) (sym c.self.view_is) c.requires
@@ -21,74 +22,123 @@ handle_at-requires-clause-within c =
 
 pub handle_at-requires-clause-net : goal.handle_at-requires-clause-net
 handle_at-requires-clause-net c =
-    next_net (run_of c.self.inside) c.deref_mut.result.now c.args.event.now c.self.invariant.begun (c.deref_mut.ensures.value ∙ c.self.invariant.routers) (next (goal.at.handle_at-requires-clause-net c).After-self) ∙ sym c.instance.ensures.value
+    next_net (run_of c.self.inside) c.deref_mut.result.now c.args.event.now c.self.invariant.begun (c.deref_mut.ensures.value ∙ c.self.invariant.routers) (next (goal.at.handle_at-requires-clause-net c).After-self) ∙ sym c.instance-instance.ensures.value
 
 pub handle_at-requires-clause-fits : goal.handle_at-requires-clause-fits
 handle_at-requires-clause-fits c =
     next_fits (run_of c.self.inside) c.deref_mut.result.now c.args.event.now c.self.invariant.begun (c.deref_mut.ensures.value ∙ c.self.invariant.routers) (next (goal.at.handle_at-requires-clause-fits c).After-self) c.self.invariant.stop
 
-pub returns-in_err-changed-clause-full : goal.returns-in_err-changed-clause-full
-returns-in_err-changed-clause-full c = λ h.
-    let p = err_from_is_err_and c.from_residual-in_err-changed.result c.from_residual-in_err-changed.ensures.1 in
+pub returns-in_err-note-clause-full : goal.returns-in_err-note-clause-full
+returns-in_err-note-clause-full c = λ h.
+    let p = err_from_is_err_and c.from_residual.result c.from_residual.ensures.1 in
     let is_full : p.0 ≡ CounterFull = cc (p.1, h) in
-    let full = c.in_err-changed.ensures.full (ap (λ x. Err x) (sym p.2 ∙ is_full)) in
-    subst IsStuck c.self.view_is (next_stuck (run_of c.self.inside) c.deref_mut.result.now c.args.event.now c.self.invariant.begun (c.deref_mut.ensures.value ∙ c.self.invariant.routers)
-    (next (goal.at.returns-in_err-changed-clause-full c).After-self) full)
+    let full = c.in_err-note.ensures.full.0 (ap (λ x. Err x) (sym p.2 ∙ is_full)) in
+    subst IsStuck c.self.view_is (next_stuck (run_of c.self.inside) c.deref_mut.result.now c.args.event.now c.self.invariant.begun (c.deref_mut.ensures.value ∙ c.self.invariant.routers) (next (goal.at.returns-in_err-note-clause-full c).After-self) full)
+
+pub returns-in_err-note-clause-stuck : goal.returns-in_err-note-clause-stuck
+returns-in_err-note-clause-stuck c = λ stuck.
+    let p = err_from_is_err_and c.from_residual.result c.from_residual.ensures.1 in
+    let full = next_full (run_of c.self.inside) c.deref_mut.result.now c.args.event.now c.self.invariant.begun (c.deref_mut.ensures.value ∙ c.self.invariant.routers) (next (goal.at.returns-in_err-note-clause-stuck c).After-self) (subst IsStuck (sym c.self.view_is) stuck) in
+    let told = c.in_err-note.ensures.full.1 full in
+    let is_full : p.0 ≡ CounterFull = cc (p.2, told) in p.1 ∙ ap (λ x. Err x) is_full
+
+-- the event's router is one of them
+within : (c : After-deref_mut-in-Err) → c.args.event.now.dst < length c.deref_mut.result.now
+within c =
+    next_within (run_of c.self.inside) c.deref_mut.result.now c.args.event.now c.self.invariant.begun (c.deref_mut.ensures.value ∙ c.self.invariant.routers)
+    (subst (λ run. IsNext run c.args.event.now) (sym c.self.view_is) c.requires)
+
+-- the routers once the event is handled
+now_are : (c : After-deref_mut-in-Err) → c.deref_mut-in-Err.result.now ≡ set c.deref_mut.result.now c.args.event.now.dst (after_event (get_or c.deref_mut.result.now c.args.event.now.dst no_router) c.args.event.now)
+now_are c =
+    c.deref_mut-in-Err.ensures.value
+    ∙ (other_items c.self.inside.routers.len c.handle_at.new.routers _ (c.handle_at.auto.routers ∙ c.deref_mut.ensures.len) ∙ c.in_ok-note.ensures.routers)
+
+pub undo_at-requires-clause-within : goal.undo_at-requires-clause-within
+undo_at-requires-clause-within c =
+    let d = (goal.at.undo_at-requires-clause-within c).After-deref_mut-in-Err in
+    let first = within d in
+    let same = c.deref_mut-in-Err.ensures.len ∙ sym c.deref_mut.ensures.len in omega arith
+
+pub undo_at-requires-clause-net : goal.undo_at-requires-clause-net
+undo_at-requires-clause-net c =
+    let d = (goal.at.undo_at-requires-clause-net c).After-deref_mut-in-Err in
+    back_net c.deref_mut.result.now c.deref_mut-in-Err.result.now c.args.event.now (within d) (now_are d) ∙ (next_net (run_of c.self.inside) c.deref_mut.result.now c.args.event.now c.self.invariant.begun (c.deref_mut.ensures.value ∙ c.self.invariant.routers) (next (goal.at.undo_at-requires-clause-net c).After-self) ∙ sym c.instance-instance.ensures.value)
+
+pub undo_at-requires-clause-handled : goal.undo_at-requires-clause-handled
+undo_at-requires-clause-handled c =
+    let d = (goal.at.undo_at-requires-clause-handled c).After-deref_mut-in-Err in (
+      (get_or c.deref_mut.result.now c.args.event.now.dst no_router).state,
+      back_handled c.deref_mut.result.now c.deref_mut-in-Err.result.now c.args.event.now (within d) (now_are d) c.in_ok-note.note c.in_ok-note.ensures.handled,
+      back_room c.deref_mut.result.now c.deref_mut-in-Err.result.now c.args.event.now (within d) (now_are d) c.handle_at.new.sends.items _ c.len.result c.handle_at.new.sends.capacity c.in_ok-note.ensures.sends c.new-sends.ensures.items c.len.ensures.value c.len.ensures.fits,
+    )
+
+pub invariant_of-self-in-Err : goal.invariant_of-self-in-Err
+invariant_of-self-in-Err c =
+    let d = (goal.at.invariant_of-self-in-Err c).After-deref_mut-in-Err in
+    let handled = back_handled c.deref_mut.result.now c.deref_mut-in-Err.result.now c.args.event.now (within d) (now_are d) c.in_ok-note.note c.in_ok-note.ensures.handled in
+    let routers =
+    other_items c.self.inside.routers.len c.undo_at.new.routers _ (c.undo_at.auto.routers ∙ (c.deref_mut-in-Err.ensures.len))
+    ∙ (c.undo_at.ensures (get_or c.deref_mut.result.now c.args.event.now.dst no_router).state handled
+    ∙ (back_routers c.deref_mut.result.now c.deref_mut-in-Err.result.now c.args.event.now (within d) (now_are d) ∙ c.deref_mut.ensures.value)) in
+    back_thread c.self.inside _ c.self.invariant refl refl routers c.make_room.ensures.routers c.make_room.ensures.pending c.make_room.ensures.events refl
+
+pub returns-in-Err-clause-stuck : goal.returns-in-Err-clause-stuck
+returns-in-Err-clause-stuck c = λ stuck.
+    let full = next_full (run_of c.self.inside) c.deref_mut.result.now c.args.event.now c.self.invariant.begun (c.deref_mut.ensures.value ∙ c.self.invariant.routers) (next (goal.at.returns-in-Err-clause-stuck c).After-self) (subst IsStuck (sym c.self.view_is) stuck) in
+    absurd (cc (c.in_ok-note.ensures.full.1 full))
 
 sends_are : (c : After-deref) → c.deref.result.now ≡ (effect_at (get_or c.deref_mut.result.now c.args.event.now.dst no_router) c.args.event.now).sends
-sends_are c = c.deref.ensures ∙ from_empty _ _ _ c.in_ok-changed.ensures.sends c.new-sends.ensures.items
+sends_are c = c.deref.ensures ∙ from_empty _ _ _ c.in_ok-note.ensures.sends c.new-sends.ensures.items
 
 pub insert_each-requires-clause-homes : goal.insert_each-requires-clause-homes
 insert_each-requires-clause-homes c =
     next_homes (run_of c.self.inside) c.deref_mut.result.now c.args.event.now c.self.invariant.begun (c.deref_mut.ensures.value ∙ c.self.invariant.routers)
     (next (goal.at.insert_each-requires-clause-homes c).After-self) c.deref.result.now c.take_least.new.self.routers
     (sends_are c)
-    (c.take_least.ensures.routers ∙ (c.reserve-2.ensures.routers ∙ c.self.invariant.homes))
+    (c.take_least.ensures.routers ∙ (c.make_room.ensures.routers ∙ c.self.invariant.homes))
 
-pub insert_each-requires-clause-room : goal.insert_each-requires-clause-room
-insert_each-requires-clause-room c =
-    let few = next_few (run_of c.self.inside) c.deref_mut.result.now c.args.event.now c.self.invariant.begun (c.deref_mut.ensures.value ∙ c.self.invariant.routers)
-    (next (goal.at.insert_each-requires-clause-room c).After-self) c.deref.result.now (sends_are c) in
-    let left = room_left c.take_least.result c.reserve-2.new.self c.take_least.new.self c.take_least.ensures.room c.take_least.ensures.none in
-    let room = c.in_ok-reserve-2.ensures.ok in
-    omega arith
-
-renewed : (c : After-push_reserved) (t : ℕ) → t ≡ (if c.in_ok-changed.changed then c.args.event.now.time else c.self.inside.last_change)
-    → IsRenewed c.self.inside (record { case = c.self.inside.case; stop = c.self.inside.stop; routers = with_items c.self.inside.routers c.handle_at.new.routers; pending = c.insert_each.new.pending; events = c.push_reserved.new.self; last_change = t }) c.args.event.now c.deref_mut.result.now c.in_ok-changed.changed
+renewed : (c : After-push_reserved) (t : ℕ) → t ≡ (if c.in_ok-note.note.changed then c.args.event.now.time else c.self.inside.last_change)
+    → IsRenewed c.self.inside (record { case = c.self.inside.case; stop = c.self.inside.stop; routers = with_items c.self.inside.routers c.handle_at.new.routers; pending = c.insert_each.new.pending; events = c.push_reserved.new.self; last_change = t }) c.args.event.now c.deref_mut.result.now c.in_ok-note.note.changed
 renewed c t is = record {
   case = refl;
   stop = refl;
-  routers = other_items c.self.inside.routers.len c.handle_at.new.routers _ (c.handle_at.auto.routers ∙ c.deref_mut.ensures.len) ∙ c.in_ok-changed.ensures.routers;
-  homes = c.insert_each.ensures.routers ∙ (c.take_least.ensures.routers ∙ c.reserve-2.ensures.routers);
+  routers = other_items c.self.inside.routers.len c.handle_at.new.routers _ (c.handle_at.auto.routers ∙ c.deref_mut.ensures.len) ∙ c.in_ok-note.ensures.routers;
+  homes = c.insert_each.ensures.routers ∙ (c.take_least.ensures.routers ∙ c.make_room.ensures.routers);
   pending =
       c.insert_each.ensures.events
-      ∙ (ap (λ xs. insert_all event_before xs c.take_least.new.self.events) (c.deref.ensures ∙ from_empty _ _ _ c.in_ok-changed.ensures.sends c.new-sends.ensures.items)
-      ∙ ap (λ xs. insert_all event_before (effect_at (get_or c.deref_mut.result.now c.args.event.now.dst no_router) c.args.event.now).sends xs) (c.take_least.ensures.events ∙ ap (drop 1) c.reserve-2.ensures.events));
-  events = c.push_reserved.ensures.items ∙ ap (λ xs. xs ++ c.args.event.now ∷ []) c.reserve.ensures.items;
-  is_change = c.in_ok-changed.ensures.changed;
+      ∙ (ap (λ xs. insert_all event_before xs c.take_least.new.self.events) (c.deref.ensures ∙ from_empty _ _ _ c.in_ok-note.ensures.sends c.new-sends.ensures.items)
+      ∙ ap (λ xs. insert_all event_before (effect_at (get_or c.deref_mut.result.now c.args.event.now.dst no_router) c.args.event.now).sends xs) (c.take_least.ensures.events ∙ ap (drop 1) c.make_room.ensures.pending));
+  events = c.push_reserved.ensures.items ∙ ap (λ xs. xs ++ c.args.event.now ∷ []) c.make_room.ensures.events;
+  is_change = c.in_ok-note.ensures.changed;
   change = is;
 }
 
-pub invariant_of-self-then-changed : goal.invariant_of-self-then-changed
-invariant_of-self-then-changed c =
-    let d = (goal.at.invariant_of-self-then-changed c).After-push_reserved in
-    renewed_thread c.self.inside _ c.args.event.now c.deref_mut.result.now c.self.invariant (next (goal.at.invariant_of-self-then-changed c).After-self) c.deref_mut.ensures.value c.in_ok-changed.changed (renewed d c.args.event.now.time (rw c.if-changed.true))
+pub invariant_of-self-then-note : goal.invariant_of-self-then-note
+invariant_of-self-then-note c =
+    let d = (goal.at.invariant_of-self-then-note c).After-push_reserved in
+    renewed_thread c.self.inside _ c.args.event.now c.deref_mut.result.now c.self.invariant (next (goal.at.invariant_of-self-then-note c).After-self) c.deref_mut.ensures.value c.in_ok-note.note.changed (renewed d c.args.event.now.time (rw c.if-note.true))
 
-pub invariant_of-self-else-changed : goal.invariant_of-self-else-changed
-invariant_of-self-else-changed c =
-    let d = (goal.at.invariant_of-self-else-changed c).After-push_reserved in
-    renewed_thread c.self.inside _ c.args.event.now c.deref_mut.result.now c.self.invariant (next (goal.at.invariant_of-self-else-changed c).After-self) c.deref_mut.ensures.value c.in_ok-changed.changed (renewed d c.self.inside.last_change (rw c.if-changed.false))
+pub invariant_of-self-else-note : goal.invariant_of-self-else-note
+invariant_of-self-else-note c =
+    let d = (goal.at.invariant_of-self-else-note c).After-push_reserved in
+    renewed_thread c.self.inside _ c.args.event.now c.deref_mut.result.now c.self.invariant (next (goal.at.invariant_of-self-else-note c).After-self) c.deref_mut.ensures.value c.in_ok-note.note.changed (renewed d c.self.inside.last_change (rw c.if-note.false))
 
 pub returns-clause-ok : goal.returns-clause-ok
 returns-clause-ok c =
     let d = (goal.at.returns-clause-ok c).After-push_reserved in
     let first = next (goal.at.returns-clause-ok c).After-self in
     let a = c.self.inside in
-    elim c.if-changed.branch [
-      | then-changed w ↦
-          subst (λ run. IsNextRun run c.if-changed.self) c.self.view_is (subst (λ run. IsNextRun (run_of a) run) (sym w.self-is)
-          (renewed_next a _ c.args.event.now c.deref_mut.result.now c.self.invariant first c.deref_mut.ensures.value c.in_ok-changed.changed (renewed d c.args.event.now.time (rw w.if-changed.true))))
-      | else-changed w ↦
-          subst (λ run. IsNextRun run c.if-changed.self) c.self.view_is (subst (λ run. IsNextRun (run_of a) run) (sym w.self-is)
-          (renewed_next a _ c.args.event.now c.deref_mut.result.now c.self.invariant first c.deref_mut.ensures.value c.in_ok-changed.changed (renewed d a.last_change (rw w.if-changed.false))))
+    elim c.if-note.branch [
+      | then-note w ↦
+          subst (λ run. IsNextRun run c.if-note.self) c.self.view_is (subst (λ run. IsNextRun (run_of a) run) (sym w.self-is)
+          (renewed_next a _ c.args.event.now c.deref_mut.result.now c.self.invariant first c.deref_mut.ensures.value c.in_ok-note.note.changed (renewed d c.args.event.now.time (rw w.if-note.true))))
+      | else-note w ↦
+          subst (λ run. IsNextRun run c.if-note.self) c.self.view_is (subst (λ run. IsNextRun (run_of a) run) (sym w.self-is)
+          (renewed_next a _ c.args.event.now c.deref_mut.result.now c.self.invariant first c.deref_mut.ensures.value c.in_ok-note.note.changed (renewed d a.last_change (rw w.if-note.false))))
     ]
+
+pub returns-clause-stuck : goal.returns-clause-stuck
+returns-clause-stuck c = λ stuck.
+    let full = next_full (run_of c.self.inside) c.deref_mut.result.now c.args.event.now c.self.invariant.begun (c.deref_mut.ensures.value ∙ c.self.invariant.routers) (next (goal.at.returns-clause-stuck c).After-self) (subst IsStuck (sym c.self.view_is) stuck) in
+    absurd (cc (c.in_ok-note.ensures.full.1 full))
