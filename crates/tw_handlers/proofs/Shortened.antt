@@ -1,6 +1,6 @@
 -- A trail of which the last events are undone one by one.
 use Rattle.std.proofs.Common.{◌≡◌, ℕ, ◌-◌, ◌<◌, ◌≤◌, List, [], ◌++◌, append-nil, append_assoc, length, drop, take, min, reverse, sym, ap, ◌∙◌, subst, arith}
-use Rattle.std.proofs.lemmas.List.{drop_all, drop_min, length-take-le, take-take, take_all, take_min}
+use Rattle.std.proofs.lemmas.List.{drop_all, drop_min, length-take-le, take-take, take_all}
 use Rattle.std.specs.List.{flat_map}
 use Rattle.tw_event.specs.declared.event.Event.{Event}
 use Rattle.tw_model.specs.History.{sends_of, undone}
@@ -58,12 +58,6 @@ left-is : (t u : History) (old now : List Event) (len : ℕ) → IsShortened t u
 left-is t u old now len h all = let a = h.above in let b = h.within in omega arith
 
 -- where no more than len remain
-pub shortened-same : (t u : History) (old now : List Event) (len : ℕ) → IsShortened t u old now len → length u.events ≤ len
-    → u ≡ record t { events = take len t.events }
-shortened-same t u old now len h all =
-    h.same ∙ (ap (λ k. record t { events = take k t.events }) (left-is t u old now len h all)
-    ∙ ap (λ (events : List Event). record t { events = events }) (take_min len t.events))
-
 pub shortened-sends : (t u : History) (old now : List Event) (len : ℕ) → IsShortened t u old now len → length u.events ≤ len
     → now ≡ old ++ undone t.opening.net t.opening.node t.opening.state t.events len
 shortened-sends t u old now len h all =
