@@ -184,6 +184,7 @@ fn an_update_of_another_session_is_dropped(rt: HostRuntime) {
     let counters = router.counters();
     assert!(rt; counters.handled == 1 && counters.dropped == 1 && counters.sent == 0);
     assert!(rt; router.rib() == PathNo(0) && sends.is_empty());
+    assert!(rt; matches!(router.rows().first(), Some(row) if row.heard == PathNo(0)));
     assert!(rt; undo(instance, &mut router, &event, note, &mut sends).is_ok());
     assert!(rt; router.counters() == NO_COUNTS && sends.is_empty());
 }

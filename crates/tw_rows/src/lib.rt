@@ -11,10 +11,14 @@ mod devices;
 #[cfg(test)]
 mod handlers;
 #[cfg(test)]
+mod instances;
+#[cfg(test)]
 mod pending;
 #[cfg(test)]
 mod programs;
 #[cfg(test)]
 mod refusals;
+#[cfg(test)]
+mod runs;
 #[cfg(test)]
 mod texts;

@@ -1,0 +1,120 @@
+//! Instances and cases by calls, from items in place of a text.
+
+use crate::texts::DISAGREE;
+use std::alloc::{AllocError, Global};
+use tw_event::{Body, Event, PathNo};
+use tw_instance::{At, Case, Instance, Link, PathLine, Place, Rule, Scene};
+use tw_text::write_case;
+
+/// A link between two routers, with its delay.
+fn link(first: u32, second: u32, delay: u64) -> Link {
+    Link {
+        first,
+        second,
+        delay,
+    }
+}
+
+/// The permitted paths of DISAGREE.
+fn paths(alloc: Global) -> Result<Vec<PathLine>, AllocError> {
+    let nodes: [&[u32]; 4] = [&[1, 2, 0], &[1, 0], &[2, 1, 0], &[2, 0]];
+    let mut paths = Vec::new(alloc);
+    for nodes in nodes {
+        paths.push(PathLine {
+            owner: nodes[0],
+            nodes: Vec::from_slice(alloc, nodes)?,
+        })?;
+    }
+    Ok(paths)
+}
+
+/// The links of DISAGREE.
+fn links() -> [Link; 3] {
+    [link(0, 1, 1), link(0, 2, 5), link(1, 2, 1)]
+}
+
+/// DISAGREE with these links and this scenario.
+fn built(alloc: Global, links: &[Link], scenes: &[Scene]) -> Result<Case, At> {
+    let links = Vec::from_slice(alloc, links)?;
+    let instance = Instance::build(alloc, 3, links, paths(alloc)?)?;
+    Case::build(alloc, instance, Vec::from_slice(alloc, scenes)?)
+}
+
+/// The same, built once more where memory was refused.
+fn build(alloc: Global, links: &[Link], scenes: &[Scene]) -> Result<Case, At> {
+    match built(alloc, links, scenes) {
+        Err(At::Memory) => built(alloc, links, scenes),
+        answer => answer,
+    }
+}
+
+#[test]
+fn a_case_from_items_is_that_of_the_text(rt: HostRuntime) {
+    let alloc = rt.alloc();
+    let Ok(case) = build(alloc, &links(), &[]) else {
+        panic!(rt; "the case is refused")
+    };
+    let Ok(text) = write_case(alloc, &case).or_else(|_| write_case(alloc, &case)) else {
+        panic!(rt; "no memory")
+    };
+    assert!(rt; text.as_slice() == DISAGREE.as_bytes());
+    let start = Event {
+        time: 0,
+        dst: 0,
+        src: 0,
+        seq: 0,
+        body: Body::Start,
+    };
+    assert!(rt; case.opening(0) == Some(start) && case.opening(1) == None);
+}
+
+#[test]
+fn paths_are_found_by_their_nodes_and_by_what_they_extend(rt: HostRuntime) {
+    let alloc = rt.alloc();
+    let Ok(case) = build(alloc, &links(), &[]) else {
+        panic!(rt; "the case is refused")
+    };
+    let instance = case.instance();
+    assert!(rt; instance.nodes() == 3);
+    assert!(rt;
+        instance.number(&[]) == Some(PathNo(0)) && instance.number(&[0]) == Some(PathNo(1))
+    );
+    assert!(rt; instance.number(&[2, 1, 0]) == Some(PathNo(4)) && instance.number(&[1, 2]) == None);
+    assert!(rt; instance.slot(2, 2) == None);
+    let (Some(slot), Some(direct)) = (instance.slot(2, 0), instance.number(&[0])) else {
+        panic!(rt; "not found")
+    };
+    assert!(rt; slot == 0 && instance.delay(2, slot) == 5);
+    assert!(rt; instance.extend(2, slot, direct) == Some(PathNo(5)));
+    assert!(rt; instance.path(direct) == [0].as_slice());
+}
+
+/// Where and why the items are refused.
+fn refused(alloc: Global, links: &[Link], scenes: &[Scene]) -> Option<(Place, Rule)> {
+    match build(alloc, links, scenes) {
+        Err(At::Fault { place, rule }) => Some((place, rule)),
+        _ => None,
+    }
+}
+
+#[test]
+fn the_first_bad_item_is_named(rt: HostRuntime) {
+    let alloc = rt.alloc();
+    let looped = [link(0, 1, 1), link(1, 1, 0)];
+    assert!(rt; refused(alloc, &looped, &[]) == Some((Place::Link(2), Rule::SelfLink)));
+    let two = [link(0, 1, 1), link(1, 2, 1)];
+    assert!(rt; refused(alloc, &two, &[]) == Some((Place::Path(1), Rule::PathNoLink)));
+    let failure = Scene::Fail {
+        time: 4,
+        first: 0,
+        second: 2,
+    };
+    let exchange = Scene::Swap {
+        time: 4,
+        node: 2,
+        first: 1,
+        second: 3,
+    };
+    let scenes = [failure, exchange];
+    assert!(rt; refused(alloc, &links(), &scenes) == Some((Place::Scene(2), Rule::NoSuchPlace)));
+}
