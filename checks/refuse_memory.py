@@ -123,6 +123,9 @@ def refuse_in_program(made, folder):
 
 
 def main():
+    for built, words in (TESTS, "rt test in crates/tw_rows"), (PROGRAM, "rt run in crates/twarp"):
+        if not built.exists():
+            sys.exit(f"{built} is not there: it is made by {words}")
     with tempfile.TemporaryDirectory() as name:
         folder = pathlib.Path(name)
         made = library(folder)
