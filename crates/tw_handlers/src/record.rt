@@ -21,9 +21,10 @@ pub struct UndoRecord {
 }
 
 impl UndoRecord {
-    /// How many bytes a record takes: at most 16.
+    /// How many bytes a record takes: 12, and so at most 16.
     pub fn size() -> usize
-        ensures { result ≤ 16 }
+        ensures value { result ≡ 12 }
+        ensures most { result ≤ 16 }
     {
         SIZE
     }

@@ -28,7 +28,8 @@ fn update(time: u64, src: u32, seq: u64, path: u32, session: u64) -> Event {
     }
 }
 
-fn case(alloc: Global, text: &str) -> Result<Case, TextFault> {
+/// The case of a text, which is read once more where memory was refused.
+pub(crate) fn case(alloc: Global, text: &str) -> Result<Case, TextFault> {
     match read_case(alloc, text.as_bytes()) {
         Err(TextFault::Memory) => read_case(alloc, text.as_bytes()),
         answer => answer,

@@ -1,7 +1,8 @@
 //! Worked rows as tests: cases small enough to follow by hand, with what each call must answer.
 //!
 //! Each test tries a call once more where memory was refused, so that the tests also pass where any one
-//! allocation is refused, as `rt try --test --fail-alloc N` does with the N-th.
+//! allocation is refused, as `checks/refuse_memory.py` does with each, and `rt try --test --fail-alloc N`
+//! with the N-th.
 #![tactic(auto)]
 
 #[cfg(test)]

@@ -6,21 +6,14 @@ ghost use Rattle.tw_model.specs.Summary.{summary_of};
 ghost use Rattle.tw_report.specs.Report.{HasPaths};
 
 use crate::devices::{AMPLE, Page};
+use crate::handlers::case;
 use crate::texts::{ALONE, ALONE_LOG, DISAGREE};
 use std::alloc::{AllocError, Global};
 use tw_event::{Body, Event, PathNo};
-use tw_instance::{Case, Instance};
+use tw_instance::Instance;
 use tw_model::{Counters, Outcome, RouterEnd};
 use tw_report::{ReportError, Verdict, write_report};
 use tw_seq::OneThread;
-use tw_text::{TextFault, read_case};
-
-fn case(alloc: Global, text: &str) -> Result<Case, TextFault> {
-    match read_case(alloc, text.as_bytes()) {
-        Err(TextFault::Memory) => read_case(alloc, text.as_bytes()),
-        answer => answer,
-    }
-}
 
 /// Runs to the stop, once more where memory was refused.
 fn run_to(run: &mut OneThread<'_>, stop: u64) -> bool
