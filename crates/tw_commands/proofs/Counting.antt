@@ -5,10 +5,11 @@ use Rattle.std.proofs.lemmas.Bool.Decides.{nat_tests}
 use Rattle.tw_event.specs.declared.event.Body.{Body}
 use Rattle.tw_event.specs.declared.event.Body.TheVariants.{Start, Fail, Restore, Swap, Update}
 use Rattle.tw_event.specs.declared.event.Event.{Event}
+use Rattle.tw_model.specs.declared.limits.TheConstants.{MOST_COUNTED}
 use Rattle.tw_model.specs.declared.state.Counters.{Counters}
 use Rattle.tw_model.specs.Net.{Net}
-use Rattle.tw_model.specs.State.{IsCounted, State, best, limit, row, slot}
-use Rattle.tw_model.specs.Effect.{accepts, acts, effect, failing, hearing, is_full, settle, swapping}
+use Rattle.tw_model.specs.State.{IsCounted, State, best, row, slot}
+use Rattle.tw_model.specs.Effect.{accepts, acts, effect, with_failed_link, with_heard, is_full, settle, with_swap}
 use Rattle.tw_model.specs.History.{state_after}
 
 -- what an event does to the counters, the one of events handled aside
@@ -27,7 +28,7 @@ rises_acts : (net : Net) (v : ℕ) (s : State) (e : Event) (b : Body) → Rises 
 rises_acts net v s e Start = rises_settle net v e.time s
 rises_acts net v s e (Fail w) =
     elim (cases_Bool (row s (slot net v w)).up) [
-      | inl c ↦ rw c (let r = rises_settle net v e.time (failing s (slot net v w)) in record { sent = r.sent; handled = r.handled })
+      | inl c ↦ rw c (let r = rises_settle net v e.time (with_failed_link s (slot net v w)) in record { sent = r.sent; handled = r.handled })
       | inr c ↦ rw c (record { sent = omega arith; handled = refl })
     ]
 rises_acts net v s e (Restore w) =
@@ -35,10 +36,10 @@ rises_acts net v s e (Restore w) =
       | inl c ↦ rw c (record { sent = omega arith; handled = refl })
       | inr c ↦ rw c (record { sent = omega arith; handled = refl })
     ]
-rises_acts net v s e (Swap i j) = let r = rises_settle net v e.time (swapping s i j) in record { sent = r.sent; handled = r.handled }
+rises_acts net v s e (Swap i j) = let r = rises_settle net v e.time (with_swap s i j) in record { sent = r.sent; handled = r.handled }
 rises_acts net v s e (Update q n) =
     elim (cases_Bool (accepts s (slot net v e.src) n)) [
-      | inl c ↦ rw c (let r = rises_settle net v e.time (hearing s (slot net v e.src) q) in record { sent = r.sent; handled = r.handled })
+      | inl c ↦ rw c (let r = rises_settle net v e.time (with_heard s (slot net v e.src) q) in record { sent = r.sent; handled = r.handled })
       | inr c ↦ rw c (record { sent = omega arith; handled = refl })
     ]
 
@@ -59,8 +60,8 @@ not_full : (net : Net) (v : ℕ) (s : State) (e : Event) (events : List Event) �
 not_full net v s e events within =
     let one = rises_acts net v s e e.body in
     let more = grows net v (effect net v s e).state events in
-    let sent : (effect net v s e).state.counters.sent ≤ limit = omega (arith, more.sent, within.sent) in
-    let handled : s.counters.handled < limit = omega (arith, one.handled, more.handled, within.handled) in
+    let sent : (effect net v s e).state.counters.sent ≤ MOST_COUNTED = omega (arith, more.sent, within.sent) in
+    let handled : s.counters.handled < MOST_COUNTED = omega (arith, one.handled, more.handled, within.handled) in
     grind (arith, nat_tests)
 
 -- no event that was handled on the way was

@@ -13,13 +13,13 @@ use Rattle.tw_model.specs.Case.{Case, IsCase, simulation}
 use Rattle.tw_model.specs.Effect.{effect, fits, suits}
 use Rattle.tw_model.specs.History.{state_after}
 use Rattle.tw_model.specs.Net.{Net}
-use Rattle.tw_model.specs.Seq.{log}
-use Rattle.tw_model.specs.Sim.{only, state, times}
+use Rattle.tw_sim.specs.Seq.{log}
+use Rattle.tw_sim.specs.Simulation.{only, state, times}
 use Rattle.tw_model.specs.State.{IsCounted, IsState, Router, opening}
-use Rattle.tw_model.proofs.Closed.{running_seq}
-use Rattle.tw_model.proofs.Counts.{times-reverse}
+use Rattle.tw_sim.proofs.Closed.{running_seq}
+use Rattle.tw_sim.proofs.Counts.{times-reverse}
 use Rattle.tw_model.proofs.Lawful.{lawful, numbered}
-use Rattle.tw_model.proofs.Members.{In, all_from_in, in_filter, times_in}
+use Rattle.tw_sim.proofs.Members.{In, all_from_in, in_filter, times_in}
 use Rattle.tw_seq.specs.Run.{complete, router_after}
 
 module _ (case : Case) (is : IsCase case) where

@@ -9,19 +9,19 @@ use Rattle.tw_event.proofs.Order.{same_self}
 use Rattle.tw_model.specs.Net.{Net, IsPath, is_permitted}
 use Rattle.tw_model.specs.Effect.{body_suits, suits}
 use Rattle.tw_model.specs.State.{has_peer}
-use Rattle.tw_model.specs.Sim.{only, state, times}
-use Rattle.tw_model.specs.Seq.{begin, finished, log, weight}
+use Rattle.tw_sim.specs.Simulation.{only, state, times}
+use Rattle.tw_sim.specs.Seq.{begin, finished, log, weight}
 use Rattle.tw_model.specs.Case.{Case, IsCase, simulation}
-use Rattle.tw_model.proofs.Counts.{times-reverse}
+use Rattle.tw_sim.proofs.Counts.{times-reverse}
 use Rattle.tw_model.proofs.Lawful.{lawful}
-use Rattle.tw_model.proofs.Members.{In, all_from_in, in_filter, in_map, times_in}
+use Rattle.tw_sim.proofs.Members.{In, all_from_in, in_filter, in_map, times_in}
 use Rattle.tw_model.proofs.Paths.{permitted_is_path}
-use Rattle.tw_model.proofs.Rising.{suit-begin, suit-turns}
+use Rattle.tw_sim.proofs.Rising.{suit-begin, suit-turns}
 use Rattle.tw_model.proofs.Suits.{own_state}
 use Rattle.tw_report.specs.Lines.{NamesPath}
 use Rattle.tw_report.specs.Report.{HasPaths}
 use Rattle.tw_seq.specs.Outcome.{end_of, outcome_of}
-use Rattle.tw_seq.specs.Run.{complete, state_after}
+use Rattle.tw_seq.specs.Run.{complete, state_in}
 
 pub names_path : (net : Net) (v : ℕ) (e : Event) (b : Body) → body_suits net v e b ≡ true → NamesPath net b
 names_path net v e Start h = tt
@@ -58,6 +58,6 @@ module _ (case : Case) (is : IsCase case) where
   has_paths t = record {
     events = events_name_paths t;
     routers = all_from_in (λ r. IsPath case.net r.rib) (outcome_of (complete case t)).routers (λ r there.
-        let of = in_map (λ v. end_of (state_after case (complete case t).events v)) r (range_with_len 0 case.net.nodes) there in
+        let of = in_map (λ v. end_of (state_in case (complete case t).events v)) r (range_with_len 0 case.net.nodes) there in
         subst (λ x. IsPath case.net x.rib) (sym of.1) (rib_is_path of.0 (reverse (complete case t).events)));
   }

@@ -14,7 +14,7 @@ use Rattle.tw_model.specs.Net.{Net}
 use Rattle.tw_model.specs.State.{IsCounted, Router, State, opening}
 use Rattle.tw_model.specs.Effect.{effect, fits, is_full}
 use Rattle.tw_model.specs.History.{state_after, undone}
-use Rattle.tw_model.proofs.Members.{In, all_from_in, in_from_all, in_right}
+use Rattle.tw_sim.proofs.Members.{In, all_from_in, in_from_all, in_right}
 use Rattle.tw_model.proofs.Paths.{permitted_is_path}
 use Rattle.tw_model.proofs.Suits.{IsOwnState, body_suits-fits, own_effect, to_effect}
 use Rattle.tw_report.proofs.Pieces.{four_pieces}

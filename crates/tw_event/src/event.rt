@@ -13,6 +13,14 @@ use std::cmp::Ordering;
 #[derive(Clone, Copy, PartialEq, Eq, PartialOrd, Ord, Hash, Debug)]
 pub struct PathNo(pub u32);
 
+impl PathNo {
+    /// The empty path: no way to the origin.
+    pub const EMPTY: PathNo = PathNo(0);
+
+    /// The origin's own path, (0).
+    pub const ORIGIN: PathNo = PathNo(1);
+}
+
 /// What an event does at its router.
 #[derive(Clone, Copy, Default, PartialEq, Eq, PartialOrd, Ord, Hash, Debug)]
 pub enum Body {

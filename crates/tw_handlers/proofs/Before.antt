@@ -10,7 +10,7 @@ use Rattle.tw_model.specs.declared.state.Row.{Row}
 use Rattle.tw_model.specs.Net.{Net, empty_path, is_permitted, paths_of}
 use Rattle.tw_model.specs.Rules.{has_place}
 use Rattle.tw_model.specs.State.{IsState, State, best, has_peer, hop, row, slot}
-use Rattle.tw_model.specs.Effect.{accepts, acts, body_suits, counted, effect, failing, fits, hearing, restoring, settle, swapping, update_to, updates, ups}
+use Rattle.tw_model.specs.Effect.{accepts, acts, body_suits, with_handled, effect, with_failed_link, fits, with_heard, with_repaired_link, settle, with_swap, update_to, updates, ups}
 use Rattle.tw_handlers.specs.declared.record.UndoRecord.{UndoRecord}
 use Rattle.tw_handlers.specs.Record.{heard_before, record_of, takes}
 use Rattle.tw_handlers.specs.Undo.{before, counters_before, moved_back, sends_again, settled_sends, uncounted, unfailing, unrestoring, unsettled, with_old_rib}
@@ -41,14 +41,14 @@ abbrev settled_back : Net → ℕ → State → UndoRecord → State
 settled_back net v s u = record (with_old_rib s u) { counters = unsettled net v s u }
 
 back-settled : (net : Net) (v t : ℕ) (s : State) (k : Bool) (h : PathNo) (b : Bool) → (s.rib.0 == (best net v s).0) ≡ b
-    → settled_back net v (counted (settle net v t s).state) (settled_record net v t s k h) ≡ s
+    → settled_back net v (with_handled (settle net v t s).state) (settled_record net v t s k h) ≡ s
 back-settled net v t s k h true is =
     rw is (rw (eq-eqb s.rib.0 s.rib.0 refl) (ap (λ c. record s { counters = c }) (uncounted-back s.counters)))
 back-settled net v t s k h false is =
     rw is (rw is (ap (λ c. record s { counters = c }) (counters-back s.counters (length (ups net v s)))))
 
 back-settle : (net : Net) (v t : ℕ) (s : State) (k : Bool) (h : PathNo)
-    → settled_back net v (counted (settle net v t s).state) (settled_record net v t s k h) ≡ s
+    → settled_back net v (with_handled (settle net v t s).state) (settled_record net v t s k h) ≡ s
 back-settle net v t s k h = back-settled net v t s k h (s.rib.0 == (best net v s).0) refl
 
 again-settled : (net : Net) (v t : ℕ) (s : State) (k : Bool) (h : PathNo) (b : Bool) → (s.rib.0 == (best net v s).0) ≡ b
@@ -70,16 +70,16 @@ note net v s e b = record {
   heard = heard_before net v s e b;
 }
 
-unfailing-failing : (s : State) (k : ℕ) (u : UndoRecord) → k < length s.rows → (row s k).up ≡ true → u.heard ≡ (row s k).heard → unfailing (failing s k) k u ≡ s
+unfailing-failing : (s : State) (k : ℕ) (u : UndoRecord) → k < length s.rows → (row s k).up ≡ true → u.heard ≡ (row s k).heard → unfailing (with_failed_link s k) k u ≡ s
 unfailing-failing s k u h up heard =
     back-row s k _ _ (ap (λ (r : Row). record r { up = true; heard = u.heard }) (row-with_row s k _ h) ∙ (ap (λ p. record (row s k) { up = true; heard = p }) heard ∙ ap (λ b. record (row s k) { up = b }) (sym up)))
 
-unrestoring-restoring : (s : State) (k : ℕ) → k < length s.rows → (row s k).up ≡ false → unrestoring (restoring s k) k ≡ s
+unrestoring-restoring : (s : State) (k : ℕ) → k < length s.rows → (row s k).up ≡ false → unrestoring (with_repaired_link s k) k ≡ s
 unrestoring-restoring s k h up =
     back-row s k _ _ (ap (λ (r : Row). record r { up = false; session = r.session - 1 }) (row-with_row s k _ h) ∙ (ap (λ n. record (row s k) { up = false; session = n }) (back (row s k).session 1) ∙ ap (λ b. record (row s k) { up = b }) (sym up)))
 
 -- another path heard, and the old one heard again
-pub unhearing : (s : State) (k : ℕ) (q : PathNo) → k < length s.rows → hearing (hearing s k q) k (row s k).heard ≡ s
+pub unhearing : (s : State) (k : ℕ) (q : PathNo) → k < length s.rows → with_heard (with_heard s k q) k (row s k).heard ≡ s
 unhearing s k q h = back-row s k _ _ (ap (λ (r : Row). record r { heard = (row s k).heard }) (row-with_row s k _ h))
 
 has_slot : (net : Net) (v : ℕ) (s : State) (w : ℕ) → IsState net v s → has_peer net v w ≡ true → slot net v w < length s.rows
@@ -98,46 +98,46 @@ back_by net v s e b u =
     record (moved_back net v (with_old_rib s u) e b u) { counters = counters_before net v s b u }
 
 -- where the event did nothing
-quiet-back : (net : Net) (v : ℕ) (s : State) → record s { counters = uncounted (counted s).counters } ≡ s
+quiet-back : (net : Net) (v : ℕ) (s : State) → record s { counters = uncounted (with_handled s).counters } ≡ s
 quiet-back net v s = ap (λ c. record s { counters = c }) (uncounted-back s.counters)
 
 fail-back : (net : Net) (v : ℕ) (s : State) (e : Event) (w : ℕ) (b : Bool) → (row s (slot net v w)).up ≡ b → slot net v w < length s.rows
-    → back_by net v (counted (acts net v s e (Fail w)).state) e (Fail w) (note net v s e (Fail w)) ≡ s
+    → back_by net v (with_handled (acts net v s e (Fail w)).state) e (Fail w) (note net v s e (Fail w)) ≡ s
 fail-back net v s e w true up h =
     rw up (let k = slot net v w in
-    let u = settled_record net v e.time (failing s k) true (row s k).heard in
-    ap (λ x. unfailing x k u) (back-settle net v e.time (failing s k) true (row s k).heard) ∙ unfailing-failing s k u h up refl)
+    let u = settled_record net v e.time (with_failed_link s k) true (row s k).heard in
+    ap (λ x. unfailing x k u) (back-settle net v e.time (with_failed_link s k) true (row s k).heard) ∙ unfailing-failing s k u h up refl)
 fail-back net v s e w false up h = rw up (rw (eq-eqb s.rib.0 s.rib.0 refl) (quiet-back net v s))
 
 restore-counters : (c : Counters) → record (uncounted (record c { sent = c.sent + 1; handled = c.handled + 1 })) { sent = c.sent + 1 - 1 } ≡ c
 restore-counters c = rw (back c.sent 1, back c.handled 1) refl
 
 restore-back : (net : Net) (v : ℕ) (s : State) (e : Event) (w : ℕ) (b : Bool) → (row s (slot net v w)).up ≡ b → slot net v w < length s.rows
-    → back_by net v (counted (acts net v s e (Restore w)).state) e (Restore w) (note net v s e (Restore w)) ≡ s
+    → back_by net v (with_handled (acts net v s e (Restore w)).state) e (Restore w) (note net v s e (Restore w)) ≡ s
 restore-back net v s e w true up h = rw up (rw (eq-eqb s.rib.0 s.rib.0 refl) (quiet-back net v s))
 restore-back net v s e w false up h =
     rw up (rw (eq-eqb s.rib.0 s.rib.0 refl) (let k = slot net v w in
-    ap (λ c. record (unrestoring (restoring s k) k) { counters = c }) (restore-counters s.counters) ∙ unrestoring-restoring s k h up))
+    ap (λ c. record (unrestoring (with_repaired_link s k) k) { counters = c }) (restore-counters s.counters) ∙ unrestoring-restoring s k h up))
 
 dropped-counters : (c : Counters) → record (uncounted (record c { handled = c.handled + 1; dropped = c.dropped + 1 })) { dropped = c.dropped + 1 - 1 } ≡ c
 dropped-counters c = rw (back c.handled 1, back c.dropped 1) refl
 
 update-back : (net : Net) (v : ℕ) (s : State) (e : Event) (q : PathNo) (n : ℕ) (b : Bool) → accepts s (slot net v e.src) n ≡ b → slot net v e.src < length s.rows
-    → back_by net v (counted (acts net v s e (Update q n)).state) e (Update q n) (note net v s e (Update q n)) ≡ s
+    → back_by net v (with_handled (acts net v s e (Update q n)).state) e (Update q n) (note net v s e (Update q n)) ≡ s
 update-back net v s e q n true is h =
     rw is (let k = slot net v e.src in
-    let u = settled_record net v e.time (hearing s k q) true (row s k).heard in
-    ap (λ x. hearing x k u.heard) (back-settle net v e.time (hearing s k q) true (row s k).heard) ∙ unhearing s k q h)
+    let u = settled_record net v e.time (with_heard s k q) true (row s k).heard in
+    ap (λ x. with_heard x k u.heard) (back-settle net v e.time (with_heard s k q) true (row s k).heard) ∙ unhearing s k q h)
 update-back net v s e q n false is h =
     rw is (rw (eq-eqb s.rib.0 s.rib.0 refl) (ap (λ c. record s { counters = c }) (dropped-counters s.counters)))
 
 swap-back : (net : Net) (v : ℕ) (s : State) (e : Event) (i j : ℕ) → i - 1 < length s.order → j - 1 < length s.order
-    → back_by net v (counted (acts net v s e (Swap i j)).state) e (Swap i j) (note net v s e (Swap i j)) ≡ s
+    → back_by net v (with_handled (acts net v s e (Swap i j)).state) e (Swap i j) (note net v s e (Swap i j)) ≡ s
 swap-back net v s e i j hi hj =
-    ap (λ x. swapping x i j) (back-settle net v e.time (swapping s i j) true empty_path) ∙ swapping-swapping s i j hi hj
+    ap (λ x. with_swap x i j) (back-settle net v e.time (with_swap s i j) true empty_path) ∙ swapping-swapping s i j hi hj
 
 acts-back : (net : Net) (v : ℕ) (s : State) (e : Event) (b : Body) → IsState net v s → body_suits net v e b ≡ true
-    → back_by net v (counted (acts net v s e b).state) e b (note net v s e b) ≡ s
+    → back_by net v (with_handled (acts net v s e b).state) e b (note net v s e b) ≡ s
 acts-back net v s e Start state h = back-settle net v e.time s true empty_path
 acts-back net v s e (Fail w) state h =
     let p = and_parts _ (has_peer net v w) h in fail-back net v s e w (row s (slot net v w)).up refl (has_slot net v s w state p.1)
@@ -158,27 +158,27 @@ before-effect net v s e state h = acts-back net v s e e.body state (body_suits-f
 
 fail-again : (net : Net) (v : ℕ) (s : State) (e : Event) (w : ℕ) (b : Bool) → (row s (slot net v w)).up ≡ b → sends_again net v (acts net v s e (Fail w)).state e (Fail w) (note net v s e (Fail w)) ≡ (acts net v s e (Fail w)).sends
 fail-again net v s e w true up =
-    rw up (again-settle net v e.time (failing s (slot net v w)) true (row s (slot net v w)).heard)
+    rw up (again-settle net v e.time (with_failed_link s (slot net v w)) true (row s (slot net v w)).heard)
 fail-again net v s e w false up = rw up (rw (eq-eqb s.rib.0 s.rib.0 refl) refl)
 
 restore-again : (net : Net) (v : ℕ) (s : State) (e : Event) (w : ℕ) (b : Bool) → (row s (slot net v w)).up ≡ b → sends_again net v (acts net v s e (Restore w)).state e (Restore w) (note net v s e (Restore w)) ≡ (acts net v s e (Restore w)).sends
 restore-again net v s e w true up = rw up refl
 restore-again net v s e w false up =
-    rw up (let k = slot net v w in ap (λ n. update_to v e.time s.rib n (hop net v k) (row (restoring s k) k) ∷ []) (back s.counters.sent 1))
+    rw up (let k = slot net v w in ap (λ n. update_to v e.time s.rib n (hop net v k) (row (with_repaired_link s k) k) ∷ []) (back s.counters.sent 1))
 
 update-again : (net : Net) (v : ℕ) (s : State) (e : Event) (q : PathNo) (n : ℕ) (b : Bool) → accepts s (slot net v e.src) n ≡ b → sends_again net v (acts net v s e (Update q n)).state e (Update q n) (note net v s e (Update q n)) ≡ (acts net v s e (Update q n)).sends
 update-again net v s e q n true is =
-    rw is (again-settle net v e.time (hearing s (slot net v e.src) q) true (row s (slot net v e.src)).heard)
+    rw is (again-settle net v e.time (with_heard s (slot net v e.src) q) true (row s (slot net v e.src)).heard)
 update-again net v s e q n false is = rw is (rw (eq-eqb s.rib.0 s.rib.0 refl) refl)
 
 acts-again : (net : Net) (v : ℕ) (s : State) (e : Event) (b : Body) → sends_again net v (acts net v s e b).state e b (note net v s e b) ≡ (acts net v s e b).sends
 acts-again net v s e Start = again-settle net v e.time s true empty_path
 acts-again net v s e (Fail w) = fail-again net v s e w (row s (slot net v w)).up refl
 acts-again net v s e (Restore w) = restore-again net v s e w (row s (slot net v w)).up refl
-acts-again net v s e (Swap i j) = again-settle net v e.time (swapping s i j) true empty_path
+acts-again net v s e (Swap i j) = again-settle net v e.time (with_swap s i j) true empty_path
 acts-again net v s e (Update q n) = update-again net v s e q n (accepts s (slot net v e.src) n) refl
 
-counted-again : (net : Net) (v : ℕ) (s : State) (e : Event) (b : Body) (u : UndoRecord) → sends_again net v (counted s) e b u ≡ sends_again net v s e b u
+counted-again : (net : Net) (v : ℕ) (s : State) (e : Event) (b : Body) (u : UndoRecord) → sends_again net v (with_handled s) e b u ≡ sends_again net v s e b u
 counted-again net v s e Start u = refl
 counted-again net v s e (Fail w) u = refl
 counted-again net v s e (Restore w) u = refl

@@ -6,7 +6,7 @@ use Rattle.std.proofs.lemmas.Bool.{cases_eq}
 use Rattle.std.specs.List.{swap}
 use Rattle.tw_model.specs.declared.state.Row.{Row}
 use Rattle.tw_model.specs.State.{State, no_row, row}
-use Rattle.tw_model.specs.Effect.{swapping, with_row}
+use Rattle.tw_model.specs.Effect.{with_swap, with_row}
 
 -- a second write at a place undoes the first where it writes what stood there
 pub set-back : {X : Type 0} (xs : List X) (k : ℕ) (x y d : X) → y ≡ get_or xs k d → set (set xs k x) k y ≡ xs
@@ -54,5 +54,5 @@ pub row-with_row : (s : State) (k : ℕ) (x : Row) → k < length s.rows → row
 row-with_row s k x h = get_or-set_same s.rows k x no_row h
 
 -- two places of the order changed and changed back
-pub swapping-swapping : (s : State) (i j : ℕ) → i - 1 < length s.order → j - 1 < length s.order → swapping (swapping s i j) i j ≡ s
+pub swapping-swapping : (s : State) (i j : ℕ) → i - 1 < length s.order → j - 1 < length s.order → with_swap (with_swap s i j) i j ≡ s
 swapping-swapping s i j hi hj = ap (λ order. record s { order = order }) (swap-swap s.order (i - 1) (j - 1) hi hj)

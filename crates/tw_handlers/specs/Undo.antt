@@ -6,7 +6,7 @@ use Rattle.tw_event.specs.declared.event.Event.{Event}
 use Rattle.tw_model.specs.declared.state.Counters.{Counters}
 use Rattle.tw_model.specs.Net.{Net}
 use Rattle.tw_model.specs.State.{State, hop, row, slot}
-use Rattle.tw_model.specs.Effect.{hearing, swapping, update_to, updates, ups, with_row}
+use Rattle.tw_model.specs.Effect.{with_heard, with_swap, update_to, updates, ups, with_row}
 use Rattle.tw_handlers.specs.declared.record.UndoRecord.{UndoRecord}
 
 -- the path before
@@ -26,8 +26,8 @@ abbrev pub moved_back : Net → ℕ → State → Event → Body → UndoRecord 
 moved_back net v s e Start u = s
 moved_back net v s e (Fail w) u = if u.took then unfailing s (slot net v w) u else s
 moved_back net v s e (Restore w) u = if u.took then unrestoring s (slot net v w) else s
-moved_back net v s e (Swap i j) u = swapping s i j
-moved_back net v s e (Update q n) u = if u.took then hearing s (slot net v e.src) u.heard else s
+moved_back net v s e (Swap i j) u = with_swap s i j
+moved_back net v s e (Update q n) u = if u.took then with_heard s (slot net v e.src) u.heard else s
 
 -- one event fewer is handled
 abbrev pub uncounted : Counters → Counters

@@ -1,7 +1,8 @@
 ghost use Rattle.std.specs.Prelude.{◌≡◌, ◌≢◌, ◌+◌, ◌≤◌, ◌<◌, ◌↔◌, ◌++◌, false, length, IfOk, IsTrue, OnErr, OnOk};
+ghost use Rattle.tw_model.specs.declared.limits.TheConstants.{MOST_COUNTED};
 ghost use Rattle.tw_model.specs.Net.{IsPath};
-ghost use Rattle.tw_model.specs.State.{has_peer, limit};
-ghost use Rattle.tw_model.specs.Effect.{counted, dropping, effect, fits, is_full};
+ghost use Rattle.tw_model.specs.State.{has_peer};
+ghost use Rattle.tw_model.specs.Effect.{with_handled, with_dropped, effect, fits, is_full};
 ghost use Rattle.tw_handlers.specs.Record.{IsHandled, record_of};
 
 use crate::fault::Fault;
@@ -14,9 +15,6 @@ use tw_event::{Body, Event, PathNo};
 use tw_instance::Instance;
 use tw_model::{Counters, Row};
 use tw_router::Router;
-
-/// The number of the empty path.
-const EMPTY: PathNo = PathNo(0);
 
 /// Handles an event at its router, and adds what the router sends to `sends`.
 ///
@@ -69,7 +67,7 @@ fn handle_start(
 ) -> Result<UndoRecord, Fault>
     requires own { instance.now ≡ router.old.net }
     requires time { event.now.time ≤ 1000000000 }
-    requires room { router.old.state.counters.handled < limit }
+    requires room { router.old.state.counters.handled < MOST_COUNTED }
     requires body { event.now.body ≡ Body.Start }
     ensures state { OnOk result
         (router.new ≡ record router.old { state = (effect router.old.net router.old.node router.old.state event.now).state }) }
@@ -79,12 +77,12 @@ fn handle_start(
     ensures err { OnErr result (router.new ≡ router.old) }
     ensures unsent { OnErr result (sends.new.items ≡ sends.old.items) }
     ensures full { result ≡ Err Fault.CounterFull
-        ↔ (limit < (effect router.old.net router.old.node router.old.state event.now).state.counters.sent) }
+        ↔ (MOST_COUNTED < (effect router.old.net router.old.node router.old.state event.now).state.counters.sent) }
     ensures known { result ≢ Err Fault.Foreign }
 {
     let rib = router.rib();
     let changed = settle(instance, router, event.time, sends)?;
-    Ok(UndoRecord::taken(changed, rib, EMPTY))
+    Ok(UndoRecord::taken(changed, rib, PathNo::EMPTY))
 }
 
 fn handle_fail(
@@ -96,7 +94,7 @@ fn handle_fail(
 ) -> Result<UndoRecord, Fault>
     requires own { instance.now ≡ router.old.net }
     requires time { event.now.time ≤ 1000000000 }
-    requires room { router.old.state.counters.handled < limit }
+    requires room { router.old.state.counters.handled < MOST_COUNTED }
     requires body { event.now.body ≡ Body.Fail peer }
     requires neighbour { IsTrue (has_peer router.old.net router.old.node peer) }
     ensures state { OnOk result
@@ -107,7 +105,7 @@ fn handle_fail(
     ensures err { OnErr result (router.new ≡ router.old) }
     ensures unsent { OnErr result (sends.new.items ≡ sends.old.items) }
     ensures full { result ≡ Err Fault.CounterFull
-        ↔ (limit < (effect router.old.net router.old.node router.old.state event.now).state.counters.sent) }
+        ↔ (MOST_COUNTED < (effect router.old.net router.old.node router.old.state event.now).state.counters.sent) }
     ensures known { result ≢ Err Fault.Foreign }
 {
     let slot = slot_of_peer(instance, router.node(), peer);
@@ -118,7 +116,7 @@ fn handle_fail(
         return Ok(UndoRecord::idle(rib, row.heard));
     }
     let down = Row {
-        heard: EMPTY,
+        heard: PathNo::EMPTY,
         up: false,
         session: row.session,
     };
@@ -141,7 +139,7 @@ fn handle_restore(
 ) -> Result<UndoRecord, Fault>
     requires own { instance.now ≡ router.old.net }
     requires time { event.now.time ≤ 1000000000 }
-    requires room { router.old.state.counters.handled < limit }
+    requires room { router.old.state.counters.handled < MOST_COUNTED }
     requires body { event.now.body ≡ Body.Restore peer }
     requires neighbour { IsTrue (has_peer router.old.net router.old.node peer) }
     ensures state { OnOk result
@@ -152,7 +150,7 @@ fn handle_restore(
     ensures err { OnErr result (router.new ≡ router.old) }
     ensures unsent { OnErr result (sends.new.items ≡ sends.old.items) }
     ensures full { result ≡ Err Fault.CounterFull
-        ↔ (limit < (effect router.old.net router.old.node router.old.state event.now).state.counters.sent) }
+        ↔ (MOST_COUNTED < (effect router.old.net router.old.node router.old.state event.now).state.counters.sent) }
     ensures known { result ≢ Err Fault.Foreign }
 {
     let slot = slot_of_peer(instance, router.node(), peer);
@@ -161,7 +159,7 @@ fn handle_restore(
     let counters = router.counters();
     if row.up {
         count_handled(router);
-        return Ok(UndoRecord::idle(rib, EMPTY));
+        return Ok(UndoRecord::idle(rib, PathNo::EMPTY));
     }
     if counters.sent >= LIMIT {
         return Err(Fault::CounterFull);
@@ -187,7 +185,7 @@ fn handle_restore(
         changed: counters.changed,
     });
     put_row(instance, router, slot, repaired);
-    Ok(UndoRecord::taken(false, rib, EMPTY))
+    Ok(UndoRecord::taken(false, rib, PathNo::EMPTY))
 }
 
 fn handle_swap(
@@ -200,7 +198,7 @@ fn handle_swap(
 ) -> Result<UndoRecord, Fault>
     requires own { instance.now ≡ router.old.net }
     requires time { event.now.time ≤ 1000000000 }
-    requires room { router.old.state.counters.handled < limit }
+    requires room { router.old.state.counters.handled < MOST_COUNTED }
     requires body { event.now.body ≡ Body.Swap first second }
     requires first_place { 0 < first }
     requires first_within { first ≤ length router.old.state.order }
@@ -214,13 +212,13 @@ fn handle_swap(
     ensures err { OnErr result (router.new ≡ router.old) }
     ensures unsent { OnErr result (sends.new.items ≡ sends.old.items) }
     ensures full { result ≡ Err Fault.CounterFull
-        ↔ (limit < (effect router.old.net router.old.node router.old.state event.now).state.counters.sent) }
+        ↔ (MOST_COUNTED < (effect router.old.net router.old.node router.old.state event.now).state.counters.sent) }
     ensures known { result ≢ Err Fault.Foreign }
 {
     let rib = router.rib();
     router.swap(instance, first, second);
     match settle(instance, router, event.time, sends) {
-        Ok(changed) => Ok(UndoRecord::taken(changed, rib, EMPTY)),
+        Ok(changed) => Ok(UndoRecord::taken(changed, rib, PathNo::EMPTY)),
         Err(fault) => {
             router.swap(instance, first, second);
             Err(fault)
@@ -237,7 +235,7 @@ fn handle_update(
 ) -> Result<UndoRecord, Fault>
     requires own { instance.now ≡ router.old.net }
     requires time { event.now.time ≤ 1000000000 }
-    requires room { router.old.state.counters.handled < limit }
+    requires room { router.old.state.counters.handled < MOST_COUNTED }
     requires body { event.now.body ≡ Body.Update update.0 update.1 }
     requires neighbour { IsTrue (has_peer router.old.net router.old.node event.now.src) }
     requires path { IsPath router.old.net update.0 }
@@ -249,7 +247,7 @@ fn handle_update(
     ensures err { OnErr result (router.new ≡ router.old) }
     ensures unsent { OnErr result (sends.new.items ≡ sends.old.items) }
     ensures full { result ≡ Err Fault.CounterFull
-        ↔ (limit < (effect router.old.net router.old.node router.old.state event.now).state.counters.sent) }
+        ↔ (MOST_COUNTED < (effect router.old.net router.old.node router.old.state event.now).state.counters.sent) }
     ensures known { result ≢ Err Fault.Foreign }
 {
     let (path, session) = update;
@@ -272,8 +270,8 @@ fn handle_update(
 
 /// Counts an event as handled and dropped.
 fn count_dropped(router: &mut Router<'_>)
-    requires { router.old.state.counters.handled < limit }
-    ensures { router.new ≡ record router.old { state = counted (dropping router.old.state) } }
+    requires { router.old.state.counters.handled < MOST_COUNTED }
+    ensures { router.new ≡ record router.old { state = with_handled (with_dropped router.old.state) } }
 {
     let counters = router.counters();
     router.set_counters(Counters {

@@ -1,7 +1,7 @@
 ghost use Rattle.std.specs.Prelude.{◌≡◌, ◌+◌, ◌≤◌, ◌++◌, length};
 ghost use Rattle.std.specs.List.{All};
 ghost use Rattle.smallvec.specs.SmallVec.{HasRoomFor};
-ghost use Rattle.tw_model.specs.State.{limit};
+ghost use Rattle.tw_model.specs.declared.limits.TheConstants.{MOST_COUNTED};
 ghost use Rattle.tw_model.specs.Effect.{update_to};
 ghost use Rattle.tw_handlers.specs.Send.{up_pairs, updates_to};
 
@@ -58,7 +58,7 @@ pub(crate) fn push_updates(
     requires time { news.time ≤ 1000000000 }
     requires delays { All (λ hop. hop.delay ≤ 1000000) hops.now }
     requires long { length rows.now ≡ length hops.now }
-    requires number { first + length (up_pairs hops.now rows.now) ≤ limit }
+    requires number { first + length (up_pairs hops.now rows.now) ≤ MOST_COUNTED }
     requires room { HasRoomFor sends.old (length (up_pairs hops.now rows.now)) }
     ensures { sends.new.items
         ≡ sends.old.items ++ updates_to news.src news.time news.path first (up_pairs hops.now rows.now) }

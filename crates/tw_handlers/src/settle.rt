@@ -1,7 +1,7 @@
 ghost use Rattle.std.specs.Prelude.{◌≡◌, ◌≢◌, ◌+◌, ◌≤◌, ◌<◌, ◌==◌, ◌↔◌, ◌++◌, not, length, IfOk, OnErr, OnOk};
 ghost use Rattle.tw_model.specs.Net.{IsPath};
-ghost use Rattle.tw_model.specs.State.{limit};
-ghost use Rattle.tw_model.specs.Effect.{counted, settle as settle_of, with_row};
+ghost use Rattle.tw_model.specs.declared.limits.TheConstants.{MOST_COUNTED};
+ghost use Rattle.tw_model.specs.Effect.{with_handled, settle as settle_of, with_row};
 
 use crate::fault::Fault;
 use crate::send::{News, count_up, push_updates};
@@ -24,9 +24,9 @@ pub(crate) fn settle(
 ) -> Result<bool, Fault>
     requires own { instance.now ≡ router.old.net }
     requires time { time ≤ 1000000000 }
-    requires room { router.old.state.counters.handled < limit }
+    requires room { router.old.state.counters.handled < MOST_COUNTED }
     ensures state { OnOk result
-        (router.new ≡ record router.old { state = counted (settle_of router.old.net router.old.node time router.old.state).state }) }
+        (router.new ≡ record router.old { state = with_handled (settle_of router.old.net router.old.node time router.old.state).state }) }
     ensures sends { OnOk result
         (sends.new.items ≡ sends.old.items ++ (settle_of router.old.net router.old.node time router.old.state).sends) }
     ensures changed { IfOk result
@@ -34,7 +34,7 @@ pub(crate) fn settle(
     ensures err { OnErr result (router.new ≡ router.old) }
     ensures unsent { OnErr result (sends.new.items ≡ sends.old.items) }
     ensures full { result ≡ Err Fault.CounterFull
-        ↔ (limit < (settle_of router.old.net router.old.node time router.old.state).state.counters.sent) }
+        ↔ (MOST_COUNTED < (settle_of router.old.net router.old.node time router.old.state).state.counters.sent) }
     ensures known { result ≢ Err Fault.Foreign }
 {
     let best = router.best();
@@ -68,8 +68,8 @@ pub(crate) fn settle(
 
 /// Counts an event as handled.
 pub(crate) fn count_handled(router: &mut Router<'_>)
-    requires { router.old.state.counters.handled < limit }
-    ensures { router.new ≡ record router.old { state = counted router.old.state } }
+    requires { router.old.state.counters.handled < MOST_COUNTED }
+    ensures { router.new ≡ record router.old { state = with_handled router.old.state } }
 {
     let counters = router.counters();
     router.set_counters(Counters {

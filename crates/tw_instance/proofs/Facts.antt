@@ -6,7 +6,7 @@ use Rattle.tw_event.specs.declared.event.PathNo.{PathNo}
 use Rattle.tw_model.specs.Line.{Line}
 use Rattle.tw_model.specs.Net.{Net, IsPath, begins_at, hops_of, joins, path, paths_of, same_path}
 use Rattle.tw_model.specs.Rules.{IsNet, is_linked, path_count}
-use Rattle.tw_model.proofs.Members.{any_from_in, in_from_any}
+use Rattle.tw_sim.proofs.Members.{any_from_in, in_from_any}
 use Rattle.tw_model.proofs.Nets.{hop_between, hop_of, is_link_of, joined_by}
 use Rattle.tw_model.proofs.Paths.{same_path_is}
 use Rattle.tw_instance.proofs.Lines.{listed, same_truth, taken}

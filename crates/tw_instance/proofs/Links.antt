@@ -11,7 +11,7 @@ use Rattle.tw_model.specs.Net.{Net, hops_of}
 use Rattle.tw_model.specs.Rules.{IsNet, LinksFollow, degree, is_linked, link_breaks, link_fault}
 use Rattle.tw_instance.specs.Hops.{AreRising, IsGoodHop}
 use Rattle.tw_instance.proofs.Hops.{is_joined, length-with_hop, none_there}
-use Rattle.tw_model.proofs.Members.{all_from_in}
+use Rattle.tw_sim.proofs.Members.{all_from_in}
 use Rattle.tw_model.proofs.Nets.{IsLink, Rises, hops_rises, is_link, neighbour}
 use Rattle.tw_model.proofs.Unbroken.{none_broken}
 

@@ -1,10 +1,11 @@
 //! The first rule that an item breaks after those of an instance.
 
+ghost use Rattle.std.specs.List.{find};
 ghost use Rattle.std.specs.Prelude.{◌≡◌, ◌∷◌, ◌==◌, ◌&&◌, ◌||◌, not, nat_le, nat_lt};
 ghost use Rattle.std.specs.List.{list_all, list_any};
 ghost use Rattle.tw_model.specs.declared.case.Scene.TheVariants as AScene;
 ghost use Rattle.tw_model.specs.Net.{begins_at as begins_at_spec, same_path};
-ghost use Rattle.tw_model.specs.Rules.{degree, ends_at, has_place as has_place_of, is_linked as linked, leaves_links as leaving, line_breaks as line_breaks_of, line_fault as line_fault_of, link_breaks as link_breaks_of, link_fault as link_fault_of, lowest, nodes_fault as nodes_fault_of, path_count, repeats as repeating, scene_breaks as scene_breaks_of, scene_fault as scene_fault_of};
+ghost use Rattle.tw_model.specs.Rules.{degree, ends_at, has_place as has_place_of, is_linked as linked, leaves_links as leaving, line_breaks as line_breaks_of, line_fault as line_fault_of, link_breaks as link_breaks_of, link_fault as link_fault_of, nodes_fault as nodes_fault_of, path_count, repeats as repeating, scene_breaks as scene_breaks_of, scene_fault as scene_fault_of};
 
 use crate::instance::Instance;
 use tw_model::{Hop, Link, PathLine, Rule, Scene};
@@ -42,7 +43,7 @@ pub fn link_fault(instance: &Instance, link: &Link) -> Option<Rule>
 }
 
 fn first_in_link(instance: &Instance, link: &Link, rules: &[Rule]) -> Option<Rule>
-    ensures { result ≡ lowest (link_breaks_of instance.now link.now) rules.now }
+    ensures { result ≡ find (link_breaks_of instance.now link.now) rules.now }
 {
     for rule in rules {
         if link_breaks(instance, link, *rule) {
@@ -59,7 +60,7 @@ pub fn line_fault(instance: &Instance, path: &PathLine) -> Option<Rule>
 }
 
 fn first_in_line(instance: &Instance, path: &PathLine, rules: &[Rule]) -> Option<Rule>
-    ensures { result ≡ lowest (line_breaks_of instance.now path.now) rules.now }
+    ensures { result ≡ find (line_breaks_of instance.now path.now) rules.now }
 {
     for rule in rules {
         if line_breaks(instance, path, *rule) {
@@ -76,7 +77,7 @@ pub fn scene_fault(instance: &Instance, count: usize, scene: &Scene) -> Option<R
 }
 
 fn first_in_scene(instance: &Instance, count: usize, scene: &Scene, rules: &[Rule]) -> Option<Rule>
-    ensures { result ≡ lowest (scene_breaks_of instance.now count scene.now) rules.now }
+    ensures { result ≡ find (scene_breaks_of instance.now count scene.now) rules.now }
 {
     for rule in rules {
         if scene_breaks(instance, count, scene, *rule) {

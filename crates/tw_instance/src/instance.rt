@@ -56,7 +56,7 @@ impl Instance {
             return Err(Refusal::Rule(rule));
         }
         let hops = tables::empty_rows(alloc, nodes)?;
-        let permitted = tables::opening_rows(alloc, nodes, PathNo(1))?;
+        let permitted = tables::opening_rows(alloc, nodes, PathNo::ORIGIN)?;
         let tail_keys = tables::opening_rows(alloc, nodes, tables::key_of(&[]))?;
         Ok(Instance {
             nodes,
@@ -247,7 +247,7 @@ impl Instance {
         // Opens the invariant, from which each answer follows.
         let _ = &self.links;
         match nodes {
-            [] => Some(PathNo(0)),
+            [] => Some(PathNo::EMPTY),
             [first, rest @ ..] => self.number_at(*first, rest),
         }
     }

@@ -11,11 +11,11 @@ use Rattle.tw_event.specs.Order.{body_cmp, class_of, event_before, event_cmp}
 use Rattle.tw_event.proofs.Order.{same_is, same_self}
 use Rattle.tw_model.specs.declared.case.Scene.{Scene}
 use Rattle.tw_model.specs.declared.case.Scene.TheVariants as scene
-use Rattle.tw_model.specs.Sim.{IsFalling}
+use Rattle.tw_sim.specs.Simulation.{IsFalling}
 use Rattle.tw_model.specs.Case.{Case, IsCase, opening_event, opening_events, scene_events, simulation}
-use Rattle.tw_model.proofs.Members.{In, in_filter, in_filtered, in_flat_mapped, in_map, in_mapped, in_times, times_in}
+use Rattle.tw_sim.proofs.Members.{In, in_filter, in_filtered, in_flat_mapped, in_map, in_mapped, in_times, times_in}
 use Rattle.tw_model.proofs.Openings.{opening_of}
-use Rattle.tw_model.proofs.Unique.{same_falling}
+use Rattle.tw_sim.proofs.Unique.{same_falling}
 use Rattle.tw_model.proofs.Lawful.{lawful}
 use Rattle.tw_model.proofs.LinkHeard.{Falls, Line, line_after, line_along}
 use Rattle.tw_model.proofs.LinkLast.{same_cmp}

@@ -1,17 +1,19 @@
 -- A case's simulation keeps what every protocol keeps, and its routers number what they send.
-use Rattle.std.proofs.Common.{◌≡◌, ◌<◌, ◌==◌, true, List}
-use Rattle.std.proofs.lemmas.Bool.{and_parts}
+use Rattle.std.proofs.Common.{◌≡◌, ◌<◌, ◌==◌, true, List, nat_le, nat_lt, subst, sym}
+use Rattle.std.proofs.lemmas.Bool.{and_parts, ltb-false, or_parts}
 use Rattle.tw_event.specs.declared.event.Event.{Event}
 use Rattle.tw_event.proofs.Order.{before_not_self, before_time, before_total, before_trans, same_is, same_self}
+use Rattle.tw_model.specs.declared.limits.TheConstants.{MOST_COUNTED}
 use Rattle.tw_model.specs.State.{State}
 use Rattle.tw_model.specs.Effect.{body_suits, effect, suits}
-use Rattle.tw_model.specs.Sim.{IsLawful, IsNumbered, state, times}
+use Rattle.tw_sim.specs.Simulation.{IsLawful, IsNumbered, state, times}
 use Rattle.tw_model.specs.Case.{Case, IsCase, opening_events, simulation}
-use Rattle.tw_model.proofs.Counts.{none}
-use Rattle.tw_model.proofs.Members.{In, in_times, times_in}
+use Rattle.tw_sim.proofs.Counts.{none}
+use Rattle.tw_sim.proofs.Members.{In, in_times, times_in}
 use Rattle.tw_model.proofs.Sends.{IsSent, Tells, tells_effect}
 use Rattle.tw_model.proofs.Suits.{neighbour_suits, own_state, to_effect}
-use Rattle.tw_model.proofs.Openings.{opening_no_update, opening_suits, openings_once}
+use Rattle.tw_model.proofs.Openings.{opening_no_update, opening_own, opening_suits, openings_once}
+use Rattle.tw_model.proofs.Within.{suits_within}
 
 module _ (case : Case) (is : IsCase case) where
   tells : (s : State) (e : Event) → Tells case e.dst e.time s.counters.sent (effect case.net e.dst s e)
@@ -48,12 +50,17 @@ module _ (case : Case) (is : IsCase case) where
     few = λ s e. (tells s e).few;
     suit_opening = λ e h. opening_suits case is e (counted_in e (opening_events case.scenes) h);
     suit_sends = suit_sent;
+    receiver = λ e h. suits_within case.net e.dst e is.net h;
+    opener = λ e h. (
+        let there = counted_in e (opening_events case.scenes) h in
+        subst (λ r. r < case.net.nodes) (sym (opening_own case is e there)) (suits_within case.net e.dst e is.net (opening_suits case is e there)));
   }
 
   pub numbered : IsNumbered (simulation case)
   numbered = record {
     numbered = λ s e x h. ((one_sent s e x h).least, (one_sent s e x h).most);
     rising = λ s e. (tells s e).rising;
+    within = λ s e h. ltb-false MOST_COUNTED (effect case.net e.dst s e).state.counters.sent (or_parts (nat_le MOST_COUNTED s.counters.handled) (nat_lt MOST_COUNTED (effect case.net e.dst s e).state.counters.sent) h).1;
     once = λ s e x. (tells s e).once x;
     opening_once = openings_once case is;
     strange = λ s e x h. none (times (simulation case) x (opening_events case.scenes)) (λ k.

@@ -1,9 +1,5 @@
-pub mod Counts
-pub mod Seq
-pub mod Rising
 pub mod Unbroken
 pub mod Grown
-pub mod Members
 pub mod Nets
 pub mod Paths
 pub mod Within
@@ -11,8 +7,6 @@ pub mod Sends
 pub mod Suits
 pub mod Openings
 pub mod Lawful
-pub mod Unique
-pub mod Closed
 pub mod Rows
 pub mod LinkHeard
 pub mod LinkTold

@@ -13,9 +13,9 @@ use Rattle.tw_model.specs.declared.state.Row.{Row}
 use Rattle.tw_model.specs.Net.{empty_path, hops_of}
 use Rattle.tw_model.specs.State.{fresh_row, has_peer, no_row, row, slot}
 use Rattle.tw_model.specs.Effect.{effect}
-use Rattle.tw_model.specs.Sim.{state}
+use Rattle.tw_sim.specs.Simulation.{state}
 use Rattle.tw_model.specs.Case.{Case, simulation}
-use Rattle.tw_model.proofs.Members.{In}
+use Rattle.tw_sim.proofs.Members.{In}
 use Rattle.tw_model.proofs.Rows.{effect_rows, row_after, row_effect}
 
 -- the newest event first, no event twice

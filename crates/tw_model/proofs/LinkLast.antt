@@ -12,9 +12,9 @@ use Rattle.tw_model.specs.declared.state.Row.{Row}
 use Rattle.tw_model.specs.Net.{Net, empty_path, hops_of}
 use Rattle.tw_model.specs.State.{State, has_peer, hop, row, slot}
 use Rattle.tw_model.specs.Effect.{body_suits, effect}
-use Rattle.tw_model.specs.Sim.{sent, state}
+use Rattle.tw_sim.specs.Simulation.{sent, state}
 use Rattle.tw_model.specs.Case.{Case, IsCase, simulation}
-use Rattle.tw_model.proofs.Members.{In, in_append, in_left, in_right}
+use Rattle.tw_sim.proofs.Members.{In, in_append, in_left, in_right}
 use Rattle.tw_model.proofs.Nets.{hop_in_hops, neighbour}
 use Rattle.tw_model.proofs.Sends.{tells_effect}
 use Rattle.tw_model.proofs.LinkHeard.{Change, Falls, Line, agree_along, change_along, line_along, row_along, row_state, rows_full, since_soon, taken, raised, lowered, nothing}

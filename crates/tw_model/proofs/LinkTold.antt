@@ -12,9 +12,9 @@ use Rattle.tw_model.specs.declared.state.Row.{Row}
 use Rattle.std.proofs.lemmas.List.{length-set}
 use Rattle.tw_model.specs.Net.{Net, hops_of}
 use Rattle.tw_model.specs.State.{State, best, has_peer, hop, no_hop, no_row, row, slot}
-use Rattle.tw_model.specs.Effect.{Outcome, acts, accepts, body_suits, effect, failing, hearing, restoring, settle, swapping, tell, update_to, updates, ups}
-use Rattle.tw_model.specs.Sim.{sent}
-use Rattle.tw_model.proofs.Members.{In, in_enumerate, in_filter, in_filtered, in_map, in_mapped, in_zip}
+use Rattle.tw_model.specs.Effect.{Reaction, acts, accepts, body_suits, effect, with_failed_link, with_heard, with_repaired_link, settle, with_swap, tell, update_to, updates, ups}
+use Rattle.tw_sim.specs.Simulation.{sent}
+use Rattle.tw_sim.proofs.Members.{In, in_enumerate, in_filter, in_filtered, in_map, in_mapped, in_zip}
 use Rattle.tw_model.proofs.Nets.{Rises, hop_slot, hops_rises}
 use Rattle.tw_model.proofs.Rows.{row_other, row_same}
 
@@ -92,7 +92,7 @@ module _ (net : Net) (a b : ℕ) (there : has_peer net a b ≡ true) where
     untold : ((y : Event) → In y sends → y.dst ≡ b → ⊥) → ((row after (slot net a b)).up ≡ true → (after.rib ≡ before.rib) × ((row before (slot net a b)).up ≡ true)) → Tell t before after sends
 
   -- where the change before it leaves the counter and the path, and doesn't put the link up
-  from_changed : (t : ℕ) (s changed : State) (o : Outcome) → changed.counters.sent ≡ s.counters.sent → changed.rib ≡ s.rib
+  from_changed : (t : ℕ) (s changed : State) (o : Reaction) → changed.counters.sent ≡ s.counters.sent → changed.rib ≡ s.rib
       → ((row changed (slot net a b)).up ≡ true → (row s (slot net a b)).up ≡ true) → Tell t changed o.state o.sends → Tell t s o.state o.sends
   from_changed t s changed o sent rib up (told x i is only) = told x i (record { src = is.src; dst = is.dst; time = is.time; seq = subst (λ n. n ≤ x.seq) sent is.seq; body = is.body }) only
   from_changed t s changed o sent rib up (untold no_one kept) = untold no_one (λ u. ((kept u).0 ∙ rib, up (kept u).1))
@@ -132,18 +132,18 @@ module _ (net : Net) (a b : ℕ) (there : has_peer net a b ≡ true) where
 
   -- a row that is down after a change was not put up by it
   fail_up : (s : State) → length s.rows ≡ length (hops_of net a) → (x : ℕ) → (x ≡ b) ⊎ (x ≡ b → ⊥)
-      → (row (failing s (slot net a x)) (slot net a b)).up ≡ true → (row s (slot net a b)).up ≡ true
+      → (row (with_failed_link s (slot net a x)) (slot net a b)).up ≡ true → (row s (slot net a b)).up ≡ true
   fail_up s full x (inl is) u =
-      let down : (row (failing s (slot net a x)) (slot net a b)).up ≡ false
-      = subst (λ y. (row (failing s (slot net a y)) (slot net a b)).up ≡ false) (sym is) (ap (λ r. r.up) (row_same net a b there s _ full)) in
+      let down : (row (with_failed_link s (slot net a x)) (slot net a b)).up ≡ false
+      = subst (λ y. (row (with_failed_link s (slot net a y)) (slot net a b)).up ≡ false) (sym is) (ap (λ r. r.up) (row_same net a b there s _ full)) in
       absurd (both_ways _ down u)
   fail_up s full x (inr d) u = sym (ap (λ r. r.up) (row_other net a b there s x _ d)) ∙ u
 
   hear_up : (s : State) (q : PathNo) → length s.rows ≡ length (hops_of net a) → (x : ℕ) → (x ≡ b) ⊎ (x ≡ b → ⊥)
-      → (row (hearing s (slot net a x) q) (slot net a b)).up ≡ true → (row s (slot net a b)).up ≡ true
+      → (row (with_heard s (slot net a x) q) (slot net a b)).up ≡ true → (row s (slot net a b)).up ≡ true
   hear_up s q full x (inl is) u =
-      let same : (row (hearing s (slot net a x) q) (slot net a b)).up ≡ (row s (slot net a b)).up
-      = subst (λ y. (row (hearing s (slot net a y) q) (slot net a b)).up ≡ (row s (slot net a b)).up) (sym is) (ap (λ r. r.up) (row_same net a b there s _ full)) in
+      let same : (row (with_heard s (slot net a x) q) (slot net a b)).up ≡ (row s (slot net a b)).up
+      = subst (λ y. (row (with_heard s (slot net a y) q) (slot net a b)).up ≡ (row s (slot net a b)).up) (sym is) (ap (λ r. r.up) (row_same net a b there s _ full)) in
       sym same ∙ u
   hear_up s q full x (inr d) u = sym (ap (λ r. r.up) (row_other net a b there s x _ d)) ∙ u
 
@@ -151,10 +151,10 @@ module _ (net : Net) (a b : ℕ) (there : has_peer net a b ≡ true) where
   tell_quiet t s = untold (λ y i d. i) (λ u. (refl, u))
 
   tell_tell : (t : ℕ) (s : State) → length s.rows ≡ length (hops_of net a) → (x : ℕ) → has_peer net a x ≡ true → (x ≡ b) ⊎ (x ≡ b → ⊥)
-      → Tell t s (tell net a t (restoring s (slot net a x)) (slot net a x)).state (tell net a t (restoring s (slot net a x)) (slot net a x)).sends
+      → Tell t s (tell net a t (with_repaired_link s (slot net a x)) (slot net a x)).state (tell net a t (with_repaired_link s (slot net a x)) (slot net a x)).sends
   tell_tell t s full x x_there (inl is) =
-      subst (λ y. Tell t s (tell net a t (restoring s (slot net a y)) (slot net a y)).state (tell net a t (restoring s (slot net a y)) (slot net a y)).sends) (sym is)
-      (told (update_to a t s.rib s.counters.sent (hop net a (slot net a b)) (row (restoring s (slot net a b)) (slot net a b))) (inl refl)
+      subst (λ y. Tell t s (tell net a t (with_repaired_link s (slot net a y)) (slot net a y)).state (tell net a t (with_repaired_link s (slot net a y)) (slot net a y)).sends) (sym is)
+      (told (update_to a t s.rib s.counters.sent (hop net a (slot net a b)) (row (with_repaired_link s (slot net a b)) (slot net a b))) (inl refl)
       (record { src = refl; dst = hop_slot net a b there; time = refl; seq = omega arith; body = refl })
       (λ y i d. elim i [ inl e ↦ e | inr z ↦ absurd z ]))
   tell_tell t s full x x_there (inr d) =
@@ -170,8 +170,8 @@ module _ (net : Net) (a b : ℕ) (there : has_peer net a b ≡ true) where
   tell_acts s e Start full suit = tell_settle e.time s full
   tell_acts s e (Fail x) full suit =
       elim (cases_Bool (row s (slot net a x)).up) [
-        | inl c ↦ rw c (from_changed e.time s (failing s (slot net a x)) (settle net a e.time (failing s (slot net a x))) refl refl (fail_up s full x (cases_eq x b))
-            (tell_settle e.time (failing s (slot net a x)) (length-set s.rows (slot net a x) _ ∙ full)))
+        | inl c ↦ rw c (from_changed e.time s (with_failed_link s (slot net a x)) (settle net a e.time (with_failed_link s (slot net a x))) refl refl (fail_up s full x (cases_eq x b))
+            (tell_settle e.time (with_failed_link s (slot net a x)) (length-set s.rows (slot net a x) _ ∙ full)))
         | inr c ↦ rw c (tell_quiet e.time s)
       ]
   tell_acts s e (Restore x) full suit =
@@ -180,11 +180,11 @@ module _ (net : Net) (a b : ℕ) (there : has_peer net a b ≡ true) where
         | inr c ↦ rw c (tell_tell e.time s full x (and_parts (e.src == a) (has_peer net a x) suit).1 (cases_eq x b))
       ]
   tell_acts s e (Swap i j) full suit =
-      from_changed e.time s (swapping s i j) (settle net a e.time (swapping s i j)) refl refl (λ u. u) (tell_settle e.time (swapping s i j) full)
+      from_changed e.time s (with_swap s i j) (settle net a e.time (with_swap s i j)) refl refl (λ u. u) (tell_settle e.time (with_swap s i j) full)
   tell_acts s e (Update q n) full suit =
       elim (cases_Bool (accepts s (slot net a e.src) n)) [
-        | inl c ↦ rw c (from_changed e.time s (hearing s (slot net a e.src) q) (settle net a e.time (hearing s (slot net a e.src) q)) refl refl (hear_up s q full e.src (cases_eq e.src b))
-            (tell_settle e.time (hearing s (slot net a e.src) q) (length-set s.rows (slot net a e.src) _ ∙ full)))
+        | inl c ↦ rw c (from_changed e.time s (with_heard s (slot net a e.src) q) (settle net a e.time (with_heard s (slot net a e.src) q)) refl refl (hear_up s q full e.src (cases_eq e.src b))
+            (tell_settle e.time (with_heard s (slot net a e.src) q) (length-set s.rows (slot net a e.src) _ ∙ full)))
         | inr c ↦ rw c (untold (λ y i d. i) (λ u. (refl, u)))
       ]
 
@@ -192,6 +192,6 @@ module _ (net : Net) (a b : ℕ) (there : has_peer net a b ≡ true) where
   pub tell_effect : (s : State) (e : Event) → length s.rows ≡ length (hops_of net a) → body_suits net a e e.body ≡ true
       → Tell e.time s (effect net a s e).state (effect net a s e).sends
   tell_effect s e full suit = as_counted (acts net a s e e.body) (tell_acts s e e.body full suit) where
-    as_counted : (o : Outcome) → Tell e.time s o.state o.sends → Tell e.time s (record o.state { counters = record o.state.counters { handled = o.state.counters.handled + 1 } }) o.sends
+    as_counted : (o : Reaction) → Tell e.time s o.state o.sends → Tell e.time s (record o.state { counters = record o.state.counters { handled = o.state.counters.handled + 1 } }) o.sends
     as_counted o (told x i is only) = told x i (record { src = is.src; dst = is.dst; time = is.time; seq = is.seq; body = is.body }) only
     as_counted o (untold none kept) = untold none kept

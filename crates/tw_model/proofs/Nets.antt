@@ -14,7 +14,7 @@ use Rattle.tw_model.specs.Net.{Net, joins, hop_to, hops_of}
 use Rattle.tw_model.specs.State.{has_peer, hop, no_hop, slot}
 use Rattle.tw_model.specs.Rules.{IsNet, LinksFollow, degree, is_linked, link_breaks, link_fault, nodes_break, nodes_fault}
 use Rattle.tw_model.proofs.Unbroken.{none_broken}
-use Rattle.tw_model.proofs.Members.{In, in_find, in_filter_map, in_filter_mapped, in_get_or, in_range, place_passes, place_within, range_has, find_agree, find_some}
+use Rattle.tw_sim.proofs.Members.{In, in_find, in_filter_map, in_filter_mapped, in_get_or, in_range, place_passes, place_within, range_has, find_agree, find_some}
 
 -- a number of routers that keeps the rules
 pub nodes_within : (n : ℕ) → nodes_fault n ≡ None → (1 ≤ n) × (n ≤ 1024)

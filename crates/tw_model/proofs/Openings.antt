@@ -14,10 +14,10 @@ use Rattle.tw_model.specs.Net.{Net, joins}
 use Rattle.tw_model.specs.Rules.{IsNet, ScenesFollow, has_place, is_linked, scene_breaks}
 use Rattle.tw_model.specs.State.{has_peer}
 use Rattle.tw_model.specs.Effect.{suits}
-use Rattle.tw_model.specs.Sim.{times}
+use Rattle.tw_sim.specs.Simulation.{times}
 use Rattle.tw_model.specs.Case.{Case, IsCase, opening_event, opening_events, scene_events, simulation}
-use Rattle.tw_model.proofs.Counts.{none, times-append}
-use Rattle.tw_model.proofs.Members.{In, in_enumerate, in_flat_map, in_from_any, in_times}
+use Rattle.tw_sim.proofs.Counts.{none, times-append}
+use Rattle.tw_sim.proofs.Members.{In, in_enumerate, in_flat_map, in_from_any, in_times}
 use Rattle.tw_model.proofs.Nets.{has_peer_linked, is_link_of, joined_by, linked_back}
 use Rattle.tw_model.proofs.Unbroken.{none_broken}
 use Rattle.tw_model.proofs.Sends.{one_le}
@@ -101,6 +101,9 @@ module _ (case : Case) (is : IsCase case) where
 
   pub opening_suits : (x : Event) → In x (opening_events case.scenes) → suits case.net x.dst x ≡ true
   opening_suits x h = elim (opening_of x h) [ inl e ↦ subst (λ z. suits case.net z.dst z ≡ true) (sym e) refl | inr o ↦ o.3.suit ]
+
+  pub opening_own : (x : Event) → In x (opening_events case.scenes) → x.src ≡ x.dst
+  opening_own x h = elim (opening_of x h) [ inl e ↦ ap (λ y. y.src) e ∙ sym (ap (λ y. y.dst) e) | inr l ↦ l.3.src ]
 
   pub opening_no_update : (x : Event) → In x (opening_events case.scenes) → (q : PathNo) (n : ℕ) → x.body ≡ body.Update q n → ⊥
   opening_no_update x h q n b = elim (opening_of x h) [

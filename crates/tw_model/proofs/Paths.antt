@@ -10,7 +10,7 @@ use Rattle.tw_model.specs.declared.net.Rule.TheVariants.{PathOwner, TwicePath}
 use Rattle.tw_model.specs.Line.{Line}
 use Rattle.tw_model.specs.Net.{Net, paths, path, IsPath, empty_path, origin_path, same_path, begins_at, paths_of, is_own, is_permitted}
 use Rattle.tw_model.specs.Rules.{IsNet, LinesFollow, line_breaks, line_fault}
-use Rattle.tw_model.proofs.Members.{In, in_left, in_right, in_map, in_mapped, in_filter, in_filtered, in_get_or, in_range, range_has, any_from_in, all_from_in}
+use Rattle.tw_sim.proofs.Members.{In, in_left, in_right, in_map, in_mapped, in_filter, in_filtered, in_get_or, in_range, range_has, any_from_in, all_from_in}
 use Rattle.tw_model.proofs.Unbroken.{none_broken}
 
 -- ---- lists of nodes

@@ -14,17 +14,17 @@ use Rattle.tw_model.specs.declared.state.Row.{Row}
 use Rattle.tw_model.specs.Net.{empty_path, hops_of, origin_path}
 use Rattle.tw_model.specs.State.{has_peer, offers, row, slot}
 use Rattle.tw_model.specs.Effect.{body_suits}
-use Rattle.tw_model.specs.Sim.{all_sent, only, sent, state, times}
-use Rattle.tw_model.specs.Seq.{at, begin, finished, log, rest, seq, weight}
+use Rattle.tw_sim.specs.Simulation.{all_sent, only, sent, state, times}
+use Rattle.tw_sim.specs.Seq.{at, begin, finished, log, rest, seq, weight}
 use Rattle.tw_model.specs.Case.{Case, IsCase, opening_events, simulation}
 use Rattle.tw_model.specs.Quiet.{IsQuiet, IsStable, reaches}
-use Rattle.tw_model.proofs.Members.{In, find_agree, in_append, in_filter, in_filtered, in_times, in_zip, times_in}
+use Rattle.tw_sim.proofs.Members.{In, find_agree, in_append, in_filter, in_filtered, in_times, in_zip, times_in}
 use Rattle.tw_model.proofs.Nets.{has_peer_back, has_peer_of, hops_rises}
 use Rattle.tw_model.proofs.Sends.{tells_effect}
 use Rattle.tw_model.proofs.Openings.{opening_no_update}
-use Rattle.tw_model.proofs.Rising.{AllSuit, suit-begin, suit-turns}
-use Rattle.tw_model.proofs.Unique.{falling-filter, sent_by_source}
-use Rattle.tw_model.proofs.Closed.{running_seq}
+use Rattle.tw_sim.proofs.Rising.{AllSuit, suit-begin, suit-turns}
+use Rattle.tw_sim.proofs.Unique.{falling-filter, sent_by_source}
+use Rattle.tw_sim.proofs.Closed.{running_seq}
 use Rattle.tw_model.proofs.Lawful.{lawful, numbered}
 use Rattle.tw_model.proofs.LinkHeard.{IsFrom, IsHeard, Line, agree_along, heard_along, line_along, row_along, row_state, rows_full, silent, some}
 use Rattle.tw_model.proofs.LinkTold.{zip_row}

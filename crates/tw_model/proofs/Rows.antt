@@ -8,7 +8,7 @@ use Rattle.tw_event.specs.declared.event.Event.{Event}
 use Rattle.tw_model.specs.declared.state.Row.{Row}
 use Rattle.tw_model.specs.Net.{Net, empty_path, hops_of}
 use Rattle.tw_model.specs.State.{State, best, has_peer, hop, no_row, row, slot}
-use Rattle.tw_model.specs.Effect.{acts, accepts, dropping, effect, failing, hearing, settle, swapping, with_row}
+use Rattle.tw_model.specs.Effect.{acts, accepts, with_dropped, effect, with_failed_link, with_heard, settle, with_swap, with_row}
 use Rattle.tw_model.proofs.Nets.{hop_slot}
 
 -- what an event with this sender and body makes of the row for neighbour w
@@ -27,7 +27,7 @@ acts_rows : (net : Net) (v : ℕ) (s : State) (e : Event) (b : Body) → length 
 acts_rows net v s e Start = ap length (settle_rows net v e.time s)
 acts_rows net v s e (Fail x) =
     elim (cases_Bool (row s (slot net v x)).up) [
-      | inl c ↦ rw c (ap length (settle_rows net v e.time (failing s (slot net v x))) ∙ length-set s.rows (slot net v x) _)
+      | inl c ↦ rw c (ap length (settle_rows net v e.time (with_failed_link s (slot net v x))) ∙ length-set s.rows (slot net v x) _)
       | inr c ↦ rw c refl
     ]
 acts_rows net v s e (Restore x) =
@@ -35,10 +35,10 @@ acts_rows net v s e (Restore x) =
       | inl c ↦ rw c refl
       | inr c ↦ rw c (length-set s.rows (slot net v x) _)
     ]
-acts_rows net v s e (Swap i j) = ap length (settle_rows net v e.time (swapping s i j))
+acts_rows net v s e (Swap i j) = ap length (settle_rows net v e.time (with_swap s i j))
 acts_rows net v s e (Update q n) =
     elim (cases_Bool (accepts s (slot net v e.src) n)) [
-      | inl c ↦ rw c (ap length (settle_rows net v e.time (hearing s (slot net v e.src) q)) ∙ length-set s.rows (slot net v e.src) _)
+      | inl c ↦ rw c (ap length (settle_rows net v e.time (with_heard s (slot net v e.src) q)) ∙ length-set s.rows (slot net v e.src) _)
       | inr c ↦ rw c refl
     ]
 
@@ -69,12 +69,12 @@ module _ (net : Net) (v w : ℕ) (there : has_peer net v w ≡ true) where
   row_fail s e full x (inl is) =
       subst (λ y. row (acts net v s e (Fail y)).state (slot net v w) ≡ row_after w e.src (Fail y) (row s (slot net v w))) (sym is)
       (rw (eq-eqb w w refl) (elim (cases_Bool (row s (slot net v w)).up) [
-        | inl c ↦ rw c (settled e.time (failing s (slot net v w)) ∙ row_same s _ full)
+        | inl c ↦ rw c (settled e.time (with_failed_link s (slot net v w)) ∙ row_same s _ full)
         | inr c ↦ rw c refl
       ]))
   row_fail s e full x (inr d) =
       rw (ne_eqb x w d) (elim (cases_Bool (row s (slot net v x)).up) [
-        | inl c ↦ rw c (settled e.time (failing s (slot net v x)) ∙ row_other s x _ d)
+        | inl c ↦ rw c (settled e.time (with_failed_link s (slot net v x)) ∙ row_other s x _ d)
         | inr c ↦ rw c refl
       ])
 
@@ -93,18 +93,18 @@ module _ (net : Net) (v w : ℕ) (there : has_peer net v w ≡ true) where
       ])
 
   row_update : (s : State) (e : Event) → length s.rows ≡ length (hops_of net v) → (q : _) (n x : ℕ) → (x ≡ w) ⊎ (x ≡ w → ⊥)
-      → row (if accepts s (slot net v x) n then settle net v e.time (hearing s (slot net v x) q) else record { state = dropping s; sends = [] }).state (slot net v w)
+      → row (if accepts s (slot net v x) n then settle net v e.time (with_heard s (slot net v x) q) else record { state = with_dropped s; sends = [] }).state (slot net v w)
       ≡ row_after w x (Update q n) (row s (slot net v w))
   row_update s e full q n x (inl is) =
-      subst (λ y. row (if accepts s (slot net v y) n then settle net v e.time (hearing s (slot net v y) q) else record { state = dropping s; sends = [] }).state (slot net v w)
+      subst (λ y. row (if accepts s (slot net v y) n then settle net v e.time (with_heard s (slot net v y) q) else record { state = with_dropped s; sends = [] }).state (slot net v w)
       ≡ row_after w y (Update q n) (row s (slot net v w))) (sym is)
       (rw (eq-eqb w w refl) (elim (cases_Bool (accepts s (slot net v w) n)) [
-        | inl c ↦ rw c (settled e.time (hearing s (slot net v w) q) ∙ row_same s _ full)
+        | inl c ↦ rw c (settled e.time (with_heard s (slot net v w) q) ∙ row_same s _ full)
         | inr c ↦ rw c refl
       ]))
   row_update s e full q n x (inr d) =
       rw (ne_eqb x w d) (elim (cases_Bool (accepts s (slot net v x) n)) [
-        | inl c ↦ rw c (settled e.time (hearing s (slot net v x) q) ∙ row_other s x _ d)
+        | inl c ↦ rw c (settled e.time (with_heard s (slot net v x) q) ∙ row_other s x _ d)
         | inr c ↦ rw c refl
       ])
 
@@ -112,7 +112,7 @@ module _ (net : Net) (v w : ℕ) (there : has_peer net v w ≡ true) where
   row_acts s e Start full = settled e.time s
   row_acts s e (Fail x) full = row_fail s e full x (cases_eq x w)
   row_acts s e (Restore x) full = row_restore s e full x (cases_eq x w)
-  row_acts s e (Swap i j) full = settled e.time (swapping s i j)
+  row_acts s e (Swap i j) full = settled e.time (with_swap s i j)
   row_acts s e (Update q n) full = row_update s e full q n e.src (cases_eq e.src w)
 
   -- the row for w after an event

@@ -15,10 +15,10 @@ use Rattle.tw_model.specs.declared.state.Row.{Row}
 use Rattle.tw_model.specs.Net.{hops_of}
 use Rattle.tw_model.specs.Rules.{IsNet}
 use Rattle.tw_model.specs.State.{State, best, hop, no_hop, row, slot}
-use Rattle.tw_model.specs.Effect.{Outcome, acts, accepts, dropping, effect, failing, hearing, quiet, restoring, settle, swapping, tell, update_to, updates, ups}
-use Rattle.tw_model.specs.Sim.{one, times}
+use Rattle.tw_model.specs.Effect.{Reaction, acts, accepts, with_dropped, effect, with_failed_link, with_heard, without_sends, with_repaired_link, settle, with_swap, tell, update_to, updates, ups}
+use Rattle.tw_sim.specs.Simulation.{one, times}
 use Rattle.tw_model.specs.Case.{Case, simulation}
-use Rattle.tw_model.proofs.Members.{In, in_enumerate, in_filter, in_map, in_times, in_zip, in_or_default}
+use Rattle.tw_sim.proofs.Members.{In, in_enumerate, in_filter, in_map, in_times, in_zip, in_or_default}
 use Rattle.tw_model.proofs.Nets.{hops_few, neighbour}
 
 -- an update that router v sent for an event of time t, numbered from low to below high
@@ -31,13 +31,13 @@ pub record IsSent (v t low high : ℕ) (x : Event) : Type 0 where
 
 module _ (case : Case) where
   -- what is sent on the way to a state, from the counter n on
-  pub record Tells (v t n : ℕ) (o : Outcome) : Type 0 where
+  pub record Tells (v t n : ℕ) (o : Reaction) : Type 0 where
     pub sent : (x : Event) → In x o.sends → IsSent v t n o.state.counters.sent x
     pub rising : n ≤ o.state.counters.sent
     pub few : length o.sends ≤ 64
     pub once : (x : Event) → times (simulation case) x o.sends ≤ 1
 
-  tells_quiet : (v t : ℕ) (s : State) → Tells v t s.counters.sent (quiet s)
+  tells_quiet : (v t : ℕ) (s : State) → Tells v t s.counters.sent (without_sends s)
   tells_quiet v t s = record { sent = λ x h. absurd h; rising = omega arith; few = omega arith; once = λ x. omega arith }
 
   pub one_le : (x y : Event) → one (simulation case) x y ≤ 1
@@ -130,19 +130,19 @@ module _ (case : Case) where
   tells_acts v s e Start is = tells_settle v e.time s is
   tells_acts v s e (Fail w) is =
       elim (cases_Bool (row s (slot case.net v w)).up) [
-        | inl c ↦ rw c (tells_settle v e.time (failing s (slot case.net v w)) is)
+        | inl c ↦ rw c (tells_settle v e.time (with_failed_link s (slot case.net v w)) is)
         | inr c ↦ rw c (tells_quiet v e.time s)
       ]
   tells_acts v s e (Restore w) is =
       elim (cases_Bool (row s (slot case.net v w)).up) [
         | inl c ↦ rw c (tells_quiet v e.time s)
-        | inr c ↦ rw c (tells_tell v e.time (restoring s (slot case.net v w)) (slot case.net v w) is)
+        | inr c ↦ rw c (tells_tell v e.time (with_repaired_link s (slot case.net v w)) (slot case.net v w) is)
       ]
-  tells_acts v s e (Swap i j) is = tells_settle v e.time (swapping s i j) is
+  tells_acts v s e (Swap i j) is = tells_settle v e.time (with_swap s i j) is
   tells_acts v s e (Update q n) is =
       elim (cases_Bool (accepts s (slot case.net v e.src) n)) [
-        | inl c ↦ rw c (tells_settle v e.time (hearing s (slot case.net v e.src) q) is)
-        | inr c ↦ rw c (tells_quiet v e.time (dropping s))
+        | inl c ↦ rw c (tells_settle v e.time (with_heard s (slot case.net v e.src) q) is)
+        | inr c ↦ rw c (tells_quiet v e.time (with_dropped s))
       ]
 
   -- what any event at any router in any state sends

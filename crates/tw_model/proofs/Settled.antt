@@ -11,10 +11,10 @@ use Rattle.tw_model.specs.declared.net.Hop.{Hop}
 use Rattle.tw_model.specs.declared.state.Row.{Row}
 use Rattle.tw_model.specs.Net.{Net, empty_path, hops_of, origin_path, paths_of}
 use Rattle.tw_model.specs.State.{State, best, fresh_row, has_peer, no_row, offers, opening, row, slot}
-use Rattle.tw_model.specs.Effect.{acts, accepts, body_suits, effect, failing, hearing, restoring, settle, swapping}
-use Rattle.tw_model.specs.Sim.{state}
+use Rattle.tw_model.specs.Effect.{acts, accepts, body_suits, effect, with_failed_link, with_heard, with_repaired_link, settle, with_swap}
+use Rattle.tw_sim.specs.Simulation.{state}
 use Rattle.tw_model.specs.Case.{Case, opening_event, simulation}
-use Rattle.tw_model.proofs.Members.{In, find_agree}
+use Rattle.tw_sim.proofs.Members.{In, find_agree}
 use Rattle.tw_model.proofs.LinkHeard.{agree_along, row_state, state_home}
 use Rattle.tw_model.proofs.LinkLast.{IsHistory, older_history}
 
@@ -40,10 +40,10 @@ restored_offers : (net : Net) (v : ℕ) (q : PathNo) (r : Row) → r.up ≡ fals
     → offers net v q (record r { up = true; session = r.session + 1 }) ≡ offers net v q r
 restored_offers net v q r down none = rw (down, none) refl
 
-restored_best : (net : Net) (v k : ℕ) (s : State) → (row s k).up ≡ false → (row s k).heard ≡ empty_path → best net v (restoring s k) ≡ best net v s
+restored_best : (net : Net) (v k : ℕ) (s : State) → (row s k).up ≡ false → (row s k).heard ≡ empty_path → best net v (with_repaired_link s k) ≡ best net v s
 restored_best net v k s down none =
     ap (λ o. if v == 0 then origin_path else unwrap_or o empty_path)
-    (find_agree (λ q. list_any (offers net v q) (restoring s k).rows) (λ q. list_any (offers net v q) s.rows)
+    (find_agree (λ q. list_any (offers net v q) (with_repaired_link s k).rows) (λ q. list_any (offers net v q) s.rows)
     (λ q. any_set (offers net v q) s.rows k (record (row s k) { up = true; session = (row s k).session + 1 }) no_row (restored_offers net v q (row s k) down none)) s.order)
 
 -- either the router has settled, or nothing that matters has changed
@@ -56,7 +56,7 @@ settles_acts : (net : Net) (v : ℕ) (s : State) (e : Event) (b : Body) → ((w 
 settles_acts net v s e Start none = settled (settle_best net v e.time s)
 settles_acts net v s e (Fail x) none =
     elim (cases_Bool (row s (slot net v x)).up) [
-      | inl c ↦ rw c (settled (settle_best net v e.time (failing s (slot net v x))))
+      | inl c ↦ rw c (settled (settle_best net v e.time (with_failed_link s (slot net v x))))
       | inr c ↦ rw c (kept refl refl (λ d. cc))
     ]
 settles_acts net v s e (Restore x) none =
@@ -64,10 +64,10 @@ settles_acts net v s e (Restore x) none =
       | inl c ↦ rw c (kept refl refl (λ d. cc))
       | inr c ↦ (let best_kept = restored_best net v (slot net v x) s c (none x refl c) in rw c (kept refl best_kept (λ d. cc)))
     ]
-settles_acts net v s e (Swap i j) none = settled (settle_best net v e.time (swapping s i j))
+settles_acts net v s e (Swap i j) none = settled (settle_best net v e.time (with_swap s i j))
 settles_acts net v s e (Update q n) none =
     elim (cases_Bool (accepts s (slot net v e.src) n)) [
-      | inl c ↦ rw c (settled (settle_best net v e.time (hearing s (slot net v e.src) q)))
+      | inl c ↦ rw c (settled (settle_best net v e.time (with_heard s (slot net v e.src) q)))
       | inr c ↦ rw c (kept refl refl (λ d. cc))
     ]
 

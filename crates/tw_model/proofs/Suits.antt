@@ -11,10 +11,10 @@ use Rattle.tw_model.specs.declared.net.Hop.{Hop}
 use Rattle.tw_model.specs.Net.{Net, hops_of, is_own, is_permitted, empty_path}
 use Rattle.tw_model.specs.Rules.{IsNet}
 use Rattle.tw_model.specs.State.{State, best, has_peer, hop, offers, row, slot, opening}
-use Rattle.tw_model.specs.Effect.{acts, accepts, body_suits, effect, failing, fits, hearing, settle, suits, swapping, update_to, ups}
-use Rattle.tw_model.specs.Sim.{state}
+use Rattle.tw_model.specs.Effect.{acts, accepts, body_suits, effect, with_failed_link, fits, with_heard, settle, suits, with_swap, update_to, ups}
+use Rattle.tw_sim.specs.Simulation.{state}
 use Rattle.tw_model.specs.Case.{Case, simulation}
-use Rattle.tw_model.proofs.Members.{In, in_enumerate, in_filter, in_find, in_map, in_swap, in_zip}
+use Rattle.tw_sim.proofs.Members.{In, in_enumerate, in_filter, in_find, in_map, in_swap, in_zip}
 use Rattle.tw_model.proofs.Nets.{has_peer_back, has_peer_of, hop_in_hops}
 use Rattle.tw_model.proofs.Paths.{in_paths_of, path_origin}
 
@@ -50,7 +50,7 @@ own_acts : (net : Net) (v : ℕ) (s : State) (e : Event) (b : Body) → IsOwnSta
 own_acts net v s e Start is = own_settle net v e.time s is
 own_acts net v s e (Fail w) is =
     elim (cases_Bool (row s (slot net v w)).up) [
-      | inl c ↦ rw c (own_settle net v e.time (failing s (slot net v w)) (record { rib = is.rib; order = is.order }))
+      | inl c ↦ rw c (own_settle net v e.time (with_failed_link s (slot net v w)) (record { rib = is.rib; order = is.order }))
       | inr c ↦ rw c is
     ]
 own_acts net v s e (Restore w) is =
@@ -59,10 +59,10 @@ own_acts net v s e (Restore w) is =
       | inr c ↦ rw c (record { rib = is.rib; order = is.order })
     ]
 own_acts net v s e (Swap i j) is =
-    own_settle net v e.time (swapping s i j) (record { rib = is.rib; order = λ q h. is.order q (in_swap q s.order _ _ h) })
+    own_settle net v e.time (with_swap s i j) (record { rib = is.rib; order = λ q h. is.order q (in_swap q s.order _ _ h) })
 own_acts net v s e (Update q n) is =
     elim (cases_Bool (accepts s (slot net v e.src) n)) [
-      | inl c ↦ rw c (own_settle net v e.time (hearing s (slot net v e.src) q) (record { rib = is.rib; order = is.order }))
+      | inl c ↦ rw c (own_settle net v e.time (with_heard s (slot net v e.src) q) (record { rib = is.rib; order = is.order }))
       | inr c ↦ rw c (record { rib = is.rib; order = is.order })
     ]
 
@@ -109,7 +109,7 @@ to_acts : (net : Net) (v : ℕ) (s : State) (e : Event) (b : Body) → body_suit
 to_acts net v s e Start suit is x h = to_settle net v e.time s is x h
 to_acts net v s e (Fail w) suit is x h =
     elim (cases_Bool (row s (slot net v w)).up) [
-      | inl c ↦ to_settle net v e.time (failing s (slot net v w)) (record { rib = is.rib; order = is.order }) x (rw c at h)
+      | inl c ↦ to_settle net v e.time (with_failed_link s (slot net v w)) (record { rib = is.rib; order = is.order }) x (rw c at h)
       | inr c ↦ absurd (rw c at h)
     ]
 to_acts net v s e (Restore w) suit is x h =
@@ -127,10 +127,10 @@ to_acts net v s e (Restore w) suit is x h =
       ]
     ]
 to_acts net v s e (Swap i j) suit is x h =
-    to_settle net v e.time (swapping s i j) (record { rib = is.rib; order = λ q k. is.order q (in_swap q s.order _ _ k) }) x h
+    to_settle net v e.time (with_swap s i j) (record { rib = is.rib; order = λ q k. is.order q (in_swap q s.order _ _ k) }) x h
 to_acts net v s e (Update q n) suit is x h =
     elim (cases_Bool (accepts s (slot net v e.src) n)) [
-      | inl c ↦ to_settle net v e.time (hearing s (slot net v e.src) q) (record { rib = is.rib; order = is.order }) x (rw c at h)
+      | inl c ↦ to_settle net v e.time (with_heard s (slot net v e.src) q) (record { rib = is.rib; order = is.order }) x (rw c at h)
       | inr c ↦ absurd (rw c at h)
     ]
 

@@ -1,12 +1,13 @@
--- Where no rule is the lowest broken one, none is broken.
+-- Where no rule is the find broken one, none is broken.
+use Rattle.std.specs.List.{find}
 use Rattle.std.proofs.Common.{◌≡◌, Bool, false, List, [], ◌∷◌, inl, inr, Some, None}
 use Rattle.std.specs.List.{AllByRecursion}
 use Rattle.std.proofs.lemmas.Bool.{cases_Bool}
 use Rattle.tw_model.specs.declared.net.Rule.{Rule}
 use Rattle.tw_model.specs.declared.net.Rule.TheVariants.{Range, SelfLink, TwiceLink, Delay, PathOwner, PathEnd, PathRepeats, PathNoLink, TwicePath, TooMany, NoSuchLink, NoSuchPlace, Time}
-use Rattle.tw_model.specs.Rules.{lowest, rules_in_order}
+use Rattle.tw_model.specs.Rules.{rules_in_order}
 
-all_unbroken : (broken : Rule → Bool) (rs : List Rule) → lowest broken rs ≡ None → AllByRecursion (λ r. broken r ≡ false) rs
+all_unbroken : (broken : Rule → Bool) (rs : List Rule) → find broken rs ≡ None → AllByRecursion (λ r. broken r ≡ false) rs
 all_unbroken broken [] h = tt
 all_unbroken broken (r ∷ rs) h =
     elim (cases_Bool (broken r)) [
@@ -29,5 +30,5 @@ each_unbroken broken all NoSuchLink = all.1.1.1.1.1.1.1.1.1.1.0
 each_unbroken broken all NoSuchPlace = all.1.1.1.1.1.1.1.1.1.1.1.0
 each_unbroken broken all Time = all.1.1.1.1.1.1.1.1.1.1.1.1.0
 
-pub none_broken : (broken : Rule → Bool) → lowest broken rules_in_order ≡ None → (r : Rule) → broken r ≡ false
+pub none_broken : (broken : Rule → Bool) → find broken rules_in_order ≡ None → (r : Rule) → broken r ≡ false
 none_broken broken h = each_unbroken broken (all_unbroken broken rules_in_order h)

@@ -8,11 +8,12 @@ use Rattle.tw_event.specs.declared.event.Event.{Event}
 use Rattle.tw_event.specs.Order.{event_cmp}
 use Rattle.tw_model.specs.declared.case.Scene.{Scene}
 use Rattle.tw_model.specs.declared.case.Scene.TheVariants as scene
+use Rattle.tw_model.specs.declared.limits.TheConstants.{MOST_COUNTED, MOST_LINKS}
 use Rattle.tw_model.specs.Net.{Net}
 use Rattle.tw_model.specs.Rules.{IsNet, ScenesFollow}
 use Rattle.tw_model.specs.State.{State, opening}
 use Rattle.tw_model.specs.Effect.{effect, is_full, suits}
-use Rattle.tw_model.specs.Sim.{Sim}
+use Rattle.tw_sim.specs.Simulation.{Simulation}
 
 pub record Case : Type 0 where
   pub net : Net
@@ -38,7 +39,7 @@ abbrev pub opening_events : List Scene → List Event
 opening_events scenes = opening_event 0 0 0 body.Start ∷ flat_map (λ l. scene_events l.0 l.1) (enumerate_from 1 scenes)
 
 -- what a case simulates
-abbrev pub simulation : Case → Sim State Event
+abbrev pub simulation : Case → Simulation State Event
 simulation case = record {
   time = λ e. e.time;
   dst = λ e. e.dst;
@@ -51,8 +52,9 @@ simulation case = record {
   sends = λ s e. (effect case.net e.dst s e).sends;
   opening = opening_events case.scenes;
   routers = case.net.nodes;
-  most = 64;
+  most = MOST_LINKS;
   suits = λ e. suits case.net e.dst e;
   number = λ s. s.counters.sent;
+  limit = MOST_COUNTED;
   full = λ s e. is_full case.net e.dst s e;
 }

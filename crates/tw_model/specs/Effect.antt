@@ -6,14 +6,15 @@ use Rattle.tw_event.specs.declared.event.Body.{Body}
 use Rattle.tw_event.specs.declared.event.Body.TheVariants.{Start, Fail, Restore, Swap, Update}
 use Rattle.tw_event.specs.declared.event.Event.{Event}
 use Rattle.tw_event.specs.declared.event.PathNo.{PathNo}
+use Rattle.tw_model.specs.declared.limits.TheConstants.{LATEST, MOST_COUNTED}
 use Rattle.tw_model.specs.declared.net.Hop.{Hop}
 use Rattle.tw_model.specs.declared.state.Row.{Row}
 use Rattle.tw_model.specs.Net.{Net, empty_path, hops_of, is_permitted}
 use Rattle.tw_model.specs.Rules.{has_place}
-use Rattle.tw_model.specs.State.{State, best, has_peer, hop, limit, row, slot}
+use Rattle.tw_model.specs.State.{State, best, has_peer, hop, row, slot}
 
 -- a state, and what was sent on the way to it
-pub record Outcome : Type 0 where
+pub record Reaction : Type 0 where
   pub state : State
   pub sends : List Event
 
@@ -33,60 +34,60 @@ abbrev pub with_rib : Net → ℕ → State → PathNo → State
 with_rib net v s q = record s { rib = q; counters = record s.counters { sent = s.counters.sent + length (ups net v s); changed = s.counters.changed + 1 } }
 
 -- take the best path, and where that is a change tell each neighbour
-abbrev pub settle : Net → ℕ → ℕ → State → Outcome
+abbrev pub settle : Net → ℕ → ℕ → State → Reaction
 settle net v t s =
     if s.rib.0 == (best net v s).0 then record { state = s; sends = [] } else record {
       state = with_rib net v s (best net v s);
       sends = updates net v t (best net v s) s.counters.sent s;
     }
 
-abbrev pub counted : State → State
-counted s = record s { counters = record s.counters { handled = s.counters.handled + 1 } }
+abbrev pub with_handled : State → State
+with_handled s = record s { counters = record s.counters { handled = s.counters.handled + 1 } }
 
-abbrev pub dropping : State → State
-dropping s = record s { counters = record s.counters { dropped = s.counters.dropped + 1 } }
+abbrev pub with_dropped : State → State
+with_dropped s = record s { counters = record s.counters { dropped = s.counters.dropped + 1 } }
 
 abbrev pub with_row : State → ℕ → Row → State
 with_row s k r = record s { rows = slice_set s.rows k r }
 
-abbrev pub hearing : State → ℕ → PathNo → State
-hearing s k q = with_row s k (record (row s k) { heard = q })
+abbrev pub with_heard : State → ℕ → PathNo → State
+with_heard s k q = with_row s k (record (row s k) { heard = q })
 
-abbrev pub failing : State → ℕ → State
-failing s k = with_row s k (record (row s k) { up = false; heard = empty_path })
+abbrev pub with_failed_link : State → ℕ → State
+with_failed_link s k = with_row s k (record (row s k) { up = false; heard = empty_path })
 
-abbrev pub restoring : State → ℕ → State
-restoring s k = with_row s k (record (row s k) { up = true; session = (row s k).session + 1 })
+abbrev pub with_repaired_link : State → ℕ → State
+with_repaired_link s k = with_row s k (record (row s k) { up = true; session = (row s k).session + 1 })
 
 -- places i and j of the order, from 1, change places
-abbrev pub swapping : State → ℕ → ℕ → State
-swapping s i j = record s { order = swap s.order (i - 1) (j - 1) }
+abbrev pub with_swap : State → ℕ → ℕ → State
+with_swap s i j = record s { order = swap s.order (i - 1) (j - 1) }
 
 -- tell the neighbour of slot k alone the present path, also an empty one
-abbrev pub tell : Net → ℕ → ℕ → State → ℕ → Outcome
+abbrev pub tell : Net → ℕ → ℕ → State → ℕ → Reaction
 tell net v t s k = record {
   state = record s { counters = record s.counters { sent = s.counters.sent + 1 } };
   sends = update_to v t s.rib s.counters.sent (hop net v k) (row s k) ∷ [];
 }
 
-abbrev pub quiet : State → Outcome
-quiet s = record { state = s; sends = [] }
+abbrev pub without_sends : State → Reaction
+without_sends s = record { state = s; sends = [] }
 
 -- whether an update of this session is accepted over the link of slot k
 abbrev pub accepts : State → ℕ → ℕ → Bool
 accepts s k n = (row s k).up && ((row s k).session == n)
 
 -- what each body does, handled aside
-abbrev pub acts : Net → ℕ → State → Event → Body → Outcome
+abbrev pub acts : Net → ℕ → State → Event → Body → Reaction
 acts net v s e Start = settle net v e.time s
-acts net v s e (Fail w) = if (row s (slot net v w)).up then settle net v e.time (failing s (slot net v w)) else quiet s
-acts net v s e (Restore w) = if (row s (slot net v w)).up then quiet s else tell net v e.time (restoring s (slot net v w)) (slot net v w)
-acts net v s e (Swap i j) = settle net v e.time (swapping s i j)
-acts net v s e (Update q n) = if accepts s (slot net v e.src) n then settle net v e.time (hearing s (slot net v e.src) q) else quiet (dropping s)
+acts net v s e (Fail w) = if (row s (slot net v w)).up then settle net v e.time (with_failed_link s (slot net v w)) else without_sends s
+acts net v s e (Restore w) = if (row s (slot net v w)).up then without_sends s else tell net v e.time (with_repaired_link s (slot net v w)) (slot net v w)
+acts net v s e (Swap i j) = settle net v e.time (with_swap s i j)
+acts net v s e (Update q n) = if accepts s (slot net v e.src) n then settle net v e.time (with_heard s (slot net v e.src) q) else without_sends (with_dropped s)
 
 -- the new state of router v, and what it sends
-abbrev pub effect : Net → ℕ → State → Event → Outcome
-effect net v s e = let o = acts net v s e e.body in record { state = counted o.state; sends = o.sends }
+abbrev pub effect : Net → ℕ → State → Event → Reaction
+effect net v s e = let o = acts net v s e e.body in record { state = with_handled o.state; sends = o.sends }
 
 -- whether the body is one that router v can handle from this sender at this time
 abbrev pub body_suits : Net → ℕ → Event → Body → Bool
@@ -102,8 +103,8 @@ suits net v e = e.dst == v && body_suits net v e e.body
 
 -- whether the event is one for router v
 abbrev pub fits : Net → ℕ → Event → Bool
-fits net v e = nat_le e.time 1000000000 && suits net v e
+fits net v e = nat_le e.time LATEST && suits net v e
 
 -- whether a counter would pass its limit
 abbrev pub is_full : Net → ℕ → State → Event → Bool
-is_full net v s e = nat_le limit s.counters.handled || nat_lt limit (effect net v s e).state.counters.sent
+is_full net v s e = nat_le MOST_COUNTED s.counters.handled || nat_lt MOST_COUNTED (effect net v s e).state.counters.sent

@@ -4,9 +4,6 @@ pub mod Rules
 pub mod State
 pub mod Effect
 pub mod History
-pub mod Ordered
-pub mod Sim
-pub mod Seq
 pub mod Case
 pub mod Quiet
 pub mod Summary

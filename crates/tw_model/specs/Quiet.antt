@@ -8,8 +8,8 @@ use Rattle.tw_model.specs.declared.net.Hop.{Hop}
 use Rattle.tw_model.specs.declared.state.Row.{Row}
 use Rattle.tw_model.specs.Net.{Net, empty_path, hops_of, origin_path, path, same_path}
 use Rattle.tw_model.specs.State.{State}
-use Rattle.tw_model.specs.Sim.{only, state}
-use Rattle.tw_model.specs.Seq.{rest}
+use Rattle.tw_sim.specs.Simulation.{only, state}
+use Rattle.tw_sim.specs.Seq.{rest}
 use Rattle.tw_model.specs.Case.{Case, simulation}
 
 -- nothing is pending once the events before t are handled

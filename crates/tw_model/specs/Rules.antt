@@ -1,8 +1,9 @@
 -- The rules of an instance and of a scenario, item by item: each item is judged against those before it (own).
-use Rattle.std.specs.Prelude.{ℕ, ◌+◌, ◌≡◌, ◌==◌, nat_lt, nat_le, Bool, false, not, ◌||◌, ◌&&◌, List, [], ◌∷◌, ◌++◌, length, reverse, if◌then◌else◌, Option, Some, None}
-use Rattle.std.specs.List.{filter, list_any, list_all}
+use Rattle.std.specs.Prelude.{ℕ, ◌+◌, ◌≡◌, ◌==◌, nat_lt, nat_le, Bool, false, not, ◌||◌, ◌&&◌, List, [], ◌∷◌, ◌++◌, length, reverse, Option, None}
+use Rattle.std.specs.List.{filter, find, list_any, list_all}
 use Rattle.tw_model.specs.declared.case.Scene.{Scene}
 use Rattle.tw_model.specs.declared.case.Scene.TheVariants.{Fail, Restore, Swap}
+use Rattle.tw_model.specs.declared.limits.TheConstants.{LATEST, LONGEST_DELAY, MOST_LINKS, MOST_NODES, MOST_PATHS, MOST_ROUTERS, MOST_SCENES}
 use Rattle.tw_model.specs.declared.net.Link.{Link}
 use Rattle.tw_model.specs.declared.net.Rule.{Rule}
 use Rattle.tw_model.specs.declared.net.Rule.TheVariants.{Range, SelfLink, TwiceLink, Delay, PathOwner, PathEnd, PathRepeats, PathNoLink, TwicePath, TooMany, NoSuchLink, NoSuchPlace, Time}
@@ -41,7 +42,7 @@ leaves_links links (v ∷ w ∷ p) = not (is_linked links v w) || leaves_links l
 
 -- the rules that a number of routers breaks
 abbrev pub nodes_break : ℕ → Rule → Bool
-nodes_break n Range = not (is_within 1 1024 n)
+nodes_break n Range = not (is_within 1 MOST_ROUTERS n)
 nodes_break n r = false
 
 -- the rules that a link breaks after those of the net
@@ -49,8 +50,8 @@ abbrev pub link_breaks : Net → Link → Rule → Bool
 link_breaks net l Range = not (nat_lt l.first net.nodes && nat_lt l.second net.nodes)
 link_breaks net l SelfLink = l.first == l.second
 link_breaks net l TwiceLink = is_linked net.links l.first l.second
-link_breaks net l Delay = not (is_within 1 1000000 l.delay)
-link_breaks net l TooMany = nat_le 64 (degree net.links l.first) || nat_le 64 (degree net.links l.second)
+link_breaks net l Delay = not (is_within 1 LONGEST_DELAY l.delay)
+link_breaks net l TooMany = nat_le MOST_LINKS (degree net.links l.first) || nat_le MOST_LINKS (degree net.links l.second)
 link_breaks net l r = false
 
 -- the rules that a permitted path breaks after those of the net
@@ -61,7 +62,7 @@ line_breaks net p PathEnd = not (ends_at p.nodes 0)
 line_breaks net p PathRepeats = repeats p.nodes
 line_breaks net p PathNoLink = leaves_links net.links p.nodes
 line_breaks net p TwicePath = list_any (λ q. q.owner == p.owner && same_path q.nodes p.nodes) net.lines
-line_breaks net p TooMany = nat_le 200 (path_count net.lines p.owner) || nat_lt 32 (length p.nodes)
+line_breaks net p TooMany = nat_le MOST_PATHS (path_count net.lines p.owner) || nat_lt MOST_NODES (length p.nodes)
 line_breaks net p r = false
 
 -- whether v's order has the place, from 1
@@ -72,37 +73,32 @@ has_place net v i = is_within 1 (length (paths_of net v)) i
 abbrev pub scene_breaks : Net → ℕ → Scene → Rule → Bool
 scene_breaks net count (Fail t a b) Range = not (nat_lt a net.nodes && nat_lt b net.nodes)
 scene_breaks net count (Fail t a b) NoSuchLink = not (is_linked net.links a b)
-scene_breaks net count (Fail t a b) Time = nat_lt 1000000000 t
+scene_breaks net count (Fail t a b) Time = nat_lt LATEST t
 scene_breaks net count (Restore t a b) Range = not (nat_lt a net.nodes && nat_lt b net.nodes)
 scene_breaks net count (Restore t a b) NoSuchLink = not (is_linked net.links a b)
-scene_breaks net count (Restore t a b) Time = nat_lt 1000000000 t
+scene_breaks net count (Restore t a b) Time = nat_lt LATEST t
 scene_breaks net count (Swap t v i j) Range = not (nat_lt v net.nodes)
 scene_breaks net count (Swap t v i j) NoSuchPlace = not (has_place net v i && has_place net v j)
-scene_breaks net count (Swap t v i j) Time = nat_lt 1000000000 t
-scene_breaks net count s TooMany = nat_le 4096 count
+scene_breaks net count (Swap t v i j) Time = nat_lt LATEST t
+scene_breaks net count s TooMany = nat_le MOST_SCENES count
 scene_breaks net count s r = false
 
--- every rule, in rising order of the codes
+-- every rule, in rising order of the codes; of those that an item breaks the first decides
 abbrev pub rules_in_order : List Rule
 rules_in_order =
     Range ∷ SelfLink ∷ TwiceLink ∷ Delay ∷ PathOwner ∷ PathEnd ∷ PathRepeats ∷ PathNoLink ∷ TwicePath ∷ TooMany ∷ NoSuchLink ∷ NoSuchPlace ∷ Time ∷ []
 
--- the first of the rules that is broken
-abbrev pub lowest : (Rule → Bool) → List Rule → Option Rule
-lowest broken [] = None
-lowest broken (r ∷ rs) = if broken r then Some r else lowest broken rs
-
 abbrev pub nodes_fault : ℕ → Option Rule
-nodes_fault n = lowest (nodes_break n) rules_in_order
+nodes_fault n = find (nodes_break n) rules_in_order
 
 abbrev pub link_fault : Net → Link → Option Rule
-link_fault net l = lowest (link_breaks net l) rules_in_order
+link_fault net l = find (link_breaks net l) rules_in_order
 
 abbrev pub line_fault : Net → Line → Option Rule
-line_fault net p = lowest (line_breaks net p) rules_in_order
+line_fault net p = find (line_breaks net p) rules_in_order
 
 abbrev pub scene_fault : Net → ℕ → Scene → Option Rule
-scene_fault net count s = lowest (scene_breaks net count s) rules_in_order
+scene_fault net count s = find (scene_breaks net count s) rules_in_order
 
 -- each link keeps the rules after those before it
 abbrev pub LinksFollow : Net → List Link → Type 0

@@ -1,8 +1,9 @@
 -- What a router knows, and how it begins (Griffin, Shepherd, Wilfong 2002; sessions and counters own).
-use Rattle.std.specs.Prelude.{ℕ, ◌≡◌, ◌≤◌, ◌==◌, ◌^◌, Bool, true, not, ◌&&◌, List, ◌∷◌, length, map, nat_lt, slice_index_or, if◌then◌else◌}
+use Rattle.std.specs.Prelude.{ℕ, ◌≡◌, ◌≤◌, ◌==◌, Bool, true, not, ◌&&◌, List, ◌∷◌, length, map, nat_lt, slice_index_or, if◌then◌else◌}
 use Rattle.std.specs.List.{All, find, list_any, position_or_len}
 use Rattle.std.specs.Option.{unwrap_or}
 use Rattle.tw_event.specs.declared.event.PathNo.{PathNo}
+use Rattle.tw_model.specs.declared.limits.TheConstants.{MOST_COUNTED}
 use Rattle.tw_model.specs.declared.net.Hop.{Hop}
 use Rattle.tw_model.specs.declared.state.Counters.{Counters}
 use Rattle.tw_model.specs.declared.state.Row.{Row}
@@ -21,10 +22,6 @@ pub record Router : Type 0 where
   pub node : ℕ
   pub state : State
 
--- what a counter of messages or of events reaches at most
-abbrev pub limit : ℕ
-limit = 2 ^ 48
-
 -- whether the neighbour of this row offers q: the link is up, and q is v followed by what was heard
 abbrev pub offers : Net → ℕ → PathNo → Row → Bool
 offers net v q row = row.up && (not (row.heard.0 == 0) && same_path (path net q) (v ∷ path net row.heard))
@@ -35,8 +32,8 @@ best net v s = if v == 0 then origin_path else unwrap_or (find (λ q. list_any (
 
 -- counters that a router can have
 pub record IsCounted (c : Counters) : Type 0 where
-  pub sent : c.sent ≤ limit
-  pub handled : c.handled ≤ limit
+  pub sent : c.sent ≤ MOST_COUNTED
+  pub handled : c.handled ≤ MOST_COUNTED
   pub dropped : c.dropped ≤ c.handled
   pub changed : c.changed ≤ c.handled
 

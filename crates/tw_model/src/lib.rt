@@ -4,6 +4,7 @@
 #![tactic(auto)]
 
 mod case;
+pub mod limits;
 mod net;
 mod outcome;
 mod state;

@@ -15,7 +15,7 @@ use Rattle.tw_event.specs.Order.{event_before, event_same}
 use Rattle.tw_event.specs.contracts.event.EventOrd.TheImpl as event_ord
 use Rattle.tw_event.specs.contracts.event.EventPartialEq.TheImpl as event_eqs
 use Rattle.tw_event.proofs.Order.{before_not_self, before_trans, before_total, same_is, same_self, event_order, event_eq}
-use Rattle.tw_model.specs.Ordered.{insert, insert_all, one, take_out, times}
+use Rattle.tw_sim.specs.Ordered.{insert, insert_all, one, take_out, times}
 use Rattle.tw_queue.specs.Heap.{earlier, events_of, in_order, least_with}
 use Rattle.tw_queue.specs.Queue.{IsRising, AreFor, IsQueue}
 use Rattle.tw_queue.proofs.Ordered.{IsOrder, insert_least, ahead, all-filter, all-take_out, behind, cases_zero, times-in_order, insert_all_in_order, length-take_out, length-take_out-le, take_out-in_order, take_out_none, all-insert, all_weaker, all-in_order, all-permutation, length-in_order, in_order_least, in_order-permutation, in_order_sorted, asymmetric, not_before_trans}

@@ -3,7 +3,7 @@ use Rattle.std.proofs.Common.{◌≡◌, Bool, true, false, not, ◌&&◌, ◌||
 use Rattle.std.specs.List.{items_where_true}
 use Rattle.std.specs.List.Retain.{ReturnsInTurn, IsFiltered}
 use Rattle.std.proofs.lemmas.Bool.{cases_Bool}
-use Rattle.tw_model.specs.Ordered.{take_out}
+use Rattle.tw_sim.specs.Ordered.{take_out}
 
 module _ {X V : Type 0} (R : Bool × V → X → Bool → Bool × V → Type 0) (v : V) (same : X → X → Bool) (e : X) (says : (a : Bool) (x : X) (b : Bool) (q : Bool × V) → R (a, v) x b q → (b ≡ not (not a && same e x)) × (q ≡ (a || (not a && same e x), v))) where
   keeps : (bs : List Bool) (xs : List X) (q : Bool × V) → length bs ≡ length xs → ReturnsInTurn R (true, v) bs xs q → items_where_true bs xs ≡ xs

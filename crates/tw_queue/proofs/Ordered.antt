@@ -4,7 +4,7 @@ use Rattle.std.specs.List.{AllByRecursion, swap}
 use Rattle.std.specs.List.Sorted.{IsPermutation, IsSortedBy}
 use Rattle.std.proofs.lemmas.Bool.{cases_Bool, cases_eq, false≢true}
 use Rattle.std.proofs.lemmas.List.Sorted.{IsPermutation-keeps}
-use Rattle.tw_model.specs.Ordered.{insert, insert_all, one, take_out, times}
+use Rattle.tw_sim.specs.Ordered.{insert, insert_all, one, take_out, times}
 use Rattle.tw_queue.specs.Heap.{in_order}
 
 pub record IsOrder {E : Type 0} (before same : E → E → Bool) : Type 0 where

@@ -3,7 +3,7 @@ use Rattle.std.specs.Prelude.{Bool, cond, Option, Some, None, List, [], ◌∷�
 use Rattle.std.specs.declared.cmp.Reverse.{Reverse}
 use Rattle.tw_event.specs.declared.event.Event.{Event}
 use Rattle.tw_event.specs.Order.{event_before}
-use Rattle.tw_model.specs.Ordered.{insert}
+use Rattle.tw_sim.specs.Ordered.{insert}
 
 -- the events of a heap's items
 abbrev pub events_of : List (Reverse Event) → List Event

@@ -1,6 +1,6 @@
 ghost use Rattle.std.specs.Prelude.{◌≡◌, ◌↔◌, ◌+◌, ◌<◌, ◌≤◌, ◌==◌, IfNone, IfOk, IfSome, IsOk, IsTrue, OnErr, OnOk, OnSome, List, [], ◌∷◌, drop, filter, length, option_map, slice_get, count_by};
 ghost use Rattle.tw_event.specs.Order.{event_before, event_same};
-ghost use Rattle.tw_model.specs.Ordered.{insert, take_out, times};
+ghost use Rattle.tw_sim.specs.Ordered.{insert, take_out, times};
 ghost use Rattle.std.specs.BinaryHeap.{heap_capacity, heap_items, IsHeap};
 ghost use Rattle.std.specs.List.Sorted.{IsPermutation};
 ghost use Rattle.tw_queue.specs.Heap.{earlier, events_of, least_with};

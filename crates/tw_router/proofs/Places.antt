@@ -5,7 +5,7 @@ use Rattle.std.proofs.lemmas.Bool.{cases_Bool, cases_lt, both_ways}
 use Rattle.std.proofs.lemmas.List.{map-append, take_more, take_more_set}
 use Rattle.std.proofs.lemmas.List.Sums.{fails_before_first}
 use Rattle.std.proofs.Math.Seq.{take-append_seam}
-use Rattle.tw_model.proofs.Members.{In}
+use Rattle.tw_sim.proofs.Members.{In}
 
 module _ {X : Type 0} where
   -- two tests that agree first pass at the same place

@@ -16,7 +16,7 @@ use Rattle.tw_model.specs.declared.net.Hop.{Hop}
 use Rattle.tw_model.specs.Net.{IsPath, Net, empty_path}
 use Rattle.tw_model.specs.Effect.{with_row}
 use Rattle.tw_model.specs.State.{IsState, Router, State, best, fresh_row, no_row, offers}
-use Rattle.tw_model.proofs.Members.{In, in_from_any, in_get_or, place_passes, place_within}
+use Rattle.tw_sim.proofs.Members.{In, in_from_any, in_get_or, place_passes, place_within}
 use Rattle.tw_model.proofs.Paths.{path_empty}
 use Rattle.tw_router.specs.Ranks.{rank, rank_row}
 use Rattle.tw_router.proofs.Opening.{all-paths}

@@ -3,7 +3,7 @@ ghost use Rattle.std.specs.List.{All, position};
 ghost use Rattle.tw_model.specs.Net.{IsPath, path as path_of};
 ghost use Rattle.tw_model.specs.Rules.{IsNet};
 ghost use Rattle.tw_model.specs.State.{IsCounted, IsState, best as best_of, fresh_row, offers, opening, opening_with, row as row_of};
-ghost use Rattle.tw_model.specs.Effect.{swapping, with_row};
+ghost use Rattle.tw_model.specs.Effect.{with_swap, with_row};
 ghost use Rattle.tw_router.specs.Nodes.{best_nodes, heard_of, order_of};
 ghost use Rattle.tw_router.specs.Ranks.{rank_row as rank_row_of};
 ghost use Rattle.tw_router.specs.declared.router.OpenFault.TheVariants.{Memory};
@@ -113,7 +113,7 @@ impl<'a> Router<'a> {
         Ok(Router {
             instance,
             node,
-            rib: PathNo(0),
+            rib: PathNo::EMPTY,
             rows: fresh_rows(alloc, hops)?,
             order: Vec::from_slice(alloc, instance.permitted(node))?,
             ranks: vec![in alloc; 0; hops.len()]?,
@@ -226,12 +226,12 @@ impl<'a> Router<'a> {
     {
         let node = self.node();
         if node == 0 {
-            return PathNo(1);
+            return PathNo::ORIGIN;
         }
         let (order, ranks) = (self.order(), self.rank_row());
         match self.best_slot() {
             Some(slot) => order[order.len() - ranks[slot] as usize],
-            None => PathNo(0),
+            None => PathNo::EMPTY,
         }
     }
 
@@ -315,7 +315,7 @@ impl<'a> Router<'a> {
         requires first_within { first ≤ length self.old.state.order }
         requires second_place { 0 < second }
         requires second_within { second ≤ length self.old.state.order }
-        ensures { self.new ≡ record self.old { state = swapping self.old.state first second } }
+        ensures { self.new ≡ record self.old { state = with_swap self.old.state first second } }
     {
         self.order.swap(first as usize - 1, second as usize - 1);
         let node = self.node;
@@ -336,7 +336,7 @@ fn fresh_rows(alloc: Global, hops: &[Hop]) -> Result<Vec<Row>, AllocError>
     ensures { IfOk result (λ rows. rows.items ≡ map fresh_row hops.now) }
 {
     let fresh = Row {
-        heard: PathNo(0),
+        heard: PathNo::EMPTY,
         up: true,
         session: 0,
     };

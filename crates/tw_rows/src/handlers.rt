@@ -110,7 +110,7 @@ fn a_trail_goes_back_to_each_earlier_state(rt: HostRuntime) {
     assert!(rt; sends.is_empty() && trail.len() == 3);
     assert!(rt; back(&mut trail, instance, 1, &mut sends) == (PathNo(3), 2));
     assert!(rt; times(&sends, &[(5, 4), (5, 5), (4, 2), (4, 3)]) && trail.len() == 1);
-    assert!(rt; back(&mut trail, instance, 0, &mut sends) == (PathNo(0), 0));
+    assert!(rt; back(&mut trail, instance, 0, &mut sends) == (PathNo::EMPTY, 0));
     assert!(rt; times(&sends, &[(5, 4), (5, 5), (4, 2), (4, 3), (2, 0), (2, 1)]));
     assert!(rt; trail.router().counters() == NO_COUNTS);
 }
@@ -134,7 +134,7 @@ fn the_rank_row_follows_what_is_heard_and_goes_back(rt: HostRuntime) {
     assert!(rt; trail.router().rank_row() == [1, 2].as_slice());
     assert!(rt; first_equal(trail.router().rank_row(), 2) == Some(1));
     let mut sends = SmallVec::new(alloc);
-    assert!(rt; back(&mut trail, instance, 0, &mut sends) == (PathNo(0), 0));
+    assert!(rt; back(&mut trail, instance, 0, &mut sends) == (PathNo::EMPTY, 0));
     assert!(rt; trail.router().rank_row() == [0, 0].as_slice());
 }
 
@@ -184,8 +184,8 @@ fn an_update_of_another_session_is_dropped(rt: HostRuntime) {
     };
     let counters = router.counters();
     assert!(rt; counters.handled == 1 && counters.dropped == 1 && counters.sent == 0);
-    assert!(rt; router.rib() == PathNo(0) && sends.is_empty());
-    assert!(rt; matches!(router.rows().first(), Some(row) if row.heard == PathNo(0)));
+    assert!(rt; router.rib() == PathNo::EMPTY && sends.is_empty());
+    assert!(rt; matches!(router.rows().first(), Some(row) if row.heard == PathNo::EMPTY));
     assert!(rt; undo(instance, &mut router, &event, note, &mut sends).is_ok());
     assert!(rt; router.counters() == NO_COUNTS && sends.is_empty());
 }
@@ -210,7 +210,7 @@ fn a_full_counter_is_refused(rt: HostRuntime) {
         panic!(rt; "the router is refused")
     };
     assert!(rt; handle(instance, &mut full, &event, &mut sends) == Err(Fault::CounterFull));
-    assert!(rt; full.counters() == counters && full.rib() == PathNo(0) && sends.is_empty());
+    assert!(rt; full.counters() == counters && full.rib() == PathNo::EMPTY && sends.is_empty());
     counters.sent = (1 << 48) - 2;
     let Ok(mut router) = router(alloc, instance, counters) else {
         panic!(rt; "the router is refused")

@@ -77,7 +77,7 @@ fn paths_are_found_by_their_nodes_and_by_what_they_extend(rt: HostRuntime) {
     let instance = case.instance();
     assert!(rt; instance.nodes() == 3);
     assert!(rt;
-        instance.number(&[]) == Some(PathNo(0)) && instance.number(&[0]) == Some(PathNo(1))
+        instance.number(&[]) == Some(PathNo::EMPTY) && instance.number(&[0]) == Some(PathNo::ORIGIN)
     );
     assert!(rt; instance.number(&[2, 1, 0]) == Some(PathNo(4)) && instance.number(&[1, 2]) == None);
     assert!(rt; instance.slot(2, 2) == None);

@@ -70,7 +70,7 @@ fn alone(alloc: Global) -> Result<Outcome, AllocError>
             dropped: 0,
             changed: 1,
         },
-        rib: PathNo(1),
+        rib: PathNo::ORIGIN,
     };
     Ok(Outcome {
         stop: 10,

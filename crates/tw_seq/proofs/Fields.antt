@@ -2,7 +2,7 @@
 use Rattle.std.proofs.Common.{◌≡◌, ◌≤◌, ℕ, ◌==◌, Bool, not, List, [], ◌∷◌, ◌++◌, length, reverse, set, get_or, drop, take, refl, ap, sym, ◌∙◌, subst, if◌then◌else◌}
 use Rattle.tw_event.specs.declared.event.Event.{Event}
 use Rattle.tw_event.specs.Order.{event_before}
-use Rattle.tw_model.specs.Ordered.{insert_all}
+use Rattle.tw_sim.specs.Ordered.{insert_all}
 use Rattle.tw_model.specs.Quiet.{last_change}
 use Rattle.tw_model.specs.State.{Router}
 use Rattle.tw_seq.specs.declared.one_thread.OneThread.TheInside.{Inside}

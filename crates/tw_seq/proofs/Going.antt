@@ -6,16 +6,16 @@ use Rattle.std.proofs.lemmas.List.{reverse-reverse}
 use Rattle.tw_event.specs.declared.event.Event.{Event}
 use Rattle.tw_model.specs.declared.outcome.RouterEnd.{RouterEnd}
 use Rattle.tw_model.specs.Case.{Case, simulation}
-use Rattle.tw_model.specs.Seq.{World, begin, seq, turns, weight}
-use Rattle.tw_model.specs.Sim.{Sim, IsLawful, times}
+use Rattle.tw_sim.specs.Seq.{World, begin, seq, turns, weight}
+use Rattle.tw_sim.specs.Simulation.{Simulation, IsLawful, times}
 use Rattle.tw_model.specs.State.{Router, State}
 use Rattle.tw_model.proofs.Lawful.{lawful}
-use Rattle.tw_model.proofs.Rising as rising
-use Rattle.tw_model.proofs.Rising.{rising-begin, rising-turns}
-use Rattle.tw_model.proofs.Seq as model
-use Rattle.tw_model.proofs.Seq.{turns-add, turns_later, weight-turn}
+use Rattle.tw_sim.proofs.Rising as rising
+use Rattle.tw_sim.proofs.Rising.{rising-begin, rising-turns}
+use Rattle.tw_sim.proofs.Seq as model
+use Rattle.tw_sim.proofs.Seq.{turns-add, turns_later, weight-turn}
 use Rattle.tw_seq.specs.Outcome.{end_of, least}
-use Rattle.tw_seq.specs.Run.{Continues, IsBegun, IsNext, IsNextRun, IsOver, Run, complete, router_after, routers_after, state_after, world}
+use Rattle.tw_seq.specs.Run.{Continues, IsBegun, IsNext, IsNextRun, IsOver, Run, complete, router_after, routers_after, state_in, world}
 use Rattle.tw_seq.proofs.Handled.{get_or-routers}
 use Rattle.tw_seq.proofs.Steps.{is_whole}
 
@@ -57,7 +57,7 @@ complete_at run h none =
     let events : run.events ≡ reverse (seq m run.stop).log = sym (reverse-reverse run.events) ∙ ap (λ w. reverse w.log) whole in
     λ i. record { case = run.case; stop = run.stop; events = events i; pending = (whole i).rest }
 
-least_past : (events : List Event) (k t : ℕ) (m : Sim State Event) → ((x : Event) → 0 < times m x events → k ≤ x.time) → ((x : Event) → m.same x x ≡ true) → min k (least events t) ≡ min k t
+least_past : (events : List Event) (k t : ℕ) (m : Simulation State Event) → ((x : Event) → 0 < times m x events → k ≤ x.time) → ((x : Event) → m.same x x ≡ true) → min k (least events t) ≡ min k t
 least_past [] k t m h self = refl
 least_past (e ∷ events) k t m h self =
     let own : 0 < times m e (e ∷ events) = rw (self e) (omega arith) in
@@ -71,7 +71,7 @@ begun_rising run h =
     let law = lawful run.case h.case in
     subst (λ w. rising.IsRising m w.rest) h.turns.1 (rising-turns m law h.turns.0 run.stop (begin m) (rising-begin m law))
 
-no_sooner : (m : Sim State Event) → IsLawful m → (e x : Event) → m.before x e ≡ false → m.time e ≤ m.time x
+no_sooner : (m : Simulation State Event) → IsLawful m → (e x : Event) → m.before x e ≡ false → m.time e ≤ m.time x
 no_sooner m law e x h =
     elim (cases_Bool (m.before e x)) [
       | inl b ↦ law.timely e x b
@@ -107,6 +107,6 @@ map-map g f [] = refl
 map-map g f (x ∷ xs) = ap (λ l. g (f x) ∷ l) (map-map g f xs)
 
 pub ends_of : (case : Case) (events : List Event) (routers : List Router) (ends : List RouterEnd) → routers ≡ routers_after case events → ends ≡ map (λ router. end_of router.state) routers
-    → ends ≡ map (λ r. end_of (state_after case events r)) (range_with_len 0 case.net.nodes)
+    → ends ≡ map (λ r. end_of (state_in case events r)) (range_with_len 0 case.net.nodes)
 ends_of case events routers ends are h =
     h ∙ (ap (map (λ router. end_of router.state)) are ∙ map-map (λ router. end_of router.state) (router_after case events) (range_with_len 0 case.net.nodes))

@@ -4,15 +4,15 @@ use Rattle.std.specs.List.{AllByRecursion}
 use Rattle.tw_event.specs.declared.event.Event.{Event}
 use Rattle.tw_model.specs.Case.{Case, IsCase, opening_events, simulation}
 use Rattle.tw_model.specs.Effect.{effect, suits}
-use Rattle.tw_model.specs.Seq.{begin, insert_all, turns}
-use Rattle.tw_model.specs.Sim.{Sim, IsLawful, times}
-use Rattle.tw_model.proofs.Counts.{in_head, one_self, times-insert_all}
-use Rattle.tw_model.proofs.Rising.{AllSuit, suit-begin, suit-turns}
+use Rattle.tw_sim.specs.Seq.{begin, insert_all, turns}
+use Rattle.tw_sim.specs.Simulation.{Simulation, IsLawful, times}
+use Rattle.tw_sim.proofs.Counts.{in_head, one_self, times-insert_all}
+use Rattle.tw_sim.proofs.Rising.{AllSuit, suit-begin, suit-turns}
 use Rattle.tw_model.proofs.Within.{suits_within}
-use Rattle.tw_seq.specs.Run.{IsBegun, Run, state_after, world}
+use Rattle.tw_seq.specs.Run.{IsBegun, Run, state_in, world}
 use Rattle.tw_seq.proofs.Steps.{goes_on, pushed}
 
-all_counted : {S E : Type 0} (m : Sim S E) → IsLawful m → (P : E → Type 0) (xs : List E) → ((x : E) → 0 < times m x xs → P x) → AllByRecursion P xs
+all_counted : {S E : Type 0} (m : Simulation S E) → IsLawful m → (P : E → Type 0) (xs : List E) → ((x : E) → 0 < times m x xs → P x) → AllByRecursion P xs
 all_counted m law P [] h = tt
 all_counted m law P (x ∷ xs) h =
     let own = one_self m law x in (h x (omega arith), all_counted m law P xs (λ y there. h y (omega arith)))
@@ -31,7 +31,7 @@ least_suits run e later law h is =
 
 -- what the least pending event sends
 abbrev pub sends_of : Run → Event → List Event
-sends_of run e = (effect run.case.net e.dst (state_after run.case run.events e.dst) e).sends
+sends_of run e = (effect run.case.net e.dst (state_in run.case run.events e.dst) e).sends
 
 -- the run once it has handled its least pending event
 abbrev pub next_run : Run → Event → List Event → Run

@@ -8,7 +8,7 @@ use Rattle.tw_model.specs.Quiet.{last_change}
 use Rattle.tw_model.specs.State.{Router}
 use Rattle.tw_model.proofs.Lawful.{lawful}
 use Rattle.tw_model.proofs.Within.{suits_within}
-use Rattle.tw_seq.specs.Run.{IsBegun, IsNext, IsStuck, Run, router_after, routers_after, state_after}
+use Rattle.tw_seq.specs.Run.{IsBegun, IsNext, IsStuck, Run, router_after, routers_after, state_in}
 use Rattle.tw_seq.specs.Turn.{after_event, effect_at, no_router}
 use Rattle.tw_seq.proofs.Handled.{get_or-routers, last_change-push, length-routers, set-routers}
 use Rattle.tw_seq.proofs.Homes.{least_suits, sends_home, sends_of}
@@ -43,7 +43,7 @@ module _ (run : Run) (routers : List Router) (e : Event) (begun : IsBegun run) (
   pub next_full : IsStuck run → is_full (get_or routers e.dst no_router).net (get_or routers e.dst no_router).node (get_or routers e.dst no_router).state e ≡ true
   next_full stuck =
       let same : stuck.0 ≡ e = cc (stuck.2, next.1) in
-      subst (λ r. is_full r.net r.node r.state e ≡ true) (sym next_router) (subst (λ x. is_full run.case.net x.dst (state_after run.case run.events x.dst) x ≡ true) same stuck.4)
+      subst (λ r. is_full r.net r.node r.state e ≡ true) (sym next_router) (subst (λ x. is_full run.case.net x.dst (state_in run.case run.events x.dst) x ≡ true) same stuck.4)
 
   -- its sends
   pub next_sends : (effect_at (get_or routers e.dst no_router) e).sends ≡ sends_of run e

@@ -2,14 +2,14 @@
 use Rattle.std.proofs.Common.{◌≡◌, ℕ, ◌+◌, ◌<◌, List, [], ◌∷◌, ◌++◌, reverse, refl, ap, sym, ◌∙◌, arith}
 use Rattle.std.proofs.lemmas.Bool.{eq-eqb, ne_eqb}
 use Rattle.std.proofs.lemmas.List.{reverse-append}
-use Rattle.tw_model.specs.Sim.{Sim, IsLawful, only, state}
-use Rattle.tw_model.specs.Seq.{World, begin, finished, insert_all, seq, turns}
-use Rattle.tw_model.proofs.Seq.{IsOver, turn_soon, turns-add, finished_turns, finished_over}
+use Rattle.tw_sim.specs.Simulation.{Simulation, IsLawful, only, state}
+use Rattle.tw_sim.specs.Seq.{World, begin, finished, insert_all, seq, turns}
+use Rattle.tw_sim.proofs.Seq.{IsOver, turn_soon, turns-add, finished_turns, finished_over}
 
 pub reverse-push : {A : Type 0} (xs : List A) (x : A) → reverse (xs ++ x ∷ []) ≡ x ∷ reverse xs
 reverse-push xs x = reverse-append xs (x ∷ [])
 
-module _ {S E : Type 0} (m : Sim S E) where
+module _ {S E : Type 0} (m : Simulation S E) where
   -- the world after handling x, with the events the first one first
   pub pushed : (t : ℕ) (events : List E) (x : E) (later : List E) → m.time x < t
       → turns m 1 t (record { log = reverse events; rest = x ∷ later })

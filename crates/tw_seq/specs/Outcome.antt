@@ -6,7 +6,7 @@ use Rattle.tw_model.specs.declared.outcome.RouterEnd.{RouterEnd}
 use Rattle.tw_model.specs.Quiet.{last_change}
 use Rattle.tw_model.specs.State.{State}
 use Rattle.tw_model.specs.Summary.{Summary}
-use Rattle.tw_seq.specs.Run.{Run, state_after}
+use Rattle.tw_seq.specs.Run.{Run, state_in}
 
 -- the least of a time and of the times of events
 abbrev pub least : List Event → ℕ → ℕ
@@ -23,7 +23,7 @@ outcome_of run = record {
   stop = run.stop;
   bound = least run.pending run.stop;
   events = run.events;
-  routers = map (λ r. end_of (state_after run.case run.events r)) (range_with_len 0 run.case.net.nodes);
+  routers = map (λ r. end_of (state_in run.case run.events r)) (range_with_len 0 run.case.net.nodes);
   pending = run.pending;
   last_change = last_change run.case (reverse run.events);
 }

@@ -4,8 +4,8 @@ use Rattle.std.specs.List.{range_with_len}
 use Rattle.tw_event.specs.declared.event.Event.{Event}
 use Rattle.tw_model.specs.Case.{Case, IsCase, simulation}
 use Rattle.tw_model.specs.Effect.{is_full}
-use Rattle.tw_model.specs.Seq.{World, begin, log, rest, turns}
-use Rattle.tw_model.specs.Sim.{only, state}
+use Rattle.tw_sim.specs.Seq.{World, begin, log, rest, turns}
+use Rattle.tw_sim.specs.Simulation.{only, state}
 use Rattle.tw_model.specs.State.{Router, State}
 
 -- the greatest stop asked for, the events handled, the first one first, and the events pending, the least first
@@ -28,12 +28,12 @@ abbrev pub world : Run → World Event
 world run = record { log = reverse run.events; rest = run.pending }
 
 -- what router r knows after these events
-abbrev pub state_after : Case → List Event → ℕ → State
-state_after case events r = state (simulation case) r (only (simulation case) r (reverse events))
+abbrev pub state_in : Case → List Event → ℕ → State
+state_in case events r = state (simulation case) r (only (simulation case) r (reverse events))
 
 -- router r after these events
 abbrev pub router_after : Case → List Event → ℕ → Router
-router_after case events r = record { net = case.net; node = r; state = state_after case events r }
+router_after case events r = record { net = case.net; node = r; state = state_in case events r }
 
 -- every router after these events
 abbrev pub routers_after : Case → List Event → List Router
@@ -51,7 +51,7 @@ Continues earlier later = (n : ℕ) × (turns (simulation earlier.case) n later.
 -- handling the least pending event, which is before the stop, would pass a counter's limit
 abbrev pub IsStuck : Run → Type 0
 IsStuck run =
-    (e : Event) × (later : List Event) × (run.pending ≡ e ∷ later) × (e.time < run.stop) × (is_full run.case.net e.dst (state_after run.case run.events e.dst) e ≡ true)
+    (e : Event) × (later : List Event) × (run.pending ≡ e ∷ later) × (e.time < run.stop) × (is_full run.case.net e.dst (state_in run.case run.events e.dst) e ≡ true)
 
 -- e is the least pending event, and before the stop
 abbrev pub IsNext : Run → Event → Type 0

@@ -1,7 +1,7 @@
 -- One event at one router.
 use Rattle.std.specs.Prelude.{[]}
 use Rattle.tw_event.specs.declared.event.Event.{Event}
-use Rattle.tw_model.specs.Effect.{Outcome, effect}
+use Rattle.tw_model.specs.Effect.{Reaction, effect}
 use Rattle.tw_model.specs.State.{Router, no_counts}
 use Rattle.tw_model.specs.Net.{empty_path}
 
@@ -10,7 +10,7 @@ abbrev pub no_router : Router
 no_router = record { net = record { nodes = 0; links = []; lines = [] }; node = 0; state = record { rib = empty_path; rows = []; order = []; counters = no_counts } }
 
 -- what handling the event does
-abbrev pub effect_at : Router → Event → Outcome
+abbrev pub effect_at : Router → Event → Reaction
 effect_at router e = effect router.net router.node router.state e
 
 -- the router once it has handled the event

@@ -5,8 +5,8 @@ ghost use Rattle.std.specs.Prelude.{ℕ, ◌≡◌, ◌<◌, ◌≤◌, List};
 ghost use Rattle.tw_event.specs.declared.event.Event.{Event};
 ghost use Rattle.tw_model.specs.Case.{Case, IsCase, simulation};
 ghost use Rattle.tw_model.specs.Quiet.{IsQuiet, IsStable};
-ghost use Rattle.tw_model.specs.Seq.{at, log, rest};
-ghost use Rattle.tw_model.specs.Sim.{IsClosed, IsLawful, IsNumbered, times};
+ghost use Rattle.tw_sim.specs.Seq.{at, log, rest};
+ghost use Rattle.tw_sim.specs.Simulation.{IsClosed, IsLawful, IsNumbered, times};
 
 /// What every case simulates keeps the laws that the other laws rest on: a message is later than the
 /// event that sent it, comes from that event's router, is numbered by the rising counter and suits the

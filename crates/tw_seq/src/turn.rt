@@ -2,7 +2,7 @@ ghost use Rattle.std.specs.Prelude.{◌≡◌, ◌≤◌, ◌<◌, [], ◌++◌,
 ghost use Rattle.tw_event.specs.Order.{event_before};
 ghost use Rattle.tw_model.specs.Case.{opening_events};
 ghost use Rattle.tw_model.specs.Effect.{effect, fits, is_full};
-ghost use Rattle.tw_model.specs.Ordered.{insert_all};
+ghost use Rattle.tw_sim.specs.Ordered.{insert_all};
 ghost use Rattle.tw_model.specs.State.{State};
 ghost use Rattle.tw_handlers.specs.Record.{IsHandled};
 ghost use Rattle.tw_queue.specs.Queue.{AreFor};

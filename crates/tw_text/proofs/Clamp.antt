@@ -1,4 +1,5 @@
 -- A node or a place that a `u32` does not hold breaks the same rules as the greatest that it holds.
+use Rattle.std.specs.List.{find}
 use Rattle.std.proofs.Common.{◌≡◌, ℕ, ◌≤◌, nat_lt, nat_le, Bool, true, false, not, ◌&&◌, ◌||◌, List, [], ◌∷◌, length, map, Option, Some, None, refl, ap, ap₂, sym, ◌∙◌, inl, inr, arith, slice_index_or, if◌then◌else◌}
 use Rattle.std.proofs.lemmas.Bool.{and_parts, cases_Bool, not-false}
 use Rattle.std.proofs.Math.Bool.{and-false}
@@ -12,7 +13,7 @@ use Rattle.std.specs.List.{range_with_len}
 use Rattle.tw_model.proofs.Unbroken.{none_broken}
 use Rattle.tw_model.specs.Line.{Line}
 use Rattle.tw_model.specs.Net.{Net, begins_at, paths, paths_of}
-use Rattle.tw_model.specs.Rules.{has_place, is_within, lowest, rules_in_order}
+use Rattle.tw_model.specs.Rules.{has_place, is_within, rules_in_order}
 use Rattle.tw_model.specs.declared.case.Scene.TheVariants.{Fail, Restore, Swap}
 use Rattle.tw_model.specs.declared.net.Link.{Link}
 use Rattle.tw_model.specs.declared.net.Rule.{Rule}
@@ -48,13 +49,13 @@ all-same (n ∷ p) k h t = let w = and_parts (nat_lt n k) (list_all (λ v. nat_l
 
 -- the two break the same lowest rule, and are one where they break none
 record IsSame (d : Draft) (s : Statement) : Type 0 where
-  fault : lowest (breaks d (clamped s)) rules_in_order ≡ lowest (breaks d s) rules_in_order
-  kept : lowest (breaks d s) rules_in_order ≡ None → clamped s ≡ s
+  fault : find (breaks d (clamped s)) rules_in_order ≡ find (breaks d s) rules_in_order
+  kept : find (breaks d s) rules_in_order ≡ None → clamped s ≡ s
 
 same_at : (d : Draft) (s : Statement) → clamped s ≡ s → IsSame d s
-same_at d s e = record { fault = ap (λ s. lowest (breaks d s) rules_in_order) e; kept = λ _. e }
+same_at d s e = record { fault = ap (λ s. find (breaks d s) rules_in_order) e; kept = λ _. e }
 
-lowest_at_range : (broken : Rule → Bool) → broken Range ≡ true → lowest broken rules_in_order ≡ Some Range
+lowest_at_range : (broken : Rule → Bool) → broken Range ≡ true → find broken rules_in_order ≡ Some Range
 lowest_at_range broken h = rw h refl
 
 out_of_range : (d : Draft) (s : Statement) → breaks d (clamped s) Range ≡ true → breaks d s Range ≡ true → IsSame d s
@@ -183,4 +184,4 @@ clamped_fault d s ended h = rw (misplaced-clamped d s, (clamped-same d s h).faul
 
 -- where there is no fault, nothing is clamped
 pub clamped_is : (d : Draft) (s : Statement) (ended : Bool) → IsSmall d → fault_after d s ended ≡ None → clamped s ≡ s
-clamped_is d s ended h none = (clamped-same d s h).kept (no_rule (is_misplaced d s) (not ended || is_done d) (lowest (breaks d s) rules_in_order) none)
+clamped_is d s ended h none = (clamped-same d s h).kept (no_rule (is_misplaced d s) (not ended || is_done d) (find (breaks d s) rules_in_order) none)

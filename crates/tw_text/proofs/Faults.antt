@@ -2,7 +2,7 @@
 use Rattle.std.proofs.Common.{◌≡◌, ℕ, Bool, true, false, not, ◌&&◌, ◌||◌, cond, List, [], ◌∷◌, map, Option, Some, None, Result, Ok, Err, refl, ap, sym, ◌∙◌, inl, inr, bytes_eq, codes}
 use Rattle.std.proofs.lemmas.Bool.{cases_Bool}
 use Rattle.std.specs.List.{find, list_all}
-use Rattle.tw_model.specs.Rules.{lowest, rules_in_order}
+use Rattle.tw_model.specs.Rules.{rules_in_order}
 use Rattle.tw_model.specs.declared.net.Rule.{Rule}
 use Rattle.tw_text.specs.declared.draft.Draft.{Draft}
 use Rattle.tw_text.specs.declared.draft.Draft.TheVariants.{Start}
@@ -18,7 +18,7 @@ use Rattle.tw_text.specs.Words.{is_plain, words}
 
 -- the lowest rule, among the faults
 find_rules : (test : LineFault → Bool) (broken : Rule → Bool) → ((r : Rule) → test (x.Rule r) ≡ broken r) → (rs : List Rule)
-    → find test (map (λ r. x.Rule r) rs) ≡ of_rule (lowest broken rs)
+    → find test (map (λ r. x.Rule r) rs) ≡ of_rule (find broken rs)
 find_rules test broken same [] = refl
 find_rules test broken same (r ∷ rs) =
     elim (cases_Bool (broken r)) [
@@ -35,7 +35,7 @@ first_of_six byte header word number order end rest =
 abbrev form : Draft → Bool → Bool → Bool → Result Statement WordsFault → Option LineFault
 form d ended plain header said =
     first_of_six (not plain) (is_start d && not header) (from_second d (is_no_statement said)) (from_second d (has_no_number said))
-    (from_second d (if_said said (is_misplaced d))) (not ended || is_done d) (of_rule (lowest (λ r. from_second d (if_said said (λ s. breaks d s r))) rules_in_order))
+    (from_second d (if_said said (is_misplaced d))) (not ended || is_done d) (of_rule (find (λ r. from_second d (if_said said (λ s. breaks d s r))) rules_in_order))
 
 fault_of-form : (d : Draft) (line : List ℕ) (ended : Bool)
     → fault_of d line ended ≡ form d ended (list_all is_plain line) (bytes_eq line (codes "spp 1")) (statement_of (words line))

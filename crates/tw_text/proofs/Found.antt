@@ -1,4 +1,5 @@
 -- A text that is read as a case is the text of that case, and the case keeps the rules.
+use Rattle.std.specs.List.{find}
 use Rattle.std.proofs.Common.{◌≡◌, ℕ, suc, true, false, List, [], ◌∷◌, ◌++◌, map, bytes_eq, codes, Option, Some, None, Result, Ok, Err, refl, ap, ap₂, sym, ◌∙◌, append_assoc, inl, inr, arith, subst}
 use Rattle.std.proofs.lemmas.Bool.{cases_Bool}
 use Rattle.std.proofs.lemmas.List.{append-nil, map-append}
@@ -7,7 +8,7 @@ use Rattle.std.specs.List.{join_with_byte}
 use Rattle.tw_model.specs.Case.{Case, IsCase}
 use Rattle.tw_model.specs.Line.{Line}
 use Rattle.tw_model.specs.Net.{Net}
-use Rattle.tw_model.specs.Rules.{IsNet, link_fault, lowest, rules_in_order}
+use Rattle.tw_model.specs.Rules.{IsNet, link_fault, rules_in_order}
 use Rattle.tw_model.specs.declared.case.Scene.{Scene}
 use Rattle.tw_model.specs.declared.net.Link.{Link}
 use Rattle.tw_model.specs.declared.net.Rule.{Rule}
@@ -128,7 +129,7 @@ fits d s later h =
       | inr f ↦
           elim (cases_Bool (is_done d)) [
             | inl t ↦ absurd (let e : Some x.End ≡ None = rw (f, t) at h in cc)
-            | inr g ↦ record { later = later; placed = f; unended = g; kept = no_rule (lowest (breaks d s) rules_in_order) (rw (f, g) at h) }
+            | inr g ↦ record { later = later; placed = f; unended = g; kept = no_rule (find (breaks d s) rules_in_order) (rw (f, g) at h) }
           ]
     ]
 

@@ -1,7 +1,8 @@
 -- The line of a statement.
+use Rattle.std.specs.List.{find}
 use Rattle.std.proofs.Common.{◌≡◌, ℕ, true, false, List, [], ◌∷◌, None, Ok, refl, ap, ◌∙◌}
 use Rattle.std.specs.List.{AllByRecursion, join_with_byte, list_all}
-use Rattle.tw_model.specs.Rules.{lowest, rules_in_order}
+use Rattle.tw_model.specs.Rules.{rules_in_order}
 use Rattle.tw_model.specs.declared.case.Scene.TheVariants.{Fail, Restore, Swap}
 use Rattle.tw_text.specs.declared.draft.Draft.{Draft}
 use Rattle.tw_text.specs.declared.statement.Statement.{Statement}
@@ -53,7 +54,7 @@ pub record Fits (d : Draft) (s : Statement) : Type 0 where
   pub later : is_start d ≡ false
   pub placed : is_misplaced d s ≡ false
   pub unended : is_done d ≡ false
-  pub kept : lowest (breaks d s) rules_in_order ≡ None
+  pub kept : find (breaks d s) rules_in_order ≡ None
 
 pub line-fault : (d : Draft) (s : Statement) → IsSayable s → Fits d s → fault_of d (text_line s) true ≡ None
 line-fault d s h f =

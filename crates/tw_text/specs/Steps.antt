@@ -1,4 +1,5 @@
 -- What the functions return that read a line.
+use Rattle.std.specs.List.{find}
 use Rattle.std.specs.Prelude.{ℕ, min, ◌≤◌, ◌≡◌, Bool, not, ◌||◌, List, length, map, Option, None, Some, Result, Ok, Err, option_map, if◌then◌else◌}
 use Rattle.std.specs.Result.{result_map_both}
 use Rattle.std.specs.declared.alloc.Global.{Global}
@@ -6,7 +7,7 @@ use Rattle.std.specs.declared.vec.Vec.{Vec}
 use Rattle.tw_instance.specs.declared.refusal.Refusal.{Refusal}
 use Rattle.tw_instance.specs.declared.refusal.Refusal.TheVariants as refusal
 use Rattle.tw_model.specs.Net.{paths}
-use Rattle.tw_model.specs.Rules.{lowest, rules_in_order}
+use Rattle.tw_model.specs.Rules.{rules_in_order}
 use Rattle.tw_model.specs.declared.case.Scene.{Scene}
 use Rattle.tw_model.specs.declared.case.Scene.TheVariants.{Fail, Restore, Swap}
 use Rattle.tw_model.specs.declared.net.Rule.{Rule}
@@ -88,7 +89,7 @@ abbrev pub fault_after : Draft → Statement → Bool → Option LineFault
 fault_after d s ended =
     if is_misplaced d s then Some x.Order
     else if not ended || is_done d then Some x.End
-    else of_rule (lowest (breaks d s) rules_in_order)
+    else of_rule (find (breaks d s) rules_in_order)
 
 -- fewer routers, and fewer paths, than a `u32` numbers
 pub record IsSmall (d : Draft) : Type 0 where

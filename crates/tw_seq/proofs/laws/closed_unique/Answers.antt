@@ -1,6 +1,6 @@
 use Rattle.tw_model.specs.Case.{simulation}
-use Rattle.tw_model.proofs.Closed as closed
-use Rattle.tw_model.proofs.Unique as unique
+use Rattle.tw_sim.proofs.Closed as closed
+use Rattle.tw_sim.proofs.Unique as unique
 use Rattle.tw_model.proofs.Lawful.{lawful, numbered}
 use Rattle.tw_seq.proofs.laws.closed_unique.Goals as goal
 

@@ -1,5 +1,5 @@
 use Rattle.tw_model.specs.Case.{simulation}
-use Rattle.tw_model.proofs.Closed as closed
+use Rattle.tw_sim.proofs.Closed as closed
 use Rattle.tw_model.proofs.Lawful.{lawful, numbered}
 use Rattle.tw_seq.proofs.laws.run_ends.Goals as goal
 

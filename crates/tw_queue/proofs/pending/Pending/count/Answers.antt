@@ -2,7 +2,7 @@ use Rattle.std.proofs.Common.{count_by, ap, ◌∙◌}
 use Rattle.std.specs.BinaryHeap.{heap_items}
 use Rattle.tw_event.specs.Order.{event_same}
 use Rattle.tw_event.specs.contracts.event.EventPartialEq.TheImpl as event_eqs
-use Rattle.tw_model.specs.Ordered.{times}
+use Rattle.tw_sim.specs.Ordered.{times}
 use Rattle.tw_queue.proofs.Events.{times_in_heap}
 use Rattle.tw_queue.proofs.pending.Pending.count.Goals as goal
 

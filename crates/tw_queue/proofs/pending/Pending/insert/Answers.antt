@@ -1,7 +1,7 @@
 use Rattle.std.proofs.Common.{ap, ◌∙◌, arith}
 use Rattle.std.specs.BinaryHeap.{heap_items}
 use Rattle.tw_event.specs.Order.{event_before}
-use Rattle.tw_model.specs.Ordered.{insert}
+use Rattle.tw_sim.specs.Ordered.{insert}
 use Rattle.tw_queue.proofs.Events.{in_order_pushed, homes_pushed}
 use Rattle.tw_queue.proofs.pending.Pending.insert.Goals as goal
 

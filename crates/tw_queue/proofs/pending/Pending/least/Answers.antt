@@ -1,7 +1,7 @@
 use Rattle.std.proofs.Common.{◌≡◌, ◌-◌, slice_get, ap, sym, ◌∙◌, subst, arith}
 use Rattle.std.specs.BinaryHeap.{heap_items, heap_len, heap_capacity}
 use Rattle.std.proofs.lemmas.Bool.{false≢true}
-use Rattle.tw_model.proofs.Counts.{none}
+use Rattle.tw_sim.proofs.Counts.{none}
 use Rattle.tw_queue.specs.Queue.{IsQueue}
 use Rattle.tw_queue.proofs.Events.{queue_of, no_events, first_of_heap}
 use Rattle.tw_queue.proofs.pending.Pending.least.Goals as goal

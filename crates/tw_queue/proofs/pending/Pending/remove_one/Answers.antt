@@ -1,7 +1,7 @@
 use Rattle.std.proofs.Common.{ap, ◌∙◌, arith}
 use Rattle.std.specs.BinaryHeap.{heap_items}
 use Rattle.tw_event.specs.Order.{event_before, event_same}
-use Rattle.tw_model.specs.Ordered.{take_out}
+use Rattle.tw_sim.specs.Ordered.{take_out}
 use Rattle.tw_queue.specs.Heap.{events_of, in_order}
 use Rattle.tw_queue.proofs.Events.{events_removed, homes_removed, length_removed, found_iff}
 use Rattle.tw_queue.proofs.pending.Pending.remove_one.Goals as goal

@@ -2,7 +2,7 @@ use Rattle.std.proofs.Common.{◌≡◌, ℕ, ◌<◌, ◌∷◌, get_or, set, l
 use Rattle.std.specs.Vec.{with_items}
 use Rattle.std.proofs.lemmas.Result.{err_from_is_err_and}
 use Rattle.tw_event.specs.Order.{event_before}
-use Rattle.tw_model.specs.Ordered.{insert_all}
+use Rattle.tw_sim.specs.Ordered.{insert_all}
 use Rattle.tw_seq.specs.declared.fault.RunFault.TheVariants.{CounterFull}
 use Rattle.tw_seq.specs.Run.{IsNext, IsNextRun, IsStuck}
 use Rattle.tw_seq.specs.Thread.{run_of}

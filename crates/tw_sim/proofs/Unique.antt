@@ -1,10 +1,10 @@
 -- Closed histories are unique, and so are closed lists: by the events before each time in turn.
 use Rattle.std.proofs.Common.{◌≡◌, ℕ, suc, zero, ◌<◌, ◌≤◌, ◌==◌, Bool, true, List, [], ◌∷◌, filter, refl, ap, sym, ◌∙◌, subst, inl, inr, arith, nat_lt}
 use Rattle.std.proofs.lemmas.Bool.{cases_Bool, cases_lt, both_ways, eqb-true, eqb-false, eq-eqb, ltb-true, lt-ltb, le-ltb}
-use Rattle.tw_model.specs.Sim.{Sim, IsLawful, AreClosed, IsClosed, IsFalling, all_sent, below, one, only, sent, state, times}
-use Rattle.tw_model.proofs.Counts.{in_cons, in_filter, in_head, none, one_self, times-append, times-filter-yes}
+use Rattle.tw_sim.specs.Simulation.{Simulation, IsLawful, AreClosed, IsClosed, IsFalling, all_sent, below, one, only, sent, state, times}
+use Rattle.tw_sim.proofs.Counts.{in_cons, in_filter, in_head, none, one_self, times-append, times-filter-yes}
 
-module _ {S E : Type 0} (m : Sim S E) (law : IsLawful m) where
+module _ {S E : Type 0} (m : Simulation S E) (law : IsLawful m) where
   never_both : (x y : E) → m.before x y ≡ true → m.before y x ≡ true → ⊥
   never_both x y h k = both_ways (m.before x x) (law.not_self x) (law.trans x y x h k)
 

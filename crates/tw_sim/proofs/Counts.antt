@@ -2,14 +2,14 @@
 use Rattle.std.proofs.Common.{◌≡◌, ℕ, suc, zero, ◌+◌, ◌<◌, ◌≤◌, Bool, true, false, List, [], ◌∷◌, ◌++◌, length, reverse, refl, ap, subst, ◌⊎◌, inl, inr, arith, filter}
 use Rattle.std.proofs.lemmas.Bool.{cases_Bool, both_ways}
 use Rattle.std.proofs.lemmas.List.{reverse-append}
-use Rattle.tw_model.specs.Sim.{Sim, IsLawful, one, times}
-use Rattle.tw_model.specs.Seq.{insert, insert_all}
+use Rattle.tw_sim.specs.Simulation.{Simulation, IsLawful, one, times}
+use Rattle.tw_sim.specs.Seq.{insert, insert_all}
 
 pub none : (n : ℕ) → (0 < n → ⊥) → n ≡ 0
 none zero h = refl
 none (suc n) h = absurd (h (omega arith))
 
-module _ {S E : Type 0} (m : Sim S E) where
+module _ {S E : Type 0} (m : Simulation S E) where
   pub times-append : (e : E) (xs ys : List E) → times m e (xs ++ ys) ≡ times m e xs + times m e ys
   times-append e [] ys = omega arith
   times-append e (x ∷ xs) ys = let h = times-append e xs ys in omega arith

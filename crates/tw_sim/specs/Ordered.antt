@@ -1,5 +1,5 @@
--- Lists that are kept in order: by a test of whether one element comes before another; and how often an element stands in a list, by a test of
--- whether two are the same.
+-- Lists that are kept in order, by a test of whether one element comes before another; and how often an element stands in a
+-- list, by a test of whether two are the same (own).
 use Rattle.std.specs.Prelude.{ℕ, ◌+◌, Bool, cond, List, [], ◌∷◌}
 
 module _ {E : Type 0} (before : E → E → Bool) where
@@ -14,6 +14,7 @@ module _ {E : Type 0} (before : E → E → Bool) where
   insert_all (e ∷ es) xs = insert_all es (insert e xs)
 
 module _ {E : Type 0} (same : E → E → Bool) where
+  -- 1 where the two are the same, else 0
   abbrev pub one : E → E → ℕ
   one e x = cond (same e x) 1 0
 

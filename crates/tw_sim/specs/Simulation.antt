@@ -1,20 +1,26 @@
--- What is simulated: routers that handle events and send others, whatever they know. Said once for every protocol.
+-- What is simulated: routers that handle events and send others, whatever they know (own, after Jefferson 1985). Said once for
+-- every protocol.
 use Rattle.std.specs.Prelude.{ℕ, ◌+◌, ◌≡◌, ◌≤◌, ◌<◌, ◌==◌, Bool, true, false, List, [], ◌∷◌, ◌++◌, length, nat_lt, ◌↔◌}
 use Rattle.std.specs.List.{filter}
-use Rattle.tw_model.specs.Ordered as ordered
+use Rattle.tw_sim.specs.Ordered as ordered
 
 -- S is what a router knows, E an event
-pub record Sim (S E : Type 0) : Type 0 where
+pub record Simulation (S E : Type 0) : Type 0 where
+  -- when an event happens, which router handles it, which sent it, and the sender's number for it
   pub time : E → ℕ
   pub dst : E → ℕ
   pub src : E → ℕ
   pub seq : E → ℕ
+  -- whether two events are one, and whether the first is handled before the second
   pub same : E → E → Bool
   pub before : E → E → Bool
+  -- what a router knows when it begins, what it knows after an event, and what it sends for it
   pub start : ℕ → S
   pub after : S → E → S
   pub sends : S → E → List E
+  -- the events that nobody sent
   pub opening : List E
+  -- routers 0 to routers - 1 are there
   pub routers : ℕ
   -- how many events one event sends at most
   pub most : ℕ
@@ -22,10 +28,12 @@ pub record Sim (S E : Type 0) : Type 0 where
   pub suits : E → Bool
   -- how many events a router has sent
   pub number : S → ℕ
+  -- how many events a router sends at most
+  pub limit : ℕ
   -- whether handling the event would pass a counter's limit
   pub full : S → E → Bool
 
-module _ {S E : Type 0} (m : Sim S E) where
+module _ {S E : Type 0} (m : Simulation S E) where
   abbrev pub one : E → E → ℕ
   one e x = ordered.one m.same e x
 
@@ -55,13 +63,22 @@ module _ {S E : Type 0} (m : Sim S E) where
   abbrev pub only : ℕ → List E → List E
   only r xs = filter (λ x. m.dst x == r) xs
 
+  -- an opening event, or one that its source sent by these histories
+  abbrev pub IsAsked : (ℕ → List E) → E → Type 0
+  IsAsked hist e = 0 < times e m.opening + times e (sent (m.src e) (hist (m.src e)))
+
   -- histories that hold, of the events before t, exactly the opening ones and those that they send
   pub record AreClosed (t : ℕ) (hist : ℕ → List E) : Type 0 where
+    -- each has its newest event first, and no event twice
     pub falling : (r : ℕ) → IsFalling (hist r)
+    -- a router handles events for itself
     pub home : (r : ℕ) (e : E) → 0 < times e (hist r) → m.dst e ≡ r
+    -- and before t alone
     pub soon : (r : ℕ) (e : E) → 0 < times e (hist r) → m.time e < t
-    pub sent_in : (e : E) → 0 < times e (hist (m.dst e)) → 0 < times e m.opening + times e (sent (m.src e) (hist (m.src e)))
-    pub all_in : (e : E) → m.time e < t → 0 < times e m.opening + times e (sent (m.src e) (hist (m.src e))) → 0 < times e (hist (m.dst e))
+    -- nothing is handled that was not asked for
+    pub sent_in : (e : E) → 0 < times e (hist (m.dst e)) → IsAsked hist e
+    -- and all that was asked for before t is handled
+    pub all_in : (e : E) → m.time e < t → IsAsked hist e → 0 < times e (hist (m.dst e))
 
   -- what the events of a list sent, each at its own router after that router's older ones
   abbrev pub all_sent : List E → List E
@@ -74,23 +91,38 @@ module _ {S E : Type 0} (m : Sim S E) where
     pub exact : (e : E) → (0 < times e events) ↔ ((m.time e < t) × (0 < times e m.opening + times e (all_sent events)))
 
 -- an order of events, and what every protocol keeps
-pub record IsLawful {S E : Type 0} (m : Sim S E) : Type 0 where
+pub record IsLawful {S E : Type 0} (m : Simulation S E) : Type 0 where
+  -- what is the same is equal, and each event is the same as itself
   pub same_is : (x y : E) → m.same x y ≡ true → x ≡ y
   pub same_self : (x : E) → m.same x x ≡ true
+  -- the order is strict and total, and by time first
   pub not_self : (x : E) → m.before x x ≡ false
   pub trans : (x y z : E) → m.before x y ≡ true → m.before y z ≡ true → m.before x z ≡ true
   pub total : (x y : E) → m.before x y ≡ false → m.before y x ≡ false → x ≡ y
   pub timely : (x y : E) → m.before x y ≡ true → m.time x ≤ m.time y
+  -- what an event sends is later than it, comes from its router, and is at most so many
   pub later : (s : S) (e x : E) → 0 < times m x (m.sends s e) → m.time e < m.time x
   pub sender : (s : S) (e x : E) → 0 < times m x (m.sends s e) → m.src x ≡ m.dst e
   pub few : (s : S) (e : E) → length (m.sends s e) ≤ m.most
+  -- an opening event suits its receiver
   pub suit_opening : (e : E) → 0 < times m e m.opening → m.suits e ≡ true
-  pub suit_sends : (e x : E) (older : List E) → ((y : E) → 0 < times m y older → (m.dst y ≡ m.dst e) × (m.suits y ≡ true)) → m.suits e ≡ true → 0 < times m x (m.sends (state m (m.dst e) older) e) → m.suits x ≡ true
+  -- and so does what a router sends that has handled what suits it
+  pub suit_sends : (e x : E) (older : List E) → ((y : E) → 0 < times m y older → (m.dst y ≡ m.dst e) × (m.suits y ≡ true)) → m.suits e ≡ true
+      → 0 < times m x (m.sends (state m (m.dst e) older) e) → m.suits x ≡ true
+  -- what suits is for a router that is there
+  pub receiver : (e : E) → m.suits e ≡ true → m.dst e < m.routers
+  -- an opening event comes from a router that is there
+  pub opener : (e : E) → 0 < times m e m.opening → m.src e < m.routers
 
 -- a router numbers what it sends, and opening events are nobody's
-pub record IsNumbered {S E : Type 0} (m : Sim S E) : Type 0 where
+pub record IsNumbered {S E : Type 0} (m : Simulation S E) : Type 0 where
+  -- what is sent has numbers from the sender's count before to its count afterwards
   pub numbered : (s : S) (e x : E) → 0 < times m x (m.sends s e) → (m.number s ≤ m.seq x) × (m.seq x < m.number (m.after s e))
+  -- the count never falls
   pub rising : (s : S) (e : E) → m.number s ≤ m.number (m.after s e)
+  -- and stays within its limit where the event is not full
+  pub within : (s : S) (e : E) → m.full s e ≡ false → m.number (m.after s e) ≤ m.limit
+  -- no event is sent twice at once, opens twice, or is both sent and an opening one
   pub once : (s : S) (e x : E) → times m x (m.sends s e) ≤ 1
   pub opening_once : (x : E) → times m x m.opening ≤ 1
   pub strange : (s : S) (e x : E) → 0 < times m x (m.sends s e) → times m x m.opening ≡ 0

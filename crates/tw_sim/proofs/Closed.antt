@@ -1,14 +1,14 @@
 -- The sequential run handles exactly the events before its end that are opening ones or sent by others that it handles.
 use Rattle.std.proofs.Common.{◌≡◌, ℕ, suc, zero, ◌+◌, ◌<◌, ◌≤◌, true, false, List, [], ◌∷◌, ap, sym, subst, inl, inr, arith, nat_lt}
 use Rattle.std.proofs.lemmas.Bool.{cases_Bool, false_from_ne_true, ltb-true, ltb-false, true_from_ne_false}
-use Rattle.tw_model.specs.Sim.{Sim, IsLawful, IsNumbered, AreClosed, IsClosed, IsFalling, all_sent, only, sent, state, times}
-use Rattle.tw_model.specs.Seq.{World, begin, finished, log, rest, seq, turn, turns, weight}
-use Rattle.tw_model.proofs.Counts.{in_cons, none, one_self, times-append, times-insert_all}
-use Rattle.tw_model.proofs.Seq.{Ends, IsOver, ends, over, over_finished, soon, turn_over, turn_soon}
-use Rattle.tw_model.proofs.Rising.{IsRising, rising-begin, rising-insert_all}
-use Rattle.tw_model.proofs.Unique.{list_closed, same_histories, same_lists, sent_by_source}
+use Rattle.tw_sim.specs.Simulation.{Simulation, IsLawful, IsNumbered, AreClosed, IsClosed, IsFalling, all_sent, only, sent, state, times}
+use Rattle.tw_sim.specs.Seq.{World, begin, finished, log, rest, seq, turn, turns, weight}
+use Rattle.tw_sim.proofs.Counts.{in_cons, none, one_self, times-append, times-insert_all}
+use Rattle.tw_sim.proofs.Seq.{Ends, IsOver, ends, over, over_finished, soon, turn_over, turn_soon}
+use Rattle.tw_sim.proofs.Rising.{IsRising, rising-begin, rising-insert_all}
+use Rattle.tw_sim.proofs.Unique.{list_closed, same_histories, same_lists, sent_by_source}
 
-module _ {S E : Type 0} (m : Sim S E) (law : IsLawful m) (numbered : IsNumbered m) where
+module _ {S E : Type 0} (m : Simulation S E) (law : IsLawful m) (numbered : IsNumbered m) where
   -- what a router has sent has numbers below its counter
   sent_number : (r : ℕ) (xs : List E) (e : E) → 0 < times m e (sent m r xs) → m.seq e < m.number (state m r xs)
   sent_number r [] e h = absurd (omega arith)

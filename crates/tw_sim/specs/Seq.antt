@@ -1,19 +1,20 @@
 -- The sequential run: again and again the least pending event is handled, and its sends are added (own, after Griffin,
 -- Shepherd, Wilfong 2002).
 use Rattle.std.specs.Prelude.{ℕ, suc, zero, ◌+◌, ◌-◌, ◌^◌, cond, List, [], ◌∷◌, nat_lt, if◌then◌else◌}
-use Rattle.tw_model.specs.Ordered as ordered
-use Rattle.tw_model.specs.Sim.{Sim, state, only}
+use Rattle.tw_sim.specs.Ordered as ordered
+use Rattle.tw_sim.specs.Simulation.{Simulation, state, only}
 
 -- the events handled, newest first, and the events pending, the least first
 pub record World (E : Type 0) : Type 0 where
   pub log : List E
   pub rest : List E
 
-module _ {S E : Type 0} (m : Sim S E) where
+module _ {S E : Type 0} (m : Simulation S E) where
   -- into its place in the order
   abbrev pub insert : E → List E → List E
   insert e xs = ordered.insert m.before e xs
 
+  -- each into its place
   abbrev pub insert_all : List E → List E → List E
   insert_all es xs = ordered.insert_all m.before es xs
 
@@ -25,6 +26,7 @@ module _ {S E : Type 0} (m : Sim S E) where
       then record { log = x ∷ log; rest = insert_all (m.sends (state m (m.dst x) (only m (m.dst x) log)) x) rest }
       else record { log = log; rest = x ∷ rest }
 
+  -- so many turns
   abbrev pub turns : ℕ → ℕ → World E → World E
   turns zero t w = w
   turns (suc n) t w = turns n t (turn t w.log w.rest)

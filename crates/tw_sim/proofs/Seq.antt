@@ -2,16 +2,16 @@
 use Rattle.std.proofs.Common.{◌≡◌, ℕ, suc, zero, ◌+◌, ◌-◌, ◌*◌, ◌^◌, ◌<◌, ◌≤◌, cond, List, [], ◌∷◌, length, refl, ap, sym, ◌∙◌, subst, inl, inr, arith, nat_lt, pow-suc, zero-add, suc-add}
 use Rattle.std.proofs.Math.Nat.{pow-le-pow_right, one-le-pow, mul-le-mul_right}
 use Rattle.std.proofs.lemmas.Bool.{cases_Bool, ltb-true, ltb-false, lt-ltb, le-ltb}
-use Rattle.tw_model.specs.Sim.{Sim, IsLawful, times, only, state}
-use Rattle.tw_model.specs.Seq.{World, finished, insert, insert_all, turn, turns, weight}
-use Rattle.tw_model.proofs.Counts.{one_self}
+use Rattle.tw_sim.specs.Simulation.{Simulation, IsLawful, times, only, state}
+use Rattle.tw_sim.specs.Seq.{World, finished, insert, insert_all, turn, turns, weight}
+use Rattle.tw_sim.proofs.Counts.{one_self}
 
 -- the least pending event, if any, is not before t
-abbrev pub IsOver : {S E : Type 0} → Sim S E → ℕ → List E → Type 0
+abbrev pub IsOver : {S E : Type 0} → Simulation S E → ℕ → List E → Type 0
 IsOver m t [] = Unit {0}
 IsOver m t (x ∷ xs) = t ≤ m.time x
 
-module _ {S E : Type 0} (m : Sim S E) where
+module _ {S E : Type 0} (m : Simulation S E) where
   -- what one event weighs
   abbrev pub load : ℕ → E → ℕ
   load t x = cond (nat_lt (m.time x) t) ((m.most + 1) ^ (t - m.time x)) 0

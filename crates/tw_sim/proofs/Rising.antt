@@ -1,12 +1,12 @@
 -- The pending events of a run stay in order, and each suits the router that handles it.
 use Rattle.std.proofs.Common.{◌≡◌, ℕ, suc, zero, ◌<◌, ◌==◌, true, false, List, [], ◌∷◌, sym, subst, inl, inr, arith, nat_lt}
 use Rattle.std.proofs.lemmas.Bool.{cases_Bool, eqb-true, ltb-true, ltb-false, false_from_ne_true, both_ways}
-use Rattle.tw_model.specs.Sim.{Sim, IsLawful, times, only, state}
-use Rattle.tw_model.specs.Seq.{World, begin, insert, insert_all, turn, turns}
-use Rattle.tw_model.proofs.Counts.{in_cons, in_filter, in_head, times-insert, times-insert_all}
-use Rattle.tw_model.proofs.Seq.{Ends, over, soon, ends, turn_over, turn_soon}
+use Rattle.tw_sim.specs.Simulation.{Simulation, IsLawful, times, only, state}
+use Rattle.tw_sim.specs.Seq.{World, begin, insert, insert_all, turn, turns}
+use Rattle.tw_sim.proofs.Counts.{in_cons, in_filter, in_head, times-insert, times-insert_all}
+use Rattle.tw_sim.proofs.Seq.{Ends, over, soon, ends, turn_over, turn_soon}
 
-module _ {S E : Type 0} (m : Sim S E) where
+module _ {S E : Type 0} (m : Simulation S E) where
   -- the first ones first
   abbrev pub IsRising : List E → Type 0
   IsRising [] = Unit {0}

@@ -3,7 +3,7 @@ use Rattle.std.proofs.Common.{◌≡◌, ℕ, suc, zero, ◌+◌, ◌<◌, ◌�
 use Rattle.std.specs.List.{All, cons_option, enumerate_from, filter_map, find, flat_map, list_any, range_with_len, swap, zip, position_or_len}
 use Rattle.std.proofs.lemmas.Bool.{cases_Bool, cases_eq, or_left, or_right}
 use Rattle.std.proofs.Math.Numerals.{one-add}
-use Rattle.tw_model.specs.Sim.{Sim, one, times}
+use Rattle.tw_sim.specs.Simulation.{Simulation, one, times}
 
 -- x stands in the list
 abbrev pub In : {X : Type 0} → X → List X → Type 0
@@ -197,7 +197,7 @@ in_enumerate p n (x ∷ xs) (inl e) = let k = ap (λ q. q.0) e in (omega arith, 
 in_enumerate p n (x ∷ xs) (inr h) = let r = in_enumerate p (n + 1) xs h in (omega arith, omega arith, inr r.2)
 
 -- what is counted in a list stands there
-pub in_times : {S E : Type 0} (m : Sim S E) → ((x y : E) → m.same x y ≡ true → x ≡ y) → (x : E) (xs : List E) → 0 < times m x xs → In x xs
+pub in_times : {S E : Type 0} (m : Simulation S E) → ((x y : E) → m.same x y ≡ true → x ≡ y) → (x : E) (xs : List E) → 0 < times m x xs → In x xs
 in_times m is x [] h = absurd (omega arith)
 in_times m is x (y ∷ ys) h =
     elim (cases_Bool (m.same x y)) [
@@ -206,7 +206,7 @@ in_times m is x (y ∷ ys) h =
     ]
 
 -- what stands in a list is counted there
-pub times_in : {S E : Type 0} (m : Sim S E) → ((x : E) → m.same x x ≡ true) → (x : E) (xs : List E) → In x xs → 0 < times m x xs
+pub times_in : {S E : Type 0} (m : Simulation S E) → ((x : E) → m.same x x ≡ true) → (x : E) (xs : List E) → In x xs → 0 < times m x xs
 times_in m self x (y ∷ ys) (inl e) = let k : one m x y ≡ 1 = rw (subst (λ z. m.same x z ≡ true) e (self x)) refl in omega arith
 times_in m self x (y ∷ ys) (inr h) = let k = times_in m self x ys h in omega arith
 times_in m self x [] h = absurd h

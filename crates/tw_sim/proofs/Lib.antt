@@ -1,0 +1,6 @@
+pub mod Counts
+pub mod Members
+pub mod Seq
+pub mod Rising
+pub mod Unique
+pub mod Closed

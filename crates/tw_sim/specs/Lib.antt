@@ -1,0 +1,3 @@
+pub mod Ordered
+pub mod Simulation
+pub mod Seq

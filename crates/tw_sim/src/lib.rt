@@ -1,0 +1,10 @@
+//! What every simulation of routers has, whatever its protocol: events in an order, counted lists of
+//! them, the sequential run, and lists of events that are closed.
+//!
+//! The definitions stand in `specs/`, over any `Simulation` that keeps the laws `IsLawful` and
+//! `IsNumbered`. Proved, and told by the functions of `laws`: the sequential run to each time ends and
+//! is closed, and no other list of events and no other histories are. Nothing here names a kind of
+//! event, so that a new kind never checks it again. No code runs.
+#![tactic(auto)]
+
+pub mod laws;
