@@ -5,11 +5,13 @@
 
 mod case;
 pub mod limits;
+mod memory;
 mod net;
 mod outcome;
 mod state;
 
 pub use case::Scene;
+pub use memory::OrMemory;
 pub use net::{Hop, Link, PathLine, Rule};
 pub use outcome::{Outcome, RouterEnd};
 pub use state::{Counters, Row};
