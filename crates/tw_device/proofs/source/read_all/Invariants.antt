@@ -1,6 +1,6 @@
 use Rattle.std.proofs.Common.{◌≡◌, ◌-◌, ◌≤◌, false, vec_len}
 use Rattle.std.specs.Io.KnownBytes.{Consumes}
-use Rattle.tw_commands.proofs.source.read_all.Given as goal
+use Rattle.tw_device.proofs.source.read_all.Given as goal
 
 -- what was read, and what is left, make what the source gives
 abbrev pub invariant-loop-chunk : goal.invariant-loop-chunk

@@ -1,6 +1,6 @@
 use Rattle.std.proofs.Common.{◌≡◌, false}
 use Rattle.std.specs.Io.KnownBytes.{Keeps}
-use Rattle.tw_report.proofs.sink.OverWriteSink.put.Given as goal
+use Rattle.tw_device.proofs.sink.OverWriteSink.put.Given as goal
 
 -- no write so far has taken anything
 abbrev pub invariant-loop : goal.invariant-loop

@@ -1,6 +1,6 @@
 use Rattle.std.proofs.Common.{◌≡◌, false}
 use Rattle.std.specs.Io.KnownBytes.{Keeps}
-use Rattle.tw_commands.proofs.source.OverReadSource.get.Given as goal
+use Rattle.tw_device.proofs.source.OverReadSource.get.Given as goal
 
 -- no read so far has given anything
 abbrev pub invariant-loop : goal.invariant-loop

@@ -1,16 +1,15 @@
 ghost use Rattle.std.specs.Prelude.{◌≡◌, ℕ, ◌<◌, ◌≤◌, Bool, false, true, List, length, Option, IfOk, IfErr, OnOk, OnErr};
 ghost use Rattle.std.specs.Io.KnownBytes.{Consumes, ReadConsumes};
-ghost use Rattle.tw_commands.specs.Source.{IsInput, Reader, IsCauseOf};
+ghost use Rattle.tw_device.specs.Source.{IsCauseOf, IsInput, Reader, TakesInput};
 
-use crate::cause::Cause;
+use crate::failed::Failed;
 use std::alloc::Global;
 use std::io::{ErrorKind, Read};
 use std::marker::Model;
-use tw_report::Failed;
+use tw_model::OrMemory;
+use tw_model::limits::MOST_INPUT;
 
-/// How many bytes of its input a program reads at most.
-pub const LIMIT: usize = 67_108_864;
-
+/// How many bytes are asked for at once.
 const CHUNK: usize = 16_384;
 
 /// A device that gives bytes until it is at its end or fails. From then on it is not to be used.
@@ -35,18 +34,22 @@ pub trait Source {
         ensures { result ≡ failed self.now };
 }
 
-/// The first `LIMIT` bytes of what the source gives, or all where there are no more.
-pub fn read_all<R: Source>(alloc: Global, source: &mut R) -> Result<Vec<u8>, Cause>
+/// The first `MOST_INPUT` bytes of what the source gives, or all where there are no more.
+///
+/// Answers `Memory` where memory was refused, and the source's failure where it failed. In any case the
+/// source has given `MOST_INPUT` bytes at most.
+pub fn read_all<R: Source>(alloc: Global, source: &mut R) -> Result<Vec<u8>, OrMemory<Failed>>
     requires open { R.failed source.old ≡ false }
     ensures input { IfOk result (λ v. IsInput (R.remaining source.old) v.items) }
     ensures taken { IfOk result (λ v. Consumes (R.remaining source.old) (R.remaining source.new) v.items) }
+    ensures most { TakesInput (R.remaining source.old) (R.remaining source.new) }
     ensures ok { OnOk result (R.failed source.new ≡ false) }
-    ensures err { IfErr result (λ cause. IsCauseOf cause (R.failed source.new)) }
+    ensures err { IfErr result (λ fault. IsCauseOf fault (R.failed source.new)) }
 {
     let mut bytes = Vec::new(alloc);
     let mut chunk = [0; CHUNK];
-    while bytes.len() < LIMIT {
-        let room = CHUNK.min(LIMIT - bytes.len());
+    while bytes.len() < MOST_INPUT {
+        let room = CHUNK.min(MOST_INPUT - bytes.len());
         let taken = source.get(&mut chunk[..room])?;
         if taken == 0 {
             return Ok(bytes);

@@ -3,7 +3,8 @@ use Rattle.std.proofs.Common.{◌≡◌, ◌≤◌, ℕ, List, [], ◌++◌, len
 use Rattle.std.proofs.Math.Seq.{take-append_seam}
 use Rattle.std.proofs.lemmas.List.{take_all}
 use Rattle.std.specs.Io.KnownBytes.{Consumes, IsAtEnd}
-use Rattle.tw_commands.specs.Source.{IsInput, limit}
+use Rattle.tw_device.specs.Source.{IsInput}
+use Rattle.tw_model.specs.declared.limits.TheConstants.{MOST_INPUT}
 
 whole_is : (n : ℕ) (bytes left known : List ℕ) → known ≡ bytes ++ left → left ≡ [] → length bytes ≤ n → bytes ≡ take n known
 whole_is n bytes left known h e l =
@@ -13,14 +14,14 @@ front_is : (n : ℕ) (bytes left known : List ℕ) → known ≡ bytes ++ left �
 front_is n bytes left known h l = rw (h, ← l) (sym (take-append_seam bytes left))
 
 -- nothing more was given, and so nothing was left
-pub input_at_end : (known left after : Option (List ℕ)) (bytes : List ℕ) → Consumes known left bytes → Consumes left after [] → IsAtEnd after → length bytes ≤ limit → IsInput known bytes
+pub input_at_end : (known left after : Option (List ℕ)) (bytes : List ℕ) → Consumes known left bytes → Consumes left after [] → IsAtEnd after → length bytes ≤ MOST_INPUT → IsInput known bytes
 input_at_end None left after bytes h k e l = tt
 input_at_end (Some xs) None after bytes h k e l = absurd h
 input_at_end (Some xs) (Some ys) None bytes h k e l = absurd k
-input_at_end (Some xs) (Some ys) (Some zs) bytes h k e l = whole_is limit bytes ys xs h (k ∙ e) l
+input_at_end (Some xs) (Some ys) (Some zs) bytes h k e l = whole_is MOST_INPUT bytes ys xs h (k ∙ e) l
 
 -- as many as a program reads were given
-pub input_at_limit : (known left : Option (List ℕ)) (bytes : List ℕ) → Consumes known left bytes → length bytes ≡ limit → IsInput known bytes
+pub input_at_limit : (known left : Option (List ℕ)) (bytes : List ℕ) → Consumes known left bytes → length bytes ≡ MOST_INPUT → IsInput known bytes
 input_at_limit None left bytes h l = tt
 input_at_limit (Some xs) None bytes h l = absurd h
-input_at_limit (Some xs) (Some ys) bytes h l = front_is limit bytes ys xs h l
+input_at_limit (Some xs) (Some ys) bytes h l = front_is MOST_INPUT bytes ys xs h l

@@ -1,13 +1,10 @@
 ghost use Rattle.std.specs.Prelude.{◌≡◌, ℕ, ◌<◌, ◌≤◌, Bool, false, true, List, length, Option, IfOk, OnOk, OnErr};
 ghost use Rattle.std.specs.Io.KnownBytes.{WriteAppends};
-ghost use Rattle.tw_report.specs.Sink.{Device, Puts};
+ghost use Rattle.tw_device.specs.Sink.{Device, Puts};
 
+use crate::failed::Failed;
 use std::io::{ErrorKind, Write};
 use std::marker::Model;
-
-/// A device answered with an error.
-#[derive(Clone, Copy, PartialEq, Eq, Debug)]
-pub struct Failed;
 
 /// A device that takes bytes until it fails. From then on it is not to be used.
 pub trait Sink {
@@ -17,7 +14,7 @@ pub trait Sink {
     /// Whether it has failed.
     ghost failed: { Self → Bool };
 
-    /// Takes a beginning of the bytes, one at least where there is one, and answers how many.
+    /// Takes a prefix of the bytes, one at least where there is one, and answers how many.
     fn put(&mut self, bytes: &[u8]) -> Result<usize, Failed>
         requires open { failed self.old ≡ false }
         ensures count { IfOk result (λ n. n ≤ length bytes.now) }
@@ -31,7 +28,8 @@ pub trait Sink {
         ensures { result ≡ failed self.now };
 }
 
-/// Puts all of the bytes. After an error the sink holds a beginning of them.
+/// Puts all of the bytes. After an error the sink holds a prefix of them, after what
+/// it held before.
 pub fn put_all<S: Sink>(sink: &mut S, bytes: &[u8]) -> Result<(), Failed>
     requires open { S.failed sink.old ≡ false }
     ensures { Puts result (S.written sink.old) (S.written sink.new) (S.failed sink.new) bytes.now }
