@@ -1,18 +1,17 @@
--- Numbers with spaces between, one after the other.
-use Rattle.std.proofs.Common.{◌≡◌, ℕ, ◌≤◌, List, [], ◌∷◌, ◌++◌, length, get_or, drop, sym, ap, append-nil, arith}
-use Rattle.std.specs.Fmt.{decimal}
+-- Words with a space between each two: the first, and then each with a space before it.
+use Rattle.std.proofs.Common.{◌≡◌, ℕ, ◌-◌, ◌≤◌, List, [], ◌∷◌, ◌++◌, length, map, get_or, take, drop, sym, ap, ◌∙◌, append-nil, arith}
+use Rattle.std.proofs.lemmas.List.{take_all}
 use Rattle.std.specs.List.{flat_map}
-use Rattle.tw_report.specs.Lines.{numbers_text}
+use Rattle.tw_report.specs.Words.{spaced}
 
--- each number with a space before it
-abbrev pub more_numbers : List ℕ → List ℕ
-more_numbers numbers = flat_map (λ n. 32 ∷ decimal n) numbers
+spaced_at : {A : Type 0} (text : A → List ℕ) (w : A) (more : List A) → spaced (map text (w ∷ more)) ≡ text w ++ flat_map (λ v. 32 ∷ text v) more
+spaced_at text w [] = sym (append-nil (text w))
+spaced_at text w (v ∷ more) = ap (λ bs. text w ++ (32 ∷ bs)) (spaced_at text v more)
 
-numbers_text_at : (n : ℕ) (more : List ℕ) → numbers_text (n ∷ more) ≡ decimal n ++ more_numbers more
-numbers_text_at n [] = sym (append-nil (decimal n))
-numbers_text_at n (m ∷ more) = ap (λ bs. decimal n ++ (32 ∷ bs)) (numbers_text_at m more)
-
--- the first number, and then the others
-pub numbers_text_first : (numbers : List ℕ) → 1 ≤ length numbers → numbers_text numbers ≡ decimal (get_or numbers 0 0) ++ more_numbers (drop 1 numbers)
-numbers_text_first [] h = absurd (omega arith)
-numbers_text_first (n ∷ more) h = numbers_text_at n more
+-- as a slice pattern has the first and the others
+pub spaced_first : {A : Type 0} (text : A → List ℕ) (words : List A) (d : A) → 1 ≤ length words
+    → spaced (map text words) ≡ text (get_or words 0 d) ++ flat_map (λ v. 32 ∷ text v) (take (length words - 1) (drop 1 words))
+spaced_first text [] d h = absurd (omega arith)
+spaced_first text (w ∷ more) d h =
+    let less : length (w ∷ more) - 1 ≡ length more = omega arith in
+    rw (less, take_all (length more) more (omega arith)) (spaced_at text w more)

@@ -1,4 +1,4 @@
-pub mod Sink
+pub mod Words
 pub mod Lines
-pub mod Verdict
 pub mod Report
+pub mod Verdict

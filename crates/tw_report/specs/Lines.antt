@@ -1,28 +1,12 @@
--- The lines of output texts.
-use Rattle.std.specs.Prelude.{ℕ, List, [], ◌∷◌, ◌++◌, map, codes}
+-- The words of the lines of events and routers (own).
+use Rattle.std.specs.Prelude.{ℕ, List, [], ◌∷◌, codes}
 use Rattle.std.specs.Fmt.{decimal}
-use Rattle.std.specs.List.{join_with_byte}
 use Rattle.tw_event.specs.declared.event.Body.{Body}
 use Rattle.tw_event.specs.declared.event.Body.TheVariants.{Start, Fail, Restore, Swap, Update}
 use Rattle.tw_event.specs.declared.event.Event.{Event}
 use Rattle.tw_model.specs.declared.outcome.RouterEnd.{RouterEnd}
 use Rattle.tw_model.specs.Net.{Net, IsPath, path}
-
--- words with a space between each two
-abbrev pub spaced : List (List ℕ) → List ℕ
-spaced words = join_with_byte 32 words
-
--- a line of these words, with its end
-abbrev pub line : List (List ℕ) → List ℕ
-line words = spaced words ++ 10 ∷ []
-
--- numbers with a space between each two
-abbrev pub numbers_text : List ℕ → List ℕ
-numbers_text numbers = spaced (map decimal numbers)
-
--- a path in parentheses
-abbrev pub path_text : List ℕ → List ℕ
-path_text nodes = 40 ∷ (numbers_text nodes ++ 41 ∷ [])
+use Rattle.tw_report.specs.Words.{path_text}
 
 -- what happens, with the sender's number of it
 abbrev pub body_words : Net → Event → Body → List (List ℕ)
@@ -39,8 +23,8 @@ event_words net e = codes "event" ∷ decimal e.time ∷ decimal e.dst ∷ body_
 -- router v, with its counters and its path
 abbrev pub router_words : Net → ℕ → RouterEnd → List (List ℕ)
 router_words net v r =
-    codes "router" ∷ decimal v ∷ codes "sent" ∷ decimal r.counters.sent ∷ codes "handled" ∷ decimal r.counters.handled ∷ codes "dropped" ∷ decimal r.counters.dropped
-    ∷ codes "changed" ∷ decimal r.counters.changed ∷ codes "rib" ∷ path_text (path net r.rib) ∷ []
+    codes "router" ∷ decimal v ∷ codes "sent" ∷ decimal r.counters.sent ∷ codes "handled" ∷ decimal r.counters.handled
+    ∷ codes "dropped" ∷ decimal r.counters.dropped ∷ codes "changed" ∷ decimal r.counters.changed ∷ codes "rib" ∷ path_text (path net r.rib) ∷ []
 
 -- the path that a body names is one of the net
 abbrev pub NamesPath : Net → Body → Type 0

@@ -1,23 +1,22 @@
--- The report of a run.
-use Rattle.std.specs.Prelude.{ℕ, ◌≡◌, Bool, false, true, List, [], ◌∷◌, ◌++◌, codes, Option, Result, Ok, Err, if◌then◌else◌}
+-- The report of a run (own).
+use Rattle.std.specs.Prelude.{ℕ, Bool, List, [], ◌∷◌, ◌++◌, codes, if◌then◌else◌}
 use Rattle.std.specs.Fmt.{decimal}
-use Rattle.std.specs.Io.KnownBytes.{Appends, Keeps}
 use Rattle.std.specs.List.{All, enumerate_from, flat_map}
 use Rattle.tw_event.specs.declared.event.Event.{Event}
 use Rattle.tw_model.specs.declared.outcome.RouterEnd.{RouterEnd}
 use Rattle.tw_model.specs.Net.{Net, IsPath}
-use Rattle.tw_report.specs.declared.report.ReportError.{ReportError}
-use Rattle.tw_report.specs.declared.report.ReportError.TheVariants.{Memory, Device}
+use Rattle.tw_model.specs.Summary.{Summary}
 use Rattle.tw_report.specs.declared.verdict.Verdict.{Verdict}
 use Rattle.tw_report.specs.declared.verdict.Verdict.TheVariants.{Quiet, Undecided}
-use Rattle.tw_report.specs.Lines.{NamesPath, event_words, line, router_words}
-use Rattle.tw_report.specs.Sink.{Begins}
-use Rattle.tw_model.specs.Summary.{Summary}
+use Rattle.tw_report.specs.Lines.{NamesPath, event_words, router_words}
+use Rattle.tw_report.specs.Words.{line}
 
+-- the words of the last line
 abbrev pub verdict_words : Verdict → List (List ℕ)
 verdict_words (Quiet c) = codes "verdict" ∷ codes "quiet" ∷ decimal c ∷ []
 verdict_words Undecided = codes "verdict" ∷ codes "open" ∷ []
 
+-- of each event a line
 abbrev pub event_lines : Net → List Event → List ℕ
 event_lines net events = flat_map (λ e. line (event_words net e)) events
 
@@ -27,7 +26,8 @@ router_lines net v routers = flat_map (λ r. line (router_words net r.0 r.1)) (e
 
 -- the name of the format, the stop and the bound
 unfoldable pub head_lines : Summary → List ℕ
-head_lines o = line (codes "spp-report" ∷ codes "1" ∷ []) ++ (line (codes "stop" ∷ decimal o.stop ∷ []) ++ line (codes "bound" ∷ decimal o.bound ∷ []))
+head_lines o =
+    line (codes "spp-report" ∷ codes "1" ∷ []) ++ (line (codes "stop" ∷ decimal o.stop ∷ []) ++ line (codes "bound" ∷ decimal o.bound ∷ []))
 
 -- the events, where they are asked for
 abbrev pub logged_lines : Net → Bool → List Event → List ℕ
@@ -42,10 +42,3 @@ report_text net o verdict log =
 pub record HasPaths (net : Net) (o : Summary) : Type 0 where
   pub events : All (λ e. NamesPath net e.body) o.events
   pub routers : All (λ r. IsPath net r.rib) o.routers
-
--- at Ok the text was written, and nothing else; at Memory nothing was, and the device is open; at Device a beginning was,
--- and the device has failed
-abbrev pub Writes : {T : Type 0} → Result T ReportError → Option (List ℕ) → Option (List ℕ) → Bool → List ℕ → Type 0
-Writes (Ok x) old new failed text = Appends old new text × (failed ≡ false)
-Writes (Err Memory) old new failed text = Keeps old new × (failed ≡ false)
-Writes (Err Device) old new failed text = Begins old new text × (failed ≡ true)

@@ -1,12 +1,16 @@
-//! Reports of runs: the lines of events and routers, the verdict, and writing to a device.
+//! Reports of runs: the lines of events and routers, the verdict, and writing all of them to a sink.
+//!
+//! Contracts see a line as its words (`specs/Words`, `Lines`) and a report as one text (`specs/Report`).
+//! Proved: what is put is exactly that text and nothing else, or a prefix of it where the sink failed;
+//! no call takes memory. Not proved: what a terminal or a file then holds.
 #![tactic(auto)]
 
 mod lines;
 mod report;
-mod sink;
 mod verdict;
+mod words;
 
-pub use lines::{event_text, path_text, router_text};
-pub use report::{ReportError, report_text, write_report};
-pub use sink::{Failed, OverWrite, Sink, put_all};
+pub use lines::{put_event, put_router};
+pub use report::write_report;
 pub use verdict::Verdict;
+pub use words::{Word, put_line};

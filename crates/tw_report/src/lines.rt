@@ -1,80 +1,77 @@
-ghost use Rattle.std.specs.Prelude.{◌≡◌, IfOk, OnOk, ◌++◌};
-ghost use Rattle.std.specs.String.{string_bytes};
+ghost use Rattle.std.specs.Prelude.{◌≡◌, false};
+ghost use Rattle.tw_device.specs.Sink.{Puts};
 ghost use Rattle.tw_model.specs.Net.{IsPath};
-ghost use Rattle.tw_report.specs.Lines.{NamesPath, event_words, numbers_text, path_text, router_words, spaced};
+ghost use Rattle.tw_report.specs.Lines.{NamesPath, event_words, router_words};
+ghost use Rattle.tw_report.specs.Words.{line};
 
-use std::alloc::{AllocError, Global};
+use crate::words::Word::{Name, Number, Path};
+use crate::words::put_line;
+use tw_device::{Failed, Sink};
 use tw_event::{Body, Event};
 use tw_instance::Instance;
 use tw_model::RouterEnd;
 
-/// A path in parentheses, as `(1 2 0)`; the empty path is `()`.
-pub fn path_text(alloc: Global, nodes: &[u32]) -> Result<String, AllocError>
-    ensures { IfOk result (λ s. string_bytes s ≡ path_text nodes.now) }
-{
-    let mut text = String::from_str(alloc, "(")?;
-    push_numbers(&mut text, nodes)?;
-    text.push(')')?;
-    Ok(text)
-}
-
-/// Adds numbers with a space between each two.
-fn push_numbers(text: &mut String, numbers: &[u32]) -> Result<(), AllocError>
-    ensures { OnOk result (string_bytes text.new ≡ string_bytes text.old ++ numbers_text numbers.now) }
-{
-    let [first, more @ ..] = numbers else {
-        return Ok(());
-    };
-    write!(text, "{first}")?;
-    for number in more {
-        write!(text, " {number}")?;
-    }
-    Ok(())
-}
-
-/// An event as `event`, its time, its receiver and what happens, with no line's end.
+/// Puts the line of an event: `event`, its time, its receiver and what happens. Takes no memory.
 ///
 /// The path of an update is one of the instance.
-pub fn event_text(alloc: Global, instance: &Instance, event: &Event) -> Result<String, AllocError>
-    requires { NamesPath instance.now event.now.body }
-    ensures { IfOk result (λ s. string_bytes s ≡ spaced (event_words instance.now event.now)) }
+pub fn put_event<S: Sink>(sink: &mut S, instance: &Instance, event: &Event) -> Result<(), Failed>
+    requires path { NamesPath instance.now event.now.body }
+    requires open { S.failed sink.old ≡ false }
+    ensures { Puts result (S.written sink.old) (S.written sink.new) (S.failed sink.new) (line (event_words instance.now event.now)) }
 {
-    let Event {
-        time,
-        dst,
-        src,
-        seq,
-        body,
-    } = *event;
-    match body {
-        Body::Start => format!(in alloc; "event {time} {dst} start"),
-        Body::Fail(peer) => format!(in alloc; "event {time} {dst} fail {peer} {seq}"),
-        Body::Restore(peer) => format!(in alloc; "event {time} {dst} restore {peer} {seq}"),
-        Body::Swap(i, j) => format!(in alloc; "event {time} {dst} swap {seq} {i} {j}"),
+    let (event_name, seq) = (Name("event"), Number(event.seq));
+    let (time, dst) = (Number(event.time), Number(u64::from(event.dst)));
+    match event.body {
+        Body::Start => put_line(sink, &[event_name, time, dst, Name("start")]),
+        Body::Fail(peer) => {
+            let peer = Number(u64::from(peer));
+            put_line(sink, &[event_name, time, dst, Name("fail"), peer, seq])
+        }
+        Body::Restore(peer) => {
+            let peer = Number(u64::from(peer));
+            put_line(sink, &[event_name, time, dst, Name("restore"), peer, seq])
+        }
+        Body::Swap(i, j) => {
+            let (i, j) = (Number(u64::from(i)), Number(u64::from(j)));
+            put_line(sink, &[event_name, time, dst, Name("swap"), seq, i, j])
+        }
         Body::Update { path, session } => {
-            let path = path_text(alloc, instance.path(path))?;
-            format!(in alloc; "event {time} {dst} update {src} {seq} {session} {path}")
+            let (src, session) = (Number(u64::from(event.src)), Number(session));
+            let path = Path(instance.path(path));
+            put_line(sink, &[event_name, time, dst, Name("update"), src, seq, session, path])
         }
     }
 }
 
-/// A router as `router`, its number, its counters and its path, with no line's end.
+/// Puts the line of a router: `router`, its number, its counters and its path. Takes no memory.
 ///
 /// The path is one of the instance.
-pub fn router_text(
-    alloc: Global,
+pub fn put_router<S: Sink>(
+    sink: &mut S,
     instance: &Instance,
     node: usize,
     end: &RouterEnd,
-) -> Result<String, AllocError>
-    requires { IsPath instance.now end.now.rib }
-    ensures { IfOk result (λ s. string_bytes s ≡ spaced (router_words instance.now node end.now)) }
+) -> Result<(), Failed>
+    requires path { IsPath instance.now end.now.rib }
+    requires open { S.failed sink.old ≡ false }
+    ensures { Puts result (S.written sink.old) (S.written sink.new) (S.failed sink.new) (line (router_words instance.now node end.now)) }
 {
-    let rib = path_text(alloc, instance.path(end.rib))?;
-    let counts = end.counters;
-    let (sent, handled) = (counts.sent, counts.handled);
-    let (dropped, changed) = (counts.dropped, counts.changed);
-    format!(in alloc;
-        "router {node} sent {sent} handled {handled} dropped {dropped} changed {changed} rib {rib}"
+    let counters = end.counters;
+    put_line(
+        sink,
+        &[
+            Name("router"),
+            Number(node as u64),
+            Name("sent"),
+            Number(counters.sent),
+            Name("handled"),
+            Number(counters.handled),
+            Name("dropped"),
+            Number(counters.dropped),
+            Name("changed"),
+            Number(counters.changed),
+            Name("rib"),
+            Path(instance.path(end.rib)),
+        ],
     )
 }

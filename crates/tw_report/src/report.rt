@@ -1,150 +1,109 @@
-ghost use Rattle.std.specs.Prelude.{◌≡◌, ◌+◌, ◌≤◌, ◌^◌, false, IfOk, OnOk, ◌++◌, length};
+ghost use Rattle.std.specs.Prelude.{◌≡◌, false};
 ghost use Rattle.std.specs.List.{All};
-ghost use Rattle.std.specs.String.{string_bytes};
+ghost use Rattle.tw_device.specs.Sink.{Puts};
 ghost use Rattle.tw_model.specs.Net.{IsPath};
-ghost use Rattle.tw_report.specs.declared.report.ReportError.TheVariants.{Memory, Device};
-ghost use Rattle.tw_report.specs.Lines.{NamesPath, line};
-ghost use Rattle.tw_report.specs.Report.{HasPaths, Writes, event_lines, head_lines, logged_lines, report_text, router_lines, verdict_words};
 ghost use Rattle.tw_model.specs.Summary.{summary_of};
+ghost use Rattle.tw_report.specs.Lines.{NamesPath};
+ghost use Rattle.tw_report.specs.Report.{HasPaths, event_lines, head_lines, logged_lines, report_text, router_lines, verdict_words};
+ghost use Rattle.tw_report.specs.Words.{line};
 
-use crate::lines::{event_text, router_text};
-use crate::sink::{Failed, Sink, put_all};
+use crate::lines::{put_event, put_router};
 use crate::verdict::Verdict;
-use std::alloc::{AllocError, Global};
+use crate::words::Word::{Name, Number};
+use crate::words::put_line;
+use tw_device::{Failed, Sink};
 use tw_event::Event;
 use tw_instance::Instance;
 use tw_model::{Outcome, RouterEnd};
 
-/// Why a report was not written.
-#[derive(Clone, Copy, PartialEq, Eq, Debug)]
-pub enum ReportError {
-    /// Memory was refused, before anything was written.
-    Memory,
-    /// The sink failed; it holds a beginning of the report.
-    Device,
-}
-
-impl From<AllocError> for ReportError {
-    ghost from_gives = { λ _ e. e ≡ Memory };
-
-    fn from(_: AllocError) -> ReportError {
-        ReportError::Memory
-    }
-}
-
-impl From<Failed> for ReportError {
-    ghost from_gives = { λ _ e. e ≡ Device };
-
-    fn from(_: Failed) -> ReportError {
-        ReportError::Device
-    }
-}
-
-/// Writes the report of a run, with a line for each event where `log` says so.
+/// Writes the report of a run, with a line for each event where `log` says so. Takes no memory: hand
+/// it a sink with a buffer, for it puts word by word.
 ///
 /// The paths of the outcome are paths of the instance.
 pub fn write_report<S: Sink>(
-    alloc: Global,
     sink: &mut S,
     instance: &Instance,
     outcome: &Outcome,
     verdict: Verdict,
     log: bool,
-) -> Result<(), ReportError>
+) -> Result<(), Failed>
     requires open { S.failed sink.old ≡ false }
     requires paths { HasPaths instance.now (summary_of outcome.now) }
-    ensures { Writes result (S.written sink.old) (S.written sink.new) (S.failed sink.new) (report_text instance.now (summary_of outcome.now) verdict log) }
+    ensures { Puts result (S.written sink.old) (S.written sink.new) (S.failed sink.new) (report_text instance.now (summary_of outcome.now) verdict log) }
 {
-    let text = report_text(alloc, instance, outcome, verdict, log)?;
-    put_all(sink, text.as_bytes())?;
-    Ok(())
+    put_head(sink, outcome)?;
+    put_log(sink, instance, &outcome.events, log)?;
+    put_routers(sink, instance, &outcome.routers)?;
+    put_verdict(sink, verdict)
 }
 
-/// The report of a run, with a line for each event where `log` says so.
-///
-/// The paths of the outcome are paths of the instance.
-pub fn report_text(
-    alloc: Global,
-    instance: &Instance,
-    outcome: &Outcome,
-    verdict: Verdict,
-    log: bool,
-) -> Result<String, AllocError>
-    requires { HasPaths instance.now (summary_of outcome.now) }
-    ensures { IfOk result (λ s. string_bytes s ≡ report_text instance.now (summary_of outcome.now) verdict log) }
+/// Puts the lines before those of events.
+fn put_head<S: Sink>(sink: &mut S, outcome: &Outcome) -> Result<(), Failed>
+    requires open { S.failed sink.old ≡ false }
+    ensures { Puts result (S.written sink.old) (S.written sink.new) (S.failed sink.new) (head_lines (summary_of outcome.now)) }
 {
-    let mut text = head_text(alloc, outcome)?;
-    push_log(alloc, &mut text, instance, &outcome.events, log)?;
-    push_routers(alloc, &mut text, instance, &outcome.routers)?;
-    push_verdict(&mut text, verdict)?;
-    Ok(text)
+    put_line(sink, &[Name("spp-report"), Name("1")])?;
+    put_line(sink, &[Name("stop"), Number(outcome.stop)])?;
+    put_line(sink, &[Name("bound"), Number(outcome.bound)])
 }
 
-/// The lines before those of events.
-fn head_text(alloc: Global, outcome: &Outcome) -> Result<String, AllocError>
-    ensures { IfOk result (λ s. string_bytes s ≡ head_lines (summary_of outcome.now)) }
-{
-    let (stop, bound) = (outcome.stop, outcome.bound);
-    format!(in alloc; "spp-report 1\nstop {stop}\nbound {bound}\n")
-}
-
-/// Adds the line of each event, where `log` says so.
-fn push_log(
-    alloc: Global,
-    text: &mut String,
+/// Puts the line of each event, where `log` says so.
+fn put_log<S: Sink>(
+    sink: &mut S,
     instance: &Instance,
     events: &[Event],
     log: bool,
-) -> Result<(), AllocError>
-    requires { All (λ e. NamesPath instance.now e.body) events.now }
-    ensures { OnOk result (string_bytes text.new ≡ string_bytes text.old ++ logged_lines instance.now log events.now) }
+) -> Result<(), Failed>
+    requires paths { All (λ e. NamesPath instance.now e.body) events.now }
+    requires open { S.failed sink.old ≡ false }
+    ensures { Puts result (S.written sink.old) (S.written sink.new) (S.failed sink.new) (logged_lines instance.now log events.now) }
 {
-    if !log {
-        return Ok(());
+    if log {
+        put_events(sink, instance, events)
+    } else {
+        Ok(())
     }
-    push_events(alloc, text, instance, events)
 }
 
-/// Adds the line of each event.
-fn push_events(
-    alloc: Global,
-    text: &mut String,
+/// Puts the line of each event.
+fn put_events<S: Sink>(
+    sink: &mut S,
     instance: &Instance,
     events: &[Event],
-) -> Result<(), AllocError>
-    requires { All (λ e. NamesPath instance.now e.body) events.now }
-    ensures { OnOk result (string_bytes text.new ≡ string_bytes text.old ++ event_lines instance.now events.now) }
+) -> Result<(), Failed>
+    requires paths { All (λ e. NamesPath instance.now e.body) events.now }
+    requires open { S.failed sink.old ≡ false }
+    ensures { Puts result (S.written sink.old) (S.written sink.new) (S.failed sink.new) (event_lines instance.now events.now) }
 {
     for event in events {
-        let words = event_text(alloc, instance, event)?;
-        write!(text, "{words}\n")?;
+        put_event(sink, instance, event)?;
     }
     Ok(())
 }
 
-/// Adds the line of each router, numbered from 0.
-fn push_routers(
-    alloc: Global,
-    text: &mut String,
+/// Puts the line of each router, numbered from 0.
+fn put_routers<S: Sink>(
+    sink: &mut S,
     instance: &Instance,
     routers: &[RouterEnd],
-) -> Result<(), AllocError>
-    requires { All (λ r. IsPath instance.now r.rib) routers.now }
-    ensures { OnOk result (string_bytes text.new ≡ string_bytes text.old ++ router_lines instance.now 0 routers.now) }
+) -> Result<(), Failed>
+    requires paths { All (λ r. IsPath instance.now r.rib) routers.now }
+    requires open { S.failed sink.old ≡ false }
+    ensures { Puts result (S.written sink.old) (S.written sink.new) (S.failed sink.new) (router_lines instance.now 0 routers.now) }
 {
     for (node, end) in routers.iter().enumerate() {
-        let words = router_text(alloc, instance, node, end)?;
-        write!(text, "{words}\n")?;
+        put_router(sink, instance, node, end)?;
     }
     Ok(())
 }
 
-/// Adds the line of the verdict.
-fn push_verdict(text: &mut String, verdict: Verdict) -> Result<(), AllocError>
-    ensures { OnOk result (string_bytes text.new ≡ string_bytes text.old ++ line (verdict_words verdict)) }
+/// Puts the line of the verdict.
+fn put_verdict<S: Sink>(sink: &mut S, verdict: Verdict) -> Result<(), Failed>
+    requires open { S.failed sink.old ≡ false }
+    ensures { Puts result (S.written sink.old) (S.written sink.new) (S.failed sink.new) (line (verdict_words verdict)) }
 {
     match verdict {
-        Verdict::Quiet(time) => write!(text, "verdict quiet {time}\n"),
-        Verdict::Undecided => write!(text, "verdict open\n"),
+        Verdict::Quiet(time) => put_line(sink, &[Name("verdict"), Name("quiet"), Number(time)]),
+        Verdict::Undecided => put_line(sink, &[Name("verdict"), Name("open")]),
     }
 }
