@@ -1,5 +1,5 @@
 -- What a device gives, where that is known (own).
-use Rattle.std.specs.Prelude.{ℕ, ◌≡◌, ◌≤◌, Bool, false, true, List, length, take, Option, Some, None}
+use Rattle.std.specs.Prelude.{ℕ, ◌≡◌, ◌≤◌, Bool, false, true, List, drop, length, take, Option, Some, None}
 use Rattle.std.specs.Io.KnownBytes.{Consumes}
 use Rattle.tw_device.specs.declared.failed.Failed.{Failed as AFailure}
 use Rattle.tw_model.specs.declared.limits.TheConstants.{MOST_INPUT}
@@ -15,6 +15,12 @@ pub record Reader : Type 0 where
 abbrev pub IsInput : Option (List ℕ) → List ℕ → Type 0
 IsInput None bytes = Unit {0}
 IsInput (Some xs) bytes = bytes ≡ take MOST_INPUT xs
+
+-- known bytes lose their first, as many as a program reads
+abbrev pub LosesInput : Option (List ℕ) → Option (List ℕ) → Type 0
+LosesInput None new = Unit {0}
+LosesInput (Some xs) None = ⊥
+LosesInput (Some xs) (Some ys) = ys ≡ drop MOST_INPUT xs
 
 -- known bytes lose a prefix, of at most as many as a program reads
 abbrev pub TakesInput : Option (List ℕ) → Option (List ℕ) → Type 0

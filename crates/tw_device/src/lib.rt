@@ -8,9 +8,11 @@
 #![tactic(auto)]
 
 mod failed;
+mod page;
 mod sink;
 mod source;
 
 pub use failed::Failed;
+pub use page::Page;
 pub use sink::{OverWrite, Sink, put_all};
 pub use source::{OverRead, Source, read_all};

@@ -1,6 +1,6 @@
 ghost use Rattle.std.specs.Prelude.{◌≡◌, ℕ, ◌<◌, ◌≤◌, Bool, false, true, List, length, Option, IfOk, IfErr, OnOk, OnErr};
-ghost use Rattle.std.specs.Io.KnownBytes.{Consumes, ReadConsumes};
-ghost use Rattle.tw_device.specs.Source.{IsCauseOf, IsInput, Reader, TakesInput};
+ghost use Rattle.std.specs.Io.KnownBytes.{ReadConsumes};
+ghost use Rattle.tw_device.specs.Source.{IsCauseOf, IsInput, LosesInput, Reader, TakesInput};
 
 use crate::failed::Failed;
 use std::alloc::Global;
@@ -41,7 +41,7 @@ pub trait Source {
 pub fn read_all<R: Source>(alloc: Global, source: &mut R) -> Result<Vec<u8>, OrMemory<Failed>>
     requires open { R.failed source.old ≡ false }
     ensures input { IfOk result (λ v. IsInput (R.remaining source.old) v.items) }
-    ensures taken { IfOk result (λ v. Consumes (R.remaining source.old) (R.remaining source.new) v.items) }
+    ensures taken { OnOk result (LosesInput (R.remaining source.old) (R.remaining source.new)) }
     ensures most { TakesInput (R.remaining source.old) (R.remaining source.new) }
     ensures ok { OnOk result (R.failed source.new ≡ false) }
     ensures err { IfErr result (λ fault. IsCauseOf fault (R.failed source.new)) }

@@ -1,5 +1,5 @@
 use Rattle.std.proofs.Common.{arith, ◌+◌, ◌<◌, ◌≤◌, length, length-take, take}
-use Rattle.tw_device.proofs.Input.{input_at_end, input_at_limit}
+use Rattle.tw_device.proofs.Input.{input_at_end, input_at_limit, loses_at_end, loses_input}
 use Rattle.tw_device.proofs.Taking.{takes_both}
 use Rattle.tw_device.proofs.source.read_all.Goals as goal
 
@@ -11,8 +11,16 @@ returns-then-taken-eq0-clause-input g c =
     let few : length c.loop-chunk.bytes.items ≤ 67108864 = omega arith in
     input_at_end _ _ _ _ c.loop-chunk.invariant.1 nothing (given.1 c.if-taken-eq0.true room) few
 
+pub returns-then-taken-eq0-clause-taken : goal.returns-then-taken-eq0-clause-taken
+returns-then-taken-eq0-clause-taken g c =
+    let nothing = rw c.if-taken-eq0.true at c.in_ok-taken.ensures.bytes.0 in
+    loses_at_end _ _ _ _ c.loop-chunk.invariant.1 nothing (returns-then-taken-eq0-clause-input g c)
+
 pub returns-clause-input : goal.returns-clause-input
 returns-clause-input g c = input_at_limit _ _ _ c.loop-chunk.invariant.1 (omega arith)
+
+pub returns-clause-taken : goal.returns-clause-taken
+returns-clause-taken g c = loses_input _ _ _ c.loop-chunk.invariant.1 (input_at_limit _ _ _ c.loop-chunk.invariant.1 (omega arith))
 
 pub returns-in_err-extend_from_slice-clause-most : goal.returns-in_err-extend_from_slice-clause-most
 returns-in_err-extend_from_slice-clause-most g c =
