@@ -1,9 +1,17 @@
--- Why a program stops whose run did not reach its stop.
+-- Why a program stops that could not read its input, or whose run did not reach its stop (own).
 use Rattle.tw_commands.specs.declared.cause.Cause.{Cause}
 use Rattle.tw_commands.specs.declared.cause.Cause.TheVariants as cause
-use Rattle.tw_seq.specs.declared.fault.RunFault.{RunFault}
-use Rattle.tw_seq.specs.declared.fault.RunFault.TheVariants.{CounterFull, Memory}
+use Rattle.tw_device.specs.declared.failed.Failed.{Failed as AFailure}
+use Rattle.tw_handlers.specs.declared.fault.CounterFull.{CounterFull as AFullCounter}
+use Rattle.tw_model.specs.declared.memory.OrMemory.{OrMemory}
+use Rattle.tw_model.specs.declared.memory.OrMemory.TheVariants.{Fault, Memory}
 
-abbrev pub cause_of : RunFault → Cause
-cause_of CounterFull = cause.CounterFull
-cause_of Memory = cause.Memory
+-- of reading
+abbrev pub read_cause : OrMemory AFailure → Cause
+read_cause (Fault f) = cause.Device
+read_cause Memory = cause.Memory
+
+-- of a run
+abbrev pub run_cause : OrMemory AFullCounter → Cause
+run_cause (Fault f) = cause.CounterFull
+run_cause Memory = cause.Memory

@@ -1,6 +1,6 @@
+pub mod Output
+pub mod ForCase
 pub mod Cause
-pub mod Source
-pub mod Answers
 pub mod Check
 pub mod Seq
 pub mod Trail

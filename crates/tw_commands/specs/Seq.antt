@@ -1,8 +1,8 @@
--- What `seq` writes.
-use Rattle.std.specs.Prelude.{ℕ, ◌≡◌, Bool, List, Ok}
+-- What `seq` writes (own).
+use Rattle.std.specs.Prelude.{ℕ, ◌≡◌, Bool, List}
 use Rattle.tw_commands.specs.declared.cause.Status.TheVariants.{Done}
-use Rattle.tw_commands.specs.Answers.{Output}
-use Rattle.tw_commands.specs.Check.{for_case}
+use Rattle.tw_commands.specs.ForCase.{StuckFor, for_case}
+use Rattle.tw_commands.specs.Output.{Output}
 use Rattle.tw_model.specs.Case.{Case}
 use Rattle.tw_model.specs.Summary.{Summary}
 use Rattle.tw_report.specs.Report.{report_text}
@@ -19,7 +19,8 @@ reported case log o = record { status = Done; text = report_text case.net o (ver
 abbrev pub seq_report : ℕ → Bool → Case → Output
 seq_report stop log case = reported case log (outcome_of (complete case stop))
 
-unfoldable pub seq_output : ℕ → Bool → List ℕ → Output
+-- the report of the run of the case of a text, or why it has none
+abbrev pub seq_output : ℕ → Bool → List ℕ → Output
 seq_output stop log input = for_case (seq_report stop log) (case_of input)
 
 -- on its way to the stop the run of the case comes to an event that would pass a counter's limit
@@ -31,7 +32,5 @@ pub record GetsStuck (case : Case) (stop : ℕ) : Type 0 where
   pub stuck : IsStuck run
 
 -- the same for the case of a text
-pub record StopsFull (stop : ℕ) (input : List ℕ) : Type 0 where
-  pub case : Case
-  pub read : case_of input ≡ Ok case
-  pub stuck : GetsStuck case stop
+abbrev pub GetsStuckFor : ℕ → List ℕ → Type 0
+GetsStuckFor stop input = StuckFor (λ case. GetsStuck case stop) (case_of input)

@@ -1,16 +1,18 @@
--- What `trail` writes: a router after its events of a run, what undoing takes back, and the router after that.
-use Rattle.std.specs.Prelude.{ℕ, ◌==◌, List, [], ◌∷◌, ◌++◌, codes, drop, take, nat_lt, if◌then◌else◌}
+-- What `trail` writes: a router after its events of a run, what undoing takes back, and the router after that (own).
+use Rattle.std.specs.Prelude.{ℕ, ◌<◌, ◌==◌, List, [], ◌∷◌, ◌++◌, codes, drop, take, nat_lt, if◌then◌else◌}
 use Rattle.std.specs.List.{filter, flat_map}
 use Rattle.tw_event.specs.declared.event.Event.{Event}
 use Rattle.tw_commands.specs.declared.cause.Status.TheVariants.{Done}
-use Rattle.tw_commands.specs.Answers.{Output}
-use Rattle.tw_commands.specs.Check.{for_case, refused}
+use Rattle.tw_commands.specs.Output.{Output}
+use Rattle.tw_commands.specs.ForCase.{StuckFor, for_case, refused}
+use Rattle.tw_commands.specs.Seq.{GetsStuck}
 use Rattle.tw_model.specs.Case.{Case}
 use Rattle.tw_model.specs.Net.{Net}
 use Rattle.tw_model.specs.State.{State, opening}
 use Rattle.tw_model.specs.Effect.{effect}
 use Rattle.tw_model.specs.History.{state_after}
-use Rattle.tw_report.specs.Lines.{event_words, line, router_words}
+use Rattle.tw_report.specs.Lines.{event_words, router_words}
+use Rattle.tw_report.specs.Words.{line}
 use Rattle.tw_seq.specs.Run.{complete}
 use Rattle.tw_text.specs.Reading.{case_of}
 
@@ -18,9 +20,13 @@ use Rattle.tw_text.specs.Reading.{case_of}
 abbrev pub router_line : Net → ℕ → State → List ℕ
 router_line net v s = line (router_words net v (record { counters = s.counters; rib = s.rib }))
 
+-- a message that an event had sent
+abbrev pub send_line : Net → Event → List ℕ
+send_line net x = line (codes "send" ∷ event_words net x)
+
 -- what an event had sent
 abbrev pub send_lines : Net → List Event → List ℕ
-send_lines net sends = flat_map (λ x. line (codes "send" ∷ event_words net x)) sends
+send_lines net sends = flat_map (send_line net) sends
 
 -- an event that is undone, and then what it had sent
 abbrev pub undo_lines : Net → Event → List Event → List ℕ
@@ -49,5 +55,14 @@ followed v stop keep case =
     then record { status = Done; text = trail_text case.net v (events_at v (complete case stop).events) keep }
     else refused (line (codes "refused" ∷ codes "option" ∷ codes "N1" ∷ codes "Router" ∷ []))
 
-unfoldable pub trail_output : ℕ → ℕ → ℕ → List ℕ → Output
+-- the same for the case of a text, or why it has none
+abbrev pub trail_output : ℕ → ℕ → ℕ → List ℕ → Output
 trail_output v stop keep input = for_case (followed v stop keep) (case_of input)
+
+-- the case has the router, and its run gets stuck
+abbrev pub FollowGetsStuck : ℕ → ℕ → Case → Type 0
+FollowGetsStuck v stop case = (v < case.net.nodes) × GetsStuck case stop
+
+-- the same for the case of a text
+abbrev pub TrailGetsStuck : ℕ → ℕ → List ℕ → Type 0
+TrailGetsStuck v stop input = StuckFor (FollowGetsStuck v stop) (case_of input)

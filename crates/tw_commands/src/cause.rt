@@ -1,11 +1,13 @@
 ghost use Rattle.std.specs.Prelude.{◌≡◌};
 ghost use Rattle.tw_commands.specs.declared.cause.Cause.TheVariants.{Memory, Device};
-ghost use Rattle.tw_commands.specs.Cause.{cause_of};
+ghost use Rattle.tw_commands.specs.Cause.{read_cause, run_cause};
 
+use crate::trail_page::NoMemory;
 use std::alloc::AllocError;
 use thiserror::Error;
-use tw_report::Failed;
-use tw_seq::RunFault;
+use tw_device::Failed;
+use tw_handlers::CounterFull;
+use tw_model::OrMemory;
 
 /// Why a program stopped before its answer was written.
 #[derive(Clone, Copy, PartialEq, Eq, Debug, Error)]
@@ -29,6 +31,14 @@ impl From<AllocError> for Cause {
     }
 }
 
+impl From<NoMemory> for Cause {
+    ghost from_gives = { λ _ cause. cause ≡ Memory };
+
+    fn from(_: NoMemory) -> Cause {
+        Cause::Memory
+    }
+}
+
 impl From<Failed> for Cause {
     ghost from_gives = { λ _ cause. cause ≡ Device };
 
@@ -37,13 +47,24 @@ impl From<Failed> for Cause {
     }
 }
 
-impl From<RunFault> for Cause {
-    ghost from_gives = { λ fault cause. cause ≡ cause_of fault };
+impl From<OrMemory<Failed>> for Cause {
+    ghost from_gives = { λ fault cause. cause ≡ read_cause fault };
 
-    fn from(fault: RunFault) -> Cause {
+    fn from(fault: OrMemory<Failed>) -> Cause {
         match fault {
-            RunFault::CounterFull => Cause::CounterFull,
-            RunFault::Memory => Cause::Memory,
+            OrMemory::Fault(_) => Cause::Device,
+            OrMemory::Memory => Cause::Memory,
+        }
+    }
+}
+
+impl From<OrMemory<CounterFull>> for Cause {
+    ghost from_gives = { λ fault cause. cause ≡ run_cause fault };
+
+    fn from(fault: OrMemory<CounterFull>) -> Cause {
+        match fault {
+            OrMemory::Fault(_) => Cause::CounterFull,
+            OrMemory::Memory => Cause::Memory,
         }
     }
 }

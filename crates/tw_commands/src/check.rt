@@ -1,16 +1,47 @@
-ghost use Rattle.std.specs.Prelude.{◌≡◌, false, IfOk};
-ghost use Rattle.std.specs.String.{string_bytes};
-ghost use Rattle.tw_commands.specs.Answers.{Answers, Gives};
-ghost use Rattle.tw_commands.specs.Check.{accepted, check_output, Refuses, refused, sizes_line};
-ghost use Rattle.tw_text.specs.Names.{refused_text};
+ghost use Rattle.std.specs.Prelude.{◌≡◌, false, true, Unit};
+ghost use Rattle.tw_commands.specs.Check.{accepted};
+ghost use Rattle.tw_commands.specs.ForCase.{for_case};
+ghost use Rattle.tw_commands.specs.Output.{Answers};
+ghost use Rattle.tw_device.specs.Source.{LosesInput, TakesInput};
+ghost use Rattle.tw_text.specs.Reading.{case_of};
 
-use crate::answer::{Answer, write_answer};
 use crate::cause::{Cause, Status};
-use crate::source::{Source, read_all};
-use std::alloc::{AllocError, Global};
+use crate::command::{Command, answer_io};
+use std::alloc::Global;
+use tw_device::{Sink, Source};
 use tw_instance::Case;
-use tw_report::Sink;
-use tw_text::{LineFault, TextFault, read_case};
+use tw_report::Word::{Name, Number};
+use tw_report::put_line;
+
+/// The command `check`: says how large a case is.
+struct Check;
+
+impl Command for Check {
+    ghost ready = { λ _. Unit {0} };
+
+    ghost output = { λ _ case. accepted case };
+
+    ghost stuck = { λ _ _. ⊥ };
+
+    fn answer<W: Sink>(&self, _alloc: Global, case: &Case, sink: &mut W) -> Result<Status, Cause> {
+        let instance = case.instance();
+        put_line(
+            sink,
+            &[
+                Name("accepted"),
+                Name("nodes"),
+                Number(u64::from(instance.nodes())),
+                Name("links"),
+                Number(instance.links().len() as u64),
+                Name("paths"),
+                Number(instance.paths().len() as u64),
+                Name("scenario"),
+                Number(case.scenario().len() as u64),
+            ],
+        )?;
+        Ok(Status::Done)
+    }
+}
 
 /// Reads a case and writes how large it is, or where and why its text is refused.
 pub fn check_io<R: Source, W: Sink>(
@@ -20,74 +51,10 @@ pub fn check_io<R: Source, W: Sink>(
 ) -> Result<Status, Cause>
     requires source { R.failed source.old ≡ false }
     requires sink { W.failed sink.old ≡ false }
-    ensures { Answers result check_output (λ input. ⊥) (R.remaining source.old) (W.written sink.old) (W.written sink.new) (R.failed source.new) (W.failed sink.new) }
+    ensures answer { Answers result (λ input. for_case accepted (case_of input)) (λ _. ⊥)
+        (R.remaining source.old) (W.written sink.old) (W.written sink.new) (R.failed source.new) (W.failed sink.new) }
+    ensures read { OnOk result (LosesInput (R.remaining source.old) (R.remaining source.new)) }
+    ensures most { TakesInput (R.remaining source.old) (R.remaining source.new) }
 {
-    let input = read_all(alloc, source)?;
-    let answer = check_answer(alloc, &input)?;
-    write_answer(sink, &answer)
-}
-
-fn check_answer(alloc: Global, input: &[u8]) -> Result<Answer, Cause>
-    ensures { Gives result (check_output input.now) ⊥ }
-{
-    match read_case(alloc, input) {
-        Ok(case) => accept(alloc, &case),
-        Err(fault) => refuse(alloc, fault),
-    }
-}
-
-fn accept(alloc: Global, case: &Case) -> Result<Answer, Cause>
-    ensures { Gives result (accepted case.now) ⊥ }
-{
-    let instance = case.instance();
-    let text = sizes_text(
-        alloc,
-        instance.nodes(),
-        instance.links().len(),
-        instance.paths().len(),
-        case.scenario().len(),
-    )?;
-    Ok(Answer {
-        status: Status::Done,
-        text,
-    })
-}
-
-#[tactic(auto, unfolding(crate::specs::Check::sizes_line))]
-fn sizes_text(
-    alloc: Global,
-    nodes: u32,
-    links: usize,
-    paths: usize,
-    scenario: usize,
-) -> Result<String, AllocError>
-    ensures { IfOk result (λ s. string_bytes s ≡ sizes_line nodes links paths scenario) }
-{
-    let mut text = format!(in alloc;
-        "accepted nodes {nodes} links {links} paths {paths} scenario {scenario}"
-    )?;
-    text.push('\n')?;
-    Ok(text)
-}
-
-/// The answer to a text that is refused.
-pub(crate) fn refuse(alloc: Global, fault: TextFault) -> Result<Answer, Cause>
-    ensures { Refuses result fault }
-{
-    match fault {
-        TextFault::At { line, fault } => refuse_line(alloc, line, fault),
-        TextFault::Memory => Err(Cause::Memory),
-    }
-}
-
-fn refuse_line(alloc: Global, line: usize, fault: LineFault) -> Result<Answer, Cause>
-    ensures { Gives result (refused (refused_text line fault)) ⊥ }
-{
-    let code = fault.code();
-    let name = fault.name();
-    let text = format!(in alloc; "refused line {line} {code} {name}\n")?;
-    Ok(Answer {
-        status: Status::Refused,
-        text,
-    })
+    answer_io(alloc, &Check, source, sink)
 }

@@ -1,17 +1,23 @@
-//! The programs as calls: each reads a case from any source, runs it and writes its answer to any
-//! sink.
+//! The programs `check`, `seq` and `trail` as calls: each reads a case from any source, does its work
+//! and writes its answer to any sink.
+//!
+//! A program is a `Command`: what it writes for a case, and how it ends then. `answer_io` is the one way
+//! from input to answer. Proved, for sources and sinks that tell their bytes: what is written is exactly
+//! the answer to the text that was read, or nothing where memory was refused or a counter was full, or a
+//! prefix where the sink failed; at most `MOST_INPUT` bytes are read. Not proved: what a file or a
+//! terminal holds, and that memory is not refused.
 #![tactic(auto)]
 
-mod answer;
 mod cause;
 mod check;
+mod command;
+mod refusal;
 mod seq;
-mod source;
 mod trail;
-mod trail_text;
+mod trail_page;
 
 pub use cause::{Cause, Status};
 pub use check::check_io;
+pub use command::{Command, answer_io};
 pub use seq::seq_io;
-pub use source::{LIMIT, OverRead, Source, read_all};
 pub use trail::trail_io;

@@ -1,16 +1,39 @@
-ghost use Rattle.std.specs.Prelude.{◌≡◌, ◌≤◌, false};
-ghost use Rattle.tw_commands.specs.Answers.{Answers, Gives};
-ghost use Rattle.tw_commands.specs.Seq.{GetsStuck, StopsFull, seq_output, seq_report};
+ghost use Rattle.std.specs.Prelude.{◌≡◌, ◌≤◌, false, OnOk};
+ghost use Rattle.tw_commands.specs.Output.{Answers, Leaves};
+ghost use Rattle.tw_commands.specs.Seq.{GetsStuck, GetsStuckFor, seq_output, seq_report};
+ghost use Rattle.tw_device.specs.Source.{LosesInput, TakesInput};
+ghost use Rattle.tw_model.specs.declared.limits.TheConstants.{LATEST};
 
-use crate::answer::{Answer, write_answer};
 use crate::cause::{Cause, Status};
-use crate::check::refuse;
-use crate::source::{Source, read_all};
+use crate::command::{Command, answer_io};
 use std::alloc::Global;
+use tw_device::{Sink, Source};
 use tw_instance::Case;
-use tw_report::{Sink, Verdict, report_text};
+use tw_report::{Verdict, write_report};
 use tw_seq::OneThread;
-use tw_text::read_case;
+
+/// The command `seq`: runs a case on one thread to the stop and reports the run.
+struct Seq {
+    stop: u64,
+    log: bool,
+}
+
+impl Command for Seq {
+    ghost ready = { λ seq. seq.stop ≤ LATEST };
+
+    ghost output = { λ seq case. seq_report seq.stop seq.log case };
+
+    ghost stuck = { λ seq case. GetsStuck case seq.stop };
+
+    fn answer<W: Sink>(&self, alloc: Global, case: &Case, sink: &mut W) -> Result<Status, Cause> {
+        let mut run = OneThread::new(alloc, case)?;
+        run.run_to(self.stop)?;
+        let outcome = run.into_outcome()?;
+        let verdict = Verdict::of(&outcome);
+        write_report(sink, case.instance(), &outcome, verdict, self.log)?;
+        Ok(Status::Done)
+    }
+}
 
 /// Reads a case, runs it on one thread to the stop, in ticks, and writes the report of that run, with
 /// a line for each event where `log` says so; or writes where and why the text is refused.
@@ -23,35 +46,11 @@ pub fn seq_io<R: Source, W: Sink>(
 ) -> Result<Status, Cause>
     requires source { R.failed source.old ≡ false }
     requires sink { W.failed sink.old ≡ false }
-    requires stop { stop ≤ 1000000000 }
-    ensures { Answers result (seq_output stop log) (StopsFull stop) (R.remaining source.old) (W.written sink.old) (W.written sink.new) (R.failed source.new) (W.failed sink.new) }
+    requires stop { stop ≤ LATEST }
+    ensures answer { Answers result (seq_output stop log) (GetsStuckFor stop)
+        (R.remaining source.old) (W.written sink.old) (W.written sink.new) (R.failed source.new) (W.failed sink.new) }
+    ensures read { OnOk result (LosesInput (R.remaining source.old) (R.remaining source.new)) }
+    ensures most { TakesInput (R.remaining source.old) (R.remaining source.new) }
 {
-    let input = read_all(alloc, source)?;
-    let answer = seq_answer(alloc, &input, stop, log)?;
-    write_answer(sink, &answer)
-}
-
-fn seq_answer(alloc: Global, input: &[u8], stop: u64, log: bool) -> Result<Answer, Cause>
-    requires { stop ≤ 1000000000 }
-    ensures { Gives result (seq_output stop log input.now) (StopsFull stop input.now) }
-{
-    match read_case(alloc, input) {
-        Ok(case) => report_run(alloc, &case, stop, log),
-        Err(fault) => refuse(alloc, fault),
-    }
-}
-
-fn report_run(alloc: Global, case: &Case, stop: u64, log: bool) -> Result<Answer, Cause>
-    requires { stop ≤ 1000000000 }
-    ensures { Gives result (seq_report stop log case.now) (GetsStuck case.now stop) }
-{
-    let mut run = OneThread::new(alloc, case)?;
-    run.run_to(stop)?;
-    let outcome = run.into_outcome(alloc)?;
-    let verdict = Verdict::of(&outcome);
-    let text = report_text(alloc, case.instance(), &outcome, verdict, log)?;
-    Ok(Answer {
-        status: Status::Done,
-        text,
-    })
+    answer_io(alloc, &Seq { stop, log }, source, sink)
 }
