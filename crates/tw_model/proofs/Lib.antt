@@ -7,6 +7,7 @@ pub mod Sends
 pub mod Suits
 pub mod Openings
 pub mod Lawful
+pub mod Histories
 pub mod Rows
 pub mod LinkHeard
 pub mod LinkTold

@@ -2,6 +2,7 @@
 use Rattle.std.proofs.Common.{◌≡◌, ℕ, suc, zero, ◌+◌, ◌<◌, ◌≤◌, ◌==◌, Bool, true, false, cond, ◌&&◌, ◌||◌, List, [], ◌∷◌, ◌++◌, length, filter, get_or, Option, Some, None, refl, ap, sym, ◌∙◌, subst, inl, inr, arith, nat_lt, nat_le, append-nil, append_assoc}
 use Rattle.std.specs.List.{cons_option, position_or_len, filter_map, find, range_with_len}
 use Rattle.std.specs.Option.{option_map}
+use Rattle.std.proofs.lemmas.List.Sums.{passes_at_first}
 use Rattle.std.proofs.lemmas.Bool.{cases_Bool, both_ways, and_parts, or_parts, or_cases, not-false, ltb-true, leb-true, leb-false, eqb-true, eqb-false, eq-eqb, ne_eqb, lt-ltb, or_left, or_right, false_from_ne_true}
 use Rattle.std.proofs.Math.Bool.{or_comm}
 use Rattle.std.proofs.lemmas.List.{length-append}
@@ -14,7 +15,7 @@ use Rattle.tw_model.specs.Net.{Net, joins, hop_to, hops_of}
 use Rattle.tw_model.specs.State.{has_peer, hop, no_hop, slot}
 use Rattle.tw_model.specs.Rules.{IsNet, LinksFollow, degree, is_linked, link_breaks, link_fault, nodes_break, nodes_fault}
 use Rattle.tw_model.proofs.Unbroken.{none_broken}
-use Rattle.tw_sim.proofs.Members.{In, in_find, in_filter_map, in_filter_mapped, in_get_or, in_range, place_passes, place_within, range_has, find_agree, find_some}
+use Rattle.tw_sim.proofs.Members.{In, in_find, in_filter_map, in_filter_mapped, in_get_or, in_range, place_within, range_has, find_agree, find_some}
 
 -- a number of routers that keeps the rules
 pub nodes_within : (n : ℕ) → nodes_fault n ≡ None → (1 ≤ n) × (n ≤ 1024)
@@ -189,7 +190,7 @@ hop_in_hops net v k l = in_get_or (hops_of net v) k no_hop l
 
 pub hop_slot : (net : Net) (v w : ℕ) → has_peer net v w ≡ true → (hop net v (slot net v w)).peer ≡ w
 hop_slot net v w h =
-    eqb-true (hop net v (slot net v w)).peer w (place_passes (λ x. x.peer == w) (hops_of net v) no_hop (ltb-true (slot net v w) (length (hops_of net v)) h))
+    eqb-true (hop net v (slot net v w)).peer w (passes_at_first (λ x. x.peer == w) (hops_of net v) no_hop (ltb-true (slot net v w) (length (hops_of net v)) h))
 
 pub has_peer_of : (net : Net) (v : ℕ) (h : Hop) → In h (hops_of net v) → has_peer net v h.peer ≡ true
 has_peer_of net v h k =

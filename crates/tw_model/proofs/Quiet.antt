@@ -23,7 +23,7 @@ use Rattle.tw_model.proofs.Nets.{has_peer_back, has_peer_of, hops_rises}
 use Rattle.tw_model.proofs.Sends.{tells_effect}
 use Rattle.tw_model.proofs.Openings.{opening_no_update}
 use Rattle.tw_sim.proofs.Rising.{AllSuit, suit-begin, suit-turns}
-use Rattle.tw_sim.proofs.Unique.{falling-filter, sent_by_source}
+use Rattle.tw_sim.proofs.Unique.{falling-filter, sent_by_source, never_both}
 use Rattle.tw_sim.proofs.Closed.{running_seq}
 use Rattle.tw_model.proofs.Lawful.{lawful, numbered}
 use Rattle.tw_model.proofs.LinkHeard.{IsFrom, IsHeard, Line, agree_along, heard_along, line_along, row_along, row_state, rows_full, silent, some}
@@ -32,7 +32,8 @@ use Rattle.tw_model.proofs.LinkLast.{IsHistory, IsLast, last, last_along, mute}
 use Rattle.tw_model.proofs.Settled.{best_along, start}
 use Rattle.tw_model.proofs.Agreed.{HasOpened, about, ends_agree, falls_from}
 
-suit_seq : (case : Case) (is : IsCase case) (t : ℕ) → AllSuit (simulation case) (seq (simulation case) t)
+-- the events of a run suit the routers that handle them, handled and pending
+pub suit_seq : (case : Case) (is : IsCase case) (t : ℕ) → AllSuit (simulation case) (seq (simulation case) t)
 unfolding finished
 suit_seq case is t =
     suit-turns (simulation case) (lawful case is) (weight (simulation case) t (begin (simulation case)).rest) t (begin (simulation case)) (suit-begin (simulation case) (lawful case is))
@@ -132,9 +133,6 @@ module _ (case : Case) (is : IsCase case) (t : ℕ) (quiet : IsQuiet case t) whe
   update_sent : (e : Event) (q : PathNo) (n : ℕ) → e.body ≡ Update q n → In e (log (simulation case) t) → In e (sent (simulation case) e.src (history e.src))
   update_sent e q n body h = elim (asked e h) [ inl o ↦ absurd (opening_no_update case is e o q n body) | inr s ↦ s ]
 
-  never_both : (x y : Event) → event_before x y ≡ true → event_before y x ≡ true → ⊥
-  never_both x y h k = both_ways (event_before x x) (before_not_self x) (before_trans x y x h k)
-
   -- an update that v handled was sent to it by w
   from_neighbour : (v w : ℕ) (x : Event) (q : PathNo) (n : ℕ) → In x (history v) → x.src ≡ w → x.body ≡ Update q n → In x (sent (simulation case) w (history w))
   from_neighbour v w x q n i src body =
@@ -172,7 +170,7 @@ module _ (case : Case) (is : IsCase case) (t : ℕ) (quiet : IsQuiet case t) whe
         | inl e ↦ path_in x u r.heard rib r.session m.session body told (sym e)
         | inr k ↦ elim (newest x x_sent x_home) [
           | inl e ↦ path_in x u r.heard rib r.session m.session body told e
-          | inr n ↦ absurd (never_both x u n k)
+          | inr n ↦ absurd (never_both (simulation case) (lawful case is) x u n k)
         ]
       ]
   heard_is v w back r l m same session (silent never empty) rib (last u j dst told since newest) =

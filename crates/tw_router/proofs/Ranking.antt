@@ -2,6 +2,7 @@
 use Rattle.std.proofs.Common.{◌≡◌, ℕ, ◌-◌, ◌<◌, ◌≤◌, ◌==◌, Bool, true, false, not, cond, List, [], ◌∷◌, length, map, replicate, get_or, set, max, fold, Some, None, refl, ap, ap₂, sym, ◌∙◌, subst, arith, inl, inr, ◌↔◌, IsTrue, ltb}
 use Rattle.std.specs.List.{All, find, list_any, position, position_or_len}
 use Rattle.std.specs.Option.{unwrap_or}
+use Rattle.std.proofs.lemmas.List.Sums.{passes_at_first}
 use Rattle.std.proofs.lemmas.Bool.Decides.{Decides-eqb, same_from_decides}
 use Rattle.std.proofs.lemmas.Bool.{cases_Bool, cases_lt, both_ways, and_right, eq-eqb, ne_eqb, false_from_ne_true, le-ltb, lt-ltb}
 use Rattle.std.proofs.lemmas.List.{get_or-map, length-map, map-set}
@@ -16,7 +17,7 @@ use Rattle.tw_model.specs.declared.net.Hop.{Hop}
 use Rattle.tw_model.specs.Net.{IsPath, Net, empty_path}
 use Rattle.tw_model.specs.Effect.{with_row}
 use Rattle.tw_model.specs.State.{IsState, Router, State, best, fresh_row, no_row, offers}
-use Rattle.tw_sim.proofs.Members.{In, in_from_any, in_get_or, place_passes, place_within}
+use Rattle.tw_sim.proofs.Members.{In, in_from_any, in_get_or, place_within}
 use Rattle.tw_model.proofs.Paths.{path_empty}
 use Rattle.tw_router.specs.Ranks.{rank, rank_row}
 use Rattle.tw_router.proofs.Opening.{all-paths}
@@ -105,7 +106,7 @@ module _ (net : Net) (v : ℕ) (order : List PathNo) where
       rw (first_path_at rows empty_path within) (elim (cases_lt (first_any rows) (first_of row)) [
         | inl later ↦ ne_eqb _ _ (omega arith) ∙ sym (fails_before_first (λ q. offers net v q row) order (first_any rows) empty_path later)
         | inr same ↦ (let e : first_of row ≡ first_any rows = omega arith in
-            eq-eqb _ _ (omega arith) ∙ sym (subst (λ k. offers net v (get_or order k empty_path) row ≡ true) e (place_passes (λ q. offers net v q row) order empty_path (omega arith))))
+            eq-eqb _ _ (omega arith) ∙ sym (subst (λ k. offers net v (get_or order k empty_path) row ≡ true) e (passes_at_first (λ q. offers net v q row) order empty_path (omega arith))))
       ])
 
   slot_none : (rows : List Row) → 0 ≡ fold max 0 (map (rank net v order) rows) → None ≡ position (offers net v (first_path rows)) rows
@@ -139,7 +140,7 @@ module _ (net : Net) (v : ℕ) (order : List PathNo) where
         | inr past ↦ first_path_past rows past
         | inl within ↦
             (let one = in_from_any (offers net v (first_path rows)) rows
-            (subst (λ q. list_any (offers net v q) rows ≡ true) (sym (first_path_at rows empty_path within)) (place_passes (λ q. list_any (offers net v q) rows) order empty_path within)) in
+            (subst (λ q. list_any (offers net v q) rows ≡ true) (sym (first_path_at rows empty_path within)) (passes_at_first (λ q. list_any (offers net v q) rows) order empty_path within)) in
             let less = place_within (offers net v (first_path rows)) one.0 rows one.1 one.2 in
             let some = rw (lt-ltb _ _ less) at none in
             cc)

@@ -99,14 +99,6 @@ module _ {X : Type 0} where
       elim (cases_Bool (p y)) [ inl c ↦ rw c (omega arith) | inr c ↦ rw c (omega arith) ]
   place_within p x [] b h = absurd h
 
-  pub place_passes : (p : X → Bool) (xs : List X) (d : X) → position_or_len p xs < length xs → p (get_or xs (position_or_len p xs) d) ≡ true
-  place_passes p [] d h = absurd (omega arith)
-  place_passes p (y ∷ ys) d h =
-      elim (cases_Bool (p y)) [
-        | inl b ↦ rw b b
-        | inr b ↦ rw (b, one-add) (place_passes p ys d (let k = rw b at h in omega arith))
-      ]
-
   pub in_set : (x y : X) (xs : List X) (k : ℕ) → In x (set xs k y) → (x ≡ y) ⊎ In x xs
   in_set x y [] k h = absurd h
   in_set x y (z ∷ xs) zero (inl e) = inl e

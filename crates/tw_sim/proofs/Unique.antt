@@ -5,7 +5,8 @@ use Rattle.tw_sim.specs.Simulation.{Simulation, IsLawful, AreClosed, IsClosed, I
 use Rattle.tw_sim.proofs.Counts.{in_cons, in_filter, in_head, none, one_self, times-append, times-filter-yes}
 
 module _ {S E : Type 0} (m : Simulation S E) (law : IsLawful m) where
-  never_both : (x y : E) → m.before x y ≡ true → m.before y x ≡ true → ⊥
+  -- of two events one is handled before the other at most
+  pub never_both : (x y : E) → m.before x y ≡ true → m.before y x ≡ true → ⊥
   never_both x y h k = both_ways (m.before x x) (law.not_self x) (law.trans x y x h k)
 
   -- what stands behind the newest of a falling list is another event
