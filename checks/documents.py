@@ -38,13 +38,13 @@ def is_path(word):
 def main():
     tally = Tally()
     sources = files([*SOURCES, *CODE])
-    words = set(itertools.chain.from_iterable(re.findall(r"\w+", file.read_text()) for file in sources))
+    words = set(itertools.chain.from_iterable(re.findall(r"\w+", file.read_text(encoding="utf-8")) for file in sources))
     names = {file.name for file in sources} | {file.name for file in files(DOCUMENTS)}
     words |= {name.partition(".")[0] for name in names}
     folders = {part for file in sources for part in file.relative_to(TOP).parts[:-1]}
     for document in files(DOCUMENTS):
         lost = []
-        for word in quoted(document.read_text()):
+        for word in quoted(document.read_text(encoding="utf-8")):
             if "NAME" in word:
                 is_there = True
             elif is_path(word):

@@ -94,7 +94,7 @@ def stated(text):
 def check_done(tally):
     for case in sorted(CASES.glob("*.spp")):
         done = run([PROGRAM, "check"], case)
-        tally.add(f"check of {case.name}", differs(done, 0, stated(case.read_text()), b""))
+        tally.add(f"check of {case.name}", differs(done, 0, stated(case.read_text(encoding="ascii")), b""))
     done = run([PROGRAM, *SEQ], DISAGREE)
     tally.add(name_of(SEQ), differs(done, 0, REPORT.read_bytes(), b""))
     words = ["trail", "--router", "2", "--stop", "8", "--keep", "2"]
