@@ -4,8 +4,8 @@
     bench.py make NAME [--seed N] > case.spp     one of: hierarchy gadgets mesh limits
     bench.py run [NAME ..] [--seed N] [--events N ..] [--program FILE]
 
-`run` prints for each case the bytes read for each second, and for each number of events: the stop, events handled,
-seconds, events for each second, the greatest memory in use, and memory for each event beside that of a run to stop 1.
+`run` prints for each case the bytes read per second, and for each number of events: the stop, events handled, seconds,
+events per second, the greatest memory in use, and memory per event beside that of a run to stop 1.
 The stop for a number of events is found by doubling, and then once more by proportion. Times are the least of three
 runs.
 """
@@ -160,14 +160,14 @@ def run(program, name, seed, wanted):
         file.flush()
         size = pathlib.Path(file.name).stat().st_size
         _, seconds, memory = measure(program, ["check"], file.name, 3)
-        print(f"{name}: {size} bytes read in {seconds:.3f} s, {size / seconds / 1e6:.1f} MB for each second, {memory / 1024:.0f} MiB", flush=True)
+        print(f"{name}: {size} bytes read in {seconds:.3f} s, {size / seconds / 1e6:.1f} MB per second, {memory / 1024:.0f} MiB", flush=True)
         _, _, base = measure(program, ["seq", "--stop", "1"], file.name)
         for events in wanted if name != "limits" else []:
             stop = find_stop(program, file.name, events)
             report, seconds, memory = measure(program, ["seq", "--stop", str(stop)], file.name, 3)
             count = handled(report)
             per = (memory - base) * 1024 / max(count, 1)
-            print(f"{name}: stop {stop}, {count} events in {seconds:.2f} s, {count / seconds / 1e6:.2f} million for each second, {memory / 1024:.0f} MiB, {per:.1f} bytes an event", flush=True)
+            print(f"{name}: stop {stop}, {count} events in {seconds:.2f} s, {count / seconds / 1e6:.2f} million per second, {memory / 1024:.0f} MiB, {per:.1f} bytes per event", flush=True)
 
 
 def main():

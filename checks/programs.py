@@ -1,0 +1,215 @@
+#!/usr/bin/env python3
+"""Runs the built program, and compares its exit status, standard output and standard error with what is due.
+
+    programs.py                          after rt ci, or rt run in crates/twarp
+
+`stopped counter` is not among the checks: a counter goes to 2^48, and memory for the events of a run ends long before.
+Rows of crates/tw_rows show full counters by calls.
+"""
+import os
+import re
+import resource
+import signal
+import tempfile
+
+from common import CASES, DISAGREE, PROGRAM, REPORT, Refuser, Tally, need, run
+
+NOTHING = os.devnull
+
+SEQ = ["seq", "--stop", "20", "--log"]
+TRAIL = ["trail", "--router", "1", "--stop", "20", "--keep", "0"]
+COMMANDS = [["check"], SEQ, TRAIL]
+
+FOLLOWED = b"""\
+spp-trail 1
+router 2 sent 1 handled 3 dropped 1 changed 0 rib ()
+undo event 6 2 update 1 1 0 (1 0)
+router 2 sent 1 handled 2 dropped 0 changed 0 rib ()
+"""
+
+# What a line of the help begins with, for each command.
+HELP = {
+    "": ["Usage: twarp ", "  check ", "  seq ", "  trail ", "Exit status:", "  0  ", "  1  ", "  2  ", "  3  "],
+    "check": ["Usage: twarp check", "Exit status:"],
+    "seq": ["Usage: twarp seq ", "      --stop <TICKS>", "      --log", "Exit status:"],
+    "trail": [
+        "Usage: twarp trail ",
+        "      --router <NUMBER>",
+        "      --stop <TICKS>",
+        "      --keep <COUNT>",
+        "Exit status:",
+    ],
+}
+
+# What the help of a command says somewhere: the ranges of its numbers.
+RANGES = {
+    "seq": ["1 to 1000000000"],
+    "trail": ["0 to 1023", "1 to 1000000000", "0 to 1000000000"],
+}
+
+BAD_LINES = {
+    "no command": [],
+    "an unknown command": ["sequence"],
+    "an option in place of a command": ["--stop", "20"],
+    "an unknown option": ["seq", "--stop", "20", "--loud"],
+    "another command's option": ["check", "--stop", "20"],
+    "a word too many": ["check", "case"],
+    "an option given twice": ["seq", "--stop", "20", "--stop", "20"],
+    "an option without its number": ["seq", "--stop"],
+    "no stop": ["seq", "--log"],
+    "no router": ["trail", "--stop", "20", "--keep", "0"],
+    "no stop of a trail": ["trail", "--router", "1", "--keep", "0"],
+    "no keep": ["trail", "--router", "1", "--stop", "20"],
+    "a stop of 0": ["seq", "--stop", "0"],
+    "a stop past its limit": ["seq", "--stop", "1000000001"],
+    "a stop below 0": ["seq", "--stop", "-1"],
+    "a stop that no u64 holds": ["seq", "--stop", "18446744073709551616"],
+    "a stop that is no number": ["seq", "--stop", "soon"],
+    "a router past its limit": ["trail", "--router", "1024", "--stop", "20", "--keep", "0"],
+    "a keep past its limit": ["trail", "--router", "1", "--stop", "20", "--keep", "1000000001"],
+    "a word that is no UTF-8": ["seq", "--stop", b"\xff"],
+}
+
+
+def differs(done, status, out, err):
+    """What is wrong with how a command ended, if anything."""
+    found, wanted = (done.returncode, done.stdout, done.stderr), (status, out, err)
+    return found != wanted and f"it ended with {found}, and {wanted} is due"
+
+
+def name_of(words):
+    return f"twarp {' '.join(map(str, words))}"
+
+
+def stated(text):
+    """The line of `twarp check` for a case, by counting its lines."""
+    lines = [line.split() for line in text.splitlines()]
+    count = lambda *words: sum(line[0] in words for line in lines)
+    return (
+        f"accepted nodes {lines[1][1]} links {count('link')} paths {count('path')} "
+        f"scenario {count('fail', 'restore', 'swap')}\n"
+    ).encode()
+
+
+def check_done(tally):
+    for case in sorted(CASES.glob("*.spp")):
+        done = run([PROGRAM, "check"], case)
+        tally.add(f"check of {case.name}", differs(done, 0, stated(case.read_text(encoding="ascii")), b""))
+    done = run([PROGRAM, *SEQ], DISAGREE)
+    tally.add(name_of(SEQ), differs(done, 0, REPORT.read_bytes(), b""))
+    words = ["trail", "--router", "2", "--stop", "8", "--keep", "2"]
+    done = run([PROGRAM, *words], CASES / "failure-and-repair.spp")
+    tally.add(name_of(words), differs(done, 0, FOLLOWED, b""))
+
+
+def check_refused(tally, folder):
+    bad = folder / "bad.spp"
+    bad.write_text("spp 1\nnodes 0\nend\n")
+    no_such = ["trail", "--router", "3", "--stop", "20", "--keep", "0"]
+    for words in [*COMMANDS, no_such]:
+        done = run([PROGRAM, *words], bad)
+        tally.add(f"{name_of(words)} of no case", differs(done, 1, b"refused line 2 I1 Range\n", b""))
+        done = run([PROGRAM, *words], NOTHING)
+        tally.add(f"{name_of(words)} of nothing", differs(done, 1, b"refused line 1 X6 End\n", b""))
+    done = run([PROGRAM, *no_such], DISAGREE)
+    tally.add("a router that is not there", differs(done, 1, b"refused option N1 Router\n", b""))
+
+
+def check_memory(tally, folder):
+    refuser = Refuser(folder)
+    for words in [*COMMANDS, ["--help"], ["seq"]]:
+        done = refuser.run(1, [PROGRAM, *words], DISAGREE)
+        wrong = done is None or differs(done, 2, b"", b"stopped memory\n")
+        tally.add(f"{name_of(words)} without memory", wrong)
+
+
+def check_output(tally, folder):
+    """Standard output that takes nothing, or not all."""
+    stopped = 2, None, b"stopped device\n"
+    for words in [*COMMANDS, ["--help"], ["seq", "--help"]]:
+        line = [PROGRAM, *words]
+        with open("/dev/full", "wb") as full:
+            tally.add(f"{name_of(words)} on a full device", differs(run(line, DISAGREE, stdout=full), *stopped))
+        done = run(line, DISAGREE, stdout=None, preexec_fn=lambda: os.close(1))
+        tally.add(f"{name_of(words)} with no standard output", differs(done, *stopped))
+        left, right = os.pipe()
+        os.close(left)
+        tally.add(f"{name_of(words)} into a pipe that nobody reads", differs(run(line, DISAGREE, stdout=right), *stopped))
+        os.close(right)
+    with open("/dev/full", "wb") as full:
+        done = run([PROGRAM, "check"], NOTHING, stdout=full)
+    tally.add("a refusal on a full device", differs(done, *stopped))
+    check_short(tally, folder / "short")
+
+
+def check_short(tally, file):
+    """A file that holds no more than 100 bytes."""
+
+    def limit():
+        signal.signal(signal.SIGXFSZ, signal.SIG_IGN)
+        resource.setrlimit(resource.RLIMIT_FSIZE, (100, 100))
+
+    with open(file, "wb") as short:
+        done = run([PROGRAM, *SEQ], DISAGREE, stdout=short, preexec_fn=limit)
+    wrong = differs(done, 2, None, b"stopped device\n")
+    tally.add("a device that fails within the report", wrong or file.read_bytes() != REPORT.read_bytes()[:100])
+
+
+def check_input(tally):
+    """Standard input that gives nothing."""
+    for words in COMMANDS:
+        line = [PROGRAM, *words]
+        done = run(line, "/")
+        tally.add(f"{name_of(words)} of a folder", differs(done, 2, b"", b"stopped device\n"))
+        done = run(line, NOTHING, preexec_fn=lambda: os.close(0))
+        tally.add(f"{name_of(words)} with no standard input", differs(done, 2, b"", b"stopped device\n"))
+
+
+def check_help(tally):
+    for command, heads in HELP.items():
+        own = [command] * bool(command)
+        for words in [*own, "--help"], [*own, "-h"], ["help", *own]:
+            done = run([PROGRAM, *words], NOTHING)
+            said = done.stdout.decode()
+            lacks = [head for head in heads if not re.search(f"^{re.escape(head)}", said, re.M)]
+            lacks += [words for words in RANGES.get(command, []) if words not in said]
+            wrong = (done.returncode, done.stderr) != (0, b"") and f"it ended with {done}"
+            tally.add(name_of(words), wrong or lacks and f"it does not say {lacks}")
+
+
+def check_bad_lines(tally):
+    for name, words in BAD_LINES.items():
+        done = run([PROGRAM, *words], DISAGREE)
+        ended = (done.returncode, done.stdout, done.stderr[:7]) == (3, b"", b"error: ") and done.stderr.endswith(b"\n")
+        tally.add(name, not ended and f"it ended with {done}")
+
+
+def check_version(tally):
+    for word in "--version", "-V":
+        done = run([PROGRAM, word], NOTHING)
+        if done.returncode == 3:
+            print(f"left out: twarp {word}, which the program refuses")
+            continue
+        is_named = re.fullmatch(rb"twarp \d+\.\d+\.\d+\n", done.stdout)
+        wrong = (done.returncode, done.stderr) != (0, b"") or not is_named
+        tally.add(name_of([word]), wrong and f"it ended with {done}")
+
+
+def main():
+    need(PROGRAM, "rt run in crates/twarp")
+    tally = Tally()
+    with tempfile.TemporaryDirectory() as name:
+        folder = type(CASES)(name)
+        check_done(tally)
+        check_refused(tally, folder)
+        check_memory(tally, folder)
+        check_output(tally, folder)
+    check_input(tally)
+    check_help(tally)
+    check_bad_lines(tally)
+    check_version(tally)
+    tally.end()
+
+
+if __name__ == "__main__":
+    main()
