@@ -191,6 +191,13 @@ module _ {S E : Type 0} (m : Simulation S E) (law : IsLawful m) where
         let minus_out = antimessages-antimessage m x back in
         omega arith
 
+    -- the event is pending in the place of handled
+    pub moved_undoing : (x : E) → times_handled m B x + times m x B.pending ≡ times_handled m C x + times m x C.pending
+    moved_undoing x =
+        let handled = times_grown B.history C.history e (grown_by_undoing C e older newest) x in
+        let waits = times-insert m x e C.pending in
+        omega arith
+
     -- what is loose afterwards was loose, is the event, or is what it sent
     loose_undoing : (x : E) → times_loose m B x ≡ times_loose m C x + (one m x e + times m x back)
     loose_undoing x =

@@ -1,2 +1,5 @@
 pub mod Counts
 pub mod Calls
+pub mod Back
+pub mod Delivery
+
