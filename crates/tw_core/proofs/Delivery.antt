@@ -5,7 +5,7 @@ use Rattle.tw_core.proofs.Back.{IsBack, back_while, left_fails, taken_back, undo
 use Rattle.tw_core.proofs.Counts.{antimessages-append, antimessages-remove, in_flight, messages-append, messages-remove}
 use Rattle.tw_core.specs.Good.{IsGoodPart}
 use Rattle.tw_core.specs.Machine.{Core, antimessages, messages, times_handled, times_loose}
-use Rattle.tw_core.specs.Parts.{SameSurplus}
+use Rattle.tw_core.specs.Parts.{KeepsPart}
 use Rattle.tw_core.specs.Steps.{after_delivery, after_undoing_while, take_out, without_from, without_later}
 use Rattle.tw_sim.proofs.Counts.{none, one_cases, one_self, times-insert, times-take_out}
 use Rattle.tw_sim.specs.declared.machine.Signed.{Signed}
@@ -33,18 +33,10 @@ module _ {S E : Type 0} (m : Simulation S E) (law : IsLawful m) where
         ];
   }
 
-  -- what a delivery gives
-  pub record IsDelivered (t : ℕ) (C D : Core E) : Type 0 where
-    pub part : IsGoodPart m t D
-    pub surplus : SameSurplus m C D
-    pub done : D.done ≡ C.done
-    pub bound : D.bound ≡ C.bound
-    pub stop : D.stop ≡ C.stop
-
   module _ (t : ℕ) (C : Core E) (good : IsGoodPart m t C) (k : ℕ) (e : E) where
     -- a message for which an antimessage is kept
     meets_kept : slice_get C.flight k ≡ Some (record { plus = true; event = e }) → 0 < times m e C.kept
-        → IsDelivered t C (record C { kept = take_out m e C.kept; flight = remove C.flight k })
+        → KeepsPart m t C (record C { kept = take_out m e C.kept; flight = remove C.flight k })
     meets_kept place there = record {
       part = part_loose t C C.pending (take_out m e C.kept) (remove C.flight k) good
       (λ x h. (
@@ -110,7 +102,7 @@ module _ {S E : Type 0} (m : Simulation S E) (law : IsLawful m) where
 
     -- a message for which none is kept becomes pending
     becomes_pending : slice_get C.flight k ≡ Some (record { plus = true; event = e }) → times m e C.kept ≡ 0
-        → IsDelivered t C (record (B (λ x. m.before e x)) { pending = insert m e (B (λ x. m.before e x)).pending; flight = remove C.flight k ++ back (λ x. m.before e x) })
+        → KeepsPart m t C (record (B (λ x. m.before e x)) { pending = insert m e (B (λ x. m.before e x)).pending; flight = remove C.flight k ++ back (λ x. m.before e x) })
     becomes_pending place none_kept =
         let test : E → Bool = λ x. m.before e x in
         let late : t ≤ m.time e = good.late e (let k = in_flight m law C.flight k (record { plus = true; event = e }) place in omega arith) in
@@ -143,7 +135,7 @@ module _ {S E : Type 0} (m : Simulation S E) (law : IsLawful m) where
 
     -- an antimessage whose event is pending
     meets_pending : slice_get C.flight k ≡ Some (record { plus = false; event = e }) → 0 < times m e C.pending
-        → IsDelivered t C (record C { pending = take_out m e C.pending; flight = remove C.flight k })
+        → KeepsPart m t C (record C { pending = take_out m e C.pending; flight = remove C.flight k })
     meets_pending place there = record {
       part = part_loose t C (take_out m e C.pending) C.kept (remove C.flight k) good
       (λ x h. (
@@ -169,7 +161,7 @@ module _ {S E : Type 0} (m : Simulation S E) (law : IsLawful m) where
 
     -- an antimessage whose event is handled
     meets_handled : slice_get C.flight k ≡ Some (record { plus = false; event = e }) → 0 < times_handled m C e
-        → IsDelivered t C (record (B (λ x. not (m.before x e))) { pending = take_out m e (B (λ x. not (m.before x e))).pending; flight = remove C.flight k ++ back (λ x. not (m.before x e)) })
+        → KeepsPart m t C (record (B (λ x. not (m.before x e))) { pending = take_out m e (B (λ x. not (m.before x e))).pending; flight = remove C.flight k ++ back (λ x. not (m.before x e)) })
     meets_handled place handled =
         let test : E → Bool = λ x. not (m.before x e) in
         let late : t ≤ m.time e = good.late e (let k = in_flight m law C.flight k (record { plus = false; event = e }) place in omega arith) in
@@ -198,7 +190,7 @@ module _ {S E : Type 0} (m : Simulation S E) (law : IsLawful m) where
 
     -- an antimessage that comes before its message
     becomes_kept : slice_get C.flight k ≡ Some (record { plus = false; event = e }) → times m e C.pending ≡ 0 → times_handled m C e ≡ 0
-        → IsDelivered t C (record C { kept = insert m e C.kept; flight = remove C.flight k })
+        → KeepsPart m t C (record C { kept = insert m e C.kept; flight = remove C.flight k })
     becomes_kept place none_pending none_handled = record {
       part = part_loose t C C.pending (insert m e C.kept) (remove C.flight k) good
       (λ x h. (
@@ -221,22 +213,22 @@ module _ {S E : Type 0} (m : Simulation S E) (law : IsLawful m) where
       stop = refl;
     }
 
-    delivered_message : slice_get C.flight k ≡ Some (record { plus = true; event = e }) → IsDelivered t C (after_delivery m C k (record { plus = true; event = e }))
+    delivered_message : slice_get C.flight k ≡ Some (record { plus = true; event = e }) → KeepsPart m t C (after_delivery m C k (record { plus = true; event = e }))
     delivered_message place =
         elim (cases_Bool (nat_lt 0 (times m e C.kept))) [
           | inl b ↦ rw b (meets_kept place (ltb-true 0 (times m e C.kept) b))
           | inr b ↦ rw b (
-              subst (λ z. IsDelivered t C (record z { pending = insert m e z.pending })) (sym (apart (λ x. m.before e x)))
+              subst (λ z. KeepsPart m t C (record z { pending = insert m e z.pending })) (sym (apart (λ x. m.before e x)))
               (becomes_pending place (none (times m e C.kept) (λ h. let no = ltb-false 0 (times m e C.kept) b in absurd (omega arith)))))
         ]
 
-    delivered_antimessage : slice_get C.flight k ≡ Some (record { plus = false; event = e }) → IsDelivered t C (after_delivery m C k (record { plus = false; event = e }))
+    delivered_antimessage : slice_get C.flight k ≡ Some (record { plus = false; event = e }) → KeepsPart m t C (after_delivery m C k (record { plus = false; event = e }))
     delivered_antimessage place =
         elim (cases_Bool (nat_lt 0 (times m e C.pending))) [
           | inl b ↦ rw b (meets_pending place (ltb-true 0 (times m e C.pending) b))
           | inr b ↦ rw b (elim (cases_Bool (nat_lt 0 (times_handled m C e))) [
             | inl c ↦ rw c (
-                subst (λ z. IsDelivered t C (record z { pending = take_out m e z.pending })) (sym (apart (λ x. not (m.before x e))))
+                subst (λ z. KeepsPart m t C (record z { pending = take_out m e z.pending })) (sym (apart (λ x. not (m.before x e))))
                 (meets_handled place (ltb-true 0 (times_handled m C e) c)))
             | inr c ↦ rw c (
                 becomes_kept place
@@ -246,10 +238,10 @@ module _ {S E : Type 0} (m : Simulation S E) (law : IsLawful m) where
         ]
 
   by_sign : (t : ℕ) (C : Core E) (k : ℕ) (plus : Bool) (e : E) → IsGoodPart m t C → slice_get C.flight k ≡ Some (record { plus = plus; event = e })
-      → IsDelivered t C (after_delivery m C k (record { plus = plus; event = e }))
+      → KeepsPart m t C (after_delivery m C k (record { plus = plus; event = e }))
   by_sign t C k true e good place = delivered_message t C good k e place
   by_sign t C k false e good place = delivered_antimessage t C good k e place
 
   -- whichever message arrives
-  pub delivered : (t : ℕ) (C : Core E) (k : ℕ) (x : Signed E) → IsGoodPart m t C → slice_get C.flight k ≡ Some x → IsDelivered t C (after_delivery m C k x)
+  pub delivered : (t : ℕ) (C : Core E) (k : ℕ) (x : Signed E) → IsGoodPart m t C → slice_get C.flight k ≡ Some x → KeepsPart m t C (after_delivery m C k x)
   delivered t C k x good place = by_sign t C k x.plus x.event good place

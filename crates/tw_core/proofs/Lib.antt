@@ -2,4 +2,6 @@ pub mod Counts
 pub mod Calls
 pub mod Back
 pub mod Delivery
+pub mod Steps
+pub mod Headline
 

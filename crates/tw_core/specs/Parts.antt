@@ -49,6 +49,16 @@ module _ {S E : Type 0} (m : Simulation S E) where
   abbrev pub SameSurplus : Core E → Core E → Type 0
   SameSurplus C D = (e : E) → times_wanted D e + times_there m C e ≡ times_wanted C e + times_there m D e
 
+  -- what a call at some routers keeps, which were good where nothing loose is before t
+  pub record KeepsPart (t : ℕ) (C D : Core E) : Type 0 where
+    -- they still are, so that nothing loose is before t that was not
+    pub part : IsGoodPart m t D
+    -- and the call neither loses nor invents anything
+    pub surplus : SameSurplus C D
+    pub done : D.done ≡ C.done
+    pub bound : D.bound ≡ C.bound
+    pub stop : D.stop ≡ C.stop
+
   -- a part by itself: it is good where nothing loose is before the bound, and has only what is for its own routers
   pub record IsPart (shared : Shared E) (p : Part E) : Type 0 where
     pub good : IsGoodPart m shared.bound (record p.core { stop = shared.stop })
