@@ -4,4 +4,5 @@ pub mod Back
 pub mod Delivery
 pub mod Steps
 pub mod Headline
+pub mod Parts
 
