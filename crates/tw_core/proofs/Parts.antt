@@ -109,7 +109,7 @@ module _ {S E : Type 0} (m : Simulation S E) where
 
   module _ (law : IsLawful m) where
     -- who sent anything has handled something
-    sent_some : (r : ℕ) (xs : List E) (e : E) → 0 < times m e (sent m r xs) → (y : E) × (0 < times m y xs)
+    pub sent_some : (r : ℕ) (xs : List E) (e : E) → 0 < times m e (sent m r xs) → (y : E) × (0 < times m y xs)
     sent_some r [] e h = absurd (omega arith)
     sent_some r (x ∷ xs) e h = (x, in_head m law x xs)
 

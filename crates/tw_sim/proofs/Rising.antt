@@ -1,5 +1,5 @@
 -- The pending events of a run stay in order, and each suits the router that handles it.
-use Rattle.std.proofs.Common.{◌≡◌, ℕ, suc, zero, ◌<◌, ◌==◌, true, false, List, [], ◌∷◌, refl, ap, sym, subst, inl, inr, arith, nat_lt}
+use Rattle.std.proofs.Common.{◌≡◌, ℕ, suc, zero, ◌<◌, ◌==◌, Bool, true, false, List, [], ◌∷◌, filter, refl, ap, sym, subst, inl, inr, arith, nat_lt}
 use Rattle.std.proofs.lemmas.Bool.{cases_Bool, eqb-true, ltb-true, ltb-false, false_from_ne_true, both_ways}
 use Rattle.tw_sim.specs.Simulation.{Simulation, IsLawful, one, times, only, state}
 use Rattle.tw_sim.specs.Seq.{World, begin, insert, insert_all, turn, turns}
@@ -53,6 +53,15 @@ module _ {S E : Type 0} (m : Simulation S E) where
         let l : one m e x ≡ one m e y = ap (one m e) same in
         omega arith) in
         cc
+
+    -- what passes a test in a list in order is in order
+    pub rising-filter : (p : E → Bool) (xs : List E) → IsRising xs → IsRising (filter p xs)
+    rising-filter p [] r = tt
+    rising-filter p (x ∷ xs) r =
+        elim (cases_Bool (p x)) [
+          | inl b ↦ rw b ((λ e h. r.0 e (in_filter m law p e xs h).1), rising-filter p xs r.1)
+          | inr b ↦ rw b (rising-filter p xs r.1)
+        ]
 
     rising-insert : (x : E) (xs : List E) → IsRising xs → IsRising (insert m x xs)
     rising-insert x [] r = ((λ e none. absurd (omega arith)), tt)
