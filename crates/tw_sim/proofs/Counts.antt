@@ -2,6 +2,7 @@
 use Rattle.std.proofs.Common.{◌≡◌, ℕ, suc, zero, ◌+◌, ◌<◌, ◌≤◌, Bool, true, false, List, [], ◌∷◌, ◌++◌, length, reverse, refl, ap, subst, ◌⊎◌, inl, inr, arith, filter}
 use Rattle.std.proofs.lemmas.Bool.{cases_Bool, both_ways}
 use Rattle.std.proofs.lemmas.List.{reverse-append}
+use Rattle.tw_sim.specs.Ordered as ordered
 use Rattle.tw_sim.specs.Simulation.{Simulation, IsLawful, one, times}
 use Rattle.tw_sim.specs.Seq.{insert, insert_all}
 
@@ -67,6 +68,18 @@ module _ {S E : Type 0} (m : Simulation S E) where
 
     pub in_head : (x : E) (xs : List E) → 0 < times m x (x ∷ xs)
     in_head x xs = let h = one_self x in omega arith
+
+    -- one count fewer of what was there
+    pub times-take_out : (e x : E) (xs : List E) → 0 < times m x xs → one m e x + times m e (ordered.take_out m.same x xs) ≡ times m e xs
+    times-take_out e x [] h = absurd (omega arith)
+    times-take_out e x (y ∷ ys) h =
+        elim (cases_Bool (m.same x y)) [
+          | inl b ↦ rw b (ap (λ z. one m e z + times m e ys) (law.same_is x y b))
+          | inr b ↦ (
+              let other : one m x y ≡ 0 = rw b refl in
+              let k = times-take_out e x ys (omega arith) in
+              rw b (omega arith))
+        ]
 
     -- an event that passes the test stands as often in what passes, one that fails it never
     pub times-filter-yes : (p : E → Bool) (e : E) (xs : List E) → p e ≡ true → times m e (filter p xs) ≡ times m e xs

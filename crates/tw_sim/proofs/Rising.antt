@@ -1,7 +1,7 @@
 -- The pending events of a run stay in order, and each suits the router that handles it.
-use Rattle.std.proofs.Common.{◌≡◌, ℕ, suc, zero, ◌<◌, ◌==◌, true, false, List, [], ◌∷◌, sym, subst, inl, inr, arith, nat_lt}
+use Rattle.std.proofs.Common.{◌≡◌, ℕ, suc, zero, ◌<◌, ◌==◌, Bool, true, false, List, [], ◌∷◌, filter, refl, ap, sym, subst, inl, inr, arith, nat_lt}
 use Rattle.std.proofs.lemmas.Bool.{cases_Bool, eqb-true, ltb-true, ltb-false, false_from_ne_true, both_ways}
-use Rattle.tw_sim.specs.Simulation.{Simulation, IsLawful, times, only, state}
+use Rattle.tw_sim.specs.Simulation.{Simulation, IsLawful, one, times, only, state}
 use Rattle.tw_sim.specs.Seq.{World, begin, insert, insert_all, turn, turns}
 use Rattle.tw_sim.proofs.Counts.{in_cons, in_filter, in_head, times-insert, times-insert_all}
 use Rattle.tw_sim.proofs.Seq.{Ends, over, soon, ends, turn_over, turn_soon}
@@ -30,6 +30,38 @@ module _ {S E : Type 0} (m : Simulation S E) where
           | inl k ↦ both_ways (m.before y x) b (law.trans y e x k h)
           | inr k ↦ both_ways (m.before y x) b (subst (λ z. m.before z x ≡ true) (law.total e y a k) h)
         ])
+
+    -- two lists in order in which each event stands as often are the same
+    pub same_rising : (xs ys : List E) → IsRising xs → IsRising ys → ((e : E) → times m e xs ≡ times m e ys) → xs ≡ ys
+    same_rising [] [] r q h = refl
+    same_rising [] (y ∷ ys) r q h = absurd (let k = h y in let there = in_head m law y ys in omega arith)
+    same_rising (x ∷ xs) [] r q h = absurd (let k = h x in let there = in_head m law x xs in omega arith)
+    same_rising (x ∷ xs) (y ∷ ys) r q h =
+        let x_there = in_head m law x xs in
+        let y_there = in_head m law y ys in
+        let x_count = h x in
+        let y_count = h y in
+        let same : x ≡ y = elim (in_cons m law x y ys (omega arith)) [
+          | inl is ↦ is
+          | inr k ↦ elim (in_cons m law y x xs (omega arith)) [
+            | inl is ↦ sym is
+            | inr l ↦ law.total x y (q.0 x k) (r.0 y l)
+          ]
+        ] in
+        let tails : xs ≡ ys = same_rising xs ys r.1 q.1 (λ e.
+        let k = h e in
+        let l : one m e x ≡ one m e y = ap (one m e) same in
+        omega arith) in
+        cc
+
+    -- what passes a test in a list in order is in order
+    pub rising-filter : (p : E → Bool) (xs : List E) → IsRising xs → IsRising (filter p xs)
+    rising-filter p [] r = tt
+    rising-filter p (x ∷ xs) r =
+        elim (cases_Bool (p x)) [
+          | inl b ↦ rw b ((λ e h. r.0 e (in_filter m law p e xs h).1), rising-filter p xs r.1)
+          | inr b ↦ rw b (rising-filter p xs r.1)
+        ]
 
     rising-insert : (x : E) (xs : List E) → IsRising xs → IsRising (insert m x xs)
     rising-insert x [] r = ((λ e none. absurd (omega arith)), tt)

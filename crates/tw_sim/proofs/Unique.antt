@@ -47,7 +47,8 @@ module _ {S E : Type 0} (m : Simulation S E) (law : IsLawful m) where
         | inr b ↦ rw b (falling-filter p xs f.1)
       ]
 
-  all_below : (n : ℕ) (xs : List E) → ((e : E) → 0 < times m e xs → m.time e < n) → below m n xs ≡ xs
+  -- where all are before n
+  pub all_below : (n : ℕ) (xs : List E) → ((e : E) → 0 < times m e xs → m.time e < n) → below m n xs ≡ xs
   all_below n [] h = refl
   all_below n (x ∷ xs) h =
       let k = lt-ltb (m.time x) n (h x (in_head m law x xs)) in
@@ -128,7 +129,8 @@ module _ {S E : Type 0} (m : Simulation S E) (law : IsLawful m) where
             omega arith)
       ]
 
-  in_only : (e : E) (xs : List E) → times m e (only m (m.dst e) xs) ≡ times m e xs
+  -- an event stands as often among those for its router
+  pub in_only : (e : E) (xs : List E) → times m e (only m (m.dst e) xs) ≡ times m e xs
   in_only e xs = times-filter-yes m law (λ x. m.dst x == m.dst e) e xs (eq-eqb (m.dst e) (m.dst e) refl)
 
   -- the histories of a closed list are closed

@@ -1,6 +1,6 @@
 -- Lists that are kept in order, by a test of whether one element comes before another; and how often an element stands in a
 -- list, by a test of whether two are the same (own).
-use Rattle.std.specs.Prelude.{ℕ, ◌+◌, Bool, cond, List, [], ◌∷◌}
+use Rattle.std.specs.Prelude.{ℕ, ◌+◌, Bool, cond, Option, Some, None, List, [], ◌∷◌}
 
 module _ {E : Type 0} (before : E → E → Bool) where
   -- into its place in the order
@@ -12,6 +12,16 @@ module _ {E : Type 0} (before : E → E → Bool) where
   abbrev pub insert_all : List E → List E → List E
   insert_all [] xs = xs
   insert_all (e ∷ es) xs = insert_all es (insert e xs)
+
+  -- the one that comes first, of an element and of another, if there is another
+  abbrev pub earlier : E → Option E → E
+  earlier e None = e
+  earlier e (Some d) = cond (before d e) d e
+
+  -- the one that comes first, of a list's elements
+  abbrev pub least : List E → Option E
+  least [] = None
+  least (x ∷ xs) = Some (earlier x (least xs))
 
 module _ {E : Type 0} (same : E → E → Bool) where
   -- 1 where the two are the same, else 0

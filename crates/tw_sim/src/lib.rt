@@ -4,7 +4,11 @@
 //! The definitions stand in `specs/`, over any `Simulation` that keeps the laws `IsLawful` and
 //! `IsNumbered`. Proved, and told by the functions of `laws`: the sequential run to each time ends and
 //! is closed, and no other list of events and no other histories are. Nothing here names a kind of
-//! event, so that a new kind never checks it again. No code runs.
+//! event, so that a new kind never checks it again. The only code is plain data: signed messages, and
+//! the steps of a machine that runs ahead.
 #![tactic(auto)]
 
 pub mod laws;
+mod machine;
+
+pub use machine::{Signed, Step};

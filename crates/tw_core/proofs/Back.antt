@@ -1,0 +1,101 @@
+-- What undoing the newest events of a history keeps, as long as they pass a test.
+use Rattle.std.proofs.Common.{◌≡◌, ℕ, ◌+◌, ◌<◌, ◌≤◌, Bool, cond, not, true, false, List, [], ◌∷◌, ◌++◌, map, append_assoc, append-nil, refl, ap, sym, ◌∙◌, subst, inl, inr, arith}
+use Rattle.std.proofs.lemmas.Bool.{cases_Bool, both_ways, false_from_ne_true}
+use Rattle.tw_core.proofs.Calls.{moved_undoing, part_undoing, put_same, surplus_undoing}
+use Rattle.tw_core.specs.Good.{IsGoodPart}
+use Rattle.tw_core.specs.Machine.{Core, times_handled}
+use Rattle.tw_core.specs.Parts.{SameSurplus}
+use Rattle.tw_core.specs.Steps.{after_undoing, after_undoing_while, antimessage}
+use Rattle.tw_sim.proofs.Counts.{in_cons, in_head, times-insert}
+use Rattle.tw_sim.specs.declared.machine.Signed.{Signed}
+use Rattle.tw_sim.specs.Simulation.{Simulation, IsFalling, IsLawful, one, state, times}
+
+module _ {S E : Type 0} (m : Simulation S E) where
+  -- what is taken back, the newest event's sends first
+  abbrev pub taken_back : (E → Bool) → ℕ → List E → List (Signed E)
+  taken_back test r [] = []
+  taken_back test r (e ∷ older) = cond (test e) (map antimessage (m.sends (state m r older) e) ++ taken_back test r older) []
+
+  -- it goes behind what is in flight, and nothing else depends on that
+  pub undoing_while-flight : (test : E → Bool) (r : ℕ) (xs : List E) (C : Core E) (flight : List (Signed E))
+      → after_undoing_while m test r xs (record C { flight = flight }) ≡ record (after_undoing_while m test r xs C) { flight = flight ++ taken_back test r xs }
+  undoing_while-flight test r [] C flight = ap (λ f. record C { flight = f }) (sym (append-nil flight))
+  undoing_while-flight test r (e ∷ older) C flight =
+      elim (cases_Bool (test e)) [
+        | inl b ↦ rw b (
+            let back = map antimessage (m.sends (state m r older) e) in
+            undoing_while-flight test r older (after_undoing m C r e older) (flight ++ back)
+            ∙ ap (λ f. record (after_undoing_while m test r older (after_undoing m C r e older)) { flight = f }) (append_assoc flight back (taken_back test r older)))
+        | inr b ↦ rw b (ap (λ f. record C { flight = f }) (sym (append-nil flight)))
+      ]
+
+  module _ (law : IsLawful m) where
+    -- what undoing some of r's events gives
+    pub record IsBack (t : ℕ) (C D : Core E) : Type 0 where
+      -- the part is as good as it was, and no surplus changes
+      pub part : IsGoodPart m t D
+      pub surplus : SameSurplus m C D
+      -- what is not handled any more is pending
+      pub moved : (x : E) → times_handled m D x + times m x D.pending ≡ times_handled m C x + times m x C.pending
+      pub kept : D.kept ≡ C.kept
+      pub done : D.done ≡ C.done
+      pub bound : D.bound ≡ C.bound
+      pub stop : D.stop ≡ C.stop
+
+    back_more : (t : ℕ) (A B C : Core E) → IsBack t A B → IsBack t B C → IsBack t A C
+    back_more t A B C first second = record {
+      part = second.part;
+      surplus = λ x. (let a = first.surplus x in let b = second.surplus x in omega arith);
+      moved = λ x. second.moved x ∙ first.moved x;
+      kept = second.kept ∙ first.kept;
+      done = second.done ∙ first.done;
+      bound = second.bound ∙ first.bound;
+      stop = second.stop ∙ first.stop;
+    }
+
+    -- undoing the newest one
+    pub back_one : (t r : ℕ) (C : Core E) (e : E) (older : List E) → C.history r ≡ e ∷ older → t ≤ m.time e → IsGoodPart m t C → IsBack t C (after_undoing m C r e older)
+    back_one t r C e older newest late good =
+        let home : m.dst e ≡ r = good.home r e (subst (λ xs. 0 < times m e xs) (sym newest) (in_head m law e older)) in
+        subst (λ q. C.history q ≡ e ∷ older → IsBack t C (after_undoing m C q e older)) home
+        (λ here. record {
+          part = part_undoing m law C e older here t late good;
+          surplus = surplus_undoing m law C e older here;
+          moved = λ x. moved_undoing m law C e older here x;
+          kept = refl;
+          done = refl;
+          bound = refl;
+          stop = refl;
+        })
+        newest
+
+    back_none : (t : ℕ) (C : Core E) → IsGoodPart m t C → IsBack t C C
+    back_none t C good = record { part = good; surplus = λ x. refl; moved = λ x. refl; kept = refl; done = refl; bound = refl; stop = refl }
+
+    -- undoing as many as pass a test that only later events pass
+    pub back_while : (t r : ℕ) (test : E → Bool) → ((x : E) → test x ≡ true → t ≤ m.time x) → (xs : List E) (C : Core E) → C.history r ≡ xs → IsGoodPart m t C
+        → IsBack t C (after_undoing_while m test r xs C)
+    back_while t r test late [] C here good = back_none t C good
+    back_while t r test late (e ∷ older) C here good =
+        elim (cases_Bool (test e)) [
+          | inl b ↦ rw b (
+              let first = back_one t r C e older here (late e b) good in
+              let D = after_undoing m C r e older in
+              back_more t C D (after_undoing_while m test r older D) first (back_while t r test late older D (put_same C.history r older) first.part))
+          | inr b ↦ rw b (back_none t C good)
+        ]
+
+    -- where what is after a passing event passes, no event that is left passes
+    pub left_fails : (r : ℕ) (test : E → Bool) → ((x y : E) → m.before y x ≡ true → test y ≡ true → test x ≡ true) → (xs : List E) (C : Core E) → C.history r ≡ xs → IsFalling m xs
+        → (x : E) → 0 < times m x ((after_undoing_while m test r xs C).history r) → test x ≡ false
+    left_fails r test up [] C here falling x h = absurd (let k = ap (times m x) here in omega arith)
+    left_fails r test up (e ∷ older) C here falling x h =
+        elim (cases_Bool (test e)) [
+          | inl b ↦ left_fails r test up older (after_undoing m C r e older) (put_same C.history r older) falling.1 x (rw b at h)
+          | inr b ↦ (
+              let there : 0 < times m x (e ∷ older) = subst (λ ys. 0 < times m x ys) here (rw b at h) in
+              elim (in_cons m law x e older there) [
+                | inl is ↦ subst (λ z. test z ≡ false) (sym is) b
+                | inr old ↦ false_from_ne_true (test x) (λ k. both_ways (test e) b (up e x (falling.0 x old) k))
+              ])
+        ]

@@ -1,0 +1,9 @@
+pub mod Counts
+pub mod Calls
+pub mod Back
+pub mod Delivery
+pub mod Steps
+pub mod Headline
+pub mod Parts
+pub mod Wording
+

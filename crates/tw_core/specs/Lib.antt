@@ -1,0 +1,5 @@
+pub mod Machine
+pub mod Steps
+pub mod Good
+pub mod Run
+pub mod Parts

@@ -1,0 +1,53 @@
+-- The state of the machine whose routers run ahead and are rolled back, and how often an event stands in it (after Jefferson,
+-- Virtual Time, 1985).
+use Rattle.std.specs.Prelude.{ℕ, ◌+◌, ◌≡◌, cond, List, [], ◌∷◌}
+use Rattle.tw_sim.specs.declared.machine.Signed.{Signed}
+use Rattle.tw_sim.specs.Simulation.{Simulation, below, one, times}
+
+pub record Core (E : Type 0) : Type 0 where
+  -- what each router has handled and not undone, the newest event first
+  pub history : ℕ → List E
+  -- the events that wait to be handled
+  pub pending : List E
+  -- the antimessages that came before their message
+  pub kept : List E
+  -- the messages on their way, in the order sent
+  pub flight : List (Signed E)
+  -- the bound at each router's latest commit
+  pub done : ℕ → ℕ
+  -- nothing before this time is sent or taken back any more
+  pub bound : ℕ
+  -- nothing from this time on is handled
+  pub stop : ℕ
+
+module _ {S E : Type 0} (m : Simulation S E) where
+  -- how often e is on its way as a message
+  abbrev pub messages : E → List (Signed E) → ℕ
+  messages e [] = 0
+  messages e (x ∷ xs) = cond x.plus (one m e x.event) 0 + messages e xs
+
+  -- how often e is on its way as an antimessage
+  abbrev pub antimessages : E → List (Signed E) → ℕ
+  antimessages e [] = 0
+  antimessages e (x ∷ xs) = cond x.plus 0 (one m e x.event) + antimessages e xs
+
+  -- how often its router has handled e
+  abbrev pub times_handled : Core E → E → ℕ
+  times_handled C e = times m e (C.history (m.dst e))
+
+  -- how often e is loose: pending, kept, or on its way with either sign
+  abbrev pub times_loose : Core E → E → ℕ
+  times_loose C e = times m e C.pending + times m e C.kept + (messages e C.flight + antimessages e C.flight)
+
+  -- the committed part of a router's history: its events before the bound of its latest commit
+  abbrev pub committed : Core E → ℕ → List E
+  committed C r = below m (C.done r) (C.history r)
+
+  -- a machine that begins: each opening event is pending, and nothing else has happened
+  pub record IsOpening (C : Core E) : Type 0 where
+    pub history : (r : ℕ) → C.history r ≡ []
+    pub pending : (e : E) → times m e C.pending ≡ times m e m.opening
+    pub kept : C.kept ≡ []
+    pub flight : C.flight ≡ []
+    pub done : (r : ℕ) → C.done r ≡ 0
+    pub bound : C.bound ≡ 0

@@ -1,0 +1,80 @@
+-- A machine in parts, each of which owns some of its routers (own).
+use Rattle.std.specs.Prelude.{ℕ, ◌+◌, ◌≡◌, ◌<◌, ◌≤◌, Bool, true, cond, List, [], ◌∷◌, ◌++◌, find}
+use Rattle.std.specs.List.{AllByRecursion, flat_map}
+use Rattle.std.specs.Option.{option_map_or}
+use Rattle.tw_core.specs.Good.{IsGoodPart, times_taken_back, times_there}
+use Rattle.tw_core.specs.Machine.{Core, antimessages, messages}
+use Rattle.tw_sim.specs.declared.machine.Signed.{Signed}
+use Rattle.tw_sim.specs.Simulation.{Simulation, sent, times}
+
+-- some routers, and a machine of these alone: its flight is what is on its way to them or from them and counted nowhere else
+pub record Part (E : Type 0) : Type 0 where
+  pub owns : ℕ → Bool
+  pub core : Core E
+
+-- what the parts share: the mail between them, which is in none of them, the bound and the stop
+pub record Shared (E : Type 0) : Type 0 where
+  pub mail : List (Signed E)
+  pub bound : ℕ
+  pub stop : ℕ
+
+-- the sum over all of a list
+abbrev pub total : {X : Type 0} → (X → ℕ) → List X → ℕ
+total f [] = 0
+total f (x ∷ xs) = f x + total f xs
+
+module _ {E : Type 0} where
+  -- what the owner of r has there, or else
+  abbrev pub at_owner : {X : Type 0} → (Core E → X) → X → List (Part E) → ℕ → X
+  at_owner read none parts r = option_map_or (λ p. read p.core) (find (λ p. p.owns r) parts) none
+
+  -- the parts and what they share, as one machine
+  abbrev pub assembled : Shared E → List (Part E) → Core E
+  assembled shared parts = record {
+    history = λ r. at_owner (λ C. C.history r) [] parts r;
+    pending = flat_map (λ p. p.core.pending) parts;
+    kept = flat_map (λ p. p.core.kept) parts;
+    flight = shared.mail ++ flat_map (λ p. p.core.flight) parts;
+    done = λ r. at_owner (λ C. C.done r) 0 parts r;
+    bound = shared.bound;
+    stop = shared.stop;
+  }
+
+module _ {S E : Type 0} (m : Simulation S E) where
+  -- how often e is wanted of the others: sent by its source here, or taken back
+  abbrev pub times_wanted : Core E → E → ℕ
+  times_wanted C e = times m e (sent m (m.src e) (C.history (m.src e))) + times_taken_back m C e
+
+  -- the surplus of e, how often it is wanted less how often it is there, is the same in two states
+  abbrev pub SameSurplus : Core E → Core E → Type 0
+  SameSurplus C D = (e : E) → times_wanted D e + times_there m C e ≡ times_wanted C e + times_there m D e
+
+  -- what a call at some routers keeps, which were good where nothing loose is before t
+  pub record KeepsPart (t : ℕ) (C D : Core E) : Type 0 where
+    -- they still are, so that nothing loose is before t that was not
+    pub part : IsGoodPart m t D
+    -- and the call neither loses nor invents anything
+    pub surplus : SameSurplus C D
+    pub done : D.done ≡ C.done
+    pub bound : D.bound ≡ C.bound
+    pub stop : D.stop ≡ C.stop
+
+  -- a part by itself: it is good where nothing loose is before the bound, and has only what is for its own routers
+  pub record IsPart (shared : Shared E) (p : Part E) : Type 0 where
+    pub good : IsGoodPart m shared.bound (record p.core { stop = shared.stop })
+    pub done : (r : ℕ) → p.core.done r ≤ shared.bound
+    pub history : (r : ℕ) (e : E) → 0 < times m e (p.core.history r) → p.owns r ≡ true
+    pub waiting : (e : E) → 0 < times m e p.core.pending + times m e p.core.kept → p.owns (m.dst e) ≡ true
+
+  -- the parts add up to a machine
+  pub record AddUp (shared : Shared E) (parts : List (Part E)) : Type 0 where
+    -- each router has one owner
+    pub once : (r : ℕ) → r < m.routers → total (λ p. cond (p.owns r) 1 0) parts ≡ 1
+    pub each : AllByRecursion (IsPart shared) parts
+    -- the bound is not beyond the stop, and no mail is before it or does not suit its receiver
+    pub bound : shared.bound ≤ shared.stop
+    pub late : (e : E) → 0 < messages m e shared.mail + antimessages m e shared.mail → shared.bound ≤ m.time e
+    pub suit : (e : E) → 0 < messages m e shared.mail + antimessages m e shared.mail → m.suits e ≡ true
+    -- the surpluses of all parts and the opening events add up to the mail
+    pub balance : (e : E) → total (λ p. times_wanted p.core e) parts + times m e m.opening + antimessages m e shared.mail
+        ≡ total (λ p. times_there m p.core e) parts + messages m e shared.mail

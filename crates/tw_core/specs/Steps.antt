@@ -1,0 +1,172 @@
+-- The steps of the machine: what each does, and why it is refused (after Jefferson, Virtual Time, 1985).
+use Rattle.std.specs.Prelude.{ℕ, zero, suc, ◌==◌, Bool, true, false, cond, not, ◌||◌, List, [], ◌∷◌, ◌++◌, map, min, remove, slice_get, nat_lt, Option, Some, None, Result, Ok, Err, if◌then◌else◌}
+use Rattle.std.specs.Result.{result_unwrap_or}
+use Rattle.tw_core.specs.declared.refusal.Refusal.{Refusal}
+use Rattle.tw_core.specs.declared.refusal.Refusal.TheVariants.{NotMine, Nothing, Double, Committed, NoMessage, CounterFull}
+use Rattle.tw_core.specs.Machine.{Core}
+use Rattle.tw_sim.specs.declared.machine.Signed.{Signed}
+use Rattle.tw_sim.specs.declared.machine.Step.{Step}
+use Rattle.tw_sim.specs.declared.machine.Step.TheVariants.{Handle, Undo, Deliver, Bound, Commit}
+use Rattle.tw_sim.specs.Ordered as ordered
+use Rattle.tw_sim.specs.Seq.{insert}
+use Rattle.tw_sim.specs.Simulation.{Simulation, only, state, times}
+
+-- e as a message, and as the antimessage that takes it back
+abbrev pub message : {E : Type 0} → E → Signed E
+message e = record { plus = true; event = e }
+
+abbrev pub antimessage : {E : Type 0} → E → Signed E
+antimessage e = record { plus = false; event = e }
+
+-- a function with another value at one place
+abbrev pub put : {A : Type 0} → (ℕ → A) → ℕ → A → ℕ → A
+put f r a q = cond (q == r) a (f q)
+
+-- ---- what a step does
+
+module _ {S E : Type 0} (m : Simulation S E) where
+  -- without one e
+  abbrev pub take_out : E → List E → List E
+  take_out e xs = ordered.take_out m.same e xs
+
+  -- r has handled e, which was pending: what e sends goes to the end of the flight
+  abbrev pub after_handling : Core E → ℕ → E → Core E
+  after_handling C r e = record C {
+    history = put C.history r (e ∷ C.history r);
+    pending = take_out e C.pending;
+    flight = C.flight ++ map message (m.sends (state m r (C.history r)) e);
+  }
+
+  -- r has undone e, the newest of its history, of which older is the rest: what e sent is taken back
+  abbrev pub after_undoing : Core E → ℕ → E → List E → Core E
+  after_undoing C r e older = record C {
+    history = put C.history r older;
+    pending = insert m e C.pending;
+    flight = C.flight ++ map antimessage (m.sends (state m r older) e);
+  }
+
+  -- r has undone the newest events of its history as long as they pass the test
+  abbrev pub after_undoing_while : (E → Bool) → ℕ → List E → Core E → Core E
+  after_undoing_while test r [] C = C
+  after_undoing_while test r (e ∷ older) C = cond (test e) (after_undoing_while test r older (after_undoing C r e older)) C
+
+  -- its router has undone each event after e
+  abbrev pub without_later : Core E → E → Core E
+  without_later C e = after_undoing_while (λ x. m.before e x) (m.dst e) (C.history (m.dst e)) C
+
+  -- its router has undone the events down to and including e: none that is left is e or after it
+  abbrev pub without_from : Core E → E → Core E
+  without_from C e = after_undoing_while (λ x. not (m.before x e)) (m.dst e) (C.history (m.dst e)) C
+
+  -- one count of e more, or less, is pending
+  abbrev pub with_pending : Core E → E → Core E
+  with_pending C e = record C { pending = insert m e C.pending }
+
+  abbrev pub without_pending : Core E → E → Core E
+  without_pending C e = record C { pending = take_out e C.pending }
+
+  -- a message has come: it vanishes with its antimessage where that is kept, else it is pending and no later event is handled
+  abbrev pub after_message : Core E → E → Core E
+  after_message C e =
+      if nat_lt 0 (times m e C.kept)
+      then record C { kept = take_out e C.kept }
+      else with_pending (without_later C e) e
+
+  -- an antimessage has come: it vanishes with its event where that is pending or handled, else it is kept
+  abbrev pub after_antimessage : Core E → E → Core E
+  after_antimessage C e =
+      if nat_lt 0 (times m e C.pending)
+      then without_pending C e
+      else (if nat_lt 0 (times m e (C.history (m.dst e)))
+      then without_pending (without_from C e) e
+      else record C { kept = insert m e C.kept })
+
+  abbrev pub after_arrival : Core E → Signed E → Core E
+  after_arrival C x = cond x.plus (after_message C x.event) (after_antimessage C x.event)
+
+  -- the message at place k, from 0, has left the flight and come
+  abbrev pub after_delivery : Core E → ℕ → Signed E → Core E
+  after_delivery C k x = after_arrival (record C { flight = remove C.flight k }) x
+
+  -- the least of a time and of the times of some events
+  abbrev pub least_time : List E → ℕ → ℕ
+  least_time [] t = t
+  least_time (x ∷ xs) t = min (m.time x) (least_time xs t)
+
+  -- the least time of all that is loose, and of the stop
+  abbrev pub least_loose : Core E → ℕ
+  least_loose C = least_time C.pending (least_time C.kept (least_time (map (λ x. x.event) C.flight) C.stop))
+
+  -- ---- when it is refused
+
+  -- the first of r's pending events
+  abbrev pub first_pending : Core E → ℕ → Option E
+  first_pending C r = ordered.least m.before (only m r C.pending)
+
+  -- whether e is the newest of a history
+  abbrev pub is_newest : E → List E → Bool
+  is_newest e [] = false
+  is_newest e (x ∷ older) = m.same e x
+
+  -- r handles this event, its first pending one
+  abbrev pub handle : Core E → ℕ → Option E → Result (Core E) Refusal
+  handle C r None = Err Nothing
+  handle C r (Some e) =
+      if nat_lt (m.time e) C.stop
+      then (if is_newest e (C.history r) then Err Double
+      else (if m.full (state m r (C.history r)) e then Err CounterFull
+      else Ok (after_handling C r e)))
+      else Err Nothing
+
+  -- r undoes the newest event of this history, which is its own
+  abbrev pub undo : Core E → ℕ → List E → Result (Core E) Refusal
+  undo C r [] = Err Nothing
+  undo C r (e ∷ older) =
+      if nat_lt (m.time e) (C.done r) || nat_lt (m.time e) C.bound
+      then Err Committed
+      else Ok (after_undoing C r e older)
+
+  -- this message is delivered, the one at place k, from 0
+  abbrev pub deliver : Core E → ℕ → Option (Signed E) → Result (Core E) Refusal
+  deliver C k None = Err NoMessage
+  deliver C k (Some x) = Ok (after_delivery C k x)
+
+  -- the bound becomes the least time of all that is loose, and of the stop
+  abbrev pub with_bound : Core E → Core E
+  with_bound C = record C { bound = least_loose C }
+
+  -- r's events below the bound are committed
+  abbrev pub with_commit : Core E → ℕ → Core E
+  with_commit C r = record C { done = put C.done r C.bound }
+
+  -- a step at router r, refused where there is no such router
+  abbrev pub at_router : ℕ → Result (Core E) Refusal → Result (Core E) Refusal
+  at_router r outcome = if nat_lt r m.routers then outcome else Err NotMine
+
+  -- a step: the new state, or why it is refused
+  abbrev pub step : Core E → Step → Result (Core E) Refusal
+  step C (Handle r) = at_router r (handle C r (first_pending C r))
+  step C (Undo r) = at_router r (undo C r (C.history r))
+  step C (Deliver zero) = Err NoMessage
+  step C (Deliver (suc k)) = deliver C k (slice_get C.flight k)
+  step C Bound = Ok (with_bound C)
+  step C (Commit r) = at_router r (Ok (with_commit C r))
+
+  -- ---- lists of steps
+
+  -- the state after a step; a refused one changes nothing
+  abbrev pub next : Core E → Step → Core E
+  next C x = result_unwrap_or (step C x) C
+
+  abbrev pub run : Core E → List Step → Core E
+  run C [] = C
+  run C (x ∷ xs) = run (next C x) xs
+
+  -- whether each step of a list was done, or why not
+  abbrev pub answer_of : Result (Core E) Refusal → Result (Unit {0}) Refusal
+  answer_of (Ok D) = Ok tt
+  answer_of (Err refusal) = Err refusal
+
+  abbrev pub answers : Core E → List Step → List (Result (Unit {0}) Refusal)
+  answers C [] = []
+  answers C (x ∷ xs) = answer_of (step C x) ∷ answers (next C x) xs
