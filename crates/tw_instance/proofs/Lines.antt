@@ -7,7 +7,7 @@ use Rattle.std.proofs.lemmas.List.Folds.{list_any_at, Any-from_list_any}
 use Rattle.std.proofs.lemmas.List.{append-nil, length_push, length-map, map-append, map_push, get_or_append_left, get_or_push}
 use Rattle.tw_event.specs.declared.event.PathNo.{PathNo}
 use Rattle.tw_model.specs.declared.net.Link.{Link}
-use Rattle.tw_model.specs.declared.net.Rule.TheVariants.{Range, PathOwner, TwicePath, TooMany}
+use Rattle.tw_model.specs.declared.rule.Rule.TheVariants.{Range, PathOwner, TwicePath, TooMany}
 use Rattle.tw_model.specs.Line.{Line}
 use Rattle.tw_model.specs.Net.{Net, IsPath, begins_at, origin_path, path, paths, paths_of, same_path}
 use Rattle.tw_model.specs.Rules.{IsNet, LinesFollow, line_breaks, line_fault, path_count}

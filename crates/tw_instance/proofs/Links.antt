@@ -6,7 +6,7 @@ use Rattle.std.proofs.lemmas.List.{append-nil}
 use Rattle.std.proofs.lemmas.List.Elements.{recursion_from_All}
 use Rattle.tw_model.specs.declared.net.Hop.{Hop}
 use Rattle.tw_model.specs.declared.net.Link.{Link}
-use Rattle.tw_model.specs.declared.net.Rule.TheVariants.{TwiceLink}
+use Rattle.tw_model.specs.declared.rule.Rule.TheVariants.{TwiceLink}
 use Rattle.tw_model.specs.Net.{Net, hops_of}
 use Rattle.tw_model.specs.Rules.{IsNet, LinksFollow, degree, is_linked, link_breaks, link_fault}
 use Rattle.tw_instance.specs.Hops.{AreRising, IsGoodHop}

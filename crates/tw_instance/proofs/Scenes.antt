@@ -5,7 +5,7 @@ use Rattle.std.proofs.lemmas.List.{append-nil}
 use Rattle.tw_event.specs.declared.event.Event.{Event}
 use Rattle.tw_event.specs.declared.event.Body.TheVariants.{Start}
 use Rattle.tw_model.specs.declared.case.Scene.{Scene}
-use Rattle.tw_model.specs.declared.net.Rule.{Rule as ARule}
+use Rattle.tw_model.specs.declared.rule.Rule.{Rule as ARule}
 use Rattle.tw_model.specs.Case.{IsCase, opening_event, opening_events, scene_events}
 use Rattle.tw_model.specs.Net.{Net}
 use Rattle.tw_model.specs.Rules.{scene_fault}

@@ -1,5 +1,5 @@
 ghost use Rattle.std.specs.Prelude.{◌≡◌, ◌↔◌, length, [], ◌∷◌, ◌++◌, IfOk, OnErr, OnOk, slice_get, List};
-ghost use Rattle.tw_model.specs.declared.net.Rule.{Rule as ARule};
+ghost use Rattle.tw_model.specs.declared.rule.Rule.{Rule as ARule};
 ghost use Rattle.tw_model.specs.Case.{IsCase, opening_events};
 ghost use Rattle.tw_model.specs.Rules.{scene_fault};
 ghost use Rattle.tw_instance.specs.Build.{Tells, scenes_fault};

@@ -2,7 +2,7 @@ ghost use Rattle.std.specs.Prelude.{◌≡◌, ◌↔◌, ℕ, ◌+◌, ◌==◌
 ghost use Rattle.std.specs.List.{All, find, position};
 ghost use Rattle.tw_event.specs.declared.event.PathNo.{PathNo as APathNo};
 ghost use Rattle.tw_model.specs.Net.{IsPath, empty_path, hops_of, is_own, origin_path, path, paths, paths_of, same_path};
-ghost use Rattle.tw_model.specs.declared.net.Rule.{Rule as ARule};
+ghost use Rattle.tw_model.specs.declared.rule.Rule.{Rule as ARule};
 ghost use Rattle.tw_model.specs.Rules.{IsNet, line_fault, link_fault, nodes_fault};
 ghost use Rattle.tw_model.specs.State.{has_peer, hop, slot as slot_of};
 ghost use Rattle.tw_instance.specs.Build.{Tells, instance_fault, lines_fault, links_fault};
