@@ -1,6 +1,6 @@
 use Rattle.std.proofs.Common.{◌∙◌, sym}
 use Rattle.tw_instance.proofs.Facts.{given_number, not_given}
-use Rattle.tw_instance.proofs.faults.is_given.Goals as goal
+use Rattle.tw_instance.proofs.rules.is_given.Goals as goal
 
 pub returns-then-is_misowned : goal.returns-then-is_misowned
 returns-then-is_misowned c =

@@ -1,16 +1,16 @@
-//! The first rule that an item breaks after those of an instance.
+//! Items judged by the rules of an instance and of a scenario: the first rule that an item breaks.
 
-ghost use Rattle.std.specs.List.{find};
 ghost use Rattle.std.specs.Prelude.{◌≡◌, ◌∷◌, ◌==◌, ◌&&◌, ◌||◌, not, nat_le, nat_lt};
 ghost use Rattle.std.specs.List.{list_all, list_any};
 ghost use Rattle.tw_model.specs.declared.case.Scene.TheVariants as AScene;
+ghost use Rattle.tw_model.specs.declared.limits.TheConstants.{MOST_LINKS, MOST_PATHS};
 ghost use Rattle.tw_model.specs.Net.{begins_at as begins_at_spec, same_path};
 ghost use Rattle.tw_model.specs.Rules.{degree, ends_at, has_place as has_place_of, is_linked as linked, leaves_links as leaving, line_breaks as line_breaks_of, line_fault as line_fault_of, link_breaks as link_breaks_of, link_fault as link_fault_of, nodes_fault as nodes_fault_of, path_count, repeats as repeating, scene_breaks as scene_breaks_of, scene_fault as scene_fault_of};
 
 use crate::instance::Instance;
-use tw_model::{Hop, Link, PathLine, Rule, Scene};
+use tw_model::{Hop, Link, PathLine, Rule, Scene, limits};
 
-/// The rules in rising order of their codes.
+/// The rules in rising order of their codes. Of those that an item breaks the first decides.
 const RULES: [Rule; 13] = [
     Rule::Range,
     Rule::SelfLink,
@@ -27,64 +27,44 @@ const RULES: [Rule; 13] = [
     Rule::Time,
 ];
 
+/// The first rule that a number of routers breaks.
 pub fn nodes_fault(nodes: u32) -> Option<Rule>
     ensures { result ≡ nodes_fault_of nodes }
 {
-    if nodes < 1 || 1024 < nodes {
+    if nodes < 1 || limits::MOST_ROUTERS < nodes {
         return Some(Rule::Range);
     }
     None
 }
 
+/// The first rule that a link breaks after those of the instance.
 pub fn link_fault(instance: &Instance, link: &Link) -> Option<Rule>
     ensures { result ≡ link_fault_of instance.now link.now }
 {
-    first_in_link(instance, link, &RULES)
+    RULES
+        .iter()
+        .copied()
+        .find(|rule| link_breaks(instance, link, *rule))
 }
 
-fn first_in_link(instance: &Instance, link: &Link, rules: &[Rule]) -> Option<Rule>
-    ensures { result ≡ find (link_breaks_of instance.now link.now) rules.now }
-{
-    for rule in rules {
-        if link_breaks(instance, link, *rule) {
-            return Some(*rule);
-        }
-    }
-    None
-}
-
+/// The first rule that a permitted path breaks after those of the instance.
 pub fn line_fault(instance: &Instance, path: &PathLine) -> Option<Rule>
     ensures { result ≡ line_fault_of instance.now path.now }
 {
-    first_in_line(instance, path, &RULES)
+    RULES
+        .iter()
+        .copied()
+        .find(|rule| line_breaks(instance, path, *rule))
 }
 
-fn first_in_line(instance: &Instance, path: &PathLine, rules: &[Rule]) -> Option<Rule>
-    ensures { result ≡ find (line_breaks_of instance.now path.now) rules.now }
-{
-    for rule in rules {
-        if line_breaks(instance, path, *rule) {
-            return Some(*rule);
-        }
-    }
-    None
-}
-
+/// The first rule that a scene breaks after so many others.
 pub fn scene_fault(instance: &Instance, count: usize, scene: &Scene) -> Option<Rule>
     ensures { result ≡ scene_fault_of instance.now count scene.now }
 {
-    first_in_scene(instance, count, scene, &RULES)
-}
-
-fn first_in_scene(instance: &Instance, count: usize, scene: &Scene, rules: &[Rule]) -> Option<Rule>
-    ensures { result ≡ find (scene_breaks_of instance.now count scene.now) rules.now }
-{
-    for rule in rules {
-        if scene_breaks(instance, count, scene, *rule) {
-            return Some(*rule);
-        }
-    }
-    None
+    RULES
+        .iter()
+        .copied()
+        .find(|rule| scene_breaks(instance, count, scene, *rule))
 }
 
 fn link_breaks(instance: &Instance, link: &Link, rule: Rule) -> bool
@@ -94,7 +74,7 @@ fn link_breaks(instance: &Instance, link: &Link, rule: Rule) -> bool
         Rule::Range => link.first >= instance.nodes() || link.second >= instance.nodes(),
         Rule::SelfLink => link.first == link.second,
         Rule::TwiceLink => is_linked(instance, link.first, link.second),
-        Rule::Delay => link.delay < 1 || 1_000_000 < link.delay,
+        Rule::Delay => link.delay < 1 || limits::LONGEST_DELAY < link.delay,
         Rule::TooMany => has_all_links(instance, link.first)
             || has_all_links(instance, link.second),
         _ => false,
@@ -113,7 +93,7 @@ fn line_breaks(instance: &Instance, path: &PathLine, rule: Rule) -> bool
         Rule::PathRepeats => repeats(nodes),
         Rule::PathNoLink => leaves_links(instance, nodes),
         Rule::TwicePath => is_given(instance, owner, nodes),
-        Rule::TooMany => has_all_paths(instance, owner) || nodes.len() > 32,
+        Rule::TooMany => has_all_paths(instance, owner) || nodes.len() > limits::MOST_NODES,
         _ => false,
     }
 }
@@ -155,8 +135,8 @@ fn link_scene_breaks(
     match rule {
         Rule::Range => first >= instance.nodes() || second >= instance.nodes(),
         Rule::NoSuchLink => !is_linked(instance, first, second),
-        Rule::Time => time > 1_000_000_000,
-        Rule::TooMany => count >= 4096,
+        Rule::Time => time > limits::LATEST,
+        Rule::TooMany => count >= limits::MOST_SCENES,
         _ => false,
     }
 }
@@ -176,8 +156,8 @@ fn swap_breaks(
         Rule::Range => node >= instance.nodes(),
         Rule::NoSuchPlace => !has_place(instance, node, first)
             || !has_place(instance, node, second),
-        Rule::Time => time > 1_000_000_000,
-        Rule::TooMany => count >= 4096,
+        Rule::Time => time > limits::LATEST,
+        Rule::TooMany => count >= limits::MOST_SCENES,
         _ => false,
     }
 }
@@ -191,16 +171,16 @@ fn has_place(instance: &Instance, node: u32, place: u32) -> bool
 
 /// Whether a router has as many links as it may.
 fn has_all_links(instance: &Instance, node: u32) -> bool
-    ensures { result ≡ nat_le 64 (degree instance.now.links node) }
+    ensures { result ≡ nat_le MOST_LINKS (degree instance.now.links node) }
 {
-    instance.hops(node).len() >= 64
+    instance.hops(node).len() >= limits::MOST_LINKS
 }
 
 /// Whether a router has as many permitted paths as it may.
 fn has_all_paths(instance: &Instance, node: u32) -> bool
-    ensures { result ≡ nat_le 200 (path_count instance.now.lines node) }
+    ensures { result ≡ nat_le MOST_PATHS (path_count instance.now.lines node) }
 {
-    instance.permitted(node).len() >= 200
+    instance.permitted(node).len() >= limits::MOST_PATHS
 }
 
 /// Whether these nodes were given for the router.
@@ -214,6 +194,7 @@ fn is_given(instance: &Instance, owner: u32, nodes: &[u32]) -> bool
     number.is_some()
 }
 
+/// Whether a link joins the two.
 fn is_linked(instance: &Instance, first: u32, second: u32) -> bool
     ensures { result ≡ linked instance.now.links first second }
 {
@@ -248,6 +229,7 @@ fn begins_at(nodes: &[u32], node: u32) -> bool
     }
 }
 
+/// Whether the last of these nodes is the origin.
 fn ends_at_origin(nodes: &[u32]) -> bool
     ensures { result ≡ ends_at nodes.now 0 }
 {
@@ -257,6 +239,7 @@ fn ends_at_origin(nodes: &[u32]) -> bool
     }
 }
 
+/// Whether a node stands twice among these.
 fn repeats(nodes: &[u32]) -> bool
     ensures { result ≡ repeating nodes.now }
 {
@@ -268,6 +251,7 @@ fn repeats(nodes: &[u32]) -> bool
     false
 }
 
+/// Whether two neighbouring nodes of these have no link.
 fn leaves_links(instance: &Instance, nodes: &[u32]) -> bool
     ensures { result ≡ leaving instance.now.links nodes.now }
 {

@@ -1,7 +1,7 @@
 use Rattle.std.proofs.Common.{◌∙◌, ap, ◌==◌}
 use Rattle.std.specs.List.{list_any}
 use Rattle.tw_instance.proofs.Facts.{peer-linked}
-use Rattle.tw_instance.proofs.faults.is_linked.Goals as goal
+use Rattle.tw_instance.proofs.rules.is_linked.Goals as goal
 
 pub returns : goal.returns
 returns c =
