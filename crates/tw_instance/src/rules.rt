@@ -1,10 +1,9 @@
 //! Items judged by the rules of an instance and of a scenario: the first rule that an item breaks.
 
-ghost use Rattle.std.specs.Prelude.{◌≡◌, ◌∷◌, ◌==◌, ◌&&◌, ◌||◌, not, nat_le, nat_lt};
+ghost use Rattle.std.specs.Prelude.{◌≡◌, ℕ, ◌∷◌, ◌==◌, ◌&&◌, ◌||◌, not, nat_le, nat_lt};
 ghost use Rattle.std.specs.List.{list_all, list_any};
-ghost use Rattle.tw_model.specs.declared.case.Scene.TheVariants as AScene;
 ghost use Rattle.tw_model.specs.declared.limits.TheConstants.{MOST_LINKS, MOST_PATHS};
-ghost use Rattle.tw_model.specs.Net.{begins_at as begins_at_spec, same_path};
+ghost use Rattle.tw_model.specs.Net.{Net, begins_at as begins_at_spec, same_path};
 ghost use Rattle.tw_model.specs.Rules.{degree, ends_at, has_place as has_place_of, is_linked as linked, leaves_links as leaving, line_breaks as line_breaks_of, line_fault as line_fault_of, link_breaks as link_breaks_of, link_fault as link_fault_of, nodes_fault as nodes_fault_of, path_count, repeats as repeating, scene_breaks as scene_breaks_of, scene_fault as scene_fault_of};
 
 use crate::instance::Instance;
@@ -101,64 +100,63 @@ fn line_breaks(instance: &Instance, path: &PathLine, rule: Rule) -> bool
 fn scene_breaks(instance: &Instance, count: usize, scene: &Scene, rule: Rule) -> bool
     ensures { result ≡ scene_breaks_of instance.now count scene.now rule }
 {
+    match rule {
+        Rule::Range => names_no_router(instance, scene),
+        Rule::TooMany => count >= limits::MOST_SCENES,
+        Rule::NoSuchLink => names_no_link(instance, scene),
+        Rule::NoSuchPlace => names_no_place(instance, scene),
+        Rule::Time => is_late(scene),
+        _ => false,
+    }
+}
+
+/// Whether a scene is at a router that is not there.
+fn names_no_router(instance: &Instance, scene: &Scene) -> bool
+    ensures { (count : ℕ) → result ≡ scene_breaks_of instance.now count scene.now Rule.Range }
+{
     match *scene {
-        Scene::Fail {
-            time,
-            first,
-            second,
+        Scene::Fail { first, second, .. } | Scene::Restore { first, second, .. } => {
+            first >= instance.nodes() || second >= instance.nodes()
         }
-        | Scene::Restore {
-            time,
-            first,
-            second,
-        } => link_scene_breaks(instance, count, time, first, second, rule),
+        Scene::Swap { node, .. } => node >= instance.nodes(),
+    }
+}
+
+/// Whether a scene is the failure or the repair of a link that is not there.
+fn names_no_link(instance: &Instance, scene: &Scene) -> bool
+    ensures { (count : ℕ) → result ≡ scene_breaks_of instance.now count scene.now Rule.NoSuchLink }
+{
+    match *scene {
+        Scene::Fail { first, second, .. } | Scene::Restore { first, second, .. } => {
+            !is_linked(instance, first, second)
+        }
+        Scene::Swap { .. } => false,
+    }
+}
+
+/// Whether a scene is the exchange of a place that the router's order does not have.
+fn names_no_place(instance: &Instance, scene: &Scene) -> bool
+    ensures { (count : ℕ) → result ≡ scene_breaks_of instance.now count scene.now Rule.NoSuchPlace }
+{
+    match *scene {
+        Scene::Fail { .. } | Scene::Restore { .. } => false,
         Scene::Swap {
-            time,
             node,
             first,
             second,
-        } => swap_breaks(instance, count, time, node, first, second, rule),
+            ..
+        } => !has_place(instance, node, first) || !has_place(instance, node, second),
     }
 }
 
-fn link_scene_breaks(
-    instance: &Instance,
-    count: usize,
-    time: u64,
-    first: u32,
-    second: u32,
-    rule: Rule,
-) -> bool
-    ensures fail { result ≡ scene_breaks_of instance.now count (AScene.Fail time first second) rule }
-    ensures restore { result ≡ scene_breaks_of instance.now count (AScene.Restore time first second) rule }
+/// Whether the time of a scene is past the latest.
+fn is_late(scene: &Scene) -> bool
+    ensures { (net : Net) (count : ℕ) → result ≡ scene_breaks_of net count scene.now Rule.Time }
 {
-    match rule {
-        Rule::Range => first >= instance.nodes() || second >= instance.nodes(),
-        Rule::NoSuchLink => !is_linked(instance, first, second),
-        Rule::Time => time > limits::LATEST,
-        Rule::TooMany => count >= limits::MOST_SCENES,
-        _ => false,
-    }
-}
-
-fn swap_breaks(
-    instance: &Instance,
-    count: usize,
-    time: u64,
-    node: u32,
-    first: u32,
-    second: u32,
-    rule: Rule,
-) -> bool
-    ensures { result ≡ scene_breaks_of instance.now count (AScene.Swap time node first second) rule }
-{
-    match rule {
-        Rule::Range => node >= instance.nodes(),
-        Rule::NoSuchPlace => !has_place(instance, node, first)
-            || !has_place(instance, node, second),
-        Rule::Time => time > limits::LATEST,
-        Rule::TooMany => count >= limits::MOST_SCENES,
-        _ => false,
+    match *scene {
+        Scene::Fail { time, .. } | Scene::Restore { time, .. } | Scene::Swap { time, .. } => {
+            time > limits::LATEST
+        }
     }
 }
 
