@@ -3,6 +3,7 @@ use Rattle.std.proofs.Common.{◌≡◌, ℕ, suc, zero, ◌<◌, ◌==◌, true
 use Rattle.std.specs.List.{AllByRecursion, list_any}
 use Rattle.std.proofs.lemmas.Bool.{and_parts, both_ways, eq-eqb, eqb-true, eqb-false, false_from_ne_true, ne_eqb, not-false, not-true, or_cases, or_parts}
 use Rattle.tw_event.specs.declared.event.PathNo.{PathNo}
+use Rattle.tw_model.specs.declared.limits.TheConstants.{MOST_PATHS}
 use Rattle.tw_model.specs.Line.{Line}
 use Rattle.tw_model.specs.Net.{Net, IsPath, begins_at, hops_of, joins, path, paths_of, same_path}
 use Rattle.tw_model.specs.Rules.{IsNet, is_linked, path_count}
@@ -33,11 +34,11 @@ none_of_origin nodes [] all = refl
 none_of_origin nodes (p ∷ lines) all = let no : (p.owner == 0) ≡ false = ne_eqb p.owner 0 (λ e. let some = all.0.0 in omega arith) in rw no (none_of_origin nodes lines all.1)
 
 -- whether a router has as many permitted paths as it may
-pub full-counted : (net : Net) (v : ℕ) → IsNet net → nat_le 200 (length (paths_of net v)) ≡ nat_le 200 (path_count net.lines v)
+pub full-counted : (net : Net) (v : ℕ) → IsNet net → nat_le MOST_PATHS (length (paths_of net v)) ≡ nat_le MOST_PATHS (path_count net.lines v)
 full-counted net zero h =
     let all = listed net h in
-    ap (λ xs. nat_le 200 (length xs)) all.origin ∙ ap (nat_le 200) (sym (none_of_origin net.nodes net.lines all.owners))
-full-counted net (suc v) h = ap (nat_le 200) ((listed net h).counts (suc v) (omega arith))
+    ap (λ xs. nat_le MOST_PATHS (length xs)) all.origin ∙ ap (nat_le MOST_PATHS) (sym (none_of_origin net.nodes net.lines all.owners))
+full-counted net (suc v) h = ap (nat_le MOST_PATHS) ((listed net h).counts (suc v) (omega arith))
 
 none_given : (count owner : ℕ) (nodes : List ℕ) (lines : List Line) → AllByRecursion (λ p. (0 < p.owner) × (p.owner < count)) lines → AllByRecursion (λ p. begins_at p.nodes p.owner ≡ true) lines
     → (owner == 0 || not (begins_at nodes owner)) ≡ true → list_any (λ q. q.owner == owner && same_path q.nodes nodes) lines ≡ false

@@ -6,8 +6,9 @@ use Rattle.std.proofs.lemmas.List.Elements.{All-from_recursion, filter-append}
 use Rattle.std.proofs.lemmas.List.Folds.{list_any_at, Any-from_list_any}
 use Rattle.std.proofs.lemmas.List.{append-nil, length_push, length-map, map-append, map_push, get_or_append_left, get_or_push}
 use Rattle.tw_event.specs.declared.event.PathNo.{PathNo}
+use Rattle.tw_model.specs.declared.limits.TheConstants.{MOST_NODES, MOST_PATHS, MOST_ROUTERS}
 use Rattle.tw_model.specs.declared.net.Link.{Link}
-use Rattle.tw_model.specs.declared.net.Rule.TheVariants.{Range, PathOwner, TwicePath, TooMany}
+use Rattle.tw_model.specs.declared.rule.Rule.TheVariants.{Range, PathOwner, TwicePath, TooMany}
 use Rattle.tw_model.specs.Line.{Line}
 use Rattle.tw_model.specs.Net.{Net, IsPath, begins_at, origin_path, path, paths, paths_of, same_path}
 use Rattle.tw_model.specs.Rules.{IsNet, LinesFollow, line_breaks, line_fault, path_count}
@@ -24,21 +25,21 @@ pub record IsNextLine (net : Net) (p : Line) : Type 0 where
   pub some : 0 < p.owner
   pub begins : begins_at p.nodes p.owner ≡ true
   pub new : list_any (λ q. q.owner == p.owner && same_path q.nodes p.nodes) net.lines ≡ false
-  pub room : path_count net.lines p.owner < 200
+  pub room : path_count net.lines p.owner < MOST_PATHS
 
 pub next_line : (net : Net) (p : Line) → line_fault net p ≡ None → IsNextLine net p
 next_line net p h =
     let no = none_broken (line_breaks net p) h in
     let range = and_parts (nat_lt p.owner net.nodes) (list_all (λ v. nat_lt v net.nodes) p.nodes) (not-false (nat_lt p.owner net.nodes && list_all (λ v. nat_lt v net.nodes) p.nodes) (no Range)) in
     let owner = or_parts (p.owner == 0) (not (begins_at p.nodes p.owner)) (no PathOwner) in
-    let room = or_parts (nat_le 200 (path_count net.lines p.owner)) (nat_lt 32 (length p.nodes)) (no TooMany) in
+    let room = or_parts (nat_le MOST_PATHS (path_count net.lines p.owner)) (nat_lt MOST_NODES (length p.nodes)) (no TooMany) in
     let some : p.owner ≡ 0 → ⊥ = eqb-false p.owner 0 owner.0 in
     record {
       owner = ltb-true p.owner net.nodes range.0;
       some = omega arith;
       begins = not-false (begins_at p.nodes p.owner) owner.1;
       new = no TwicePath;
-      room = leb-false 200 (path_count net.lines p.owner) room.0;
+      room = leb-false MOST_PATHS (path_count net.lines p.owner) room.0;
     }
 
 -- what paths that follow one another keep holds after each, so at the end
@@ -133,7 +134,7 @@ count_same (k ∷ lines) p v h =
 pub record AreListed (net : Net) : Type 0 where
   pub origin : paths_of net 0 ≡ origin_path ∷ []
   pub counts : (v : ℕ) → 0 < v → length (paths_of net v) ≡ path_count net.lines v
-  pub few : (v : ℕ) → path_count net.lines v ≤ 200
+  pub few : (v : ℕ) → path_count net.lines v ≤ MOST_PATHS
   pub owners : AllByRecursion (λ p. (0 < p.owner) × (p.owner < net.nodes)) net.lines
   pub begin : AllByRecursion (λ p. begins_at p.nodes p.owner ≡ true) net.lines
 
@@ -153,7 +154,7 @@ listed_more net p next so =
         | inr ne ↦ (ap length (at.others v ne) ∙ (so.counts v pos ∙ sym (count_same net.lines p v (ne_eqb p.owner v (λ e. ne (sym e))))))
       ];
       few = λ v. elim (cases_eq v p.owner) [
-        | inl e ↦ (subst (λ u. path_count (net.lines ++ p ∷ []) u ≤ 200) (sym e) (let room = next.room in let more = count_more net.lines p p.owner (eq-eqb p.owner p.owner refl) in omega arith))
+        | inl e ↦ (subst (λ u. path_count (net.lines ++ p ∷ []) u ≤ MOST_PATHS) (sym e) (let room = next.room in let more = count_more net.lines p p.owner (eq-eqb p.owner p.owner refl) in omega arith))
         | inr ne ↦ (let same = count_same net.lines p v (ne_eqb p.owner v (λ e. ne (sym e))) in let few = so.few v in omega arith)
       ];
       owners = all_push (λ q. (0 < q.owner) × (q.owner < net.nodes)) net.lines p so.owners (next.some, next.owner);
@@ -210,8 +211,8 @@ count_others u v (p ∷ lines) =
       | inr g ↦ rw g (elim (cases_Bool (p.owner == v)) [ inl s ↦ rw s (omega arith) | inr f ↦ rw f rest ])
     ]
 
--- paths of so many owners, at most 200 each
-bounded : (m : ℕ) (lines : List Line) → AllByRecursion (λ p. (0 < p.owner) × (p.owner < suc m)) lines → ((v : ℕ) → path_count lines v ≤ 200) → length lines ≤ 200 * m
+-- paths of so many owners, at most so many each
+bounded : (m : ℕ) (lines : List Line) → AllByRecursion (λ p. (0 < p.owner) × (p.owner < suc m)) lines → ((v : ℕ) → path_count lines v ≤ MOST_PATHS) → length lines ≤ MOST_PATHS * m
 bounded zero [] all few = omega arith
 bounded zero (p ∷ lines) all few = let a = all.0.0 in let b = all.0.1 in absurd (omega arith)
 bounded (suc m) lines all few =
@@ -220,7 +221,7 @@ bounded (suc m) lines all few =
     let most = few (suc m) in
     omega arith
 
-pub few_lines : (net : Net) → IsNet net → length net.lines ≤ 204600
+pub few_lines : (net : Net) → IsNet net → length net.lines ≤ MOST_PATHS * (MOST_ROUTERS - 1)
 few_lines net h =
     let all = listed net h in
     let n = nodes_within net.nodes h.nodes in

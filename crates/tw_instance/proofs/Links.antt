@@ -1,18 +1,20 @@
 -- What the rules give of a net's links and neighbours.
-use Rattle.std.proofs.Common.{◌≡◌, ℕ, suc, ◌<◌, ◌==◌, true, false, ◌||◌, List, [], ◌∷◌, ◌++◌, length, refl, ap, sym, ◌∙◌, subst, inl, inr, None, append_assoc}
+use Rattle.std.proofs.Common.{◌≡◌, ℕ, suc, zero, ◌<◌, ◌≤◌, ◌==◌, true, false, ◌||◌, List, [], ◌∷◌, ◌++◌, length, map, refl, ap, sym, ◌∙◌, subst, inl, inr, None, append_assoc, arith}
 use Rattle.std.specs.List.{All}
-use Rattle.std.proofs.lemmas.Bool.{cases_Bool, cases_eq, eq-eqb, ne_eqb, or_from, or_left, or_right}
+use native.Mathlib.Numerals.{unary_clauses}
+use Rattle.std.proofs.lemmas.Bool.{cases_Bool, cases_eq, cases_lt, eq-eqb, ne_eqb, or_from, or_left, or_right}
 use Rattle.std.proofs.lemmas.List.{append-nil}
-use Rattle.std.proofs.lemmas.List.Elements.{recursion_from_All}
+use Rattle.std.specs.List.Sorted.{IsStrictlyIncreasing}
 use Rattle.tw_model.specs.declared.net.Hop.{Hop}
 use Rattle.tw_model.specs.declared.net.Link.{Link}
-use Rattle.tw_model.specs.declared.net.Rule.TheVariants.{TwiceLink}
+use Rattle.tw_model.specs.declared.rule.Rule.TheVariants.{TwiceLink}
 use Rattle.tw_model.specs.Net.{Net, hops_of}
+use Rattle.tw_model.specs.State.{hop}
 use Rattle.tw_model.specs.Rules.{IsNet, LinksFollow, degree, is_linked, link_breaks, link_fault}
-use Rattle.tw_instance.specs.Hops.{AreRising, IsGoodHop}
+use Rattle.tw_instance.specs.Hops.{IsGoodHop}
 use Rattle.tw_instance.proofs.Hops.{is_joined, length-with_hop, none_there}
 use Rattle.tw_sim.proofs.Members.{all_from_in}
-use Rattle.tw_model.proofs.Nets.{IsLink, Rises, hops_rises, is_link, neighbour}
+use Rattle.tw_model.proofs.Nets.{IsLink, Rises, hop_in_hops, hops_rises, is_link, neighbour}
 use Rattle.tw_model.proofs.Unbroken.{none_broken}
 
 -- ---- the rules of a link
@@ -99,10 +101,20 @@ pub good_hops : (net : Net) (v : ℕ) → IsNet net → All (IsGoodHop net.nodes
 good_hops net v is =
     all_from_in (IsGoodHop net.nodes) (hops_of net v) (λ h there. let n = neighbour net is v h there in record { peer = n.there; some = n.least; most = n.most })
 
-are_rising : (hops : List Hop) → Rises hops → AreRising hops
-are_rising [] r = tt
-are_rising (h ∷ hops) r = (recursion_from_All (λ k. h.peer < k.peer) hops (all_from_in (λ k. h.peer < k.peer) hops r.0), are_rising hops r.1)
+rising_peers : (hops : List Hop) → Rises hops → IsStrictlyIncreasing (map (λ h. h.peer) hops)
+rising_peers [] r k within = absurd (omega arith)
+rising_peers (h ∷ []) r k within = absurd (omega arith)
+rising_peers (h ∷ g ∷ hops) r zero within = r.0 g (inl refl)
+rising_peers (h ∷ g ∷ hops) r (suc k) within = let later = simp unary_clauses at (rising_peers (g ∷ hops) r.1 k (omega arith)) in simp unary_clauses later
 
 -- the neighbours stand in rising number
-pub rising_hops : (net : Net) (v : ℕ) → AreRising (hops_of net v)
-rising_hops net v = are_rising (hops_of net v) (hops_rises net v)
+pub rising_hops : (net : Net) (v : ℕ) → IsStrictlyIncreasing (map (λ h. h.peer) (hops_of net v))
+rising_hops net v = rising_peers (hops_of net v) (hops_rises net v)
+
+-- who is no router has no neighbour
+pub no_hops : (net : Net) (v : ℕ) → IsNet net → net.nodes ≤ v → length (hops_of net v) ≡ 0
+no_hops net v is out =
+    elim (cases_lt 0 (length (hops_of net v))) [
+      | inl some ↦ (let here = (neighbour net is v (hop net v 0) (hop_in_hops net v 0 some)).here in absurd (omega arith))
+      | inr none ↦ omega arith
+    ]

@@ -1,20 +1,22 @@
 -- What callers are told of an instance, from the rules that it keeps.
-use Rattle.std.proofs.Common.{◌≡◌, ℕ, suc, zero, ◌+◌, ◌-◌, ◌<◌, ◌≤◌, ◌==◌, true, false, List, [], ◌∷◌, ◌++◌, length, get_or, set, replicate, refl, ap, ◌∙◌, sym, arith, inl, inr, subst, None}
+use Rattle.std.proofs.Common.{◌≡◌, ℕ, suc, zero, ◌+◌, ◌-◌, ◌*◌, ◌<◌, ◌≤◌, ◌==◌, true, false, List, [], ◌∷◌, ◌++◌, length, map, get_or, set, replicate, refl, ap, ◌∙◌, sym, arith, inl, inr, subst, None}
 use Rattle.std.proofs.lemmas.Bool.{cases_eq, ne_eqb}
 use Rattle.std.proofs.lemmas.List.{get_or-set_other, get_or-set_same, length-map, length-replicate, length-set}
 use Rattle.std.specs.List.{All}
+use Rattle.std.specs.List.Sorted.{IsStrictlyIncreasing}
 use Rattle.std.proofs.lemmas.List.Elements.{All-weaker}
 use Rattle.std.specs.declared.vec.Vec.{Vec}
 use Rattle.tw_event.specs.declared.event.PathNo.{PathNo}
 use Rattle.tw_model.specs.Net.{Net, IsPath, hops_of, is_own, origin_path, paths, paths_of}
 use Rattle.tw_model.specs.Rules.{IsNet, line_fault, link_fault, nodes_fault}
+use Rattle.tw_model.specs.declared.limits.TheConstants.{MOST_LINKS, MOST_PATHS, MOST_ROUTERS}
 use Rattle.tw_model.specs.declared.net.Hop.{Hop}
 use Rattle.tw_model.specs.declared.net.Link.{Link}
 use Rattle.tw_model.specs.Line.{Line}
 use Rattle.tw_model.proofs.Grown.{net_alone, net_with_line, net_with_link}
 use Rattle.tw_model.proofs.Nets.{hops_few, nodes_within}
 use Rattle.tw_model.proofs.Paths.{own_is_path, path_exact, paths_own}
-use Rattle.tw_instance.specs.Hops.{AreDistinct, AreRising, IsGoodHop}
+use Rattle.tw_instance.specs.Hops.{AreDistinct, IsGoodHop}
 use Rattle.tw_instance.proofs.Hops.{IsJoined, is_joined}
 use Rattle.tw_instance.specs.Tables.{items, row, with_hop}
 use Rattle.tw_instance.proofs.Links.{good_hops, next_link, no_links, rising_hops}
@@ -22,14 +24,14 @@ use Rattle.tw_instance.proofs.Lines.{IsListedAt, few_lines, is_listed, length-pa
 
 -- what is known of router v
 pub record IsRouter (net : Net) (v : ℕ) : Type 0 where
-  pub few_hops : length (hops_of net v) ≤ 64
+  pub few_hops : length (hops_of net v) ≤ MOST_LINKS
   pub good : All (IsGoodHop net.nodes) (hops_of net v)
-  pub rising : AreRising (hops_of net v)
-  pub few_paths : length (paths_of net v) ≤ 200
+  pub rising : IsStrictlyIncreasing (map (λ h. h.peer) (hops_of net v))
+  pub few_paths : length (paths_of net v) ≤ MOST_PATHS
   pub paths : All (IsPath net) (paths_of net v)
   pub own : All (λ q. is_own net v q ≡ true) (paths_of net v)
 
-few_paths_of : (net : Net) (v : ℕ) → IsNet net → length (paths_of net v) ≤ 200
+few_paths_of : (net : Net) (v : ℕ) → IsNet net → length (paths_of net v) ≤ MOST_PATHS
 few_paths_of net zero h = let one = ap length (listed net h).origin in omega arith
 few_paths_of net (suc v) h = let few = (listed net h).few (suc v) in let same = (listed net h).counts (suc v) (omega arith) in omega arith
 
@@ -47,8 +49,8 @@ is_router net v h = record {
 pub record IsWhole (net : Net) : Type 0 where
   pub kept : IsNet net
   pub some : 1 ≤ net.nodes
-  pub most : net.nodes ≤ 1024
-  pub few_paths : length (paths net) ≤ 204602
+  pub most : net.nodes ≤ MOST_ROUTERS
+  pub few_paths : length (paths net) ≤ MOST_PATHS * (MOST_ROUTERS - 1) + 2
   pub distinct : AreDistinct net
 
 pub is_whole : (net : Net) → IsNet net → IsWhole net

@@ -2,7 +2,7 @@
 use Rattle.std.proofs.Common.{◌≡◌, ◌↔◌, Option, Some, None, Result, Ok, Err, refl, ap, sym, ◌∙◌}
 use Rattle.tw_instance.specs.declared.refusal.Refusal.{Refusal}
 use Rattle.tw_instance.specs.declared.refusal.Refusal.TheVariants as refusal
-use Rattle.tw_model.specs.declared.net.Rule.{Rule}
+use Rattle.tw_model.specs.declared.rule.Rule.{Rule}
 use Rattle.tw_text.specs.declared.draft.Draft.{Draft}
 use Rattle.tw_text.specs.Steps.{Steps, of_rule, refusal_error}
 

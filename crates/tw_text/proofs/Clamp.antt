@@ -16,8 +16,8 @@ use Rattle.tw_model.specs.Net.{Net, begins_at, paths, paths_of}
 use Rattle.tw_model.specs.Rules.{has_place, is_within, rules_in_order}
 use Rattle.tw_model.specs.declared.case.Scene.TheVariants.{Fail, Restore, Swap}
 use Rattle.tw_model.specs.declared.net.Link.{Link}
-use Rattle.tw_model.specs.declared.net.Rule.{Rule}
-use Rattle.tw_model.specs.declared.net.Rule.TheVariants.{Range, NoSuchPlace}
+use Rattle.tw_model.specs.declared.rule.Rule.{Rule}
+use Rattle.tw_model.specs.declared.rule.Rule.TheVariants.{Range, NoSuchPlace}
 use Rattle.tw_text.specs.declared.draft.Draft.{Draft}
 use Rattle.tw_text.specs.declared.draft.Draft.TheVariants.{Start, Header, Links, Paths, Scenes, Done}
 use Rattle.tw_text.specs.declared.fault.LineFault.TheVariants as x

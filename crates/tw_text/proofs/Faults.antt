@@ -3,7 +3,7 @@ use Rattle.std.proofs.Common.{◌≡◌, ℕ, Bool, true, false, not, ◌&&◌, 
 use Rattle.std.proofs.lemmas.Bool.{cases_Bool}
 use Rattle.std.specs.List.{find, list_all}
 use Rattle.tw_model.specs.Rules.{rules_in_order}
-use Rattle.tw_model.specs.declared.net.Rule.{Rule}
+use Rattle.tw_model.specs.declared.rule.Rule.{Rule}
 use Rattle.tw_text.specs.declared.draft.Draft.{Draft}
 use Rattle.tw_text.specs.declared.draft.Draft.TheVariants.{Start}
 use Rattle.tw_text.specs.declared.fault.LineFault.{LineFault}

@@ -13,7 +13,7 @@ use Rattle.tw_model.specs.Rules.{IsNet, has_place, is_within, line_breaks, line_
 use Rattle.tw_model.specs.declared.case.Scene.{Scene}
 use Rattle.tw_model.specs.declared.case.Scene.TheVariants.{Fail, Restore, Swap}
 use Rattle.tw_model.specs.declared.net.Link.{Link}
-use Rattle.tw_model.specs.declared.net.Rule.TheVariants.{Range, Delay, PathOwner, NoSuchPlace, Time}
+use Rattle.tw_model.specs.declared.rule.Rule.TheVariants.{Range, Delay, PathOwner, NoSuchPlace, Time}
 use Rattle.tw_text.specs.declared.statement.Statement.TheVariants as say
 use Rattle.tw_text.proofs.Clamp.{few_places}
 use Rattle.tw_text.proofs.Said.{IsSayable, IsShort, IsShortPath, IsShortScene}

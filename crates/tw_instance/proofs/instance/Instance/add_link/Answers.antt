@@ -3,7 +3,7 @@ use Rattle.std.proofs.lemmas.List.{with_items_is}
 use Rattle.tw_model.specs.Rules.{link_fault}
 use Rattle.tw_instance.specs.Instance.{net_of}
 use Rattle.tw_instance.specs.Tables.{row}
-use Rattle.tw_instance.proofs.KeyRows.{keys_kept}
+use Rattle.tw_instance.proofs.HashRows.{hashes_kept}
 use Rattle.tw_instance.proofs.Sound.{orders_kept, with_link}
 use Rattle.tw_instance.proofs.instance.Instance.add_link.Goals as goal
 
@@ -24,8 +24,8 @@ invariant_of-self-2 c =
       net = more.kept;
       hop_rows = ap length whole ∙ more.long;
       path_rows = c.self.invariant.path_rows;
-      key_rows = c.self.invariant.key_rows;
+      hash_rows = c.self.invariant.hash_rows;
       hops = λ v. ap (λ rows. row rows v) whole ∙ more.hops v;
       permitted = λ v. c.self.invariant.permitted v ∙ sym (orders_kept net links v);
-      tail_keys = λ v. c.self.invariant.tail_keys v ∙ sym (keys_kept net links v);
+      tail_hashes = λ v. c.self.invariant.tail_hashes v ∙ sym (hashes_kept net links v);
     }
