@@ -1,8 +1,8 @@
 -- The pending events of a run stay in order, and each suits the router that handles it.
-use Rattle.std.proofs.Common.{◌≡◌, ℕ, suc, zero, ◌<◌, ◌==◌, true, false, List, [], ◌∷◌, sym, subst, inl, inr, arith, nat_lt}
-use Rattle.std.proofs.lemmas.Bool.{cases_Bool, eqb-true, ltb-true, ltb-false, false_from_ne_true, both_ways}
+use Rattle.std.proofs.Common.{◌≡◌, ℕ, suc, zero, ◌<◌, ◌==◌, true, false, List, [], sym, subst, inl, inr, arith, nat_lt}
+use Rattle.std.proofs.lemmas.Bool.{cases_Bool, eqb-true, ltb-true, ltb-false}
 use Rattle.tw_sim.specs.Simulation.{Simulation, IsLawful, times, only, state}
-use Rattle.tw_sim.specs.Seq.{World, begin, insert, insert_all, turn, turns}
+use Rattle.tw_sim.specs.Seq.{World, begin, insert_all, turn, turns}
 use Rattle.tw_sim.specs.Rising as plain
 use Rattle.tw_sim.proofs.Counts.{in_cons, in_filter, in_head, is_order, times-insert_all}
 use Rattle.tw_sim.proofs.Ordered as ordered
