@@ -12,10 +12,10 @@ use Rattle.tw_model.specs.Rules.{has_place}
 use Rattle.tw_model.specs.State.{IsState, State, best, has_peer, hop, row, slot}
 use Rattle.tw_model.specs.Effect.{accepts, acts, body_suits, with_handled, effect, with_failed_link, fits, with_heard, with_repaired_link, settle, with_swap, update_to, updates, ups}
 use Rattle.tw_handlers.specs.declared.record.UndoRecord.{UndoRecord}
-use Rattle.tw_handlers.specs.Record.{heard_before, record_of, takes}
-use Rattle.tw_handlers.specs.Undo.{before, counters_before, moved_back, sends_again, settled_sends, uncounted, unfailing, unrestoring, unsettled, with_old_rib}
+use Rattle.tw_handlers.specs.Record.{heard_before, record_of, takes_effect}
+use Rattle.tw_handlers.specs.Undo.{state_before, counters_before, with_body_undone, sends_again, sends_of_settling, counters_without_event, with_failure_undone, with_repair_undone, counters_without_settling, with_old_rib}
 use Rattle.tw_model.proofs.Suits.{body_suits-fits}
-use Rattle.tw_handlers.proofs.Rows.{back-row, row-with_row, swapping-swapping}
+use Rattle.tw_handlers.proofs.Rows.{back-row, row-with_row, with_swap-with_swap}
 
 back : (a b : ℕ) → a + b - b ≡ a
 back a b = omega arith
@@ -24,13 +24,13 @@ counters-back : (c : Counters) (n : ℕ)
     → record c { sent = c.sent + n - n; handled = c.handled + 1 - 1; changed = c.changed + 1 - 1 } ≡ c
 counters-back c n = rw (back c.sent n, back c.handled 1, back c.changed 1) refl
 
-uncounted-back : (c : Counters) → uncounted (record c { handled = c.handled + 1 }) ≡ c
-uncounted-back c = rw (back c.handled 1) refl
+counters_without_event-back : (c : Counters) → counters_without_event (record c { handled = c.handled + 1 }) ≡ c
+counters_without_event-back c = rw (back c.handled 1) refl
 
 -- a record as settling in s leaves it
 abbrev settled_record : Net → ℕ → ℕ → State → Bool → PathNo → UndoRecord
 settled_record net v t s k h = record {
-  took = k;
+  took_effect = k;
   changed = not (s.rib.0 == (settle net v t s).state.rib.0);
   rib = s.rib;
   heard = h;
@@ -38,12 +38,12 @@ settled_record net v t s k h = record {
 
 -- the way back from settling
 abbrev settled_back : Net → ℕ → State → UndoRecord → State
-settled_back net v s u = record (with_old_rib s u) { counters = unsettled net v s u }
+settled_back net v s u = record (with_old_rib s u) { counters = counters_without_settling net v s u }
 
 back-settled : (net : Net) (v t : ℕ) (s : State) (k : Bool) (h : PathNo) (b : Bool) → (s.rib.0 == (best net v s).0) ≡ b
     → settled_back net v (with_handled (settle net v t s).state) (settled_record net v t s k h) ≡ s
 back-settled net v t s k h true is =
-    rw is (rw (eq-eqb s.rib.0 s.rib.0 refl) (ap (λ c. record s { counters = c }) (uncounted-back s.counters)))
+    rw is (rw (eq-eqb s.rib.0 s.rib.0 refl) (ap (λ c. record s { counters = c }) (counters_without_event-back s.counters)))
 back-settled net v t s k h false is =
     rw is (rw is (ap (λ c. record s { counters = c }) (counters-back s.counters (length (ups net v s)))))
 
@@ -52,35 +52,35 @@ back-settle : (net : Net) (v t : ℕ) (s : State) (k : Bool) (h : PathNo)
 back-settle net v t s k h = back-settled net v t s k h (s.rib.0 == (best net v s).0) refl
 
 again-settled : (net : Net) (v t : ℕ) (s : State) (k : Bool) (h : PathNo) (b : Bool) → (s.rib.0 == (best net v s).0) ≡ b
-    → settled_sends net v t (settle net v t s).state (settled_record net v t s k h) ≡ (settle net v t s).sends
+    → sends_of_settling net v t (settle net v t s).state (settled_record net v t s k h) ≡ (settle net v t s).sends
 again-settled net v t s k h true is = rw is (rw (eq-eqb s.rib.0 s.rib.0 refl) refl)
 again-settled net v t s k h false is =
     rw is (rw is (ap (λ n. updates net v t (best net v s) n s) (back s.counters.sent (length (ups net v s)))))
 
 again-settle : (net : Net) (v t : ℕ) (s : State) (k : Bool) (h : PathNo)
-    → settled_sends net v t (settle net v t s).state (settled_record net v t s k h) ≡ (settle net v t s).sends
+    → sends_of_settling net v t (settle net v t s).state (settled_record net v t s k h) ≡ (settle net v t s).sends
 again-settle net v t s k h = again-settled net v t s k h (s.rib.0 == (best net v s).0) refl
 
 -- the record of one body, handled aside
 abbrev note : Net → ℕ → State → Event → Body → UndoRecord
 note net v s e b = record {
-  took = takes net v s e b;
+  took_effect = takes_effect net v s e b;
   changed = not (s.rib.0 == (acts net v s e b).state.rib.0);
   rib = s.rib;
   heard = heard_before net v s e b;
 }
 
-unfailing-failing : (s : State) (k : ℕ) (u : UndoRecord) → k < length s.rows → (row s k).up ≡ true → u.heard ≡ (row s k).heard → unfailing (with_failed_link s k) k u ≡ s
-unfailing-failing s k u h up heard =
+with_failure_undone-with_failed_link : (s : State) (k : ℕ) (u : UndoRecord) → k < length s.rows → (row s k).up ≡ true → u.heard ≡ (row s k).heard → with_failure_undone (with_failed_link s k) k u ≡ s
+with_failure_undone-with_failed_link s k u h up heard =
     back-row s k _ _ (ap (λ (r : Row). record r { up = true; heard = u.heard }) (row-with_row s k _ h) ∙ (ap (λ p. record (row s k) { up = true; heard = p }) heard ∙ ap (λ b. record (row s k) { up = b }) (sym up)))
 
-unrestoring-restoring : (s : State) (k : ℕ) → k < length s.rows → (row s k).up ≡ false → unrestoring (with_repaired_link s k) k ≡ s
-unrestoring-restoring s k h up =
+with_repair_undone-with_repaired_link : (s : State) (k : ℕ) → k < length s.rows → (row s k).up ≡ false → with_repair_undone (with_repaired_link s k) k ≡ s
+with_repair_undone-with_repaired_link s k h up =
     back-row s k _ _ (ap (λ (r : Row). record r { up = false; session = r.session - 1 }) (row-with_row s k _ h) ∙ (ap (λ n. record (row s k) { up = false; session = n }) (back (row s k).session 1) ∙ ap (λ b. record (row s k) { up = b }) (sym up)))
 
 -- another path heard, and the old one heard again
-pub unhearing : (s : State) (k : ℕ) (q : PathNo) → k < length s.rows → with_heard (with_heard s k q) k (row s k).heard ≡ s
-unhearing s k q h = back-row s k _ _ (ap (λ (r : Row). record r { heard = (row s k).heard }) (row-with_row s k _ h))
+pub with_heard-with_heard : (s : State) (k : ℕ) (q : PathNo) → k < length s.rows → with_heard (with_heard s k q) k (row s k).heard ≡ s
+with_heard-with_heard s k q h = back-row s k _ _ (ap (λ (r : Row). record r { heard = (row s k).heard }) (row-with_row s k _ h))
 
 has_slot : (net : Net) (v : ℕ) (s : State) (w : ℕ) → IsState net v s → has_peer net v w ≡ true → slot net v w < length s.rows
 has_slot net v s w state h = subst (λ n. slot net v w < n) (sym state.hops) (ltb-true _ _ h)
@@ -95,21 +95,21 @@ has_order net v s i state h =
 -- the way back from one body
 abbrev back_by : Net → ℕ → State → Event → Body → UndoRecord → State
 back_by net v s e b u =
-    record (moved_back net v (with_old_rib s u) e b u) { counters = counters_before net v s b u }
+    record (with_body_undone net v (with_old_rib s u) e b u) { counters = counters_before net v s b u }
 
 -- where the event did nothing
-quiet-back : (net : Net) (v : ℕ) (s : State) → record s { counters = uncounted (with_handled s).counters } ≡ s
-quiet-back net v s = ap (λ c. record s { counters = c }) (uncounted-back s.counters)
+quiet-back : (net : Net) (v : ℕ) (s : State) → record s { counters = counters_without_event (with_handled s).counters } ≡ s
+quiet-back net v s = ap (λ c. record s { counters = c }) (counters_without_event-back s.counters)
 
 fail-back : (net : Net) (v : ℕ) (s : State) (e : Event) (w : ℕ) (b : Bool) → (row s (slot net v w)).up ≡ b → slot net v w < length s.rows
     → back_by net v (with_handled (acts net v s e (Fail w)).state) e (Fail w) (note net v s e (Fail w)) ≡ s
 fail-back net v s e w true up h =
     rw up (let k = slot net v w in
     let u = settled_record net v e.time (with_failed_link s k) true (row s k).heard in
-    ap (λ x. unfailing x k u) (back-settle net v e.time (with_failed_link s k) true (row s k).heard) ∙ unfailing-failing s k u h up refl)
+    ap (λ x. with_failure_undone x k u) (back-settle net v e.time (with_failed_link s k) true (row s k).heard) ∙ with_failure_undone-with_failed_link s k u h up refl)
 fail-back net v s e w false up h = rw up (rw (eq-eqb s.rib.0 s.rib.0 refl) (quiet-back net v s))
 
-restore-counters : (c : Counters) → record (uncounted (record c { sent = c.sent + 1; handled = c.handled + 1 })) { sent = c.sent + 1 - 1 } ≡ c
+restore-counters : (c : Counters) → record (counters_without_event (record c { sent = c.sent + 1; handled = c.handled + 1 })) { sent = c.sent + 1 - 1 } ≡ c
 restore-counters c = rw (back c.sent 1, back c.handled 1) refl
 
 restore-back : (net : Net) (v : ℕ) (s : State) (e : Event) (w : ℕ) (b : Bool) → (row s (slot net v w)).up ≡ b → slot net v w < length s.rows
@@ -117,9 +117,9 @@ restore-back : (net : Net) (v : ℕ) (s : State) (e : Event) (w : ℕ) (b : Bool
 restore-back net v s e w true up h = rw up (rw (eq-eqb s.rib.0 s.rib.0 refl) (quiet-back net v s))
 restore-back net v s e w false up h =
     rw up (rw (eq-eqb s.rib.0 s.rib.0 refl) (let k = slot net v w in
-    ap (λ c. record (unrestoring (with_repaired_link s k) k) { counters = c }) (restore-counters s.counters) ∙ unrestoring-restoring s k h up))
+    ap (λ c. record (with_repair_undone (with_repaired_link s k) k) { counters = c }) (restore-counters s.counters) ∙ with_repair_undone-with_repaired_link s k h up))
 
-dropped-counters : (c : Counters) → record (uncounted (record c { handled = c.handled + 1; dropped = c.dropped + 1 })) { dropped = c.dropped + 1 - 1 } ≡ c
+dropped-counters : (c : Counters) → record (counters_without_event (record c { handled = c.handled + 1; dropped = c.dropped + 1 })) { dropped = c.dropped + 1 - 1 } ≡ c
 dropped-counters c = rw (back c.handled 1, back c.dropped 1) refl
 
 update-back : (net : Net) (v : ℕ) (s : State) (e : Event) (q : PathNo) (n : ℕ) (b : Bool) → accepts s (slot net v e.src) n ≡ b → slot net v e.src < length s.rows
@@ -127,14 +127,14 @@ update-back : (net : Net) (v : ℕ) (s : State) (e : Event) (q : PathNo) (n : �
 update-back net v s e q n true is h =
     rw is (let k = slot net v e.src in
     let u = settled_record net v e.time (with_heard s k q) true (row s k).heard in
-    ap (λ x. with_heard x k u.heard) (back-settle net v e.time (with_heard s k q) true (row s k).heard) ∙ unhearing s k q h)
+    ap (λ x. with_heard x k u.heard) (back-settle net v e.time (with_heard s k q) true (row s k).heard) ∙ with_heard-with_heard s k q h)
 update-back net v s e q n false is h =
     rw is (rw (eq-eqb s.rib.0 s.rib.0 refl) (ap (λ c. record s { counters = c }) (dropped-counters s.counters)))
 
 swap-back : (net : Net) (v : ℕ) (s : State) (e : Event) (i j : ℕ) → i - 1 < length s.order → j - 1 < length s.order
     → back_by net v (with_handled (acts net v s e (Swap i j)).state) e (Swap i j) (note net v s e (Swap i j)) ≡ s
 swap-back net v s e i j hi hj =
-    ap (λ x. with_swap x i j) (back-settle net v e.time (with_swap s i j) true empty_path) ∙ swapping-swapping s i j hi hj
+    ap (λ x. with_swap x i j) (back-settle net v e.time (with_swap s i j) true empty_path) ∙ with_swap-with_swap s i j hi hj
 
 acts-back : (net : Net) (v : ℕ) (s : State) (e : Event) (b : Body) → IsState net v s → body_suits net v e b ≡ true
     → back_by net v (with_handled (acts net v s e b).state) e b (note net v s e b) ≡ s
@@ -152,9 +152,9 @@ acts-back net v s e (Update q n) state h =
     update-back net v s e q n (accepts s (slot net v e.src) n) refl (has_slot net v s e.src state p.0)
 
 -- from the state that an event left, its record leads back to the state before
-pub before-effect : (net : Net) (v : ℕ) (s : State) (e : Event) → IsState net v s → fits net v e ≡ true
-    → before net v (effect net v s e).state e (record_of net v s e) ≡ s
-before-effect net v s e state h = acts-back net v s e e.body state (body_suits-fits net v e h)
+pub state_before-effect : (net : Net) (v : ℕ) (s : State) (e : Event) → IsState net v s → fits net v e ≡ true
+    → state_before net v (effect net v s e).state e (record_of net v s e) ≡ s
+state_before-effect net v s e state h = acts-back net v s e e.body state (body_suits-fits net v e h)
 
 fail-again : (net : Net) (v : ℕ) (s : State) (e : Event) (w : ℕ) (b : Bool) → (row s (slot net v w)).up ≡ b → sends_again net v (acts net v s e (Fail w)).state e (Fail w) (note net v s e (Fail w)) ≡ (acts net v s e (Fail w)).sends
 fail-again net v s e w true up =

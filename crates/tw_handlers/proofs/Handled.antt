@@ -6,17 +6,17 @@ use Rattle.tw_model.specs.State.{State}
 use Rattle.tw_model.specs.Effect.{effect}
 use Rattle.tw_handlers.specs.declared.record.UndoRecord.{UndoRecord}
 use Rattle.tw_handlers.specs.Record.{IsHandled}
-use Rattle.tw_handlers.specs.Undo.{before, sends_again}
-use Rattle.tw_handlers.proofs.Before.{before-effect, sends_again-effect}
+use Rattle.tw_handlers.specs.Undo.{state_before, sends_again}
+use Rattle.tw_handlers.proofs.Before.{state_before-effect, sends_again-effect}
 
 -- the state before
-pub before-handled : (net : Net) (v : ℕ) (s : State) (e : Event) (u : UndoRecord) (present : State)
-    → IsHandled net v s e u present → before net v present e u ≡ s
-before-handled net v s e u present h =
-    ap₂ (λ x y. before net v x e y) (sym h.state) (sym h.note) ∙ before-effect net v s e h.is_state h.fits
+pub state_before-handled : (net : Net) (v : ℕ) (s : State) (e : Event) (u : UndoRecord) (present : State)
+    → IsHandled net v s e u present → state_before net v present e u ≡ s
+state_before-handled net v s e u present h =
+    ap₂ (λ x y. state_before net v x e y) (sym h.state) (sym h.note) ∙ state_before-effect net v s e h.is_state h.fits
 
 -- what it sent
-pub again-handled : (net : Net) (v : ℕ) (s : State) (e : Event) (u : UndoRecord) (present : State)
+pub sends_again-handled : (net : Net) (v : ℕ) (s : State) (e : Event) (u : UndoRecord) (present : State)
     → IsHandled net v s e u present → sends_again net v present e e.body u ≡ (effect net v s e).sends
-again-handled net v s e u present h =
+sends_again-handled net v s e u present h =
     ap₂ (λ x y. sends_again net v x e e.body y) (sym h.state) (sym h.note) ∙ sends_again-effect net v s e

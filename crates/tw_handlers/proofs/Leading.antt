@@ -9,24 +9,24 @@ use Rattle.tw_model.specs.History.{state_after, undone}
 use Rattle.tw_handlers.specs.declared.record.UndoRecord.{UndoRecord}
 use Rattle.tw_handlers.specs.declared.trail.Done.{Done}
 use Rattle.tw_handlers.specs.Record.{IsHandled}
-use Rattle.tw_handlers.specs.Trail.{History, IsTrail, Leads, events_of, history_of, unwound}
-use Rattle.tw_handlers.specs.Undo.{before}
-use Rattle.tw_handlers.proofs.Handled.{before-handled}
+use Rattle.tw_handlers.specs.Trail.{History, IsTrail, Leads, handled_events, history_of, state_at_start}
+use Rattle.tw_handlers.specs.Undo.{state_before}
+use Rattle.tw_handlers.proofs.Handled.{state_before-handled}
 use Rattle.tw_handlers.proofs.Undone.{undone-last}
 
 -- the present state is that after the events
 pub state_after-leads : (net : Net) (v : ℕ) (s present : State) (steps : List Done)
-    → Leads net v s steps present → state_after net v s (events_of steps) ≡ present
+    → Leads net v s steps present → state_after net v s (handled_events steps) ≡ present
 state_after-leads net v s present [] h = h
 state_after-leads net v s present (d ∷ steps) h = state_after-leads net v (effect net v s d.event).state present steps h.1
 
 -- the records lead back to where it began
 pub unwound-leads : (net : Net) (v : ℕ) (s present : State) (steps : List Done)
-    → Leads net v s steps present → unwound net v present steps ≡ s
+    → Leads net v s steps present → state_at_start net v present steps ≡ s
 unwound-leads net v s present [] h = sym h
 unwound-leads net v s present (d ∷ steps) h =
-    ap (λ x. before net v x d.event d.note) (unwound-leads net v (effect net v s d.event).state present steps h.1)
-    ∙ before-handled net v s d.event d.note (effect net v s d.event).state h.0
+    ap (λ x. state_before net v x d.event d.note) (unwound-leads net v (effect net v s d.event).state present steps h.1)
+    ∙ state_before-handled net v s d.event d.note (effect net v s d.event).state h.0
 
 -- one event more
 pub leads-push : (net : Net) (v : ℕ) (s present later : State) (steps : List Done) (d : Done)
@@ -39,13 +39,13 @@ leads-push net v s present later (x ∷ steps) d h k =
 
 -- one event less: the state before it
 pub leads-front : (net : Net) (v : ℕ) (s present : State) (steps : List Done) (d : Done)
-    → Leads net v s (steps ++ d ∷ []) present → Leads net v s steps (state_after net v s (events_of steps))
+    → Leads net v s (steps ++ d ∷ []) present → Leads net v s steps (state_after net v s (handled_events steps))
 leads-front net v s present [] d h = refl
 leads-front net v s present (x ∷ steps) d h = (h.0, leads-front net v (effect net v s x.event).state present steps d h.1)
 
 -- and the last event itself
 pub leads-last : (net : Net) (v : ℕ) (s present : State) (steps : List Done) (d : Done)
-    → Leads net v s (steps ++ d ∷ []) present → IsHandled net v (state_after net v s (events_of steps)) d.event d.note present
+    → Leads net v s (steps ++ d ∷ []) present → IsHandled net v (state_after net v s (handled_events steps)) d.event d.note present
 leads-last net v s present [] d h = subst (λ x. IsHandled net v s d.event d.note x) h.1 h.0
 leads-last net v s present (x ∷ steps) d h = leads-last net v (effect net v s x.event).state present steps d h.1
 
@@ -54,19 +54,19 @@ pub router-now : (router : Router) (steps : List Done) (t : History) → IsTrail
     → router ≡ record t.opening { state = state_after t.opening.net t.opening.node t.opening.state t.events }
 router-now router steps t h is =
     let P : History → Type 0 = λ x. router ≡ record x.opening { state = state_after x.opening.net x.opening.node x.opening.state x.events } in
-    subst P is (ap (λ (x : State). record router { state = x }) (sym (state_after-leads router.net router.node (unwound router.net router.node router.state steps) router.state steps h)))
+    subst P is (ap (λ (x : State). record router { state = x }) (sym (state_after-leads router.net router.node (state_at_start router.net router.node router.state steps) router.state steps h)))
 
 -- a trail by any state from which its events led
 trail-from : (net : Net) (v : ℕ) (s present : State) (steps : List Done) → Leads net v s steps present → IsTrail (record { net = net; node = v; state = present }) steps
 trail-from net v s present steps h = subst (λ x. Leads net v x steps present) (sym (unwound-leads net v s present steps h)) h
 
 history-from : (net : Net) (v : ℕ) (s present : State) (steps : List Done) → Leads net v s steps present
-    → history_of (record { net = net; node = v; state = present }) steps ≡ record { opening = record { net = net; node = v; state = s }; events = events_of steps }
+    → history_of (record { net = net; node = v; state = present }) steps ≡ record { opening = record { net = net; node = v; state = s }; events = handled_events steps }
 history-from net v s present steps h =
-    ap (λ x. record { opening = record { net = net; node = v; state = x }; events = events_of steps }) (unwound-leads net v s present steps h)
+    ap (λ x. record { opening = record { net = net; node = v; state = x }; events = handled_events steps }) (unwound-leads net v s present steps h)
 
-events-push : (steps : List Done) (d : Done) → events_of (steps ++ d ∷ []) ≡ events_of steps ++ d.event ∷ []
-events-push steps d = map_push (λ (x : Done). x.event) steps d
+handled_events-push : (steps : List Done) (d : Done) → handled_events (steps ++ d ∷ []) ≡ handled_events steps ++ d.event ∷ []
+handled_events-push steps d = map_push (λ (x : Done). x.event) steps d
 
 -- the trail with one event more
 pub IsTrail-push : (router later : Router) (steps items : List Done) (d : Done) (s : State)
@@ -81,44 +81,44 @@ IsTrail-push router later steps items d s is with h k =
 pub history-push : (router later : Router) (steps items : List Done) (d : Done) (s : State)
     → later ≡ record router { state = s } → items ≡ steps ++ d ∷ [] → IsTrail router steps
     → IsHandled router.net router.node router.state d.event d.note later.state
-    → history_of later items ≡ record (history_of router steps) { events = events_of steps ++ d.event ∷ [] }
+    → history_of later items ≡ record (history_of router steps) { events = handled_events steps ++ d.event ∷ [] }
 history-push router later steps items d s is with h k =
     let at : IsHandled router.net router.node router.state d.event d.note s = subst (λ (r : Router). IsHandled router.net router.node router.state d.event d.note r.state) is k in
-    let start : State = unwound router.net router.node router.state steps in
+    let start : State = state_at_start router.net router.node router.state steps in
     ap₂ history_of is with
     ∙ (history-from router.net router.node start s (steps ++ d ∷ []) (leads-push router.net router.node start router.state s steps d h at)
-    ∙ ap (λ events. record { opening = record router { state = start }; events = events }) (events-push steps d))
+    ∙ ap (λ events. record { opening = record router { state = start }; events = events }) (handled_events-push steps d))
 
 -- going back over the event that was handled
 pub IsState-back : (router later : Router) (s : State) (e : Event) (u : UndoRecord) → later ≡ record router { state = s }
-    → IsHandled router.net router.node router.state e u later.state → IsState later.net later.node (before later.net later.node later.state e u)
+    → IsHandled router.net router.node router.state e u later.state → IsState later.net later.node (state_before later.net later.node later.state e u)
 IsState-back router later s e u is h =
     let at : IsHandled router.net router.node router.state e u s = subst (λ (r : Router). IsHandled router.net router.node router.state e u r.state) is h in
-    let valid : IsState router.net router.node (before router.net router.node s e u) = subst (IsState router.net router.node) (sym (before-handled router.net router.node router.state e u s at)) h.is_state in
-    subst (λ (r : Router). IsState r.net r.node (before r.net r.node r.state e u)) (sym is) valid
+    let valid : IsState router.net router.node (state_before router.net router.node s e u) = subst (IsState router.net router.node) (sym (state_before-handled router.net router.node router.state e u s at)) h.is_state in
+    subst (λ (r : Router). IsState r.net r.node (state_before r.net r.node r.state e u)) (sym is) valid
 
 pub router-back : (router later : Router) (s : State) (e : Event) (u : UndoRecord) → later ≡ record router { state = s }
-    → IsHandled router.net router.node router.state e u later.state → record later { state = before later.net later.node later.state e u } ≡ router
+    → IsHandled router.net router.node router.state e u later.state → record later { state = state_before later.net later.node later.state e u } ≡ router
 router-back router later s e u is h =
     let at : IsHandled router.net router.node router.state e u s = subst (λ (r : Router). IsHandled router.net router.node router.state e u r.state) is h in
-    ap (λ (r : Router). record r { state = before r.net r.node r.state e u }) is
-    ∙ ap (λ (x : State). record router { state = x }) (before-handled router.net router.node router.state e u s at)
+    ap (λ (r : Router). record r { state = state_before r.net r.node r.state e u }) is
+    ∙ ap (λ (x : State). record router { state = x }) (state_before-handled router.net router.node router.state e u s at)
 
 -- the state before the last event of a trail
 abbrev pub before_last : Router → List Done → List Done → State
 before_last router steps front =
-    state_after router.net router.node (unwound router.net router.node router.state steps) (events_of front)
+    state_after router.net router.node (state_at_start router.net router.node router.state steps) (handled_events front)
 
 pub handled-last : (router : Router) (steps front : List Done) (d : Done) → steps ≡ front ++ d ∷ [] → IsTrail router steps
     → IsHandled router.net router.node (before_last router steps front) d.event d.note router.state
 handled-last router steps front d is h =
-    let s = unwound router.net router.node router.state steps in
+    let s = state_at_start router.net router.node router.state steps in
     leads-last router.net router.node s router.state front d (subst (λ x. Leads router.net router.node s x router.state) is h)
 
 front-leads : (router : Router) (steps front : List Done) (d : Done) → steps ≡ front ++ d ∷ [] → IsTrail router steps
-    → Leads router.net router.node (unwound router.net router.node router.state steps) front (before_last router steps front)
+    → Leads router.net router.node (state_at_start router.net router.node router.state steps) front (before_last router steps front)
 front-leads router steps front d is h =
-    let s = unwound router.net router.node router.state steps in
+    let s = state_at_start router.net router.node router.state steps in
     leads-front router.net router.node s router.state front d (subst (λ x. Leads router.net router.node s x router.state) is h)
 
 -- the trail with one event less
@@ -131,7 +131,7 @@ IsTrail-pop router earlier steps front left d is h new rest =
 
 pub history-pop : (router earlier : Router) (steps front left : List Done) (d : Done) → steps ≡ front ++ d ∷ [] → IsTrail router steps
     → earlier ≡ record router { state = before_last router steps front } → left ≡ front
-    → history_of earlier left ≡ record (history_of router steps) { events = events_of front }
+    → history_of earlier left ≡ record (history_of router steps) { events = handled_events front }
 history-pop router earlier steps front left d is h new rest =
     ap₂ history_of new rest ∙ history-from router.net router.node _ _ front (front-leads router steps front d is h)
 
@@ -142,8 +142,8 @@ split-last steps n d h is =
 
 -- what the last event sent
 pub sends-pop : (net : Net) (v : ℕ) (s : State) (steps front : List Done) (d : Done) → steps ≡ front ++ d ∷ []
-    → (effect net v (state_after net v s (events_of front)) d.event).sends ≡ undone net v s (events_of steps) (length (events_of steps) - 1)
+    → (effect net v (state_after net v s (handled_events front)) d.event).sends ≡ undone net v s (handled_events steps) (length (handled_events steps) - 1)
 sends-pop net v s steps front d is =
-    let e : events_of steps ≡ events_of front ++ d.event ∷ [] = ap events_of is ∙ events-push front d in
-    let n : length (events_of steps) - 1 ≡ length (events_of front) = omega (arith, ap length e, length_push (events_of front) d.event) in
-    sym (ap₂ (undone net v s) e n ∙ undone-last net v s (events_of front) d.event)
+    let e : handled_events steps ≡ handled_events front ++ d.event ∷ [] = ap handled_events is ∙ handled_events-push front d in
+    let n : length (handled_events steps) - 1 ≡ length (handled_events front) = omega (arith, ap length e, length_push (handled_events front) d.event) in
+    sym (ap₂ (undone net v s) e n ∙ undone-last net v s (handled_events front) d.event)

@@ -1,13 +1,21 @@
 -- The neighbours whose link is up, one by one.
-use Rattle.std.proofs.Common.{◌≡◌, ℕ, ◌+◌, ◌<◌, cond, List, ◌∷◌, length, get_or, drop, ap, ap₂, ◌∙◌, false}
+use Rattle.std.proofs.Common.{◌≡◌, ℕ, ◌+◌, ◌<◌, cond, List, ◌∷◌, length, map, get_or, drop, ap, ap₂, ◌∙◌, false}
 use Rattle.std.proofs.lemmas.List.{drop_more, length-map}
 use Rattle.std.proofs.lemmas.List.FromFn.{length-enumerate_from}
-use Rattle.std.specs.List.{enumerate_from}
+use Rattle.std.specs.List.{enumerate_from, filter, zip}
+use Rattle.tw_event.specs.declared.event.Event.{Event}
 use Rattle.tw_event.specs.declared.event.PathNo.{PathNo}
 use Rattle.tw_model.specs.declared.net.Hop.{Hop}
 use Rattle.tw_model.specs.declared.state.Row.{Row}
 use Rattle.tw_model.specs.Effect.{update_to}
-use Rattle.tw_handlers.specs.Send.{up_pairs, updates_to}
+
+-- of these neighbours with their rows those whose link is up
+abbrev pub up_pairs : List Hop → List Row → List (Hop × Row)
+up_pairs hops rows = filter (λ p. p.1.up) (zip hops rows)
+
+-- an update to each of them, numbered from n
+abbrev pub updates_to : ℕ → ℕ → PathNo → ℕ → List (Hop × Row) → List Event
+updates_to v t q n pairs = map (λ e. update_to v t q e.0 e.1.0 e.1.1) (enumerate_from n pairs)
 
 pub up_pairs-drop : (hops : List Hop) (rows : List Row) (i : ℕ) (h : Hop) (r : Row) → i < length hops → i < length rows
     → up_pairs (drop i hops) (drop i rows) ≡ cond (get_or rows i r).up ((get_or hops i h, get_or rows i r) ∷ up_pairs (drop (i + 1) hops) (drop (i + 1) rows)) (up_pairs (drop (i + 1) hops) (drop (i + 1) rows))

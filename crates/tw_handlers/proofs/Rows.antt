@@ -54,5 +54,5 @@ pub row-with_row : (s : State) (k : ℕ) (x : Row) → k < length s.rows → row
 row-with_row s k x h = get_or-set_same s.rows k x no_row h
 
 -- two places of the order changed and changed back
-pub swapping-swapping : (s : State) (i j : ℕ) → i - 1 < length s.order → j - 1 < length s.order → with_swap (with_swap s i j) i j ≡ s
-swapping-swapping s i j hi hj = ap (λ order. record s { order = order }) (swap-swap s.order (i - 1) (j - 1) hi hj)
+pub with_swap-with_swap : (s : State) (i j : ℕ) → i - 1 < length s.order → j - 1 < length s.order → with_swap (with_swap s i j) i j ≡ s
+with_swap-with_swap s i j hi hj = ap (λ order. record s { order = order }) (swap-swap s.order (i - 1) (j - 1) hi hj)

@@ -1,4 +1,4 @@
 pub mod Record
-pub mod Send
+pub mod Calls
 pub mod Undo
 pub mod Trail

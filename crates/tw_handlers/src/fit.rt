@@ -2,19 +2,29 @@ ghost use Rattle.std.specs.Prelude.{◌≡◌, ◌<◌, ◌↔◌, length, IsTru
 ghost use Rattle.tw_model.specs.Net.{IsPath, begins_at as begins_at_of, hops_of, is_own as is_own_of, is_permitted as is_permitted_of};
 ghost use Rattle.tw_model.specs.Rules.{has_place as has_place_of};
 ghost use Rattle.tw_model.specs.State.{has_peer as has_peer_of, slot as slot_of};
-ghost use Rattle.tw_model.specs.Effect.{body_suits, fits};
+ghost use Rattle.tw_model.specs.Effect.{body_suits, fits, suits};
 
 use tw_event::{Body, Event, PathNo};
 use tw_instance::Instance;
+use tw_model::limits::LATEST;
 
-/// The latest time at which an event is handled, in ticks.
-const LATEST: u64 = 1_000_000_000;
-
-/// Whether the event is one for this router.
-pub(crate) fn does_fit(instance: &Instance, node: u32, event: &Event) -> bool
+/// Whether the event is one that the router of this number handles: it suits the router, and its time is
+/// at most 1,000,000,000.
+pub fn does_fit(instance: &Instance, node: u32, event: &Event) -> bool
     ensures { result ≡ fits instance.now node event.now }
 {
-    event.time <= LATEST && event.dst == node && does_body_suit(instance, node, event)
+    event.time <= LATEST && does_suit(instance, node, event)
+}
+
+/// Whether the event is one for the router of this number, the limit on its time aside.
+///
+/// Its receiver is this router. The start is one for router 0 at time 0. A failure, a repair and an
+/// exchange come from the router itself, and name a neighbour or places of its order, from 1. An update
+/// comes from a neighbour, with an empty path or one that is permitted there.
+pub fn does_suit(instance: &Instance, node: u32, event: &Event) -> bool
+    ensures { result ≡ suits instance.now node event.now }
+{
+    event.dst == node && does_body_suit(instance, node, event)
 }
 
 fn does_body_suit(instance: &Instance, node: u32, event: &Event) -> bool

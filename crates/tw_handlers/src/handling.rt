@@ -1,52 +1,79 @@
-ghost use Rattle.std.specs.Prelude.{◌≡◌, ◌≢◌, ◌+◌, ◌≤◌, ◌<◌, ◌↔◌, ◌++◌, false, length, IfOk, IsTrue, OnErr, OnOk};
+ghost use Rattle.std.specs.Prelude.{◌≡◌, ◌+◌, ◌≤◌, ◌<◌, ◌↔◌, ◌++◌, false, length, IfOk, IsErrOf, IsTrue, OnErr, OnOk};
 ghost use Rattle.tw_model.specs.declared.limits.TheConstants.{MOST_COUNTED};
+ghost use Rattle.tw_model.specs.declared.memory.OrMemory.TheVariants as or_memory;
 ghost use Rattle.tw_model.specs.Net.{IsPath};
 ghost use Rattle.tw_model.specs.State.{has_peer};
-ghost use Rattle.tw_model.specs.Effect.{with_handled, with_dropped, effect, fits, is_full};
-ghost use Rattle.tw_handlers.specs.Record.{IsHandled, record_of};
+ghost use Rattle.tw_model.specs.Effect.{fits, with_dropped, with_handled};
+ghost use Rattle.tw_handlers.specs.Calls.{CanReact, Reacts, after_event, counter_full, effect_at, is_full_at};
+ghost use Rattle.tw_handlers.specs.Record.{IsHandled, record_at};
 
-use crate::fault::Fault;
+use crate::fault::{CounterFull, Fault};
 use crate::fit::{does_fit, slot_of_peer};
 use crate::record::UndoRecord;
 use crate::send::News;
-use crate::settle::{LIMIT, count_handled, put_row, settle};
+use crate::settle::{count_handled, settle, settle_with_row};
 use smallvec::SmallVec;
 use tw_event::{Body, Event, PathNo};
 use tw_instance::Instance;
-use tw_model::{Counters, Row};
+use tw_model::limits::MOST_COUNTED;
+use tw_model::{Counters, OrMemory, Row};
 use tw_router::Router;
 
 /// Handles an event at its router, and adds what the router sends to `sends`.
 ///
 /// The instance is the router's own. The answer is what undoing the event needs. After an error the
 /// router and the list are as they were; an event that is not for this router is `Foreign`, also where
-/// a counter is full.
+/// a counter is full. Callers who know that the event fits use `handle_fitting`.
 pub fn handle(
     instance: &Instance,
     router: &mut Router<'_>,
     event: &Event,
     sends: &mut SmallVec<Event, 8>,
-) -> Result<UndoRecord, Fault>
+) -> Result<UndoRecord, OrMemory<Fault>>
     requires { instance.now ≡ router.old.net }
-    ensures state { OnOk result
-        (router.new ≡ record router.old { state = (effect router.old.net router.old.node router.old.state event.now).state }) }
-    ensures sends { OnOk result
-        (sends.new.items ≡ sends.old.items ++ (effect router.old.net router.old.node router.old.state event.now).sends) }
-    ensures note { IfOk result (λ u. u ≡ record_of router.old.net router.old.node router.old.state event.now) }
+    ensures state { OnOk result (router.new ≡ after_event router.old event.now) }
+    ensures sends { OnOk result (sends.new.items ≡ sends.old.items ++ (effect_at router.old event.now).sends) }
     ensures handled { IfOk result
-        (λ u. IsHandled router.old.net router.old.node router.old.state event.now u router.new.state) }
+        (λ note. IsHandled router.old.net router.old.node router.old.state event.now note router.new.state) }
     ensures err { OnErr result (router.new ≡ router.old) }
     ensures unsent { OnErr result (sends.new.items ≡ sends.old.items) }
-    ensures foreign { result ≡ Err Fault.Foreign ↔ (fits router.old.net router.old.node event.now ≡ false) }
-    ensures full { IsTrue (fits router.old.net router.old.node event.now)
-        → (result ≡ Err Fault.CounterFull ↔ IsTrue (is_full router.old.net router.old.node router.old.state event.now)) }
+    ensures foreign { IsErrOf result (or_memory.Fault Fault.Foreign) ↔ (fits router.old.net router.old.node event.now ≡ false) }
+    ensures full { IsErrOf result (or_memory.Fault Fault.CounterFull)
+        ↔ (IsTrue (fits router.old.net router.old.node event.now) × IsTrue (is_full_at router.old event.now)) }
 {
-    let node = router.node();
-    if !does_fit(instance, node, event) {
-        return Err(Fault::Foreign);
+    if !does_fit(instance, router.node(), event) {
+        return Err(OrMemory::Fault(Fault::Foreign));
     }
-    if router.counters().handled >= LIMIT {
-        return Err(Fault::CounterFull);
+    match handle_fitting(instance, router, event, sends) {
+        Ok(note) => Ok(note),
+        Err(OrMemory::Fault(full)) => Err(OrMemory::Fault(Fault::from(full))),
+        Err(OrMemory::Memory) => Err(OrMemory::Memory),
+    }
+}
+
+/// Handles an event that fits its router, and adds what the router sends to `sends`.
+///
+/// The instance is the router's own; `does_fit` tells whether an event fits. The answer is what undoing
+/// the event needs. After an error the router and the list are as they were.
+pub fn handle_fitting(
+    instance: &Instance,
+    router: &mut Router<'_>,
+    event: &Event,
+    sends: &mut SmallVec<Event, 8>,
+) -> Result<UndoRecord, OrMemory<CounterFull>>
+    requires own { instance.now ≡ router.old.net }
+    requires fits { IsTrue (fits router.old.net router.old.node event.now) }
+    ensures state { OnOk result (router.new ≡ after_event router.old event.now) }
+    ensures sends { OnOk result (sends.new.items ≡ sends.old.items ++ (effect_at router.old event.now).sends) }
+    ensures handled { IfOk result
+        (λ note. IsHandled router.old.net router.old.node router.old.state event.now note router.new.state) }
+    ensures err { OnErr result (router.new ≡ router.old) }
+    ensures unsent { OnErr result (sends.new.items ≡ sends.old.items) }
+    ensures full { IsErrOf result (or_memory.Fault counter_full) ↔ IsTrue (is_full_at router.old event.now) }
+{
+    let counters = router.counters();
+    if counters.handled >= MOST_COUNTED {
+        return Err(OrMemory::Fault(CounterFull));
     }
     match event.body {
         Body::Start => handle_start(instance, router, event, sends),
@@ -54,7 +81,7 @@ pub fn handle(
         Body::Restore(peer) => handle_restore(instance, router, event, peer, sends),
         Body::Swap(first, second) => handle_swap(instance, router, event, first, second, sends),
         Body::Update { path, session } => {
-            handle_update(instance, router, event, (path, session), sends)
+            handle_update(instance, router, event, path, session, sends)
         }
     }
 }
@@ -64,25 +91,15 @@ fn handle_start(
     router: &mut Router<'_>,
     event: &Event,
     sends: &mut SmallVec<Event, 8>,
-) -> Result<UndoRecord, Fault>
-    requires own { instance.now ≡ router.old.net }
-    requires time { event.now.time ≤ 1000000000 }
-    requires room { router.old.state.counters.handled < MOST_COUNTED }
+) -> Result<UndoRecord, OrMemory<CounterFull>>
+    requires reaction { CanReact instance.now router.old event.now.time }
     requires body { event.now.body ≡ Body.Start }
-    ensures state { OnOk result
-        (router.new ≡ record router.old { state = (effect router.old.net router.old.node router.old.state event.now).state }) }
-    ensures sends { OnOk result
-        (sends.new.items ≡ sends.old.items ++ (effect router.old.net router.old.node router.old.state event.now).sends) }
-    ensures note { IfOk result (λ u. u ≡ record_of router.old.net router.old.node router.old.state event.now) }
-    ensures err { OnErr result (router.new ≡ router.old) }
-    ensures unsent { OnErr result (sends.new.items ≡ sends.old.items) }
-    ensures full { result ≡ Err Fault.CounterFull
-        ↔ (MOST_COUNTED < (effect router.old.net router.old.node router.old.state event.now).state.counters.sent) }
-    ensures known { result ≢ Err Fault.Foreign }
+    ensures reaction { Reacts router.old router.new sends.old.items sends.new.items (effect_at router.old event.now) result }
+    ensures note { IfOk result (λ note. note ≡ record_at router.old event.now) }
 {
     let rib = router.rib();
     let changed = settle(instance, router, event.time, sends)?;
-    Ok(UndoRecord::taken(changed, rib, PathNo::EMPTY))
+    Ok(UndoRecord::of_effect(changed, rib, PathNo::EMPTY))
 }
 
 fn handle_fail(
@@ -91,43 +108,26 @@ fn handle_fail(
     event: &Event,
     peer: u32,
     sends: &mut SmallVec<Event, 8>,
-) -> Result<UndoRecord, Fault>
-    requires own { instance.now ≡ router.old.net }
-    requires time { event.now.time ≤ 1000000000 }
-    requires room { router.old.state.counters.handled < MOST_COUNTED }
+) -> Result<UndoRecord, OrMemory<CounterFull>>
+    requires reaction { CanReact instance.now router.old event.now.time }
     requires body { event.now.body ≡ Body.Fail peer }
     requires neighbour { IsTrue (has_peer router.old.net router.old.node peer) }
-    ensures state { OnOk result
-        (router.new ≡ record router.old { state = (effect router.old.net router.old.node router.old.state event.now).state }) }
-    ensures sends { OnOk result
-        (sends.new.items ≡ sends.old.items ++ (effect router.old.net router.old.node router.old.state event.now).sends) }
-    ensures note { IfOk result (λ u. u ≡ record_of router.old.net router.old.node router.old.state event.now) }
-    ensures err { OnErr result (router.new ≡ router.old) }
-    ensures unsent { OnErr result (sends.new.items ≡ sends.old.items) }
-    ensures full { result ≡ Err Fault.CounterFull
-        ↔ (MOST_COUNTED < (effect router.old.net router.old.node router.old.state event.now).state.counters.sent) }
-    ensures known { result ≢ Err Fault.Foreign }
+    ensures reaction { Reacts router.old router.new sends.old.items sends.new.items (effect_at router.old event.now) result }
+    ensures note { IfOk result (λ note. note ≡ record_at router.old event.now) }
 {
     let slot = slot_of_peer(instance, router.node(), peer);
-    let row = router.row(slot);
-    let rib = router.rib();
+    let (row, rib) = (router.row(slot), router.rib());
     if !row.up {
         count_handled(router);
-        return Ok(UndoRecord::idle(rib, row.heard));
+        return Ok(UndoRecord::without_effect(rib, row.heard));
     }
     let down = Row {
         heard: PathNo::EMPTY,
         up: false,
         session: row.session,
     };
-    put_row(instance, router, slot, down);
-    match settle(instance, router, event.time, sends) {
-        Ok(changed) => Ok(UndoRecord::taken(changed, rib, row.heard)),
-        Err(fault) => {
-            put_row(instance, router, slot, row);
-            Err(fault)
-        }
-    }
+    let changed = settle_with_row(instance, router, slot, down, event.time, sends)?;
+    Ok(UndoRecord::of_effect(changed, rib, row.heard))
 }
 
 fn handle_restore(
@@ -136,38 +136,26 @@ fn handle_restore(
     event: &Event,
     peer: u32,
     sends: &mut SmallVec<Event, 8>,
-) -> Result<UndoRecord, Fault>
-    requires own { instance.now ≡ router.old.net }
-    requires time { event.now.time ≤ 1000000000 }
-    requires room { router.old.state.counters.handled < MOST_COUNTED }
+) -> Result<UndoRecord, OrMemory<CounterFull>>
+    requires reaction { CanReact instance.now router.old event.now.time }
     requires body { event.now.body ≡ Body.Restore peer }
     requires neighbour { IsTrue (has_peer router.old.net router.old.node peer) }
-    ensures state { OnOk result
-        (router.new ≡ record router.old { state = (effect router.old.net router.old.node router.old.state event.now).state }) }
-    ensures sends { OnOk result
-        (sends.new.items ≡ sends.old.items ++ (effect router.old.net router.old.node router.old.state event.now).sends) }
-    ensures note { IfOk result (λ u. u ≡ record_of router.old.net router.old.node router.old.state event.now) }
-    ensures err { OnErr result (router.new ≡ router.old) }
-    ensures unsent { OnErr result (sends.new.items ≡ sends.old.items) }
-    ensures full { result ≡ Err Fault.CounterFull
-        ↔ (MOST_COUNTED < (effect router.old.net router.old.node router.old.state event.now).state.counters.sent) }
-    ensures known { result ≢ Err Fault.Foreign }
+    ensures reaction { Reacts router.old router.new sends.old.items sends.new.items (effect_at router.old event.now) result }
+    ensures note { IfOk result (λ note. note ≡ record_at router.old event.now) }
 {
-    let slot = slot_of_peer(instance, router.node(), peer);
-    let row = router.row(slot);
-    let rib = router.rib();
-    let counters = router.counters();
+    let node = router.node();
+    let slot = slot_of_peer(instance, node, peer);
+    let (row, rib, counters) = (router.row(slot), router.rib(), router.counters());
     if row.up {
         count_handled(router);
-        return Ok(UndoRecord::idle(rib, PathNo::EMPTY));
+        return Ok(UndoRecord::without_effect(rib, PathNo::EMPTY));
     }
-    if counters.sent >= LIMIT {
-        return Err(Fault::CounterFull);
+    if counters.sent >= MOST_COUNTED {
+        return Err(OrMemory::Fault(CounterFull));
     }
     sends.reserve(1)?;
-    let src = router.node();
     let news = News {
-        src,
+        src: node,
         time: event.time,
         path: rib,
     };
@@ -176,7 +164,7 @@ fn handle_restore(
         up: true,
         session: row.session + 1,
     };
-    let hops = instance.hops(src);
+    let hops = instance.hops(node);
     sends.push_reserved(news.update(counters.sent, hops[slot], repaired));
     router.set_counters(Counters {
         sent: counters.sent + 1,
@@ -184,8 +172,8 @@ fn handle_restore(
         dropped: counters.dropped,
         changed: counters.changed,
     });
-    put_row(instance, router, slot, repaired);
-    Ok(UndoRecord::taken(false, rib, PathNo::EMPTY))
+    router.set_row(instance, slot, repaired);
+    Ok(UndoRecord::of_effect(false, rib, PathNo::EMPTY))
 }
 
 fn handle_swap(
@@ -195,33 +183,23 @@ fn handle_swap(
     first: u32,
     second: u32,
     sends: &mut SmallVec<Event, 8>,
-) -> Result<UndoRecord, Fault>
-    requires own { instance.now ≡ router.old.net }
-    requires time { event.now.time ≤ 1000000000 }
-    requires room { router.old.state.counters.handled < MOST_COUNTED }
+) -> Result<UndoRecord, OrMemory<CounterFull>>
+    requires reaction { CanReact instance.now router.old event.now.time }
     requires body { event.now.body ≡ Body.Swap first second }
     requires first_place { 0 < first }
     requires first_within { first ≤ length router.old.state.order }
     requires second_place { 0 < second }
     requires second_within { second ≤ length router.old.state.order }
-    ensures state { OnOk result
-        (router.new ≡ record router.old { state = (effect router.old.net router.old.node router.old.state event.now).state }) }
-    ensures sends { OnOk result
-        (sends.new.items ≡ sends.old.items ++ (effect router.old.net router.old.node router.old.state event.now).sends) }
-    ensures note { IfOk result (λ u. u ≡ record_of router.old.net router.old.node router.old.state event.now) }
-    ensures err { OnErr result (router.new ≡ router.old) }
-    ensures unsent { OnErr result (sends.new.items ≡ sends.old.items) }
-    ensures full { result ≡ Err Fault.CounterFull
-        ↔ (MOST_COUNTED < (effect router.old.net router.old.node router.old.state event.now).state.counters.sent) }
-    ensures known { result ≢ Err Fault.Foreign }
+    ensures reaction { Reacts router.old router.new sends.old.items sends.new.items (effect_at router.old event.now) result }
+    ensures note { IfOk result (λ note. note ≡ record_at router.old event.now) }
 {
     let rib = router.rib();
     router.swap(instance, first, second);
     match settle(instance, router, event.time, sends) {
-        Ok(changed) => Ok(UndoRecord::taken(changed, rib, PathNo::EMPTY)),
-        Err(fault) => {
+        Ok(changed) => Ok(UndoRecord::of_effect(changed, rib, PathNo::EMPTY)),
+        Err(error) => {
             router.swap(instance, first, second);
-            Err(fault)
+            Err(error)
         }
     }
 }
@@ -230,42 +208,26 @@ fn handle_update(
     instance: &Instance,
     router: &mut Router<'_>,
     event: &Event,
-    update: (PathNo, u64),
+    path: PathNo,
+    session: u64,
     sends: &mut SmallVec<Event, 8>,
-) -> Result<UndoRecord, Fault>
-    requires own { instance.now ≡ router.old.net }
-    requires time { event.now.time ≤ 1000000000 }
-    requires room { router.old.state.counters.handled < MOST_COUNTED }
-    requires body { event.now.body ≡ Body.Update update.0 update.1 }
+) -> Result<UndoRecord, OrMemory<CounterFull>>
+    requires reaction { CanReact instance.now router.old event.now.time }
+    requires body { event.now.body ≡ Body.Update path session }
     requires neighbour { IsTrue (has_peer router.old.net router.old.node event.now.src) }
-    requires path { IsPath router.old.net update.0 }
-    ensures state { OnOk result
-        (router.new ≡ record router.old { state = (effect router.old.net router.old.node router.old.state event.now).state }) }
-    ensures sends { OnOk result
-        (sends.new.items ≡ sends.old.items ++ (effect router.old.net router.old.node router.old.state event.now).sends) }
-    ensures note { IfOk result (λ u. u ≡ record_of router.old.net router.old.node router.old.state event.now) }
-    ensures err { OnErr result (router.new ≡ router.old) }
-    ensures unsent { OnErr result (sends.new.items ≡ sends.old.items) }
-    ensures full { result ≡ Err Fault.CounterFull
-        ↔ (MOST_COUNTED < (effect router.old.net router.old.node router.old.state event.now).state.counters.sent) }
-    ensures known { result ≢ Err Fault.Foreign }
+    requires path { IsPath router.old.net path }
+    ensures reaction { Reacts router.old router.new sends.old.items sends.new.items (effect_at router.old event.now) result }
+    ensures note { IfOk result (λ note. note ≡ record_at router.old event.now) }
 {
-    let (path, session) = update;
     let slot = slot_of_peer(instance, router.node(), event.src);
-    let row = router.row(slot);
-    let rib = router.rib();
+    let (row, rib) = (router.row(slot), router.rib());
     if !row.up || row.session != session {
         count_dropped(router);
-        return Ok(UndoRecord::idle(rib, row.heard));
+        return Ok(UndoRecord::without_effect(rib, row.heard));
     }
-    router.set_heard(instance, slot, path);
-    match settle(instance, router, event.time, sends) {
-        Ok(changed) => Ok(UndoRecord::taken(changed, rib, row.heard)),
-        Err(fault) => {
-            router.set_heard(instance, slot, row.heard);
-            Err(fault)
-        }
-    }
+    let told = Row { heard: path, ..row };
+    let changed = settle_with_row(instance, router, slot, told, event.time, sends)?;
+    Ok(UndoRecord::of_effect(changed, rib, row.heard))
 }
 
 /// Counts an event as handled and dropped.

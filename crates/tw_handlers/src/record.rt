@@ -1,16 +1,14 @@
-ghost use Rattle.std.specs.Prelude.{◌≡◌, ◌≤◌, true, false};
+ghost use Rattle.std.specs.Prelude.{◌≡◌, true, false};
 
 use std::mem::size_of;
 use tw_event::PathNo;
-
-const SIZE: usize = size_of::<UndoRecord>();
 
 /// What undoing an event needs beside the event and the state that it left. It holds no collection, and
 /// what the event sent is made again from the state.
 #[derive(Clone, Copy, PartialEq, Eq, Debug)]
 pub struct UndoRecord {
     /// Whether the event took effect: it was not dropped, and its link not already down or up.
-    pub took: bool,
+    pub took_effect: bool,
     /// Whether the router's path changed.
     pub changed: bool,
     /// The path that the router used before.
@@ -20,21 +18,16 @@ pub struct UndoRecord {
     pub heard: PathNo,
 }
 
-impl UndoRecord {
-    /// How many bytes a record takes: 12, and so at most 16.
-    pub fn size() -> usize
-        ensures value { result ≡ 12 }
-        ensures most { result ≤ 16 }
-    {
-        SIZE
-    }
+// A record takes 12 bytes; runs that keep one for each event count on no more than 16.
+const _: () = prove!(size_of::<UndoRecord>() == 12);
 
+impl UndoRecord {
     /// The record of an event that took effect.
-    pub(crate) fn taken(changed: bool, rib: PathNo, heard: PathNo) -> UndoRecord
-        ensures { result ≡ record { took = true; changed = changed; rib = rib; heard = heard } }
+    pub(crate) fn of_effect(changed: bool, rib: PathNo, heard: PathNo) -> UndoRecord
+        ensures { result ≡ record { took_effect = true; changed = changed; rib = rib; heard = heard } }
     {
         UndoRecord {
-            took: true,
+            took_effect: true,
             changed,
             rib,
             heard,
@@ -42,11 +35,11 @@ impl UndoRecord {
     }
 
     /// The record of an event that took no effect.
-    pub(crate) fn idle(rib: PathNo, heard: PathNo) -> UndoRecord
-        ensures { result ≡ record { took = false; changed = false; rib = rib; heard = heard } }
+    pub(crate) fn without_effect(rib: PathNo, heard: PathNo) -> UndoRecord
+        ensures { result ≡ record { took_effect = false; changed = false; rib = rib; heard = heard } }
     {
         UndoRecord {
-            took: false,
+            took_effect: false,
             changed: false,
             rib,
             heard,

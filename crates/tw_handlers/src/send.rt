@@ -1,13 +1,13 @@
 ghost use Rattle.std.specs.Prelude.{◌≡◌, ◌+◌, ◌≤◌, ◌++◌, length};
-ghost use Rattle.std.specs.List.{All};
 ghost use Rattle.smallvec.specs.SmallVec.{HasRoomFor};
-ghost use Rattle.tw_model.specs.declared.limits.TheConstants.{MOST_COUNTED};
-ghost use Rattle.tw_model.specs.Effect.{update_to};
-ghost use Rattle.tw_handlers.specs.Send.{up_pairs, updates_to};
+ghost use Rattle.tw_model.specs.declared.limits.TheConstants.{LATEST, LONGEST_DELAY, MOST_COUNTED, MOST_LINKS};
+ghost use Rattle.tw_model.specs.Effect.{update_to, updates, ups};
 
 use smallvec::SmallVec;
 use tw_event::{Body, Event, PathNo};
+use tw_instance::Instance;
 use tw_model::{Hop, Row};
+use tw_router::Router;
 
 /// What the updates that an event leads to have in common: sender, time of the event and path.
 #[derive(Clone, Copy)]
@@ -20,8 +20,8 @@ pub(crate) struct News {
 impl News {
     /// The update to one neighbour.
     pub(crate) fn update(self, seq: u64, hop: Hop, row: Row) -> Event
-        requires time { self.time ≤ 1000000000 }
-        requires delay { hop.delay ≤ 1000000 }
+        requires time { self.time ≤ LATEST }
+        requires delay { hop.delay ≤ LONGEST_DELAY }
         ensures { result ≡ update_to self.src self.time self.path seq hop row }
     {
         Event {
@@ -37,32 +37,42 @@ impl News {
     }
 }
 
-/// How many of these neighbours have a link that is up.
-pub(crate) fn count_up(hops: &[Hop], rows: &[Row]) -> u64
-    requires long { length rows.now ≡ length hops.now }
-    requires few { length hops.now ≤ 64 }
-    ensures value { result ≡ length (up_pairs hops.now rows.now) }
-    ensures few { result ≤ 64 }
+/// How many neighbours of the router have a link that is up.
+pub(crate) fn count_up(instance: &Instance, router: &Router<'_>) -> u64
+    requires { instance.now ≡ router.now.net }
+    ensures value { result ≡ length (ups router.now.net router.now.node router.now.state) }
+    ensures few { result ≤ MOST_LINKS }
 {
-    hops.iter().zip(rows).filter(|(_, row)| row.up).count() as u64
+    let hops = instance.hops(router.node());
+    hops.iter()
+        .zip(router.rows())
+        .filter(|(_, row)| row.up)
+        .count() as u64
 }
 
-/// Adds an update to each neighbour whose link is up, numbered from `first`.
+/// Adds an update of the path to each neighbour whose link is up, numbered from `first`.
 pub(crate) fn push_updates(
-    news: News,
+    instance: &Instance,
+    router: &Router<'_>,
+    time: u64,
+    path: PathNo,
     first: u64,
-    hops: &[Hop],
-    rows: &[Row],
     sends: &mut SmallVec<Event, 8>,
 )
-    requires time { news.time ≤ 1000000000 }
-    requires delays { All (λ hop. hop.delay ≤ 1000000) hops.now }
-    requires long { length rows.now ≡ length hops.now }
-    requires number { first + length (up_pairs hops.now rows.now) ≤ MOST_COUNTED }
-    requires room { HasRoomFor sends.old (length (up_pairs hops.now rows.now)) }
+    requires own { instance.now ≡ router.now.net }
+    requires time { time ≤ LATEST }
+    requires number { first + length (ups router.now.net router.now.node router.now.state) ≤ MOST_COUNTED }
+    requires room { HasRoomFor sends.old (length (ups router.now.net router.now.node router.now.state)) }
     ensures { sends.new.items
-        ≡ sends.old.items ++ updates_to news.src news.time news.path first (up_pairs hops.now rows.now) }
+        ≡ sends.old.items ++ updates router.now.net router.now.node time path first router.now.state }
 {
+    let news = News {
+        src: router.node(),
+        time,
+        path,
+    };
+    let hops = instance.hops(news.src);
+    let rows = router.rows();
     let mut seq = first;
     for (slot, row) in rows.iter().enumerate() {
         if !row.up {

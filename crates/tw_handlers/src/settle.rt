@@ -1,18 +1,17 @@
-ghost use Rattle.std.specs.Prelude.{◌≡◌, ◌≢◌, ◌+◌, ◌≤◌, ◌<◌, ◌==◌, ◌↔◌, ◌++◌, not, length, IfOk, OnErr, OnOk};
+ghost use Rattle.std.specs.Prelude.{◌≡◌, ◌+◌, ◌≤◌, ◌<◌, ◌==◌, not, length, IfOk};
 ghost use Rattle.tw_model.specs.Net.{IsPath};
 ghost use Rattle.tw_model.specs.declared.limits.TheConstants.{MOST_COUNTED};
-ghost use Rattle.tw_model.specs.Effect.{with_handled, settle as settle_of, with_row};
+ghost use Rattle.tw_model.specs.Effect.{settle as settle_of, with_handled, with_row};
+ghost use Rattle.tw_handlers.specs.Calls.{CanReact, Reacts, with_count};
 
-use crate::fault::Fault;
-use crate::send::{News, count_up, push_updates};
+use crate::fault::CounterFull;
+use crate::send::{count_up, push_updates};
 use smallvec::SmallVec;
 use tw_event::Event;
 use tw_instance::Instance;
-use tw_model::{Counters, Row};
+use tw_model::limits::MOST_COUNTED;
+use tw_model::{Counters, OrMemory, Row};
 use tw_router::Router;
-
-/// The most messages that are sent, and the most events that are handled.
-pub(crate) const LIMIT: u64 = 1 << 48;
 
 /// Takes the best path, tells each neighbour whose link is up where that is a change, and counts an
 /// event as handled. Answers whether the path changed.
@@ -21,41 +20,24 @@ pub(crate) fn settle(
     router: &mut Router<'_>,
     time: u64,
     sends: &mut SmallVec<Event, 8>,
-) -> Result<bool, Fault>
-    requires own { instance.now ≡ router.old.net }
-    requires time { time ≤ 1000000000 }
-    requires room { router.old.state.counters.handled < MOST_COUNTED }
-    ensures state { OnOk result
-        (router.new ≡ record router.old { state = with_handled (settle_of router.old.net router.old.node time router.old.state).state }) }
-    ensures sends { OnOk result
-        (sends.new.items ≡ sends.old.items ++ (settle_of router.old.net router.old.node time router.old.state).sends) }
-    ensures changed { IfOk result
-        (λ changed. changed ≡ not (router.old.state.rib.0 == (settle_of router.old.net router.old.node time router.old.state).state.rib.0)) }
-    ensures err { OnErr result (router.new ≡ router.old) }
-    ensures unsent { OnErr result (sends.new.items ≡ sends.old.items) }
-    ensures full { result ≡ Err Fault.CounterFull
-        ↔ (MOST_COUNTED < (settle_of router.old.net router.old.node time router.old.state).state.counters.sent) }
-    ensures known { result ≢ Err Fault.Foreign }
+) -> Result<bool, OrMemory<CounterFull>>
+    requires { CanReact instance.now router.old time }
+    ensures reaction { Reacts router.old router.new sends.old.items sends.new.items
+        (with_count (settle_of router.old.net router.old.node time router.old.state)) result }
+    ensures changed { IfOk result (λ changed. changed ≡ not (router.old.state.rib.0 == router.new.state.rib.0)) }
 {
     let best = router.best();
-    let counters = router.counters();
     if router.rib().0 == best.0 {
         count_handled(router);
         return Ok(false);
     }
-    let src = router.node();
-    let hops = instance.hops(src);
-    let count = count_up(hops, router.rows());
-    if counters.sent + count > LIMIT {
-        return Err(Fault::CounterFull);
+    let counters = router.counters();
+    let count = count_up(instance, router);
+    if counters.sent + count > MOST_COUNTED {
+        return Err(OrMemory::Fault(CounterFull));
     }
     sends.reserve(count as usize)?;
-    let news = News {
-        src,
-        time,
-        path: best,
-    };
-    push_updates(news, counters.sent, hops, router.rows(), sends);
+    push_updates(instance, router, time, best, counters.sent, sends);
     router.set_rib(best);
     router.set_counters(Counters {
         sent: counters.sent + count,
@@ -64,6 +46,34 @@ pub(crate) fn settle(
         changed: counters.changed + 1,
     });
     Ok(true)
+}
+
+/// Writes the row of a slot and settles. After an error the row is as it was.
+pub(crate) fn settle_with_row(
+    instance: &Instance,
+    router: &mut Router<'_>,
+    slot: usize,
+    row: Row,
+    time: u64,
+    sends: &mut SmallVec<Event, 8>,
+) -> Result<bool, OrMemory<CounterFull>>
+    requires reaction { CanReact instance.now router.old time }
+    requires slot { slot < length router.old.state.rows }
+    requires path { IsPath router.old.net row.heard }
+    requires session { row.session ≤ router.old.state.counters.handled }
+    ensures reaction { Reacts router.old router.new sends.old.items sends.new.items
+        (with_count (settle_of router.old.net router.old.node time (with_row router.old.state slot row))) result }
+    ensures changed { IfOk result (λ changed. changed ≡ not (router.old.state.rib.0 == router.new.state.rib.0)) }
+{
+    let kept = router.row(slot);
+    router.set_row(instance, slot, row);
+    match settle(instance, router, time, sends) {
+        Ok(changed) => Ok(changed),
+        Err(error) => {
+            router.set_row(instance, slot, kept);
+            Err(error)
+        }
+    }
 }
 
 /// Counts an event as handled.
@@ -76,17 +86,4 @@ pub(crate) fn count_handled(router: &mut Router<'_>)
         handled: counters.handled + 1,
         ..counters
     });
-}
-
-/// Writes the row of a slot.
-pub(crate) fn put_row(instance: &Instance, router: &mut Router<'_>, slot: usize, row: Row)
-    requires own { instance.now ≡ router.old.net }
-    requires slot { slot < length router.old.state.rows }
-    requires heard { IsPath router.old.net row.heard }
-    requires session { row.session ≤ router.old.state.counters.handled }
-    ensures { router.new ≡ record router.old { state = with_row router.old.state slot row } }
-{
-    router.set_heard(instance, slot, row.heard);
-    router.set_up(instance, slot, row.up);
-    router.set_session(slot, row.session);
 }

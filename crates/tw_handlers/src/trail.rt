@@ -1,10 +1,12 @@
-ghost use Rattle.std.specs.Prelude.{◌≡◌, ◌+◌, ◌-◌, ◌≤◌, ◌<◌, ◌↔◌, ℕ, false, [], ◌∷◌, ◌++◌, length, take, IsTrue, OnErr, OnOk};
-ghost use Rattle.tw_model.specs.Effect.{fits, is_full};
-ghost use Rattle.tw_model.specs.History.{state_after, undone};
-ghost use Rattle.tw_handlers.specs.Trail.{IsTrail, events_of, history_of};
+ghost use Rattle.std.specs.Prelude.{◌≡◌, ◌+◌, ◌-◌, ◌≤◌, ◌<◌, ◌↔◌, ℕ, false, [], ◌∷◌, ◌++◌, length, take, IsErrOf, IsTrue, OnErr, OnOk};
+ghost use Rattle.tw_model.specs.declared.memory.OrMemory.TheVariants as or_memory;
+ghost use Rattle.tw_model.specs.Effect.{fits};
+ghost use Rattle.tw_handlers.specs.Calls.{counter_full, is_full_at};
+ghost use Rattle.tw_handlers.specs.Trail.{IsTrail, handled_events, history_of, router_of, undone_of};
 
-use crate::fault::Fault;
-use crate::handling::handle;
+use crate::fault::{CounterFull, Fault};
+use crate::fit::does_fit;
+use crate::handling::handle_fitting;
 use crate::record::UndoRecord;
 use crate::undoing::{go_back, undo};
 use smallvec::SmallVec;
@@ -12,6 +14,7 @@ use std::alloc::{AllocError, Global};
 use std::marker::Model;
 use tw_event::Event;
 use tw_instance::Instance;
+use tw_model::OrMemory;
 use tw_router::Router;
 
 /// An event that was handled, and its record.
@@ -58,8 +61,7 @@ impl<'a> Trail<'a> {
 
     /// The router as it is after these events.
     pub fn router(&self) -> &Router<'a>
-        ensures { result.now
-            ≡ record self.now.opening { state = state_after self.now.opening.net self.now.opening.node self.now.opening.state self.now.events } }
+        ensures { result.now ≡ router_of self.now }
     {
         &self.router
     }
@@ -68,14 +70,38 @@ impl<'a> Trail<'a> {
     ///
     /// The instance is the router's own. After an error the trail is as it was; an event that is not for
     /// this router is `Foreign`, also where a counter is full.
-    pub fn handle(&mut self, instance: &Instance, event: &Event) -> Result<(), Fault>
+    pub fn handle(&mut self, instance: &Instance, event: &Event) -> Result<(), OrMemory<Fault>>
         requires { instance.now ≡ self.old.opening.net }
         ensures ok { OnOk result (self.new ≡ record self.old { events = self.old.events ++ event.now ∷ [] }) }
         ensures err { OnErr result (self.new ≡ self.old) }
-        ensures foreign { result ≡ Err Fault.Foreign ↔ (fits self.old.opening.net self.old.opening.node event.now ≡ false) }
-        ensures full { IsTrue (fits self.old.opening.net self.old.opening.node event.now)
-            → (result ≡ Err Fault.CounterFull
-            ↔ IsTrue (is_full self.old.opening.net self.old.opening.node (state_after self.old.opening.net self.old.opening.node self.old.opening.state self.old.events) event.now)) }
+        ensures foreign { IsErrOf result (or_memory.Fault Fault.Foreign)
+            ↔ (fits self.old.opening.net self.old.opening.node event.now ≡ false) }
+        ensures full { IsErrOf result (or_memory.Fault Fault.CounterFull)
+            ↔ (IsTrue (fits self.old.opening.net self.old.opening.node event.now) × IsTrue (is_full_at (router_of self.old) event.now)) }
+    {
+        if !does_fit(instance, self.router().node(), event) {
+            return Err(OrMemory::Fault(Fault::Foreign));
+        }
+        match self.handle_fitting(instance, event) {
+            Ok(()) => Ok(()),
+            Err(OrMemory::Fault(full)) => Err(OrMemory::Fault(Fault::from(full))),
+            Err(OrMemory::Memory) => Err(OrMemory::Memory),
+        }
+    }
+
+    /// Handles an event that fits the router. What the router sends isn't kept.
+    ///
+    /// The instance is the router's own. After an error the trail is as it was.
+    pub fn handle_fitting(
+        &mut self,
+        instance: &Instance,
+        event: &Event,
+    ) -> Result<(), OrMemory<CounterFull>>
+        requires own { instance.now ≡ self.old.opening.net }
+        requires fits { IsTrue (fits self.old.opening.net self.old.opening.node event.now) }
+        ensures ok { OnOk result (self.new ≡ record self.old { events = self.old.events ++ event.now ∷ [] }) }
+        ensures err { OnErr result (self.new ≡ self.old) }
+        ensures full { IsErrOf result (or_memory.Fault counter_full) ↔ IsTrue (is_full_at (router_of self.old) event.now) }
     {
         advance(instance, &mut self.router, &mut self.steps, event)
     }
@@ -94,10 +120,10 @@ impl<'a> Trail<'a> {
         requires { instance.now ≡ self.old.opening.net }
         ensures ok { OnOk result (self.new ≡ record self.old { events = take len self.old.events }) }
         ensures sends { OnOk result (sends.new.items
-            ≡ sends.old.items ++ undone self.old.opening.net self.old.opening.node self.old.opening.state self.old.events len) }
+            ≡ sends.old.items ++ undone_of self.old len) }
         ensures err { OnErr result ((m : ℕ) × (len < m) × (m ≤ length self.old.events)
             × (self.new ≡ record self.old { events = take m self.old.events })
-            × (sends.new.items ≡ sends.old.items ++ undone self.old.opening.net self.old.opening.node self.old.opening.state self.old.events m)) }
+            × (sends.new.items ≡ sends.old.items ++ undone_of self.old m)) }
     {
         while self.len() > len {
             self.undo_last(instance, sends)?;
@@ -115,7 +141,7 @@ impl<'a> Trail<'a> {
         requires some { 0 < length self.old.events }
         ensures ok { OnOk result (self.new ≡ record self.old { events = take (length self.old.events - 1) self.old.events }) }
         ensures sends { OnOk result (sends.new.items
-            ≡ sends.old.items ++ undone self.old.opening.net self.old.opening.node self.old.opening.state self.old.events (length self.old.events - 1)) }
+            ≡ sends.old.items ++ undone_of self.old (length self.old.events - 1)) }
         ensures err { OnErr result (self.new ≡ self.old) }
         ensures unsent { OnErr result (sends.new.items ≡ sends.old.items) }
     {
@@ -129,20 +155,19 @@ fn advance(
     router: &mut Router<'_>,
     steps: &mut Vec<Done>,
     event: &Event,
-) -> Result<(), Fault>
+) -> Result<(), OrMemory<CounterFull>>
     requires own { instance.now ≡ router.old.net }
+    requires fits { IsTrue (fits router.old.net router.old.node event.now) }
     requires trail { IsTrail router.old steps.old.items }
     ensures trail { OnOk result (IsTrail router.new steps.new.items) }
     ensures ok { OnOk result (history_of router.new steps.new.items
-        ≡ record (history_of router.old steps.old.items) { events = events_of steps.old.items ++ event.now ∷ [] }) }
+        ≡ record (history_of router.old steps.old.items) { events = handled_events steps.old.items ++ event.now ∷ [] }) }
     ensures err { OnErr result (router.new ≡ router.old) }
     ensures kept { OnErr result (steps.new.items ≡ steps.old.items) }
-    ensures foreign { result ≡ Err Fault.Foreign ↔ (fits router.old.net router.old.node event.now ≡ false) }
-    ensures full { IsTrue (fits router.old.net router.old.node event.now)
-        → (result ≡ Err Fault.CounterFull ↔ IsTrue (is_full router.old.net router.old.node router.old.state event.now)) }
+    ensures full { IsErrOf result (or_memory.Fault counter_full) ↔ IsTrue (is_full_at router.old event.now) }
 {
     let mut sends = SmallVec::new(*steps.allocator());
-    let note = handle(instance, router, event, &mut sends)?;
+    let note = handle_fitting(instance, router, event, &mut sends)?;
     let done = Done {
         event: *event,
         note,
@@ -151,7 +176,7 @@ fn advance(
         Ok(()) => Ok(()),
         Err(_) => {
             go_back(instance, router, event, note);
-            Err(Fault::Memory)
+            Err(OrMemory::Memory)
         }
     }
 }
@@ -168,9 +193,9 @@ fn step_back(
     requires some { 0 < length steps.old.items }
     ensures trail { OnOk result (IsTrail router.new steps.new.items) }
     ensures ok { OnOk result (history_of router.new steps.new.items
-        ≡ record (history_of router.old steps.old.items) { events = take (length steps.old.items - 1) (events_of steps.old.items) }) }
+        ≡ record (history_of router.old steps.old.items) { events = take (length steps.old.items - 1) (handled_events steps.old.items) }) }
     ensures sends { let t = history_of router.old steps.old.items in OnOk result (sends.new.items
-        ≡ sends.old.items ++ undone t.opening.net t.opening.node t.opening.state t.events (length t.events - 1)) }
+        ≡ sends.old.items ++ undone_of t (length t.events - 1)) }
     ensures err { OnErr result (router.new ≡ router.old) }
     ensures kept { OnErr result (steps.new.items ≡ steps.old.items) }
     ensures unsent { OnErr result (sends.new.items ≡ sends.old.items) }

@@ -1,15 +1,15 @@
 ghost use Rattle.std.specs.Prelude.{◌≡◌, ◌-◌, ◌≤◌, ◌<◌, [], ◌∷◌, ◌++◌, length, IsOk, IsTrue, OnErr, OnOk};
 ghost use Rattle.smallvec.specs.SmallVec.{HasRoomFor};
+ghost use Rattle.tw_model.specs.declared.limits.TheConstants.{LATEST};
 ghost use Rattle.tw_model.specs.Net.{IsPath};
 ghost use Rattle.tw_model.specs.State.{IsState, State as AState, has_peer, hop, row as row_of, slot as slot_of};
 ghost use Rattle.tw_model.specs.Effect.{effect, fits, update_to};
-ghost use Rattle.tw_handlers.specs.Record.{IsHandled};
-ghost use Rattle.tw_handlers.specs.Undo.{before, counters_before as counters_before_of, moved_back, sends_again, settled_sends, unsettled};
+ghost use Rattle.tw_handlers.specs.Record.{CameFrom};
+ghost use Rattle.tw_handlers.specs.Undo.{counters_before as counters_before_of, counters_without_settling as counters_without_settling_of, sends_again, sends_of_settling, state_before, with_body_undone};
 
 use crate::fit::slot_of_peer;
 use crate::record::UndoRecord;
 use crate::send::{News, count_up, push_updates};
-use crate::settle::put_row;
 use smallvec::SmallVec;
 use std::alloc::AllocError;
 use tw_event::{Body, Event};
@@ -30,12 +30,12 @@ pub fn undo(
     sends: &mut SmallVec<Event, 8>,
 ) -> Result<(), AllocError>
     requires own { instance.now ≡ router.old.net }
-    requires handled { (s : AState) × IsHandled router.old.net router.old.node s event.now note router.old.state }
-    ensures state { (s : AState) → IsHandled router.old.net router.old.node s event.now note router.old.state
+    requires handled { (s : AState) × CameFrom router.old event.now note s }
+    ensures state { (s : AState) → CameFrom router.old event.now note s
         → OnOk result (router.new ≡ record router.old { state = s }) }
-    ensures sends { (s : AState) → IsHandled router.old.net router.old.node s event.now note router.old.state
+    ensures sends { (s : AState) → CameFrom router.old event.now note s
         → OnOk result (sends.new.items ≡ sends.old.items ++ (effect router.old.net router.old.node s event.now).sends) }
-    ensures succeeds { (s : AState) → IsHandled router.old.net router.old.node s event.now note router.old.state
+    ensures succeeds { (s : AState) → CameFrom router.old event.now note s
         → HasRoomFor sends.old (length (effect router.old.net router.old.node s event.now).sends) → IsOk result }
     ensures err { OnErr result (router.new ≡ router.old) }
     ensures unsent { OnErr result (sends.new.items ≡ sends.old.items) }
@@ -65,7 +65,7 @@ fn send_again(
         Body::Start => send_settled(instance, router, event, note, sends),
         Body::Fail(_) => send_settled(instance, router, event, note, sends),
         Body::Restore(peer) => {
-            if note.took {
+            if note.took_effect {
                 send_restored(instance, router, event, peer, sends)
             } else {
                 Ok(())
@@ -85,28 +85,20 @@ fn send_settled(
     sends: &mut SmallVec<Event, 8>,
 ) -> Result<(), AllocError>
     requires own { instance.now ≡ router.now.net }
-    requires time { event.now.time ≤ 1000000000 }
+    requires time { event.now.time ≤ LATEST }
     ensures ok { OnOk result (sends.new.items
-        ≡ sends.old.items ++ settled_sends router.now.net router.now.node event.now.time router.now.state note) }
-    ensures succeeds { HasRoomFor sends.old (length (settled_sends router.now.net router.now.node event.now.time router.now.state note))
+        ≡ sends.old.items ++ sends_of_settling router.now.net router.now.node event.now.time router.now.state note) }
+    ensures succeeds { HasRoomFor sends.old (length (sends_of_settling router.now.net router.now.node event.now.time router.now.state note))
         → IsOk result }
     ensures err { OnErr result (sends.new.items ≡ sends.old.items) }
 {
     if !note.changed {
         return Ok(());
     }
-    let src = router.node();
-    let hops = instance.hops(src);
-    let rows = router.rows();
-    let count = count_up(hops, rows);
+    let count = count_up(instance, router);
     sends.reserve(count as usize)?;
-    let news = News {
-        src,
-        time: event.time,
-        path: router.rib(),
-    };
     let first = router.counters().sent.saturating_sub(count);
-    push_updates(news, first, hops, rows, sends);
+    push_updates(instance, router, event.time, router.rib(), first, sends);
     Ok(())
 }
 
@@ -119,7 +111,7 @@ fn send_restored(
     sends: &mut SmallVec<Event, 8>,
 ) -> Result<(), AllocError>
     requires own { instance.now ≡ router.now.net }
-    requires time { event.now.time ≤ 1000000000 }
+    requires time { event.now.time ≤ LATEST }
     requires neighbour { IsTrue (has_peer router.now.net router.now.node peer) }
     ensures ok { let k = slot_of router.now.net router.now.node peer in OnOk result (sends.new.items
         ≡ sends.old.items ++ update_to router.now.node event.now.time router.now.state.rib (router.now.state.counters.sent - 1) (hop router.now.net router.now.node k) (row_of router.now.state k) ∷ []) }
@@ -146,9 +138,9 @@ pub(crate) fn go_back(instance: &Instance, router: &mut Router<'_>, event: &Even
     requires fits { IsTrue (fits router.old.net router.old.node event.now) }
     requires rib { IsPath router.old.net note.rib }
     requires heard { IsPath router.old.net note.heard }
-    requires earlier { IsState router.old.net router.old.node (before router.old.net router.old.node router.old.state event.now note) }
+    requires earlier { IsState router.old.net router.old.node (state_before router.old.net router.old.node router.old.state event.now note) }
     ensures { router.new
-        ≡ record router.old { state = before router.old.net router.old.node router.old.state event.now note } }
+        ≡ record router.old { state = state_before router.old.net router.old.node router.old.state event.now note } }
 {
     let counters = counters_before(instance, router, event, note);
     if note.changed {
@@ -164,14 +156,14 @@ fn move_back(instance: &Instance, router: &mut Router<'_>, event: &Event, note: 
     requires fits { IsTrue (fits router.old.net router.old.node event.now) }
     requires heard { IsPath router.old.net note.heard }
     ensures { router.new
-        ≡ record router.old { state = moved_back router.old.net router.old.node router.old.state event.now event.now.body note } }
+        ≡ record router.old { state = with_body_undone router.old.net router.old.node router.old.state event.now event.now.body note } }
 {
     let node = router.node();
     match event.body {
         Body::Start => {}
         Body::Swap(first, second) => router.swap(instance, first, second),
         Body::Fail(peer) => {
-            if note.took {
+            if note.took_effect {
                 let slot = slot_of_peer(instance, node, peer);
                 let session = router.session(slot);
                 let row = Row {
@@ -179,11 +171,11 @@ fn move_back(instance: &Instance, router: &mut Router<'_>, event: &Event, note: 
                     up: true,
                     session,
                 };
-                put_row(instance, router, slot, row);
+                router.set_row(instance, slot, row);
             }
         }
         Body::Restore(peer) => {
-            if note.took {
+            if note.took_effect {
                 let slot = slot_of_peer(instance, node, peer);
                 let row = router.row(slot);
                 let repaired_less = Row {
@@ -191,11 +183,11 @@ fn move_back(instance: &Instance, router: &mut Router<'_>, event: &Event, note: 
                     up: false,
                     session: row.session.saturating_sub(1),
                 };
-                put_row(instance, router, slot, repaired_less);
+                router.set_row(instance, slot, repaired_less);
             }
         }
         Body::Update { .. } => {
-            if note.took {
+            if note.took_effect {
                 let slot = slot_of_peer(instance, node, event.src);
                 router.set_heard(instance, slot, note.heard);
             }
@@ -217,7 +209,7 @@ fn counters_before(
     let handled = counters.handled.saturating_sub(1);
     match event.body {
         Body::Restore(_) => {
-            let sent = if note.took {
+            let sent = if note.took_effect {
                 counters.sent.saturating_sub(1)
             } else {
                 counters.sent
@@ -229,8 +221,8 @@ fn counters_before(
             }
         }
         Body::Update { .. } => {
-            if note.took {
-                unsettled_counters(instance, router, note)
+            if note.took_effect {
+                counters_without_settling(instance, router, note)
             } else {
                 Counters {
                     handled,
@@ -239,15 +231,15 @@ fn counters_before(
                 }
             }
         }
-        Body::Start => unsettled_counters(instance, router, note),
-        Body::Fail(_) => unsettled_counters(instance, router, note),
-        Body::Swap(_, _) => unsettled_counters(instance, router, note),
+        Body::Start => counters_without_settling(instance, router, note),
+        Body::Fail(_) => counters_without_settling(instance, router, note),
+        Body::Swap(_, _) => counters_without_settling(instance, router, note),
     }
 }
 
-fn unsettled_counters(instance: &Instance, router: &Router<'_>, note: UndoRecord) -> Counters
+fn counters_without_settling(instance: &Instance, router: &Router<'_>, note: UndoRecord) -> Counters
     requires { instance.now ≡ router.now.net }
-    ensures { result ≡ unsettled router.now.net router.now.node router.now.state note }
+    ensures { result ≡ counters_without_settling_of router.now.net router.now.node router.now.state note }
 {
     let counters = router.counters();
     let handled = counters.handled.saturating_sub(1);
@@ -257,7 +249,7 @@ fn unsettled_counters(instance: &Instance, router: &Router<'_>, note: UndoRecord
             ..counters
         };
     }
-    let count = count_up(instance.hops(router.node()), router.rows());
+    let count = count_up(instance, router);
     Counters {
         sent: counters.sent.saturating_sub(count),
         handled,

@@ -1,10 +1,18 @@
 -- What the rules of an instance give of its paths: each number its own nodes.
-use Rattle.std.proofs.Common.{◌≡◌, ℕ, suc, zero, ◌<◌, ◌≤◌, ◌==◌, true, not, ◌&&◌, List, [], ◌∷◌, ◌++◌, length, map, get_or, None, refl, ap, sym, ◌∙◌, subst, inl, inr, arith, ◌↔◌}
+use Rattle.std.proofs.Common.{◌≡◌, ◌≢◌, ℕ, suc, zero, ◌+◌, ◌<◌, ◌≤◌, ◌==◌, Bool, true, not, ◌&&◌, List, [], ◌∷◌, ◌++◌, length, map, get_or, None, refl, ap, sym, ◌∙◌, subst, inl, inr, arith, ◌↔◌}
 use Rattle.std.specs.Prelude.{nat_eq}
-use Rattle.std.specs.List.{All, list_any, range_with_len}
+use Rattle.std.specs.Bool.{Decides}
+use Rattle.std.specs.List.{All, AllPairs, filter, list_any, range_with_len, swap}
 use Rattle.std.proofs.lemmas.Bool.{cases_lt, both_ways, and_parts, and_from, or_cases, or_parts, not-false, eqb-true, eqb-false, eq-eqb}
 use Rattle.std.proofs.lemmas.Cmp.{nat_list_eq_equiv}
-use Rattle.std.proofs.lemmas.List.{get_or_past}
+use Rattle.std.proofs.lemmas.Bool.Decides.{Decides-eqb, same_from_decides}
+use Rattle.std.proofs.lemmas.List.{get_or-map, get_or_past, length-map}
+use Rattle.std.proofs.lemmas.List.FromFn.{get_or-range_with_len, length-range_with_len}
+use Rattle.std.proofs.lemmas.List.Kept.{AllPairs-from_increasing, IsStrictlyIncreasing-filter}
+use Rattle.std.proofs.lemmas.List.Sorted.{IsPermutation-swap}
+use Rattle.std.proofs.lemmas.Map.Keys.{IsDistinct-IsPermutation}
+use Rattle.std.proofs.lemmas.Map.Made.{AllPairs-from_IsDistinct, IsDistinct-from_AllPairs}
+use Rattle.std.specs.List.Sorted.{IsStrictlyIncreasing}
 use Rattle.tw_event.specs.declared.event.PathNo.{PathNo}
 use Rattle.tw_model.specs.declared.net.Rule.TheVariants.{PathOwner, TwicePath}
 use Rattle.tw_model.specs.Line.{Line}
@@ -170,3 +178,49 @@ in_paths_of net v q = (
 
 pub paths_own : (net : Net) (v : ℕ) → All (λ q. is_own net v q ≡ true) (paths_of net v)
 paths_own net v = all_from_in (λ q. is_own net v q ≡ true) (paths_of net v) (λ q k. ((in_paths_of net v q).0 k).1)
+
+-- ---- orders without repeats
+
+rising-range : (a n : ℕ) → IsStrictlyIncreasing (range_with_len a n)
+rising-range a n k within =
+    let long = length-range_with_len a n in
+    let one = get_or-range_with_len a n k 0 (omega arith) in
+    let next = get_or-range_with_len a n (k + 1) 0 (omega arith) in
+    omega arith
+
+abbrev numbered : ℕ → PathNo
+numbered k = record { 0 = k }
+
+distinct-numbers : (numbers : List ℕ) → AllPairs (λ m n. m < n) numbers → AllPairs (λ p q. p ≢ q) (map numbered numbers)
+distinct-numbers numbers rising i j d before within same =
+    let long = length-map numbers numbered in
+    let one : (get_or (map numbered numbers) i d).0 ≡ get_or numbers i 0 = ap (λ p. p.0) (get_or-map numbered numbers i 0 d (omega arith)) in
+    let two : (get_or (map numbered numbers) j d).0 ≡ get_or numbers j 0 = ap (λ p. p.0) (get_or-map numbered numbers j 0 d (omega arith)) in
+    let less = rising i j 0 before (omega arith) in
+    let equal = ap (λ p. p.0) same in
+    omega arith
+
+-- the permitted paths of v stand in rising number, and so each once
+pub paths_of-distinct : (net : Net) (v : ℕ) → AllPairs (λ p q. p ≢ q) (paths_of net v)
+unfolding paths_of
+paths_of-distinct net v =
+    let begins : ℕ → Bool = λ k. begins_at (get_or (paths net) k []) v in
+    let all : List ℕ = range_with_len 0 (length (paths net)) in
+    distinct-numbers (filter begins all) (AllPairs-from_increasing (filter begins all) (IsStrictlyIncreasing-filter begins all (rising-range 0 (length (paths net)))))
+
+same_number : (p q : PathNo) → Decides (p.0 == q.0) (p ≡ q)
+same_number p q =
+    let d = Decides-eqb p.0 q.0 in
+    ((λ h. ap (λ k. record { 0 = k }) (d.0 h)), (λ e. d.1 (ap (λ (x : PathNo). x.0) e)))
+
+number_flips : (p q : PathNo) → (p.0 == q.0) ≡ (q.0 == p.0)
+number_flips p q =
+    let d = same_number q p in same_from_decides (p.0 == q.0) (q.0 == p.0) (same_number p q) ((λ h. sym (d.0 h)), (λ e. d.1 (sym e)))
+
+-- an order without repeats of which two places are exchanged
+pub distinct-swap : (order : List PathNo) (i j : ℕ) → i < length order → j < length order
+    → AllPairs (λ p q. p ≢ q) order → AllPairs (λ p q. p ≢ q) (swap order i j)
+distinct-swap order i j within_i within_j distinct =
+    AllPairs-from_IsDistinct same_number (swap order i j)
+    (IsDistinct-IsPermutation (λ p q. p.0 == q.0) number_flips order (swap order i j) (IsPermutation-swap order (swap order i j) i j within_i within_j refl)
+    (IsDistinct-from_AllPairs same_number order distinct))

@@ -1,6 +1,6 @@
 -- What a router knows, and how it begins (Griffin, Shepherd, Wilfong 2002; sessions and counters own).
-use Rattle.std.specs.Prelude.{ℕ, ◌≡◌, ◌≤◌, ◌==◌, Bool, true, not, ◌&&◌, List, ◌∷◌, length, map, nat_lt, slice_index_or, if◌then◌else◌}
-use Rattle.std.specs.List.{All, find, list_any, position_or_len}
+use Rattle.std.specs.Prelude.{ℕ, ◌≡◌, ◌≢◌, ◌≤◌, ◌==◌, Bool, true, not, ◌&&◌, List, ◌∷◌, length, map, nat_lt, slice_index_or, if◌then◌else◌}
+use Rattle.std.specs.List.{All, AllPairs, find, list_any, position_or_len}
 use Rattle.std.specs.Option.{unwrap_or}
 use Rattle.tw_event.specs.declared.event.PathNo.{PathNo}
 use Rattle.tw_model.specs.declared.limits.TheConstants.{MOST_COUNTED}
@@ -37,7 +37,7 @@ pub record IsCounted (c : Counters) : Type 0 where
   pub dropped : c.dropped ≤ c.handled
   pub changed : c.changed ≤ c.handled
 
--- a state that router v of this net can have
+-- a state of a value for router v: wider than the states of runs, since a writer takes any path of the net as used or as heard
 pub record IsState (net : Net) (v : ℕ) (s : State) : Type 0 where
   pub rib : IsPath net s.rib
   pub hops : length s.rows ≡ length (hops_of net v)
@@ -45,6 +45,7 @@ pub record IsState (net : Net) (v : ℕ) (s : State) : Type 0 where
   pub sessions : All (λ row. row.session ≤ s.counters.handled) s.rows
   pub places : length s.order ≡ length (paths_of net v)
   pub order : All (λ q. is_own net v q ≡ true) s.order
+  pub distinct : AllPairs (λ p q. p ≢ q) s.order
   pub counters : IsCounted s.counters
 
 -- how many neighbours of v stand before w

@@ -1,13 +1,13 @@
 -- How a router begins.
-use Rattle.std.proofs.Common.{◌≡◌, ℕ, ◌≤◌, true, List, length, map, ap, ◌∙◌, arith}
+use Rattle.std.proofs.Common.{◌≡◌, ◌≢◌, ℕ, ◌≤◌, true, List, length, map, ap, sym, subst, ◌∙◌, arith}
 use Rattle.std.proofs.lemmas.List.{length-map}
 use Rattle.std.proofs.lemmas.List.Elements.{All-map, All-same, All-weaker}
-use Rattle.std.specs.List.{All}
+use Rattle.std.specs.List.{All, AllPairs}
 use Rattle.tw_event.specs.declared.event.PathNo.{PathNo}
 use Rattle.tw_model.specs.declared.state.Counters.{Counters}
 use Rattle.tw_model.specs.declared.state.Row.{Row}
 use Rattle.tw_model.specs.Net.{IsPath, Net, empty_path, hops_of, is_own, paths_of}
-use Rattle.tw_model.proofs.Paths.{own_is_path}
+use Rattle.tw_model.proofs.Paths.{own_is_path, paths_of-distinct}
 use Rattle.tw_model.specs.State.{IsCounted, IsState, fresh_row}
 
 pub all-paths : (net : Net) (v : ℕ) (order : List PathNo) → All (λ q. is_own net v q ≡ true) order → All (IsPath net) order
@@ -25,5 +25,6 @@ IsState-opening net v c rows order counted r o own =
       sessions = All-same (λ (x : Row). x.session ≤ c.handled) rows (map fresh_row (hops_of net v)) r (All-map (λ (x : Row). x.session ≤ c.handled) fresh_row (hops_of net v) (λ k d h. omega arith));
       places = ap (λ (qs : List PathNo). length qs) o;
       order = All-same (λ q. is_own net v q ≡ true) order (paths_of net v) o own;
+      distinct = subst (AllPairs (λ (p q : PathNo). p ≢ q)) (sym o) (paths_of-distinct net v);
       counters = counted;
     }

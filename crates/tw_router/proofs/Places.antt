@@ -1,4 +1,4 @@
--- The first place that passes a test, and lists that are written anew.
+-- The first place that passes a test, and lists that are take-written anew.
 use Rattle.std.proofs.Common.{◌≡◌, ℕ, ◌+◌, ◌<◌, ◌≤◌, Bool, true, false, not, cond, ◌||◌, List, [], ◌∷◌, ◌++◌, length, map, get_or, set, take, drop, min, refl, ap, ap₂, sym, ◌∙◌, arith, inl, inr}
 use Rattle.std.specs.List.{position_or_len}
 use Rattle.std.proofs.lemmas.Bool.{cases_Bool, cases_lt, both_ways}
@@ -52,6 +52,6 @@ map_step f xs made i new d within same before is =
     take_more_set made i new (omega arith) ∙ (ap₂ (λ front x. front ++ x ∷ []) before is
     ∙ (sym (map-append f (take i xs) (get_or xs i d ∷ [])) ∙ ap (map f) (sym (take_more xs i d within))))
 
--- a list written over another of its length
-pub written : (n : ℕ) (new old : List ℕ) → n ≡ length new → take n (new ++ drop (length new) old) ≡ new
-written n new old is = ap (λ k. take k (new ++ drop (length new) old)) is ∙ take-append_seam new (drop (length new) old)
+-- a list take-written over another of its length
+pub take-written : (n : ℕ) (new old : List ℕ) → n ≡ length new → take n (new ++ drop (length new) old) ≡ new
+take-written n new old is = ap (λ k. take k (new ++ drop (length new) old)) is ∙ take-append_seam new (drop (length new) old)

@@ -4,7 +4,7 @@ use Rattle.std.specs.List.{All, find, list_any, position, position_or_len}
 use Rattle.std.specs.Option.{unwrap_or}
 use Rattle.std.proofs.lemmas.Bool.Decides.{Decides-eqb, same_from_decides}
 use Rattle.std.proofs.lemmas.Bool.{cases_Bool, cases_lt, both_ways, and_right, eq-eqb, ne_eqb, false_from_ne_true, le-ltb, lt-ltb}
-use Rattle.std.proofs.lemmas.List.{get_or-map, length-map, map-set}
+use Rattle.std.proofs.lemmas.List.{get_or-map, length-map, map-set, set-get_or}
 use Rattle.std.proofs.lemmas.List.Elements.{All-head, All-tail}
 use Rattle.std.proofs.lemmas.List.Folds.{find_at}
 use Rattle.std.proofs.lemmas.List.Sums.{fails_before_first}
@@ -15,7 +15,7 @@ use Rattle.tw_model.specs.declared.state.Row.{Row}
 use Rattle.tw_model.specs.declared.net.Hop.{Hop}
 use Rattle.tw_model.specs.Net.{IsPath, Net, empty_path}
 use Rattle.tw_model.specs.Effect.{with_row}
-use Rattle.tw_model.specs.State.{IsState, Router, State, best, fresh_row, no_row, offers}
+use Rattle.tw_model.specs.State.{IsState, Router, State, best, fresh_row, no_row, offers, row}
 use Rattle.tw_sim.proofs.Members.{In, in_from_any, in_get_or, place_passes, place_within}
 use Rattle.tw_model.proofs.Paths.{path_empty}
 use Rattle.tw_router.specs.Ranks.{rank, rank_row}
@@ -226,3 +226,10 @@ pub ranks_set : (r : Router) (ranks : List ℕ) (k : ℕ) (row : Row) (new : ℕ
     → set ranks k new ≡ rank_row (record r { state = with_row r.state k row })
 ranks_set r ranks k row new is rank_is =
     ap₂ (λ xs x. set xs k x) is rank_is ∙ sym (map-set (rank r.net r.node r.state.order) r.state.rows k row)
+
+-- the rank of one row take-written again
+pub ranks_set_again : (r : Router) (ranks : List ℕ) (k : ℕ) (at : Row) (new : ℕ) → ranks ≡ rank_row r → at ≡ row r.state k
+    → new ≡ rank r.net r.node r.state.order at → set ranks k new ≡ rank_row r
+ranks_set_again r ranks k at new is at_is rank_is =
+    ranks_set r ranks k at new is rank_is
+    ∙ ap (map (rank r.net r.node r.state.order)) (ap (set r.state.rows k) at_is ∙ set-get_or r.state.rows k no_row)

@@ -10,9 +10,11 @@ pub record Heard : Type 0 where
   pub up : Bool
   pub path : List ℕ
 
+-- of each neighbour, by slot
 abbrev pub heard_of : Net → State → List Heard
 heard_of net s = map (λ r. record { up = r.up; path = path net r.heard }) s.rows
 
+-- the nodes of each path of the order
 abbrev pub order_of : Net → State → List (List ℕ)
 order_of net s = map (path net) s.order
 

@@ -1,7 +1,8 @@
--- The ranks that a router keeps, by which it finds its best path.
+-- The ranks that a router keeps, by which it finds its best path (own).
 use Rattle.std.specs.Prelude.{ℕ, ◌≡◌, ◌≤◌, ◌-◌, List, length, map}
 use Rattle.std.specs.List.{position_or_len}
 use Rattle.tw_event.specs.declared.event.PathNo.{PathNo}
+use Rattle.tw_model.specs.declared.limits.TheConstants.{MOST_PATHS}
 use Rattle.tw_model.specs.declared.state.Row.{Row}
 use Rattle.tw_model.specs.Net.{Net}
 use Rattle.tw_model.specs.State.{Router, offers}
@@ -18,5 +19,5 @@ rank_row router = map (rank router.net router.node router.state.order) router.st
 -- a router that keeps these numbers as its ranks
 pub record IsRanked (router : Router) (kept : List ℕ) : Type 0 where
   pub valid : IsRouter router
-  pub few : length router.state.order ≤ 200
+  pub few : length router.state.order ≤ MOST_PATHS
   pub ranks : kept ≡ rank_row router

@@ -1,4 +1,4 @@
--- What holds of every router.
+-- What holds of every router (own).
 use Rattle.std.specs.Prelude.{◌<◌}
 use Rattle.tw_model.specs.Rules.{IsNet}
 use Rattle.tw_model.specs.State.{IsState, Router}

@@ -1,6 +1,7 @@
 ghost use Rattle.std.specs.Prelude.{◌≡◌, ◌<◌, ◌≤◌, ◌-◌, ◌==◌, ◌↔◌, length, map, slice_set, IsTrue};
 ghost use Rattle.std.specs.List.{All, position_or_len};
 ghost use Rattle.tw_event.specs.declared.event.PathNo.{PathNo as APathNo};
+ghost use Rattle.tw_model.specs.declared.limits.TheConstants.{MOST_PATHS};
 ghost use Rattle.tw_model.specs.Net.{IsPath, hops_of};
 ghost use Rattle.tw_model.specs.State.{offers};
 ghost use Rattle.tw_router.specs.Ranks.{rank};
@@ -21,7 +22,7 @@ pub(crate) fn refresh(
     requires slots { length rows.now ≡ length (hops_of instance.now node) }
     requires ranks { length ranks.old ≡ length rows.now }
     requires heard { All (λ row. IsPath instance.now row.heard) rows.now }
-    requires few { length order.now ≤ 200 }
+    requires few { length order.now ≤ MOST_PATHS }
     ensures { ranks.new ≡ map (rank instance.now node order.now) rows.now }
 {
     for (slot, row) in rows.iter().enumerate() {
@@ -42,7 +43,7 @@ pub(crate) fn refresh_slot(
     requires slot { slot < length (hops_of instance.now node) }
     requires rank { slot < length ranks.old }
     requires path { IsPath instance.now row.heard }
-    requires few { length order.now ≤ 200 }
+    requires few { length order.now ≤ MOST_PATHS }
     ensures { ranks.new ≡ slice_set ranks.old slot (rank instance.now node order.now row) }
 {
     ranks[slot] = rank_of(instance, node, slot, order, row);
@@ -53,17 +54,17 @@ fn rank_of(instance: &Instance, node: u32, slot: usize, order: &[PathNo], row: R
     requires router { node < instance.now.nodes }
     requires slot { slot < length (hops_of instance.now node) }
     requires path { IsPath instance.now row.heard }
-    requires few { length order.now ≤ 200 }
+    requires few { length order.now ≤ MOST_PATHS }
     ensures { result ≡ rank instance.now node order.now row }
 {
-    match offered(instance, node, slot, row) {
+    match offered_path(instance, node, slot, row) {
         Some(path) => (order.len() - place_of(order, path)) as u32,
         None => 0,
     }
 }
 
 /// The permitted path that the neighbour of a slot offers: none where its link is down.
-fn offered(instance: &Instance, node: u32, slot: usize, row: Row) -> Option<PathNo>
+fn offered_path(instance: &Instance, node: u32, slot: usize, row: Row) -> Option<PathNo>
     requires router { node < instance.now.nodes }
     requires slot { slot < length (hops_of instance.now node) }
     requires path { IsPath instance.now row.heard }

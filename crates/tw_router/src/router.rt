@@ -1,39 +1,29 @@
 ghost use Rattle.std.specs.Prelude.{◌≡◌, ◌-◌, ◌≤◌, ◌<◌, ◌↔◌, map, length, IfOk, IsErrOf, IsTrue};
 ghost use Rattle.std.specs.List.{All, position};
+ghost use Rattle.tw_model.specs.declared.memory.OrMemory.TheVariants.{Fault};
 ghost use Rattle.tw_model.specs.Net.{IsPath, path as path_of};
 ghost use Rattle.tw_model.specs.Rules.{IsNet};
 ghost use Rattle.tw_model.specs.State.{IsCounted, IsState, best as best_of, fresh_row, offers, opening, opening_with, row as row_of};
 ghost use Rattle.tw_model.specs.Effect.{with_swap, with_row};
 ghost use Rattle.tw_router.specs.Nodes.{best_nodes, heard_of, order_of};
 ghost use Rattle.tw_router.specs.Ranks.{rank_row as rank_row_of};
-ghost use Rattle.tw_router.specs.declared.router.OpenFault.TheVariants.{Memory};
 
 use crate::ranks::{refresh, refresh_slot};
 use std::alloc::{AllocError, Global};
 use std::marker::Model;
+use thiserror::Error;
 use tw_event::PathNo;
 use tw_instance::Instance;
 use tw_lanes::{best_rank, first_equal};
-use tw_model::{Counters, Hop, Row};
-
-/// What a counter of messages or of events reaches at most.
-const LIMIT: u64 = 1 << 48;
+use tw_model::limits::MOST_COUNTED;
+use tw_model::{Counters, Hop, OrMemory, Row};
 
 /// Why a router does not begin with given counters.
-#[derive(Clone, Copy, PartialEq, Eq, Debug)]
+#[derive(Clone, Copy, PartialEq, Eq, Debug, Error)]
 pub enum OpenFault {
     /// A counter is above 2^48, or more events were dropped, or led to a change, than were handled.
+    #[error("no router counts so")]
     Counters,
-    /// There is no memory.
-    Memory,
-}
-
-impl From<AllocError> for OpenFault {
-    ghost from_gives = { λ _ e. e ≡ Memory };
-
-    fn from(_error: AllocError) -> OpenFault {
-        OpenFault::Memory
-    }
 }
 
 /// A router of an instance, with what it knows.
@@ -86,14 +76,14 @@ impl<'a> Router<'a> {
         instance: &'a Instance,
         node: u32,
         counters: Counters,
-    ) -> Result<Router<'a>, OpenFault>
+    ) -> Result<Router<'a>, OrMemory<OpenFault>>
         requires { node < instance.now.nodes }
         ensures ok { IfOk result
             (λ router. router ≡ record { net = instance.now; node = node; state = opening_with instance.now node counters }) }
-        ensures counters { IsErrOf result OpenFault.Counters ↔ ¬ IsCounted counters }
+        ensures counters { IsErrOf result (Fault OpenFault.Counters) ↔ ¬ IsCounted counters }
     {
         if !is_counted(counters) {
-            return Err(OpenFault::Counters);
+            return Err(OrMemory::Fault(OpenFault::Counters));
         }
         Ok(Router::open(alloc, instance, node, counters)?)
     }
@@ -256,6 +246,32 @@ impl<'a> Router<'a> {
         self.rib = path;
     }
 
+    /// Changes what it keeps of the neighbour of a slot. The instance is the router's own.
+    pub fn set_row(&mut self, instance: &Instance, slot: usize, row: Row)
+        requires own { instance.now ≡ self.old.net }
+        requires slot { slot < length self.old.state.rows }
+        requires path { IsPath self.old.net row.heard }
+        requires session { row.session ≤ self.old.state.counters.handled }
+        ensures { self.new ≡ record self.old { state = with_row self.old.state slot row } }
+    {
+        let node = self.node;
+        refresh_slot(instance, node, slot, &self.order, row, &mut self.ranks);
+        self.rows[slot] = row;
+    }
+
+    /// Writes the rank of a slot anew. The instance is the router's own.
+    ///
+    /// The writers do this themselves where a rank may change, so a router's ranks are always those of its
+    /// rows and its order, and the call changes nothing that can be read.
+    pub fn refresh_slot(&mut self, instance: &Instance, slot: usize)
+        requires own { instance.now ≡ self.old.net }
+        requires slot { slot < length self.old.state.rows }
+        ensures { self.new ≡ self.old }
+    {
+        let row = self.row(slot);
+        refresh_slot(instance, self.node, slot, &self.order, row, &mut self.ranks);
+    }
+
     /// Changes the path that was heard from the neighbour of a slot. The instance is the router's own.
     pub fn set_heard(&mut self, instance: &Instance, slot: usize, path: PathNo)
         requires own { instance.now ≡ self.old.net }
@@ -283,19 +299,6 @@ impl<'a> Router<'a> {
             ..self.row(slot)
         };
         self.set_row(instance, slot, row);
-    }
-
-    /// Writes a row, and the rank that the slot then has.
-    fn set_row(&mut self, instance: &Instance, slot: usize, row: Row)
-        requires own { instance.now ≡ self.old.net }
-        requires slot { slot < length self.old.state.rows }
-        requires path { IsPath self.old.net row.heard }
-        requires session { row.session ≤ self.old.state.counters.handled }
-        ensures { self.new ≡ record self.old { state = with_row self.old.state slot row } }
-    {
-        let node = self.node;
-        refresh_slot(instance, node, slot, &self.order, row, &mut self.ranks);
-        self.rows[slot] = row;
     }
 
     /// Changes the number of repairs of the link to the neighbour of a slot.
@@ -346,8 +349,8 @@ fn fresh_rows(alloc: Global, hops: &[Hop]) -> Result<Vec<Row>, AllocError>
 fn is_counted(counters: Counters) -> bool
     ensures { IsTrue result ↔ IsCounted counters }
 {
-    counters.sent <= LIMIT
-        && counters.handled <= LIMIT
+    counters.sent <= MOST_COUNTED
+        && counters.handled <= MOST_COUNTED
         && counters.dropped <= counters.handled
         && counters.changed <= counters.handled
 }

@@ -1,7 +1,7 @@
 use Rattle.std.proofs.Common.{◌≡◌, ◌+◌, ◌++◌, ◌≤◌, drop, length}
 use Rattle.smallvec.specs.SmallVec.{HasRoomFor}
 use Rattle.tw_model.specs.declared.limits.TheConstants.{MOST_COUNTED}
-use Rattle.tw_handlers.specs.Send.{up_pairs, updates_to}
+use Rattle.tw_handlers.proofs.Pairs.{up_pairs, updates_to}
 use Rattle.tw_handlers.proofs.send.push_updates.Given as goal
 
 abbrev pub invariant-loop-slot : goal.invariant-loop-slot

@@ -1,6 +1,7 @@
 use Rattle.std.proofs.Common.{ap, ◌≤◌, ◌∙◌, List, subst, true, ◌≡◌, map, length, sym, rules}
 use Rattle.std.specs.List.{All}
 use Rattle.tw_event.specs.declared.event.PathNo.{PathNo}
+use Rattle.tw_model.specs.declared.limits.TheConstants.{MOST_PATHS}
 use Rattle.tw_model.specs.Net.{is_own}
 use Rattle.tw_model.specs.State.{fresh_row}
 use Rattle.tw_router.specs.Ranks.{rank}
@@ -21,7 +22,7 @@ invariant_of-result c =
             (c.in_ok-from_slice.ensures.items ∙ c.permitted.ensures.value)
             (subst (λ (order : List PathNo). All (λ q. is_own c.args.instance.now c.args.node q ≡ true) order) c.permitted.ensures.value c.permitted.ensures.own);
       };
-      few = subst (λ (order : List PathNo). length order ≤ 200) (sym c.in_ok-from_slice.ensures.items) c.permitted.ensures.few;
+      few = subst (λ (order : List PathNo). length order ≤ MOST_PATHS) (sym c.in_ok-from_slice.ensures.items) c.permitted.ensures.few;
       ranks = c.in_ok-vec.ensures.items_if_clones_equal (search rules)
           ∙ (rank_fresh c.args.instance.now c.args.node order c.hops-hops.result.now
           ∙ sym (ap (map (rank c.args.instance.now c.args.node order)) c.in_ok-fresh_rows.ensures));

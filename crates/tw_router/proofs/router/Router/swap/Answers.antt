@@ -1,15 +1,19 @@
-use Rattle.std.proofs.Common.{ap, ap₂, sym, ◌∙◌, ◌≤◌, ℕ, arith, length, map, subst, List}
+use Rattle.std.proofs.Common.{◌≡◌, ◌≢◌, ◌-◌, ap, ap₂, sym, ◌∙◌, ◌≤◌, ℕ, arith, length, map, subst, List}
 use Rattle.std.proofs.lemmas.Grind.{elements}
 use Rattle.std.proofs.lemmas.List.Edits.{length-swap}
+use Rattle.std.specs.List.{AllPairs}
 use Rattle.tw_event.specs.declared.event.PathNo.{PathNo}
+use Rattle.tw_model.proofs.Paths.{distinct-swap}
+use Rattle.tw_model.specs.declared.limits.TheConstants.{MOST_PATHS}
 use Rattle.tw_model.specs.State.{Router as ARouter}
 use Rattle.tw_router.specs.Ranks.{rank}
-use Rattle.tw_router.proofs.Places.{written}
+use Rattle.tw_router.proofs.Places.{take-written}
 use Rattle.tw_router.proofs.router.Router.swap.Goals as goal
 
 pub invariant_of-self : goal.invariant_of-self
 invariant_of-self c =
     let s = c.self.invariant.valid.state in
+    let long : length c.self.inside.order.items ≡ length c.args.self.now.state.order = ap (λ (x : ARouter). length x.state.order) c.self.view_is in
     let same_length = ap (λ (order : List PathNo). length order) c.swap.ensures.items ∙ length-swap c.self.inside.order.items _ _ in
     record {
       valid = record {
@@ -22,11 +26,13 @@ invariant_of-self c =
           sessions = s.sessions;
           places = same_length ∙ s.places;
           order = grind (arith, elements, s.order);
+          distinct = subst (AllPairs (λ (p q : PathNo). p ≢ q)) (sym c.swap.ensures.items)
+              (distinct-swap c.self.inside.order.items (c.args.first - 1) (c.args.second - 1) (omega arith) (omega arith) s.distinct);
           counters = s.counters;
         };
       };
-      few = subst (λ (n : ℕ). n ≤ 200) (sym same_length) c.self.invariant.few;
-      ranks = written c.self.inside.ranks.len c.refresh.new.ranks c.self.inside.ranks.items (sym (c.refresh.auto.ranks ∙ c.deref_mut.ensures.len))
+      few = subst (λ (n : ℕ). n ≤ MOST_PATHS) (sym same_length) c.self.invariant.few;
+      ranks = take-written c.self.inside.ranks.len c.refresh.new.ranks c.self.inside.ranks.items (sym (c.refresh.auto.ranks ∙ c.deref_mut.ensures.len))
           ∙ (c.refresh.ensures
           ∙ (ap₂ (λ net order. map (rank net c.self.inside.node order) c.deref-2.result.now) (c.requires.own ∙ ap (λ (x : ARouter). x.net) (sym c.self.view_is)) c.deref.ensures.value
           ∙ ap (map (rank c.self.inside.instance.now c.self.inside.node c.swap.new.self.items)) c.deref-2.ensures.value));
