@@ -11,7 +11,8 @@ use Rattle.tw_model.specs.State.{Router}
 use Rattle.tw_seq.specs.declared.one_thread.OneThread.TheInside.{Inside}
 use Rattle.tw_seq.specs.Run.{IsBegun, routers_after}
 use Rattle.tw_seq.specs.Thread.{IsThread}
-use Rattle.tw_seq.specs.Turn.{after_event, effect_at, no_router, receiver}
+use Rattle.tw_handlers.specs.Calls.{after_event, effect_at}
+use Rattle.tw_seq.specs.Turn.{no_router, receiver}
 use Rattle.tw_seq.proofs.Fields.{from_empty}
 
 module _ (old now : List Router) (e : Event) (within : e.dst < length old) (are : now ≡ set old e.dst (after_event (receiver old e) e)) where

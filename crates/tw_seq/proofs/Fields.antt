@@ -9,7 +9,8 @@ use Rattle.tw_model.specs.State.{Router}
 use Rattle.tw_seq.specs.declared.one_thread.OneThread.TheInside.{Inside}
 use Rattle.tw_seq.specs.Run.{IsBegun, IsNextRun, routers_after, world}
 use Rattle.tw_seq.specs.Thread.{IsThread, run_of}
-use Rattle.tw_seq.specs.Turn.{after_event, effect_at, receiver}
+use Rattle.tw_handlers.specs.Calls.{after_event, effect_at}
+use Rattle.tw_seq.specs.Turn.{receiver}
 use Rattle.tw_seq.proofs.Homes.{next_begun, next_run, next_world, sends_of}
 use Rattle.tw_seq.proofs.Next.{IsReady, next_change, next_routers, next_sends}
 

@@ -8,7 +8,7 @@ use Rattle.tw_model.specs.Case.{Case, simulation}
 use Rattle.tw_model.specs.Quiet.{last_change}
 use Rattle.tw_model.specs.State.{Router}
 use Rattle.tw_seq.specs.Run.{router_after, routers_after}
-use Rattle.tw_seq.specs.Turn.{after_event}
+use Rattle.tw_handlers.specs.Calls.{after_event}
 use Rattle.tw_seq.proofs.Steps.{reverse-push, state_own, state_other}
 
 own-router : (case : Case) (events : List Event) (e : Event) → after_event (router_after case events e.dst) e ≡ router_after case (events ++ e ∷ []) e.dst

@@ -11,7 +11,7 @@ use Rattle.tw_sim.proofs.Ordered.{all_counted}
 use Rattle.tw_sim.proofs.Rising.{AllSuit, suit-begin, suit-turns}
 use Rattle.tw_model.proofs.Within.{suits_within}
 use Rattle.tw_seq.specs.Run.{IsBegun, Run, router_after, world}
-use Rattle.tw_seq.specs.Turn.{effect_at}
+use Rattle.tw_handlers.specs.Calls.{effect_at}
 use Rattle.tw_seq.proofs.Steps.{goes_on, pushed}
 
 -- the events of a beginning of a run suit their routers

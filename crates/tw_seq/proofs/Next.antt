@@ -4,13 +4,14 @@ use Rattle.std.specs.List.{AllByRecursion}
 use Rattle.std.proofs.lemmas.Bool.{and_from, le-leb}
 use Rattle.tw_event.specs.declared.event.Event.{Event}
 use Rattle.tw_model.specs.declared.limits.TheConstants.{LATEST}
-use Rattle.tw_model.specs.Effect.{fits, is_full, suits}
+use Rattle.tw_model.specs.Effect.{fits, suits}
 use Rattle.tw_model.specs.Quiet.{last_change}
 use Rattle.tw_model.specs.State.{Router}
 use Rattle.tw_model.proofs.Lawful.{lawful}
 use Rattle.tw_model.proofs.Within.{suits_within}
 use Rattle.tw_seq.specs.Run.{IsBegun, IsNext, IsStuck, Run, router_after, routers_after}
-use Rattle.tw_seq.specs.Turn.{after_event, effect_at, receiver}
+use Rattle.tw_handlers.specs.Calls.{after_event, effect_at, is_full_at}
+use Rattle.tw_seq.specs.Turn.{receiver}
 use Rattle.tw_seq.proofs.Handled.{get_or-routers, last_change-push, length-routers, set-routers}
 use Rattle.tw_seq.proofs.Homes.{least_suits, sends_home, sends_of}
 
@@ -43,15 +44,15 @@ module _ {run : Run} {routers : List Router} {e : Event} (ready : IsReady run ro
       subst (λ r. fits r.net r.node e ≡ true) (sym next_router)
       (and_from (nat_le e.time LATEST) (suits run.case.net e.dst e) (le-leb e.time LATEST early) suits_own)
 
-  pub next_stuck : is_full (receiver routers e).net (receiver routers e).node (receiver routers e).state e ≡ true → IsStuck run
-  next_stuck h = (e, ready.next, subst (λ r. is_full r.net r.node r.state e ≡ true) next_router h)
+  pub next_stuck : is_full_at (receiver routers e) e ≡ true → IsStuck run
+  next_stuck h = (e, ready.next, subst (λ r. is_full_at r e ≡ true) next_router h)
 
   -- where the run is stuck, this event is the one that is full
-  pub next_full : IsStuck run → is_full (receiver routers e).net (receiver routers e).node (receiver routers e).state e ≡ true
+  pub next_full : IsStuck run → is_full_at (receiver routers e) e ≡ true
   next_full stuck =
       let same : stuck.0 ≡ e = cc (stuck.1.1, ready.next.1) in
-      subst (λ r. is_full r.net r.node r.state e ≡ true) (sym next_router)
-      (subst (λ x. is_full run.case.net x.dst (router_after run.case run.events x.dst).state x ≡ true) same stuck.2)
+      subst (λ r. is_full_at r e ≡ true) (sym next_router)
+      (subst (λ x. is_full_at (router_after run.case run.events x.dst) x ≡ true) same stuck.2)
 
   -- its sends
   pub next_sends : (effect_at (receiver routers e) e).sends ≡ sends_of run e

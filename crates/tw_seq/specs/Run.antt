@@ -3,10 +3,10 @@ use Rattle.std.specs.Prelude.{ℕ, ◌≡◌, ◌<◌, ◌≤◌, List, [], ◌�
 use Rattle.std.specs.List.{range_with_len}
 use Rattle.tw_event.specs.declared.event.Event.{Event}
 use Rattle.tw_model.specs.Case.{Case, IsCase, simulation}
-use Rattle.tw_model.specs.Effect.{is_full}
 use Rattle.tw_sim.specs.Seq.{World, begin, log, rest, turns}
 use Rattle.tw_sim.specs.Simulation.{only, state}
 use Rattle.tw_model.specs.State.{Router}
+use Rattle.tw_handlers.specs.Calls.{is_full_at}
 
 -- the greatest stop asked for, the events handled, the first one first, and the events pending, the least first
 pub record Run : Type 0 where
@@ -52,7 +52,7 @@ IsNext run e = (later : List Event) × (run.pending ≡ e ∷ later) × (e.time 
 
 -- handling the least pending event, which is before the stop, would pass a counter's limit
 abbrev pub IsStuck : Run → Type 0
-IsStuck run = (e : Event) × IsNext run e × (is_full run.case.net e.dst (router_after run.case run.events e.dst).state e ≡ true)
+IsStuck run = (e : Event) × IsNext run e × (is_full_at (router_after run.case run.events e.dst) e ≡ true)
 
 -- no event of a list in rising order is before t: the first isn't
 abbrev pub NoneBefore : ℕ → List Event → Type 0

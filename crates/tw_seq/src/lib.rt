@@ -9,12 +9,11 @@
 //! that it finds memory.
 #![tactic(auto)]
 
-mod fault;
 pub mod laws;
 mod one_thread;
 mod routers;
 mod turn;
 
-pub use fault::RunFault;
 pub use one_thread::OneThread;
-pub use tw_model::{Outcome, RouterEnd};
+pub use tw_handlers::CounterFull;
+pub use tw_model::{OrMemory, Outcome, RouterEnd};

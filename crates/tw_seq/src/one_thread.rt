@@ -1,18 +1,20 @@
 ghost use Rattle.std.specs.Prelude.{◌≡◌, ◌≤◌, ◌<◌, [], max, IfNone, IfOk, IfSome, OnErr, OnOk, IsErrOf};
 ghost use Rattle.tw_model.specs.Summary.{summary_of};
 ghost use Rattle.tw_model.specs.declared.limits.TheConstants.{LATEST};
+ghost use Rattle.tw_model.specs.declared.memory.OrMemory.TheVariants as or_memory;
+ghost use Rattle.tw_handlers.specs.Calls.{counter_full};
 ghost use Rattle.tw_seq.specs.Outcome.{least, outcome_of};
 ghost use Rattle.tw_seq.specs.Run.{Continues, IsBegun, IsNext, IsNextRun, IsStuck, NoneBefore, complete_run, opening_run, router_after};
 
-use crate::fault::RunFault;
 use crate::routers::{opening_routers, router_ends};
 use crate::turn::{handle_at, insert_each, make_room, opening_queue, undo_at};
 use smallvec::SmallVec;
 use std::alloc::{AllocError, Global};
 use std::marker::Model;
 use tw_event::Event;
+use tw_handlers::CounterFull;
 use tw_instance::Case;
-use tw_model::Outcome;
+use tw_model::{OrMemory, Outcome};
 use tw_queue::Pending;
 use tw_router::Router;
 
@@ -63,15 +65,15 @@ impl<'a> OneThread<'a> {
     /// After a fault the events before the refused one stand handled, and nothing else has changed; a
     /// later call goes on from there. It is `CounterFull` exactly where handling the least pending event
     /// would pass a counter's limit, and want of memory else.
-    pub fn run_to(&mut self, stop: u64) -> Result<(), RunFault>
+    pub fn run_to(&mut self, stop: u64) -> Result<(), OrMemory<CounterFull>>
         requires { stop ≤ LATEST }
         ensures ok { OnOk result (self.new ≡ complete_run self.old.case (max self.old.stop stop)) }
         ensures case { self.new.case ≡ self.old.case }
         ensures stop { self.new.stop ≡ max self.old.stop stop }
         ensures goes_on { Continues self.old self.new }
         ensures begun { IsBegun self.new }
-        ensures full { IsErrOf result RunFault.CounterFull → IsStuck self.new }
-        ensures stuck { IsStuck self.new → IsErrOf result RunFault.CounterFull }
+        ensures full { IsErrOf result (or_memory.Fault counter_full) → IsStuck self.new }
+        ensures stuck { IsStuck self.new → IsErrOf result (or_memory.Fault counter_full) }
     {
         self.raise_stop(stop);
         while let Some(event) = self.next() {
@@ -179,19 +181,19 @@ impl<'a> OneThread<'a> {
     }
 
     /// Handles the least pending event. An error leaves the run as it was.
-    fn handle_next(&mut self, event: &Event) -> Result<(), RunFault>
+    fn handle_next(&mut self, event: &Event) -> Result<(), OrMemory<CounterFull>>
         requires { IsNext self.old event.now }
         ensures ok { OnOk result (IsNextRun self.old self.new) }
         ensures err { OnErr result (self.new ≡ self.old) }
-        ensures full { IsErrOf result RunFault.CounterFull → IsStuck self.old }
-        ensures stuck { IsStuck self.old → IsErrOf result RunFault.CounterFull }
+        ensures full { IsErrOf result (or_memory.Fault counter_full) → IsStuck self.old }
+        ensures stuck { IsStuck self.old → IsErrOf result (or_memory.Fault counter_full) }
     {
         let instance = self.case.instance();
         let mut sends: SmallVec<Event, 8> = SmallVec::new(*self.events.allocator());
         let note = handle_at(instance, &mut self.routers, event, &mut sends)?;
         if let Err(error) = make_room(&mut self.events, &mut self.pending, sends.len()) {
             undo_at(instance, &mut self.routers, event, note, &mut sends);
-            return Err(RunFault::from(error));
+            return Err(OrMemory::from(error));
         }
         self.pending.take_least();
         insert_each(&mut self.pending, &sends);

@@ -3,10 +3,11 @@ use Rattle.std.specs.Vec.{with_items}
 use Rattle.std.proofs.lemmas.Result.{err_from_is_err_and}
 use Rattle.tw_event.specs.Order.{event_before}
 use Rattle.tw_sim.specs.Ordered.{insert_all}
-use Rattle.tw_seq.specs.declared.fault.RunFault.TheVariants.{CounterFull}
 use Rattle.tw_seq.specs.Run.{IsNext, IsNextRun, IsStuck}
 use Rattle.tw_seq.specs.Thread.{run_of}
-use Rattle.tw_seq.specs.Turn.{after_event, effect_at, receiver}
+use Rattle.tw_model.specs.declared.memory.OrMemory.TheVariants.{Fault}
+use Rattle.tw_handlers.specs.Calls.{after_event, counter_full, effect_at}
+use Rattle.tw_seq.specs.Turn.{receiver}
 use Rattle.tw_seq.proofs.Back.{back_handled, back_net, back_room, back_routers, back_thread}
 use Rattle.tw_seq.proofs.Fields.{IsRenewed, from_empty, other_items, renewed_next, renewed_thread}
 use Rattle.tw_seq.proofs.Next.{IsReady, next_fits, next_full, next_homes, next_net, next_stuck, next_within}
@@ -34,7 +35,7 @@ handle_at-requires-clause-fits c = next_fits (ready (goal.at.handle_at-requires-
 pub returns-in_err-note-clause-full : goal.returns-in_err-note-clause-full
 returns-in_err-note-clause-full c = λ h.
     let p = err_from_is_err_and c.from_residual.result c.from_residual.ensures.1 in
-    let is_full : p.0 ≡ CounterFull = cc (p.1, h) in
+    let is_full : p.0 ≡ Fault counter_full = cc (p.1, h) in
     let full = c.in_err-note.ensures.full.0 (ap (λ x. Err x) (sym p.2 ∙ is_full)) in
     subst IsStuck c.self.view_is (next_stuck (ready (goal.at.returns-in_err-note-clause-full c).After-deref_mut) full)
 
@@ -43,7 +44,7 @@ returns-in_err-note-clause-stuck c = λ stuck.
     let p = err_from_is_err_and c.from_residual.result c.from_residual.ensures.1 in
     let full = next_full (ready (goal.at.returns-in_err-note-clause-stuck c).After-deref_mut) (subst IsStuck (sym c.self.view_is) stuck) in
     let told = c.in_err-note.ensures.full.1 full in
-    let is_full : p.0 ≡ CounterFull = cc (p.2, told) in p.1 ∙ ap (λ x. Err x) is_full
+    let is_full : p.0 ≡ Fault counter_full = cc (p.2, told) in p.1 ∙ ap (λ x. Err x) is_full
 
 -- the event's router is one of them
 within : (c : After-deref_mut-in-Err) → c.args.event.now.dst < length c.deref_mut.result.now
