@@ -16,9 +16,11 @@ use Rattle.tw_event.specs.contracts.event.EventOrd.TheImpl as event_ord
 use Rattle.tw_event.specs.contracts.event.EventPartialEq.TheImpl as event_eqs
 use Rattle.tw_event.proofs.Order.{before_not_self, before_trans, before_total, same_is, same_self, event_order, event_eq}
 use Rattle.tw_sim.specs.Ordered.{insert, insert_all, one, take_out, times}
-use Rattle.tw_queue.specs.Heap.{earlier, events_of, in_order, least_with}
-use Rattle.tw_queue.specs.Queue.{IsRising, AreFor, IsQueue}
-use Rattle.tw_queue.proofs.Ordered.{IsOrder, insert_least, ahead, all-filter, all-take_out, behind, cases_zero, times-in_order, insert_all_in_order, length-take_out, length-take_out-le, take_out-in_order, take_out_none, all-insert, all_weaker, all-in_order, all-permutation, length-in_order, in_order_least, in_order-permutation, in_order_sorted, asymmetric, not_before_trans}
+use Rattle.tw_queue.specs.Heap.{earlier, heap_events, in_order, least_with}
+use Rattle.tw_sim.specs.Rising.{IsRising}
+use Rattle.tw_sim.proofs.Ordered.{IsOrder, all_counted, not_before}
+use Rattle.tw_queue.specs.Queue.{AreFor, IsQueue}
+use Rattle.tw_queue.proofs.Ordered.{insert_least, ahead, all-filter, all-take_out, behind, cases_zero, times-in_order, insert_all_in_order, length-take_out, length-take_out-le, take_out-in_order, take_out_none, rising-in_order, all-in_order, all-permutation, length-in_order, in_order_least, in_order-permutation, in_order_sorted}
 
 pub event_law : IsOrder event_before event_same
 event_law = record {
@@ -29,104 +31,88 @@ event_law = record {
   same_self = same_self;
 }
 
-rising-insert : (e : Event) (xs : List Event) → IsRising xs → IsRising (insert event_before e xs)
-rising-insert e [] h = (tt, tt)
-rising-insert e (x ∷ xs) h =
-    elim (cases_Bool (event_before x e)) [
-      | inl b ↦
-          rw b (all-insert event_before event_same (λ y. event_before y x ≡ false) e xs (asymmetric event_before event_same event_law x e b) h.0, rising-insert e xs h.1)
-      | inr b ↦
-          rw b ((b, all_weaker (λ y. event_before y x ≡ false) (λ y. event_before y e ≡ false) (λ y k. not_before_trans event_before event_same event_law e x y b k) xs h.0), h)
-    ]
-
--- the list in order rises
-pub rising-in_order : (xs : List Event) → IsRising (in_order event_before xs)
-unfolding in_order
-rising-in_order [] = tt
-rising-in_order (x ∷ xs) = rising-insert x (in_order event_before xs) (rising-in_order xs)
-
 -- the heap's order: the least event is the greatest item
 abbrev pub later : Reverse Event → Reverse Event → Ordering
 later x y = event_ord.ghosts.cmp y.0 x.0
 
-least_of : (x : Reverse Event) (xs : List (Reverse Event)) → IsUpperBound later x xs → AllByRecursion (λ e. event_before e x.0 ≡ false) (events_of xs)
+least_of : (x : Reverse Event) (xs : List (Reverse Event)) → IsUpperBound later x xs → AllByRecursion (λ e. event_before e x.0 ≡ false) (heap_events xs)
 least_of x [] h = tt
 least_of x (y ∷ ys) h = (sym (ap is_lt (event_order y.0 x.0)) ∙ h.0, least_of x ys h.1)
 
 -- an event goes in
-pub in_order_pushed : (x : Reverse Event) (xs ys : List (Reverse Event)) → IsPermutation (x ∷ xs) ys → in_order event_before (events_of ys) ≡ insert event_before x.0 (in_order event_before (events_of xs))
+pub in_order_pushed : (x : Reverse Event) (xs ys : List (Reverse Event)) → IsPermutation (x ∷ xs) ys → in_order event_before (heap_events ys) ≡ insert event_before x.0 (in_order event_before (heap_events xs))
 unfolding in_order
 in_order_pushed x xs ys p =
-    in_order-permutation event_before event_same event_law (events_of (x ∷ xs)) (events_of ys) (IsPermutation-map (λ r. r.0) (x ∷ xs) ys p)
+    in_order-permutation event_before event_same event_law (heap_events (x ∷ xs)) (heap_events ys) (IsPermutation-map (λ r. r.0) (x ∷ xs) ys p)
 
 -- the least event comes out
-pub in_order_popped : (x : Reverse Event) (xs ys : List (Reverse Event)) → IsPermutation xs (x ∷ ys) → IsUpperBound later x ys → in_order event_before (events_of xs) ≡ x.0 ∷ in_order event_before (events_of ys)
+pub in_order_popped : (x : Reverse Event) (xs ys : List (Reverse Event)) → IsPermutation xs (x ∷ ys) → IsUpperBound later x ys → in_order event_before (heap_events xs) ≡ x.0 ∷ in_order event_before (heap_events ys)
 in_order_popped x xs ys p h =
-    sym (in_order-permutation event_before event_same event_law (events_of xs) (events_of (x ∷ ys)) (IsPermutation-map (λ r. r.0) xs (x ∷ ys) p)) ∙ in_order_least event_before event_same x.0 (events_of ys) (least_of x ys h)
+    sym (in_order-permutation event_before event_same event_law (heap_events xs) (heap_events (x ∷ ys)) (IsPermutation-map (λ r. r.0) xs (x ∷ ys) p)) ∙ in_order_least event_before event_same x.0 (heap_events ys) (least_of x ys h)
 
 -- the least event is the first in order
-pub first_in_order : (x : Reverse Event) (xs : List (Reverse Event)) → IsUpperBound later x (x ∷ xs) → slice_get (in_order event_before (events_of (x ∷ xs))) 0 ≡ Some x.0
+pub first_in_order : (x : Reverse Event) (xs : List (Reverse Event)) → IsUpperBound later x (x ∷ xs) → slice_get (in_order event_before (heap_events (x ∷ xs))) 0 ≡ Some x.0
 first_in_order x xs h =
-    ap (λ r. slice_get r 0) (in_order_least event_before event_same x.0 (events_of xs) (least_of x xs h.1))
+    ap (λ r. slice_get r 0) (in_order_least event_before event_same x.0 (heap_events xs) (least_of x xs h.1))
 
-pub homes_pushed : (n : ℕ) (x : Reverse Event) (xs ys : List (Reverse Event)) → IsPermutation (x ∷ xs) ys → x.0.dst < n → AreFor n (events_of xs) → AreFor n (events_of ys)
+pub homes_pushed : (n : ℕ) (x : Reverse Event) (xs ys : List (Reverse Event)) → IsPermutation (x ∷ xs) ys → x.0.dst < n → AreFor n (heap_events xs) → AreFor n (heap_events ys)
 homes_pushed n x xs ys p d h =
-    all-permutation event_before event_same event_law (λ e. e.dst < n) (events_of (x ∷ xs)) (events_of ys) (IsPermutation-map (λ r. r.0) (x ∷ xs) ys p) (d, h)
+    all-permutation event_before event_same event_law (λ e. e.dst < n) (heap_events (x ∷ xs)) (heap_events ys) (IsPermutation-map (λ r. r.0) (x ∷ xs) ys p) (d, h)
 
-pub homes_popped : (n : ℕ) (x : Reverse Event) (xs ys : List (Reverse Event)) → IsPermutation xs (x ∷ ys) → AreFor n (events_of xs) → (x.0.dst < n) × AreFor n (events_of ys)
+pub homes_popped : (n : ℕ) (x : Reverse Event) (xs ys : List (Reverse Event)) → IsPermutation xs (x ∷ ys) → AreFor n (heap_events xs) → (x.0.dst < n) × AreFor n (heap_events ys)
 homes_popped n x xs ys p h =
-    all-permutation event_before event_same event_law (λ e. e.dst < n) (events_of xs) (events_of (x ∷ ys)) (IsPermutation-map (λ r. r.0) xs (x ∷ ys) p) h
+    all-permutation event_before event_same event_law (λ e. e.dst < n) (heap_events xs) (heap_events (x ∷ ys)) (IsPermutation-map (λ r. r.0) xs (x ∷ ys) p) h
 
 -- a queue over the heap's items
-pub queue_of : (n room : ℕ) (items : List (Reverse Event)) → AreFor n (events_of items) → IsQueue (record { routers = n; events = in_order event_before (events_of items); room = room })
+pub queue_of : (n room : ℕ) (items : List (Reverse Event)) → AreFor n (heap_events items) → IsQueue (record { routers = n; events = in_order event_before (heap_events items); room = room })
 queue_of n room items h = record {
-  rising = rising-in_order (events_of items);
-  homes = all-in_order event_before event_same (λ e. e.dst < n) (events_of items) h;
+  rising = rising-in_order event_before event_same event_law (heap_events items);
+  homes = all-in_order event_before event_same (λ e. e.dst < n) (heap_events items) h;
 }
 
-pub length-events : (items : List (Reverse Event)) → length (in_order event_before (events_of items)) ≡ length items
+pub length-events : (items : List (Reverse Event)) → length (in_order event_before (heap_events items)) ≡ length items
 length-events items =
-    length-in_order event_before event_same (events_of items) ∙ length-map items (λ x. x.0)
+    length-in_order event_before event_same (heap_events items) ∙ length-map items (λ x. x.0)
 
 -- an empty heap
-pub no_events : (items : List (Reverse Event)) → length items ≡ 0 → in_order event_before (events_of items) ≡ []
+pub no_events : (items : List (Reverse Event)) → length items ≡ 0 → in_order event_before (heap_events items) ≡ []
 unfolding in_order
 no_events [] h = refl
 no_events (x ∷ xs) h = absurd (omega arith)
 
 -- the heap's top
-pub first_of_heap : (x : Reverse Event) (items : List (Reverse Event)) → 0 < length items → x ≡ get_or items 0 x → IsUpperBound later x items → slice_get (in_order event_before (events_of items)) 0 ≡ Some x.0
+pub first_of_heap : (x : Reverse Event) (items : List (Reverse Event)) → 0 < length items → x ≡ get_or items 0 x → IsUpperBound later x items → slice_get (in_order event_before (heap_events items)) 0 ≡ Some x.0
 first_of_heap x [] l e h = absurd (omega arith)
 first_of_heap x (y ∷ ys) l e h =
-    subst (λ z. slice_get (in_order event_before (events_of (z ∷ ys))) 0 ≡ Some x.0) e (first_in_order x ys (subst (λ z. IsUpperBound later x (z ∷ ys)) (sym e) h))
+    subst (λ z. slice_get (in_order event_before (heap_events (z ∷ ys))) 0 ≡ Some x.0) e (first_in_order x ys (subst (λ z. IsUpperBound later x (z ∷ ys)) (sym e) h))
 
 -- what comes off the heap
-pub first_popped : (x : Reverse Event) (xs ys : List (Reverse Event)) → IsPermutation xs (x ∷ ys) → IsUpperBound later x ys → slice_get (in_order event_before (events_of xs)) 0 ≡ Some x.0
+pub first_popped : (x : Reverse Event) (xs ys : List (Reverse Event)) → IsPermutation xs (x ∷ ys) → IsUpperBound later x ys → slice_get (in_order event_before (heap_events xs)) 0 ≡ Some x.0
 first_popped x xs ys p h = ap (λ r. slice_get r 0) (in_order_popped x xs ys p h)
 
-pub rest_popped : (x : Reverse Event) (xs ys : List (Reverse Event)) → IsPermutation xs (x ∷ ys) → IsUpperBound later x ys → in_order event_before (events_of ys) ≡ drop 1 (in_order event_before (events_of xs))
+pub rest_popped : (x : Reverse Event) (xs ys : List (Reverse Event)) → IsPermutation xs (x ∷ ys) → IsUpperBound later x ys → in_order event_before (heap_events ys) ≡ drop 1 (in_order event_before (heap_events xs))
 rest_popped x xs ys p h = sym (ap (drop 1) (in_order_popped x xs ys p h))
 
 -- the heap's events, sorted
-pub sorted_events : (items : List (Reverse Event)) (xs ys : List Event) → xs ≡ events_of items → IsPermutation xs ys → IsSorted event_ord.ghosts.cmp ys → ys ≡ in_order event_before (events_of items)
+pub sorted_events : (items : List (Reverse Event)) (xs ys : List Event) → xs ≡ heap_events items → IsPermutation xs ys → IsSorted event_ord.ghosts.cmp ys → ys ≡ in_order event_before (heap_events items)
 sorted_events items xs ys e p h =
     sym (in_order_sorted event_before event_same ys (λ k d l m. sym (ap is_lt (event_order (get_or ys (k + 1) d) (get_or ys k d))) ∙ h k d l m)) ∙ in_order-permutation event_before event_same event_law xs ys p ∙ ap (in_order event_before) e
 
 -- how often an event is among the heap's items
-times_items : (e : Event) (items : List (Reverse Event)) → count_by (λ x. event_eqs.ghosts.eq e x.0) items ≡ times event_same e (events_of items)
+times_items : (e : Event) (items : List (Reverse Event)) → count_by (λ x. event_eqs.ghosts.eq e x.0) items ≡ times event_same e (heap_events items)
 times_items e [] = refl
 times_items e (x ∷ xs) =
     sum_by-cons (λ y. cond (event_eqs.ghosts.eq e y.0) 1 0) x xs ∙ ap (λ b. cond b 1 0 + count_by (λ y. event_eqs.ghosts.eq e y.0) xs) (event_eq e x.0) ∙ ap (λ n. one event_same e x.0 + n) (times_items e xs)
 
-pub times_in_heap : (e : Event) (items : List (Reverse Event)) → count_by (λ x. event_eqs.ghosts.eq e x.0) items ≡ times event_same e (in_order event_before (events_of items))
+pub times_in_heap : (e : Event) (items : List (Reverse Event)) → count_by (λ x. event_eqs.ghosts.eq e x.0) items ≡ times event_same e (in_order event_before (heap_events items))
 times_in_heap e items =
-    times_items e items ∙ sym (times-in_order event_before event_same event_law e (events_of items))
+    times_items e items ∙ sym (times-in_order event_before event_same event_law e (heap_events items))
 
 -- the items without the first one that has an event
 abbrev pub without : Event → List (Reverse Event) → List (Reverse Event)
 without e items = take_out (λ x y. event_eqs.ghosts.eq x.0 y.0) (record { 0 = e }) items
 
-events-without : (e : Event) (items : List (Reverse Event)) → events_of (without e items) ≡ take_out event_same e (events_of items)
+events-without : (e : Event) (items : List (Reverse Event)) → heap_events (without e items) ≡ take_out event_same e (heap_events items)
 events-without e [] = refl
 events-without e (x ∷ xs) =
     elim (cases_Bool (event_same e x.0)) [
@@ -135,23 +121,23 @@ events-without e (x ∷ xs) =
     ]
 
 module _ (e : Event) (items new : List (Reverse Event)) (p : IsPermutation (without e items) new) where
-  left : IsPermutation (events_of (without e items)) (events_of new)
+  left : IsPermutation (heap_events (without e items)) (heap_events new)
   left = IsPermutation-map (λ r. r.0) (without e items) new p
 
-  pub events_removed : in_order event_before (events_of new) ≡ take_out event_same e (in_order event_before (events_of items))
+  pub events_removed : in_order event_before (heap_events new) ≡ take_out event_same e (in_order event_before (heap_events items))
   events_removed =
-      in_order-permutation event_before event_same event_law (events_of (without e items)) (events_of new) left ∙ ap (in_order event_before) (events-without e items) ∙ sym (take_out-in_order event_before event_same event_law e (events_of items))
+      in_order-permutation event_before event_same event_law (heap_events (without e items)) (heap_events new) left ∙ ap (in_order event_before) (events-without e items) ∙ sym (take_out-in_order event_before event_same event_law e (heap_events items))
 
-  pub homes_removed : (n : ℕ) → AreFor n (events_of items) → AreFor n (events_of new)
+  pub homes_removed : (n : ℕ) → AreFor n (heap_events items) → AreFor n (heap_events new)
   homes_removed n h =
-      all-permutation event_before event_same event_law (λ d. d.dst < n) (events_of (without e items)) (events_of new) left (rw (events-without e items) (all-take_out event_before event_same (λ d. d.dst < n) e (events_of items) h))
+      all-permutation event_before event_same event_law (λ d. d.dst < n) (heap_events (without e items)) (heap_events new) left (rw (events-without e items) (all-take_out event_before event_same (λ d. d.dst < n) e (heap_events items) h))
 
   pub length_removed : length new ≤ length items
   length_removed =
       let n = length-events new in
       let l = length-events items in
       let r = ap (λ xs. length xs) events_removed in
-      let t = length-take_out-le event_before event_same e (in_order event_before (events_of items)) in
+      let t = length-take_out-le event_before event_same e (in_order event_before (heap_events items)) in
       omega arith
 
 -- whether there is one less
@@ -175,7 +161,7 @@ module _ (p : Event → Bool) where
   filter_no : (x : Event) (xs : List Event) → p x ≡ false → filter p (x ∷ xs) ≡ filter p xs
   filter_no x xs h = rw h refl
 
-  filter-insert_yes : (e : Event) (xs : List Event) → p e ≡ true → IsRising xs → filter p (insert event_before e xs) ≡ insert event_before e (filter p xs)
+  filter-insert_yes : (e : Event) (xs : List Event) → p e ≡ true → IsRising event_before event_same xs → filter p (insert event_before e xs) ≡ insert event_before e (filter p xs)
   filter-insert_yes e [] k h = filter_yes e [] k
   filter-insert_yes e (x ∷ xs) k h =
       elim (cases_Bool (event_before x e)) [
@@ -187,7 +173,7 @@ module _ (p : Event → Bool) where
                   filter_no x (insert event_before e xs) n ∙ filter-insert_yes e xs k h.1 ∙ ap (insert event_before e) (sym (filter_no x xs n))
             ]
         | inr b ↦
-            ap (filter p) (ahead event_before event_same event_law x e xs b) ∙ filter_yes e (x ∷ xs) k ∙ sym (insert_least event_before event_same e (filter p (x ∷ xs)) (all-filter event_before event_same (λ y. event_before y e ≡ false) p (x ∷ xs) (b, all_weaker (λ y. event_before y x ≡ false) (λ y. event_before y e ≡ false) (λ y l. not_before_trans event_before event_same event_law e x y b l) xs h.0)))
+            ap (filter p) (ahead event_before event_same event_law x e xs b) ∙ filter_yes e (x ∷ xs) k ∙ sym (insert_least event_before event_same e (filter p (x ∷ xs)) (all-filter event_before event_same (λ y. event_before y e ≡ false) p (x ∷ xs) (b, all_counted event_before event_same event_law (λ y. event_before y e ≡ false) xs (λ y there. not_before event_before event_same event_law y x e (h.0 y there) b))))
       ]
 
   filter-insert_no : (e : Event) (xs : List Event) → p e ≡ false → filter p (insert event_before e xs) ≡ filter p xs
@@ -206,7 +192,7 @@ module _ (p : Event → Bool) where
   filter-in_order (x ∷ xs) =
       elim (cases_Bool (p x)) [
         | inl y ↦
-            filter-insert_yes x (in_order event_before xs) y (rising-in_order xs) ∙ ap (insert event_before x) (filter-in_order xs) ∙ ap (in_order event_before) (sym (filter_yes x xs y))
+            filter-insert_yes x (in_order event_before xs) y (rising-in_order event_before event_same event_law xs) ∙ ap (insert event_before x) (filter-in_order xs) ∙ ap (in_order event_before) (sym (filter_yes x xs y))
         | inr n ↦
             filter-insert_no x (in_order event_before xs) n ∙ filter-in_order xs ∙ ap (in_order event_before) (sym (filter_no x xs n))
       ]

@@ -5,37 +5,19 @@ use Rattle.std.specs.List.Sorted.{IsPermutation, IsSortedBy}
 use Rattle.std.proofs.lemmas.Bool.{cases_Bool, cases_eq, false≢true}
 use Rattle.std.proofs.lemmas.List.Sorted.{IsPermutation-keeps}
 use Rattle.tw_sim.specs.Ordered.{insert, insert_all, one, take_out, times}
+use Rattle.tw_sim.specs.Rising.{IsRising}
+use Rattle.tw_sim.proofs.Ordered.{IsOrder, all-insert, before_from, length-insert, not_back, rising-insert, times-insert}
 use Rattle.tw_queue.specs.Heap.{in_order}
-
-pub record IsOrder {E : Type 0} (before same : E → E → Bool) : Type 0 where
-  pub not_self : (x : E) → before x x ≡ false
-  pub trans : (x y z : E) → before x y ≡ true → before y z ≡ true → before x z ≡ true
-  pub total : (x y : E) → before x y ≡ false → before y x ≡ false → x ≡ y
-  pub same_is : (x y : E) → same x y ≡ true → x ≡ y
-  pub same_self : (x : E) → same x x ≡ true
 
 pub cases_zero : (n : ℕ) → (n ≡ 0) ⊎ (0 < n)
 cases_zero zero = inl refl
 cases_zero (suc n) = inr (omega arith)
 
--- each passes
-pub all_weaker : {E : Type 0} (P Q : E → Type 0) → ((x : E) → P x → Q x) → (xs : List E) → AllByRecursion P xs → AllByRecursion Q xs
-all_weaker P Q f [] h = tt
-all_weaker P Q f (x ∷ xs) h = (f x h.0, all_weaker P Q f xs h.1)
-
 module _ {E : Type 0} (before same : E → E → Bool) where
-  pub all-insert : (P : E → Type 0) (e : E) (xs : List E) → P e → AllByRecursion P xs → AllByRecursion P (insert before e xs)
-  all-insert P e [] p h = (p, tt)
-  all-insert P e (x ∷ xs) p h =
-      elim (cases_Bool (before x e)) [
-        | inl b ↦ rw b (h.0, all-insert P e xs p h.1)
-        | inr b ↦ rw b (p, h)
-      ]
-
   pub all-in_order : (P : E → Type 0) (xs : List E) → AllByRecursion P xs → AllByRecursion P (in_order before xs)
   unfolding in_order
   all-in_order P [] h = tt
-  all-in_order P (x ∷ xs) h = all-insert P x (in_order before xs) h.0 (all-in_order P xs h.1)
+  all-in_order P (x ∷ xs) h = all-insert before P x (in_order before xs) h.0 (all-in_order P xs h.1)
 
   all-from_insert : (P : E → Type 0) (e : E) (xs : List E) → AllByRecursion P (insert before e xs) → P e × AllByRecursion P xs
   all-from_insert P e [] h = h
@@ -55,18 +37,10 @@ module _ {E : Type 0} (before same : E → E → Bool) where
       let k = all-from_insert P x (in_order before xs) h in
       (k.0, all-from_in_order P xs k.1)
 
-  pub length-insert : (e : E) (xs : List E) → length (insert before e xs) ≡ suc (length xs)
-  length-insert e [] = refl
-  length-insert e (x ∷ xs) =
-      elim (cases_Bool (before x e)) [
-        | inl b ↦ rw b (ap suc (length-insert e xs))
-        | inr b ↦ rw b refl
-      ]
-
   pub length-in_order : (xs : List E) → length (in_order before xs) ≡ length xs
   unfolding in_order
   length-in_order [] = refl
-  length-in_order (x ∷ xs) = length-insert x (in_order before xs) ∙ ap suc (length-in_order xs)
+  length-in_order (x ∷ xs) = length-insert before x (in_order before xs) ∙ ap suc (length-in_order xs)
 
   -- what none is before goes to the front
   pub insert_least : (e : E) (xs : List E) → AllByRecursion (λ x. before x e ≡ false) xs → insert before e xs ≡ e ∷ xs
@@ -79,38 +53,22 @@ module _ {E : Type 0} (before same : E → E → Bool) where
       insert_least e (in_order before xs) (all-in_order (λ x. before x e ≡ false) xs h)
 
   module _ (law : IsOrder before same) where
-    pub asymmetric : (x y : E) → before x y ≡ true → before y x ≡ false
-    asymmetric x y h =
-        elim (cases_Bool (before y x)) [
-          | inl b ↦ absurd (false≢true (sym (law.not_self x) ∙ law.trans x y x h b))
-          | inr b ↦ b
-        ]
-
-    -- what is not after an element is before what that is before
-    before_from : (x e f : E) → before x e ≡ false → before x f ≡ true → before e f ≡ true
-    before_from x e f h k =
-        elim (cases_Bool (before e x)) [
-          | inl b ↦ law.trans e x f b k
-          | inr b ↦ subst (λ y. before y f ≡ true) (law.total x e h b) k
-        ]
-
-    pub not_before_trans : (x y z : E) → before y x ≡ false → before z y ≡ false → before z x ≡ false
-    not_before_trans x y z h k =
-        elim (cases_Bool (before z x)) [
-          | inl b ↦ absurd (false≢true (sym h ∙ before_from z y x k b))
-          | inr b ↦ b
-        ]
-
     pair : (e f : E) (r : List E) → cond (before f e) (f ∷ e ∷ r) (e ∷ f ∷ r) ≡ cond (before e f) (e ∷ f ∷ r) (f ∷ e ∷ r)
     pair e f r =
         elim (cases_Bool (before f e)) [
-          | inl b ↦ rw (b, asymmetric f e b) refl
+          | inl b ↦ rw (b, not_back before same law f e b) refl
           | inr b ↦
               elim (cases_Bool (before e f)) [
                 | inl c ↦ rw (b, c) refl
                 | inr c ↦ rw (b, c) (ap (λ x. x ∷ f ∷ r) (law.total e f c b) ∙ ap (λ x. f ∷ x ∷ r) (law.total f e b c))
               ]
         ]
+
+    -- the list in order rises
+    pub rising-in_order : (xs : List E) → IsRising before same (in_order before xs)
+    unfolding in_order
+    rising-in_order [] = tt
+    rising-in_order (x ∷ xs) = rising-insert before same law x (in_order before xs) (rising-in_order xs)
 
     pub behind : (x e : E) (xs : List E) → before x e ≡ true → insert before e (x ∷ xs) ≡ x ∷ insert before e xs
     behind x e xs b = rw b refl
@@ -120,7 +78,7 @@ module _ {E : Type 0} (before same : E → E → Bool) where
 
     round : (e f x : E) (xs : List E) → before x f ≡ true → before x e ≡ false → insert before e (insert before f (x ∷ xs)) ≡ insert before f (insert before e (x ∷ xs))
     round e f x xs b c =
-        (ap (insert before e) (behind x f xs b) ∙ ahead x e (insert before f xs) c) ∙ sym (ap (insert before f) (ahead x e xs c) ∙ behind e f (x ∷ xs) (before_from x e f c b) ∙ ap (λ r. e ∷ r) (behind x f xs b))
+        (ap (insert before e) (behind x f xs b) ∙ ahead x e (insert before f xs) c) ∙ sym (ap (insert before f) (ahead x e xs c) ∙ behind e f (x ∷ xs) (before_from before same law x e f c b) ∙ ap (λ r. e ∷ r) (behind x f xs b))
 
     -- the order in which two go in does not count
     pub insert-insert : (e f : E) (xs : List E) → insert before e (insert before f xs) ≡ insert before f (insert before e xs)
@@ -208,20 +166,12 @@ module _ {E : Type 0} (before same : E → E → Bool) where
     insert_all_in_order [] = refl
     insert_all_in_order (x ∷ xs) = insert_all-insert x xs [] ∙ ap (insert before x) (insert_all_in_order xs)
 
-    times-insert : (e x : E) (xs : List E) → times same e (insert before x xs) ≡ one same e x + times same e xs
-    times-insert e x [] = refl
-    times-insert e x (y ∷ ys) =
-        elim (cases_Bool (before y x)) [
-          | inl b ↦ let h = times-insert e x ys in rw b (omega arith)
-          | inr b ↦ rw b refl
-        ]
-
     -- how often an element stands in a list does not change
     pub times-in_order : (e : E) (xs : List E) → times same e (in_order before xs) ≡ times same e xs
     unfolding in_order
     times-in_order e [] = refl
     times-in_order e (x ∷ xs) =
-        times-insert e x (in_order before xs) ∙ ap (λ n. one same e x + n) (times-in_order e xs)
+        times-insert before same e x (in_order before xs) ∙ ap (λ n. one same e x + n) (times-in_order e xs)
 
     -- what is not there does not come out
     pub take_out_none : (e : E) (xs : List E) → times same e xs ≡ 0 → take_out same e xs ≡ xs

@@ -1,4 +1,4 @@
--- The heap that holds the pending events.
+-- The heap that holds the pending events (own).
 use Rattle.std.specs.Prelude.{Bool, cond, Option, Some, None, List, [], ◌∷◌, map}
 use Rattle.std.specs.declared.cmp.Reverse.{Reverse}
 use Rattle.tw_event.specs.declared.event.Event.{Event}
@@ -6,8 +6,8 @@ use Rattle.tw_event.specs.Order.{event_before}
 use Rattle.tw_sim.specs.Ordered.{insert}
 
 -- the events of a heap's items
-abbrev pub events_of : List (Reverse Event) → List Event
-events_of items = map (λ x. x.0) items
+abbrev pub heap_events : List (Reverse Event) → List Event
+heap_events items = map (λ x. x.0) items
 
 -- the elements of a list in order
 unfoldable pub in_order : {E : Type 0} → (E → E → Bool) → List E → List E

@@ -1,8 +1,9 @@
--- The events that are pending.
-use Rattle.std.specs.Prelude.{ℕ, ◌≡◌, ◌<◌, List, [], ◌∷◌, false}
+-- The events that are pending (own).
+use Rattle.std.specs.Prelude.{ℕ, ◌<◌, List}
 use Rattle.std.specs.List.{AllByRecursion}
 use Rattle.tw_event.specs.declared.event.Event.{Event}
-use Rattle.tw_event.specs.Order.{event_before}
+use Rattle.tw_event.specs.Order.{event_before, event_same}
+use Rattle.tw_sim.specs.Rising.{IsRising}
 
 -- pending events, each as often as it is pending, in rising order
 pub record Queue : Type 0 where
@@ -12,15 +13,11 @@ pub record Queue : Type 0 where
   -- how many more there is memory for
   pub room : ℕ
 
--- no event stands behind a later one
-abbrev pub IsRising : List Event → Type 0
-IsRising [] = Unit {0}
-IsRising (x ∷ xs) = AllByRecursion (λ e. event_before e x ≡ false) xs × IsRising xs
-
 -- each is for one of the routers
 abbrev pub AreFor : ℕ → List Event → Type 0
 AreFor routers events = AllByRecursion (λ e. e.dst < routers) events
 
+-- its events are in order, and for its routers
 pub record IsQueue (q : Queue) : Type 0 where
-  pub rising : IsRising q.events
+  pub rising : IsRising event_before event_same q.events
   pub homes : AreFor q.routers q.events

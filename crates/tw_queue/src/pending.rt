@@ -3,7 +3,7 @@ ghost use Rattle.tw_event.specs.Order.{event_before, event_same};
 ghost use Rattle.tw_sim.specs.Ordered.{insert, take_out, times};
 ghost use Rattle.std.specs.BinaryHeap.{heap_capacity, heap_items, IsHeap};
 ghost use Rattle.std.specs.List.Sorted.{IsPermutation};
-ghost use Rattle.tw_queue.specs.Heap.{earlier, events_of, least_with};
+ghost use Rattle.tw_queue.specs.Heap.{earlier, heap_events, least_with};
 ghost use Rattle.tw_queue.specs.Queue.{IsQueue};
 
 use std::alloc::{AllocError, Global};
@@ -15,6 +15,7 @@ use tw_event::Event;
 /// Events that wait to be handled, each as often as it was inserted.
 #[derive(Drop)]
 pub struct Pending {
+    alloc: Global,
     routers: u32,
     heap: BinaryHeap<Reverse<Event>>,
 }
@@ -24,13 +25,13 @@ impl Model for Pending {
     ghost use Rattle.tw_event.specs.Order.{event_before};
     ghost use Rattle.std.specs.BinaryHeap.{heap_capacity, heap_items, heap_len, IsHeap};
     ghost use Rattle.tw_queue.specs.Queue.{Queue, AreFor};
-    ghost use Rattle.tw_queue.specs.Heap.{events_of, in_order};
+    ghost use Rattle.tw_queue.specs.Heap.{heap_events, in_order};
 
     ghost Value = { Queue };
 
-    ghost view = { λ a. record { routers = a.routers; events = in_order event_before (events_of (heap_items a.heap)); room = heap_capacity a.heap - heap_len a.heap } };
+    ghost view = { λ a. record { routers = a.routers; events = in_order event_before (heap_events (heap_items a.heap)); room = heap_capacity a.heap - heap_len a.heap } };
 
-    ghost invariant = { λ a. IsHeap ⟦<Reverse<Event> as Ord>⟧.cmp (heap_items a.heap) × AreFor a.routers (events_of (heap_items a.heap)) };
+    ghost invariant = { λ a. IsHeap ⟦<Reverse<Event> as Ord>⟧.cmp (heap_items a.heap) × AreFor a.routers (heap_events (heap_items a.heap)) };
 }
 
 impl Pending {
@@ -40,6 +41,7 @@ impl Pending {
         ensures empty { IfOk result (λ q. q.events ≡ []) }
     {
         Ok(Pending {
+            alloc,
             routers,
             heap: BinaryHeap::new(alloc),
         })
@@ -107,7 +109,7 @@ impl Pending {
         ensures events { self.new.events ≡ drop 1 self.old.events }
         ensures home { IfSome result (λ e. e.dst < self.old.routers) }
         ensures routers { self.new.routers ≡ self.old.routers }
-        ensures room { OnSome result (self.new.room ≡ self.old.room + 1) }
+        ensures room { self.old.room ≤ self.new.room }
         ensures none { IfNone result (self.new ≡ self.old) }
     {
         let event = self.heap.pop()?;
@@ -142,18 +144,19 @@ impl Pending {
     }
 
     /// All events, in rising order.
-    pub fn list(&self, alloc: Global) -> Result<Vec<Event>, AllocError>
+    pub fn list(&self) -> Result<Vec<Event>, AllocError>
         ensures events { IfOk result (λ v. v.items ≡ self.now.events) }
         ensures queue { IsQueue self.now }
     {
-        let mut events = events_of(alloc, self.heap.as_slice())?;
+        let mut events = collect_events(self.alloc, self.heap.as_slice())?;
         events.sort_unstable();
         Ok(events)
     }
 }
 
-fn events_of(alloc: Global, items: &[Reverse<Event>]) -> Result<Vec<Event>, AllocError>
-    ensures { IfOk result (λ v. v.items ≡ events_of items.now) }
+// The events of a heap's items.
+fn collect_events(alloc: Global, items: &[Reverse<Event>]) -> Result<Vec<Event>, AllocError>
+    ensures { IfOk result (λ v. v.items ≡ heap_events items.now) }
 {
     items.iter().map(|item| item.0).collect(alloc)
 }
@@ -180,7 +183,7 @@ fn remove_from(heap: &mut BinaryHeap<Reverse<Event>>, event: Event)
 
 // The least of the events for this router.
 fn least_of(items: &[Reverse<Event>], router: u32) -> Option<Event>
-    ensures { result ≡ least_with None (filter (λ e. e.dst == router) (events_of items.now)) }
+    ensures { result ≡ least_with None (filter (λ e. e.dst == router) (heap_events items.now)) }
 {
     let mut least = None;
     for item in items {

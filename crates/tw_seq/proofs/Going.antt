@@ -3,6 +3,7 @@ use Rattle.std.proofs.Common.{◌≡◌, ℕ, ◌+◌, ◌<◌, ◌≤◌, min, 
 use Rattle.std.specs.List.{range_with_len}
 use Rattle.std.proofs.lemmas.Bool.{cases_Bool}
 use Rattle.std.proofs.lemmas.List.{reverse-reverse}
+use Rattle.std.proofs.lemmas.Simd.{map-map}
 use Rattle.tw_event.specs.declared.event.Event.{Event}
 use Rattle.tw_model.specs.declared.outcome.RouterEnd.{RouterEnd}
 use Rattle.tw_model.specs.Case.{Case, simulation}
@@ -15,7 +16,7 @@ use Rattle.tw_sim.proofs.Rising.{rising-begin, rising-turns}
 use Rattle.tw_sim.proofs.Seq as model
 use Rattle.tw_sim.proofs.Seq.{turns-add, turns_later, weight-turn}
 use Rattle.tw_seq.specs.Outcome.{end_of, least}
-use Rattle.tw_seq.specs.Run.{Continues, IsBegun, IsNext, IsNextRun, IsOver, Run, complete, router_after, routers_after, state_in, world}
+use Rattle.tw_seq.specs.Run.{Continues, IsBegun, IsNext, IsNextRun, NoneBefore, Run, complete_run, router_after, routers_after, world}
 use Rattle.tw_seq.proofs.Handled.{get_or-routers}
 use Rattle.tw_seq.proofs.Steps.{is_whole}
 
@@ -45,19 +46,20 @@ weight_next b c e h first next =
     subst (λ case. weight (simulation case) c.stop c.pending < weight m b.stop b.pending) (sym next.0)
     (subst (λ t. weight m t c.pending < weight m b.stop b.pending) (sym next.1) left_now)
 
-over_too : (case : Case) (stop : ℕ) (events : List Event) → IsOver stop events → model.IsOver (simulation case) stop events
+over_too : (case : Case) (stop : ℕ) (events : List Event) → NoneBefore stop events → model.IsOver (simulation case) stop events
 over_too case stop [] h = h
 over_too case stop (e ∷ events) h = h
 
 -- a run with nothing pending before its stop is complete
-pub complete_at : (run : Run) → IsBegun run → IsOver run.stop run.pending → run ≡ complete run.case run.stop
+pub complete_at : (run : Run) → IsBegun run → NoneBefore run.stop run.pending → run ≡ complete_run run.case run.stop
 complete_at run h none =
     let m = simulation run.case in
     let whole = is_whole m (lawful run.case h.case) h.turns.0 run.stop (world run) h.turns.1 (over_too run.case run.stop run.pending none) in
     let events : run.events ≡ reverse (seq m run.stop).log = sym (reverse-reverse run.events) ∙ ap (λ w. reverse w.log) whole in
     λ i. record { case = run.case; stop = run.stop; events = events i; pending = (whole i).rest }
 
-least_past : (events : List Event) (k t : ℕ) (m : Simulation State Event) → ((x : Event) → 0 < times m x events → k ≤ x.time) → ((x : Event) → m.same x x ≡ true) → min k (least events t) ≡ min k t
+least_past : (events : List Event) (k t : ℕ) (m : Simulation State Event) → ((x : Event) → 0 < times m x events → k ≤ x.time) → ((x : Event) → m.same x x ≡ true)
+    → min k (least events t) ≡ min k t
 least_past [] k t m h self = refl
 least_past (e ∷ events) k t m h self =
     let own : 0 < times m e (e ∷ events) = rw (self e) (omega arith) in
@@ -91,22 +93,20 @@ bound_first run e h next =
     let bound : e.time ≡ least (e ∷ next.0) run.stop = omega arith in
     bound ∙ ap (λ events. least events run.stop) (sym next.1)
 
-bound_late : (case : Case) (events : List Event) (t : ℕ) → IsLawful (simulation case) → rising.IsRising (simulation case) events → IsOver t events → t ≡ least events t
+bound_late : (case : Case) (events : List Event) (t : ℕ) → IsLawful (simulation case) → rising.IsRising (simulation case) events → NoneBefore t events
+    → t ≡ least events t
 bound_late case [] t law r h = refl
 bound_late case (e ∷ later) t law r h = let first = least_is case e later t law r in omega arith
 
-pub bound_over : (run : Run) → IsBegun run → IsOver run.stop run.pending → run.stop ≡ least run.pending run.stop
+pub bound_over : (run : Run) → IsBegun run → NoneBefore run.stop run.pending → run.stop ≡ least run.pending run.stop
 bound_over run h none = bound_late run.case run.pending run.stop (lawful run.case h.case) (begun_rising run h) none
 
 -- every router of the run
-pub router_of : (case : Case) (events : List Event) (routers : List Router) (r : ℕ) (d : Router) → routers ≡ routers_after case events → r < case.net.nodes → get_or routers r d ≡ router_after case events r
+pub router_of : (case : Case) (events : List Event) (routers : List Router) (r : ℕ) (d : Router) → routers ≡ routers_after case events → r < case.net.nodes
+    → get_or routers r d ≡ router_after case events r
 router_of case events routers r d are below = ap (λ rs. get_or rs r d) are ∙ get_or-routers case events r d below
 
-map-map : {A B C : Type 0} (g : B → C) (f : A → B) (xs : List A) → map g (map f xs) ≡ map (λ x. g (f x)) xs
-map-map g f [] = refl
-map-map g f (x ∷ xs) = ap (λ l. g (f x) ∷ l) (map-map g f xs)
-
-pub ends_of : (case : Case) (events : List Event) (routers : List Router) (ends : List RouterEnd) → routers ≡ routers_after case events → ends ≡ map (λ router. end_of router.state) routers
-    → ends ≡ map (λ r. end_of (state_in case events r)) (range_with_len 0 case.net.nodes)
+pub ends_of : (case : Case) (events : List Event) (routers : List Router) (ends : List RouterEnd) → routers ≡ routers_after case events → ends ≡ map end_of routers
+    → ends ≡ map (λ r. end_of (router_after case events r)) (range_with_len 0 case.net.nodes)
 ends_of case events routers ends are h =
-    h ∙ (ap (map (λ router. end_of router.state)) are ∙ map-map (λ router. end_of router.state) (router_after case events) (range_with_len 0 case.net.nodes))
+    h ∙ (ap (map end_of) are ∙ map-map end_of (router_after case events) (range_with_len 0 case.net.nodes))

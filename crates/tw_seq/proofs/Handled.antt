@@ -7,8 +7,8 @@ use Rattle.tw_event.specs.declared.event.Event.{Event}
 use Rattle.tw_model.specs.Case.{Case, simulation}
 use Rattle.tw_model.specs.Quiet.{last_change}
 use Rattle.tw_model.specs.State.{Router}
-use Rattle.tw_seq.specs.Run.{router_after, routers_after, state_in}
-use Rattle.tw_seq.specs.Turn.{after_event}
+use Rattle.tw_seq.specs.Run.{router_after, routers_after}
+use Rattle.tw_handlers.specs.Calls.{after_event}
 use Rattle.tw_seq.proofs.Steps.{reverse-push, state_own, state_other}
 
 own-router : (case : Case) (events : List Event) (e : Event) → after_event (router_after case events e.dst) e ≡ router_after case (events ++ e ∷ []) e.dst
@@ -46,5 +46,6 @@ set-routers case events e within =
 -- the time of the last change, with one more event
 pub last_change-push : (case : Case) (events : List Event) (e : Event)
     → last_change case (reverse (events ++ e ∷ []))
-    ≡ (if not ((state_in case events e.dst).rib.0 == (after_event (router_after case events e.dst) e).state.rib.0) then e.time else last_change case (reverse events))
+    ≡ (if not ((router_after case events e.dst).state.rib.0 == (after_event (router_after case events e.dst) e).state.rib.0) then e.time
+    else last_change case (reverse events))
 last_change-push case events e = rw reverse-push

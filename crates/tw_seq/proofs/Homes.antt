@@ -3,19 +3,16 @@ use Rattle.std.proofs.Common.{◌≡◌, ℕ, ◌+◌, ◌<◌, true, List, [], 
 use Rattle.std.specs.List.{AllByRecursion}
 use Rattle.tw_event.specs.declared.event.Event.{Event}
 use Rattle.tw_model.specs.Case.{Case, IsCase, opening_events, simulation}
-use Rattle.tw_model.specs.Effect.{effect, suits}
+use Rattle.tw_model.specs.Effect.{suits}
 use Rattle.tw_sim.specs.Seq.{begin, insert_all, turns}
-use Rattle.tw_sim.specs.Simulation.{Simulation, IsLawful, times}
-use Rattle.tw_sim.proofs.Counts.{in_head, one_self, times-insert_all}
+use Rattle.tw_sim.specs.Simulation.{IsLawful, times}
+use Rattle.tw_sim.proofs.Counts.{in_head, is_order, times-insert_all}
+use Rattle.tw_sim.proofs.Ordered.{all_counted}
 use Rattle.tw_sim.proofs.Rising.{AllSuit, suit-begin, suit-turns}
 use Rattle.tw_model.proofs.Within.{suits_within}
-use Rattle.tw_seq.specs.Run.{IsBegun, Run, state_in, world}
+use Rattle.tw_seq.specs.Run.{IsBegun, Run, router_after, world}
+use Rattle.tw_handlers.specs.Calls.{effect_at}
 use Rattle.tw_seq.proofs.Steps.{goes_on, pushed}
-
-all_counted : {S E : Type 0} (m : Simulation S E) → IsLawful m → (P : E → Type 0) (xs : List E) → ((x : E) → 0 < times m x xs → P x) → AllByRecursion P xs
-all_counted m law P [] h = tt
-all_counted m law P (x ∷ xs) h =
-    let own = one_self m law x in (h x (omega arith), all_counted m law P xs (λ y there. h y (omega arith)))
 
 -- the events of a beginning of a run suit their routers
 pub all_suit : (run : Run) → IsLawful (simulation run.case) → IsBegun run → AllSuit (simulation run.case) (world run)
@@ -31,7 +28,7 @@ least_suits run e later law h is =
 
 -- what the least pending event sends
 abbrev pub sends_of : Run → Event → List Event
-sends_of run e = (effect run.case.net e.dst (state_in run.case run.events e.dst) e).sends
+sends_of run e = (effect_at (router_after run.case run.events e.dst) e).sends
 
 -- the run once it has handled its least pending event
 abbrev pub next_run : Run → Event → List Event → Run
@@ -53,14 +50,15 @@ pub sends_home : (run : Run) (e : Event) (later : List Event) → IsLawful (simu
 sends_home run e later law h is soon =
     let m = simulation run.case in
     let after = all_suit (next_run run e later) law (next_begun run e later h is soon) in
-    all_counted m law (λ x. x.dst < run.case.net.nodes) (sends_of run e) (λ x there.
+    all_counted m.before m.same (is_order m law) (λ x. x.dst < run.case.net.nodes) (sends_of run e) (λ x there.
     let counts = times-insert_all m x (sends_of run e) later in
     suits_within run.case.net x.dst x h.case.net (after.pending x (omega arith)))
 
 -- each opening event is for one of the routers
 pub opening_home : (case : Case) → IsLawful (simulation case) → IsCase case → AllByRecursion (λ x. x.dst < case.net.nodes) (opening_events case.scenes)
 opening_home case law h =
-    all_counted (simulation case) law (λ x. x.dst < case.net.nodes) (opening_events case.scenes) (λ x there. suits_within case.net x.dst x h.net (law.suit_opening x there))
+    all_counted (simulation case).before (simulation case).same (is_order (simulation case) law) (λ x. x.dst < case.net.nodes) (opening_events case.scenes)
+    (λ x there. suits_within case.net x.dst x h.net (law.suit_opening x there))
 
 pub homes_at : (case : Case) (routers : ℕ) (events : List Event) → IsLawful (simulation case) → IsCase case → events ≡ opening_events case.scenes → routers ≡ case.net.nodes
     → AllByRecursion (λ x. x.dst < routers) events

@@ -1,12 +1,12 @@
--- A sequential run of a case, as far as it has come.
+-- A sequential run of a case, as far as it has come (own).
 use Rattle.std.specs.Prelude.{ℕ, ◌≡◌, ◌<◌, ◌≤◌, List, [], ◌∷◌, map, true, reverse}
 use Rattle.std.specs.List.{range_with_len}
 use Rattle.tw_event.specs.declared.event.Event.{Event}
 use Rattle.tw_model.specs.Case.{Case, IsCase, simulation}
-use Rattle.tw_model.specs.Effect.{is_full}
 use Rattle.tw_sim.specs.Seq.{World, begin, log, rest, turns}
 use Rattle.tw_sim.specs.Simulation.{only, state}
-use Rattle.tw_model.specs.State.{Router, State}
+use Rattle.tw_model.specs.State.{Router}
+use Rattle.tw_handlers.specs.Calls.{is_full_at}
 
 -- the greatest stop asked for, the events handled, the first one first, and the events pending, the least first
 pub record Run : Type 0 where
@@ -16,24 +16,20 @@ pub record Run : Type 0 where
   pub pending : List Event
 
 -- nothing is handled
-abbrev pub opened : Case → Run
-opened case = record { case = case; stop = 0; events = []; pending = (begin (simulation case)).rest }
+abbrev pub opening_run : Case → Run
+opening_run case = record { case = case; stop = 0; events = []; pending = (begin (simulation case)).rest }
 
 -- all events before the stop are handled
-abbrev pub complete : Case → ℕ → Run
-complete case stop = record { case = case; stop = stop; events = reverse (log (simulation case) stop); pending = rest (simulation case) stop }
+abbrev pub complete_run : Case → ℕ → Run
+complete_run case stop = record { case = case; stop = stop; events = reverse (log (simulation case) stop); pending = rest (simulation case) stop }
 
 -- its events and pending events, as the sequential run has them
 abbrev pub world : Run → World Event
 world run = record { log = reverse run.events; rest = run.pending }
 
--- what router r knows after these events
-abbrev pub state_in : Case → List Event → ℕ → State
-state_in case events r = state (simulation case) r (only (simulation case) r (reverse events))
-
 -- router r after these events
 abbrev pub router_after : Case → List Event → ℕ → Router
-router_after case events r = record { net = case.net; node = r; state = state_in case events r }
+router_after case events r = record { net = case.net; node = r; state = state (simulation case) r (only (simulation case) r (reverse events)) }
 
 -- every router after these events
 abbrev pub routers_after : Case → List Event → List Router
@@ -41,26 +37,27 @@ routers_after case events = map (router_after case events) (range_with_len 0 cas
 
 -- the sequential run has come so far on the way to its stop
 pub record IsBegun (run : Run) : Type 0 where
+  -- what runs is a case
   pub case : IsCase run.case
+  -- its events are those of so many turns
   pub turns : (n : ℕ) × (turns (simulation run.case) n run.stop (begin (simulation run.case)) ≡ world run)
 
 -- the later run has gone on from the earlier
 abbrev pub Continues : Run → Run → Type 0
 Continues earlier later = (n : ℕ) × (turns (simulation earlier.case) n later.stop (world earlier) ≡ world later)
 
--- handling the least pending event, which is before the stop, would pass a counter's limit
-abbrev pub IsStuck : Run → Type 0
-IsStuck run =
-    (e : Event) × (later : List Event) × (run.pending ≡ e ∷ later) × (e.time < run.stop) × (is_full run.case.net e.dst (state_in run.case run.events e.dst) e ≡ true)
-
 -- e is the least pending event, and before the stop
 abbrev pub IsNext : Run → Event → Type 0
 IsNext run e = (later : List Event) × (run.pending ≡ e ∷ later) × (e.time < run.stop)
 
--- no event before the stop is pending: the least isn't
-abbrev pub IsOver : ℕ → List Event → Type 0
-IsOver stop [] = Unit {0}
-IsOver stop (e ∷ later) = stop ≤ e.time
+-- handling the least pending event, which is before the stop, would pass a counter's limit
+abbrev pub IsStuck : Run → Type 0
+IsStuck run = (e : Event) × IsNext run e × (is_full_at (router_after run.case run.events e.dst) e ≡ true)
+
+-- no event of a list in rising order is before t: the first isn't
+abbrev pub NoneBefore : ℕ → List Event → Type 0
+NoneBefore t [] = Unit {0}
+NoneBefore t (e ∷ later) = t ≤ e.time
 
 -- one event more is handled
 abbrev pub IsNextRun : Run → Run → Type 0

@@ -1,7 +1,6 @@
--- One event at one router.
-use Rattle.std.specs.Prelude.{[]}
+-- One event at one router (own).
+use Rattle.std.specs.Prelude.{[], List, slice_index_or}
 use Rattle.tw_event.specs.declared.event.Event.{Event}
-use Rattle.tw_model.specs.Effect.{Reaction, effect}
 use Rattle.tw_model.specs.State.{Router, no_counts}
 use Rattle.tw_model.specs.Net.{empty_path}
 
@@ -9,10 +8,6 @@ use Rattle.tw_model.specs.Net.{empty_path}
 abbrev pub no_router : Router
 no_router = record { net = record { nodes = 0; links = []; lines = [] }; node = 0; state = record { rib = empty_path; rows = []; order = []; counters = no_counts } }
 
--- what handling the event does
-abbrev pub effect_at : Router → Event → Reaction
-effect_at router e = effect router.net router.node router.state e
-
--- the router once it has handled the event
-abbrev pub after_event : Router → Event → Router
-after_event router e = record router { state = (effect_at router e).state }
+-- the router that handles the event
+abbrev pub receiver : List Router → Event → Router
+receiver routers e = slice_index_or routers e.dst no_router

@@ -6,7 +6,7 @@ ghost use Rattle.tw_event.specs.declared.event.Event.{Event};
 ghost use Rattle.tw_model.specs.Case.{Case, IsCase, simulation};
 ghost use Rattle.tw_model.specs.Quiet.{IsQuiet, IsStable};
 ghost use Rattle.tw_sim.specs.Seq.{at, log, rest};
-ghost use Rattle.tw_sim.specs.Simulation.{IsClosed, IsLawful, IsNumbered, times};
+ghost use Rattle.tw_sim.specs.Simulation.{AreClosed, IsClosed, IsLawful, IsNumbered, only, times};
 
 /// What every case simulates keeps the laws that the other laws rest on: a message is later than the
 /// event that sent it, comes from that event's router, is numbered by the rising counter and suits the
@@ -27,6 +27,15 @@ pub fn closed_unique()
     ensures closed { (case : Case) → IsCase case → (t : ℕ) → IsClosed (simulation case) t (log (simulation case) t) }
     ensures unique { (case : Case) → IsCase case → (t : ℕ) (one two : List Event)
         → IsClosed (simulation case) t one → IsClosed (simulation case) t two → one ≡ two }
+{}
+
+/// Histories, a list of events for each router, that are closed below a time are those of the run to
+/// it, router by router. Each has its newest event first.
+pub fn closed_histories_unique()
+    ensures closed { (case : Case) → IsCase case → (t : ℕ)
+        → AreClosed (simulation case) t (λ r. only (simulation case) r (log (simulation case) t)) }
+    ensures unique { (case : Case) → IsCase case → (t : ℕ) (histories : ℕ → List Event)
+        → AreClosed (simulation case) t histories → (r : ℕ) → histories r ≡ only (simulation case) r (log (simulation case) t) }
 {}
 
 /// Where nothing is pending any more, every router has the best path that its neighbours' present

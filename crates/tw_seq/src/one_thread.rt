@@ -1,17 +1,20 @@
 ghost use Rattle.std.specs.Prelude.{◌≡◌, ◌≤◌, ◌<◌, [], max, IfNone, IfOk, IfSome, OnErr, OnOk, IsErrOf};
 ghost use Rattle.tw_model.specs.Summary.{summary_of};
+ghost use Rattle.tw_model.specs.declared.limits.TheConstants.{LATEST};
+ghost use Rattle.tw_model.specs.declared.memory.OrMemory.TheVariants as or_memory;
+ghost use Rattle.tw_handlers.specs.Calls.{counter_full};
 ghost use Rattle.tw_seq.specs.Outcome.{least, outcome_of};
-ghost use Rattle.tw_seq.specs.Run.{Continues, IsBegun, IsNext, IsNextRun, IsOver, IsStuck, complete, opened, router_after};
+ghost use Rattle.tw_seq.specs.Run.{Continues, IsBegun, IsNext, IsNextRun, IsStuck, NoneBefore, complete_run, opening_run, router_after};
 
-use crate::fault::RunFault;
 use crate::routers::{opening_routers, router_ends};
 use crate::turn::{handle_at, insert_each, make_room, opening_queue, undo_at};
 use smallvec::SmallVec;
 use std::alloc::{AllocError, Global};
 use std::marker::Model;
 use tw_event::Event;
+use tw_handlers::CounterFull;
 use tw_instance::Case;
-use tw_model::Outcome;
+use tw_model::{OrMemory, Outcome};
 use tw_queue::Pending;
 use tw_router::Router;
 
@@ -42,7 +45,7 @@ impl<'a> Model for OneThread<'a> {
 impl<'a> OneThread<'a> {
     /// The run of this case before its first event.
     pub fn new(alloc: Global, case: &'a Case) -> Result<OneThread<'a>, AllocError>
-        ensures { IfOk result (λ run. run ≡ opened case.now) }
+        ensures { IfOk result (λ run. run ≡ opening_run case.now) }
     {
         let routers = opening_routers(alloc, case.instance())?;
         let pending = opening_queue(alloc, case)?;
@@ -62,15 +65,15 @@ impl<'a> OneThread<'a> {
     /// After a fault the events before the refused one stand handled, and nothing else has changed; a
     /// later call goes on from there. It is `CounterFull` exactly where handling the least pending event
     /// would pass a counter's limit, and want of memory else.
-    pub fn run_to(&mut self, stop: u64) -> Result<(), RunFault>
-        requires { stop ≤ 1000000000 }
-        ensures ok { OnOk result (self.new ≡ complete self.old.case (max self.old.stop stop)) }
+    pub fn run_to(&mut self, stop: u64) -> Result<(), OrMemory<CounterFull>>
+        requires { stop ≤ LATEST }
+        ensures ok { OnOk result (self.new ≡ complete_run self.old.case (max self.old.stop stop)) }
         ensures case { self.new.case ≡ self.old.case }
         ensures stop { self.new.stop ≡ max self.old.stop stop }
         ensures goes_on { Continues self.old self.new }
         ensures begun { IsBegun self.new }
-        ensures full { IsErrOf result RunFault.CounterFull → IsStuck self.new }
-        ensures stuck { IsStuck self.new → IsErrOf result RunFault.CounterFull }
+        ensures full { IsErrOf result (or_memory.Fault counter_full) → IsStuck self.new }
+        ensures stuck { IsStuck self.new → IsErrOf result (or_memory.Fault counter_full) }
     {
         self.raise_stop(stop);
         while let Some(event) = self.next() {
@@ -97,11 +100,11 @@ impl<'a> OneThread<'a> {
     }
 
     /// The pending events, in their order.
-    pub fn pending(&self, alloc: Global) -> Result<Vec<Event>, AllocError>
+    pub fn pending(&self) -> Result<Vec<Event>, AllocError>
         ensures value { IfOk result (λ events. events.items ≡ self.now.pending) }
         ensures begun { IsBegun self.now }
     {
-        self.pending.list(alloc)
+        self.pending.list()
     }
 
     /// The least of the stop and of the times pending: all events before it are handled.
@@ -116,32 +119,33 @@ impl<'a> OneThread<'a> {
     }
 
     /// What the run has left so far.
-    pub fn outcome(&self, alloc: Global) -> Result<Outcome, AllocError>
+    pub fn outcome(&self) -> Result<Outcome, AllocError>
         ensures value { IfOk result (λ outcome. summary_of outcome ≡ outcome_of self.now) }
         ensures begun { IsBegun self.now }
     {
-        let mut outcome = self.without_events(alloc)?;
-        outcome.events = Vec::from_slice(alloc, &self.events)?;
+        let mut outcome = self.without_events()?;
+        outcome.events = Vec::from_slice(*self.events.allocator(), &self.events)?;
         Ok(outcome)
     }
 
     /// What the run has left. It takes no memory for the events handled: they are moved out of the run.
-    pub fn into_outcome(self, alloc: Global) -> Result<Outcome, AllocError>
+    pub fn into_outcome(self) -> Result<Outcome, AllocError>
         ensures value { IfOk result (λ outcome. summary_of outcome ≡ outcome_of self.entry) }
         ensures begun { IsBegun self.entry }
     {
-        let mut outcome = self.without_events(alloc)?;
+        let mut outcome = self.without_events()?;
         outcome.events = self.events;
         Ok(outcome)
     }
 
     /// What the run has left so far, but for the events handled.
-    fn without_events(&self, alloc: Global) -> Result<Outcome, AllocError>
+    fn without_events(&self) -> Result<Outcome, AllocError>
         ensures value { IfOk result (λ outcome. summary_of outcome ≡ record (outcome_of self.now) { events = [] }) }
         ensures begun { IsBegun self.now }
     {
+        let alloc = *self.events.allocator();
         let routers = router_ends(alloc, &self.routers)?;
-        let pending = self.pending.list(alloc)?;
+        let pending = self.pending.list()?;
         Ok(Outcome {
             stop: self.stop,
             bound: self.bound(),
@@ -154,7 +158,7 @@ impl<'a> OneThread<'a> {
 
     /// The stop becomes the greater of itself and `stop`.
     fn raise_stop(&mut self, stop: u64)
-        requires { stop ≤ 1000000000 }
+        requires { stop ≤ LATEST }
         ensures { self.new ≡ record self.old { stop = max self.old.stop stop } }
     {
         if self.stop < stop {
@@ -165,7 +169,7 @@ impl<'a> OneThread<'a> {
     /// The least pending event, where it is before the stop.
     fn next(&self) -> Option<Event>
         ensures some { IfSome result (λ e. IsNext self.now e) }
-        ensures none { IfNone result (IsOver self.now.stop self.now.pending) }
+        ensures none { IfNone result (NoneBefore self.now.stop self.now.pending) }
         ensures begun { IsBegun self.now }
     {
         let event = self.pending.least()?;
@@ -177,19 +181,19 @@ impl<'a> OneThread<'a> {
     }
 
     /// Handles the least pending event. An error leaves the run as it was.
-    fn handle_next(&mut self, event: &Event) -> Result<(), RunFault>
+    fn handle_next(&mut self, event: &Event) -> Result<(), OrMemory<CounterFull>>
         requires { IsNext self.old event.now }
         ensures ok { OnOk result (IsNextRun self.old self.new) }
         ensures err { OnErr result (self.new ≡ self.old) }
-        ensures full { IsErrOf result RunFault.CounterFull → IsStuck self.old }
-        ensures stuck { IsStuck self.old → IsErrOf result RunFault.CounterFull }
+        ensures full { IsErrOf result (or_memory.Fault counter_full) → IsStuck self.old }
+        ensures stuck { IsStuck self.old → IsErrOf result (or_memory.Fault counter_full) }
     {
         let instance = self.case.instance();
         let mut sends: SmallVec<Event, 8> = SmallVec::new(*self.events.allocator());
         let note = handle_at(instance, &mut self.routers, event, &mut sends)?;
         if let Err(error) = make_room(&mut self.events, &mut self.pending, sends.len()) {
             undo_at(instance, &mut self.routers, event, note, &mut sends);
-            return Err(RunFault::from(error));
+            return Err(OrMemory::from(error));
         }
         self.pending.take_least();
         insert_each(&mut self.pending, &sends);

@@ -29,7 +29,7 @@ pub(crate) fn router_ends(
     alloc: Global,
     routers: &[Router<'_>],
 ) -> Result<Vec<RouterEnd>, AllocError>
-    ensures { IfOk result (λ ends. ends.items ≡ map (λ router. end_of router.state) routers.now) }
+    ensures { IfOk result (λ ends. ends.items ≡ map end_of routers.now) }
 {
     let mut ends = Vec::new(alloc);
     for router in routers {

@@ -1,19 +1,21 @@
-ghost use Rattle.std.specs.Prelude.{◌≡◌, ◌≤◌, ◌<◌, [], ◌++◌, length, slice_index_or, slice_set, vec_capacity, vec_len, IfOk, OnErr, OnOk, IsErrOf, IsTrue, not, ◌==◌, ◌↔◌};
+ghost use Rattle.std.specs.Prelude.{◌≡◌, ◌≤◌, ◌<◌, [], ◌++◌, length, slice_set, vec_capacity, vec_len, IfOk, OnErr, OnOk, IsErrOf, IsTrue, not, ◌==◌, ◌↔◌};
 ghost use Rattle.tw_event.specs.Order.{event_before};
 ghost use Rattle.tw_model.specs.Case.{opening_events};
-ghost use Rattle.tw_model.specs.Effect.{effect, fits, is_full};
+ghost use Rattle.tw_model.specs.declared.memory.OrMemory.TheVariants as or_memory;
+ghost use Rattle.tw_model.specs.Effect.{effect, fits};
 ghost use Rattle.tw_sim.specs.Ordered.{insert_all};
 ghost use Rattle.tw_model.specs.State.{State};
+ghost use Rattle.tw_handlers.specs.Calls.{after_event, counter_full, effect_at, is_full_at};
 ghost use Rattle.tw_handlers.specs.Record.{IsHandled};
 ghost use Rattle.tw_queue.specs.Queue.{AreFor};
-ghost use Rattle.tw_seq.specs.Turn.{effect_at, after_event, no_router};
+ghost use Rattle.tw_seq.specs.Turn.{receiver};
 
-use crate::fault::RunFault;
 use smallvec::SmallVec;
 use std::alloc::{AllocError, Global};
 use tw_event::Event;
-use tw_handlers::{Fault, UndoRecord, handle, undo};
+use tw_handlers::{CounterFull, UndoRecord, handle_fitting, undo};
 use tw_instance::{Case, Instance};
+use tw_model::OrMemory;
 use tw_queue::Pending;
 use tw_router::Router;
 
@@ -24,30 +26,24 @@ pub(crate) fn handle_at(
     routers: &mut [Router<'_>],
     event: &Event,
     sends: &mut SmallVec<Event, 8>,
-) -> Result<UndoRecord, RunFault>
+) -> Result<UndoRecord, OrMemory<CounterFull>>
     requires within { event.now.dst < length routers.old }
-    requires net { (slice_index_or routers.old event.now.dst no_router).net ≡ instance.now }
-    requires fits { IsTrue (fits (slice_index_or routers.old event.now.dst no_router).net (slice_index_or routers.old event.now.dst no_router).node event.now) }
+    requires net { (receiver routers.old event.now).net ≡ instance.now }
+    requires fits { let router = receiver routers.old event.now in IsTrue (fits router.net router.node event.now) }
     ensures routers { OnOk result
-        (routers.new ≡ slice_set routers.old event.now.dst (after_event (slice_index_or routers.old event.now.dst no_router) event.now)) }
+        (routers.new ≡ slice_set routers.old event.now.dst (after_event (receiver routers.old event.now) event.now)) }
     ensures sends { OnOk result
-        (sends.new.items ≡ sends.old.items ++ (effect_at (slice_index_or routers.old event.now.dst no_router) event.now).sends) }
-    ensures handled { let router = slice_index_or routers.old event.now.dst no_router in IfOk result
+        (sends.new.items ≡ sends.old.items ++ (effect_at (receiver routers.old event.now) event.now).sends) }
+    ensures handled { let router = receiver routers.old event.now in IfOk result
         (λ note. IsHandled router.net router.node router.state event.now note (after_event router event.now).state) }
-    ensures changed { IfOk result
-        (λ note. note.changed ≡ not ((slice_index_or routers.old event.now.dst no_router).state.rib.0 == (after_event (slice_index_or routers.old event.now.dst no_router) event.now).state.rib.0)) }
+    ensures changed { let router = receiver routers.old event.now in IfOk result
+        (λ note. note.changed ≡ not (router.state.rib.0 == (after_event router event.now).state.rib.0)) }
     ensures err { OnErr result (routers.new ≡ routers.old) }
     ensures unsent { OnErr result (sends.new.items ≡ sends.old.items) }
-    ensures full { IsErrOf result RunFault.CounterFull
-        ↔ IsTrue (is_full (slice_index_or routers.old event.now.dst no_router).net (slice_index_or routers.old event.now.dst no_router).node (slice_index_or routers.old event.now.dst no_router).state event.now) }
+    ensures full { IsErrOf result (or_memory.Fault counter_full) ↔ IsTrue (is_full_at (receiver routers.old event.now) event.now) }
 {
     let router = &mut routers[event.dst as usize];
-    match handle(instance, router, event, sends) {
-        Ok(note) => Ok(note),
-        Err(Fault::Foreign) => unreachable!(),
-        Err(Fault::CounterFull) => Err(RunFault::CounterFull),
-        Err(Fault::Memory) => Err(RunFault::Memory),
-    }
+    handle_fitting(instance, router, event, sends)
 }
 
 /// Takes back the event that its router handled last. This cannot fail: the list that held what the event
@@ -60,10 +56,10 @@ pub(crate) fn undo_at(
     sends: &mut SmallVec<Event, 8>,
 )
     requires within { event.now.dst < length routers.old }
-    requires net { (slice_index_or routers.old event.now.dst no_router).net ≡ instance.now }
-    requires handled { let router = slice_index_or routers.old event.now.dst no_router in (s : State)
+    requires net { (receiver routers.old event.now).net ≡ instance.now }
+    requires handled { let router = receiver routers.old event.now in (s : State)
         × IsHandled router.net router.node s event.now note router.state × (length (effect router.net router.node s event.now).sends ≤ sends.old.capacity) }
-    ensures { let router = slice_index_or routers.old event.now.dst no_router in (s : State)
+    ensures { let router = receiver routers.old event.now in (s : State)
         → IsHandled router.net router.node s event.now note router.state
         → routers.new ≡ slice_set routers.old event.now.dst (record router { state = s }) }
 {

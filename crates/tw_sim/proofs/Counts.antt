@@ -1,10 +1,12 @@
 -- Counted lists of events: how often an event stands in a list after an append, an insertion or a filter.
-use Rattle.std.proofs.Common.{◌≡◌, ℕ, suc, zero, ◌+◌, ◌<◌, ◌≤◌, Bool, true, false, List, [], ◌∷◌, ◌++◌, length, reverse, refl, ap, subst, ◌⊎◌, inl, inr, arith, filter}
+use Rattle.std.proofs.Common.{◌≡◌, ℕ, suc, zero, ◌+◌, ◌<◌, ◌≤◌, Bool, true, false, List, [], ◌∷◌, ◌++◌, reverse, refl, subst, ap, ◌⊎◌, inl, inr, arith, filter}
 use Rattle.std.proofs.lemmas.Bool.{cases_Bool, both_ways}
 use Rattle.std.proofs.lemmas.List.{reverse-append}
 use Rattle.tw_sim.specs.Ordered as ordered
 use Rattle.tw_sim.specs.Simulation.{Simulation, IsLawful, one, times}
 use Rattle.tw_sim.specs.Seq.{insert, insert_all}
+use Rattle.tw_sim.proofs.Ordered as plain
+use Rattle.tw_sim.proofs.Ordered.{IsOrder}
 
 pub none : (n : ℕ) → (0 < n → ⊥) → n ≡ 0
 none zero h = refl
@@ -21,28 +23,10 @@ module _ {S E : Type 0} (m : Simulation S E) where
 
   -- an insertion adds one count
   pub times-insert : (e x : E) (xs : List E) → times m e (insert m x xs) ≡ one m e x + times m e xs
-  times-insert e x [] = refl
-  times-insert e x (y ∷ ys) =
-      elim (cases_Bool (m.before y x)) [
-        | inl b ↦ let h = times-insert e x ys in rw b (omega arith)
-        | inr b ↦ rw b refl
-      ]
+  times-insert = plain.times-insert m.before m.same
 
   pub times-insert_all : (e : E) (xs ys : List E) → times m e (insert_all m xs ys) ≡ times m e xs + times m e ys
-  times-insert_all e [] ys = omega arith
-  times-insert_all e (x ∷ xs) ys = let h = times-insert_all e xs (insert m x ys) in let k = times-insert e x ys in omega arith
-
-  pub length-insert : (x : E) (xs : List E) → length (insert m x xs) ≡ suc (length xs)
-  length-insert x [] = refl
-  length-insert x (y ∷ ys) =
-      elim (cases_Bool (m.before y x)) [
-        | inl b ↦ let h = length-insert x ys in rw b (ap suc h)
-        | inr b ↦ rw b refl
-      ]
-
-  pub length-insert_all : (xs ys : List E) → length (insert_all m xs ys) ≡ length xs + length ys
-  length-insert_all [] ys = omega arith
-  length-insert_all (x ∷ xs) ys = let h = length-insert_all xs (insert m x ys) in let k = length-insert x ys in omega arith
+  times-insert_all = plain.times-insert_all m.before m.same
 
   -- a filter keeps at most what was there
   pub times-filter-le : (p : E → Bool) (e : E) (xs : List E) → times m e (filter p xs) ≤ times m e xs
@@ -52,19 +36,24 @@ module _ {S E : Type 0} (m : Simulation S E) where
       elim (cases_Bool (p x)) [ inl b ↦ rw b (omega arith) | inr b ↦ rw b (omega arith) ]
 
   module _ (law : IsLawful m) where
+    pub is_order : IsOrder m.before m.same
+    is_order = record {
+      not_self = law.not_self;
+      trans = law.trans;
+      total = law.total;
+      same_is = law.same_is;
+      same_self = law.same_self;
+    }
+
     pub one_self : (e : E) → one m e e ≡ 1
-    one_self e = rw (law.same_self e) refl
+    one_self = plain.one_self m.before m.same is_order
 
     pub one_cases : (e x : E) → (one m e x ≡ 0) ⊎ (e ≡ x)
-    one_cases e x =
-        elim (cases_Bool (m.same e x)) [
-          | inl b ↦ inr (law.same_is e x b)
-          | inr b ↦ inl (rw b refl)
-        ]
+    one_cases = plain.one_cases m.before m.same is_order
 
     -- the newest or one of the others
     pub in_cons : (e x : E) (xs : List E) → 0 < times m e (x ∷ xs) → (e ≡ x) ⊎ (0 < times m e xs)
-    in_cons e x xs h = elim (one_cases e x) [ inl z ↦ inr (omega arith) | inr s ↦ inl s ]
+    in_cons = plain.in_cons m.before m.same is_order
 
     pub in_head : (x : E) (xs : List E) → 0 < times m x (x ∷ xs)
     in_head x xs = let h = one_self x in omega arith

@@ -1,3 +1,4 @@
+pub mod Ordered
 pub mod Counts
 pub mod Members
 pub mod Seq

@@ -1,16 +1,17 @@
 -- The pending events of a run stay in order, and each suits the router that handles it.
 use Rattle.std.proofs.Common.{◌≡◌, ℕ, suc, zero, ◌<◌, ◌==◌, Bool, true, false, List, [], ◌∷◌, filter, refl, ap, sym, subst, inl, inr, arith, nat_lt}
-use Rattle.std.proofs.lemmas.Bool.{cases_Bool, eqb-true, ltb-true, ltb-false, false_from_ne_true, both_ways}
+use Rattle.std.proofs.lemmas.Bool.{cases_Bool, eqb-true, ltb-true, ltb-false}
 use Rattle.tw_sim.specs.Simulation.{Simulation, IsLawful, one, times, only, state}
-use Rattle.tw_sim.specs.Seq.{World, begin, insert, insert_all, turn, turns}
-use Rattle.tw_sim.proofs.Counts.{in_cons, in_filter, in_head, times-insert, times-insert_all}
+use Rattle.tw_sim.specs.Seq.{World, begin, insert_all, turn, turns}
+use Rattle.tw_sim.specs.Rising as plain
+use Rattle.tw_sim.proofs.Counts.{in_cons, in_filter, in_head, is_order, times-insert_all}
+use Rattle.tw_sim.proofs.Ordered as ordered
 use Rattle.tw_sim.proofs.Seq.{Ends, over, soon, ends, turn_over, turn_soon}
 
 module _ {S E : Type 0} (m : Simulation S E) where
   -- the first ones first
   abbrev pub IsRising : List E → Type 0
-  IsRising [] = Unit {0}
-  IsRising (x ∷ xs) = ((e : E) → 0 < times m e xs → m.before e x ≡ false) × IsRising xs
+  IsRising xs = plain.IsRising m.before m.same xs
 
   -- each event of a run suits the router that handles it
   pub record AllSuit (w : World E) : Type 0 where
@@ -19,17 +20,11 @@ module _ {S E : Type 0} (m : Simulation S E) where
 
   module _ (law : IsLawful m) where
     pub not_back : (x y : E) → m.before x y ≡ true → m.before y x ≡ false
-    not_back x y h =
-        false_from_ne_true (m.before y x) (λ k. both_ways (m.before x x) (law.not_self x) (law.trans x y x h k))
+    not_back = ordered.not_back m.before m.same (is_order m law)
 
     -- what is not before what is not before x is not before x
     pub not_before : (e y x : E) → m.before e y ≡ false → m.before y x ≡ false → m.before e x ≡ false
-    not_before e y x a b =
-        false_from_ne_true (m.before e x) (λ h.
-        elim (cases_Bool (m.before y e)) [
-          | inl k ↦ both_ways (m.before y x) b (law.trans y e x k h)
-          | inr k ↦ both_ways (m.before y x) b (subst (λ z. m.before z x ≡ true) (law.total e y a k) h)
-        ])
+    not_before = ordered.not_before m.before m.same (is_order m law)
 
     -- two lists in order in which each event stands as often are the same
     pub same_rising : (xs ys : List E) → IsRising xs → IsRising ys → ((e : E) → times m e xs ≡ times m e ys) → xs ≡ ys
@@ -63,29 +58,8 @@ module _ {S E : Type 0} (m : Simulation S E) where
           | inr b ↦ rw b (rising-filter p xs r.1)
         ]
 
-    rising-insert : (x : E) (xs : List E) → IsRising xs → IsRising (insert m x xs)
-    rising-insert x [] r = ((λ e none. absurd (omega arith)), tt)
-    rising-insert x (y ∷ ys) r =
-        elim (cases_Bool (m.before y x)) [
-          | inl b ↦ rw b (
-            ((λ e there. elim (in_cons m law e x ys (let k = times-insert m e x ys in omega arith)) [
-              | inl is ↦ subst (λ z. m.before z y ≡ false) (sym is) (not_back y x b)
-              | inr old ↦ r.0 e old
-            ])),
-            rising-insert x ys r.1,
-          )
-          | inr b ↦ rw b (
-            ((λ e there. elim (in_cons m law e y ys there) [
-              | inl is ↦ subst (λ z. m.before z x ≡ false) (sym is) b
-              | inr old ↦ not_before e y x (r.0 e old) b
-            ])),
-            r,
-          )
-        ]
-
     pub rising-insert_all : (es xs : List E) → IsRising xs → IsRising (insert_all m es xs)
-    rising-insert_all [] xs r = r
-    rising-insert_all (e ∷ es) xs r = rising-insert_all es (insert m e xs) (rising-insert e xs r)
+    rising-insert_all = ordered.rising-insert_all m.before m.same (is_order m law)
 
     rising-turn : (t : ℕ) (w : World E) → Ends m t w → IsRising w.rest → IsRising (turn m t w.log w.rest).rest
     rising-turn t w (over h) r = subst (λ v. IsRising v.rest) (sym (turn_over m t w h)) r

@@ -1,3 +1,4 @@
 pub mod Ordered
+pub mod Rising
 pub mod Simulation
 pub mod Seq

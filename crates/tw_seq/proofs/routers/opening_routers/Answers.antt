@@ -9,4 +9,5 @@ one_more f n xs ys x pushed old new = pushed ∙ (ap₂ (λ l y. l ++ y ∷ []) 
 
 pub loop-node-preserved : goal.loop-node-preserved
 loop-node-preserved c =
-    one_more (λ r. record { net = c.args.instance.now; node = r; state = opening c.args.instance.now r }) c.loop-node.node c.loop-node.routers.items _ c.in_ok-new.field-0 c.in_ok-push.ensures.items c.loop-node.invariant c.in_ok-new.ensures
+    one_more (λ r. record { net = c.args.instance.now; node = r; state = opening c.args.instance.now r }) c.loop-node.node c.loop-node.routers.items _
+    c.in_ok-new.field-0 c.in_ok-push.ensures.items c.loop-node.invariant c.in_ok-new.ensures

@@ -4,4 +4,4 @@ use Rattle.tw_seq.proofs.routers.router_ends.Given as goal
 
 abbrev pub invariant-loop-router : goal.invariant-loop-router
 invariant-loop-router l =
-    l.ends.items ++ map (λ router. end_of router.state) (drop l.router-index l.routers) ≡ map (λ router. end_of router.state) l.routers
+    l.ends.items ++ map end_of (drop l.router-index l.routers) ≡ map end_of l.routers

@@ -1,7 +1,7 @@
 use Rattle.std.proofs.Common.{◌-◌, ap, ◌∙◌, subst}
 use Rattle.std.specs.BinaryHeap.{heap_items, heap_len, heap_capacity}
 use Rattle.tw_queue.specs.Queue.{IsQueue}
-use Rattle.tw_queue.specs.Heap.{events_of}
+use Rattle.tw_queue.specs.Heap.{heap_events}
 use Rattle.tw_queue.proofs.Events.{queue_of, sorted_events}
 use Rattle.tw_queue.proofs.pending.Pending.list.Goals as goal
 
@@ -14,7 +14,7 @@ pub returns-clause-events : goal.returns-clause-events
 returns-clause-events c =
     let e = ap (λ q. q.events) c.self.view_is in
     let s = c.sort_unstable.ensures in
-    sorted_events (heap_items c.self.inside.heap) c.in_ok-events.events.items c.sort_unstable.new.self.items (c.in_ok-events.ensures ∙ ap events_of c.as_slice.ensures.value) s.permutation s.sorted ∙ e
+    sorted_events (heap_items c.self.inside.heap) c.in_ok-events.events.items c.sort_unstable.new.self.items (c.in_ok-events.ensures ∙ ap heap_events c.as_slice.ensures.value) s.permutation s.sorted ∙ e
 
 pub returns-clause-queue : goal.returns-clause-queue
 returns-clause-queue c =

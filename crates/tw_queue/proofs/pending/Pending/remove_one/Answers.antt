@@ -2,7 +2,7 @@ use Rattle.std.proofs.Common.{ap, ◌∙◌, arith}
 use Rattle.std.specs.BinaryHeap.{heap_items}
 use Rattle.tw_event.specs.Order.{event_before, event_same}
 use Rattle.tw_sim.specs.Ordered.{take_out}
-use Rattle.tw_queue.specs.Heap.{events_of, in_order}
+use Rattle.tw_queue.specs.Heap.{heap_events, in_order}
 use Rattle.tw_queue.proofs.Events.{events_removed, homes_removed, length_removed, found_iff}
 use Rattle.tw_queue.proofs.pending.Pending.remove_one.Goals as goal
 
@@ -22,7 +22,7 @@ pub returns-clause-found : goal.returns-clause-found
 returns-clause-found c =
     let a = c.self.inside in
     let e = ap (λ q. q.events) c.self.view_is in
-    found_iff c.args.event.now c.args.self.now.events (in_order event_before (events_of (heap_items c.remove_from.new.heap))) c.len.result c.len-before.result (events_removed c.args.event.now (heap_items a.heap) (heap_items c.remove_from.new.heap) c.remove_from.ensures.items ∙ ap (take_out event_same c.args.event.now) e) c.len.ensures.len c.len-before.ensures.len
+    found_iff c.args.event.now c.args.self.now.events (in_order event_before (heap_events (heap_items c.remove_from.new.heap))) c.len.result c.len-before.result (events_removed c.args.event.now (heap_items a.heap) (heap_items c.remove_from.new.heap) c.remove_from.ensures.items ∙ ap (take_out event_same c.args.event.now) e) c.len.ensures.len c.len-before.ensures.len
 
 pub returns-clause-room : goal.returns-clause-room
 returns-clause-room c =

@@ -1,5 +1,5 @@
 use Rattle.std.proofs.Common.{◌∙◌}
-use Rattle.tw_seq.specs.Run.{complete}
+use Rattle.tw_seq.specs.Run.{complete_run}
 use Rattle.tw_seq.proofs.Going.{complete_at, continues_next, weight_next}
 use Rattle.tw_seq.proofs.one_thread.OneThread.run_to.Goals as goal
 
@@ -18,4 +18,4 @@ loop-event-preserved c =
 pub returns-clause-ok : goal.returns-clause-ok
 returns-clause-ok c =
     complete_at c.loop-event.self c.in_default.ensures.begun c.in_default.ensures.none
-    ∙ λ i. complete (c.loop-event.invariant.case i) (c.loop-event.invariant.stop i)
+    ∙ λ i. complete_run (c.loop-event.invariant.case i) (c.loop-event.invariant.stop i)

@@ -8,7 +8,7 @@ returns-clause-value c =
     let a = c.self.inside in
     let bound = c.bound.ensures ∙ ap (λ run. least run.pending run.stop) (sym c.self.view_is) in
     let routers = ends_of a.case.now a.events.items a.routers.items c.in_ok-routers.routers.items c.self.invariant.routers
-    (c.in_ok-routers.ensures ∙ ap (map (λ router. end_of router.state)) c.deref.ensures.value) in
+    (c.in_ok-routers.ensures ∙ ap (map end_of) c.deref.ensures.value) in
     let pending = c.in_ok-pending.ensures.events in
     let events = c.new.ensures.items in
     let change = c.self.invariant.change in
