@@ -45,6 +45,17 @@ module _ {S E : Type 0} (m : Simulation S E) (law : IsLawful m) where
           omega arith);
       }
 
+  -- where nothing is in flight, nothing is kept
+  pub none_kept : (C : Core E) → IsGood m C → C.flight ≡ [] → C.kept ≡ []
+  none_kept C good none_flies =
+      none_there m law C.kept (λ e. none (times m e C.kept) (λ h.
+      let alone = good.part.alone e h in
+      let pending = alone.0 in
+      let handled = alone.1 in
+      let balance = good.balance e in
+      let no_messages : messages m e C.flight ≡ 0 = ap (messages m e) none_flies in
+      omega arith))
+
   module _ (numbered : IsNumbered m) where
     -- so they are those of the run
     pub good_log : (C : Core E) → IsGood m C → (t : ℕ) → t ≤ C.bound → (r : ℕ) → below m t (C.history r) ≡ only m r (log m t)
@@ -81,17 +92,6 @@ module _ {S E : Type 0} (m : Simulation S E) (law : IsLawful m) where
     -- from the opening on, after every list of steps
     pub always_seq : (C : Core E) → IsOpening m C → (xs : List Step) → IsSeq m (run m C xs)
     always_seq C opens xs = good_is_seq (run m C xs) (run_keeps m law C xs (good_opening m law C opens)).good
-
-    -- where nothing is in flight, nothing is kept
-    pub none_kept : (C : Core E) → IsGood m C → C.flight ≡ [] → C.kept ≡ []
-    none_kept C good none_flies =
-        none_there m law C.kept (λ e. none (times m e C.kept) (λ h.
-        let alone = good.part.alone e h in
-        let pending = alone.0 in
-        let handled = alone.1 in
-        let balance = good.balance e in
-        let no_messages : messages m e C.flight ≡ 0 = ap (messages m e) none_flies in
-        omega arith))
 
     -- the bound could be the stop
     good_to_stop : (C : Core E) → IsGood m C → IsSettled m C → IsGood m (record C { bound = C.stop })

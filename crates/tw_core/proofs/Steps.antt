@@ -80,6 +80,11 @@ module _ {S E : Type 0} (m : Simulation S E) (law : IsLawful m) where
 
   -- ---- undo and deliver
 
+  pub undoing_keeps : (t : ℕ) (C : Core E) (r : ℕ) (e : E) (older : List E) → t ≤ m.time e → IsGoodPart m t C → C.history r ≡ e ∷ older → KeepsPart m t C (after_undoing m C r e older)
+  undoing_keeps t C r e older late good newest =
+      let back = back_one m law t r C e older newest late good in
+      record { part = back.part; surplus = back.surplus; done = back.done; bound = back.bound; stop = back.stop }
+
   undo_at : (t : ℕ) (C D : Core E) (r : ℕ) (xs : List E) → t ≤ C.bound → IsGoodPart m t C → C.history r ≡ xs → undo m C r xs ≡ Ok D → KeepsPart m t C D
   undo_at t C D r [] le good here h = cc
   undo_at t C D r (e ∷ older) le good here h =
@@ -91,8 +96,7 @@ module _ {S E : Type 0} (m : Simulation S E) (law : IsLawful m) where
               let k = rw (b, c) at h in
               let made : after_undoing m C r e older ≡ D = cc in
               let not_before = ltb-false (m.time e) C.bound c in
-              let back = back_one m law t r C e older here (omega arith) good in
-              subst (KeepsPart m t C) made (record { part = back.part; surplus = back.surplus; done = back.done; bound = back.bound; stop = back.stop }))
+              subst (KeepsPart m t C) made (undoing_keeps t C r e older (omega arith) good here))
         ]
       ]
 
