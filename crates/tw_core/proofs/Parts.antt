@@ -107,6 +107,34 @@ module _ {S E : Type 0} (m : Simulation S E) where
   antimessages-flat_map e g [] = refl
   antimessages-flat_map e g (p ∷ parts) = antimessages-append m e (g p) (flat_map g parts) ∙ ap (λ n. antimessages m e (g p) + n) (antimessages-flat_map e g parts)
 
+  -- one part that owns every router is the whole
+  pub whole_adds_up : (C : Core E) → IsGood m C
+      → AddUp m (record { mail = C.flight; bound = C.bound; stop = C.stop }) (record { owns = λ r. true; core = record C { flight = [] } } ∷ [])
+  whole_adds_up C good = record {
+    once = λ r l. refl;
+    each = (
+      record {
+        good = record {
+          falling = good.falling;
+          home = good.home;
+          soon = good.soon;
+          late = λ e h. good.late e (omega arith);
+          ahead = good.ahead;
+          alone = good.alone;
+          suit = λ e h. good.suit e (omega arith);
+        };
+        done = good.done;
+        history = λ r e h. refl;
+        waiting = λ e h. refl;
+      },
+      tt,
+    );
+    bound = good.bound;
+    late = λ e h. good.late e (omega arith);
+    suit = λ e h. good.suit e (omega arith);
+    balance = λ e. (let old = good.balance e in omega arith);
+  }
+
   module _ (law : IsLawful m) where
     -- who sent anything has handled something
     pub sent_some : (r : ℕ) (xs : List E) (e : E) → 0 < times m e (sent m r xs) → (y : E) × (0 < times m y xs)

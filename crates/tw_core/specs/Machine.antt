@@ -15,9 +15,9 @@ pub record Core (E : Type 0) : Type 0 where
   pub flight : List (Signed E)
   -- the bound at each router's latest commit
   pub done : ℕ → ℕ
-  -- nothing before this time is sent or taken back any more
+  -- nothing loose is before this time, so that what is handled before it stays
   pub bound : ℕ
-  -- nothing from this time on is handled
+  -- nothing at or after this time is handled
   pub stop : ℕ
 
 module _ {S E : Type 0} (m : Simulation S E) where

@@ -49,11 +49,11 @@ module _ {S E : Type 0} (m : Simulation S E) where
   abbrev pub SameSurplus : Core E → Core E → Type 0
   SameSurplus C D = (e : E) → times_wanted D e + times_there m C e ≡ times_wanted C e + times_there m D e
 
-  -- what a call at some routers keeps, which were good where nothing loose is before t
+  -- what a call at some routers keeps of their part of a good state, in which nothing loose was before t
   pub record KeepsPart (t : ℕ) (C D : Core E) : Type 0 where
-    -- they still are, so that nothing loose is before t that was not
+    -- it is good still, and nothing loose is before t
     pub part : IsGoodPart m t D
-    -- and the call neither loses nor invents anything
+    -- and nothing is lost or invented
     pub surplus : SameSurplus C D
     pub done : D.done ≡ C.done
     pub bound : D.bound ≡ C.bound

@@ -1,6 +1,6 @@
 -- The steps of the machine: what each does, and why it is refused (after Jefferson, Virtual Time, 1985).
 use Rattle.std.specs.Prelude.{ℕ, zero, suc, ◌==◌, Bool, true, false, cond, not, ◌||◌, List, [], ◌∷◌, ◌++◌, map, min, remove, slice_get, nat_lt, Option, Some, None, Result, Ok, Err, if◌then◌else◌}
-use Rattle.std.specs.Result.{result_unwrap_or}
+use Rattle.std.specs.Result.{result_and, result_unwrap_or}
 use Rattle.tw_core.specs.declared.refusal.Refusal.{Refusal}
 use Rattle.tw_core.specs.declared.refusal.Refusal.TheVariants.{NotMine, Nothing, Double, Committed, NoMessage, CounterFull}
 use Rattle.tw_core.specs.Machine.{Core}
@@ -163,10 +163,6 @@ module _ {S E : Type 0} (m : Simulation S E) where
   run C (x ∷ xs) = run (next C x) xs
 
   -- whether each step of a list was done, or why not
-  abbrev pub answer_of : Result (Core E) Refusal → Result (Unit {0}) Refusal
-  answer_of (Ok D) = Ok tt
-  answer_of (Err refusal) = Err refusal
-
   abbrev pub answers : Core E → List Step → List (Result (Unit {0}) Refusal)
   answers C [] = []
-  answers C (x ∷ xs) = answer_of (step C x) ∷ answers (next C x) xs
+  answers C (x ∷ xs) = result_and (step C x) (Ok tt) ∷ answers (next C x) xs

@@ -87,7 +87,10 @@ pub fn arrivals_append<S, E>()
         → after_arrival m (record C { flight = front ++ C.flight }) x ≡ record (after_arrival m C x) { flight = front ++ (after_arrival m C x).flight } }
 {}
 
-/// Parts that add up are, put together, a good state.
+/// Parts that add up are, put together, a good state; and each good state adds up from one part that
+/// owns every router.
 pub fn parts_are_good<S, E>()
-    ensures { (m : Simulation S E) → IsLawful m → (shared : Shared E) (parts : List (Part E)) → AddUp m shared parts → IsGood m (assembled shared parts) }
+    ensures good { (m : Simulation S E) → IsLawful m → (shared : Shared E) (parts : List (Part E)) → AddUp m shared parts → IsGood m (assembled shared parts) }
+    ensures whole { (m : Simulation S E) (C : Core E) → IsGood m C
+        → AddUp m (record { mail = C.flight; bound = C.bound; stop = C.stop }) (record { owns = λ r. true; core = record C { flight = [] } } ∷ []) }
 {}
