@@ -1,14 +1,14 @@
 -- What undoing the newest events of a history keeps, as long as they pass a test.
-use Rattle.std.proofs.Common.{◌≡◌, ℕ, ◌+◌, ◌<◌, ◌≤◌, Bool, cond, not, true, false, List, [], ◌∷◌, ◌++◌, map, append_assoc, append-nil, refl, ap, sym, ◌∙◌, subst, inl, inr, arith}
+use Rattle.std.proofs.Common.{◌≡◌, ℕ, ◌+◌, ◌<◌, ◌≤◌, Bool, cond, true, false, List, [], ◌∷◌, ◌++◌, map, append_assoc, append-nil, refl, ap, sym, ◌∙◌, subst, inl, inr, arith}
 use Rattle.std.proofs.lemmas.Bool.{cases_Bool, both_ways, false_from_ne_true}
 use Rattle.tw_core.proofs.Calls.{moved_undoing, part_undoing, put_same, surplus_undoing}
 use Rattle.tw_core.specs.Good.{IsGoodPart}
 use Rattle.tw_core.specs.Machine.{Core, times_handled}
 use Rattle.tw_core.specs.Parts.{SameSurplus}
 use Rattle.tw_core.specs.Steps.{after_undoing, after_undoing_while, antimessage}
-use Rattle.tw_sim.proofs.Counts.{in_cons, in_head, times-insert}
+use Rattle.tw_sim.proofs.Counts.{in_cons, in_head}
 use Rattle.tw_sim.specs.declared.machine.Signed.{Signed}
-use Rattle.tw_sim.specs.Simulation.{Simulation, IsFalling, IsLawful, one, state, times}
+use Rattle.tw_sim.specs.Simulation.{Simulation, IsFalling, IsLawful, state, times}
 
 module _ {S E : Type 0} (m : Simulation S E) where
   -- what is taken back, the newest event's sends first

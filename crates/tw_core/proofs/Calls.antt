@@ -1,14 +1,13 @@
 -- What handling and undoing one event keep: a good part, and every surplus.
-use Rattle.std.proofs.Common.{◌≡◌, ℕ, ◌+◌, ◌<◌, ◌≤◌, ◌==◌, cond, true, false, List, [], ◌∷◌, ◌++◌, map, refl, ap, sym, ◌∙◌, subst, ◌⊎◌, inl, inr, arith, nat_lt}
-use Rattle.std.proofs.lemmas.Bool.{cases_Bool, cases_eq, true_from_ne_false, eq-eqb, ne_eqb, ltb-true, ltb-false}
+use Rattle.std.proofs.Common.{◌≡◌, ℕ, ◌+◌, ◌<◌, ◌≤◌, true, false, List, ◌∷◌, map, refl, ap, sym, ◌∙◌, subst, ◌⊎◌, inl, inr, arith, nat_lt}
+use Rattle.std.proofs.lemmas.Bool.{cases_Bool, cases_eq, eq-eqb, ne_eqb, ltb-true, ltb-false}
 use Rattle.tw_core.proofs.Counts.{antimessages-antimessage, antimessages-append, antimessages-message, messages-antimessage, messages-append, messages-message}
 use Rattle.tw_core.specs.Good.{IsGoodPart}
-use Rattle.tw_core.specs.Machine.{Core, antimessages, messages, times_handled, times_loose}
+use Rattle.tw_core.specs.Machine.{Core, times_handled, times_loose}
 use Rattle.tw_core.specs.Parts.{SameSurplus}
 use Rattle.tw_core.specs.Steps.{after_handling, after_undoing, antimessage, message, put, take_out}
 use Rattle.tw_sim.proofs.Counts.{in_cons, none, one_cases, one_self, times-append, times-insert, times-take_out}
 use Rattle.tw_sim.proofs.Rising.{not_back}
-use Rattle.tw_sim.specs.Seq.{insert}
 use Rattle.tw_sim.specs.Simulation.{Simulation, IsFalling, IsLawful, one, sent, state, times}
 
 pub put_same : {A : Type 0} (f : ℕ → A) (r : ℕ) (a : A) → put f r a r ≡ a
@@ -53,7 +52,7 @@ module _ {S E : Type 0} (m : Simulation S E) (law : IsLawful m) where
         let sends = m.sends (state m (m.dst e) (f (m.dst e))) e in
         elim (cases_eq (m.src x) (m.dst e)) [
           | inl same ↦ subst (λ r. times m x (sent m r (g r)) ≡ times m x (m.sends (state m (m.dst e) (f (m.dst e))) e) + times m x (sent m r (f r))) (sym same)
-            (ap (λ xs. times m x (sent m (m.dst e) xs)) grown.here ∙ times-append m x (m.sends (state m (m.dst e) (f (m.dst e))) e) (sent m (m.dst e) (f (m.dst e))))
+              (ap (λ xs. times m x (sent m (m.dst e) xs)) grown.here ∙ times-append m x (m.sends (state m (m.dst e) (f (m.dst e))) e) (sent m (m.dst e) (f (m.dst e))))
           | inr other ↦ (
               let old : times m x (sent m (m.src x) (g (m.src x))) ≡ times m x (sent m (m.src x) (f (m.src x))) = ap (λ xs. times m x (sent m (m.src x) xs)) (grown.elsewhere (m.src x) other) in
               let never = none (times m x (m.sends (state m (m.dst e) (f (m.dst e))) e)) (λ k. other (law.sender (state m (m.dst e) (f (m.dst e))) e x k)) in
@@ -160,9 +159,9 @@ module _ {S E : Type 0} (m : Simulation S E) (law : IsLawful m) where
               let handled = times_grown C.history D.history e grown x in
               elim (cases_Bool (nat_lt 0 (times m x out))) [
                 | inl b ↦ law.suit_sends e x (C.history (m.dst e))
-                  (λ y k. (good.home (m.dst e) y k, good.suit y (subst (λ r. 0 < times m y (C.history r) + times_loose m C y) (sym (good.home (m.dst e) y k)) (omega arith))))
-                  (good.suit e (omega arith))
-                  (ltb-true 0 (times m x out) b)
+                    (λ y k. (good.home (m.dst e) y k, good.suit y (subst (λ r. 0 < times m y (C.history r) + times_loose m C y) (sym (good.home (m.dst e) y k)) (omega arith))))
+                    (good.suit e (omega arith))
+                    (ltb-true 0 (times m x out) b)
                 | inr b ↦ (let no = ltb-false 0 (times m x out) b in good.suit x (omega arith))
               ]);
         }
@@ -252,12 +251,12 @@ module _ {S E : Type 0} (m : Simulation S E) (law : IsLawful m) where
                 | inr is ↦ subst (λ z. m.suits z ≡ true) (sym is) (good.suit e (omega arith))
                 | inl z ↦ elim (cases_Bool (nat_lt 0 (times m x back))) [
                   | inl b ↦ law.suit_sends e x older
-                    (λ y k. (
-                    let there : 0 < times m y (C.history (m.dst e)) = subst (λ xs. 0 < times m y xs) (sym newest) (omega arith) in
-                    let home = good.home (m.dst e) y there in
-                    (home, good.suit y (let handled_there : 0 < times m y (C.history (m.dst y)) = subst (λ r. 0 < times m y (C.history r)) (sym home) there in omega arith))))
-                    (good.suit e (omega arith))
-                    (ltb-true 0 (times m x back) b)
+                      (λ y k. (
+                      let there : 0 < times m y (C.history (m.dst e)) = subst (λ xs. 0 < times m y xs) (sym newest) (omega arith) in
+                      let home = good.home (m.dst e) y there in
+                      (home, good.suit y (let handled_there : 0 < times m y (C.history (m.dst y)) = subst (λ r. 0 < times m y (C.history r)) (sym home) there in omega arith))))
+                      (good.suit e (omega arith))
+                      (ltb-true 0 (times m x back) b)
                   | inr b ↦ (let no = ltb-false 0 (times m x back) b in good.suit x (omega arith))
                 ]
               ]);

@@ -1,9 +1,9 @@
 -- Signed counts: how often an event is in flight after an append or a removal.
-use Rattle.std.proofs.Common.{◌≡◌, ℕ, zero, suc, ◌+◌, ◌<◌, cond, true, List, [], ◌∷◌, ◌++◌, map, Option, Some, None, slice_get, remove, refl, ap, sym, ◌∙◌, subst, inl, inr, arith}
+use Rattle.std.proofs.Common.{◌≡◌, ℕ, zero, suc, ◌+◌, ◌<◌, cond, List, [], ◌∷◌, ◌++◌, map, Some, slice_get, remove, refl, ap, inl, inr, arith}
 use Rattle.std.proofs.lemmas.Bool.{cases_Bool}
 use Rattle.tw_core.specs.Machine.{antimessages, messages}
 use Rattle.tw_core.specs.Steps.{antimessage, message}
-use Rattle.tw_sim.proofs.Counts.{none, one_self}
+use Rattle.tw_sim.proofs.Counts.{one_self}
 use Rattle.tw_sim.specs.declared.machine.Signed.{Signed}
 use Rattle.tw_sim.specs.Simulation.{Simulation, IsLawful, one, times}
 

@@ -6,4 +6,3 @@ pub mod Steps
 pub mod Headline
 pub mod Parts
 pub mod Wording
-

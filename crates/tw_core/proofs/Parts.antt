@@ -1,6 +1,6 @@
 -- Parts that add up make a good state.
-use Rattle.std.proofs.Common.{◌≡◌, ℕ, ◌+◌, ◌<◌, ◌≤◌, Bool, cond, true, false, List, [], ◌∷◌, ◌++◌, Option, Some, None, find, flat_map, refl, ap, sym, ◌∙◌, subst, inl, inr, arith, nat_lt}
-use Rattle.std.proofs.lemmas.Bool.{cases_Bool, cases_lt, true_from_ne_false, both_ways, ltb-true, ltb-false}
+use Rattle.std.proofs.Common.{◌≡◌, ℕ, ◌+◌, ◌<◌, ◌≤◌, Bool, cond, true, false, List, [], ◌∷◌, Option, Some, None, find, flat_map, refl, ap, sym, ◌∙◌, subst, inl, inr, arith, nat_lt}
+use Rattle.std.proofs.lemmas.Bool.{cases_Bool, cases_lt, both_ways, ltb-true, ltb-false}
 use Rattle.std.specs.List.{AllByRecursion}
 use Rattle.std.specs.Option.{option_map_or}
 use Rattle.tw_core.proofs.Counts.{antimessages-append, messages-append}
@@ -65,9 +65,10 @@ module _ {E : Type 0} (r : ℕ) where
             let rest : total owning parts ≡ 0 = (let k = rw b at h in omega arith) in
             ((λ k. rw b refl), all_map (λ q. q.owns r ≡ true → ⊥) (λ q. q.owns r ≡ true → find (λ s. s.owns r) (p ∷ parts) ≡ Some q) (λ q no k. absurd (no k)) parts (unowned parts rest))
         | inr b ↦
-            let rest : total owning parts ≡ 1 = (let k = rw b at h in omega arith) in
-            ((λ k. absurd (both_ways (p.owns r) b k)),
-              all_map (λ q. q.owns r ≡ true → find (λ s. s.owns r) parts ≡ Some q) (λ q. q.owns r ≡ true → find (λ s. s.owns r) (p ∷ parts) ≡ Some q) (λ q found k. rw b (found k)) parts (owner_is parts rest))
+            let rest : total owning parts ≡ 1 = (let k = rw b at h in omega arith) in (
+              (λ k. absurd (both_ways (p.owns r) b k)),
+              all_map (λ q. q.owns r ≡ true → find (λ s. s.owns r) parts ≡ Some q) (λ q. q.owns r ≡ true → find (λ s. s.owns r) (p ∷ parts) ≡ Some q) (λ q found k. rw b (found k)) parts (owner_is parts rest),
+            )
       ]
 
   -- what only the owner has is the sum over all
@@ -238,8 +239,8 @@ module _ {S E : Type 0} (m : Simulation S E) where
           elim (cases_Bool (nat_lt 0 (messages m e shared.mail + antimessages m e shared.mail))) [
             | inl b ↦ sums.suit e (ltb-true 0 (messages m e shared.mail + antimessages m e shared.mail) b)
             | inr b ↦ some_of (λ p. times_loose m p.core e) (m.suits e ≡ true) parts
-              (all_map (IsPart m shared) (λ p. 0 < times_loose m p.core e → m.suits e ≡ true) (λ p is k. is.good.suit e (omega arith)) parts sums.each)
-              (let no = ltb-false 0 (messages m e shared.mail + antimessages m e shared.mail) b in let all = loose_total e in omega arith)
+                (all_map (IsPart m shared) (λ p. 0 < times_loose m p.core e → m.suits e ≡ true) (λ p is k. is.good.suit e (omega arith)) parts sums.each)
+                (let no = ltb-false 0 (messages m e shared.mail + antimessages m e shared.mail) b in let all = loose_total e in omega arith)
           ]
 
       pub good_assembled : IsGood m A
@@ -254,8 +255,8 @@ module _ {S E : Type 0} (m : Simulation S E) where
               elim (cases_Bool (nat_lt 0 (messages m e shared.mail + antimessages m e shared.mail))) [
                 | inl b ↦ sums.late e (ltb-true 0 (messages m e shared.mail + antimessages m e shared.mail) b)
                 | inr b ↦ some_of (λ p. times_loose m p.core e) (shared.bound ≤ m.time e) parts
-                  (all_map (IsPart m shared) (λ p. 0 < times_loose m p.core e → shared.bound ≤ m.time e) (λ p is k. is.good.late e k) parts sums.each)
-                  (let no = ltb-false 0 (messages m e shared.mail + antimessages m e shared.mail) b in let all = loose_total e in omega arith)
+                    (all_map (IsPart m shared) (λ p. 0 < times_loose m p.core e → shared.bound ≤ m.time e) (λ p is k. is.good.late e k) parts sums.each)
+                    (let no = ltb-false 0 (messages m e shared.mail + antimessages m e shared.mail) b in let all = loose_total e in omega arith)
               ];
           ahead = λ e x waits handled.
               let l = law.receiver e (loose_suits e (omega arith)) in
@@ -279,15 +280,15 @@ module _ {S E : Type 0} (m : Simulation S E) where
               elim (cases_Bool (nat_lt 0 (times_loose m A e))) [
                 | inl b ↦ loose_suits e (ltb-true 0 (times_loose m A e) b)
                 | inr b ↦ some_of (λ p. times_handled m p.core e) (m.suits e ≡ true) parts
-                  (all_map (IsPart m shared) (λ p. 0 < times_handled m p.core e → m.suits e ≡ true) (λ p is k. is.good.suit e (omega arith)) parts sums.each)
-                  (let no = ltb-false 0 (times_loose m A e) b in let all = handled_total e in omega arith)
+                    (all_map (IsPart m shared) (λ p. 0 < times_handled m p.core e → m.suits e ≡ true) (λ p is k. is.good.suit e (omega arith)) parts sums.each)
+                    (let no = ltb-false 0 (times_loose m A e) b in let all = handled_total e in omega arith)
               ];
         };
         balance = λ e. (
-          let there_all = there_total e in
-          let wanted_all = wanted_total e in
-          let sum = sums.balance e in
-          omega arith);
+            let there_all = there_total e in
+            let wanted_all = wanted_total e in
+            let sum = sums.balance e in
+            omega arith);
         done = λ r. from_owner r (λ C. C.done r) 0 (λ n. n ≤ shared.bound) (omega arith) parts (all_map (IsPart m shared) (λ p. p.core.done r ≤ shared.bound) (λ p is. is.done r) parts sums.each);
         bound = sums.bound;
       }

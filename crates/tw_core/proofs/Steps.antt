@@ -1,5 +1,5 @@
 -- Each step keeps good, and never lowers the bound.
-use Rattle.std.proofs.Common.{◌≡◌, ℕ, zero, suc, ◌+◌, ◌<◌, ◌≤◌, ◌==◌, min, Bool, cond, true, false, ◌||◌, List, [], ◌∷◌, ◌++◌, map, Option, Some, None, Result, Ok, Err, slice_get, refl, ap, sym, ◌∙◌, subst, inl, inr, arith, nat_lt}
+use Rattle.std.proofs.Common.{◌≡◌, ℕ, zero, suc, ◌+◌, ◌<◌, ◌≤◌, ◌==◌, true, false, List, [], ◌∷◌, map, Option, Some, None, Result, Ok, Err, slice_get, refl, ap, sym, ◌∙◌, subst, inl, inr, arith, nat_lt}
 use Rattle.std.proofs.lemmas.Bool.{cases_Bool, cases_eq, both_ways, true_from_ne_false, eqb-true, eq-eqb, ltb-true, ltb-false}
 use Rattle.std.specs.Result.{result_unwrap_or}
 use Rattle.tw_core.proofs.Back.{back_one}
@@ -7,16 +7,16 @@ use Rattle.tw_core.proofs.Calls.{MayHandle, part_handling, put_other, put_same, 
 use Rattle.tw_core.proofs.Counts.{in_flight}
 use Rattle.tw_core.proofs.Delivery.{delivered}
 use Rattle.tw_core.specs.declared.refusal.Refusal.{Refusal}
-use Rattle.tw_core.specs.Good.{IsBalanced, IsGood, IsGoodPart}
+use Rattle.tw_core.specs.Good.{IsGood, IsGoodPart}
 use Rattle.tw_core.specs.Machine.{Core, IsOpening, antimessages, messages, times_handled, times_loose}
-use Rattle.tw_core.specs.Parts.{KeepsPart, SameSurplus}
+use Rattle.tw_core.specs.Parts.{KeepsPart}
 use Rattle.tw_core.specs.Steps.{after_delivery, after_handling, after_undoing, at_router, deliver, first_pending, handle, is_newest, least_loose, least_time, next, put, run, step, undo, with_bound, with_commit}
 use Rattle.tw_sim.proofs.Counts.{in_cons, in_filter, none, one_self, times-filter-yes}
 use Rattle.tw_sim.proofs.Least.{least_is}
 use Rattle.tw_sim.specs.declared.machine.Signed.{Signed}
 use Rattle.tw_sim.specs.declared.machine.Step.{Step}
 use Rattle.tw_sim.specs.declared.machine.Step.TheVariants.{Handle, Undo, Deliver, Bound, Commit}
-use Rattle.tw_sim.specs.Simulation.{Simulation, IsFalling, IsLawful, one, only, sent, state, times}
+use Rattle.tw_sim.specs.Simulation.{Simulation, IsFalling, IsLawful, only, sent, state, times}
 
 module _ {S E : Type 0} (m : Simulation S E) (law : IsLawful m) where
   -- ---- handle
@@ -36,17 +36,19 @@ module _ {S E : Type 0} (m : Simulation S E) (law : IsLawful m) where
       let least = least_is m law e (only m r C.pending) first in
       let there = in_filter m law (λ x. m.dst x == r) e C.pending least.there in
       let home : m.dst e ≡ r = eqb-true (m.dst e) r there.0 in
-      let other_home : is_newest m e (C.history (m.dst e)) ≡ false = subst (λ q. is_newest m e (C.history q) ≡ false) (sym home) other in
-      (home, record {
-        there = there.1;
-        soon = soon;
-        first = λ x waits same.
-            let for_r : 0 < times m x (only m r C.pending) = (let k = times-filter-yes m law (λ y. m.dst y == r) x C.pending (eq-eqb (m.dst x) r (same ∙ home)) in omega arith) in
-            least.first x for_r;
-        fresh = λ x handled. true_from_ne_false (m.before x e) (λ no.
-        let same : x ≡ e = law.total x e no (good.ahead e x there.1 handled) in
-        not_again e (C.history (m.dst e)) (good.falling (m.dst e)) other_home (λ y k. good.ahead e y there.1 k) (subst (λ z. 0 < times m z (C.history (m.dst e))) same handled));
-      })
+      let other_home : is_newest m e (C.history (m.dst e)) ≡ false = subst (λ q. is_newest m e (C.history q) ≡ false) (sym home) other in (
+        home,
+        record {
+          there = there.1;
+          soon = soon;
+          first = λ x waits same.
+              let for_r : 0 < times m x (only m r C.pending) = (let k = times-filter-yes m law (λ y. m.dst y == r) x C.pending (eq-eqb (m.dst x) r (same ∙ home)) in omega arith) in
+              least.first x for_r;
+          fresh = λ x handled. true_from_ne_false (m.before x e) (λ no.
+              let same : x ≡ e = law.total x e no (good.ahead e x there.1 handled) in
+              not_again e (C.history (m.dst e)) (good.falling (m.dst e)) other_home (λ y k. good.ahead e y there.1 k) (subst (λ z. 0 < times m z (C.history (m.dst e))) same handled));
+        },
+      )
 
   keeps_handling : (t : ℕ) (C : Core E) (r : ℕ) (e : E) → IsGoodPart m t C → (m.dst e ≡ r) × MayHandle m law C e → KeepsPart m t C (after_handling m C r e)
   keeps_handling t C r e good may =
@@ -287,13 +289,13 @@ module _ {S E : Type 0} (m : Simulation S E) (law : IsLawful m) where
           suit = λ e h. law.suit_opening e (loose e (let a = none (times_handled m C e) (λ k. none_handled (m.dst e) e k) in omega arith));
         };
         balance = λ e. (
-          let a = opens.pending e in
-          let b = none_kept e in
-          let c = no_messages e in
-          let d = no_antimessages e in
-          let f = none (times_handled m C e) (λ k. none_handled (m.dst e) e k) in
-          let g : times m e (sent m (m.src e) (C.history (m.src e))) ≡ 0 = ap (λ xs. times m e (sent m (m.src e) xs)) (opens.history (m.src e)) in
-          omega arith);
+            let a = opens.pending e in
+            let b = none_kept e in
+            let c = no_messages e in
+            let d = no_antimessages e in
+            let f = none (times_handled m C e) (λ k. none_handled (m.dst e) e k) in
+            let g : times m e (sent m (m.src e) (C.history (m.src e))) ≡ 0 = ap (λ xs. times m e (sent m (m.src e) xs)) (opens.history (m.src e)) in
+            omega arith);
         done = λ r. (let a = opens.done r in omega arith);
         bound = omega arith;
       }

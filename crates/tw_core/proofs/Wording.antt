@@ -1,18 +1,16 @@
 -- The same definitions in other words.
-use Rattle.std.proofs.Common.{◌≡◌, ℕ, ◌+◌, ◌*◌, ◌<◌, ◌≤◌, ◌==◌, Bool, cond, not, true, false, ◌||◌, List, [], ◌∷◌, ◌++◌, append_assoc, if◌then◌else◌, Result, Ok, Err, slice_get, refl, ap, sym, ◌∙◌, subst, ◌⊎◌, ◌↔◌, inl, inr, arith, mul-one, nat_lt, zero-mul}
+use Rattle.std.proofs.Common.{◌≡◌, ℕ, ◌+◌, ◌*◌, ◌<◌, ◌≤◌, ◌==◌, Bool, cond, not, true, false, List, [], ◌∷◌, ◌++◌, append_assoc, if◌then◌else◌, Ok, Err, slice_get, refl, ap, sym, ◌∙◌, subst, ◌⊎◌, ◌↔◌, inl, inr, arith, mul-one, nat_lt, zero-mul}
 use Rattle.std.proofs.lemmas.Bool.{cases_Bool, both_ways, le-ltb, ltb-true, ltb-false}
 use Rattle.std.specs.List.{AllByRecursion}
 use Rattle.tw_core.proofs.Back.{taken_back, undoing_while-flight}
-use Rattle.tw_core.proofs.Calls.{put_same}
 use Rattle.tw_core.proofs.Headline.{good_log}
 use Rattle.tw_core.proofs.Parts.{all_map, sent_some, total_add}
 use Rattle.tw_core.proofs.Steps.{run_keeps}
-use Rattle.tw_core.specs.declared.refusal.Refusal.{Refusal}
 use Rattle.tw_core.specs.declared.refusal.Refusal.TheVariants.{Committed}
 use Rattle.tw_core.specs.Good.{IsGood, IsGoodPart, due}
 use Rattle.tw_core.specs.Machine.{Core, committed}
 use Rattle.tw_core.specs.Parts.{AddUp, IsPart, Part, Shared, total}
-use Rattle.tw_core.specs.Steps.{after_arrival, after_undoing, after_undoing_while, first_pending, run, undo, with_pending, without_from, without_pending}
+use Rattle.tw_core.specs.Steps.{after_arrival, after_undoing, after_undoing_while, first_pending, run, undo, with_pending, without_pending}
 use Rattle.tw_sim.proofs.Counts.{in_cons, in_head, none, times-append}
 use Rattle.tw_sim.proofs.Least.{least_rising}
 use Rattle.tw_sim.proofs.Rising.{IsRising, not_back, rising-filter}
