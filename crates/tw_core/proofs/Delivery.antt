@@ -1,7 +1,7 @@
 -- What the delivery of a message keeps, of either sign: a good part, and every surplus.
 use Rattle.std.proofs.Common.{◌≡◌, ℕ, ◌+◌, ◌<◌, ◌≤◌, Bool, cond, not, true, false, List, ◌++◌, Some, remove, slice_get, refl, ap, sym, subst, inl, inr, arith, nat_lt}
 use Rattle.std.proofs.lemmas.Bool.{cases_Bool, both_ways, false_from_ne_true, ltb-true, ltb-false}
-use Rattle.tw_core.proofs.Back.{back_while, left_fails, taken_back, undoing_while-flight}
+use Rattle.tw_core.proofs.RollBack.{back_while, left_fails, taken_back, undoing_while-flight}
 use Rattle.tw_core.proofs.Counts.{antimessages-append, antimessages-remove, in_flight, messages-append, messages-remove}
 use Rattle.tw_core.specs.Good.{IsGoodPart}
 use Rattle.tw_core.specs.Machine.{Core, antimessages, messages, times_handled, times_loose}

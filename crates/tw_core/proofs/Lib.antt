@@ -1,6 +1,6 @@
 pub mod Counts
 pub mod Calls
-pub mod Back
+pub mod RollBack
 pub mod Delivery
 pub mod Steps
 pub mod Headline

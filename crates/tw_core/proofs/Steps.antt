@@ -2,7 +2,7 @@
 use Rattle.std.proofs.Common.{◌≡◌, ℕ, zero, suc, ◌+◌, ◌<◌, ◌≤◌, ◌==◌, true, false, List, [], ◌∷◌, map, Option, Some, None, Result, Ok, Err, slice_get, refl, ap, sym, ◌∙◌, subst, inl, inr, arith, nat_lt}
 use Rattle.std.proofs.lemmas.Bool.{cases_Bool, cases_eq, both_ways, true_from_ne_false, eqb-true, eq-eqb, ltb-true, ltb-false}
 use Rattle.std.specs.Result.{result_unwrap_or}
-use Rattle.tw_core.proofs.Back.{back_one}
+use Rattle.tw_core.proofs.RollBack.{back_one}
 use Rattle.tw_core.proofs.Calls.{MayHandle, part_handling, put_other, put_same, surplus_handling}
 use Rattle.tw_core.proofs.Counts.{in_flight}
 use Rattle.tw_core.proofs.Delivery.{delivered}
@@ -31,7 +31,7 @@ module _ {S E : Type 0} (m : Simulation S E) (law : IsLawful m) where
       ]
 
   may_handle : (t : ℕ) (C : Core E) (r : ℕ) (e : E) → IsGoodPart m t C → first_pending m C r ≡ Some e → m.time e < C.stop → is_newest m e (C.history r) ≡ false
-      → (m.dst e ≡ r) × MayHandle m law C e
+      → (m.dst e ≡ r) × MayHandle m C e
   may_handle t C r e good first soon other =
       let least = least_is m law e (only m r C.pending) first in
       let there = in_filter m law (λ x. m.dst x == r) e C.pending least.there in
@@ -50,7 +50,7 @@ module _ {S E : Type 0} (m : Simulation S E) (law : IsLawful m) where
         },
       )
 
-  keeps_handling : (t : ℕ) (C : Core E) (r : ℕ) (e : E) → IsGoodPart m t C → (m.dst e ≡ r) × MayHandle m law C e → KeepsPart m t C (after_handling m C r e)
+  keeps_handling : (t : ℕ) (C : Core E) (r : ℕ) (e : E) → IsGoodPart m t C → (m.dst e ≡ r) × MayHandle m C e → KeepsPart m t C (after_handling m C r e)
   keeps_handling t C r e good may =
       subst (λ q. KeepsPart m t C (after_handling m C q e)) may.0 (record {
         part = part_handling m law C e may.1 t good;
@@ -83,9 +83,7 @@ module _ {S E : Type 0} (m : Simulation S E) (law : IsLawful m) where
   -- ---- undo and deliver
 
   pub undoing_keeps : (t : ℕ) (C : Core E) (r : ℕ) (e : E) (older : List E) → t ≤ m.time e → IsGoodPart m t C → C.history r ≡ e ∷ older → KeepsPart m t C (after_undoing m C r e older)
-  undoing_keeps t C r e older late good newest =
-      let back = back_one m law t r C e older newest late good in
-      record { part = back.part; surplus = back.surplus; done = back.done; bound = back.bound; stop = back.stop }
+  undoing_keeps t C r e older late good newest = (back_one m law t r C e older newest late good).keeps
 
   undo_at : (t : ℕ) (C D : Core E) (r : ℕ) (xs : List E) → t ≤ C.bound → IsGoodPart m t C → C.history r ≡ xs → undo m C r xs ≡ Ok D → KeepsPart m t C D
   undo_at t C D r [] le good here h = cc

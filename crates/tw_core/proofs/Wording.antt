@@ -2,7 +2,7 @@
 use Rattle.std.proofs.Common.{◌≡◌, ℕ, ◌+◌, ◌*◌, ◌<◌, ◌≤◌, ◌==◌, Bool, cond, not, true, false, List, [], ◌∷◌, ◌++◌, append_assoc, if◌then◌else◌, Ok, Err, slice_get, refl, ap, sym, ◌∙◌, subst, ◌⊎◌, ◌↔◌, inl, inr, arith, mul-one, nat_lt, zero-mul}
 use Rattle.std.proofs.lemmas.Bool.{cases_Bool, both_ways, le-ltb, ltb-true, ltb-false}
 use Rattle.std.specs.List.{AllByRecursion}
-use Rattle.tw_core.proofs.Back.{taken_back, undoing_while-flight}
+use Rattle.tw_core.proofs.RollBack.{taken_back, undoing_while-flight}
 use Rattle.tw_core.proofs.Headline.{good_log}
 use Rattle.tw_core.proofs.Parts.{all_map, sent_some, total_add}
 use Rattle.tw_core.proofs.Steps.{run_keeps}

@@ -7,14 +7,18 @@ use Rattle.tw_core.specs.Machine.{Core, antimessages, messages}
 use Rattle.tw_sim.specs.declared.machine.Signed.{Signed}
 use Rattle.tw_sim.specs.Simulation.{Simulation, sent, times}
 
--- some routers, and a machine of these alone: its flight is what is on its way to them or from them and counted nowhere else
+-- some routers by themselves
 pub record Part (E : Type 0) : Type 0 where
+  -- which routers it owns
   pub owns : ℕ → Bool
+  -- what these have handled, and what waits for them
   pub core : Core E
 
--- what the parts share: the mail between them, which is in none of them, the bound and the stop
+-- what the parts share
 pub record Shared (E : Type 0) : Type 0 where
+  -- what is on its way between them, and in the flight of none
   pub mail : List (Signed E)
+  -- the bound and the stop of the whole
   pub bound : ℕ
   pub stop : ℕ
 
@@ -24,7 +28,7 @@ total f [] = 0
 total f (x ∷ xs) = f x + total f xs
 
 module _ {E : Type 0} where
-  -- what the owner of r has there, or else
+  -- what is read of the owner of r, or none where r has no owner
   abbrev pub at_owner : {X : Type 0} → (Core E → X) → X → List (Part E) → ℕ → X
   at_owner read none parts r = option_map_or (λ p. read p.core) (find (λ p. p.owns r) parts) none
 
@@ -55,14 +59,18 @@ module _ {S E : Type 0} (m : Simulation S E) where
     pub part : IsGoodPart m t D
     -- and nothing is lost or invented
     pub surplus : SameSurplus C D
+    -- the rest stays
     pub done : D.done ≡ C.done
     pub bound : D.bound ≡ C.bound
     pub stop : D.stop ≡ C.stop
 
-  -- a part by itself: it is good where nothing loose is before the bound, and has only what is for its own routers
+  -- what each part keeps by itself
   pub record IsPart (shared : Shared E) (p : Part E) : Type 0 where
+    -- its part of a good state, to the stop that all share; nothing of its own that is loose is before the bound that all share
     pub good : IsGoodPart m shared.bound (record p.core { stop = shared.stop })
+    -- no commit was beyond that bound
     pub done : (r : ℕ) → p.core.done r ≤ shared.bound
+    -- it has only what is for routers that it owns
     pub history : (r : ℕ) (e : E) → 0 < times m e (p.core.history r) → p.owns r ≡ true
     pub waiting : (e : E) → 0 < times m e p.core.pending + times m e p.core.kept → p.owns (m.dst e) ≡ true
 
@@ -70,9 +78,11 @@ module _ {S E : Type 0} (m : Simulation S E) where
   pub record AddUp (shared : Shared E) (parts : List (Part E)) : Type 0 where
     -- each router has one owner
     pub once : (r : ℕ) → r < m.routers → total (λ p. cond (p.owns r) 1 0) parts ≡ 1
+    -- each part keeps its own
     pub each : AllByRecursion (IsPart shared) parts
-    -- the bound is not beyond the stop, and no mail is before it or does not suit its receiver
+    -- the bound is not beyond the stop
     pub bound : shared.bound ≤ shared.stop
+    -- no mail is before the bound, and each suits its receiver
     pub late : (e : E) → 0 < messages m e shared.mail + antimessages m e shared.mail → shared.bound ≤ m.time e
     pub suit : (e : E) → 0 < messages m e shared.mail + antimessages m e shared.mail → m.suits e ≡ true
     -- the surpluses of all parts and the opening events add up to the mail
