@@ -5,4 +5,5 @@ pub mod Delivery
 pub mod Steps
 pub mod Headline
 pub mod Parts
+pub mod Own
 pub mod Wording

@@ -125,8 +125,7 @@ module _ {S E : Type 0} (m : Simulation S E) where
           suit = λ e h. good.suit e (omega arith);
         };
         done = good.done;
-        history = λ r e h. refl;
-        waiting = λ e h. refl;
+        own = record { history = λ r e h. refl; waiting = λ e h. refl };
       },
       tt,
     );
@@ -152,7 +151,7 @@ module _ {S E : Type 0} (m : Simulation S E) where
           let home = is.good.home r y h in
           let at_home : 0 < times m y (p.core.history (m.dst y)) = subst (λ q. 0 < times m y (p.core.history q)) (sym home) h in
           let receiver = law.receiver y (is.good.suit y (omega arith)) in
-          (is.history r y h, (omega arith))
+          (is.own.history r y h, (omega arith))
 
       owned_total : (r : ℕ) (f : Part E → ℕ) → AllByRecursion (λ p. 0 < f p → (p.owns r ≡ true) × (r < m.routers)) parts
           → total f parts ≡ option_map_or f (find (λ q. q.owns r) parts) 0
@@ -223,12 +222,12 @@ module _ {S E : Type 0} (m : Simulation S E) where
       waiting_owner : (e : E) → m.dst e < m.routers → AllByRecursion (λ p. 0 < times m e p.core.pending + times m e p.core.kept → find (λ q. q.owns (m.dst e)) parts ≡ Some p) parts
       waiting_owner e l =
           all_both (IsPart m shared) (λ p. p.owns (m.dst e) ≡ true → find (λ q. q.owns (m.dst e)) parts ≡ Some p) (λ p. 0 < times m e p.core.pending + times m e p.core.kept → find (λ q. q.owns (m.dst e)) parts ≡ Some p)
-          (λ p is found h. found (is.waiting e h)) parts sums.each (owner_is (m.dst e) parts (sums.once (m.dst e) l))
+          (λ p is found h. found (is.own.waiting e h)) parts sums.each (owner_is (m.dst e) parts (sums.once (m.dst e) l))
 
       -- and all that waits for it
       pending_owner : (e : E) → m.dst e < m.routers → (p : Part E) → find (λ q. q.owns (m.dst e)) parts ≡ Some p → times m e A.pending ≡ times m e p.core.pending
       pending_owner e l p found =
-          let waiting = all_map (IsPart m shared) (λ q. 0 < times m e q.core.pending → (q.owns (m.dst e) ≡ true) × (m.dst e < m.routers)) (λ q is h. (is.waiting e (omega arith), l)) parts sums.each in
+          let waiting = all_map (IsPart m shared) (λ q. 0 < times m e q.core.pending → (q.owns (m.dst e) ≡ true) × (m.dst e < m.routers)) (λ q is h. (is.own.waiting e (omega arith), l)) parts sums.each in
           pending_total e ∙ (owned_total (m.dst e) (λ q. times m e q.core.pending) waiting ∙ ap (λ o. option_map_or (λ q. times m e q.core.pending) o 0) found)
 
       history_owner : (r : ℕ) (p : Part E) → find (λ q. q.owns r) parts ≡ Some p → A.history r ≡ p.core.history r

@@ -158,7 +158,7 @@ module _ {S E : Type 0} (m : Simulation S E) where
         let each = total_same (λ p. cond (p.owns (m.src e)) (due m p.core e) 0) (λ p. f p + g p) parts (all_map (IsPart m shared) (λ p. cond (p.owns (m.src e)) (due m p.core e) 0 ≡ f p + g p)
         (λ p is. elim (cases_Bool (p.owns (m.src e))) [
           | inl b ↦ rw b refl
-          | inr b ↦ rw b (let no = none (g p) (λ h. let some = sent_some m law (m.src e) (p.core.history (m.src e)) e h in both_ways (p.owns (m.src e)) b (is.history (m.src e) some.0 some.1)) in omega arith)
+          | inr b ↦ rw b (let no = none (g p) (λ h. let some = sent_some m law (m.src e) (p.core.history (m.src e)) e h in both_ways (p.owns (m.src e)) b (is.own.history (m.src e) some.0 some.1)) in omega arith)
         ]) parts sums.each) in
         let both = total_add f g parts in
         let scaled = total_scale (times m e m.opening) (λ (p : Part E). p.owns (m.src e)) parts in

@@ -64,6 +64,13 @@ module _ {S E : Type 0} (m : Simulation S E) where
     pub bound : D.bound ≡ C.bound
     pub stop : D.stop ≡ C.stop
 
+  -- all that is handled, waits or is kept is for some routers alone
+  pub record IsOwn (owns : ℕ → Bool) (C : Core E) : Type 0 where
+    -- no other router has handled anything
+    pub history : (r : ℕ) (e : E) → 0 < times m e (C.history r) → owns r ≡ true
+    -- and nothing waits for another
+    pub waiting : (e : E) → 0 < times m e C.pending + times m e C.kept → owns (m.dst e) ≡ true
+
   -- what each part keeps by itself
   pub record IsPart (shared : Shared E) (p : Part E) : Type 0 where
     -- its part of a good state, to the stop that all share; nothing of its own that is loose is before the bound that all share
@@ -71,8 +78,7 @@ module _ {S E : Type 0} (m : Simulation S E) where
     -- no commit was beyond that bound
     pub done : (r : ℕ) → p.core.done r ≤ shared.bound
     -- it has only what is for routers that it owns
-    pub history : (r : ℕ) (e : E) → 0 < times m e (p.core.history r) → p.owns r ≡ true
-    pub waiting : (e : E) → 0 < times m e p.core.pending + times m e p.core.kept → p.owns (m.dst e) ≡ true
+    pub own : IsOwn p.owns p.core
 
   -- the parts add up to a machine
   pub record AddUp (shared : Shared E) (parts : List (Part E)) : Type 0 where

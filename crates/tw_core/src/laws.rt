@@ -1,10 +1,10 @@
 //! Laws of the machine, over its definitions alone and any lawful simulation. Each function does
 //! nothing; its contract is the law.
 
-ghost use Rattle.std.specs.Prelude.{ℕ, ◌≡◌, ◌<◌, ◌≤◌, ◌+◌, ◌↔◌, ◌⊎◌, true, List, [], ◌∷◌, ◌++◌, Ok, Some, slice_get};
+ghost use Rattle.std.specs.Prelude.{ℕ, ◌≡◌, ◌<◌, ◌≤◌, ◌+◌, ◌↔◌, ◌⊎◌, true, List, [], ◌∷◌, ◌++◌, Bool, Ok, Some, slice_get};
 ghost use Rattle.tw_core.specs.Good.{IsGood, IsGoodPart, due};
 ghost use Rattle.tw_core.specs.Machine.{Core, IsOpening, committed};
-ghost use Rattle.tw_core.specs.Parts.{AddUp, KeepsPart, Part, Shared, assembled};
+ghost use Rattle.tw_core.specs.Parts.{AddUp, IsOwn, KeepsPart, Part, Shared, assembled};
 ghost use Rattle.tw_core.specs.Run.{IsAtEnd, IsSeq, IsSettled};
 ghost use Rattle.tw_core.specs.Steps.{after_arrival, after_undoing, deliver, first_pending, handle, next, run, undo};
 ghost use Rattle.tw_sim.specs.declared.machine.Signed.{Signed};
@@ -79,6 +79,16 @@ pub fn calls_keep_parts<S, E>()
         → deliver m C k (slice_get C.flight k) ≡ Ok D → KeepsPart m t C D }
     ensures undoing { (m : Simulation S E) → IsLawful m → (t : ℕ) (C : Core E) (r : ℕ) (e : E) (older : List E) → t ≤ m.time e → IsGoodPart m t C
         → C.history r ≡ e ∷ older → KeepsPart m t C (after_undoing m C r e older) }
+{}
+
+/// What a call does at routers that a part owns leaves in it only what is for these.
+pub fn calls_keep_own<S, E>()
+    ensures handle { (m : Simulation S E) → IsLawful m → (owns : ℕ → Bool) (C D : Core E) (r : ℕ) → IsOwn m owns C
+        → handle m C r (first_pending m C r) ≡ Ok D → IsOwn m owns D }
+    ensures undo { (m : Simulation S E) → IsLawful m → (owns : ℕ → Bool) (t : ℕ) (C D : Core E) (r : ℕ) → IsGoodPart m t C → IsOwn m owns C
+        → undo m C r (C.history r) ≡ Ok D → IsOwn m owns D }
+    ensures arrival { (m : Simulation S E) → IsLawful m → (owns : ℕ → Bool) (t : ℕ) (C : Core E) (x : Signed E) → IsGoodPart m t C → IsOwn m owns C
+        → owns (m.dst x.event) ≡ true → IsOwn m owns (after_arrival m C x) }
 {}
 
 /// Where a message arrives, what else is in flight does not count: what it takes back goes behind.
