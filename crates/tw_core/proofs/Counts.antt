@@ -7,11 +7,6 @@ use Rattle.tw_sim.proofs.Counts.{one_self}
 use Rattle.tw_sim.specs.declared.machine.Signed.{Signed}
 use Rattle.tw_sim.specs.Simulation.{Simulation, IsLawful, one, times}
 
-pub slice_get-append : {X : Type 0} (xs ys : List X) (k : ℕ) (x : X) → slice_get xs k ≡ Some x → slice_get (xs ++ ys) k ≡ Some x
-slice_get-append [] ys k x h = cc
-slice_get-append (y ∷ xs) ys zero x h = h
-slice_get-append (y ∷ xs) ys (suc k) x h = slice_get-append xs ys k x h
-
 module _ {S E : Type 0} (m : Simulation S E) where
   pub messages-append : (e : E) (xs ys : List (Signed E)) → messages m e (xs ++ ys) ≡ messages m e xs + messages m e ys
   messages-append e [] ys = omega arith

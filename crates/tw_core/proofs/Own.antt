@@ -1,16 +1,17 @@
 -- What a call leaves at some routers is for these alone.
-use Rattle.std.proofs.Common.{◌≡◌, ℕ, ◌+◌, ◌<◌, ◌≤◌, ◌==◌, Bool, cond, not, true, false, ◌||◌, List, [], ◌∷◌, Option, Some, None, Ok, refl, ap, sym, ◌∙◌, subst, inl, inr, arith, nat_lt}
-use Rattle.std.proofs.lemmas.Bool.{cases_Bool, cases_eq, eqb-true, ltb-true}
+use Rattle.std.proofs.Common.{◌≡◌, ℕ, ◌+◌, ◌<◌, ◌==◌, Bool, not, true, false, List, [], ◌∷◌, Ok, refl, sym, subst, inl, inr, arith, nat_lt}
+use Rattle.std.proofs.lemmas.Bool.{cases_Bool, cases_eq, eqb-true}
 use Rattle.tw_core.proofs.Calls.{put_other, put_same}
+use Rattle.tw_core.proofs.Done.{handle_done, undo_done}
 use Rattle.tw_core.specs.Good.{IsGoodPart}
 use Rattle.tw_core.specs.Machine.{Core}
 use Rattle.tw_core.specs.Parts.{IsOwn}
-use Rattle.tw_core.specs.Steps.{after_arrival, after_handling, after_undoing, after_undoing_while, first_pending, handle, is_newest, put, take_out, undo}
+use Rattle.tw_core.specs.Steps.{after_arrival, after_handling, after_undoing, after_undoing_while, first_pending, handle, take_out, undo}
 use Rattle.tw_sim.proofs.Counts.{in_filter, in_head, one_cases, times-insert, times-take_out-le}
 use Rattle.tw_sim.proofs.Least.{least_is}
 use Rattle.tw_sim.specs.declared.machine.Signed.{Signed}
 use Rattle.tw_sim.specs.Seq.{insert}
-use Rattle.tw_sim.specs.Simulation.{Simulation, IsLawful, only, state, times}
+use Rattle.tw_sim.specs.Simulation.{Simulation, IsLawful, only, times}
 
 module _ {S E : Type 0} (m : Simulation S E) (law : IsLawful m) (owns : ℕ → Bool) where
   -- other things wait, but for the same routers
@@ -37,26 +38,12 @@ module _ {S E : Type 0} (m : Simulation S E) (law : IsLawful m) (owns : ℕ → 
     waiting = less_waits C e own;
   }
 
-  handle_at : (C D : Core E) (r : ℕ) (o : Option E) → IsOwn m owns C → first_pending m C r ≡ o → handle m C r o ≡ Ok D → IsOwn m owns D
-  handle_at C D r None own first h = cc
-  handle_at C D r (Some e) own first h =
-      elim (cases_Bool (nat_lt (m.time e) C.stop)) [
-        | inr b ↦ (let k = rw b at h in cc)
-        | inl b ↦ elim (cases_Bool (is_newest m e (C.history r))) [
-          | inl c ↦ (let k = rw (b, c) at h in cc)
-          | inr c ↦ elim (cases_Bool (m.full (state m r (C.history r)) e)) [
-            | inl d ↦ (let k = rw (b, c, d) at h in cc)
-            | inr d ↦ (
-                let k = rw (b, c, d) at h in
-                let made : after_handling m C r e ≡ D = cc in
-                let there = in_filter m law (λ x. m.dst x == r) e C.pending (least_is m law e (only m r C.pending) first).there in
-                subst (IsOwn m owns) made (subst (λ q. IsOwn m owns (after_handling m C q e)) (eqb-true (m.dst e) r there.0) (own_handling C e own there.1)))
-          ]
-        ]
-      ]
-
   pub own_handle : (C D : Core E) (r : ℕ) → IsOwn m owns C → handle m C r (first_pending m C r) ≡ Ok D → IsOwn m owns D
-  own_handle C D r own h = handle_at C D r (first_pending m C r) own refl h
+  own_handle C D r own h =
+      let done = handle_done m C D r (first_pending m C r) h in
+      let there = in_filter m law (λ x. m.dst x == r) done.event C.pending (least_is m law done.event (only m r C.pending) done.found).there in
+      let handled = own_handling C done.event own there.1 in
+      subst (IsOwn m owns) done.made (subst (λ q. IsOwn m owns (after_handling m C q done.event)) (eqb-true (m.dst done.event) r there.0) handled)
 
   own_undoing : (C : Core E) (r : ℕ) (e : E) (older : List E) → m.dst e ≡ r → C.history r ≡ e ∷ older → IsOwn m owns C → IsOwn m owns (after_undoing m C r e older)
   own_undoing C r e older home newest own =
@@ -78,19 +65,11 @@ module _ {S E : Type 0} (m : Simulation S E) (law : IsLawful m) (owns : ℕ → 
         | inr b ↦ rw b own
       ]
 
-  undo_at : (C D : Core E) (r : ℕ) (xs : List E) → ((y : E) → 0 < times m y xs → m.dst y ≡ r) → IsOwn m owns C → C.history r ≡ xs → undo m C r xs ≡ Ok D → IsOwn m owns D
-  undo_at C D r [] home own here h = cc
-  undo_at C D r (e ∷ older) home own here h =
-      elim (cases_Bool (nat_lt (m.time e) (C.done r) || nat_lt (m.time e) C.bound)) [
-        | inl b ↦ (let k = rw b at h in cc)
-        | inr b ↦ (
-            let k = rw b at h in
-            let made : after_undoing m C r e older ≡ D = cc in
-            subst (IsOwn m owns) made (own_undoing C r e older (home e (in_head m law e older)) here own))
-      ]
-
   pub own_undo : (t : ℕ) (C D : Core E) (r : ℕ) → IsGoodPart m t C → IsOwn m owns C → undo m C r (C.history r) ≡ Ok D → IsOwn m owns D
-  own_undo t C D r good own h = undo_at C D r (C.history r) (good.home r) own refl h
+  own_undo t C D r good own h =
+      let done = undo_done m C D r (C.history r) h in
+      let home = good.home r done.event (subst (λ xs. 0 < times m done.event xs) (sym done.newest) (in_head m law done.event done.older)) in
+      subst (IsOwn m owns) done.made (own_undoing C r done.event done.older home done.newest own)
 
   own_back : (t : ℕ) (C : Core E) (e : E) (test : E → Bool) → IsGoodPart m t C → IsOwn m owns C → IsOwn m owns (after_undoing_while m test (m.dst e) (C.history (m.dst e)) C)
   own_back t C e test good own = own_while (m.dst e) test (C.history (m.dst e)) C refl (good.home (m.dst e)) own

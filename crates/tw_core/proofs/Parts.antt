@@ -1,99 +1,17 @@
 -- Parts that add up make a good state.
-use Rattle.std.proofs.Common.{◌≡◌, ℕ, ◌+◌, ◌<◌, ◌≤◌, Bool, cond, true, false, List, [], ◌∷◌, Option, Some, None, find, flat_map, refl, ap, sym, ◌∙◌, subst, inl, inr, arith, nat_lt}
-use Rattle.std.proofs.lemmas.Bool.{cases_Bool, cases_lt, both_ways, ltb-true, ltb-false}
+use Rattle.std.proofs.Common.{◌≡◌, ℕ, ◌+◌, ◌<◌, ◌≤◌, true, false, List, [], ◌∷◌, Some, flat_map, refl, ap, sym, ◌∙◌, subst, inl, inr, arith, nat_lt}
+use Rattle.std.proofs.lemmas.Bool.{cases_Bool, cases_lt, ltb-true, ltb-false}
 use Rattle.std.specs.List.{AllByRecursion}
 use Rattle.std.specs.Option.{option_map_or}
 use Rattle.tw_core.proofs.Counts.{antimessages-append, messages-append}
+use Rattle.tw_core.proofs.Owners.{from_owner, owned, owner_is}
+use Rattle.tw_core.proofs.Sums.{all_both, all_map, found_zero, some_of, through, total_add, total_zero}
 use Rattle.tw_core.specs.Good.{IsGood, times_taken_back, times_there}
 use Rattle.tw_core.specs.Machine.{Core, antimessages, messages, times_handled, times_loose}
-use Rattle.tw_core.specs.Parts.{AddUp, IsPart, Part, Shared, assembled, at_owner, times_wanted, total}
+use Rattle.tw_core.specs.Parts.{AddUp, IsPart, Part, Shared, assembled, owner, times_wanted, total}
 use Rattle.tw_sim.proofs.Counts.{in_head, none, times-append}
 use Rattle.tw_sim.specs.declared.machine.Signed.{Signed}
 use Rattle.tw_sim.specs.Simulation.{Simulation, IsFalling, IsLawful, sent, times}
-
--- ---- sums over a list
-
-module _ {X : Type 0} where
-  pub all_map : (P Q : X → Type 0) → ((x : X) → P x → Q x) → (xs : List X) → AllByRecursion P xs → AllByRecursion Q xs
-  all_map P Q f [] h = tt
-  all_map P Q f (x ∷ xs) h = (f x h.0, all_map P Q f xs h.1)
-
-  pub all_both : (P Q R : X → Type 0) → ((x : X) → P x → Q x → R x) → (xs : List X) → AllByRecursion P xs → AllByRecursion Q xs → AllByRecursion R xs
-  all_both P Q R f [] h k = tt
-  all_both P Q R f (x ∷ xs) h k = (f x h.0 k.0, all_both P Q R f xs h.1 k.1)
-
-  pub total_add : (f g : X → ℕ) (xs : List X) → total (λ x. f x + g x) xs ≡ total f xs + total g xs
-  total_add f g [] = refl
-  total_add f g (x ∷ xs) = let more = total_add f g xs in omega arith
-
-  pub total_zero : (f : X → ℕ) (xs : List X) → AllByRecursion (λ x. f x ≡ 0) xs → total f xs ≡ 0
-  total_zero f [] h = refl
-  total_zero f (x ∷ xs) h = (let first = h.0 in let more = total_zero f xs h.1 in omega arith)
-
-  -- where a sum is not 0, one of its terms is not
-  pub some_of : (f : X → ℕ) (Q : Type 0) (xs : List X) → AllByRecursion (λ x. 0 < f x → Q) xs → 0 < total f xs → Q
-  some_of f Q [] h k = absurd (omega arith)
-  some_of f Q (x ∷ xs) h k =
-      elim (cases_Bool (nat_lt 0 (f x))) [
-        | inl b ↦ h.0 (ltb-true 0 (f x) b)
-        | inr b ↦ some_of f Q xs h.1 (let no = ltb-false 0 (f x) b in omega arith)
-      ]
-
-  pub found_zero : (f : X → ℕ) (test : X → Bool) (xs : List X) → AllByRecursion (λ x. f x ≡ 0) xs → option_map_or f (find test xs) 0 ≡ 0
-  found_zero f test [] h = refl
-  found_zero f test (x ∷ xs) h =
-      elim (cases_Bool (test x)) [ inl b ↦ rw b h.0 | inr b ↦ rw b (found_zero f test xs h.1) ]
-
-  pub through : {Y Z : Type 0} (g : Y → Z) (f : X → Y) (o : Option X) (d : Y) → g (option_map_or f o d) ≡ option_map_or (λ x. g (f x)) o (g d)
-  through g f None d = refl
-  through g f (Some x) d = refl
-
-module _ {E : Type 0} (r : ℕ) where
-  abbrev pub owning : Part E → ℕ
-  owning p = cond (p.owns r) 1 0
-
-  unowned : (parts : List (Part E)) → total owning parts ≡ 0 → AllByRecursion (λ p. p.owns r ≡ true → ⊥) parts
-  unowned [] h = tt
-  unowned (p ∷ parts) h = ((λ b. let k = rw b at h in omega arith), unowned parts (omega arith))
-
-  -- the one owner is found
-  owner_is : (parts : List (Part E)) → total owning parts ≡ 1 → AllByRecursion (λ p. p.owns r ≡ true → find (λ q. q.owns r) parts ≡ Some p) parts
-  owner_is [] h = tt
-  owner_is (p ∷ parts) h =
-      elim (cases_Bool (p.owns r)) [
-        | inl b ↦
-            let rest : total owning parts ≡ 0 = (let k = rw b at h in omega arith) in
-            ((λ k. rw b refl), all_map (λ q. q.owns r ≡ true → ⊥) (λ q. q.owns r ≡ true → find (λ s. s.owns r) (p ∷ parts) ≡ Some q) (λ q no k. absurd (no k)) parts (unowned parts rest))
-        | inr b ↦
-            let rest : total owning parts ≡ 1 = (let k = rw b at h in omega arith) in (
-              (λ k. absurd (both_ways (p.owns r) b k)),
-              all_map (λ q. q.owns r ≡ true → find (λ s. s.owns r) parts ≡ Some q) (λ q. q.owns r ≡ true → find (λ s. s.owns r) (p ∷ parts) ≡ Some q) (λ q found k. rw b (found k)) parts (owner_is parts rest),
-            )
-      ]
-
-  -- what only the owner has is the sum over all
-  owned : (f : Part E → ℕ) (parts : List (Part E)) → total owning parts ≡ 1 → AllByRecursion (λ p. 0 < f p → p.owns r ≡ true) parts
-      → total f parts ≡ option_map_or f (find (λ q. q.owns r) parts) 0
-  owned f [] h only = cc
-  owned f (p ∷ parts) h only =
-      elim (cases_Bool (p.owns r)) [
-        | inl b ↦
-            let rest : total owning parts ≡ 0 = (let k = rw b at h in omega arith) in
-            let others = total_zero f parts (all_both (λ q. q.owns r ≡ true → ⊥) (λ q. 0 < f q → q.owns r ≡ true) (λ q. f q ≡ 0) (λ q no yes. none (f q) (λ k. no (yes k))) parts (unowned parts rest) only.1) in
-            rw b (omega arith)
-        | inr b ↦
-            let rest : total owning parts ≡ 1 = (let k = rw b at h in omega arith) in
-            let others = owned f parts rest only.1 in
-            let mine = none (f p) (λ k. both_ways (p.owns r) b (only.0 k)) in
-            rw b (omega arith)
-      ]
-
-  -- what holds of each part's is held by the owner's
-  pub from_owner : {X : Type 0} (read : Core E → X) (nothing : X) (P : X → Type 0) → P nothing → (parts : List (Part E)) → AllByRecursion (λ p. P (read p.core)) parts
-      → P (at_owner read nothing parts r)
-  from_owner read nothing P base [] h = base
-  from_owner read nothing P base (p ∷ parts) h =
-      elim (cases_Bool (p.owns r)) [ inl b ↦ rw b h.0 | inr b ↦ rw b (from_owner read nothing P base parts h.1) ]
 
 module _ {S E : Type 0} (m : Simulation S E) where
   times-flat_map : (e : E) (g : Part E → List E) (parts : List (Part E)) → times m e (flat_map g parts) ≡ total (λ p. times m e (g p)) parts
@@ -154,26 +72,26 @@ module _ {S E : Type 0} (m : Simulation S E) where
           (is.own.history r y h, (omega arith))
 
       owned_total : (r : ℕ) (f : Part E → ℕ) → AllByRecursion (λ p. 0 < f p → (p.owns r ≡ true) × (r < m.routers)) parts
-          → total f parts ≡ option_map_or f (find (λ q. q.owns r) parts) 0
+          → total f parts ≡ option_map_or f (owner r parts) 0
       owned_total r f only =
           elim (cases_lt r m.routers) [
             | inl l ↦ owned r f parts (sums.once r l) (all_map (λ p. 0 < f p → (p.owns r ≡ true) × (r < m.routers)) (λ p. 0 < f p → p.owns r ≡ true) (λ p h k. (h k).0) parts only)
             | inr ge ↦
                 let zero = all_map (λ p. 0 < f p → (p.owns r ≡ true) × (r < m.routers)) (λ p. f p ≡ 0) (λ p h. none (f p) (λ k. let l = (h k).1 in omega arith)) parts only in
-                total_zero f parts zero ∙ sym (found_zero f (λ q. q.owns r) parts zero)
+                total_zero f parts zero ∙ sym (found_zero f (λ p. p.owns r) parts zero)
           ]
 
       handled_total : (e : E) → total (λ p. times_handled m p.core e) parts ≡ times_handled m A e
       handled_total e =
           owned_total (m.dst e) (λ p. times_handled m p.core e) (all_map (IsPart m shared) (λ p. 0 < times_handled m p.core e → (p.owns (m.dst e) ≡ true) × (m.dst e < m.routers)) (λ p is h. there p (m.dst e) e is h) parts sums.each)
-          ∙ sym (through (times m e) (λ p. p.core.history (m.dst e)) (find (λ q. q.owns (m.dst e)) parts) [])
+          ∙ sym (through (times m e) (λ p. p.core.history (m.dst e)) (owner (m.dst e) parts) [])
 
       sent_total : (e : E) → total (λ p. times m e (sent m (m.src e) (p.core.history (m.src e)))) parts ≡ times m e (sent m (m.src e) (A.history (m.src e)))
       sent_total e =
           owned_total (m.src e) (λ p. times m e (sent m (m.src e) (p.core.history (m.src e))))
           (all_map (IsPart m shared) (λ p. 0 < times m e (sent m (m.src e) (p.core.history (m.src e))) → (p.owns (m.src e) ≡ true) × (m.src e < m.routers))
           (λ p is h. let some = sent_some (m.src e) (p.core.history (m.src e)) e h in there p (m.src e) some.0 is some.1) parts sums.each)
-          ∙ sym (through (λ xs. times m e (sent m (m.src e) xs)) (λ p. p.core.history (m.src e)) (find (λ q. q.owns (m.src e)) parts) [])
+          ∙ sym (through (λ xs. times m e (sent m (m.src e) xs)) (λ p. p.core.history (m.src e)) (owner (m.src e) parts) [])
 
       pending_total : (e : E) → times m e A.pending ≡ total (λ p. times m e p.core.pending) parts
       pending_total e = times-flat_map e (λ p. p.core.pending) parts
@@ -219,18 +137,18 @@ module _ {S E : Type 0} (m : Simulation S E) where
           omega arith
 
       -- who has something waiting for an event's receiver is its owner
-      waiting_owner : (e : E) → m.dst e < m.routers → AllByRecursion (λ p. 0 < times m e p.core.pending + times m e p.core.kept → find (λ q. q.owns (m.dst e)) parts ≡ Some p) parts
+      waiting_owner : (e : E) → m.dst e < m.routers → AllByRecursion (λ p. 0 < times m e p.core.pending + times m e p.core.kept → owner (m.dst e) parts ≡ Some p) parts
       waiting_owner e l =
-          all_both (IsPart m shared) (λ p. p.owns (m.dst e) ≡ true → find (λ q. q.owns (m.dst e)) parts ≡ Some p) (λ p. 0 < times m e p.core.pending + times m e p.core.kept → find (λ q. q.owns (m.dst e)) parts ≡ Some p)
+          all_both (IsPart m shared) (λ p. p.owns (m.dst e) ≡ true → owner (m.dst e) parts ≡ Some p) (λ p. 0 < times m e p.core.pending + times m e p.core.kept → owner (m.dst e) parts ≡ Some p)
           (λ p is found h. found (is.own.waiting e h)) parts sums.each (owner_is (m.dst e) parts (sums.once (m.dst e) l))
 
       -- and all that waits for it
-      pending_owner : (e : E) → m.dst e < m.routers → (p : Part E) → find (λ q. q.owns (m.dst e)) parts ≡ Some p → times m e A.pending ≡ times m e p.core.pending
+      pending_owner : (e : E) → m.dst e < m.routers → (p : Part E) → owner (m.dst e) parts ≡ Some p → times m e A.pending ≡ times m e p.core.pending
       pending_owner e l p found =
           let waiting = all_map (IsPart m shared) (λ q. 0 < times m e q.core.pending → (q.owns (m.dst e) ≡ true) × (m.dst e < m.routers)) (λ q is h. (is.own.waiting e (omega arith), l)) parts sums.each in
           pending_total e ∙ (owned_total (m.dst e) (λ q. times m e q.core.pending) waiting ∙ ap (λ o. option_map_or (λ q. times m e q.core.pending) o 0) found)
 
-      history_owner : (r : ℕ) (p : Part E) → find (λ q. q.owns r) parts ≡ Some p → A.history r ≡ p.core.history r
+      history_owner : (r : ℕ) (p : Part E) → owner r parts ≡ Some p → A.history r ≡ p.core.history r
       history_owner r p found = ap (λ o. option_map_or (λ q. q.core.history r) o []) found
 
       loose_suits : (e : E) → 0 < times_loose m A e → m.suits e ≡ true
@@ -260,7 +178,7 @@ module _ {S E : Type 0} (m : Simulation S E) where
           ahead = λ e x waits handled.
               let l = law.receiver e (loose_suits e (omega arith)) in
               some_of (λ p. times m e p.core.pending) (m.before e x ≡ false) parts
-              (all_both (IsPart m shared) (λ p. 0 < times m e p.core.pending + times m e p.core.kept → find (λ q. q.owns (m.dst e)) parts ≡ Some p) (λ p. 0 < times m e p.core.pending → m.before e x ≡ false)
+              (all_both (IsPart m shared) (λ p. 0 < times m e p.core.pending + times m e p.core.kept → owner (m.dst e) parts ≡ Some p) (λ p. 0 < times m e p.core.pending → m.before e x ≡ false)
               (λ p is found k.
               is.good.ahead e x k (subst (λ xs. 0 < times m x xs) (history_owner (m.dst e) p (found (omega arith))) handled))
               parts sums.each (waiting_owner e l))
@@ -268,7 +186,7 @@ module _ {S E : Type 0} (m : Simulation S E) where
           alone = λ e h.
               let l = law.receiver e (loose_suits e (omega arith)) in
               some_of (λ p. times m e p.core.kept) ((times m e A.pending ≡ 0) × (times_handled m A e ≡ 0)) parts
-              (all_both (IsPart m shared) (λ p. 0 < times m e p.core.pending + times m e p.core.kept → find (λ q. q.owns (m.dst e)) parts ≡ Some p) (λ p. 0 < times m e p.core.kept → (times m e A.pending ≡ 0) × (times_handled m A e ≡ 0))
+              (all_both (IsPart m shared) (λ p. 0 < times m e p.core.pending + times m e p.core.kept → owner (m.dst e) parts ≡ Some p) (λ p. 0 < times m e p.core.kept → (times m e A.pending ≡ 0) × (times_handled m A e ≡ 0))
               (λ p is found k.
               let place = found (omega arith) in
               let old = is.good.alone e k in

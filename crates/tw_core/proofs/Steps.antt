@@ -2,6 +2,7 @@
 use Rattle.std.proofs.Common.{◌≡◌, ℕ, zero, suc, ◌+◌, ◌<◌, ◌≤◌, ◌==◌, true, false, List, [], ◌∷◌, map, Option, Some, None, Result, Ok, Err, slice_get, refl, ap, sym, ◌∙◌, subst, inl, inr, arith, nat_lt}
 use Rattle.std.proofs.lemmas.Bool.{cases_Bool, cases_eq, both_ways, true_from_ne_false, eqb-true, eq-eqb, ltb-true, ltb-false}
 use Rattle.std.specs.Result.{result_unwrap_or}
+use Rattle.tw_core.proofs.Done.{at_router_done, handle_done, undo_done}
 use Rattle.tw_core.proofs.RollBack.{back_one}
 use Rattle.tw_core.proofs.Calls.{MayHandle, part_handling, put_other, put_same, surplus_handling}
 use Rattle.tw_core.proofs.Counts.{in_flight}
@@ -10,13 +11,13 @@ use Rattle.tw_core.specs.declared.refusal.Refusal.{Refusal}
 use Rattle.tw_core.specs.Good.{IsGood, IsGoodPart}
 use Rattle.tw_core.specs.Machine.{Core, IsOpening, antimessages, messages, times_handled, times_loose}
 use Rattle.tw_core.specs.Parts.{KeepsPart}
-use Rattle.tw_core.specs.Steps.{after_delivery, after_handling, after_undoing, at_router, deliver, first_pending, handle, is_newest, least_loose, least_time, next, put, run, step, undo, with_bound, with_commit}
+use Rattle.tw_core.specs.Steps.{after_delivery, after_handling, after_undoing, deliver, first_pending, handle, is_newest, least_loose, least_time, next, put, run, step, undo, with_bound, with_commit}
 use Rattle.tw_sim.proofs.Counts.{in_cons, in_filter, none, one_self, times-filter-yes}
 use Rattle.tw_sim.proofs.Least.{least_is}
 use Rattle.tw_sim.specs.declared.machine.Signed.{Signed}
 use Rattle.tw_sim.specs.declared.machine.Step.{Step}
 use Rattle.tw_sim.specs.declared.machine.Step.TheVariants.{Handle, Undo, Deliver, Bound, Commit}
-use Rattle.tw_sim.specs.Simulation.{Simulation, IsFalling, IsLawful, only, sent, state, times}
+use Rattle.tw_sim.specs.Simulation.{Simulation, IsFalling, IsLawful, only, sent, times}
 
 module _ {S E : Type 0} (m : Simulation S E) (law : IsLawful m) where
   -- ---- handle
@@ -60,48 +61,21 @@ module _ {S E : Type 0} (m : Simulation S E) (law : IsLawful m) where
         stop = refl;
       })
 
-  handle_at : (t : ℕ) (C D : Core E) (r : ℕ) (o : Option E) → IsGoodPart m t C → first_pending m C r ≡ o → handle m C r o ≡ Ok D → KeepsPart m t C D
-  handle_at t C D r None good first h = cc
-  handle_at t C D r (Some e) good first h =
-      elim (cases_Bool (nat_lt (m.time e) C.stop)) [
-        | inr b ↦ (let k = rw b at h in cc)
-        | inl b ↦ elim (cases_Bool (is_newest m e (C.history r))) [
-          | inl c ↦ (let k = rw (b, c) at h in cc)
-          | inr c ↦ elim (cases_Bool (m.full (state m r (C.history r)) e)) [
-            | inl d ↦ (let k = rw (b, c, d) at h in cc)
-            | inr d ↦ (
-                let k = rw (b, c, d) at h in
-                let made : after_handling m C r e ≡ D = cc in
-                subst (KeepsPart m t C) made (keeps_handling t C r e good (may_handle t C r e good first (ltb-true (m.time e) C.stop b) c)))
-          ]
-        ]
-      ]
-
   pub handle_keeps : (t : ℕ) (C D : Core E) (r : ℕ) → IsGoodPart m t C → handle m C r (first_pending m C r) ≡ Ok D → KeepsPart m t C D
-  handle_keeps t C D r good h = handle_at t C D r (first_pending m C r) good refl h
+  handle_keeps t C D r good h =
+      let done = handle_done m C D r (first_pending m C r) h in
+      subst (KeepsPart m t C) done.made (keeps_handling t C r done.event good (may_handle t C r done.event good done.found done.soon done.new))
 
   -- ---- undo and deliver
 
   pub undoing_keeps : (t : ℕ) (C : Core E) (r : ℕ) (e : E) (older : List E) → t ≤ m.time e → IsGoodPart m t C → C.history r ≡ e ∷ older → KeepsPart m t C (after_undoing m C r e older)
   undoing_keeps t C r e older late good newest = (back_one m law t r C e older newest late good).keeps
 
-  undo_at : (t : ℕ) (C D : Core E) (r : ℕ) (xs : List E) → t ≤ C.bound → IsGoodPart m t C → C.history r ≡ xs → undo m C r xs ≡ Ok D → KeepsPart m t C D
-  undo_at t C D r [] le good here h = cc
-  undo_at t C D r (e ∷ older) le good here h =
-      elim (cases_Bool (nat_lt (m.time e) (C.done r))) [
-        | inl b ↦ (let k = rw b at h in cc)
-        | inr b ↦ elim (cases_Bool (nat_lt (m.time e) C.bound)) [
-          | inl c ↦ (let k = rw (b, c) at h in cc)
-          | inr c ↦ (
-              let k = rw (b, c) at h in
-              let made : after_undoing m C r e older ≡ D = cc in
-              let not_before = ltb-false (m.time e) C.bound c in
-              subst (KeepsPart m t C) made (undoing_keeps t C r e older (omega arith) good here))
-        ]
-      ]
-
   pub undo_keeps : (t : ℕ) (C D : Core E) (r : ℕ) → t ≤ C.bound → IsGoodPart m t C → undo m C r (C.history r) ≡ Ok D → KeepsPart m t C D
-  undo_keeps t C D r le good h = undo_at t C D r (C.history r) le good refl h
+  undo_keeps t C D r le good h =
+      let done = undo_done m C D r (C.history r) h in
+      let late = done.late in
+      subst (KeepsPart m t C) done.made (undoing_keeps t C r done.event done.older (omega arith) good done.newest)
 
   deliver_at : (t : ℕ) (C D : Core E) (k : ℕ) (o : Option (Signed E)) → IsGoodPart m t C → slice_get C.flight k ≡ o → deliver m C k o ≡ Ok D → KeepsPart m t C D
   deliver_at t C D k None good place h = cc
@@ -226,9 +200,6 @@ module _ {S E : Type 0} (m : Simulation S E) (law : IsLawful m) where
 
   -- ---- steps
 
-  at_router_done : (r : ℕ) (o : Result (Core E) Refusal) (D : Core E) → at_router m r o ≡ Ok D → o ≡ Ok D
-  at_router_done r o D h = elim (cases_Bool (nat_lt r m.routers)) [ inl b ↦ rw b at h | inr b ↦ (let k = rw b at h in cc) ]
-
   -- a step that is done keeps good and does not lower the bound
   pub record StepKeeps (C D : Core E) : Type 0 where
     pub good : IsGood m D
@@ -238,15 +209,15 @@ module _ {S E : Type 0} (m : Simulation S E) (law : IsLawful m) where
   called C D good keeps = record { good = good_after C D good keeps; bound = (let same = keeps.bound in omega arith) }
 
   pub step_keeps : (C D : Core E) (x : Step) → IsGood m C → step m C x ≡ Ok D → StepKeeps C D
-  step_keeps C D (Handle r) good h = called C D good (handle_keeps C.bound C D r good.part (at_router_done r (handle m C r (first_pending m C r)) D h))
-  step_keeps C D (Undo r) good h = called C D good (undo_keeps C.bound C D r (omega arith) good.part (at_router_done r (undo m C r (C.history r)) D h))
+  step_keeps C D (Handle r) good h = called C D good (handle_keeps C.bound C D r good.part (at_router_done m r (handle m C r (first_pending m C r)) D h))
+  step_keeps C D (Undo r) good h = called C D good (undo_keeps C.bound C D r (omega arith) good.part (at_router_done m r (undo m C r (C.history r)) D h))
   step_keeps C D (Deliver zero) good h = cc
   step_keeps C D (Deliver (suc k)) good h = called C D good (deliver_keeps C.bound C D k good.part h)
   step_keeps C D Bound good h =
       let made : with_bound m C ≡ D = cc in
       subst (StepKeeps C) made (record { good = good_bound C good; bound = least_loose-from C C.bound good.part.late good.bound })
   step_keeps C D (Commit r) good h =
-      let ok = at_router_done r (Ok (with_commit m C r)) D h in
+      let ok = at_router_done m r (Ok (with_commit m C r)) D h in
       let made : with_commit m C r ≡ D = cc in
       subst (StepKeeps C) made (record { good = good_commit C r good; bound = omega arith })
 

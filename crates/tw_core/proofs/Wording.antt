@@ -4,7 +4,8 @@ use Rattle.std.proofs.lemmas.Bool.{cases_Bool, both_ways, le-ltb, ltb-true, ltb-
 use Rattle.std.specs.List.{AllByRecursion}
 use Rattle.tw_core.proofs.RollBack.{taken_back, undoing_while-flight}
 use Rattle.tw_core.proofs.Headline.{good_log}
-use Rattle.tw_core.proofs.Parts.{all_map, sent_some, total_add}
+use Rattle.tw_core.proofs.Parts.{sent_some}
+use Rattle.tw_core.proofs.Sums.{all_map, total_add}
 use Rattle.tw_core.proofs.Steps.{run_keeps}
 use Rattle.tw_core.specs.declared.refusal.Refusal.TheVariants.{Committed}
 use Rattle.tw_core.specs.Good.{IsGood, IsGoodPart, due}

@@ -1,5 +1,5 @@
 -- A machine in parts, each of which owns some of its routers (own).
-use Rattle.std.specs.Prelude.{ℕ, ◌+◌, ◌≡◌, ◌<◌, ◌≤◌, Bool, true, cond, List, [], ◌∷◌, ◌++◌, find}
+use Rattle.std.specs.Prelude.{ℕ, ◌+◌, ◌≡◌, ◌<◌, ◌≤◌, Bool, true, cond, List, [], ◌∷◌, ◌++◌, Option, find}
 use Rattle.std.specs.List.{AllByRecursion, flat_map}
 use Rattle.std.specs.Option.{option_map_or}
 use Rattle.tw_core.specs.Good.{IsGoodPart, times_taken_back, times_there}
@@ -28,9 +28,13 @@ total f [] = 0
 total f (x ∷ xs) = f x + total f xs
 
 module _ {E : Type 0} where
+  -- the part that owns r, if one does
+  abbrev pub owner : ℕ → List (Part E) → Option (Part E)
+  owner r parts = find (λ p. p.owns r) parts
+
   -- what is read of the owner of r, or none where r has no owner
   abbrev pub at_owner : {X : Type 0} → (Core E → X) → X → List (Part E) → ℕ → X
-  at_owner read none parts r = option_map_or (λ p. read p.core) (find (λ p. p.owns r) parts) none
+  at_owner read none parts r = option_map_or (λ p. read p.core) (owner r parts) none
 
   -- the parts and what they share, as one machine
   abbrev pub assembled : Shared E → List (Part E) → Core E
