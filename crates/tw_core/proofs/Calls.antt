@@ -10,9 +10,11 @@ use Rattle.tw_sim.proofs.Counts.{in_cons, none, one_cases, one_self, times-appen
 use Rattle.tw_sim.proofs.Rising.{not_back}
 use Rattle.tw_sim.specs.Simulation.{Simulation, IsFalling, IsLawful, one, sent, state, times}
 
+-- there, the new value
 pub put_same : {A : Type 0} (f : ℕ → A) (r : ℕ) (a : A) → put f r a r ≡ a
 put_same f r a = rw (eq-eqb r r refl) refl
 
+-- elsewhere, the old one
 pub put_other : {A : Type 0} (f : ℕ → A) (r q : ℕ) (a : A) → (q ≡ r → ⊥) → put f r a q ≡ f q
 put_other f r q a h = rw (ne_eqb q r h) refl
 
@@ -96,6 +98,7 @@ module _ {S E : Type 0} (m : Simulation S E) where
       abbrev D : Core E
       D = after_handling m C (m.dst e) e
 
+      -- no surplus changes
       pub surplus_handling : SameSurplus m C D
       surplus_handling x =
           let grown = grown_by_handling C e in
@@ -118,6 +121,7 @@ module _ {S E : Type 0} (m : Simulation S E) where
           let minus_out = antimessages-message m x out in
           omega arith
 
+      -- the part is as good as it was
       pub part_handling : (t : ℕ) → IsGoodPart m t C → IsGoodPart m t D
       part_handling t good =
           let grown = grown_by_handling C e in
@@ -179,6 +183,7 @@ module _ {S E : Type 0} (m : Simulation S E) where
       here : B.history (m.dst e) ≡ older
       here = put_same C.history (m.dst e) older
 
+      -- no surplus changes
       pub surplus_undoing : SameSurplus m C B
       surplus_undoing x =
           let grown = grown_by_undoing C e older newest in
@@ -208,6 +213,7 @@ module _ {S E : Type 0} (m : Simulation S E) where
           let minus_out = antimessages-antimessage m x back in
           omega arith
 
+      -- the part is as good as it was, for times that are not beyond the event
       pub part_undoing : (t : ℕ) → t ≤ m.time e → IsGoodPart m t C → IsGoodPart m t B
       part_undoing t late good =
           let grown = grown_by_undoing C e older newest in

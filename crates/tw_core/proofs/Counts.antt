@@ -8,10 +8,12 @@ use Rattle.tw_sim.specs.declared.machine.Signed.{Signed}
 use Rattle.tw_sim.specs.Simulation.{Simulation, IsLawful, one, times}
 
 module _ {S E : Type 0} (m : Simulation S E) where
+  -- messages of two lists
   pub messages-append : (e : E) (xs ys : List (Signed E)) → messages m e (xs ++ ys) ≡ messages m e xs + messages m e ys
   messages-append e [] ys = omega arith
   messages-append e (x ∷ xs) ys = let h = messages-append e xs ys in omega arith
 
+  -- and antimessages
   pub antimessages-append : (e : E) (xs ys : List (Signed E)) → antimessages m e (xs ++ ys) ≡ antimessages m e xs + antimessages m e ys
   antimessages-append e [] ys = omega arith
   antimessages-append e (x ∷ xs) ys = let h = antimessages-append e xs ys in omega arith

@@ -16,6 +16,7 @@ module _ {S E : Type 0} (m : Simulation S E) where
     pub room : m.full (state m r (C.history r)) event ≡ false
     pub made : after_handling m C r event ≡ D
 
+  -- where handling was not refused
   pub handle_done : (C D : Core E) (r : ℕ) (first : Option E) → handle m C r first ≡ Ok D → HasHandled C D r first
   handle_done C D r None h = cc
   handle_done C D r (Some e) h =
@@ -41,6 +42,7 @@ module _ {S E : Type 0} (m : Simulation S E) where
     pub late : C.bound ≤ m.time event
     pub made : after_undoing m C r event older ≡ D
 
+  -- where undoing was not refused
   pub undo_done : (C D : Core E) (r : ℕ) (history : List E) → undo m C r history ≡ Ok D → HasUndone C D r history
   undo_done C D r [] h = cc
   undo_done C D r (e ∷ older) h =

@@ -61,6 +61,7 @@ module _ {S E : Type 0} (m : Simulation S E) (law : IsLawful m) where
     pub good_log : (C : Core E) → IsGood m C → (t : ℕ) → t ≤ C.bound → (r : ℕ) → below m t (C.history r) ≡ only m r (log m t)
     good_log C good t le r = histories_are_log m law numbered t (λ q. below m t (C.history q)) (good_closed C good t le) r
 
+    -- the committed events and states are those of the run
     pub good_is_seq : (C : Core E) → IsGood m C → IsSeq m C
     good_is_seq C good = record {
       events = λ r. good_log C good (C.done r) (good.done r) r;
@@ -114,6 +115,7 @@ module _ {S E : Type 0} (m : Simulation S E) (law : IsLawful m) where
       bound = omega arith;
     }
 
+    -- where nothing is in flight and nothing waits before the stop, the state is that at the end of the run
     pub at_end : (C : Core E) → IsGood m C → IsSettled m C → IsAtEnd m C
     at_end C good settled =
         let whole : (r : ℕ) → C.history r ≡ only m r (log m C.stop) = λ r.
@@ -133,7 +135,8 @@ module _ {S E : Type 0} (m : Simulation S E) (law : IsLawful m) where
               let source = sent_by_source m law (log m C.stop) e in
               let here = in_only m law e (log m C.stop) in
               let handled : times_handled m C e ≡ times m e (only m (m.dst e) (log m C.stop)) = ap (times m e) (whole (m.dst e)) in
-              let asked_for : times m e (sent m (m.src e) (C.history (m.src e))) ≡ times m e (sent m (m.src e) (only m (m.src e) (log m C.stop))) = ap (λ xs. times m e (sent m (m.src e) xs)) (whole (m.src e)) in
+              let asked_for : times m e (sent m (m.src e) (C.history (m.src e))) ≡ times m e (sent m (m.src e) (only m (m.src e) (log m C.stop)))
+              = ap (λ xs. times m e (sent m (m.src e) xs)) (whole (m.src e)) in
               omega arith);
         }
 

@@ -38,6 +38,7 @@ module _ {S E : Type 0} (m : Simulation S E) (law : IsLawful m) (owns : ℕ → 
     waiting = less_waits C e own;
   }
 
+  -- handling
   pub own_handle : (C D : Core E) (r : ℕ) → IsOwn m owns C → handle m C r (first_pending m C r) ≡ Ok D → IsOwn m owns D
   own_handle C D r own h =
       let done = handle_done m C D r (first_pending m C r) h in
@@ -61,10 +62,13 @@ module _ {S E : Type 0} (m : Simulation S E) (law : IsLawful m) (owns : ℕ → 
   own_while r test [] C here home own = own
   own_while r test (e ∷ older) C here home own =
       elim (cases_Bool (test e)) [
-        | inl b ↦ rw b (own_while r test older (after_undoing m C r e older) (put_same C.history r older) (λ y h. home y (omega arith)) (own_undoing C r e older (home e (in_head m law e older)) here own))
+        | inl b ↦ rw b (
+            let undone = own_undoing C r e older (home e (in_head m law e older)) here own in
+            own_while r test older (after_undoing m C r e older) (put_same C.history r older) (λ y h. home y (omega arith)) undone)
         | inr b ↦ rw b own
       ]
 
+  -- undoing
   pub own_undo : (t : ℕ) (C D : Core E) (r : ℕ) → IsGoodPart m t C → IsOwn m owns C → undo m C r (C.history r) ≡ Ok D → IsOwn m owns D
   own_undo t C D r good own h =
       let done = undo_done m C D r (C.history r) h in
@@ -98,5 +102,6 @@ module _ {S E : Type 0} (m : Simulation S E) (law : IsLawful m) (owns : ℕ → 
         ])
       ]
 
+  -- the arrival of a message for one of them
   pub own_arrival : (t : ℕ) (C : Core E) (x : Signed E) → IsGoodPart m t C → IsOwn m owns C → owns (m.dst x.event) ≡ true → IsOwn m owns (after_arrival m C x)
   own_arrival t C x good own mine = by_sign t C x.plus x.event good own mine

@@ -40,7 +40,8 @@ module _ {E : Type 0} (r : ℕ) where
       elim (cases_Bool (p.owns r)) [
         | inl b ↦
             let rest : total owning parts ≡ 0 = (let k = rw b at h in omega arith) in
-            let others = total_zero f parts (all_both (λ q. q.owns r ≡ true → ⊥) (λ q. 0 < f q → q.owns r ≡ true) (λ q. f q ≡ 0) (λ q no yes. none (f q) (λ k. no (yes k))) parts (unowned parts rest) only.1) in
+            let zero = all_both (λ q. q.owns r ≡ true → ⊥) (λ q. 0 < f q → q.owns r ≡ true) (λ q. f q ≡ 0) (λ q no yes. none (f q) (λ k. no (yes k))) in
+            let others = total_zero f parts (zero parts (unowned parts rest) only.1) in
             rw b (omega arith)
         | inr b ↦
             let rest : total owning parts ≡ 1 = (let k = rw b at h in omega arith) in

@@ -61,6 +61,7 @@ module _ {S E : Type 0} (m : Simulation S E) (law : IsLawful m) where
         stop = refl;
       })
 
+  -- handling, where it is not refused
   pub handle_keeps : (t : ℕ) (C D : Core E) (r : ℕ) → IsGoodPart m t C → handle m C r (first_pending m C r) ≡ Ok D → KeepsPart m t C D
   handle_keeps t C D r good h =
       let done = handle_done m C D r (first_pending m C r) h in
@@ -68,9 +69,11 @@ module _ {S E : Type 0} (m : Simulation S E) (law : IsLawful m) where
 
   -- ---- undo and deliver
 
+  -- undoing an event that is not before t
   pub undoing_keeps : (t : ℕ) (C : Core E) (r : ℕ) (e : E) (older : List E) → t ≤ m.time e → IsGoodPart m t C → C.history r ≡ e ∷ older → KeepsPart m t C (after_undoing m C r e older)
   undoing_keeps t C r e older late good newest = (back_one m law t r C e older newest late good).keeps
 
+  -- undoing, where it is not refused
   pub undo_keeps : (t : ℕ) (C D : Core E) (r : ℕ) → t ≤ C.bound → IsGoodPart m t C → undo m C r (C.history r) ≡ Ok D → KeepsPart m t C D
   undo_keeps t C D r le good h =
       let done = undo_done m C D r (C.history r) h in
@@ -83,6 +86,7 @@ module _ {S E : Type 0} (m : Simulation S E) (law : IsLawful m) where
       let made : after_delivery m C k x ≡ D = cc in
       subst (KeepsPart m t C) made (delivered m law t C k x good place)
 
+  -- delivering, where there is such a message
   pub deliver_keeps : (t : ℕ) (C D : Core E) (k : ℕ) → IsGoodPart m t C → deliver m C k (slice_get C.flight k) ≡ Ok D → KeepsPart m t C D
   deliver_keeps t C D k good h = deliver_at t C D k (slice_get C.flight k) good refl h
 
@@ -208,6 +212,7 @@ module _ {S E : Type 0} (m : Simulation S E) (law : IsLawful m) where
   called : (C D : Core E) → IsGood m C → KeepsPart m C.bound C D → StepKeeps C D
   called C D good keeps = record { good = good_after C D good keeps; bound = (let same = keeps.bound in omega arith) }
 
+  -- whichever step
   pub step_keeps : (C D : Core E) (x : Step) → IsGood m C → step m C x ≡ Ok D → StepKeeps C D
   step_keeps C D (Handle r) good h = called C D good (handle_keeps C.bound C D r good.part (at_router_done m r (handle m C r (first_pending m C r)) D h))
   step_keeps C D (Undo r) good h = called C D good (undo_keeps C.bound C D r (omega arith) good.part (at_router_done m r (undo m C r (C.history r)) D h))
@@ -225,6 +230,7 @@ module _ {S E : Type 0} (m : Simulation S E) (law : IsLawful m) where
   next_at C (Ok D) good keeps = keeps D refl
   next_at C (Err refusal) good keeps = record { good = good; bound = omega arith }
 
+  -- a step, refused or not
   pub next_keeps : (C : Core E) (x : Step) → IsGood m C → StepKeeps C (next m C x)
   next_keeps C x good = next_at C (step m C x) good (λ D h. step_keeps C D x good h)
 
@@ -238,6 +244,7 @@ module _ {S E : Type 0} (m : Simulation S E) (law : IsLawful m) where
 
   -- ---- the beginning
 
+  -- the opening state is good
   pub good_opening : (C : Core E) → IsOpening m C → IsGood m C
   good_opening C opens =
       let none_handled : (r : ℕ) (e : E) → 0 < times m e (C.history r) → ⊥ = λ r e h. (let k = ap (times m e) (opens.history r) in omega arith) in

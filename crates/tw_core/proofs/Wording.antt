@@ -60,6 +60,7 @@ module _ {S E : Type 0} (m : Simulation S E) where
         ])
       ]
 
+  -- and the same of either sign
   pub arrival-front : (C : Core E) (x : Signed E) (front : List (Signed E))
       → after_arrival m (record C { flight = front ++ C.flight }) x ≡ record (after_arrival m C x) { flight = front ++ (after_arrival m C x).flight }
   arrival-front C x front = arrival-front_by_sign C x.plus x.event front
@@ -140,7 +141,6 @@ module _ {S E : Type 0} (m : Simulation S E) where
       ]),
     )
 
-    -- what is due by the histories and opening events of the owner of its source, summed up: the opening events count once
     total_scale : {X : Type 0} (n : ℕ) (test : X → Bool) (xs : List X) → total (λ x. cond (test x) n 0) xs ≡ n * total (λ x. cond (test x) 1 0) xs
     total_scale n test [] = omega arith
     total_scale n test (x ∷ xs) =
@@ -151,6 +151,7 @@ module _ {S E : Type 0} (m : Simulation S E) where
     total_same f g [] h = refl
     total_same f g (x ∷ xs) h = (let first = h.0 in let more = total_same f g xs h.1 in omega arith)
 
+    -- what is due by the histories of the owner of its source and by the opening events, summed up: the opening events count once
     pub due_by_owners : (shared : Shared E) (parts : List (Part E)) → AddUp m shared parts → (e : E)
         → total (λ p. cond (p.owns (m.src e)) (due m p.core e) 0) parts ≡ times m e m.opening + total (λ p. times m e (sent m (m.src e) (p.core.history (m.src e)))) parts
     due_by_owners shared parts sums e =
@@ -159,7 +160,9 @@ module _ {S E : Type 0} (m : Simulation S E) where
         let each = total_same (λ p. cond (p.owns (m.src e)) (due m p.core e) 0) (λ p. f p + g p) parts (all_map (IsPart m shared) (λ p. cond (p.owns (m.src e)) (due m p.core e) 0 ≡ f p + g p)
         (λ p is. elim (cases_Bool (p.owns (m.src e))) [
           | inl b ↦ rw b refl
-          | inr b ↦ rw b (let no = none (g p) (λ h. let some = sent_some m law (m.src e) (p.core.history (m.src e)) e h in both_ways (p.owns (m.src e)) b (is.own.history (m.src e) some.0 some.1)) in omega arith)
+          | inr b ↦ rw b (
+              let no = none (g p) (λ h. let some = sent_some m law (m.src e) (p.core.history (m.src e)) e h in both_ways (p.owns (m.src e)) b (is.own.history (m.src e) some.0 some.1)) in
+              omega arith)
         ]) parts sums.each) in
         let both = total_add f g parts in
         let scaled = total_scale (times m e m.opening) (λ (p : Part E). p.owns (m.src e)) parts in
