@@ -1,20 +1,22 @@
 -- The same definitions in other words.
-use Rattle.std.proofs.Common.{◌≡◌, ℕ, ◌+◌, ◌*◌, ◌<◌, ◌≤◌, ◌==◌, Bool, cond, not, true, false, List, [], ◌∷◌, ◌++◌, append_assoc, if◌then◌else◌, Ok, Err, slice_get, refl, ap, sym, ◌∙◌, subst, ◌⊎◌, ◌↔◌, inl, inr, arith, mul-one, nat_lt, zero-mul}
-use Rattle.std.proofs.lemmas.Bool.{cases_Bool, both_ways, le-ltb, ltb-true, ltb-false}
+use Rattle.std.proofs.Common.{◌≡◌, ◌+◌, ◌*◌, ◌<◌, ◌≤◌, ◌==◌, ◌∷◌, ◌++◌, if◌then◌else◌, ◌∙◌, ◌⊎◌, ◌↔◌}
+use Rattle.std.proofs.Common.{ℕ, Bool, cond, not, true, false, List, [], Option, Some, None, append_assoc, Ok, Err, slice_get, refl, ap, sym, subst, inl, inr, arith, mul-one, nat_lt, zero-mul}
+use Rattle.std.proofs.lemmas.Bool.{cases_Bool, both_ways, eq-eqb, eqb-true, le-ltb, ltb-true, ltb-false}
 use Rattle.std.specs.List.{AllByRecursion}
 use Rattle.tw_core.proofs.RollBack.{taken_back, undoing_while-flight}
 use Rattle.tw_core.proofs.Headline.{good_log}
 use Rattle.tw_core.proofs.Parts.{sent_some}
 use Rattle.tw_core.proofs.Sums.{all_map, total_add}
 use Rattle.tw_core.proofs.Steps.{run_keeps}
-use Rattle.tw_core.specs.declared.refusal.Refusal.TheVariants.{Committed}
+use Rattle.tw_core.specs.declared.refusal.Refusal.TheVariants.{Committed, Nothing}
 use Rattle.tw_core.specs.Good.{IsGood, IsGoodPart, due}
 use Rattle.tw_core.specs.Machine.{Core, committed}
 use Rattle.tw_core.specs.Parts.{AddUp, IsPart, Part, Shared, total}
-use Rattle.tw_core.specs.Steps.{after_arrival, after_undoing, after_undoing_while, first_pending, run, undo, with_pending, without_pending}
-use Rattle.tw_sim.proofs.Counts.{in_cons, in_head, none, times-append}
-use Rattle.tw_sim.proofs.Least.{least_rising}
+use Rattle.tw_core.specs.Steps.{after_arrival, after_undoing, after_undoing_while, first_pending, handle, is_newest, run, undo, with_pending, without_pending}
+use Rattle.tw_sim.proofs.Counts.{in_cons, in_filter, in_head, none, times-append, times-filter-yes}
+use Rattle.tw_sim.proofs.Least.{least_is, least_rising}
 use Rattle.tw_sim.proofs.Rising.{IsRising, not_back, rising-filter}
+use Rattle.tw_sim.specs.Ordered.{least}
 use Rattle.tw_sim.specs.declared.machine.Signed.{Signed}
 use Rattle.tw_sim.specs.declared.machine.Step.{Step}
 use Rattle.tw_sim.specs.Simulation.{Simulation, IsFalling, IsLawful, IsNumbered, below, only, sent, state, times}
@@ -113,6 +115,46 @@ module _ {S E : Type 0} (m : Simulation S E) where
     -- where pending events stand in order, the first one of a router is the head of its own
     pub first_pending_head : (C : Core E) (r : ℕ) → IsRising m C.pending → first_pending m C r ≡ slice_get (only m r C.pending) 0
     first_pending_head C r rising = least_rising m law (only m r C.pending) (rising-filter m law (λ x. m.dst x == r) C.pending rising)
+
+    none_is_empty : (xs : List E) → least m.before xs ≡ None → xs ≡ []
+    none_is_empty [] h = refl
+    none_is_empty (x ∷ xs) h = cc
+
+    in_own : (C : Core E) (r : ℕ) (x : E) → 0 < times m x C.pending → m.dst x ≡ r → 0 < times m x (only m r C.pending)
+    in_own C r x h same = (let k = times-filter-yes m law (λ y. m.dst y == r) x C.pending (eq-eqb (m.dst x) r same) in omega arith)
+
+    nothing_at : (C : Core E) (r : ℕ) (first : Option E) → first_pending m C r ≡ first
+        → (handle m C r first ≡ Err Nothing) ↔ ((x : E) → 0 < times m x C.pending → m.dst x ≡ r → C.stop ≤ m.time x)
+    nothing_at C r None first = (
+      (λ h x waits same. absurd (let there = in_own C r x waits same in let empty = ap (times m x) (none_is_empty (only m r C.pending) first) in omega arith)),
+      (λ h. refl),
+    )
+    nothing_at C r (Some e) first = (
+      (λ h x waits same. elim (cases_Bool (nat_lt (m.time e) C.stop)) [
+        | inl b ↦ (let k = rw b at h in elim (cases_Bool (is_newest m e (C.history r))) [
+          | inl c ↦ (let l = rw c at k in cc)
+          | inr c ↦ (let l = rw c at k in elim (cases_Bool (m.full (state m r (C.history r)) e)) [
+            | inl d ↦ (let n = rw d at l in cc)
+            | inr d ↦ (let n = rw d at l in cc)
+          ])
+        ])
+        | inr b ↦ (
+            let late = ltb-false (m.time e) C.stop b in
+            let behind = (least_is m law e (only m r C.pending) first).first x (in_own C r x waits same) in
+            elim (cases_Bool (m.before e x)) [
+              | inl c ↦ (let order = law.timely e x c in omega arith)
+              | inr c ↦ (let order : m.time e ≡ m.time x = ap m.time (law.total e x c behind) in omega arith)
+            ])
+      ]),
+      (λ h.
+          let there = in_filter m law (λ y. m.dst y == r) e C.pending (least_is m law e (only m r C.pending) first).there in
+          let late = h e there.1 (eqb-true (m.dst e) r there.0) in
+          rw (le-ltb (m.time e) C.stop late) refl),
+    )
+
+    -- a router has nothing to handle exactly where none of its pending events is before the stop
+    pub nothing_to_handle : (C : Core E) (r : ℕ) → (handle m C r (first_pending m C r) ≡ Err Nothing) ↔ ((x : E) → 0 < times m x C.pending → m.dst x ≡ r → C.stop ≤ m.time x)
+    nothing_to_handle C r = nothing_at C r (first_pending m C r) refl
 
     -- only an event's source can have sent it
     sent_src : (r : ℕ) (xs : List E) (e : E) → ((y : E) → 0 < times m y xs → m.dst y ≡ r) → 0 < times m e (sent m r xs) → m.src e ≡ r

@@ -1,7 +1,8 @@
 //! Laws of the machine, over its definitions alone and any lawful simulation. Each function does
 //! nothing; its contract is the law.
 
-ghost use Rattle.std.specs.Prelude.{ℕ, ◌≡◌, ◌<◌, ◌≤◌, ◌+◌, ◌↔◌, ◌⊎◌, true, List, [], ◌∷◌, ◌++◌, Bool, Ok, Some, slice_get};
+ghost use Rattle.std.specs.Prelude.{ℕ, ◌≡◌, ◌<◌, ◌≤◌, ◌+◌, ◌↔◌, ◌⊎◌, true, List, [], ◌∷◌, ◌++◌, Bool, Err, Ok, Some, slice_get};
+ghost use Rattle.tw_core.specs.declared.refusal.Refusal.TheVariants.{Nothing};
 ghost use Rattle.tw_core.specs.Good.{IsGood, IsGoodPart, due};
 ghost use Rattle.tw_core.specs.Machine.{Core, IsOpening, committed};
 ghost use Rattle.tw_core.specs.Parts.{AddUp, IsOwn, KeepsPart, Part, Shared, assembled};
@@ -20,6 +21,12 @@ pub fn opening_is_good<S, E>()
 pub fn steps_keep_good<S, E>()
     ensures step { (m : Simulation S E) → IsLawful m → (C : Core E) (x : Step) → IsGood m C → IsGood m (next m C x) }
     ensures run { (m : Simulation S E) → IsLawful m → (C : Core E) (xs : List Step) → IsGood m C → IsGood m (run m C xs) }
+{}
+
+/// A router has nothing to handle exactly where none of its pending events is before the stop.
+pub fn nothing_to_handle<S, E>()
+    ensures { (m : Simulation S E) → IsLawful m → (C : Core E) (r : ℕ)
+        → (handle m C r (first_pending m C r) ≡ Err Nothing) ↔ ((e : E) → 0 < times m e C.pending → m.dst e ≡ r → C.stop ≤ m.time e) }
 {}
 
 /// A good state is the one-thread run as far as it is committed, and as far as its bound; and so is
