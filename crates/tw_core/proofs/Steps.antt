@@ -1,5 +1,6 @@
 -- Each step keeps good, and never lowers the bound.
-use Rattle.std.proofs.Common.{◌≡◌, ℕ, zero, suc, ◌+◌, ◌<◌, ◌≤◌, ◌==◌, true, false, List, [], ◌∷◌, map, Option, Some, None, Result, Ok, Err, slice_get, refl, ap, sym, ◌∙◌, subst, inl, inr, arith, nat_lt}
+use Rattle.std.proofs.Common.{◌≡◌, ◌+◌, ◌<◌, ◌≤◌, ◌==◌, ◌∷◌, ◌∙◌}
+use Rattle.std.proofs.Common.{ℕ, zero, suc, true, false, List, [], map, Option, Some, None, Result, Ok, Err, slice_get, refl, ap, sym, subst, inl, inr, arith, nat_lt}
 use Rattle.std.proofs.lemmas.Bool.{cases_Bool, cases_eq, both_ways, true_from_ne_false, eqb-true, eq-eqb, ltb-true, ltb-false}
 use Rattle.std.specs.Result.{result_unwrap_or}
 use Rattle.tw_core.proofs.Done.{at_router_done, handle_done, undo_done}
