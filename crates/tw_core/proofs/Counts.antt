@@ -1,22 +1,19 @@
 -- Signed counts: how often an event is in flight after an append or a removal.
-use Rattle.std.proofs.Common.{◌≡◌, ℕ, zero, suc, ◌+◌, ◌<◌, cond, true, List, [], ◌∷◌, ◌++◌, map, Option, Some, None, slice_get, remove, refl, ap, sym, ◌∙◌, subst, inl, inr, arith}
+use Rattle.std.proofs.Common.{◌≡◌, ℕ, zero, suc, ◌+◌, ◌<◌, cond, List, [], ◌∷◌, ◌++◌, map, Some, slice_get, remove, refl, ap, inl, inr, arith}
 use Rattle.std.proofs.lemmas.Bool.{cases_Bool}
 use Rattle.tw_core.specs.Machine.{antimessages, messages}
 use Rattle.tw_core.specs.Steps.{antimessage, message}
-use Rattle.tw_sim.proofs.Counts.{none, one_self}
+use Rattle.tw_sim.proofs.Counts.{one_self}
 use Rattle.tw_sim.specs.declared.machine.Signed.{Signed}
 use Rattle.tw_sim.specs.Simulation.{Simulation, IsLawful, one, times}
 
-pub slice_get-append : {X : Type 0} (xs ys : List X) (k : ℕ) (x : X) → slice_get xs k ≡ Some x → slice_get (xs ++ ys) k ≡ Some x
-slice_get-append [] ys k x h = cc
-slice_get-append (y ∷ xs) ys zero x h = h
-slice_get-append (y ∷ xs) ys (suc k) x h = slice_get-append xs ys k x h
-
 module _ {S E : Type 0} (m : Simulation S E) where
+  -- messages of two lists
   pub messages-append : (e : E) (xs ys : List (Signed E)) → messages m e (xs ++ ys) ≡ messages m e xs + messages m e ys
   messages-append e [] ys = omega arith
   messages-append e (x ∷ xs) ys = let h = messages-append e xs ys in omega arith
 
+  -- and antimessages
   pub antimessages-append : (e : E) (xs ys : List (Signed E)) → antimessages m e (xs ++ ys) ≡ antimessages m e xs + antimessages m e ys
   antimessages-append e [] ys = omega arith
   antimessages-append e (x ∷ xs) ys = let h = antimessages-append e xs ys in omega arith

@@ -1,13 +1,13 @@
 -- What the delivery of a message keeps, of either sign: a good part, and every surplus.
-use Rattle.std.proofs.Common.{◌≡◌, ℕ, ◌+◌, ◌<◌, ◌≤◌, Bool, cond, not, true, false, List, [], ◌∷◌, ◌++◌, Some, remove, slice_get, refl, ap, sym, ◌∙◌, subst, inl, inr, arith, nat_lt}
-use Rattle.std.proofs.lemmas.Bool.{cases_Bool, both_ways, true_from_ne_false, false_from_ne_true, ltb-true, ltb-false}
-use Rattle.tw_core.proofs.Back.{IsBack, back_while, left_fails, taken_back, undoing_while-flight}
+use Rattle.std.proofs.Common.{◌≡◌, ℕ, ◌+◌, ◌<◌, ◌≤◌, Bool, cond, not, true, false, List, ◌++◌, Some, remove, slice_get, refl, ap, sym, subst, inl, inr, arith, nat_lt}
+use Rattle.std.proofs.lemmas.Bool.{cases_Bool, both_ways, false_from_ne_true, ltb-true, ltb-false}
+use Rattle.tw_core.proofs.RollBack.{back_while, left_fails, taken_back, undoing_while-flight}
 use Rattle.tw_core.proofs.Counts.{antimessages-append, antimessages-remove, in_flight, messages-append, messages-remove}
 use Rattle.tw_core.specs.Good.{IsGoodPart}
 use Rattle.tw_core.specs.Machine.{Core, antimessages, messages, times_handled, times_loose}
 use Rattle.tw_core.specs.Parts.{KeepsPart}
-use Rattle.tw_core.specs.Steps.{after_delivery, after_undoing_while, take_out, without_from, without_later}
-use Rattle.tw_sim.proofs.Counts.{none, one_cases, one_self, times-insert, times-take_out}
+use Rattle.tw_core.specs.Steps.{after_delivery, after_undoing_while, take_out}
+use Rattle.tw_sim.proofs.Counts.{none, one_cases, times-insert, times-take_out}
 use Rattle.tw_sim.specs.declared.machine.Signed.{Signed}
 use Rattle.tw_sim.specs.Seq.{insert}
 use Rattle.tw_sim.specs.Simulation.{Simulation, IsLawful, one, times}
@@ -39,18 +39,18 @@ module _ {S E : Type 0} (m : Simulation S E) (law : IsLawful m) where
         → KeepsPart m t C (record C { kept = take_out m e C.kept; flight = remove C.flight k })
     meets_kept place there = record {
       part = part_loose t C C.pending (take_out m e C.kept) (remove C.flight k) good
-      (λ x h. (
-      let taken = times-take_out m law x e C.kept there in
-      let plus = messages-remove m x C.flight k (record { plus = true; event = e }) place in
-      let minus = antimessages-remove m x C.flight k (record { plus = true; event = e }) place in
-      omega arith))
-      good.ahead
-      (λ x h. good.alone x (let taken = times-take_out m law x e C.kept there in omega arith));
+          (λ x h. (
+          let taken = times-take_out m law x e C.kept there in
+          let plus = messages-remove m x C.flight k (record { plus = true; event = e }) place in
+          let minus = antimessages-remove m x C.flight k (record { plus = true; event = e }) place in
+          omega arith))
+          good.ahead
+          (λ x h. good.alone x (let taken = times-take_out m law x e C.kept there in omega arith));
       surplus = λ x. (
-        let taken = times-take_out m law x e C.kept there in
-        let plus = messages-remove m x C.flight k (record { plus = true; event = e }) place in
-        let minus = antimessages-remove m x C.flight k (record { plus = true; event = e }) place in
-        omega arith);
+          let taken = times-take_out m law x e C.kept there in
+          let plus = messages-remove m x C.flight k (record { plus = true; event = e }) place in
+          let minus = antimessages-remove m x C.flight k (record { plus = true; event = e }) place in
+          omega arith);
       done = refl;
       bound = refl;
       stop = refl;
@@ -113,20 +113,20 @@ module _ {S E : Type 0} (m : Simulation S E) (law : IsLawful m) where
         let waits = λ (x : E). times-insert m x e (B test).pending in
         record {
           part = part_loose t (B test) (insert m e (B test).pending) (B test).kept (remove C.flight k ++ back test) undone.part
-          (λ x h. let a = plus x in let b = minus x in let c = waits x in omega arith)
-          (λ x y h there. elim (one_cases m law x e) [
-            | inr is ↦ subst (λ z. m.before z y ≡ false) (sym is) (left y (subst (λ z. 0 < times m y ((B test).history (m.dst z))) is there))
-            | inl z ↦ undone.part.ahead x y (let c = waits x in omega arith) there
-          ])
-          (λ x h. (
-          let old = undone.part.alone x h in
-          let pending = old.0 in
-          let other : one m x e ≡ 0 = elim (one_cases m law x e) [
-            | inl z ↦ z
-            | inr is ↦ absurd (let there : 0 < times m e C.kept = subst (λ xs. 0 < times m e xs) undone.kept (subst (λ z. 0 < times m z (B test).kept) is h) in omega arith)
-          ] in
-          let c = waits x in
-          (omega arith, old.1)));
+              (λ x h. let a = plus x in let b = minus x in let c = waits x in omega arith)
+              (λ x y h there. elim (one_cases m law x e) [
+                | inr is ↦ subst (λ z. m.before z y ≡ false) (sym is) (left y (subst (λ z. 0 < times m y ((B test).history (m.dst z))) is there))
+                | inl z ↦ undone.part.ahead x y (let c = waits x in omega arith) there
+              ])
+              (λ x h. (
+              let old = undone.part.alone x h in
+              let pending = old.0 in
+              let other : one m x e ≡ 0 = elim (one_cases m law x e) [
+                | inl z ↦ z
+                | inr is ↦ absurd (let there : 0 < times m e C.kept = subst (λ xs. 0 < times m e xs) undone.kept (subst (λ z. 0 < times m z (B test).kept) is h) in omega arith)
+              ] in
+              let c = waits x in
+              (omega arith, old.1)));
           surplus = λ x. (let a = plus x in let b = minus x in let c = waits x in let d = undone.surplus x in omega arith);
           done = undone.done;
           bound = undone.bound;
@@ -138,22 +138,22 @@ module _ {S E : Type 0} (m : Simulation S E) (law : IsLawful m) where
         → KeepsPart m t C (record C { pending = take_out m e C.pending; flight = remove C.flight k })
     meets_pending place there = record {
       part = part_loose t C (take_out m e C.pending) C.kept (remove C.flight k) good
-      (λ x h. (
-      let taken = times-take_out m law x e C.pending there in
-      let plus = messages-remove m x C.flight k (record { plus = false; event = e }) place in
-      let minus = antimessages-remove m x C.flight k (record { plus = false; event = e }) place in
-      omega arith))
-      (λ x y h handled. good.ahead x y (let taken = times-take_out m law x e C.pending there in omega arith) handled)
-      (λ x h. (
-      let old = good.alone x h in
-      let pending = old.0 in
-      let taken = times-take_out m law x e C.pending there in
-      (omega arith, old.1)));
+          (λ x h. (
+          let taken = times-take_out m law x e C.pending there in
+          let plus = messages-remove m x C.flight k (record { plus = false; event = e }) place in
+          let minus = antimessages-remove m x C.flight k (record { plus = false; event = e }) place in
+          omega arith))
+          (λ x y h handled. good.ahead x y (let taken = times-take_out m law x e C.pending there in omega arith) handled)
+          (λ x h. (
+          let old = good.alone x h in
+          let pending = old.0 in
+          let taken = times-take_out m law x e C.pending there in
+          (omega arith, old.1)));
       surplus = λ x. (
-        let taken = times-take_out m law x e C.pending there in
-        let plus = messages-remove m x C.flight k (record { plus = false; event = e }) place in
-        let minus = antimessages-remove m x C.flight k (record { plus = false; event = e }) place in
-        omega arith);
+          let taken = times-take_out m law x e C.pending there in
+          let plus = messages-remove m x C.flight k (record { plus = false; event = e }) place in
+          let minus = antimessages-remove m x C.flight k (record { plus = false; event = e }) place in
+          omega arith);
       done = refl;
       bound = refl;
       stop = refl;
@@ -175,13 +175,13 @@ module _ {S E : Type 0} (m : Simulation S E) (law : IsLawful m) where
         let waits : 0 < times m e (B test).pending = (let a = undone.moved e in omega arith) in
         record {
           part = part_loose t (B test) (take_out m e (B test).pending) (B test).kept (remove C.flight k ++ back test) undone.part
-          (λ x h. let a = plus x in let b = minus x in let c = times-take_out m law x e (B test).pending waits in omega arith)
-          (λ x y h there. undone.part.ahead x y (let c = times-take_out m law x e (B test).pending waits in omega arith) there)
-          (λ x h. (
-          let old = undone.part.alone x h in
-          let pending = old.0 in
-          let c = times-take_out m law x e (B test).pending waits in
-          (omega arith, old.1)));
+              (λ x h. let a = plus x in let b = minus x in let c = times-take_out m law x e (B test).pending waits in omega arith)
+              (λ x y h there. undone.part.ahead x y (let c = times-take_out m law x e (B test).pending waits in omega arith) there)
+              (λ x h. (
+              let old = undone.part.alone x h in
+              let pending = old.0 in
+              let c = times-take_out m law x e (B test).pending waits in
+              (omega arith, old.1)));
           surplus = λ x. (let a = plus x in let b = minus x in let c = times-take_out m law x e (B test).pending waits in let d = undone.surplus x in omega arith);
           done = undone.done;
           bound = undone.bound;
@@ -193,21 +193,21 @@ module _ {S E : Type 0} (m : Simulation S E) (law : IsLawful m) where
         → KeepsPart m t C (record C { kept = insert m e C.kept; flight = remove C.flight k })
     becomes_kept place none_pending none_handled = record {
       part = part_loose t C C.pending (insert m e C.kept) (remove C.flight k) good
-      (λ x h. (
-      let more = times-insert m x e C.kept in
-      let plus = messages-remove m x C.flight k (record { plus = false; event = e }) place in
-      let minus = antimessages-remove m x C.flight k (record { plus = false; event = e }) place in
-      omega arith))
-      good.ahead
-      (λ x h. elim (one_cases m law x e) [
-        | inr is ↦ (subst (λ z. times m z C.pending ≡ 0) (sym is) none_pending, subst (λ z. times_handled m C z ≡ 0) (sym is) none_handled)
-        | inl z ↦ good.alone x (let more = times-insert m x e C.kept in omega arith)
-      ]);
+          (λ x h. (
+          let more = times-insert m x e C.kept in
+          let plus = messages-remove m x C.flight k (record { plus = false; event = e }) place in
+          let minus = antimessages-remove m x C.flight k (record { plus = false; event = e }) place in
+          omega arith))
+          good.ahead
+          (λ x h. elim (one_cases m law x e) [
+            | inr is ↦ (subst (λ z. times m z C.pending ≡ 0) (sym is) none_pending, subst (λ z. times_handled m C z ≡ 0) (sym is) none_handled)
+            | inl z ↦ good.alone x (let more = times-insert m x e C.kept in omega arith)
+          ]);
       surplus = λ x. (
-        let more = times-insert m x e C.kept in
-        let plus = messages-remove m x C.flight k (record { plus = false; event = e }) place in
-        let minus = antimessages-remove m x C.flight k (record { plus = false; event = e }) place in
-        omega arith);
+          let more = times-insert m x e C.kept in
+          let plus = messages-remove m x C.flight k (record { plus = false; event = e }) place in
+          let minus = antimessages-remove m x C.flight k (record { plus = false; event = e }) place in
+          omega arith);
       done = refl;
       bound = refl;
       stop = refl;

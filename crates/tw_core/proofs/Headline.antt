@@ -1,19 +1,19 @@
 -- A good state is the one-thread run, as far as it is committed and as far as its bound.
-use Rattle.std.proofs.Common.{◌≡◌, ℕ, ◌+◌, ◌<◌, ◌≤◌, ◌⊎◌, Bool, true, List, [], ◌∷◌, refl, ap, sym, ◌∙◌, subst, inl, inr, arith, nat_lt, filter}
-use Rattle.std.proofs.lemmas.Bool.{cases_Bool, ltb-true, ltb-false, lt-ltb}
+use Rattle.std.proofs.Common.{◌≡◌, ℕ, ◌<◌, ◌≤◌, Bool, List, [], ap, sym, ◌∙◌, arith, nat_lt}
+use Rattle.std.proofs.lemmas.Bool.{ltb-true, lt-ltb}
 use Rattle.tw_core.proofs.Counts.{none_there}
 use Rattle.tw_core.proofs.Steps.{good_opening, run_keeps}
 use Rattle.tw_core.specs.Good.{IsGood, due}
-use Rattle.tw_core.specs.Machine.{Core, IsOpening, antimessages, committed, messages, times_handled, times_loose}
-use Rattle.tw_core.specs.Run.{AreCommitted, IsAtEnd, IsSeq, IsSettled}
+use Rattle.tw_core.specs.Machine.{Core, IsOpening, antimessages, messages, times_handled, times_loose}
+use Rattle.tw_core.specs.Run.{IsAtEnd, IsSeq, IsSettled}
 use Rattle.tw_core.specs.Steps.{run}
 use Rattle.tw_sim.proofs.Closed.{asked_once, histories_are_log, log_closed, running_seq}
-use Rattle.tw_sim.proofs.Counts.{in_filter, none, times-filter-le, times-filter-yes, times-insert_all}
+use Rattle.tw_sim.proofs.Counts.{in_filter, none, times-filter-yes, times-insert_all}
 use Rattle.tw_sim.proofs.Rising.{rising-insert_all, same_rising}
 use Rattle.tw_sim.proofs.Unique.{all_below, falling-filter, in_only, same_falling, sent_before, sent_by_source}
 use Rattle.tw_sim.specs.declared.machine.Step.{Step}
-use Rattle.tw_sim.specs.Seq.{at, insert_all, log, rest}
-use Rattle.tw_sim.specs.Simulation.{Simulation, AreClosed, IsFalling, IsLawful, IsNumbered, all_sent, below, only, sent, state, times}
+use Rattle.tw_sim.specs.Seq.{insert_all, log, rest}
+use Rattle.tw_sim.specs.Simulation.{Simulation, AreClosed, IsLawful, IsNumbered, below, only, sent, state, times}
 
 module _ {S E : Type 0} (m : Simulation S E) (law : IsLawful m) where
   -- below the bound all that was asked for is handled, and nothing else
@@ -32,24 +32,36 @@ module _ {S E : Type 0} (m : Simulation S E) (law : IsLawful m) where
         home = λ r e h. good.part.home r e (in_filter m law test e (C.history r) h).1;
         soon = λ r e h. ltb-true (m.time e) t (in_filter m law test e (C.history r) h).0;
         sent_in = λ e h. (
-          let there = in_filter m law test e (C.history (m.dst e)) h in
-          let soon = ltb-true (m.time e) t there.0 in
-          let handled = there.1 in
-          let all = asked C good e (omega arith) in
-          let cut = sent_before m law (m.src e) t (C.history (m.src e)) (good.part.falling (m.src e)) e (omega arith) in
-          omega arith);
+            let there = in_filter m law test e (C.history (m.dst e)) h in
+            let soon = ltb-true (m.time e) t there.0 in
+            let handled = there.1 in
+            let all = asked C good e (omega arith) in
+            let cut = sent_before m law (m.src e) t (C.history (m.src e)) (good.part.falling (m.src e)) e (omega arith) in
+            omega arith);
         all_in = λ e soon h. (
-          let all = asked C good e (omega arith) in
-          let cut = sent_before m law (m.src e) t (C.history (m.src e)) (good.part.falling (m.src e)) e (omega arith) in
-          let there = times-filter-yes m law test e (C.history (m.dst e)) (lt-ltb (m.time e) t soon) in
-          omega arith);
+            let all = asked C good e (omega arith) in
+            let cut = sent_before m law (m.src e) t (C.history (m.src e)) (good.part.falling (m.src e)) e (omega arith) in
+            let there = times-filter-yes m law test e (C.history (m.dst e)) (lt-ltb (m.time e) t soon) in
+            omega arith);
       }
+
+  -- where nothing is in flight, nothing is kept
+  pub none_kept : (C : Core E) → IsGood m C → C.flight ≡ [] → C.kept ≡ []
+  none_kept C good none_flies =
+      none_there m law C.kept (λ e. none (times m e C.kept) (λ h.
+      let alone = good.part.alone e h in
+      let pending = alone.0 in
+      let handled = alone.1 in
+      let balance = good.balance e in
+      let no_messages : messages m e C.flight ≡ 0 = ap (messages m e) none_flies in
+      omega arith))
 
   module _ (numbered : IsNumbered m) where
     -- so they are those of the run
     pub good_log : (C : Core E) → IsGood m C → (t : ℕ) → t ≤ C.bound → (r : ℕ) → below m t (C.history r) ≡ only m r (log m t)
     good_log C good t le r = histories_are_log m law numbered t (λ q. below m t (C.history q)) (good_closed C good t le) r
 
+    -- the committed events and states are those of the run
     pub good_is_seq : (C : Core E) → IsGood m C → IsSeq m C
     good_is_seq C good = record {
       events = λ r. good_log C good (C.done r) (good.done r) r;
@@ -82,17 +94,6 @@ module _ {S E : Type 0} (m : Simulation S E) (law : IsLawful m) where
     pub always_seq : (C : Core E) → IsOpening m C → (xs : List Step) → IsSeq m (run m C xs)
     always_seq C opens xs = good_is_seq (run m C xs) (run_keeps m law C xs (good_opening m law C opens)).good
 
-    -- where nothing is in flight, nothing is kept
-    pub none_kept : (C : Core E) → IsGood m C → C.flight ≡ [] → C.kept ≡ []
-    none_kept C good none_flies =
-        none_there m law C.kept (λ e. none (times m e C.kept) (λ h.
-        let alone = good.part.alone e h in
-        let pending = alone.0 in
-        let handled = alone.1 in
-        let balance = good.balance e in
-        let no_messages : messages m e C.flight ≡ 0 = ap (messages m e) none_flies in
-        omega arith))
-
     -- the bound could be the stop
     good_to_stop : (C : Core E) → IsGood m C → IsSettled m C → IsGood m (record C { bound = C.stop })
     good_to_stop C good settled = record {
@@ -101,10 +102,10 @@ module _ {S E : Type 0} (m : Simulation S E) (law : IsLawful m) where
         home = good.part.home;
         soon = good.part.soon;
         late = λ e h. settled.pending e (
-          let no_kept : times m e C.kept ≡ 0 = ap (times m e) (none_kept C good settled.flight) in
-          let no_messages : messages m e C.flight ≡ 0 = ap (messages m e) settled.flight in
-          let no_antimessages : antimessages m e C.flight ≡ 0 = ap (antimessages m e) settled.flight in
-          omega arith);
+            let no_kept : times m e C.kept ≡ 0 = ap (times m e) (none_kept C good settled.flight) in
+            let no_messages : messages m e C.flight ≡ 0 = ap (messages m e) settled.flight in
+            let no_antimessages : antimessages m e C.flight ≡ 0 = ap (antimessages m e) settled.flight in
+            omega arith);
         ahead = good.part.ahead;
         alone = good.part.alone;
         suit = good.part.suit;
@@ -114,6 +115,7 @@ module _ {S E : Type 0} (m : Simulation S E) (law : IsLawful m) where
       bound = omega arith;
     }
 
+    -- where nothing is in flight and nothing waits before the stop, the state is that at the end of the run
     pub at_end : (C : Core E) → IsGood m C → IsSettled m C → IsAtEnd m C
     at_end C good settled =
         let whole : (r : ℕ) → C.history r ≡ only m r (log m C.stop) = λ r.
@@ -124,17 +126,18 @@ module _ {S E : Type 0} (m : Simulation S E) (law : IsLawful m) where
           events = whole;
           states = λ r. ap (state m r) (whole r);
           pending = same_rising m law (insert_all m C.pending []) (rest m C.stop) (rising-insert_all m law C.pending [] tt) running.rising (λ e.
-          let inserted = times-insert_all m e C.pending [] in
-          let no_kept : times m e C.kept ≡ 0 = ap (times m e) (none_kept C good settled.flight) in
-          let no_messages : messages m e C.flight ≡ 0 = ap (messages m e) settled.flight in
-          let no_antimessages : antimessages m e C.flight ≡ 0 = ap (antimessages m e) settled.flight in
-          let balance = good.balance e in
-          let of_run = running.balance e in
-          let source = sent_by_source m law (log m C.stop) e in
-          let here = in_only m law e (log m C.stop) in
-          let handled : times_handled m C e ≡ times m e (only m (m.dst e) (log m C.stop)) = ap (times m e) (whole (m.dst e)) in
-          let asked_for : times m e (sent m (m.src e) (C.history (m.src e))) ≡ times m e (sent m (m.src e) (only m (m.src e) (log m C.stop))) = ap (λ xs. times m e (sent m (m.src e) xs)) (whole (m.src e)) in
-          omega arith);
+              let inserted = times-insert_all m e C.pending [] in
+              let no_kept : times m e C.kept ≡ 0 = ap (times m e) (none_kept C good settled.flight) in
+              let no_messages : messages m e C.flight ≡ 0 = ap (messages m e) settled.flight in
+              let no_antimessages : antimessages m e C.flight ≡ 0 = ap (antimessages m e) settled.flight in
+              let balance = good.balance e in
+              let of_run = running.balance e in
+              let source = sent_by_source m law (log m C.stop) e in
+              let here = in_only m law e (log m C.stop) in
+              let handled : times_handled m C e ≡ times m e (only m (m.dst e) (log m C.stop)) = ap (times m e) (whole (m.dst e)) in
+              let asked_for : times m e (sent m (m.src e) (C.history (m.src e))) ≡ times m e (sent m (m.src e) (only m (m.src e) (log m C.stop)))
+              = ap (λ xs. times m e (sent m (m.src e) xs)) (whole (m.src e)) in
+              omega arith);
         }
 
     -- an event is asked for once at most

@@ -1,9 +1,12 @@
 pub mod Counts
 pub mod Calls
-pub mod Back
+pub mod RollBack
 pub mod Delivery
+pub mod Done
 pub mod Steps
 pub mod Headline
+pub mod Sums
+pub mod Owners
 pub mod Parts
+pub mod Own
 pub mod Wording
-

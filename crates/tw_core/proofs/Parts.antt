@@ -1,98 +1,17 @@
 -- Parts that add up make a good state.
-use Rattle.std.proofs.Common.{◌≡◌, ℕ, ◌+◌, ◌<◌, ◌≤◌, Bool, cond, true, false, List, [], ◌∷◌, ◌++◌, Option, Some, None, find, flat_map, refl, ap, sym, ◌∙◌, subst, inl, inr, arith, nat_lt}
-use Rattle.std.proofs.lemmas.Bool.{cases_Bool, cases_lt, true_from_ne_false, both_ways, ltb-true, ltb-false}
+use Rattle.std.proofs.Common.{◌≡◌, ℕ, ◌+◌, ◌<◌, ◌≤◌, true, false, List, [], ◌∷◌, Some, flat_map, refl, ap, sym, ◌∙◌, subst, inl, inr, arith, nat_lt}
+use Rattle.std.proofs.lemmas.Bool.{cases_Bool, cases_lt, ltb-true, ltb-false}
 use Rattle.std.specs.List.{AllByRecursion}
 use Rattle.std.specs.Option.{option_map_or}
 use Rattle.tw_core.proofs.Counts.{antimessages-append, messages-append}
+use Rattle.tw_core.proofs.Owners.{from_owner, owned, owner_is}
+use Rattle.tw_core.proofs.Sums.{all_both, all_map, found_zero, some_of, through, total_add, total_zero}
 use Rattle.tw_core.specs.Good.{IsGood, times_taken_back, times_there}
 use Rattle.tw_core.specs.Machine.{Core, antimessages, messages, times_handled, times_loose}
-use Rattle.tw_core.specs.Parts.{AddUp, IsPart, Part, Shared, assembled, at_owner, times_wanted, total}
+use Rattle.tw_core.specs.Parts.{AddUp, IsPart, Part, Shared, assembled, owner, times_wanted, total}
 use Rattle.tw_sim.proofs.Counts.{in_head, none, times-append}
 use Rattle.tw_sim.specs.declared.machine.Signed.{Signed}
 use Rattle.tw_sim.specs.Simulation.{Simulation, IsFalling, IsLawful, sent, times}
-
--- ---- sums over a list
-
-module _ {X : Type 0} where
-  pub all_map : (P Q : X → Type 0) → ((x : X) → P x → Q x) → (xs : List X) → AllByRecursion P xs → AllByRecursion Q xs
-  all_map P Q f [] h = tt
-  all_map P Q f (x ∷ xs) h = (f x h.0, all_map P Q f xs h.1)
-
-  pub all_both : (P Q R : X → Type 0) → ((x : X) → P x → Q x → R x) → (xs : List X) → AllByRecursion P xs → AllByRecursion Q xs → AllByRecursion R xs
-  all_both P Q R f [] h k = tt
-  all_both P Q R f (x ∷ xs) h k = (f x h.0 k.0, all_both P Q R f xs h.1 k.1)
-
-  pub total_add : (f g : X → ℕ) (xs : List X) → total (λ x. f x + g x) xs ≡ total f xs + total g xs
-  total_add f g [] = refl
-  total_add f g (x ∷ xs) = let more = total_add f g xs in omega arith
-
-  pub total_zero : (f : X → ℕ) (xs : List X) → AllByRecursion (λ x. f x ≡ 0) xs → total f xs ≡ 0
-  total_zero f [] h = refl
-  total_zero f (x ∷ xs) h = (let first = h.0 in let more = total_zero f xs h.1 in omega arith)
-
-  -- where a sum is not 0, one of its terms is not
-  pub some_of : (f : X → ℕ) (Q : Type 0) (xs : List X) → AllByRecursion (λ x. 0 < f x → Q) xs → 0 < total f xs → Q
-  some_of f Q [] h k = absurd (omega arith)
-  some_of f Q (x ∷ xs) h k =
-      elim (cases_Bool (nat_lt 0 (f x))) [
-        | inl b ↦ h.0 (ltb-true 0 (f x) b)
-        | inr b ↦ some_of f Q xs h.1 (let no = ltb-false 0 (f x) b in omega arith)
-      ]
-
-  pub found_zero : (f : X → ℕ) (test : X → Bool) (xs : List X) → AllByRecursion (λ x. f x ≡ 0) xs → option_map_or f (find test xs) 0 ≡ 0
-  found_zero f test [] h = refl
-  found_zero f test (x ∷ xs) h =
-      elim (cases_Bool (test x)) [ inl b ↦ rw b h.0 | inr b ↦ rw b (found_zero f test xs h.1) ]
-
-  pub through : {Y Z : Type 0} (g : Y → Z) (f : X → Y) (o : Option X) (d : Y) → g (option_map_or f o d) ≡ option_map_or (λ x. g (f x)) o (g d)
-  through g f None d = refl
-  through g f (Some x) d = refl
-
-module _ {E : Type 0} (r : ℕ) where
-  abbrev pub owning : Part E → ℕ
-  owning p = cond (p.owns r) 1 0
-
-  unowned : (parts : List (Part E)) → total owning parts ≡ 0 → AllByRecursion (λ p. p.owns r ≡ true → ⊥) parts
-  unowned [] h = tt
-  unowned (p ∷ parts) h = ((λ b. let k = rw b at h in omega arith), unowned parts (omega arith))
-
-  -- the one owner is found
-  owner_is : (parts : List (Part E)) → total owning parts ≡ 1 → AllByRecursion (λ p. p.owns r ≡ true → find (λ q. q.owns r) parts ≡ Some p) parts
-  owner_is [] h = tt
-  owner_is (p ∷ parts) h =
-      elim (cases_Bool (p.owns r)) [
-        | inl b ↦
-            let rest : total owning parts ≡ 0 = (let k = rw b at h in omega arith) in
-            ((λ k. rw b refl), all_map (λ q. q.owns r ≡ true → ⊥) (λ q. q.owns r ≡ true → find (λ s. s.owns r) (p ∷ parts) ≡ Some q) (λ q no k. absurd (no k)) parts (unowned parts rest))
-        | inr b ↦
-            let rest : total owning parts ≡ 1 = (let k = rw b at h in omega arith) in
-            ((λ k. absurd (both_ways (p.owns r) b k)),
-              all_map (λ q. q.owns r ≡ true → find (λ s. s.owns r) parts ≡ Some q) (λ q. q.owns r ≡ true → find (λ s. s.owns r) (p ∷ parts) ≡ Some q) (λ q found k. rw b (found k)) parts (owner_is parts rest))
-      ]
-
-  -- what only the owner has is the sum over all
-  owned : (f : Part E → ℕ) (parts : List (Part E)) → total owning parts ≡ 1 → AllByRecursion (λ p. 0 < f p → p.owns r ≡ true) parts
-      → total f parts ≡ option_map_or f (find (λ q. q.owns r) parts) 0
-  owned f [] h only = cc
-  owned f (p ∷ parts) h only =
-      elim (cases_Bool (p.owns r)) [
-        | inl b ↦
-            let rest : total owning parts ≡ 0 = (let k = rw b at h in omega arith) in
-            let others = total_zero f parts (all_both (λ q. q.owns r ≡ true → ⊥) (λ q. 0 < f q → q.owns r ≡ true) (λ q. f q ≡ 0) (λ q no yes. none (f q) (λ k. no (yes k))) parts (unowned parts rest) only.1) in
-            rw b (omega arith)
-        | inr b ↦
-            let rest : total owning parts ≡ 1 = (let k = rw b at h in omega arith) in
-            let others = owned f parts rest only.1 in
-            let mine = none (f p) (λ k. both_ways (p.owns r) b (only.0 k)) in
-            rw b (omega arith)
-      ]
-
-  -- what holds of each part's is held by the owner's
-  pub from_owner : {X : Type 0} (read : Core E → X) (nothing : X) (P : X → Type 0) → P nothing → (parts : List (Part E)) → AllByRecursion (λ p. P (read p.core)) parts
-      → P (at_owner read nothing parts r)
-  from_owner read nothing P base [] h = base
-  from_owner read nothing P base (p ∷ parts) h =
-      elim (cases_Bool (p.owns r)) [ inl b ↦ rw b h.0 | inr b ↦ rw b (from_owner read nothing P base parts h.1) ]
 
 module _ {S E : Type 0} (m : Simulation S E) where
   times-flat_map : (e : E) (g : Part E → List E) (parts : List (Part E)) → times m e (flat_map g parts) ≡ total (λ p. times m e (g p)) parts
@@ -107,6 +26,33 @@ module _ {S E : Type 0} (m : Simulation S E) where
   antimessages-flat_map e g [] = refl
   antimessages-flat_map e g (p ∷ parts) = antimessages-append m e (g p) (flat_map g parts) ∙ ap (λ n. antimessages m e (g p) + n) (antimessages-flat_map e g parts)
 
+  -- one part that owns every router is the whole
+  pub whole_adds_up : (C : Core E) → IsGood m C
+      → AddUp m (record { mail = C.flight; bound = C.bound; stop = C.stop }) (record { owns = λ r. true; core = record C { flight = [] } } ∷ [])
+  whole_adds_up C good = record {
+    once = λ r l. refl;
+    each = (
+      record {
+        good = record {
+          falling = good.falling;
+          home = good.home;
+          soon = good.soon;
+          late = λ e h. good.late e (omega arith);
+          ahead = good.ahead;
+          alone = good.alone;
+          suit = λ e h. good.suit e (omega arith);
+        };
+        done = good.done;
+        own = record { history = λ r e h. refl; waiting = λ e h. refl };
+      },
+      tt,
+    );
+    bound = good.bound;
+    late = λ e h. good.late e (omega arith);
+    suit = λ e h. good.suit e (omega arith);
+    balance = λ e. (let old = good.balance e in omega arith);
+  }
+
   module _ (law : IsLawful m) where
     -- who sent anything has handled something
     pub sent_some : (r : ℕ) (xs : List E) (e : E) → 0 < times m e (sent m r xs) → (y : E) × (0 < times m y xs)
@@ -117,35 +63,45 @@ module _ {S E : Type 0} (m : Simulation S E) where
       abbrev A : Core E
       A = assembled shared parts
 
+      -- what each part keeps by itself, told of all
+      each : (Q : Part E → Type 0) → ((p : Part E) → IsPart m shared p → Q p) → AllByRecursion Q parts
+      each Q f = all_map (IsPart m shared) Q f parts sums.each
+
+      -- only the owner of r, a router that is there, has any
+      abbrev IsOwners : ℕ → (Part E → ℕ) → Part E → Type 0
+      IsOwners r f p = 0 < f p → (p.owns r ≡ true) × (r < m.routers)
+
       -- a router for which something was handled is there
       there : (p : Part E) (r : ℕ) (y : E) → IsPart m shared p → 0 < times m y (p.core.history r) → (p.owns r ≡ true) × (r < m.routers)
       there p r y is h =
           let home = is.good.home r y h in
           let at_home : 0 < times m y (p.core.history (m.dst y)) = subst (λ q. 0 < times m y (p.core.history q)) (sym home) h in
           let receiver = law.receiver y (is.good.suit y (omega arith)) in
-          (is.history r y h, (omega arith))
+          (is.own.history r y h, (omega arith))
 
-      owned_total : (r : ℕ) (f : Part E → ℕ) → AllByRecursion (λ p. 0 < f p → (p.owns r ≡ true) × (r < m.routers)) parts
-          → total f parts ≡ option_map_or f (find (λ q. q.owns r) parts) 0
+      -- ---- sums
+
+      owned_total : (r : ℕ) (f : Part E → ℕ) → AllByRecursion (IsOwners r f) parts → total f parts ≡ option_map_or f (owner r parts) 0
       owned_total r f only =
           elim (cases_lt r m.routers) [
-            | inl l ↦ owned r f parts (sums.once r l) (all_map (λ p. 0 < f p → (p.owns r ≡ true) × (r < m.routers)) (λ p. 0 < f p → p.owns r ≡ true) (λ p h k. (h k).0) parts only)
+            | inl l ↦ owned r f parts (sums.once r l) (all_map (IsOwners r f) (λ p. 0 < f p → p.owns r ≡ true) (λ p h k. (h k).0) parts only)
             | inr ge ↦
-                let zero = all_map (λ p. 0 < f p → (p.owns r ≡ true) × (r < m.routers)) (λ p. f p ≡ 0) (λ p h. none (f p) (λ k. let l = (h k).1 in omega arith)) parts only in
-                total_zero f parts zero ∙ sym (found_zero f (λ q. q.owns r) parts zero)
+                let zero = all_map (IsOwners r f) (λ p. f p ≡ 0) (λ p h. none (f p) (λ k. let l = (h k).1 in omega arith)) parts only in
+                total_zero f parts zero ∙ sym (found_zero f (λ p. p.owns r) parts zero)
           ]
 
       handled_total : (e : E) → total (λ p. times_handled m p.core e) parts ≡ times_handled m A e
       handled_total e =
-          owned_total (m.dst e) (λ p. times_handled m p.core e) (all_map (IsPart m shared) (λ p. 0 < times_handled m p.core e → (p.owns (m.dst e) ≡ true) × (m.dst e < m.routers)) (λ p is h. there p (m.dst e) e is h) parts sums.each)
-          ∙ sym (through (times m e) (λ p. p.core.history (m.dst e)) (find (λ q. q.owns (m.dst e)) parts) [])
+          let handled : Part E → ℕ = λ p. times_handled m p.core e in
+          owned_total (m.dst e) handled (each (IsOwners (m.dst e) handled) (λ p is h. there p (m.dst e) e is h))
+          ∙ sym (through (times m e) (λ p. p.core.history (m.dst e)) (owner (m.dst e) parts) [])
 
       sent_total : (e : E) → total (λ p. times m e (sent m (m.src e) (p.core.history (m.src e)))) parts ≡ times m e (sent m (m.src e) (A.history (m.src e)))
       sent_total e =
-          owned_total (m.src e) (λ p. times m e (sent m (m.src e) (p.core.history (m.src e))))
-          (all_map (IsPart m shared) (λ p. 0 < times m e (sent m (m.src e) (p.core.history (m.src e))) → (p.owns (m.src e) ≡ true) × (m.src e < m.routers))
-          (λ p is h. let some = sent_some (m.src e) (p.core.history (m.src e)) e h in there p (m.src e) some.0 is some.1) parts sums.each)
-          ∙ sym (through (λ xs. times m e (sent m (m.src e) xs)) (λ p. p.core.history (m.src e)) (find (λ q. q.owns (m.src e)) parts) [])
+          let asked : Part E → ℕ = λ p. times m e (sent m (m.src e) (p.core.history (m.src e))) in
+          owned_total (m.src e) asked
+          (each (IsOwners (m.src e) asked) (λ p is h. let some = sent_some (m.src e) (p.core.history (m.src e)) e h in there p (m.src e) some.0 is some.1))
+          ∙ sym (through (λ xs. times m e (sent m (m.src e) xs)) (λ p. p.core.history (m.src e)) (owner (m.src e) parts) [])
 
       pending_total : (e : E) → times m e A.pending ≡ total (λ p. times m e p.core.pending) parts
       pending_total e = times-flat_map e (λ p. p.core.pending) parts
@@ -159,7 +115,8 @@ module _ {S E : Type 0} (m : Simulation S E) where
 
       antimessages_total : (e : E) → antimessages m e A.flight ≡ antimessages m e shared.mail + total (λ p. antimessages m e p.core.flight) parts
       antimessages_total e =
-          antimessages-append m e shared.mail (flat_map (λ p. p.core.flight) parts) ∙ ap (λ n. antimessages m e shared.mail + n) (antimessages-flat_map e (λ p. p.core.flight) parts)
+          antimessages-append m e shared.mail (flat_map (λ p. p.core.flight) parts)
+          ∙ ap (λ n. antimessages m e shared.mail + n) (antimessages-flat_map e (λ p. p.core.flight) parts)
 
       loose_total : (e : E) → times_loose m A e ≡ messages m e shared.mail + antimessages m e shared.mail + total (λ p. times_loose m p.core e) parts
       loose_total e =
@@ -190,76 +147,77 @@ module _ {S E : Type 0} (m : Simulation S E) where
           let second = total_add (λ (p : Part E). times m e p.core.kept) (λ p. antimessages m e p.core.flight) parts in
           omega arith
 
-      -- who has something waiting for an event's receiver is its owner
-      waiting_owner : (e : E) → m.dst e < m.routers → AllByRecursion (λ p. 0 < times m e p.core.pending + times m e p.core.kept → find (λ q. q.owns (m.dst e)) parts ≡ Some p) parts
-      waiting_owner e l =
-          all_both (IsPart m shared) (λ p. p.owns (m.dst e) ≡ true → find (λ q. q.owns (m.dst e)) parts ≡ Some p) (λ p. 0 < times m e p.core.pending + times m e p.core.kept → find (λ q. q.owns (m.dst e)) parts ≡ Some p)
-          (λ p is found h. found (is.waiting e h)) parts sums.each (owner_is (m.dst e) parts (sums.once (m.dst e) l))
+      -- ---- where something is, some part has it
 
-      -- and all that waits for it
-      pending_owner : (e : E) → m.dst e < m.routers → (p : Part E) → find (λ q. q.owns (m.dst e)) parts ≡ Some p → times m e A.pending ≡ times m e p.core.pending
+      part_some : (f : Part E → ℕ) (Q : Type 0) → ((p : Part E) → IsPart m shared p → 0 < f p → Q) → 0 < total f parts → Q
+      part_some f Q g h = some_of f Q parts (each (λ p. 0 < f p → Q) g) h
+
+      loose_some : (e : E) (Q : Type 0) → (0 < messages m e shared.mail + antimessages m e shared.mail → Q) → ((p : Part E) → IsPart m shared p → 0 < times_loose m p.core e → Q)
+          → 0 < times_loose m A e → Q
+      loose_some e Q of_mail of_part h =
+          let all = loose_total e in
+          elim (cases_Bool (nat_lt 0 (messages m e shared.mail + antimessages m e shared.mail))) [
+            | inl b ↦ of_mail (ltb-true 0 (messages m e shared.mail + antimessages m e shared.mail) b)
+            | inr b ↦ part_some (λ p. times_loose m p.core e) Q of_part (let no = ltb-false 0 (messages m e shared.mail + antimessages m e shared.mail) b in omega arith)
+          ]
+
+      -- what waits is with the owner of its receiver
+      waiting_some : (e : E) (f : Part E → ℕ) (Q : Type 0) → m.dst e < m.routers → ((p : Part E) → 0 < f p → 0 < times m e p.core.pending + times m e p.core.kept)
+          → ((p : Part E) → IsPart m shared p → owner (m.dst e) parts ≡ Some p → 0 < f p → Q) → 0 < total f parts → Q
+      waiting_some e f Q l waits g h =
+          some_of f Q parts
+          (all_both (IsPart m shared) (λ p. p.owns (m.dst e) ≡ true → owner (m.dst e) parts ≡ Some p) (λ p. 0 < f p → Q)
+          (λ p is found k. g p is (found (is.own.waiting e (waits p k))) k) parts sums.each (owner_is (m.dst e) parts (sums.once (m.dst e) l)))
+          h
+
+      -- and so is all that is pending for it
+      pending_owner : (e : E) → m.dst e < m.routers → (p : Part E) → owner (m.dst e) parts ≡ Some p → times m e A.pending ≡ times m e p.core.pending
       pending_owner e l p found =
-          let waiting = all_map (IsPart m shared) (λ q. 0 < times m e q.core.pending → (q.owns (m.dst e) ≡ true) × (m.dst e < m.routers)) (λ q is h. (is.waiting e (omega arith), l)) parts sums.each in
-          pending_total e ∙ (owned_total (m.dst e) (λ q. times m e q.core.pending) waiting ∙ ap (λ o. option_map_or (λ q. times m e q.core.pending) o 0) found)
+          let pending : Part E → ℕ = λ q. times m e q.core.pending in
+          let waiting = each (IsOwners (m.dst e) pending) (λ q is h. (is.own.waiting e (omega arith), l)) in
+          pending_total e ∙ (owned_total (m.dst e) pending waiting ∙ ap (λ o. option_map_or pending o 0) found)
 
-      history_owner : (r : ℕ) (p : Part E) → find (λ q. q.owns r) parts ≡ Some p → A.history r ≡ p.core.history r
+      history_owner : (r : ℕ) (p : Part E) → owner r parts ≡ Some p → A.history r ≡ p.core.history r
       history_owner r p found = ap (λ o. option_map_or (λ q. q.core.history r) o []) found
 
       loose_suits : (e : E) → 0 < times_loose m A e → m.suits e ≡ true
-      loose_suits e h =
-          elim (cases_Bool (nat_lt 0 (messages m e shared.mail + antimessages m e shared.mail))) [
-            | inl b ↦ sums.suit e (ltb-true 0 (messages m e shared.mail + antimessages m e shared.mail) b)
-            | inr b ↦ some_of (λ p. times_loose m p.core e) (m.suits e ≡ true) parts
-              (all_map (IsPart m shared) (λ p. 0 < times_loose m p.core e → m.suits e ≡ true) (λ p is k. is.good.suit e (omega arith)) parts sums.each)
-              (let no = ltb-false 0 (messages m e shared.mail + antimessages m e shared.mail) b in let all = loose_total e in omega arith)
-          ]
+      loose_suits e h = loose_some e (m.suits e ≡ true) (sums.suit e) (λ p is k. is.good.suit e (omega arith)) h
 
+      -- ---- good
+
+      history_of : (r : ℕ) (P : List E → Type 0) → P [] → ((p : Part E) → IsPart m shared p → P (p.core.history r)) → P (A.history r)
+      history_of r P base f = from_owner r (λ C. C.history r) [] P base parts (each (λ p. P (p.core.history r)) f)
+
+      -- the parts, put together, are good
       pub good_assembled : IsGood m A
       good_assembled = record {
         part = record {
-          falling = λ r. from_owner r (λ C. C.history r) [] (IsFalling m) tt parts (all_map (IsPart m shared) (λ p. IsFalling m (p.core.history r)) (λ p is. is.good.falling r) parts sums.each);
-          home = λ r. from_owner r (λ C. C.history r) [] (λ xs. (e : E) → 0 < times m e xs → m.dst e ≡ r) (λ e h. absurd (omega arith)) parts
-              (all_map (IsPart m shared) (λ p. (e : E) → 0 < times m e (p.core.history r) → m.dst e ≡ r) (λ p is. is.good.home r) parts sums.each);
-          soon = λ r. from_owner r (λ C. C.history r) [] (λ xs. (e : E) → 0 < times m e xs → m.time e < shared.stop) (λ e h. absurd (omega arith)) parts
-              (all_map (IsPart m shared) (λ p. (e : E) → 0 < times m e (p.core.history r) → m.time e < shared.stop) (λ p is. is.good.soon r) parts sums.each);
-          late = λ e h.
-              elim (cases_Bool (nat_lt 0 (messages m e shared.mail + antimessages m e shared.mail))) [
-                | inl b ↦ sums.late e (ltb-true 0 (messages m e shared.mail + antimessages m e shared.mail) b)
-                | inr b ↦ some_of (λ p. times_loose m p.core e) (shared.bound ≤ m.time e) parts
-                  (all_map (IsPart m shared) (λ p. 0 < times_loose m p.core e → shared.bound ≤ m.time e) (λ p is k. is.good.late e k) parts sums.each)
-                  (let no = ltb-false 0 (messages m e shared.mail + antimessages m e shared.mail) b in let all = loose_total e in omega arith)
-              ];
+          falling = λ r. history_of r (IsFalling m) tt (λ p is. is.good.falling r);
+          home = λ r. history_of r (λ xs. (e : E) → 0 < times m e xs → m.dst e ≡ r) (λ e h. absurd (omega arith)) (λ p is. is.good.home r);
+          soon = λ r. history_of r (λ xs. (e : E) → 0 < times m e xs → m.time e < shared.stop) (λ e h. absurd (omega arith)) (λ p is. is.good.soon r);
+          late = λ e h. loose_some e (shared.bound ≤ m.time e) (sums.late e) (λ p is k. is.good.late e k) h;
           ahead = λ e x waits handled.
               let l = law.receiver e (loose_suits e (omega arith)) in
-              some_of (λ p. times m e p.core.pending) (m.before e x ≡ false) parts
-              (all_both (IsPart m shared) (λ p. 0 < times m e p.core.pending + times m e p.core.kept → find (λ q. q.owns (m.dst e)) parts ≡ Some p) (λ p. 0 < times m e p.core.pending → m.before e x ≡ false)
-              (λ p is found k.
-              is.good.ahead e x k (subst (λ xs. 0 < times m x xs) (history_owner (m.dst e) p (found (omega arith))) handled))
-              parts sums.each (waiting_owner e l))
+              waiting_some e (λ p. times m e p.core.pending) (m.before e x ≡ false) l (λ p k. omega arith)
+              (λ p is found k. is.good.ahead e x k (subst (λ xs. 0 < times m x xs) (history_owner (m.dst e) p found) handled))
               (let all = pending_total e in omega arith);
           alone = λ e h.
               let l = law.receiver e (loose_suits e (omega arith)) in
-              some_of (λ p. times m e p.core.kept) ((times m e A.pending ≡ 0) × (times_handled m A e ≡ 0)) parts
-              (all_both (IsPart m shared) (λ p. 0 < times m e p.core.pending + times m e p.core.kept → find (λ q. q.owns (m.dst e)) parts ≡ Some p) (λ p. 0 < times m e p.core.kept → (times m e A.pending ≡ 0) × (times_handled m A e ≡ 0))
-              (λ p is found k.
-              let place = found (omega arith) in
-              let old = is.good.alone e k in
-              (pending_owner e l p place ∙ old.0, ap (times m e) (history_owner (m.dst e) p place) ∙ old.1))
-              parts sums.each (waiting_owner e l))
+              waiting_some e (λ p. times m e p.core.kept) ((times m e A.pending ≡ 0) × (times_handled m A e ≡ 0)) l (λ p k. omega arith)
+              (λ p is found k. let old = is.good.alone e k in (pending_owner e l p found ∙ old.0, ap (times m e) (history_owner (m.dst e) p found) ∙ old.1))
               (let all = kept_total e in omega arith);
           suit = λ e h.
               elim (cases_Bool (nat_lt 0 (times_loose m A e))) [
                 | inl b ↦ loose_suits e (ltb-true 0 (times_loose m A e) b)
-                | inr b ↦ some_of (λ p. times_handled m p.core e) (m.suits e ≡ true) parts
-                  (all_map (IsPart m shared) (λ p. 0 < times_handled m p.core e → m.suits e ≡ true) (λ p is k. is.good.suit e (omega arith)) parts sums.each)
-                  (let no = ltb-false 0 (times_loose m A e) b in let all = handled_total e in omega arith)
+                | inr b ↦ part_some (λ p. times_handled m p.core e) (m.suits e ≡ true) (λ p is k. is.good.suit e (omega arith))
+                    (let no = ltb-false 0 (times_loose m A e) b in let all = handled_total e in omega arith)
               ];
         };
         balance = λ e. (
-          let there_all = there_total e in
-          let wanted_all = wanted_total e in
-          let sum = sums.balance e in
-          omega arith);
-        done = λ r. from_owner r (λ C. C.done r) 0 (λ n. n ≤ shared.bound) (omega arith) parts (all_map (IsPart m shared) (λ p. p.core.done r ≤ shared.bound) (λ p is. is.done r) parts sums.each);
+            let there_all = there_total e in
+            let wanted_all = wanted_total e in
+            let sum = sums.balance e in
+            omega arith);
+        done = λ r. from_owner r (λ C. C.done r) 0 (λ n. n ≤ shared.bound) (omega arith) parts (each (λ p. p.core.done r ≤ shared.bound) (λ p is. is.done r));
         bound = sums.bound;
       }

@@ -1,22 +1,24 @@
 -- Each step keeps good, and never lowers the bound.
-use Rattle.std.proofs.Common.{◌≡◌, ℕ, zero, suc, ◌+◌, ◌<◌, ◌≤◌, ◌==◌, min, Bool, cond, true, false, ◌||◌, List, [], ◌∷◌, ◌++◌, map, Option, Some, None, Result, Ok, Err, slice_get, refl, ap, sym, ◌∙◌, subst, inl, inr, arith, nat_lt}
+use Rattle.std.proofs.Common.{◌≡◌, ◌+◌, ◌<◌, ◌≤◌, ◌==◌, ◌∷◌, ◌∙◌}
+use Rattle.std.proofs.Common.{ℕ, zero, suc, true, false, List, [], map, Option, Some, None, Result, Ok, Err, slice_get, refl, ap, sym, subst, inl, inr, arith, nat_lt}
 use Rattle.std.proofs.lemmas.Bool.{cases_Bool, cases_eq, both_ways, true_from_ne_false, eqb-true, eq-eqb, ltb-true, ltb-false}
 use Rattle.std.specs.Result.{result_unwrap_or}
-use Rattle.tw_core.proofs.Back.{back_one}
+use Rattle.tw_core.proofs.Done.{at_router_done, handle_done, undo_done}
+use Rattle.tw_core.proofs.RollBack.{back_one}
 use Rattle.tw_core.proofs.Calls.{MayHandle, part_handling, put_other, put_same, surplus_handling}
 use Rattle.tw_core.proofs.Counts.{in_flight}
 use Rattle.tw_core.proofs.Delivery.{delivered}
 use Rattle.tw_core.specs.declared.refusal.Refusal.{Refusal}
-use Rattle.tw_core.specs.Good.{IsBalanced, IsGood, IsGoodPart}
+use Rattle.tw_core.specs.Good.{IsGood, IsGoodPart}
 use Rattle.tw_core.specs.Machine.{Core, IsOpening, antimessages, messages, times_handled, times_loose}
-use Rattle.tw_core.specs.Parts.{KeepsPart, SameSurplus}
-use Rattle.tw_core.specs.Steps.{after_delivery, after_handling, after_undoing, at_router, deliver, first_pending, handle, is_newest, least_loose, least_time, next, put, run, step, undo, with_bound, with_commit}
+use Rattle.tw_core.specs.Parts.{KeepsPart}
+use Rattle.tw_core.specs.Steps.{after_delivery, after_handling, after_undoing, deliver, first_pending, handle, is_newest, least_loose, least_time, next, put, run, step, undo, with_bound, with_commit}
 use Rattle.tw_sim.proofs.Counts.{in_cons, in_filter, none, one_self, times-filter-yes}
 use Rattle.tw_sim.proofs.Least.{least_is}
 use Rattle.tw_sim.specs.declared.machine.Signed.{Signed}
 use Rattle.tw_sim.specs.declared.machine.Step.{Step}
 use Rattle.tw_sim.specs.declared.machine.Step.TheVariants.{Handle, Undo, Deliver, Bound, Commit}
-use Rattle.tw_sim.specs.Simulation.{Simulation, IsFalling, IsLawful, one, only, sent, state, times}
+use Rattle.tw_sim.specs.Simulation.{Simulation, IsFalling, IsLawful, only, sent, times}
 
 module _ {S E : Type 0} (m : Simulation S E) (law : IsLawful m) where
   -- ---- handle
@@ -31,24 +33,26 @@ module _ {S E : Type 0} (m : Simulation S E) (law : IsLawful m) where
       ]
 
   may_handle : (t : ℕ) (C : Core E) (r : ℕ) (e : E) → IsGoodPart m t C → first_pending m C r ≡ Some e → m.time e < C.stop → is_newest m e (C.history r) ≡ false
-      → (m.dst e ≡ r) × MayHandle m law C e
+      → (m.dst e ≡ r) × MayHandle m C e
   may_handle t C r e good first soon other =
       let least = least_is m law e (only m r C.pending) first in
       let there = in_filter m law (λ x. m.dst x == r) e C.pending least.there in
       let home : m.dst e ≡ r = eqb-true (m.dst e) r there.0 in
-      let other_home : is_newest m e (C.history (m.dst e)) ≡ false = subst (λ q. is_newest m e (C.history q) ≡ false) (sym home) other in
-      (home, record {
-        there = there.1;
-        soon = soon;
-        first = λ x waits same.
-            let for_r : 0 < times m x (only m r C.pending) = (let k = times-filter-yes m law (λ y. m.dst y == r) x C.pending (eq-eqb (m.dst x) r (same ∙ home)) in omega arith) in
-            least.first x for_r;
-        fresh = λ x handled. true_from_ne_false (m.before x e) (λ no.
-        let same : x ≡ e = law.total x e no (good.ahead e x there.1 handled) in
-        not_again e (C.history (m.dst e)) (good.falling (m.dst e)) other_home (λ y k. good.ahead e y there.1 k) (subst (λ z. 0 < times m z (C.history (m.dst e))) same handled));
-      })
+      let other_home : is_newest m e (C.history (m.dst e)) ≡ false = subst (λ q. is_newest m e (C.history q) ≡ false) (sym home) other in (
+        home,
+        record {
+          there = there.1;
+          soon = soon;
+          first = λ x waits same.
+              let for_r : 0 < times m x (only m r C.pending) = (let k = times-filter-yes m law (λ y. m.dst y == r) x C.pending (eq-eqb (m.dst x) r (same ∙ home)) in omega arith) in
+              least.first x for_r;
+          fresh = λ x handled. true_from_ne_false (m.before x e) (λ no.
+              let same : x ≡ e = law.total x e no (good.ahead e x there.1 handled) in
+              not_again e (C.history (m.dst e)) (good.falling (m.dst e)) other_home (λ y k. good.ahead e y there.1 k) (subst (λ z. 0 < times m z (C.history (m.dst e))) same handled));
+        },
+      )
 
-  keeps_handling : (t : ℕ) (C : Core E) (r : ℕ) (e : E) → IsGoodPart m t C → (m.dst e ≡ r) × MayHandle m law C e → KeepsPart m t C (after_handling m C r e)
+  keeps_handling : (t : ℕ) (C : Core E) (r : ℕ) (e : E) → IsGoodPart m t C → (m.dst e ≡ r) × MayHandle m C e → KeepsPart m t C (after_handling m C r e)
   keeps_handling t C r e good may =
       subst (λ q. KeepsPart m t C (after_handling m C q e)) may.0 (record {
         part = part_handling m law C e may.1 t good;
@@ -58,46 +62,24 @@ module _ {S E : Type 0} (m : Simulation S E) (law : IsLawful m) where
         stop = refl;
       })
 
-  handle_at : (t : ℕ) (C D : Core E) (r : ℕ) (o : Option E) → IsGoodPart m t C → first_pending m C r ≡ o → handle m C r o ≡ Ok D → KeepsPart m t C D
-  handle_at t C D r None good first h = cc
-  handle_at t C D r (Some e) good first h =
-      elim (cases_Bool (nat_lt (m.time e) C.stop)) [
-        | inr b ↦ (let k = rw b at h in cc)
-        | inl b ↦ elim (cases_Bool (is_newest m e (C.history r))) [
-          | inl c ↦ (let k = rw (b, c) at h in cc)
-          | inr c ↦ elim (cases_Bool (m.full (state m r (C.history r)) e)) [
-            | inl d ↦ (let k = rw (b, c, d) at h in cc)
-            | inr d ↦ (
-                let k = rw (b, c, d) at h in
-                let made : after_handling m C r e ≡ D = cc in
-                subst (KeepsPart m t C) made (keeps_handling t C r e good (may_handle t C r e good first (ltb-true (m.time e) C.stop b) c)))
-          ]
-        ]
-      ]
-
+  -- handling, where it is not refused
   pub handle_keeps : (t : ℕ) (C D : Core E) (r : ℕ) → IsGoodPart m t C → handle m C r (first_pending m C r) ≡ Ok D → KeepsPart m t C D
-  handle_keeps t C D r good h = handle_at t C D r (first_pending m C r) good refl h
+  handle_keeps t C D r good h =
+      let done = handle_done m C D r (first_pending m C r) h in
+      subst (KeepsPart m t C) done.made (keeps_handling t C r done.event good (may_handle t C r done.event good done.found done.soon done.new))
 
   -- ---- undo and deliver
 
-  undo_at : (t : ℕ) (C D : Core E) (r : ℕ) (xs : List E) → t ≤ C.bound → IsGoodPart m t C → C.history r ≡ xs → undo m C r xs ≡ Ok D → KeepsPart m t C D
-  undo_at t C D r [] le good here h = cc
-  undo_at t C D r (e ∷ older) le good here h =
-      elim (cases_Bool (nat_lt (m.time e) (C.done r))) [
-        | inl b ↦ (let k = rw b at h in cc)
-        | inr b ↦ elim (cases_Bool (nat_lt (m.time e) C.bound)) [
-          | inl c ↦ (let k = rw (b, c) at h in cc)
-          | inr c ↦ (
-              let k = rw (b, c) at h in
-              let made : after_undoing m C r e older ≡ D = cc in
-              let not_before = ltb-false (m.time e) C.bound c in
-              let back = back_one m law t r C e older here (omega arith) good in
-              subst (KeepsPart m t C) made (record { part = back.part; surplus = back.surplus; done = back.done; bound = back.bound; stop = back.stop }))
-        ]
-      ]
+  -- undoing an event that is not before t
+  pub undoing_keeps : (t : ℕ) (C : Core E) (r : ℕ) (e : E) (older : List E) → t ≤ m.time e → IsGoodPart m t C → C.history r ≡ e ∷ older → KeepsPart m t C (after_undoing m C r e older)
+  undoing_keeps t C r e older late good newest = (back_one m law t r C e older newest late good).keeps
 
+  -- undoing, where it is not refused
   pub undo_keeps : (t : ℕ) (C D : Core E) (r : ℕ) → t ≤ C.bound → IsGoodPart m t C → undo m C r (C.history r) ≡ Ok D → KeepsPart m t C D
-  undo_keeps t C D r le good h = undo_at t C D r (C.history r) le good refl h
+  undo_keeps t C D r le good h =
+      let done = undo_done m C D r (C.history r) h in
+      let late = done.late in
+      subst (KeepsPart m t C) done.made (undoing_keeps t C r done.event done.older (omega arith) good done.newest)
 
   deliver_at : (t : ℕ) (C D : Core E) (k : ℕ) (o : Option (Signed E)) → IsGoodPart m t C → slice_get C.flight k ≡ o → deliver m C k o ≡ Ok D → KeepsPart m t C D
   deliver_at t C D k None good place h = cc
@@ -105,6 +87,7 @@ module _ {S E : Type 0} (m : Simulation S E) (law : IsLawful m) where
       let made : after_delivery m C k x ≡ D = cc in
       subst (KeepsPart m t C) made (delivered m law t C k x good place)
 
+  -- delivering, where there is such a message
   pub deliver_keeps : (t : ℕ) (C D : Core E) (k : ℕ) → IsGoodPart m t C → deliver m C k (slice_get C.flight k) ≡ Ok D → KeepsPart m t C D
   deliver_keeps t C D k good h = deliver_at t C D k (slice_get C.flight k) good refl h
 
@@ -222,9 +205,6 @@ module _ {S E : Type 0} (m : Simulation S E) (law : IsLawful m) where
 
   -- ---- steps
 
-  at_router_done : (r : ℕ) (o : Result (Core E) Refusal) (D : Core E) → at_router m r o ≡ Ok D → o ≡ Ok D
-  at_router_done r o D h = elim (cases_Bool (nat_lt r m.routers)) [ inl b ↦ rw b at h | inr b ↦ (let k = rw b at h in cc) ]
-
   -- a step that is done keeps good and does not lower the bound
   pub record StepKeeps (C D : Core E) : Type 0 where
     pub good : IsGood m D
@@ -233,16 +213,17 @@ module _ {S E : Type 0} (m : Simulation S E) (law : IsLawful m) where
   called : (C D : Core E) → IsGood m C → KeepsPart m C.bound C D → StepKeeps C D
   called C D good keeps = record { good = good_after C D good keeps; bound = (let same = keeps.bound in omega arith) }
 
+  -- whichever step
   pub step_keeps : (C D : Core E) (x : Step) → IsGood m C → step m C x ≡ Ok D → StepKeeps C D
-  step_keeps C D (Handle r) good h = called C D good (handle_keeps C.bound C D r good.part (at_router_done r (handle m C r (first_pending m C r)) D h))
-  step_keeps C D (Undo r) good h = called C D good (undo_keeps C.bound C D r (omega arith) good.part (at_router_done r (undo m C r (C.history r)) D h))
+  step_keeps C D (Handle r) good h = called C D good (handle_keeps C.bound C D r good.part (at_router_done m r (handle m C r (first_pending m C r)) D h))
+  step_keeps C D (Undo r) good h = called C D good (undo_keeps C.bound C D r (omega arith) good.part (at_router_done m r (undo m C r (C.history r)) D h))
   step_keeps C D (Deliver zero) good h = cc
   step_keeps C D (Deliver (suc k)) good h = called C D good (deliver_keeps C.bound C D k good.part h)
   step_keeps C D Bound good h =
       let made : with_bound m C ≡ D = cc in
       subst (StepKeeps C) made (record { good = good_bound C good; bound = least_loose-from C C.bound good.part.late good.bound })
   step_keeps C D (Commit r) good h =
-      let ok = at_router_done r (Ok (with_commit m C r)) D h in
+      let ok = at_router_done m r (Ok (with_commit m C r)) D h in
       let made : with_commit m C r ≡ D = cc in
       subst (StepKeeps C) made (record { good = good_commit C r good; bound = omega arith })
 
@@ -250,6 +231,7 @@ module _ {S E : Type 0} (m : Simulation S E) (law : IsLawful m) where
   next_at C (Ok D) good keeps = keeps D refl
   next_at C (Err refusal) good keeps = record { good = good; bound = omega arith }
 
+  -- a step, refused or not
   pub next_keeps : (C : Core E) (x : Step) → IsGood m C → StepKeeps C (next m C x)
   next_keeps C x good = next_at C (step m C x) good (λ D h. step_keeps C D x good h)
 
@@ -263,6 +245,7 @@ module _ {S E : Type 0} (m : Simulation S E) (law : IsLawful m) where
 
   -- ---- the beginning
 
+  -- the opening state is good
   pub good_opening : (C : Core E) → IsOpening m C → IsGood m C
   good_opening C opens =
       let none_handled : (r : ℕ) (e : E) → 0 < times m e (C.history r) → ⊥ = λ r e h. (let k = ap (times m e) (opens.history r) in omega arith) in
@@ -283,13 +266,13 @@ module _ {S E : Type 0} (m : Simulation S E) (law : IsLawful m) where
           suit = λ e h. law.suit_opening e (loose e (let a = none (times_handled m C e) (λ k. none_handled (m.dst e) e k) in omega arith));
         };
         balance = λ e. (
-          let a = opens.pending e in
-          let b = none_kept e in
-          let c = no_messages e in
-          let d = no_antimessages e in
-          let f = none (times_handled m C e) (λ k. none_handled (m.dst e) e k) in
-          let g : times m e (sent m (m.src e) (C.history (m.src e))) ≡ 0 = ap (λ xs. times m e (sent m (m.src e) xs)) (opens.history (m.src e)) in
-          omega arith);
+            let a = opens.pending e in
+            let b = none_kept e in
+            let c = no_messages e in
+            let d = no_antimessages e in
+            let f = none (times_handled m C e) (λ k. none_handled (m.dst e) e k) in
+            let g : times m e (sent m (m.src e) (C.history (m.src e))) ≡ 0 = ap (λ xs. times m e (sent m (m.src e) xs)) (opens.history (m.src e)) in
+            omega arith);
         done = λ r. (let a = opens.done r in omega arith);
         bound = omega arith;
       }

@@ -1,21 +1,22 @@
 -- The same definitions in other words.
-use Rattle.std.proofs.Common.{◌≡◌, ℕ, ◌+◌, ◌*◌, ◌<◌, ◌≤◌, ◌==◌, Bool, cond, not, true, false, ◌||◌, List, [], ◌∷◌, ◌++◌, append_assoc, if◌then◌else◌, Result, Ok, Err, slice_get, refl, ap, sym, ◌∙◌, subst, ◌⊎◌, ◌↔◌, inl, inr, arith, mul-one, nat_lt, zero-mul}
-use Rattle.std.proofs.lemmas.Bool.{cases_Bool, both_ways, le-ltb, ltb-true, ltb-false}
+use Rattle.std.proofs.Common.{◌≡◌, ◌+◌, ◌*◌, ◌<◌, ◌≤◌, ◌==◌, ◌∷◌, ◌++◌, if◌then◌else◌, ◌∙◌, ◌⊎◌, ◌↔◌}
+use Rattle.std.proofs.Common.{ℕ, Bool, cond, not, true, false, List, [], Option, Some, None, append_assoc, Ok, Err, slice_get, refl, ap, sym, subst, inl, inr, arith, mul-one, nat_lt, zero-mul}
+use Rattle.std.proofs.lemmas.Bool.{cases_Bool, both_ways, eq-eqb, eqb-true, le-ltb, ltb-true, ltb-false}
 use Rattle.std.specs.List.{AllByRecursion}
-use Rattle.tw_core.proofs.Back.{taken_back, undoing_while-flight}
-use Rattle.tw_core.proofs.Calls.{put_same}
+use Rattle.tw_core.proofs.RollBack.{taken_back, undoing_while-flight}
 use Rattle.tw_core.proofs.Headline.{good_log}
-use Rattle.tw_core.proofs.Parts.{all_map, sent_some, total_add}
+use Rattle.tw_core.proofs.Parts.{sent_some}
+use Rattle.tw_core.proofs.Sums.{all_map, total_add}
 use Rattle.tw_core.proofs.Steps.{run_keeps}
-use Rattle.tw_core.specs.declared.refusal.Refusal.{Refusal}
-use Rattle.tw_core.specs.declared.refusal.Refusal.TheVariants.{Committed}
+use Rattle.tw_core.specs.declared.refusal.Refusal.TheVariants.{Committed, Nothing}
 use Rattle.tw_core.specs.Good.{IsGood, IsGoodPart, due}
 use Rattle.tw_core.specs.Machine.{Core, committed}
 use Rattle.tw_core.specs.Parts.{AddUp, IsPart, Part, Shared, total}
-use Rattle.tw_core.specs.Steps.{after_arrival, after_undoing, after_undoing_while, first_pending, run, undo, with_pending, without_from, without_pending}
-use Rattle.tw_sim.proofs.Counts.{in_cons, in_head, none, times-append}
-use Rattle.tw_sim.proofs.Least.{least_rising}
+use Rattle.tw_core.specs.Steps.{after_arrival, after_undoing, after_undoing_while, first_pending, handle, is_newest, run, undo, with_pending, without_pending}
+use Rattle.tw_sim.proofs.Counts.{in_cons, in_filter, in_head, none, times-append, times-filter-yes}
+use Rattle.tw_sim.proofs.Least.{least_is, least_rising}
 use Rattle.tw_sim.proofs.Rising.{IsRising, not_back, rising-filter}
+use Rattle.tw_sim.specs.Ordered.{least}
 use Rattle.tw_sim.specs.declared.machine.Signed.{Signed}
 use Rattle.tw_sim.specs.declared.machine.Step.{Step}
 use Rattle.tw_sim.specs.Simulation.{Simulation, IsFalling, IsLawful, IsNumbered, below, only, sent, state, times}
@@ -61,6 +62,7 @@ module _ {S E : Type 0} (m : Simulation S E) where
         ])
       ]
 
+  -- and the same of either sign
   pub arrival-front : (C : Core E) (x : Signed E) (front : List (Signed E))
       → after_arrival m (record C { flight = front ++ C.flight }) x ≡ record (after_arrival m C x) { flight = front ++ (after_arrival m C x).flight }
   arrival-front C x front = arrival-front_by_sign C x.plus x.event front
@@ -114,6 +116,46 @@ module _ {S E : Type 0} (m : Simulation S E) where
     pub first_pending_head : (C : Core E) (r : ℕ) → IsRising m C.pending → first_pending m C r ≡ slice_get (only m r C.pending) 0
     first_pending_head C r rising = least_rising m law (only m r C.pending) (rising-filter m law (λ x. m.dst x == r) C.pending rising)
 
+    none_is_empty : (xs : List E) → least m.before xs ≡ None → xs ≡ []
+    none_is_empty [] h = refl
+    none_is_empty (x ∷ xs) h = cc
+
+    in_own : (C : Core E) (r : ℕ) (x : E) → 0 < times m x C.pending → m.dst x ≡ r → 0 < times m x (only m r C.pending)
+    in_own C r x h same = (let k = times-filter-yes m law (λ y. m.dst y == r) x C.pending (eq-eqb (m.dst x) r same) in omega arith)
+
+    nothing_at : (C : Core E) (r : ℕ) (first : Option E) → first_pending m C r ≡ first
+        → (handle m C r first ≡ Err Nothing) ↔ ((x : E) → 0 < times m x C.pending → m.dst x ≡ r → C.stop ≤ m.time x)
+    nothing_at C r None first = (
+      (λ h x waits same. absurd (let there = in_own C r x waits same in let empty = ap (times m x) (none_is_empty (only m r C.pending) first) in omega arith)),
+      (λ h. refl),
+    )
+    nothing_at C r (Some e) first = (
+      (λ h x waits same. elim (cases_Bool (nat_lt (m.time e) C.stop)) [
+        | inl b ↦ (let k = rw b at h in elim (cases_Bool (is_newest m e (C.history r))) [
+          | inl c ↦ (let l = rw c at k in cc)
+          | inr c ↦ (let l = rw c at k in elim (cases_Bool (m.full (state m r (C.history r)) e)) [
+            | inl d ↦ (let n = rw d at l in cc)
+            | inr d ↦ (let n = rw d at l in cc)
+          ])
+        ])
+        | inr b ↦ (
+            let late = ltb-false (m.time e) C.stop b in
+            let behind = (least_is m law e (only m r C.pending) first).first x (in_own C r x waits same) in
+            elim (cases_Bool (m.before e x)) [
+              | inl c ↦ (let order = law.timely e x c in omega arith)
+              | inr c ↦ (let order : m.time e ≡ m.time x = ap m.time (law.total e x c behind) in omega arith)
+            ])
+      ]),
+      (λ h.
+          let there = in_filter m law (λ y. m.dst y == r) e C.pending (least_is m law e (only m r C.pending) first).there in
+          let late = h e there.1 (eqb-true (m.dst e) r there.0) in
+          rw (le-ltb (m.time e) C.stop late) refl),
+    )
+
+    -- a router has nothing to handle exactly where none of its pending events is before the stop
+    pub nothing_to_handle : (C : Core E) (r : ℕ) → (handle m C r (first_pending m C r) ≡ Err Nothing) ↔ ((x : E) → 0 < times m x C.pending → m.dst x ≡ r → C.stop ≤ m.time x)
+    nothing_to_handle C r = nothing_at C r (first_pending m C r) refl
+
     -- only an event's source can have sent it
     sent_src : (r : ℕ) (xs : List E) (e : E) → ((y : E) → 0 < times m y xs → m.dst y ≡ r) → 0 < times m e (sent m r xs) → m.src e ≡ r
     sent_src r [] e home h = absurd (omega arith)
@@ -141,7 +183,6 @@ module _ {S E : Type 0} (m : Simulation S E) where
       ]),
     )
 
-    -- what is due by the histories and opening events of the owner of its source, summed up: the opening events count once
     total_scale : {X : Type 0} (n : ℕ) (test : X → Bool) (xs : List X) → total (λ x. cond (test x) n 0) xs ≡ n * total (λ x. cond (test x) 1 0) xs
     total_scale n test [] = omega arith
     total_scale n test (x ∷ xs) =
@@ -152,6 +193,7 @@ module _ {S E : Type 0} (m : Simulation S E) where
     total_same f g [] h = refl
     total_same f g (x ∷ xs) h = (let first = h.0 in let more = total_same f g xs h.1 in omega arith)
 
+    -- what is due by the histories of the owner of its source and by the opening events, summed up: the opening events count once
     pub due_by_owners : (shared : Shared E) (parts : List (Part E)) → AddUp m shared parts → (e : E)
         → total (λ p. cond (p.owns (m.src e)) (due m p.core e) 0) parts ≡ times m e m.opening + total (λ p. times m e (sent m (m.src e) (p.core.history (m.src e)))) parts
     due_by_owners shared parts sums e =
@@ -160,7 +202,9 @@ module _ {S E : Type 0} (m : Simulation S E) where
         let each = total_same (λ p. cond (p.owns (m.src e)) (due m p.core e) 0) (λ p. f p + g p) parts (all_map (IsPart m shared) (λ p. cond (p.owns (m.src e)) (due m p.core e) 0 ≡ f p + g p)
         (λ p is. elim (cases_Bool (p.owns (m.src e))) [
           | inl b ↦ rw b refl
-          | inr b ↦ rw b (let no = none (g p) (λ h. let some = sent_some m law (m.src e) (p.core.history (m.src e)) e h in both_ways (p.owns (m.src e)) b (is.history (m.src e) some.0 some.1)) in omega arith)
+          | inr b ↦ rw b (
+              let no = none (g p) (λ h. let some = sent_some m law (m.src e) (p.core.history (m.src e)) e h in both_ways (p.owns (m.src e)) b (is.own.history (m.src e) some.0 some.1)) in
+              omega arith)
         ]) parts sums.each) in
         let both = total_add f g parts in
         let scaled = total_scale (times m e m.opening) (λ (p : Part E). p.owns (m.src e)) parts in

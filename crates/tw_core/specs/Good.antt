@@ -42,7 +42,7 @@ module _ {S E : Type 0} (m : Simulation S E) where
     -- each router's part, where nothing loose is before the bound
     pub part : IsGoodPart C.bound C
     pub open part use *
-    -- for every event
+    -- every event is there as often as it is due, less what is taken back
     pub balance : (e : E) → IsBalanced C e
     -- no commit was beyond the bound, and the bound is not beyond the stop
     pub done : (r : ℕ) → C.done r ≤ C.bound

@@ -15,9 +15,9 @@ pub record Core (E : Type 0) : Type 0 where
   pub flight : List (Signed E)
   -- the bound at each router's latest commit
   pub done : ℕ → ℕ
-  -- nothing before this time is sent or taken back any more
+  -- nothing loose is before this time, so that what is handled before it stays
   pub bound : ℕ
-  -- nothing from this time on is handled
+  -- nothing at or after this time is handled
   pub stop : ℕ
 
 module _ {S E : Type 0} (m : Simulation S E) where
@@ -43,11 +43,15 @@ module _ {S E : Type 0} (m : Simulation S E) where
   abbrev pub committed : Core E → ℕ → List E
   committed C r = below m (C.done r) (C.history r)
 
-  -- a machine that begins: each opening event is pending, and nothing else has happened
+  -- a machine that begins
   pub record IsOpening (C : Core E) : Type 0 where
+    -- no router has handled anything
     pub history : (r : ℕ) → C.history r ≡ []
+    -- each opening event is pending, as often as it opens
     pub pending : (e : E) → times m e C.pending ≡ times m e m.opening
+    -- nothing is kept or in flight
     pub kept : C.kept ≡ []
     pub flight : C.flight ≡ []
+    -- and nothing is committed
     pub done : (r : ℕ) → C.done r ≡ 0
     pub bound : C.bound ≡ 0

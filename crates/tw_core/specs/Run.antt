@@ -23,15 +23,18 @@ module _ {S E : Type 0} (m : Simulation S E) where
 
   -- nothing is in flight, and nothing is pending before the stop
   pub record IsSettled (C : Core E) : Type 0 where
+    -- no message is on its way
     pub flight : C.flight ≡ []
+    -- what waits is not before the stop
     pub pending : (e : E) → 0 < times m e C.pending → C.stop ≤ m.time e
 
   -- the state is that at the end of the one-thread run to the stop
   pub record IsAtEnd (C : Core E) : Type 0 where
     -- no antimessage waits for its message
     pub kept : C.kept ≡ []
-    -- each router has handled its events of the run, and knows what it knows there
+    -- each router has handled its events of the run
     pub events : (r : ℕ) → C.history r ≡ only m r (log m C.stop)
+    -- and knows what it knows there
     pub states : (r : ℕ) → state m r (C.history r) ≡ at m C.stop r
     -- what is pending, in the order, is what the run leaves
     pub pending : insert_all m C.pending [] ≡ rest m C.stop

@@ -1,6 +1,6 @@
 -- The steps of the machine: what each does, and why it is refused (after Jefferson, Virtual Time, 1985).
 use Rattle.std.specs.Prelude.{ℕ, zero, suc, ◌==◌, Bool, true, false, cond, not, ◌||◌, List, [], ◌∷◌, ◌++◌, map, min, remove, slice_get, nat_lt, Option, Some, None, Result, Ok, Err, if◌then◌else◌}
-use Rattle.std.specs.Result.{result_unwrap_or}
+use Rattle.std.specs.Result.{result_and, result_unwrap_or}
 use Rattle.tw_core.specs.declared.refusal.Refusal.{Refusal}
 use Rattle.tw_core.specs.declared.refusal.Refusal.TheVariants.{NotMine, Nothing, Double, Committed, NoMessage, CounterFull}
 use Rattle.tw_core.specs.Machine.{Core}
@@ -11,10 +11,11 @@ use Rattle.tw_sim.specs.Ordered as ordered
 use Rattle.tw_sim.specs.Seq.{insert}
 use Rattle.tw_sim.specs.Simulation.{Simulation, only, state, times}
 
--- e as a message, and as the antimessage that takes it back
+-- e as a message
 abbrev pub message : {E : Type 0} → E → Signed E
 message e = record { plus = true; event = e }
 
+-- the antimessage that takes e back
 abbrev pub antimessage : {E : Type 0} → E → Signed E
 antimessage e = record { plus = false; event = e }
 
@@ -58,10 +59,11 @@ module _ {S E : Type 0} (m : Simulation S E) where
   abbrev pub without_from : Core E → E → Core E
   without_from C e = after_undoing_while (λ x. not (m.before x e)) (m.dst e) (C.history (m.dst e)) C
 
-  -- one count of e more, or less, is pending
+  -- e is pending once more
   abbrev pub with_pending : Core E → E → Core E
   with_pending C e = record C { pending = insert m e C.pending }
 
+  -- e is pending once less
   abbrev pub without_pending : Core E → E → Core E
   without_pending C e = record C { pending = take_out e C.pending }
 
@@ -81,6 +83,7 @@ module _ {S E : Type 0} (m : Simulation S E) where
       then without_pending (without_from C e) e
       else record C { kept = insert m e C.kept })
 
+  -- either has come
   abbrev pub after_arrival : Core E → Signed E → Core E
   after_arrival C x = cond x.plus (after_message C x.event) (after_antimessage C x.event)
 
@@ -118,7 +121,7 @@ module _ {S E : Type 0} (m : Simulation S E) where
       else Ok (after_handling C r e)))
       else Err Nothing
 
-  -- r undoes the newest event of this history, which is its own
+  -- r undoes the newest event of its history, which is this one
   abbrev pub undo : Core E → ℕ → List E → Result (Core E) Refusal
   undo C r [] = Err Nothing
   undo C r (e ∷ older) =
@@ -126,7 +129,7 @@ module _ {S E : Type 0} (m : Simulation S E) where
       then Err Committed
       else Ok (after_undoing C r e older)
 
-  -- this message is delivered, the one at place k, from 0
+  -- this message is delivered, the one at place k in flight, from 0
   abbrev pub deliver : Core E → ℕ → Option (Signed E) → Result (Core E) Refusal
   deliver C k None = Err NoMessage
   deliver C k (Some x) = Ok (after_delivery C k x)
@@ -143,7 +146,7 @@ module _ {S E : Type 0} (m : Simulation S E) where
   abbrev pub at_router : ℕ → Result (Core E) Refusal → Result (Core E) Refusal
   at_router r outcome = if nat_lt r m.routers then outcome else Err NotMine
 
-  -- a step: the new state, or why it is refused
+  -- a step: the new state, or why it is refused; messages in flight have places from 1 on
   abbrev pub step : Core E → Step → Result (Core E) Refusal
   step C (Handle r) = at_router r (handle C r (first_pending C r))
   step C (Undo r) = at_router r (undo C r (C.history r))
@@ -158,15 +161,12 @@ module _ {S E : Type 0} (m : Simulation S E) where
   abbrev pub next : Core E → Step → Core E
   next C x = result_unwrap_or (step C x) C
 
+  -- the state after a list of steps
   abbrev pub run : Core E → List Step → Core E
   run C [] = C
   run C (x ∷ xs) = run (next C x) xs
 
   -- whether each step of a list was done, or why not
-  abbrev pub answer_of : Result (Core E) Refusal → Result (Unit {0}) Refusal
-  answer_of (Ok D) = Ok tt
-  answer_of (Err refusal) = Err refusal
-
   abbrev pub answers : Core E → List Step → List (Result (Unit {0}) Refusal)
   answers C [] = []
-  answers C (x ∷ xs) = answer_of (step C x) ∷ answers (next C x) xs
+  answers C (x ∷ xs) = result_and (step C x) (Ok tt) ∷ answers (next C x) xs

@@ -6,7 +6,7 @@
 //! state is good and every list of steps keeps it so; a good state is the one-thread run, as far as it
 //! is committed and as far as its bound; the bound never falls, and no message comes from before it;
 //! where nothing is in flight, what is pending at the end is what the one-thread run leaves. Not
-//! proved: that a list of steps ever commits anything. No code runs.
+//! proved: that a list of steps ever commits anything. The only code is plain data.
 #![tactic(auto)]
 
 pub mod laws;

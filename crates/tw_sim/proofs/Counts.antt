@@ -35,6 +35,13 @@ module _ {S E : Type 0} (m : Simulation S E) where
       let h = times-filter-le p e xs in
       elim (cases_Bool (p x)) [ inl b ↦ rw b (omega arith) | inr b ↦ rw b (omega arith) ]
 
+  -- taking one out leaves at most what was there
+  pub times-take_out-le : (e x : E) (xs : List E) → times m e (ordered.take_out m.same x xs) ≤ times m e xs
+  times-take_out-le e x [] = omega arith
+  times-take_out-le e x (y ∷ ys) =
+      let h = times-take_out-le e x ys in
+      elim (cases_Bool (m.same x y)) [ inl b ↦ rw b (omega arith) | inr b ↦ rw b (omega arith) ]
+
   module _ (law : IsLawful m) where
     pub is_order : IsOrder m.before m.same
     is_order = record {

@@ -1,5 +1,5 @@
 -- The element of a list that comes first.
-use Rattle.std.proofs.Common.{◌≡◌, ◌<◌, true, false, cond, List, [], ◌∷◌, Option, Some, None, slice_get, refl, ap, sym, ◌∙◌, subst, inl, inr, arith}
+use Rattle.std.proofs.Common.{◌≡◌, ◌<◌, false, List, [], ◌∷◌, Option, Some, None, slice_get, refl, ap, sym, subst, inl, inr, arith}
 use Rattle.std.proofs.lemmas.Bool.{cases_Bool}
 use Rattle.tw_sim.specs.Ordered.{earlier, least}
 use Rattle.tw_sim.specs.Simulation.{Simulation, IsLawful, times}

@@ -1,14 +1,14 @@
 -- What undoing the newest events of a history keeps, as long as they pass a test.
-use Rattle.std.proofs.Common.{◌≡◌, ℕ, ◌+◌, ◌<◌, ◌≤◌, Bool, cond, not, true, false, List, [], ◌∷◌, ◌++◌, map, append_assoc, append-nil, refl, ap, sym, ◌∙◌, subst, inl, inr, arith}
+use Rattle.std.proofs.Common.{◌≡◌, ℕ, ◌+◌, ◌<◌, ◌≤◌, Bool, cond, true, false, List, [], ◌∷◌, ◌++◌, map, append_assoc, append-nil, refl, ap, sym, ◌∙◌, subst, inl, inr, arith}
 use Rattle.std.proofs.lemmas.Bool.{cases_Bool, both_ways, false_from_ne_true}
 use Rattle.tw_core.proofs.Calls.{moved_undoing, part_undoing, put_same, surplus_undoing}
 use Rattle.tw_core.specs.Good.{IsGoodPart}
 use Rattle.tw_core.specs.Machine.{Core, times_handled}
-use Rattle.tw_core.specs.Parts.{SameSurplus}
+use Rattle.tw_core.specs.Parts.{KeepsPart}
 use Rattle.tw_core.specs.Steps.{after_undoing, after_undoing_while, antimessage}
-use Rattle.tw_sim.proofs.Counts.{in_cons, in_head, times-insert}
+use Rattle.tw_sim.proofs.Counts.{in_cons, in_head}
 use Rattle.tw_sim.specs.declared.machine.Signed.{Signed}
-use Rattle.tw_sim.specs.Simulation.{Simulation, IsFalling, IsLawful, one, state, times}
+use Rattle.tw_sim.specs.Simulation.{Simulation, IsFalling, IsLawful, state, times}
 
 module _ {S E : Type 0} (m : Simulation S E) where
   -- what is taken back, the newest event's sends first
@@ -29,28 +29,27 @@ module _ {S E : Type 0} (m : Simulation S E) where
         | inr b ↦ rw b (ap (λ f. record C { flight = f }) (sym (append-nil flight)))
       ]
 
-  module _ (law : IsLawful m) where
-    -- what undoing some of r's events gives
-    pub record IsBack (t : ℕ) (C D : Core E) : Type 0 where
-      -- the part is as good as it was, and no surplus changes
-      pub part : IsGoodPart m t D
-      pub surplus : SameSurplus m C D
-      -- what is not handled any more is pending
-      pub moved : (x : E) → times_handled m D x + times m x D.pending ≡ times_handled m C x + times m x C.pending
-      pub kept : D.kept ≡ C.kept
-      pub done : D.done ≡ C.done
-      pub bound : D.bound ≡ C.bound
-      pub stop : D.stop ≡ C.stop
+  -- what undoing some events of a router gives
+  pub record IsBack (t : ℕ) (C D : Core E) : Type 0 where
+    -- its part and every surplus are kept
+    pub keeps : KeepsPart m t C D
+    pub open keeps use *
+    -- what is not handled any more is pending
+    pub moved : (x : E) → times_handled m D x + times m x D.pending ≡ times_handled m C x + times m x C.pending
+    pub kept : D.kept ≡ C.kept
 
+  module _ (law : IsLawful m) where
     back_more : (t : ℕ) (A B C : Core E) → IsBack t A B → IsBack t B C → IsBack t A C
     back_more t A B C first second = record {
-      part = second.part;
-      surplus = λ x. (let a = first.surplus x in let b = second.surplus x in omega arith);
+      keeps = record {
+        part = second.part;
+        surplus = λ x. (let a = first.surplus x in let b = second.surplus x in omega arith);
+        done = second.done ∙ first.done;
+        bound = second.bound ∙ first.bound;
+        stop = second.stop ∙ first.stop;
+      };
       moved = λ x. second.moved x ∙ first.moved x;
       kept = second.kept ∙ first.kept;
-      done = second.done ∙ first.done;
-      bound = second.bound ∙ first.bound;
-      stop = second.stop ∙ first.stop;
     }
 
     -- undoing the newest one
@@ -59,18 +58,20 @@ module _ {S E : Type 0} (m : Simulation S E) where
         let home : m.dst e ≡ r = good.home r e (subst (λ xs. 0 < times m e xs) (sym newest) (in_head m law e older)) in
         subst (λ q. C.history q ≡ e ∷ older → IsBack t C (after_undoing m C q e older)) home
         (λ here. record {
-          part = part_undoing m law C e older here t late good;
-          surplus = surplus_undoing m law C e older here;
+          keeps = record {
+            part = part_undoing m law C e older here t late good;
+            surplus = surplus_undoing m law C e older here;
+            done = refl;
+            bound = refl;
+            stop = refl;
+          };
           moved = λ x. moved_undoing m law C e older here x;
           kept = refl;
-          done = refl;
-          bound = refl;
-          stop = refl;
         })
         newest
 
     back_none : (t : ℕ) (C : Core E) → IsGoodPart m t C → IsBack t C C
-    back_none t C good = record { part = good; surplus = λ x. refl; moved = λ x. refl; kept = refl; done = refl; bound = refl; stop = refl }
+    back_none t C good = record { keeps = record { part = good; surplus = λ x. refl; done = refl; bound = refl; stop = refl }; moved = λ x. refl; kept = refl }
 
     -- undoing as many as pass a test that only later events pass
     pub back_while : (t r : ℕ) (test : E → Bool) → ((x : E) → test x ≡ true → t ≤ m.time x) → (xs : List E) (C : Core E) → C.history r ≡ xs → IsGoodPart m t C
