@@ -3,6 +3,8 @@ ghost use Rattle.std.specs.Prelude.{◌≡◌, true, false};
 use std::mem::size_of;
 use tw_event::PathNo;
 
+const SIZE: usize = size_of::<UndoRecord>();
+
 /// What undoing an event needs beside the event and the state that it left. It holds no collection, and
 /// what the event sent is made again from the state.
 #[derive(Clone, Copy, PartialEq, Eq, Debug)]
@@ -18,14 +20,12 @@ pub struct UndoRecord {
     pub heard: PathNo,
 }
 
-// A record takes 12 bytes; runs that keep one for each event count on no more than 16.
-const _: () = prove!(size_of::<UndoRecord>() == 12);
-
 impl UndoRecord {
     /// The record of an event that took effect.
     pub(crate) fn of_effect(changed: bool, rib: PathNo, heard: PathNo) -> UndoRecord
         ensures { result ≡ record { took_effect = true; changed = changed; rib = rib; heard = heard } }
     {
+        prove!(SIZE == 12);
         UndoRecord {
             took_effect: true,
             changed,

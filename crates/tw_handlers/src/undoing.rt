@@ -165,25 +165,24 @@ fn move_back(instance: &Instance, router: &mut Router<'_>, event: &Event, note: 
         Body::Fail(peer) => {
             if note.took_effect {
                 let slot = slot_of_peer(instance, node, peer);
-                let session = router.session(slot);
-                let row = Row {
+                let repaired = Row {
                     heard: note.heard,
                     up: true,
-                    session,
+                    ..router.row(slot)
                 };
-                router.set_row(instance, slot, row);
+                router.set_row(instance, slot, repaired);
             }
         }
         Body::Restore(peer) => {
             if note.took_effect {
                 let slot = slot_of_peer(instance, node, peer);
                 let row = router.row(slot);
-                let repaired_less = Row {
-                    heard: row.heard,
+                let failed = Row {
                     up: false,
                     session: row.session.saturating_sub(1),
+                    ..row
                 };
-                router.set_row(instance, slot, repaired_less);
+                router.set_row(instance, slot, failed);
             }
         }
         Body::Update { .. } => {
