@@ -94,7 +94,8 @@ pub IsState-back : (router later : Router) (s : State) (e : Event) (u : UndoReco
     → IsHandled router.net router.node router.state e u later.state → IsState later.net later.node (state_before later.net later.node later.state e u)
 IsState-back router later s e u is h =
     let at : IsHandled router.net router.node router.state e u s = subst (λ (r : Router). IsHandled router.net router.node router.state e u r.state) is h in
-    let valid : IsState router.net router.node (state_before router.net router.node s e u) = subst (IsState router.net router.node) (sym (state_before-handled router.net router.node router.state e u s at)) h.is_state in
+    let valid : IsState router.net router.node (state_before router.net router.node s e u) =
+    subst (IsState router.net router.node) (sym (state_before-handled router.net router.node router.state e u s at)) h.is_state in
     subst (λ (r : Router). IsState r.net r.node (state_before r.net r.node r.state e u)) (sym is) valid
 
 pub router-back : (router later : Router) (s : State) (e : Event) (u : UndoRecord) → later ≡ record router { state = s }

@@ -51,7 +51,9 @@ impl<'a> Model for Router<'a> {
 
     ghost view = { λ a. record { net = a.instance.now; node = a.node; state = record { rib = a.rib; rows = a.rows.items; order = a.order.items; counters = a.counters } } };
 
-    ghost invariant = { λ a. IsRanked (record { net = a.instance.now; node = a.node; state = record { rib = a.rib; rows = a.rows.items; order = a.order.items; counters = a.counters } }) a.ranks.items };
+    ghost invariant = { λ a. IsRanked
+        (record { net = a.instance.now; node = a.node; state = record { rib = a.rib; rows = a.rows.items; order = a.order.items; counters = a.counters } })
+        a.ranks.items };
 }
 
 impl<'a> Router<'a> {
