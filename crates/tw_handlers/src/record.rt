@@ -5,8 +5,8 @@ use tw_event::PathNo;
 
 const SIZE: usize = size_of::<UndoRecord>();
 
-/// What undoing an event needs beside the event and the state that it left. It holds no collection, and
-/// what the event sent is made again from the state.
+/// What undoing an event needs beside the event and the state that it left, in 12 bytes. It holds no
+/// collection: what the event sent is made again from the state.
 #[derive(Clone, Copy, PartialEq, Eq, Debug)]
 pub struct UndoRecord {
     /// Whether the event took effect: it was not dropped, and its link not already down or up.
@@ -25,6 +25,7 @@ impl UndoRecord {
     pub(crate) fn of_effect(changed: bool, rib: PathNo, heard: PathNo) -> UndoRecord
         ensures { result ≡ record { took_effect = true; changed = changed; rib = rib; heard = heard } }
     {
+        // A record is kept for each event that may be undone, so no list may hide in it.
         prove!(SIZE == 12);
         UndoRecord {
             took_effect: true,

@@ -22,7 +22,7 @@ use tw_model::{Counters, Hop, OrMemory, Row};
 #[derive(Clone, Copy, PartialEq, Eq, Debug, Error)]
 pub enum OpenFault {
     /// A counter is above 2^48, or more events were dropped, or led to a change, than were handled.
-    #[error("no router counts so")]
+    #[error("no router has these counters")]
     Counters,
 }
 
