@@ -72,11 +72,13 @@ note net v s e b = record {
 
 with_failure_undone-with_failed_link : (s : State) (k : ℕ) (u : UndoRecord) → k < length s.rows → (row s k).up ≡ true → u.heard ≡ (row s k).heard → with_failure_undone (with_failed_link s k) k u ≡ s
 with_failure_undone-with_failed_link s k u h up heard =
-    back-row s k _ _ (ap (λ (r : Row). record r { up = true; heard = u.heard }) (row-with_row s k _ h) ∙ (ap (λ p. record (row s k) { up = true; heard = p }) heard ∙ ap (λ b. record (row s k) { up = b }) (sym up)))
+    back-row s k _ _ (ap (λ (r : Row). record r { up = true; heard = u.heard }) (row-with_row s k _ h)
+    ∙ (ap (λ p. record (row s k) { up = true; heard = p }) heard ∙ ap (λ b. record (row s k) { up = b }) (sym up)))
 
 with_repair_undone-with_repaired_link : (s : State) (k : ℕ) → k < length s.rows → (row s k).up ≡ false → with_repair_undone (with_repaired_link s k) k ≡ s
 with_repair_undone-with_repaired_link s k h up =
-    back-row s k _ _ (ap (λ (r : Row). record r { up = false; session = r.session - 1 }) (row-with_row s k _ h) ∙ (ap (λ n. record (row s k) { up = false; session = n }) (back (row s k).session 1) ∙ ap (λ b. record (row s k) { up = b }) (sym up)))
+    back-row s k _ _ (ap (λ (r : Row). record r { up = false; session = r.session - 1 }) (row-with_row s k _ h)
+    ∙ (ap (λ n. record (row s k) { up = false; session = n }) (back (row s k).session 1) ∙ ap (λ b. record (row s k) { up = b }) (sym up)))
 
 -- another path heard, and the old one heard again
 pub with_heard-with_heard : (s : State) (k : ℕ) (q : PathNo) → k < length s.rows → with_heard (with_heard s k q) k (row s k).heard ≡ s
@@ -156,17 +158,20 @@ pub state_before-effect : (net : Net) (v : ℕ) (s : State) (e : Event) → IsSt
     → state_before net v (effect net v s e).state e (record_of net v s e) ≡ s
 state_before-effect net v s e state h = acts-back net v s e e.body state (body_suits-fits net v e h)
 
-fail-again : (net : Net) (v : ℕ) (s : State) (e : Event) (w : ℕ) (b : Bool) → (row s (slot net v w)).up ≡ b → sends_again net v (acts net v s e (Fail w)).state e (Fail w) (note net v s e (Fail w)) ≡ (acts net v s e (Fail w)).sends
+fail-again : (net : Net) (v : ℕ) (s : State) (e : Event) (w : ℕ) (b : Bool) → (row s (slot net v w)).up ≡ b
+    → sends_again net v (acts net v s e (Fail w)).state e (Fail w) (note net v s e (Fail w)) ≡ (acts net v s e (Fail w)).sends
 fail-again net v s e w true up =
     rw up (again-settle net v e.time (with_failed_link s (slot net v w)) true (row s (slot net v w)).heard)
 fail-again net v s e w false up = rw up (rw (eq-eqb s.rib.0 s.rib.0 refl) refl)
 
-restore-again : (net : Net) (v : ℕ) (s : State) (e : Event) (w : ℕ) (b : Bool) → (row s (slot net v w)).up ≡ b → sends_again net v (acts net v s e (Restore w)).state e (Restore w) (note net v s e (Restore w)) ≡ (acts net v s e (Restore w)).sends
+restore-again : (net : Net) (v : ℕ) (s : State) (e : Event) (w : ℕ) (b : Bool) → (row s (slot net v w)).up ≡ b
+    → sends_again net v (acts net v s e (Restore w)).state e (Restore w) (note net v s e (Restore w)) ≡ (acts net v s e (Restore w)).sends
 restore-again net v s e w true up = rw up refl
 restore-again net v s e w false up =
     rw up (let k = slot net v w in ap (λ n. update_to v e.time s.rib n (hop net v k) (row (with_repaired_link s k) k) ∷ []) (back s.counters.sent 1))
 
-update-again : (net : Net) (v : ℕ) (s : State) (e : Event) (q : PathNo) (n : ℕ) (b : Bool) → accepts s (slot net v e.src) n ≡ b → sends_again net v (acts net v s e (Update q n)).state e (Update q n) (note net v s e (Update q n)) ≡ (acts net v s e (Update q n)).sends
+update-again : (net : Net) (v : ℕ) (s : State) (e : Event) (q : PathNo) (n : ℕ) (b : Bool) → accepts s (slot net v e.src) n ≡ b
+    → sends_again net v (acts net v s e (Update q n)).state e (Update q n) (note net v s e (Update q n)) ≡ (acts net v s e (Update q n)).sends
 update-again net v s e q n true is =
     rw is (again-settle net v e.time (with_heard s (slot net v e.src) q) true (row s (slot net v e.src)).heard)
 update-again net v s e q n false is = rw is (rw (eq-eqb s.rib.0 s.rib.0 refl) refl)

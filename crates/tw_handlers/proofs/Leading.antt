@@ -21,11 +21,11 @@ state_after-leads net v s present [] h = h
 state_after-leads net v s present (d ∷ steps) h = state_after-leads net v (effect net v s d.event).state present steps h.1
 
 -- the records lead back to where it began
-pub unwound-leads : (net : Net) (v : ℕ) (s present : State) (steps : List Done)
+pub state_at_start-leads : (net : Net) (v : ℕ) (s present : State) (steps : List Done)
     → Leads net v s steps present → state_at_start net v present steps ≡ s
-unwound-leads net v s present [] h = sym h
-unwound-leads net v s present (d ∷ steps) h =
-    ap (λ x. state_before net v x d.event d.note) (unwound-leads net v (effect net v s d.event).state present steps h.1)
+state_at_start-leads net v s present [] h = sym h
+state_at_start-leads net v s present (d ∷ steps) h =
+    ap (λ x. state_before net v x d.event d.note) (state_at_start-leads net v (effect net v s d.event).state present steps h.1)
     ∙ state_before-handled net v s d.event d.note (effect net v s d.event).state h.0
 
 -- one event more
@@ -58,12 +58,12 @@ router-now router steps t h is =
 
 -- a trail by any state from which its events led
 trail-from : (net : Net) (v : ℕ) (s present : State) (steps : List Done) → Leads net v s steps present → IsTrail (record { net = net; node = v; state = present }) steps
-trail-from net v s present steps h = subst (λ x. Leads net v x steps present) (sym (unwound-leads net v s present steps h)) h
+trail-from net v s present steps h = subst (λ x. Leads net v x steps present) (sym (state_at_start-leads net v s present steps h)) h
 
 history-from : (net : Net) (v : ℕ) (s present : State) (steps : List Done) → Leads net v s steps present
     → history_of (record { net = net; node = v; state = present }) steps ≡ record { opening = record { net = net; node = v; state = s }; events = handled_events steps }
 history-from net v s present steps h =
-    ap (λ x. record { opening = record { net = net; node = v; state = x }; events = handled_events steps }) (unwound-leads net v s present steps h)
+    ap (λ x. record { opening = record { net = net; node = v; state = x }; events = handled_events steps }) (state_at_start-leads net v s present steps h)
 
 handled_events-push : (steps : List Done) (d : Done) → handled_events (steps ++ d ∷ []) ≡ handled_events steps ++ d.event ∷ []
 handled_events-push steps d = map_push (λ (x : Done). x.event) steps d
@@ -94,7 +94,8 @@ pub IsState-back : (router later : Router) (s : State) (e : Event) (u : UndoReco
     → IsHandled router.net router.node router.state e u later.state → IsState later.net later.node (state_before later.net later.node later.state e u)
 IsState-back router later s e u is h =
     let at : IsHandled router.net router.node router.state e u s = subst (λ (r : Router). IsHandled router.net router.node router.state e u r.state) is h in
-    let valid : IsState router.net router.node (state_before router.net router.node s e u) = subst (IsState router.net router.node) (sym (state_before-handled router.net router.node router.state e u s at)) h.is_state in
+    let valid : IsState router.net router.node (state_before router.net router.node s e u) =
+    subst (IsState router.net router.node) (sym (state_before-handled router.net router.node router.state e u s at)) h.is_state in
     subst (λ (r : Router). IsState r.net r.node (state_before r.net r.node r.state e u)) (sym is) valid
 
 pub router-back : (router later : Router) (s : State) (e : Event) (u : UndoRecord) → later ≡ record router { state = s }

@@ -1,5 +1,5 @@
 -- The neighbours whose link is up, one by one.
-use Rattle.std.proofs.Common.{◌≡◌, ℕ, ◌+◌, ◌<◌, cond, List, ◌∷◌, length, map, get_or, drop, ap, ap₂, ◌∙◌, false}
+use Rattle.std.proofs.Common.{◌≡◌, ℕ, ◌+◌, ◌<◌, List, length, map, get_or, drop, ap₂, ◌∙◌, refl, false}
 use Rattle.std.proofs.lemmas.List.{drop_more, length-map}
 use Rattle.std.proofs.lemmas.List.FromFn.{length-enumerate_from}
 use Rattle.std.specs.List.{enumerate_from, filter, zip}
@@ -17,15 +17,10 @@ up_pairs hops rows = filter (λ p. p.1.up) (zip hops rows)
 abbrev pub updates_to : ℕ → ℕ → PathNo → ℕ → List (Hop × Row) → List Event
 updates_to v t q n pairs = map (λ e. update_to v t q e.0 e.1.0 e.1.1) (enumerate_from n pairs)
 
-pub up_pairs-drop : (hops : List Hop) (rows : List Row) (i : ℕ) (h : Hop) (r : Row) → i < length hops → i < length rows
-    → up_pairs (drop i hops) (drop i rows) ≡ cond (get_or rows i r).up ((get_or hops i h, get_or rows i r) ∷ up_pairs (drop (i + 1) hops) (drop (i + 1) rows)) (up_pairs (drop (i + 1) hops) (drop (i + 1) rows))
-up_pairs-drop hops rows i h r a b = ap₂ up_pairs (drop_more hops i h a) (drop_more rows i r b)
-
 -- a link that is down is passed over
 pub up_pairs-skip : (hops : List Hop) (rows : List Row) (i : ℕ) (h : Hop) (r : Row) → i < length hops → i < length rows → (get_or rows i r).up ≡ false
     → up_pairs (drop i hops) (drop i rows) ≡ up_pairs (drop (i + 1) hops) (drop (i + 1) rows)
-up_pairs-skip hops rows i h r a b down =
-    up_pairs-drop hops rows i h r a b ∙ ap (λ up. cond up ((get_or hops i h, get_or rows i r) ∷ up_pairs (drop (i + 1) hops) (drop (i + 1) rows)) (up_pairs (drop (i + 1) hops) (drop (i + 1) rows))) down
+up_pairs-skip hops rows i h r a b down = ap₂ up_pairs (drop_more hops i h a) (drop_more rows i r b) ∙ rw down refl
 
 -- one update to each neighbour
 pub length-updates_to : (v t : ℕ) (q : PathNo) (n : ℕ) (pairs : List (Hop × Row)) → length (updates_to v t q n pairs) ≡ length pairs

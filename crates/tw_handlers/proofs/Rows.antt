@@ -30,22 +30,6 @@ pub swap-swap : {X : Type 0} (xs : List X) (i j : ℕ) → i < length xs → j <
 swap-swap xs i j hi hj =
     same_lists _ _ (length-swap (swap xs i j) i j ∙ length-swap xs i j) (λ k d h. swap-at xs i j k d hi hj)
 
--- the parts of a row written one after another
-pub row-written : (s : State) (k : ℕ) (r : Row) → k < length s.rows
-    → let a : State = with_row s k (record (row s k) { heard = r.heard }) in
-    let b : State = with_row a k (record (row a k) { up = r.up }) in
-    with_row b k (record (row b k) { session = r.session }) ≡ with_row s k r
-row-written s k r h =
-    let x : Row = record (row s k) { heard = r.heard } in
-    let y : Row = record x { up = r.up } in
-    let p : get_or (set s.rows k x) k no_row ≡ x = get_or-set_same s.rows k x no_row h in
-    let rows : List Row = set (set s.rows k x) k y in
-    let q : rows ≡ set s.rows k y = set-set s.rows k x y in
-    let same : set (set s.rows k x) k (record (get_or (set s.rows k x) k no_row) { up = r.up }) ≡ set s.rows k y = ap (λ (z : Row). set (set s.rows k x) k (record z { up = r.up })) p ∙ q in
-    let f : List Row → State = λ rows. record s { rows = set rows k (record (get_or rows k no_row) { session = r.session }) } in
-    ap f same ∙ (ap (λ (z : Row). record s { rows = set (set s.rows k y) k (record z { session = r.session }) }) (get_or-set_same s.rows k y no_row h)
-    ∙ ap (λ rows. record s { rows = rows }) (set-set s.rows k y r))
-
 -- a row written and written back
 pub back-row : (s : State) (k : ℕ) (x y : Row) → y ≡ row s k → with_row (with_row s k x) k y ≡ s
 back-row s k x y e = ap (λ rows. record s { rows = rows }) (set-back s.rows k x y no_row e)

@@ -3,7 +3,7 @@ use Rattle.std.proofs.Common.{◌≡◌, ℕ, ◌-◌, ◌<◌, ◌≤◌, List,
 use Rattle.std.proofs.lemmas.List.{drop_all, drop_min, length-take-le, take-take, take_all}
 use Rattle.std.specs.List.{flat_map}
 use Rattle.tw_event.specs.declared.event.Event.{Event}
-use Rattle.tw_model.specs.History.{sends_of, undone}
+use Rattle.tw_model.specs.History.{sends_of}
 use Rattle.tw_handlers.specs.Trail.{History, undone_of}
 use Rattle.tw_handlers.proofs.Undone.{length-sends_of, undone-take}
 

@@ -36,7 +36,7 @@ pub record CanReact (net : Net) (router : Router) (time : ℕ) : Type 0 where
   pub in_time : time ≤ LATEST
   pub room : router.state.counters.handled < MOST_COUNTED
 
--- the reaction's state is taken and its sends are added, or nothing is changed; it is full where it would send too many
+-- on Ok the router has the reaction's state and the list its sends; on Err nothing changed; `CounterFull` comes exactly where it would send too many
 pub record Reacts {A : Type 0} (early late : Router) (before after : List Event) (x : Reaction) (result : Result A (OrMemory CounterFull)) : Type 0 where
   pub state : OnOk result (late ≡ record early { state = x.state })
   pub sends : OnOk result (after ≡ before ++ x.sends)

@@ -60,11 +60,14 @@ state_before net v s e u =
 abbrev pub sends_of_settling : Net → ℕ → ℕ → State → UndoRecord → List Event
 sends_of_settling net v t s u = if u.changed then updates net v t s.rib (s.counters.sent - length (ups net v s)) s else []
 
+-- the update to the neighbour whose link an event had repaired
+abbrev pub sends_of_repair : Net → ℕ → ℕ → State → ℕ → List Event
+sends_of_repair net v t s w = update_to v t s.rib (s.counters.sent - 1) (hop net v (slot net v w)) (row s (slot net v w)) ∷ []
+
 -- what the event sent, read from the state that it left: one equation for each body
 abbrev pub sends_again : Net → ℕ → State → Event → Body → UndoRecord → List Event
 sends_again net v s e Start u = sends_of_settling net v e.time s u
 sends_again net v s e (Fail w) u = sends_of_settling net v e.time s u
-sends_again net v s e (Restore w) u =
-    if u.took_effect then update_to v e.time s.rib (s.counters.sent - 1) (hop net v (slot net v w)) (row s (slot net v w)) ∷ [] else []
+sends_again net v s e (Restore w) u = if u.took_effect then sends_of_repair net v e.time s w else []
 sends_again net v s e (Swap i j) u = sends_of_settling net v e.time s u
 sends_again net v s e (Update q n) u = sends_of_settling net v e.time s u

@@ -121,12 +121,12 @@ fn handle_fail(
         count_handled(router);
         return Ok(UndoRecord::without_effect(rib, row.heard));
     }
-    let down = Row {
+    let failed = Row {
         heard: PathNo::EMPTY,
         up: false,
-        session: row.session,
+        ..row
     };
-    let changed = settle_with_row(instance, router, slot, down, event.time, sends)?;
+    let changed = settle_with_row(instance, router, slot, failed, event.time, sends)?;
     Ok(UndoRecord::of_effect(changed, rib, row.heard))
 }
 
@@ -160,17 +160,16 @@ fn handle_restore(
         path: rib,
     };
     let repaired = Row {
-        heard: row.heard,
         up: true,
         session: row.session + 1,
+        ..row
     };
     let hops = instance.hops(node);
     sends.push_reserved(news.update(counters.sent, hops[slot], repaired));
     router.set_counters(Counters {
         sent: counters.sent + 1,
         handled: counters.handled + 1,
-        dropped: counters.dropped,
-        changed: counters.changed,
+        ..counters
     });
     router.set_row(instance, slot, repaired);
     Ok(UndoRecord::of_effect(false, rib, PathNo::EMPTY))

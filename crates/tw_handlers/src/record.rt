@@ -3,8 +3,10 @@ ghost use Rattle.std.specs.Prelude.{◌≡◌, true, false};
 use std::mem::size_of;
 use tw_event::PathNo;
 
-/// What undoing an event needs beside the event and the state that it left. It holds no collection, and
-/// what the event sent is made again from the state.
+const SIZE: usize = size_of::<UndoRecord>();
+
+/// What undoing an event needs beside the event and the state that it left, in 12 bytes. It holds no
+/// collection: what the event sent is made again from the state.
 #[derive(Clone, Copy, PartialEq, Eq, Debug)]
 pub struct UndoRecord {
     /// Whether the event took effect: it was not dropped, and its link not already down or up.
@@ -18,14 +20,13 @@ pub struct UndoRecord {
     pub heard: PathNo,
 }
 
-// A record takes 12 bytes; runs that keep one for each event count on no more than 16.
-const _: () = prove!(size_of::<UndoRecord>() == 12);
-
 impl UndoRecord {
     /// The record of an event that took effect.
     pub(crate) fn of_effect(changed: bool, rib: PathNo, heard: PathNo) -> UndoRecord
         ensures { result ≡ record { took_effect = true; changed = changed; rib = rib; heard = heard } }
     {
+        // A record is kept for each event that may be undone, so no list may hide in it.
+        prove!(SIZE == 12);
         UndoRecord {
             took_effect: true,
             changed,

@@ -1,11 +1,12 @@
-ghost use Rattle.std.specs.Prelude.{◌≡◌, ◌-◌, ◌≤◌, ◌<◌, [], ◌∷◌, ◌++◌, length, IsOk, IsTrue, OnErr, OnOk};
+ghost use Rattle.std.specs.Prelude.{◌≡◌, ◌≤◌, ◌++◌, length, IsOk, IsTrue, OnErr, OnOk};
 ghost use Rattle.smallvec.specs.SmallVec.{HasRoomFor};
 ghost use Rattle.tw_model.specs.declared.limits.TheConstants.{LATEST};
 ghost use Rattle.tw_model.specs.Net.{IsPath};
-ghost use Rattle.tw_model.specs.State.{IsState, State as AState, has_peer, hop, row as row_of, slot as slot_of};
-ghost use Rattle.tw_model.specs.Effect.{effect, fits, update_to};
+ghost use Rattle.tw_model.specs.State.{IsState, State as AState, has_peer};
+ghost use Rattle.tw_model.specs.Effect.{effect, fits};
 ghost use Rattle.tw_handlers.specs.Record.{CameFrom};
-ghost use Rattle.tw_handlers.specs.Undo.{counters_before as counters_before_of, counters_without_settling as counters_without_settling_of, sends_again, sends_of_settling, state_before, with_body_undone};
+ghost use Rattle.tw_handlers.specs.Undo.{counters_before as counters_before_of, counters_without_settling as counters_without_settling_of};
+ghost use Rattle.tw_handlers.specs.Undo.{sends_again, sends_of_repair, sends_of_settling, state_before, with_body_undone};
 
 use crate::fit::slot_of_peer;
 use crate::record::UndoRecord;
@@ -113,8 +114,8 @@ fn send_restored(
     requires own { instance.now ≡ router.now.net }
     requires time { event.now.time ≤ LATEST }
     requires neighbour { IsTrue (has_peer router.now.net router.now.node peer) }
-    ensures ok { let k = slot_of router.now.net router.now.node peer in OnOk result (sends.new.items
-        ≡ sends.old.items ++ update_to router.now.node event.now.time router.now.state.rib (router.now.state.counters.sent - 1) (hop router.now.net router.now.node k) (row_of router.now.state k) ∷ []) }
+    ensures ok { OnOk result (sends.new.items
+        ≡ sends.old.items ++ sends_of_repair router.now.net router.now.node event.now.time router.now.state peer) }
     ensures succeeds { HasRoomFor sends.old 1 → IsOk result }
     ensures err { OnErr result (sends.new.items ≡ sends.old.items) }
 {
@@ -165,25 +166,24 @@ fn move_back(instance: &Instance, router: &mut Router<'_>, event: &Event, note: 
         Body::Fail(peer) => {
             if note.took_effect {
                 let slot = slot_of_peer(instance, node, peer);
-                let session = router.session(slot);
-                let row = Row {
+                let repaired = Row {
                     heard: note.heard,
                     up: true,
-                    session,
+                    ..router.row(slot)
                 };
-                router.set_row(instance, slot, row);
+                router.set_row(instance, slot, repaired);
             }
         }
         Body::Restore(peer) => {
             if note.took_effect {
                 let slot = slot_of_peer(instance, node, peer);
                 let row = router.row(slot);
-                let repaired_less = Row {
-                    heard: row.heard,
+                let failed = Row {
                     up: false,
                     session: row.session.saturating_sub(1),
+                    ..row
                 };
-                router.set_row(instance, slot, repaired_less);
+                router.set_row(instance, slot, failed);
             }
         }
         Body::Update { .. } => {

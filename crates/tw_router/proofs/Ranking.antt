@@ -130,7 +130,8 @@ module _ (net : Net) (v : ℕ) (order : List PathNo) where
       let before = any_before rows row (in_get_or rows k d found.0) in
       elim (cases_lt (first_any rows) (length order)) [
         | inr past ↦ absurd (both_ways _ (nobody_offers_empty row) (subst (λ q. offers net v q row ≡ true) (first_path_past rows past) found.1))
-        | inl within ↦ (let no_later = place_before (λ q. offers net v q row) order (first_any rows) empty_path (subst (λ q. offers net v q row ≡ true) (first_path_at rows empty_path within) found.1) in
+        | inl within ↦ (let no_later = place_before (λ q. offers net v q row) order (first_any rows) empty_path
+            (subst (λ q. offers net v q row ≡ true) (first_path_at rows empty_path within) found.1) in
             (found.0, omega arith, λ q. sym (first_path_at rows q within ∙ ap (λ n. get_or order n q) (omega arith))))
       ]
 

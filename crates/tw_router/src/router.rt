@@ -22,7 +22,7 @@ use tw_model::{Counters, Hop, OrMemory, Row};
 #[derive(Clone, Copy, PartialEq, Eq, Debug, Error)]
 pub enum OpenFault {
     /// A counter is above 2^48, or more events were dropped, or led to a change, than were handled.
-    #[error("no router counts so")]
+    #[error("no router has these counters")]
     Counters,
 }
 
@@ -51,7 +51,9 @@ impl<'a> Model for Router<'a> {
 
     ghost view = { λ a. record { net = a.instance.now; node = a.node; state = record { rib = a.rib; rows = a.rows.items; order = a.order.items; counters = a.counters } } };
 
-    ghost invariant = { λ a. IsRanked (record { net = a.instance.now; node = a.node; state = record { rib = a.rib; rows = a.rows.items; order = a.order.items; counters = a.counters } }) a.ranks.items };
+    ghost invariant = { λ a. IsRanked
+        (record { net = a.instance.now; node = a.node; state = record { rib = a.rib; rows = a.rows.items; order = a.order.items; counters = a.counters } })
+        a.ranks.items };
 }
 
 impl<'a> Router<'a> {

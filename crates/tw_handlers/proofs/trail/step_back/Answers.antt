@@ -22,7 +22,8 @@ returns-clause-trail c =
     let n = c.len-last.result - 1 in
     let split : steps ≡ take n steps ++ c.index.result.now ∷ [] = split-last steps n c.index.result.now (omega arith) c.index.ensures in
     let handled = handled-last router steps (take n steps) c.index.result.now split c.requires.trail in
-    IsTrail-pop router c.undo.new.router steps (take n steps) c.truncate.new.self.items c.index.result.now split c.requires.trail (c.in_ok-undo.ensures.state (before_last router steps (take n steps)) handled) c.truncate.ensures.items
+    IsTrail-pop router c.undo.new.router steps (take n steps) c.truncate.new.self.items c.index.result.now split c.requires.trail
+    (c.in_ok-undo.ensures.state (before_last router steps (take n steps)) handled) c.truncate.ensures.items
 
 pub returns-clause-ok : goal.returns-clause-ok
 returns-clause-ok c =
@@ -33,7 +34,8 @@ returns-clause-ok c =
     let handled = handled-last router steps (take n steps) c.index.result.now split c.requires.trail in
     let events : handled_events (take n steps) ≡ take (length steps - 1) (handled_events steps) =
     sym (take-map (λ (d : Done). d.event) n steps) ∙ ap (λ k. take k (handled_events steps)) (omega arith) in
-    history-pop router c.undo.new.router steps (take n steps) c.truncate.new.self.items c.index.result.now split c.requires.trail (c.in_ok-undo.ensures.state (before_last router steps (take n steps)) handled) c.truncate.ensures.items
+    history-pop router c.undo.new.router steps (take n steps) c.truncate.new.self.items c.index.result.now split c.requires.trail
+    (c.in_ok-undo.ensures.state (before_last router steps (take n steps)) handled) c.truncate.ensures.items
     ∙ ap (λ (es : List Event). record (history_of router steps) { events = es }) events
 
 pub returns-clause-sends : goal.returns-clause-sends
