@@ -9,6 +9,7 @@ use Rattle.tw_commands.proofs.RunPaths.{logged_suits}
 use Rattle.tw_commands.specs.Trail.{events_at}
 use Rattle.tw_event.specs.declared.event.Event.{Event}
 use Rattle.tw_event.proofs.Order.{same_self}
+use Rattle.tw_model.specs.declared.limits.TheConstants.{LATEST}
 use Rattle.tw_model.specs.Case.{Case, IsCase, simulation}
 use Rattle.tw_model.specs.Effect.{effect, fits, suits}
 use Rattle.tw_model.specs.History.{state_after}
@@ -18,56 +19,32 @@ use Rattle.tw_sim.specs.Simulation.{only, state, times}
 use Rattle.tw_model.specs.State.{IsCounted, IsState, Router, opening}
 use Rattle.tw_sim.proofs.Closed.{running_seq}
 use Rattle.tw_sim.proofs.Counts.{times-reverse}
+use Rattle.tw_model.proofs.Histories.{state_of_own}
 use Rattle.tw_model.proofs.Lawful.{lawful, numbered}
 use Rattle.tw_sim.proofs.Members.{In, all_from_in, in_filter, times_in}
-use Rattle.tw_seq.specs.Run.{complete, router_after}
+use Rattle.tw_seq.specs.Run.{complete_run, router_after}
 
 module _ (case : Case) (is : IsCase case) where
-  fits_run : (v t : ℕ) → t ≤ 1000000000 → (e : Event) → In e (events_at v (complete case t).events) → fits case.net v e ≡ true
+  fits_run : (v t : ℕ) → t ≤ LATEST → (e : Event) → In e (events_at v (complete_run case t).events) → fits case.net v e ≡ true
   fits_run v t most e there =
       let m = simulation case in
-      let of = in_filter (λ x. x.dst == v) e (complete case t).events there in
+      let of = in_filter (λ x. x.dst == v) e (complete_run case t).events there in
       let home : e.dst ≡ v = eqb-true e.dst v of.0 in
-      let counted = times_in m same_self e (complete case t).events of.1 in
+      let counted = times_in m same_self e (complete_run case t).events of.1 in
       let same = times-reverse m e (log m t) in
       let handled : 0 < times m e (log m t) = omega arith in
       let soon : e.time < t = (running_seq m (lawful case is) (numbered case is) t).soon e handled in
-      let early : nat_le e.time 1000000000 ≡ true = grind (arith, nat_tests) in
-      and_from (nat_le e.time 1000000000) (suits case.net v e) early (subst (λ r. suits case.net r e ≡ true) home (logged_suits case is t e handled))
+      let early : nat_le e.time LATEST ≡ true = grind (arith, nat_tests) in
+      and_from (nat_le e.time LATEST) (suits case.net v e) early (subst (λ r. suits case.net r e ≡ true) home (logged_suits case is t e handled))
 
   -- each of its events is for the router
-  pub run_fits : (v t : ℕ) → t ≤ 1000000000 → All (λ e. fits case.net v e ≡ true) (events_at v (complete case t).events)
-  run_fits v t most = all_from_in (λ e. fits case.net v e ≡ true) (events_at v (complete case t).events) (fits_run v t most)
-
--- handling events of one router, oldest first, after older ones
-onward : (case : Case) (v : ℕ) (events older : List Event) → ((e : Event) → In e events → e.dst ≡ v)
-    → state (simulation case) v (reverse events ++ older) ≡ state_after case.net v (state (simulation case) v older) events
-onward case v [] older home = refl
-onward case v (e ∷ events) older home =
-    ap (state (simulation case) v) (ap (λ xs. xs ++ older) (reverse-append (e ∷ []) events) ∙ append_assoc (reverse events) (e ∷ []) older)
-    ∙ (onward case v events (e ∷ older) (λ y k. home y (inr k))
-    ∙ ap (λ r. state_after case.net v (effect case.net r (state (simulation case) v older) e).state events) (home e (inl refl)))
-
-filter_back : (p : Event → Bool) (xs : List Event) → filter p (reverse xs) ≡ reverse (filter p xs)
-filter_back p [] = refl
-filter_back p (x ∷ xs) =
-    let split = ap (filter p) (reverse-append (x ∷ []) xs) ∙ (filter-append p (reverse xs) (x ∷ []) ∙ ap (λ ys. ys ++ filter p (x ∷ [])) (filter_back p xs)) in
-    elim (cases_Bool (p x)) [
-      | inl b ↦ split ∙ rw b (sym (reverse-append (x ∷ []) (filter p xs)))
-      | inr b ↦ split ∙ rw b (append-nil (reverse (filter p xs)))
-    ]
-
--- the run left the router as handling its events does
-state_same : (case : Case) (v : ℕ) (events : List Event)
-    → state (simulation case) v (only (simulation case) v (reverse events)) ≡ state_after case.net v (opening case.net v) (events_at v events)
-state_same case v events =
-    ap (state (simulation case) v) (filter_back (λ e. e.dst == v) events ∙ sym (append-nil (reverse (events_at v events))))
-    ∙ onward case v (events_at v events) [] (λ e there. eqb-true e.dst v (in_filter (λ x. x.dst == v) e events there).0)
+  pub run_fits : (v t : ℕ) → t ≤ LATEST → All (λ e. fits case.net v e ≡ true) (events_at v (complete_run case t).events)
+  run_fits v t most = all_from_in (λ e. fits case.net v e ≡ true) (events_at v (complete_run case t).events) (fits_run v t most)
 
 -- so its counters are within their limits then
 pub run_counted : (case : Case) (v : ℕ) (events : List Event) (r : Router) → r ≡ router_after case events v → IsState r.net r.node r.state
     → IsCounted (state_after case.net v (opening case.net v) (events_at v events)).counters
-run_counted case v events r is valid = subst (λ s. IsCounted s.counters) (state_same case v events) (rw is at valid).counters
+run_counted case v events r is valid = subst (λ s. IsCounted s.counters) (state_of_own case v events) (rw is at valid).counters
 
 -- the same of what is equal
 pub same_fits : (net own : Net) (v w : ℕ) (events same : List Event) → own ≡ net → w ≡ v → same ≡ events → All (λ e. fits net v e ≡ true) events → All (λ e. fits own w e ≡ true) same

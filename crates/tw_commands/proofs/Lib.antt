@@ -1,7 +1,9 @@
-pub mod Input
-pub mod Kept
-pub mod Leaving
+pub mod Unread
+pub mod Stuck
+pub mod Sizes
+pub mod Refusals
 pub mod RunPaths
 pub mod Counting
 pub mod Undoing
 pub mod Followed
+pub mod Never

@@ -10,18 +10,17 @@ use Rattle.tw_model.specs.Net.{Net, IsPath, is_permitted}
 use Rattle.tw_model.specs.Effect.{body_suits, suits}
 use Rattle.tw_model.specs.State.{has_peer}
 use Rattle.tw_sim.specs.Simulation.{only, state, times}
-use Rattle.tw_sim.specs.Seq.{begin, finished, log, weight}
+use Rattle.tw_sim.specs.Seq.{log}
 use Rattle.tw_model.specs.Case.{Case, IsCase, simulation}
 use Rattle.tw_sim.proofs.Counts.{times-reverse}
-use Rattle.tw_model.proofs.Lawful.{lawful}
 use Rattle.tw_sim.proofs.Members.{In, all_from_in, in_filter, in_map, times_in}
 use Rattle.tw_model.proofs.Paths.{permitted_is_path}
-use Rattle.tw_sim.proofs.Rising.{suit-begin, suit-turns}
+use Rattle.tw_model.proofs.Quiet.{suit_seq}
 use Rattle.tw_model.proofs.Suits.{own_state}
 use Rattle.tw_report.specs.Lines.{NamesPath}
 use Rattle.tw_report.specs.Report.{HasPaths}
 use Rattle.tw_seq.specs.Outcome.{end_of, outcome_of}
-use Rattle.tw_seq.specs.Run.{complete, state_in}
+use Rattle.tw_seq.specs.Run.{complete_run, router_after}
 
 pub names_path : (net : Net) (v : ℕ) (e : Event) (b : Body) → body_suits net v e b ≡ true → NamesPath net b
 names_path net v e Start h = tt
@@ -32,9 +31,7 @@ names_path net v e (Update q n) h = permitted_is_path net e.src q (and_parts (ha
 
 module _ (case : Case) (is : IsCase case) where
   pub logged_suits : (t : ℕ) (e : Event) → 0 < times (simulation case) e (log (simulation case) t) → suits case.net e.dst e ≡ true
-  unfolding finished
-  logged_suits t e h =
-      (suit-turns (simulation case) (lawful case is) (weight (simulation case) t (begin (simulation case)).rest) t (begin (simulation case)) (suit-begin (simulation case) (lawful case is))).handled e h
+  logged_suits t e h = (suit_seq case is t).handled e h
 
   logged_names : (t : ℕ) (e : Event) → In e (reverse (log (simulation case) t)) → NamesPath case.net e.body
   logged_names t e h =
@@ -54,10 +51,10 @@ module _ (case : Case) (is : IsCase case) where
       permitted_is_path case.net v (state (simulation case) v (only (simulation case) v events)).rib own.rib
 
   -- all that the report of the run shows
-  pub has_paths : (t : ℕ) → HasPaths case.net (outcome_of (complete case t))
+  pub has_paths : (t : ℕ) → HasPaths case.net (outcome_of (complete_run case t))
   has_paths t = record {
     events = events_name_paths t;
-    routers = all_from_in (λ r. IsPath case.net r.rib) (outcome_of (complete case t)).routers (λ r there.
-        let of = in_map (λ v. end_of (state_in case (complete case t).events v)) r (range_with_len 0 case.net.nodes) there in
-        subst (λ x. IsPath case.net x.rib) (sym of.1) (rib_is_path of.0 (reverse (complete case t).events)));
+    routers = all_from_in (λ r. IsPath case.net r.rib) (outcome_of (complete_run case t)).routers (λ r there.
+        let of = in_map (λ v. end_of (router_after case (complete_run case t).events v)) r (range_with_len 0 case.net.nodes) there in
+        subst (λ x. IsPath case.net x.rib) (sym of.1) (rib_is_path of.0 (reverse (complete_run case t).events)));
   }

@@ -1,6 +1,8 @@
 -- The events of a trail are undone one after the other, and their lines follow each other.
-use Rattle.std.proofs.Common.{◌≡◌, ℕ, suc, false, ◌-◌, ◌≤◌, ◌<◌, true, List, [], ◌∷◌, ◌++◌, length, take, drop, get_or, refl, sym, ap, subst, ◌∙◌, inl, arith, codes, append_assoc, append-nil}
+use Rattle.std.proofs.Common.{◌≡◌, ℕ, suc, false, ◌-◌, ◌≤◌, ◌<◌, true, List, [], ◌∷◌, ◌++◌, length, take, drop, get_or, refl, sym, ap, subst, ◌∙◌, inl, arith, codes, append_assoc, append-nil, Option, Some, None}
 use Rattle.std.specs.List.{All}
+use Rattle.std.specs.Io.KnownBytes.{Appends}
+use Rattle.std.proofs.KnownBytes.{Appends-trans}
 use Rattle.std.proofs.Math.Seq.{take-suc}
 use Rattle.std.proofs.lemmas.List.{drop-append-le, length-take-le, length_push, take-append-drop, take-take}
 use Rattle.std.proofs.lemmas.List.Sums.{fold-append}
@@ -17,8 +19,9 @@ use Rattle.tw_model.specs.History.{state_after, undone}
 use Rattle.tw_sim.proofs.Members.{In, all_from_in, in_from_all, in_right}
 use Rattle.tw_model.proofs.Paths.{permitted_is_path}
 use Rattle.tw_model.proofs.Suits.{IsOwnState, body_suits-fits, own_effect, to_effect}
-use Rattle.tw_report.proofs.Pieces.{four_pieces}
-use Rattle.tw_report.specs.Lines.{NamesPath, line}
+use Rattle.tw_device.proofs.Puts.{IsPartway, partway_more}
+use Rattle.tw_report.specs.Lines.{NamesPath}
+use Rattle.tw_report.specs.Words.{line}
 
 -- an event for a router names a path
 pub event_named : (net : Net) (v : ℕ) (e : Event) → fits net v e ≡ true → NamesPath net e.body
@@ -82,22 +85,21 @@ pub trail_step : (t : History) (from : Router) (events : List Event) (left : ℕ
 trail_step t from events left is h = rw (is, shorter events left h) refl
 
 -- and its lines are told
-pub text_step : (t : History) (from : Router) (events : List Event) (keep left : ℕ) (d : Event) (net : Net) (before after whole : List ℕ) → t ≡ record { opening = from; events = take left events } → keep < left → left ≤ length events
-    → before ++ undone_lines net from.node (state_after net from.node from.state (take keep events)) (drop keep (take left events)) ≡ whole
-    → after ≡ before ++ undo_lines net (get_or events (left - 1) d) (effect net t.opening.node (state_after net t.opening.node t.opening.state (take (length t.events - 1) t.events)) (get_or events (left - 1) d)).sends
-    → after ++ undone_lines net from.node (state_after net from.node from.state (take keep events)) (drop keep (take (left - 1) events)) ≡ whole
-text_step t from events keep left d net before after whole is some most all added =
+pub lines_step : (t : History) (from : Router) (events : List Event) (keep left : ℕ) (d : Event) (net : Net) (whole : List ℕ) (a b c : Option (List ℕ))
+    → t ≡ record { opening = from; events = take left events } → keep < left → left ≤ length events
+    → IsPartway whole (undone_lines net from.node (state_after net from.node from.state (take keep events)) (drop keep (take left events))) a b
+    → Appends b c (undo_lines net (get_or events (left - 1) d)
+    (effect net t.opening.node (state_after net t.opening.node t.opening.state (take (length t.events - 1) t.events)) (get_or events (left - 1) d)).sends)
+    → IsPartway whole (undone_lines net from.node (state_after net from.node from.state (take keep events)) (drop keep (take (left - 1) events))) a c
+lines_step t from events keep left d net whole a b c is some most h added =
     let last = left - 1 in
     let e = get_or events last d in
-    let rest = undone_lines net from.node (state_after net from.node from.state (take keep events)) (drop keep (take last events)) in
-    let told = undo_lines net e (effect net from.node (state_after net from.node from.state (take last events)) e).sends in
-    let P : History → Type 0 = λ u. after ≡ before ++ undo_lines net e (effect net u.opening.node (state_after net u.opening.node u.opening.state (take (length u.events - 1) u.events)) e).sends in
+    let P : History → Type 0 = λ u. Appends b c (undo_lines net e (effect net u.opening.node (state_after net u.opening.node u.opening.state (take (length u.events - 1) u.events)) e).sends) in
     let now : P (record { opening = from; events = take left events }) = subst P is added in
-    let grown : after ≡ before ++ told = rw (shorter events left most) at now in
+    let grown : Appends b c (undo_lines net e (effect net from.node (state_after net from.node from.state (take last events)) e).sends) = rw (shorter events left most) at now in
     let up : left ≡ suc last = omega arith in
-    let step = undone_step net from.node from.state events keep last d (omega arith) (omega arith) in
-    let all_up = rw up at all in
-    rw grown (append_assoc before told rest ∙ (ap (λ bs. before ++ bs) (sym step) ∙ all_up))
+    let before = rw up at h in
+    partway_more whole _ _ _ a b c (undone_step net from.node from.state events keep last d (omega arith) (omega arith)) before grown
 
 -- an event that the trail comes to is for its router
 pub fits_now : (t : History) (from : Router) (events : List Event) (i : ℕ) (d : Event) → t ≡ record { opening = from; events = take i events } → i < length events
@@ -109,14 +111,18 @@ pub not_full_now : (t : History) (from : Router) (events : List Event) (i : ℕ)
     → IsCounted (state_after from.net from.node from.state events).counters → is_full t.opening.net t.opening.node (state_after t.opening.net t.opening.node t.opening.state t.events) (get_or events i d) ≡ false
 not_full_now t from events i d is h within = rw is (never_full from.net from.node from.state events i d within h)
 
+written_whole : (now : Option (List ℕ)) (text : List ℕ) → Appends (Some []) now text → now ≡ Some text
+written_whole None text h = absurd h
+written_whole (Some xs) text h = ap Some h
+
 -- the four parts of what `trail` writes
-pub trail_lines : (net : Net) (v : ℕ) (events : List Event) (keep : ℕ) (fresh end back : Router) (over all kept : History) (a b d e : List ℕ)
+pub trail_lines : (net : Net) (v : ℕ) (events : List Event) (keep : ℕ) (fresh end back : Router) (over all kept : History) (a b d e : Option (List ℕ))
     → fresh ≡ record { net = net; node = v; state = opening net v } → over ≡ record { opening = fresh; events = [] } → all ≡ record over { events = events }
     → end ≡ record all.opening { state = state_after all.opening.net all.opening.node all.opening.state all.events }
     → kept ≡ record all { events = take keep events } → back ≡ record kept.opening { state = state_after kept.opening.net kept.opening.node kept.opening.state kept.events }
-    → a ≡ line (codes "spp-trail" ∷ codes "1" ∷ []) → b ≡ a ++ router_line net end.node end.state
-    → d ≡ b ++ undone_lines net all.opening.node (state_after net all.opening.node all.opening.state (take keep events)) (drop keep events)
-    → e ≡ d ++ router_line net back.node back.state → e ≡ trail_text net v events keep
+    → Appends (Some []) a (line (codes "spp-trail" ∷ codes "1" ∷ [])) → Appends a b (router_line net end.node end.state)
+    → Appends b d (undone_lines net all.opening.node (state_after net all.opening.node all.opening.state (take keep events)) (drop keep events))
+    → Appends d e (router_line net back.node back.state) → e ≡ Some (trail_text net v events keep)
 unfolding trail_text
 trail_lines net v events keep fresh end back over all kept a b d e is_fresh is_over is_all is_end is_kept is_back is_a is_b is_d is_e =
     let router : Router = record { net = net; node = v; state = opening net v } in
@@ -127,4 +133,5 @@ trail_lines net v events keep fresh end back over all kept a b d e is_fresh is_o
     let as_b = rw as_end at is_b in
     let as_d = rw as_all at is_d in
     let as_e = rw as_back at is_e in
-    as_e ∙ four_pieces _ _ _ _ _ _ _ is_a as_b as_d
+    let end_part = Appends-trans b d e _ _ as_d as_e in
+    written_whole e _ (Appends-trans (Some []) a e _ _ is_a (Appends-trans a b e _ _ as_b end_part))

@@ -16,12 +16,12 @@ pub record Output : Type 0 where
 pub record IsDone (status : Status) (output : Output) (old new : Option (List ℕ)) (failed : Bool) : Type 0 where
   pub as_told : status ≡ output.status
   pub whole : Appends old new output.text
-  pub open : failed ≡ false
+  pub still : failed ≡ false
 
 -- nothing was written, and the sink is open
 pub record IsUntouched (old new : Option (List ℕ)) (failed : Bool) : Type 0 where
   pub nothing : Keeps old new
-  pub open : failed ≡ false
+  pub still : failed ≡ false
 
 -- the sink failed, and a prefix of the text was written
 pub record IsCutOff (text : List ℕ) (old new : Option (List ℕ)) (failed : Bool) : Type 0 where

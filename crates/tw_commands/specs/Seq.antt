@@ -8,7 +8,7 @@ use Rattle.tw_model.specs.Summary.{Summary}
 use Rattle.tw_report.specs.Report.{report_text}
 use Rattle.tw_report.specs.Verdict.{verdict_of}
 use Rattle.tw_seq.specs.Outcome.{outcome_of}
-use Rattle.tw_seq.specs.Run.{Continues, IsStuck, Run, complete, opened}
+use Rattle.tw_seq.specs.Run.{Continues, IsStuck, Run, complete_run, opening_run}
 use Rattle.tw_text.specs.Reading.{case_of}
 
 -- the report with its own verdict
@@ -17,7 +17,7 @@ reported case log o = record { status = Done; text = report_text case.net o (ver
 
 -- the report of the sequential run of the case to the stop
 abbrev pub seq_report : ℕ → Bool → Case → Output
-seq_report stop log case = reported case log (outcome_of (complete case stop))
+seq_report stop log case = reported case log (outcome_of (complete_run case stop))
 
 -- the report of the run of the case of a text, or why it has none
 abbrev pub seq_output : ℕ → Bool → List ℕ → Output
@@ -28,7 +28,7 @@ pub record GetsStuck (case : Case) (stop : ℕ) : Type 0 where
   pub run : Run
   pub own : run.case ≡ case
   pub to_stop : run.stop ≡ stop
-  pub reached : Continues (opened case) run
+  pub reached : Continues (opening_run case) run
   pub stuck : IsStuck run
 
 -- the same for the case of a text

@@ -13,7 +13,7 @@ use Rattle.tw_model.specs.Effect.{effect}
 use Rattle.tw_model.specs.History.{state_after}
 use Rattle.tw_report.specs.Lines.{event_words, router_words}
 use Rattle.tw_report.specs.Words.{line}
-use Rattle.tw_seq.specs.Run.{complete}
+use Rattle.tw_seq.specs.Run.{complete_run}
 use Rattle.tw_text.specs.Reading.{case_of}
 
 -- how a router stands
@@ -52,7 +52,7 @@ events_at v events = filter (λ e. e.dst == v) events
 abbrev pub followed : ℕ → ℕ → ℕ → Case → Output
 followed v stop keep case =
     if nat_lt v case.net.nodes
-    then record { status = Done; text = trail_text case.net v (events_at v (complete case stop).events) keep }
+    then record { status = Done; text = trail_text case.net v (events_at v (complete_run case stop).events) keep }
     else refused (line (codes "refused" ∷ codes "option" ∷ codes "N1" ∷ codes "Router" ∷ []))
 
 -- the same for the case of a text, or why it has none

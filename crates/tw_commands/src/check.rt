@@ -1,4 +1,4 @@
-ghost use Rattle.std.specs.Prelude.{◌≡◌, false, true, Unit};
+ghost use Rattle.std.specs.Prelude.{◌≡◌, false, OnOk};
 ghost use Rattle.tw_commands.specs.Check.{accepted};
 ghost use Rattle.tw_commands.specs.ForCase.{for_case};
 ghost use Rattle.tw_commands.specs.Output.{Answers};
@@ -14,6 +14,7 @@ use tw_report::Word::{Name, Number};
 use tw_report::put_line;
 
 /// The command `check`: says how large a case is.
+#[derive(Clone, Copy)]
 struct Check;
 
 impl Command for Check {

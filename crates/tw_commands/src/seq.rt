@@ -13,6 +13,7 @@ use tw_report::{Verdict, write_report};
 use tw_seq::OneThread;
 
 /// The command `seq`: runs a case on one thread to the stop and reports the run.
+#[derive(Clone, Copy)]
 struct Seq {
     stop: u64,
     log: bool,

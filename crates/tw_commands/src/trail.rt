@@ -3,7 +3,7 @@ ghost use Rattle.tw_commands.specs.Output.{Answers, Leaves};
 ghost use Rattle.tw_commands.specs.Trail.{FollowGetsStuck, TrailGetsStuck, events_at as events_at_of, followed, trail_output, trail_text};
 ghost use Rattle.tw_device.specs.Source.{LosesInput, TakesInput};
 ghost use Rattle.tw_model.specs.declared.limits.TheConstants.{LATEST};
-ghost use Rattle.tw_seq.specs.Run.{complete};
+ghost use Rattle.tw_seq.specs.Run.{complete_run};
 
 use crate::cause::{Cause, Status};
 use crate::command::{Command, answer_io};
@@ -17,6 +17,7 @@ use tw_report::put_line;
 use tw_seq::OneThread;
 
 /// The command `trail`: lets one router handle its events of a run once more and undo the last ones.
+#[derive(Clone, Copy)]
 struct Trail {
     router: u32,
     stop: u64,
@@ -78,8 +79,8 @@ fn follow(
     requires own { run.now.case ≡ case.now }
     requires router { router < case.now.net.nodes }
     requires stop { run.now.stop ≤ LATEST }
-    requires whole { run.now ≡ complete case.now run.now.stop }
-    ensures { IfOk result (λ page. page.written ≡ Some (trail_text case.now.net router (events_at router run.now.events) keep)) }
+    requires whole { run.now ≡ complete_run case.now run.now.stop }
+    ensures { IfOk result (λ page. page.written ≡ Some (trail_text case.now.net router (events_at_of router run.now.events) keep)) }
 {
     let node = run.router(router).node();
     let events = events_at(alloc, run.handled(), node)?;

@@ -20,6 +20,7 @@ use tw_report::{put_event, put_line, put_router};
 use tw_router::Router;
 
 /// Memory was refused, for a trail or for the page that tells of it.
+#[derive(Clone, Copy)]
 pub(crate) struct NoMemory;
 
 impl From<AllocError> for NoMemory {

@@ -1,17 +1,22 @@
-use Rattle.std.proofs.Common.{◌≡◌, ap, ◌∙◌, arith, max, subst, Err}
-use Rattle.std.proofs.lemmas.Result.{err_from_is_err_and}
-use Rattle.tw_commands.proofs.Leaving.{gives_fault}
-use Rattle.tw_seq.specs.Run.{Continues}
+use Rattle.std.proofs.Common.{◌≡◌, ap, ◌∙◌}
+use Rattle.tw_commands.proofs.Followed.{run_counted, run_fits, same_counted, same_events, same_fits}
+use Rattle.tw_seq.specs.Run.{complete_run}
 use Rattle.tw_commands.proofs.trail.follow.Goals as goal
 
-pub returns-in_err-run_to : goal.returns-in_err-run_to
-returns-in_err-run_to c =
-    let p = err_from_is_err_and c.from_residual-in_err-run_to.result c.from_residual-in_err-run_to.ensures.1 in
-    let to_stop : max 0 c.args.stop ≡ c.args.stop = omega arith in
-    rw (p.1, p.2) (gives_fault c.in_err-run_to.field-0.0 _ _ (λ is. record {
-      run = c.run_to.new.self;
-      own = c.in_err-run_to.ensures.case ∙ ap (λ run. run.case) c.in_ok-run.ensures;
-      to_stop = c.in_err-run_to.ensures.stop ∙ (ap (λ run. max run.stop c.args.stop) c.in_ok-run.ensures ∙ to_stop);
-      reached = subst (λ run. Continues run c.run_to.new.self) c.in_ok-run.ensures c.in_err-run_to.ensures.goes_on;
-      stuck = c.in_err-run_to.ensures.full (ap (λ x. Err x) is);
-    }))
+pub trail_page-requires-clause-fits : goal.trail_page-requires-clause-fits
+trail_page-requires-clause-fits c =
+    let node : c.node-node.result ≡ c.args.router = c.node-node.ensures.value ∙ ap (λ r. r.node) c.router.ensures.value in
+    let handled : c.handled.result.now ≡ (complete_run c.args.case.now c.args.run.now.stop).events = c.handled.ensures.value ∙ ap (λ r. r.events) c.requires.whole in
+    let events = same_events c.args.router c.node-node.result (complete_run c.args.case.now c.args.run.now.stop).events c.handled.result.now c.deref.result.now node handled
+    (c.deref.ensures.value ∙ c.in_ok-events.ensures) in
+    same_fits c.args.case.now.net c.instance.result.now c.args.router c.node-node.result _ c.deref.result.now c.instance.ensures.value node events
+    (run_fits c.args.case.now c.instance.ensures.case c.args.router c.args.run.now.stop c.requires.stop)
+
+pub trail_page-requires-clause-counted : goal.trail_page-requires-clause-counted
+trail_page-requires-clause-counted c =
+    let node : c.node-node.result ≡ c.args.router = c.node-node.ensures.value ∙ ap (λ r. r.node) c.router.ensures.value in
+    let events = same_events c.args.router c.node-node.result c.args.run.now.events c.handled.result.now c.deref.result.now node c.handled.ensures.value
+    (c.deref.ensures.value ∙ c.in_ok-events.ensures) in
+    let router = rw c.requires.own at c.router.ensures.value in
+    same_counted c.args.case.now.net c.instance.result.now c.args.router c.node-node.result _ c.deref.result.now c.instance.ensures.value node events
+    (run_counted c.args.case.now c.args.router c.args.run.now.events c.router.result.now router c.node-node.ensures.state)
