@@ -1,8 +1,8 @@
 ghost use Rattle.std.specs.Char.{is_ascii_digit};
 ghost use Rattle.std.specs.List.{list_all, position};
-ghost use Rattle.std.specs.Prelude.{◌≡◌, ◌≤◌, ◌==◌, length, map, IfOk, if◌then◌else◌};
+ghost use Rattle.std.specs.Prelude.{◌≡◌, ◌≤◌, ◌==◌, length, map, Some, None, IfOk, if◌then◌else◌};
 ghost use Rattle.std.specs.Str.Parse.{digits_value};
-ghost use Rattle.tw_text.specs.Words.{is_plain, words, number_of};
+ghost use Rattle.tw_text.specs.Words.{is_number, is_plain, words};
 
 use std::alloc::{AllocError, Global};
 
@@ -35,7 +35,7 @@ pub(crate) fn line_end(text: &[u8]) -> Option<usize>
 
 /// The number that a word is, if it is one: at most ten digits, with no zero in front.
 pub(crate) fn number_of(word: &[u8]) -> Option<u64>
-    ensures { result ≡ number_of word.now }
+    ensures { result ≡ (if is_number word.now then Some (digits_value 10 word.now) else None) }
 {
     if word.is_empty() || word.len() > 10 || (word.len() > 1 && word[0] == b'0') {
         return None;

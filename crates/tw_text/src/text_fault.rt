@@ -1,10 +1,13 @@
-ghost use Rattle.std.specs.Prelude.{◌≡◌};
-ghost use Rattle.tw_text.specs.Names.{fault_code, fault_name, rule_code, rule_name};
+ghost use Rattle.std.specs.Prelude.{◌≡◌, Some};
+ghost use Rattle.tw_text.specs.FaultNames.{fault_code, fault_name, fault_text, refusal_text, rule_code, rule_name};
 
+use std::fmt::{self, Display, Formatter};
+use thiserror::Error;
 use tw_model::Rule;
 
-/// What a line of a text breaks. They stand in rising order of their codes.
-#[derive(Clone, Copy, PartialEq, Eq, Debug)]
+/// What a line of a text breaks, in ascending order of the codes, which `docs/FORMATS.md` lists. It
+/// is shown as its code and name, as `I2 SelfLink`.
+#[derive(Clone, Copy, PartialEq, Eq, Debug, Error)]
 pub enum LineFault {
     /// The line holds a byte that is no space, no letter a to z and no digit.
     Byte,
@@ -23,18 +26,13 @@ pub enum LineFault {
     Rule(Rule),
 }
 
-/// Why a text was not read.
-#[derive(Clone, Copy, PartialEq, Eq, Debug)]
-pub enum TextFault {
-    /// A line has a fault, and no line before it has.
-    At {
-        /// The line, from 1.
-        line: usize,
-        /// The lowest fault of the line.
-        fault: LineFault,
-    },
-    /// Memory ran out.
-    Memory,
+/// Why a text is refused: its first line that has a fault. It is shown as `refused line 3 I2 SelfLink`.
+#[derive(Clone, Copy, PartialEq, Eq, Debug, Error)]
+pub struct TextFault {
+    /// The line, from 1.
+    pub line: usize,
+    /// The lowest fault of the line.
+    pub fault: LineFault,
 }
 
 impl LineFault {
@@ -66,6 +64,24 @@ impl LineFault {
             LineFault::End => "End",
             LineFault::Rule(rule) => rule_name(*rule),
         }
+    }
+}
+
+impl Display for LineFault {
+    ghost output = { λ fault. Some (fault_text fault) };
+
+    fn fmt<W: fmt::Write>(&self, f: &mut Formatter<W>) -> fmt::Result {
+        let (code, name) = (self.code(), self.name());
+        write!(f, "{code} {name}")
+    }
+}
+
+impl Display for TextFault {
+    ghost output = { λ fault. Some (refusal_text fault) };
+
+    fn fmt<W: fmt::Write>(&self, f: &mut Formatter<W>) -> fmt::Result {
+        let TextFault { line, fault } = *self;
+        write!(f, "refused line {line} {fault}")
     }
 }
 

@@ -1,9 +1,10 @@
--- The codes and the names of faults.
-use Rattle.std.specs.Prelude.{ℕ, List, [], ◌∷◌, ◌++◌, codes, decimal}
+-- The codes and the names of faults, and the words of a refusal (own; the table stands in docs/FORMATS.md).
+use Rattle.std.specs.Prelude.{ℕ, List, ◌++◌, codes, decimal}
 use Rattle.tw_model.specs.declared.net.Rule.{Rule}
 use Rattle.tw_model.specs.declared.net.Rule.TheVariants as rule
-use Rattle.tw_text.specs.declared.fault.LineFault.{LineFault}
-use Rattle.tw_text.specs.declared.fault.LineFault.TheVariants as x
+use Rattle.tw_text.specs.declared.text_fault.LineFault.{LineFault}
+use Rattle.tw_text.specs.declared.text_fault.LineFault.TheVariants as x
+use Rattle.tw_text.specs.declared.text_fault.TextFault.{TextFault}
 
 -- the code of a rule
 abbrev pub rule_code : Rule → List ℕ
@@ -21,7 +22,7 @@ rule_code rule.NoSuchLink = codes "I11"
 rule_code rule.NoSuchPlace = codes "I12"
 rule_code rule.Time = codes "I13"
 
--- its name
+-- the name of a rule
 abbrev pub rule_name : Rule → List ℕ
 rule_name rule.Range = codes "Range"
 rule_name rule.SelfLink = codes "SelfLink"
@@ -47,7 +48,7 @@ fault_code x.Order = codes "X5"
 fault_code x.End = codes "X6"
 fault_code (x.Rule r) = rule_code r
 
--- its name
+-- the name of a fault of a line
 abbrev pub fault_name : LineFault → List ℕ
 fault_name x.Byte = codes "Byte"
 fault_name x.Header = codes "Header"
@@ -57,6 +58,10 @@ fault_name x.Order = codes "Order"
 fault_name x.End = codes "End"
 fault_name (x.Rule r) = rule_name r
 
--- the line that says where and why a text is refused
-abbrev pub refused_text : ℕ → LineFault → List ℕ
-refused_text line fault = codes "refused line " ++ (decimal line ++ (codes " " ++ (fault_code fault ++ (codes " " ++ (fault_name fault ++ 10 ∷ [])))))
+-- a fault of a line: its code and its name
+abbrev pub fault_text : LineFault → List ℕ
+fault_text fault = fault_code fault ++ (codes " " ++ fault_name fault)
+
+-- where and why a text is refused
+abbrev pub refusal_text : TextFault → List ℕ
+refusal_text refusal = codes "refused line " ++ (decimal refusal.line ++ (codes " " ++ fault_text refusal.fault))

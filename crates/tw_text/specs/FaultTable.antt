@@ -1,5 +1,5 @@
--- The table of faults, and what a line without a fault adds.
-use Rattle.std.specs.Prelude.{ℕ, Bool, true, false, not, ◌||◌, ◌&&◌, List, [], ◌∷◌, ◌++◌, length, map, Option, Result, Ok, Err, bytes_eq, codes}
+-- Which faults a line has, and what a line without a fault adds (own; the table stands in docs/FORMATS.md).
+use Rattle.std.specs.Prelude.{ℕ, Bool, true, false, not, ◌||◌, ◌&&◌, List, [], ◌∷◌, ◌++◌, length, map, Option, Some, None, Result, Ok, Err, bytes_eq, codes}
 use Rattle.std.specs.List.{find, list_all}
 use Rattle.tw_model.specs.Net.{Net}
 use Rattle.tw_model.specs.Rules.{nodes_break, link_breaks, line_breaks, scene_breaks, rules_in_order}
@@ -7,16 +7,12 @@ use Rattle.tw_model.specs.declared.case.Scene.{Scene}
 use Rattle.tw_model.specs.declared.net.Rule.{Rule}
 use Rattle.tw_text.specs.declared.draft.Draft.{Draft}
 use Rattle.tw_text.specs.declared.draft.Draft.TheVariants.{Start, Header, Links, Paths, Scenes, Done}
-use Rattle.tw_text.specs.declared.fault.LineFault.{LineFault}
-use Rattle.tw_text.specs.declared.fault.LineFault.TheVariants as x
-use Rattle.tw_text.specs.declared.statement.Statement.{Statement}
-use Rattle.tw_text.specs.declared.statement.Statement.TheVariants as say
-use Rattle.tw_text.specs.declared.statement.WordsFault.{WordsFault}
-use Rattle.tw_text.specs.declared.statement.WordsFault.TheVariants.{Word, Number}
-use Rattle.tw_text.specs.Statements.{statement_of}
+use Rattle.tw_text.specs.declared.text_fault.LineFault.{LineFault}
+use Rattle.tw_text.specs.declared.text_fault.LineFault.TheVariants as x
+use Rattle.tw_text.specs.Statements.{Statement, nodes_line, link_line, path_line, scene_line, end_line, statement_of}
 use Rattle.tw_text.specs.Words.{is_plain, words}
 
--- before line 2 there is no router
+-- the instance before line 2
 abbrev pub no_net : Net
 no_net = record { nodes = 0; links = []; lines = [] }
 
@@ -29,7 +25,7 @@ net_of (Paths net) = net
 net_of (Scenes case) = case.net
 net_of (Done case) = case.net
 
--- the scenario that the lines before have given
+-- the scenes that the lines before have given
 abbrev pub scenes_of : Draft → List Scene
 scenes_of Start = []
 scenes_of Header = []
@@ -48,45 +44,45 @@ abbrev pub is_done : Draft → Bool
 is_done (Done case) = true
 is_done d = false
 
--- whether the line says something that may not stand here: line 2 says nodes, and no other line does; no link follows a path, and no link or path a scenario line
+-- whether the line may not stand here: line 2 is a nodes line, and no other line is; no link follows a path, and no link or path a scene
 abbrev pub is_misplaced : Draft → Statement → Bool
 is_misplaced Start s = true
-is_misplaced Header (say.Nodes n) = false
+is_misplaced Header (nodes_line n) = false
 is_misplaced Header s = true
-is_misplaced d (say.Nodes n) = true
-is_misplaced (Paths net) (say.Link l) = true
-is_misplaced (Scenes case) (say.Link l) = true
-is_misplaced (Done case) (say.Link l) = true
-is_misplaced (Scenes case) (say.Path p) = true
-is_misplaced (Done case) (say.Path p) = true
+is_misplaced d (nodes_line n) = true
+is_misplaced (Paths net) (link_line l) = true
+is_misplaced (Scenes case) (link_line l) = true
+is_misplaced (Done case) (link_line l) = true
+is_misplaced (Scenes case) (path_line p) = true
+is_misplaced (Done case) (path_line p) = true
 is_misplaced d s = false
 
 -- the rules that the line breaks after the lines before it
 abbrev pub breaks : Draft → Statement → Rule → Bool
-breaks d (say.Nodes n) r = nodes_break n r
-breaks d (say.Link l) r = link_breaks (net_of d) l r
-breaks d (say.Path p) r = line_breaks (net_of d) p r
-breaks d (say.Scene s) r = scene_breaks (net_of d) (length (scenes_of d)) s r
-breaks d say.End r = false
+breaks d (nodes_line n) r = nodes_break n r
+breaks d (link_line l) r = link_breaks (net_of d) l r
+breaks d (path_line p) r = line_breaks (net_of d) p r
+breaks d (scene_line s) r = scene_breaks (net_of d) (length (scenes_of d)) s r
+breaks d end_line r = false
 
 -- the rows that hold from line 2 on
 abbrev pub from_second : Draft → Bool → Bool
 from_second d holds = not (is_start d) && holds
 
 -- whether the words are none of a line
-abbrev pub is_no_statement : Result Statement WordsFault → Bool
-is_no_statement (Err Word) = true
+abbrev pub is_no_statement : Result Statement LineFault → Bool
+is_no_statement (Err x.Word) = true
 is_no_statement said = false
 
 -- whether a word is no number where one stands
-abbrev pub has_no_number : Result Statement WordsFault → Bool
-has_no_number (Err Number) = true
+abbrev pub has_no_number : Result Statement LineFault → Bool
+has_no_number (Err x.Number) = true
 has_no_number said = false
 
 -- the test of what the line says
-abbrev pub if_said : Result Statement WordsFault → (Statement → Bool) → Bool
+abbrev pub if_said : Result Statement LineFault → (Statement → Bool) → Bool
 if_said (Ok s) test = test s
-if_said (Err e) test = false
+if_said (Err fault) test = false
 
 -- the table: whether the line has the fault
 abbrev pub holds : Draft → List ℕ → Bool → LineFault → Bool
@@ -98,7 +94,7 @@ holds d line ended x.Order = from_second d (if_said (statement_of (words line)) 
 holds d line ended x.End = not ended || is_done d
 holds d line ended (x.Rule r) = from_second d (if_said (statement_of (words line)) (λ s. breaks d s r))
 
--- every fault, in rising order of the codes
+-- every fault, in ascending order of the codes
 abbrev pub faults_in_order : List LineFault
 faults_in_order = x.Byte ∷ x.Header ∷ x.Word ∷ x.Number ∷ x.Order ∷ x.End ∷ map (λ r. x.Rule r) rules_in_order
 
@@ -108,18 +104,27 @@ fault_of d line ended = find (holds d line ended) faults_in_order
 
 -- what a statement without a fault adds
 abbrev pub with_statement : Draft → Statement → Draft
-with_statement d (say.Nodes n) = Links (record { nodes = n; links = []; lines = [] })
-with_statement d (say.Link l) = Links (let net = net_of d in record net { links = net.links ++ l ∷ [] })
-with_statement d (say.Path p) = Paths (let net = net_of d in record net { lines = net.lines ++ p ∷ [] })
-with_statement d (say.Scene s) = Scenes (record { net = net_of d; scenes = scenes_of d ++ s ∷ [] })
-with_statement d say.End = Done (record { net = net_of d; scenes = scenes_of d })
+with_statement d (nodes_line n) = Links (record { nodes = n; links = []; lines = [] })
+with_statement d (link_line l) = Links (let net = net_of d in record net { links = net.links ++ l ∷ [] })
+with_statement d (path_line p) = Paths (let net = net_of d in record net { lines = net.lines ++ p ∷ [] })
+with_statement d (scene_line s) = Scenes (record { net = net_of d; scenes = scenes_of d ++ s ∷ [] })
+with_statement d end_line = Done (record { net = net_of d; scenes = scenes_of d })
 
 -- what words without a fault add
-abbrev pub with_said : Draft → Result Statement WordsFault → Draft
+abbrev pub with_said : Draft → Result Statement LineFault → Draft
 with_said d (Ok s) = with_statement d s
-with_said d (Err e) = d
+with_said d (Err fault) = d
 
 -- what a line without a fault adds
 unfoldable pub with_line : Draft → List ℕ → Draft
 with_line Start line = Header
 with_line d line = with_said d (statement_of (words line))
+
+-- the fault, or what comes next where there is none
+abbrev pub unless_fault : {A : Type 0} → Option LineFault → A → Result A LineFault
+unless_fault (Some fault) next = Err fault
+unless_fault None next = Ok next
+
+-- the draft after the line, or the lowest fault of the line
+abbrev pub step : Draft → List ℕ → Bool → Result Draft LineFault
+step d line ended = unless_fault (fault_of d line ended) (with_line d line)
