@@ -1,5 +1,5 @@
 -- An item that was added is the one that was read; one that was refused breaks the rule that was named.
-use Rattle.std.proofs.Common.{◌≡◌, ◌↔◌, ◌^◌, ◌≤◌, ◌<◌, ℕ, nat_lt, nat_le, Bool, true, false, not, ◌&&◌, List, [], ◌∷◌, ◌++◌, length, Option, Some, None, Result, Ok, Err, refl, ap₂, subst, ap, sym, ◌∙◌, inl, inr, arith, if◌then◌else◌}
+use Rattle.std.proofs.Common.{◌≡◌, ◌↔◌, ◌^◌, ◌≤◌, ◌<◌, ℕ, nat_lt, nat_le, Bool, true, false, not, ◌&&◌, List, [], ◌∷◌, ◌++◌, get_or, length, Option, Some, None, Result, Ok, Err, refl, ap₂, subst, ap, sym, ◌∙◌, inl, inr, arith, if◌then◌else◌}
 use Rattle.std.proofs.lemmas.Bool.{and_parts, cases_Bool, not-false}
 use Rattle.std.proofs.lemmas.Bool.Decides.{nat_tests}
 use Rattle.std.specs.List.{find, list_all}
@@ -7,7 +7,8 @@ use Rattle.tw_instance.proofs.Sound.{is_router}
 use Rattle.tw_instance.specs.declared.refusal.Refusal.{Refusal}
 use Rattle.tw_instance.specs.declared.refusal.Refusal.TheVariants as refusal
 use Rattle.tw_model.proofs.Unbroken.{none_broken}
-use Rattle.tw_model.specs.declared.case.Scene.TheVariants.{Swap}
+use Rattle.tw_model.specs.declared.case.Scene.{Scene}
+use Rattle.tw_model.specs.declared.case.Scene.TheVariants.{Fail, Restore, Swap}
 use Rattle.tw_model.specs.declared.memory.OrMemory.{OrMemory}
 use Rattle.tw_model.specs.declared.net.Rule.{Rule}
 use Rattle.tw_model.specs.declared.net.Rule.TheVariants.{NoSuchPlace}
@@ -16,10 +17,13 @@ use Rattle.tw_model.specs.Memory.{IsUnlessMemory}
 use Rattle.tw_model.specs.Net.{Net, paths_of}
 use Rattle.tw_model.specs.Rules.{has_place, is_within, line_fault, link_fault, scene_breaks, scene_fault}
 use Rattle.tw_text.specs.declared.draft.Draft.{Draft}
-use Rattle.tw_text.specs.declared.draft.Draft.TheVariants.{Paths}
+use Rattle.tw_text.specs.declared.draft.Draft.TheVariants.{Start, Header, Links, Paths, Scenes, Done}
+use Rattle.tw_text.specs.declared.keyword.Keyword.{Keyword}
+use Rattle.tw_text.specs.declared.keyword.Keyword.TheVariants as keyword
 use Rattle.tw_text.specs.declared.text_fault.LineFault.{LineFault}
-use Rattle.tw_text.specs.Drafts.{node_in, nodes_in, of_rule, place_of, rule_fault, with_link, with_path, with_scene}
+use Rattle.tw_text.specs.Drafts.{before_scenes, node_in, nodes_in, of_rule, place_of, rule_fault, step_by, step_said, with_link, with_path, with_scene}
 use Rattle.tw_text.specs.FaultTable.{unless_fault}
+use Rattle.tw_text.specs.Statements.{said, scene_line}
 
 pub refused : {A : Type 0} (result : Result A Refusal) (e : Refusal) (f : OrMemory LineFault) (fault : Option Rule) (next : Draft) → result ≡ Err e → f ≡ rule_fault e
     → ((r : Rule) → (result ≡ Err (refusal.Rule r)) ↔ (fault ≡ Some r)) → IsUnlessMemory (Err f) (unless_fault (of_rule fault) next)
@@ -27,11 +31,11 @@ refused result refusal.Memory f fault next is same h = rw same tt
 refused result (refusal.Rule r) f fault next is same h = rw (same, (h r).0 is) refl
 
 pub node_is : (net : Net) (n m : ℕ) → Ok m ≡ node_in net n → m ≡ n
-node_is net n m h = elim (cases_Bool (nat_lt n net.nodes)) [ | inl t ↦ (let g : Ok m ≡ Ok n = rw t at h in cc) | inr f ↦ absurd (let g = rw f at h in cc) ]
+node_is net n m h = elim (cases_Bool (nat_lt n net.nodes)) [ inl t ↦ (let g : Ok m ≡ Ok n = rw t at h in cc) | inr f ↦ absurd (let g = rw f at h in cc) ]
 
 pub nodes_are : (net : Net) (ns ms : List ℕ) → nodes_in net ns ≡ Ok ms → ms ≡ ns
 nodes_are net ns ms h =
-    elim (cases_Bool (list_all (λ n. nat_lt n net.nodes) ns)) [ | inl t ↦ (let g : Ok ns ≡ Ok ms = rw t at h in cc) | inr f ↦ absurd (let g = rw f at h in cc) ]
+    elim (cases_Bool (list_all (λ n. nat_lt n net.nodes) ns)) [ inl t ↦ (let g : Ok ns ≡ Ok ms = rw t at h in cc) | inr f ↦ absurd (let g = rw f at h in cc) ]
 
 pub link_refused : {A : Type 0} (result : Result A Refusal) (e : Refusal) (f : OrMemory LineFault) (net : Net) (a b delay k l : ℕ) → Ok k ≡ node_in net a → Ok l ≡ node_in net b
     → result ≡ Err e → f ≡ rule_fault e → ((r : Rule) → (result ≡ Err (refusal.Rule r)) ↔ (link_fault net (record { first = k; second = l; delay = delay }) ≡ Some r))
@@ -86,3 +90,29 @@ pub swap_taken : (case : Case) (t v i j w k l : ℕ) (r : Result Draft (OrMemory
 swap_taken case t v i j w k l r is e p q h =
     subst (IsUnlessMemory r) (swap_same case t v i j is) (subst (λ v. IsUnlessMemory r (with_scene case (Swap t v (place_of i) (place_of j)))) e
     (subst (λ k. IsUnlessMemory r (with_scene case (Swap t w k (place_of j)))) p (subst (λ l. IsUnlessMemory r (with_scene case (Swap t w k l))) q h)))
+
+-- a scene, where its line may stand
+scene_step : (d : Draft) (s : Scene) (ended : Bool) (case : Case) → before_scenes d ended ≡ Ok case → step_by d (scene_line s) ended ≡ with_scene case s
+scene_step Start s ended case h = absurd (cc)
+scene_step Header s ended case h = absurd (cc)
+scene_step (Done c) s ended case h = absurd (cc)
+scene_step d s false case h = absurd (cc)
+scene_step (Links net) s true case h = let r : Result Case LineFault = Ok (record { net = net; scenes = [] }) in let g : r ≡ Ok case = h in let e : (record { net = net; scenes = [] }) ≡ case = cc in ap (λ case. with_scene case s) e
+scene_step (Paths net) s true case h = let r : Result Case LineFault = Ok (record { net = net; scenes = [] }) in let g : r ≡ Ok case = h in let e : (record { net = net; scenes = [] }) ≡ case = cc in ap (λ case. with_scene case s) e
+scene_step (Scenes c) s true case h = let r : Result Case LineFault = Ok c in let g : r ≡ Ok case = h in let e : c ≡ case = cc in ap (λ case. with_scene case s) e
+
+pub scene_taken : (d : Draft) (k : Keyword) (ns : List ℕ) (s : Scene) (ended : Bool) (case : Case) (r : Result Draft (OrMemory LineFault)) → said k ns ≡ Ok (scene_line s)
+    → before_scenes d ended ≡ Ok case → IsUnlessMemory r (with_scene case s) → IsUnlessMemory r (step_said d (said k ns) ended)
+scene_taken d k ns s ended case r e before h = rw (e, scene_step d s ended case before) h
+
+pub fail_said : (k : Keyword) (ns : List ℕ) → k ≡ keyword.Fail → 3 ≤ length ns → length ns < 4 → said k ns ≡ Ok (scene_line (Fail (get_or ns 0 0) (get_or ns 1 0) (get_or ns 2 0)))
+fail_said k (a ∷ b ∷ c ∷ []) e low high = rw e refl
+fail_said k ns e low high = absurd (omega arith)
+
+pub restore_said : (k : Keyword) (ns : List ℕ) → k ≡ keyword.Restore → 3 ≤ length ns → length ns < 4 → said k ns ≡ Ok (scene_line (Restore (get_or ns 0 0) (get_or ns 1 0) (get_or ns 2 0)))
+restore_said k (a ∷ b ∷ c ∷ []) e low high = rw e refl
+restore_said k ns e low high = absurd (omega arith)
+
+pub swap_said : (k : Keyword) (ns : List ℕ) → k ≡ keyword.Swap → 4 ≤ length ns → length ns < 5 → said k ns ≡ Ok (scene_line (Swap (get_or ns 0 0) (get_or ns 1 0) (get_or ns 2 0) (get_or ns 3 0)))
+swap_said k (a ∷ b ∷ c ∷ d ∷ []) e low high = rw e refl
+swap_said k ns e low high = absurd (omega arith)

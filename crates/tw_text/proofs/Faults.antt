@@ -13,7 +13,7 @@ use Rattle.tw_text.specs.declared.text_fault.LineFault.{LineFault}
 use Rattle.tw_text.specs.declared.text_fault.LineFault.TheVariants as x
 use Rattle.tw_text.specs.Drafts.{of_rule, step_said}
 use Rattle.tw_text.specs.FaultTable.{breaks, fault_of, from_second, has_no_number, holds, if_said, is_done, is_misplaced, is_no_statement, is_start, step, unless_fault, with_line, with_said}
-use Rattle.tw_text.specs.Statements.{◌>>=◌, Statement, fits, keyword_before, keyword_of, numbers_of, said, statement_of}
+use Rattle.tw_text.specs.Statements.{◌>>=◌, Statement, takes_words, keyword_before, keyword_of, numbers_of, said, statement_of}
 use Rattle.tw_text.specs.Words.{is_number, is_plain, words}
 
 -- the lowest rule, among the faults
@@ -101,7 +101,7 @@ early_if k true true ns = said_early k ns
 
 early_by : (found : Option Keyword) (ws : List (List ℕ)) → IsToldEarly (keyword_before found ws >>= λ k. numbers_of ws >>= λ ns. said k ns)
 early_by None ws = tt
-early_by (Some k) ws = early_if k (fits k ws) (list_all is_number ws) (map (digits_value 10) ws)
+early_by (Some k) ws = early_if k (takes_words k ws) (list_all is_number ws) (map (digits_value 10) ws)
 
 early : (ws : List (List ℕ)) → IsToldEarly (statement_of ws)
 unfolding statement_of

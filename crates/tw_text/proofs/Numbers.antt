@@ -9,8 +9,7 @@ use Rattle.std.specs.List.{list_all}
 use Rattle.std.specs.Str.Parse.{digits_value, digits_value_after}
 use Rattle.tw_text.specs.declared.text_fault.LineFault.{LineFault}
 use Rattle.tw_text.specs.declared.text_fault.LineFault.TheVariants.{Number}
-use Rattle.tw_text.specs.Drafts.{number_at}
-use Rattle.tw_text.specs.Statements.{numbers_of}
+use Rattle.tw_text.specs.Statements.{number_of, numbers_of}
 use Rattle.tw_text.specs.Words.{is_number}
 
 -- the number that these digits write behind those of n, if they are digits
@@ -22,15 +21,15 @@ pub record AreRead (ws : List (Bor (List ℕ))) (i : ℕ) (ns : List ℕ) : Type
   pub same : ns ≡ map (digits_value 10) (map (λ w. w.now) (take i ws))
   pub right : list_all is_number (map (λ w. w.now) (take i ws)) ≡ true
 
-was_number : (w : List ℕ) (n : ℕ) → Ok n ≡ number_at w → (is_number w ≡ true) × (n ≡ digits_value 10 w)
+was_number : (w : List ℕ) (n : ℕ) → Ok n ≡ number_of w → (is_number w ≡ true) × (n ≡ digits_value 10 w)
 was_number w n h =
-    elim (cases_Bool (is_number w)) [ | inl t ↦ (let g : Ok n ≡ Ok (digits_value 10 w) = rw t at h in (t, cc)) | inr f ↦ absurd (let g : Ok n ≡ Err Number = rw f at h in cc) ]
+    elim (cases_Bool (is_number w)) [ inl t ↦ (let g : Ok n ≡ Ok (digits_value 10 w) = rw t at h in (t, cc)) | inr f ↦ absurd (let g : Ok n ≡ Err Number = rw f at h in cc) ]
 
-was_none : (w : List ℕ) (fault : LineFault) → Err fault ≡ number_at w → (is_number w ≡ false) × (fault ≡ Number)
+was_none : (w : List ℕ) (fault : LineFault) → Err fault ≡ number_of w → (is_number w ≡ false) × (fault ≡ Number)
 was_none w fault h =
-    elim (cases_Bool (is_number w)) [ | inl t ↦ absurd (let g : Err fault ≡ Ok (digits_value 10 w) = rw t at h in cc) | inr f ↦ (let g : Err fault ≡ Err Number = rw f at h in (f, cc)) ]
+    elim (cases_Bool (is_number w)) [ inl t ↦ absurd (let g : Err fault ≡ Ok (digits_value 10 w) = rw t at h in cc) | inr f ↦ (let g : Err fault ≡ Err Number = rw f at h in (f, cc)) ]
 
-pub read_more : (ws : List (Bor (List ℕ))) (i : ℕ) (w : Bor (List ℕ)) (n : ℕ) (ns more : List ℕ) → i < length ws → Ok n ≡ number_at (get_or ws i w).now
+pub read_more : (ws : List (Bor (List ℕ))) (i : ℕ) (w : Bor (List ℕ)) (n : ℕ) (ns more : List ℕ) → i < length ws → Ok n ≡ number_of (get_or ws i w).now
     → AreRead ws i ns → more ≡ ns ++ n ∷ [] → AreRead ws (i + 1) more
 read_more ws i w n ns more h is read e =
     let m = was_number (get_or ws i w).now n is in
@@ -42,7 +41,7 @@ read_more ws i w n ns more h is read e =
       right = ap (list_all is_number) now ∙ (list_all-append is_number (map (λ w. w.now) (take i ws)) ((get_or ws i w).now ∷ []) ∙ rw (read.right, m.0) refl);
     }
 
-pub read_none : (ws : List (Bor (List ℕ))) (i : ℕ) (w : Bor (List ℕ)) (fault : LineFault) → i < length ws → Err fault ≡ number_at (get_or ws i w).now
+pub read_none : (ws : List (Bor (List ℕ))) (i : ℕ) (w : Bor (List ℕ)) (fault : LineFault) → i < length ws → Err fault ≡ number_of (get_or ws i w).now
     → numbers_of (map (λ w. w.now) ws) ≡ Err fault
 read_none ws i w fault h is =
     let n = was_none (get_or ws i w).now fault is in

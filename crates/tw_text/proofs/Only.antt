@@ -8,6 +8,7 @@ use Rattle.tw_model.specs.Line.{Line}
 use Rattle.tw_model.specs.Net.{Net}
 use Rattle.tw_model.specs.Rules.{IsNet, LinksFollow, LinesFollow, ScenesFollow}
 use Rattle.tw_model.specs.declared.case.Scene.{Scene}
+use Rattle.tw_model.specs.declared.limits.TheConstants.{MOST_ROUTERS}
 use Rattle.tw_model.specs.declared.net.Link.{Link}
 use Rattle.tw_text.specs.declared.draft.Draft.{Draft}
 use Rattle.tw_text.specs.declared.draft.Draft.TheVariants.{Start, Header, Links, Paths, Scenes, Done}
@@ -46,7 +47,7 @@ say d c s rest h f g = leads_on d (with_statement d s) c (line_of s) (map line_o
 abbrev bare : ℕ → List Link → Net
 bare n links = record { nodes = n; links = links; lines = [] }
 
-say_links : (n : ℕ) (before links : List Link) (rest : List Statement) (c : Case) → n ≤ 1024 → LinksFollow (bare n before) links
+say_links : (n : ℕ) (before links : List Link) (rest : List Statement) (c : Case) → n ≤ MOST_ROUTERS → LinksFollow (bare n before) links
     → Lead (Links (bare n (before ++ links))) rest c → Lead (Links (bare n before)) (map (λ l. link_line l) links ++ rest) c
 say_links n before [] rest c small h g = rw append-nil at g
 say_links n before (l ∷ links) rest c small h g =
@@ -86,7 +87,7 @@ takes_scenes net scenes = record { later = refl; net_is = refl; scenes_are = ref
 abbrev with_paths : Net → List Line → Net
 with_paths net paths = record net { lines = paths }
 
-say_paths : (net : Net) (before paths : List Line) (d : Draft) (c : Case) (rest : List Statement) → net.nodes ≤ 1024 → LinesFollow (with_paths net before) paths
+say_paths : (net : Net) (before paths : List Line) (d : Draft) (c : Case) (rest : List Statement) → net.nodes ≤ MOST_ROUTERS → LinesFollow (with_paths net before) paths
     → TakesPaths d (with_paths net before) → ((next : Draft) → TakesPaths next (with_paths net (before ++ paths)) → Lead next rest c)
     → Lead d (map (λ p. path_line p) paths ++ rest) c
 say_paths net before [] d c rest small h t g = g d (rw append-nil t)

@@ -10,8 +10,9 @@ use Rattle.tw_text.specs.declared.keyword.Keyword.{Keyword}
 use Rattle.tw_text.specs.declared.keyword.Keyword.TheVariants as keyword
 use Rattle.tw_text.specs.declared.text_fault.LineFault.{LineFault}
 use Rattle.tw_text.specs.declared.text_fault.LineFault.TheVariants as x
-use Rattle.tw_text.specs.Statements.{◌>>=◌, Statement, nodes_line, link_line, path_line, scene_line, end_line, fits, keyword_before, keyword_of, numbers_of, said, statement_of, takes, word_of}
+use Rattle.tw_text.specs.Statements.{◌>>=◌, Statement, nodes_line, link_line, path_line, scene_line, end_line, takes_words, keyword_before, keyword_of, numbers_of, said, statement_of, takes, word_of}
 use Rattle.tw_text.specs.Text.{keyword_in, numbers_in, words_of}
+use Rattle.tw_text.specs.declared.words.TheConstants.{MOST_DIGITS}
 use Rattle.tw_text.specs.Words.{is_number}
 use Rattle.tw_text.proofs.Numerals.{decimal-digits, decimal-form, decimal-some, number_is, value-decimal}
 use Rattle.tw_text.proofs.Splits.{IsWord, digits_are_signs, none_empty}
@@ -21,7 +22,7 @@ use Rattle.tw_text.proofs.Steps.{bound}
 
 -- at most ten digits long
 abbrev pub IsShort : ℕ → Type 0
-IsShort n = n < 10 ^ 10
+IsShort n = n < 10 ^ MOST_DIGITS
 
 -- its numbers are short, and as many as its keyword takes
 pub record IsSayable (s : Statement) : Type 0 where
@@ -64,8 +65,8 @@ values-decimals (n ∷ ns) h = ap₂ (λ m ms. m ∷ ms) (value-decimal n h.0) (
 numbers_of-decimals : (ns : List ℕ) → AllByRecursion IsShort ns → numbers_of (map decimal ns) ≡ Ok ns
 numbers_of-decimals ns h = rw (all-numbers ns h, values-decimals ns h) refl
 
-fits-decimals : (k : Keyword) (ns : List ℕ) → AllByRecursion IsShort ns → takes k (length ns) ≡ true → fits k (map decimal ns) ≡ true
-fits-decimals k ns h count = rw (length-map ns decimal, count, none_empty (map decimal ns) (numbers-words ns h)) refl
+takes_words-decimals : (k : Keyword) (ns : List ℕ) → AllByRecursion IsShort ns → takes k (length ns) ≡ true → takes_words k (map decimal ns) ≡ true
+takes_words-decimals k ns h count = rw (length-map ns decimal, count, none_empty (map decimal ns) (numbers-words ns h)) refl
 
 said-in : (s : Statement) → said (keyword_in s) (numbers_in s) ≡ Ok s
 said-in (nodes_line n) = refl
@@ -86,14 +87,14 @@ unfolding statement_of
 statement_of-words s h =
     let k = keyword_in s in let ns = numbers_in s in let ws = map decimal ns in
     ap (λ found. keyword_before found ws >>= λ k. numbers_of ws >>= λ ns. said k ns) (keyword_of-word k)
-    ∙ chain k (fits k ws) (numbers_of ws) ns s (fits-decimals k ns h.short h.count) (numbers_of-decimals ns h.short) (said-in s)
+    ∙ chain k (takes_words k ws) (numbers_of ws) ns s (takes_words-decimals k ns h.short h.count) (numbers_of-decimals ns h.short) (said-in s)
 
 -- ---- from words to their statement and back
 
 keyword_was : (found : Option Keyword) (ws : List (List ℕ)) (k : Keyword) → keyword_before found ws ≡ Ok k → found ≡ Some k
 keyword_was None ws k h = absurd (cc)
 keyword_was (Some j) ws k h =
-    elim (cases_Bool (fits j ws)) [
+    elim (cases_Bool (takes_words j ws)) [
       | inl t ↦ (let r : Result Keyword LineFault = Ok j in let g : r ≡ Ok k = rw t at h in let e : j ≡ k = cc in ap (λ k. Some k) e)
       | inr f ↦ absurd (let r : Result Keyword LineFault = Err x.Word in let g : r ≡ Ok k = rw f at h in cc)
     ]

@@ -11,6 +11,7 @@ use Rattle.tw_model.specs.Net.{Net, begins_at, paths_of}
 use Rattle.tw_model.specs.Rules.{IsNet, has_place, is_within, line_breaks, line_fault, link_breaks, link_fault, nodes_fault, scene_breaks, scene_fault}
 use Rattle.tw_model.specs.declared.case.Scene.{Scene}
 use Rattle.tw_model.specs.declared.case.Scene.TheVariants.{Fail, Restore, Swap}
+use Rattle.tw_model.specs.declared.limits.TheConstants.{LATEST, LONGEST_DELAY, MOST_ROUTERS}
 use Rattle.tw_model.specs.declared.net.Link.{Link}
 use Rattle.tw_model.specs.declared.net.Rule.TheVariants.{Range, Delay, PathOwner, NoSuchPlace, Time}
 use Rattle.tw_text.specs.Statements.{nodes_line, link_line, path_line, scene_line}
@@ -19,21 +20,21 @@ use Rattle.tw_text.proofs.Said.{IsSayable, IsShort}
 pub nodes_short : (n : ℕ) → nodes_fault n ≡ None → IsSayable (nodes_line n)
 nodes_short n h = let within = nodes_within n h in let small = within.1 in record { short = (omega arith, tt); count = refl }
 
-ends_short : (k a b : ℕ) → k ≤ 1024 → not (nat_lt a k && nat_lt b k) ≡ false → IsShort a × IsShort b
+ends_short : (k a b : ℕ) → k ≤ MOST_ROUTERS → not (nat_lt a k && nat_lt b k) ≡ false → IsShort a × IsShort b
 ends_short k a b small h =
     let w = and_parts (nat_lt a k) (nat_lt b k) (not-false (nat_lt a k && nat_lt b k) h) in
     let p = w.0 in let q = w.1 in (grind (arith, nat_tests), grind (arith, nat_tests))
 
-within_short : (k n : ℕ) → k ≤ 1000000000 → is_within 1 k n ≡ true → IsShort n
+within_short : (k n : ℕ) → k ≤ LATEST → is_within 1 k n ≡ true → IsShort n
 within_short k n small h = grind (arith, nat_tests)
 
-pub link_short : (net : Net) (l : Link) → net.nodes ≤ 1024 → link_fault net l ≡ None → IsSayable (link_line l)
+pub link_short : (net : Net) (l : Link) → net.nodes ≤ MOST_ROUTERS → link_fault net l ≡ None → IsSayable (link_line l)
 link_short net l small h =
     let ends = ends_short net.nodes l.first l.second small (none_broken (link_breaks net l) h Range) in
-    let delay = within_short 1000000 l.delay (omega arith) (not-false (is_within 1 1000000 l.delay) (none_broken (link_breaks net l) h Delay)) in
+    let delay = within_short LONGEST_DELAY l.delay (omega arith) (not-false (is_within 1 LONGEST_DELAY l.delay) (none_broken (link_breaks net l) h Delay)) in
     record { short = (ends.0, (ends.1, (delay, tt))); count = refl }
 
-all_short : (k : ℕ) (ns : List ℕ) → k ≤ 1024 → list_all (λ v. nat_lt v k) ns ≡ true → AllByRecursion IsShort ns
+all_short : (k : ℕ) (ns : List ℕ) → k ≤ MOST_ROUTERS → list_all (λ v. nat_lt v k) ns ≡ true → AllByRecursion IsShort ns
 all_short k [] small h = tt
 all_short k (n ∷ ns) small h =
     let w = and_parts (nat_lt n k) (list_all (λ v. nat_lt v k) ns) h in
@@ -44,7 +45,7 @@ two_or_more : (v w : ℕ) (ns : List ℕ) → begins_at ns v ≡ true → nat_le
 two_or_more v w [] h = absurd (cc)
 two_or_more v w (n ∷ ns) h = grind (arith, nat_tests)
 
-pub path_short : (net : Net) (p : Line) → net.nodes ≤ 1024 → line_fault net p ≡ None → IsSayable (path_line p)
+pub path_short : (net : Net) (p : Line) → net.nodes ≤ MOST_ROUTERS → line_fault net p ≡ None → IsSayable (path_line p)
 path_short net p small h =
     let below = not-false (nat_lt p.owner net.nodes && list_all (λ v. nat_lt v net.nodes) p.nodes) (none_broken (line_breaks net p) h Range) in
     let w = and_parts (nat_lt p.owner net.nodes) (list_all (λ v. nat_lt v net.nodes) p.nodes) below in
@@ -52,7 +53,7 @@ path_short net p small h =
     let o = w.0 in
     record { short = (grind (arith, nat_tests), all_short net.nodes p.nodes small w.1); count = two_or_more p.owner p.owner p.nodes (not-false (begins_at p.nodes p.owner) b.1) }
 
-time_short : (t : ℕ) → nat_lt 1000000000 t ≡ false → IsShort t
+time_short : (t : ℕ) → nat_lt LATEST t ≡ false → IsShort t
 time_short t h = grind (arith, nat_tests)
 
 pub scene_short : (net : Net) (count : ℕ) (s : Scene) → IsNet net → scene_fault net count s ≡ None → IsSayable (scene_line s)

@@ -2,7 +2,6 @@
 use Rattle.std.specs.Prelude.{ℕ, ◌^◌, nat_lt, Bool, not, ◌||◌, List, [], ◌∷◌, ◌++◌, length, Option, None, Some, Result, Ok, Err, option_map, if◌then◌else◌}
 use Rattle.std.specs.List.{find, list_all}
 use Rattle.std.specs.Result.{result_map_both}
-use Rattle.std.specs.Str.Parse.{digits_value}
 use Rattle.std.specs.declared.alloc.Global.{Global}
 use Rattle.std.specs.declared.vec.Vec.{Vec}
 use Rattle.tw_instance.specs.declared.refusal.Refusal.{Refusal}
@@ -23,15 +22,10 @@ use Rattle.tw_text.specs.declared.text_fault.LineFault.{LineFault}
 use Rattle.tw_text.specs.declared.text_fault.LineFault.TheVariants as x
 use Rattle.tw_text.specs.FaultTable.{breaks, is_done, is_misplaced, unless_fault, with_statement}
 use Rattle.tw_text.specs.Statements.{◌>>=◌, Statement}
-use Rattle.tw_text.specs.Words.{is_number}
 
 -- the items of the vector that was returned
 abbrev pub result_items : {E : Type 0} → Result (Vec ℕ Global) E → Result (List ℕ) E
 result_items result = result_map_both (λ v. v.items) (λ e. e) result
-
--- the number that the word is
-abbrev pub number_at : List ℕ → Result ℕ LineFault
-number_at w = if is_number w then Ok (digits_value 10 w) else Err x.Number
 
 -- the rule, as a fault of a line
 abbrev pub of_rule : Option Rule → Option LineFault
@@ -67,6 +61,16 @@ nodes_in net ns = if list_all (λ n. nat_lt n net.nodes) ns then Ok ns else Err 
 -- a place as a `u32` holds it: what is too great is 0, which is no place either
 abbrev pub place_of : ℕ → ℕ
 place_of n = if nat_lt n (2 ^ 32) then n else 0
+
+-- the line after the header may say nodes, where it has its end
+abbrev pub check_header : Draft → Bool → Result (Unit {0}) LineFault
+check_header Header ended = check_ended ended tt
+check_header d ended = Err x.Order
+
+-- the instance to which links may be added, where the line has its end
+abbrev pub before_links : Draft → Bool → Result Net LineFault
+before_links (Links net) ended = check_ended ended net
+before_links d ended = Err x.Order
 
 -- the instance to which paths may be added, where the line has its end
 abbrev pub before_paths : Draft → Bool → Result Net LineFault

@@ -59,13 +59,17 @@ takes keyword.Swap n = n == 4
 takes keyword.End n = n == 0
 
 -- whether these words, none of them empty, may follow the keyword
-abbrev pub fits : Keyword → List (List ℕ) → Bool
-fits k ws = takes k (length ws) && not (list_any (λ w. length w == 0) ws)
+abbrev pub takes_words : Keyword → List (List ℕ) → Bool
+takes_words k ws = takes k (length ws) && not (list_any (λ w. length w == 0) ws)
 
 -- the keyword, where it is one and these words may follow it
 abbrev pub keyword_before : Option Keyword → List (List ℕ) → Result Keyword LineFault
 keyword_before None ws = Err x.Word
-keyword_before (Some k) ws = if fits k ws then Ok k else Err x.Word
+keyword_before (Some k) ws = if takes_words k ws then Ok k else Err x.Word
+
+-- the number that the word is
+abbrev pub number_of : List ℕ → Result ℕ LineFault
+number_of w = if is_number w then Ok (digits_value 10 w) else Err x.Number
 
 -- the numbers that the words are
 abbrev pub numbers_of : List (List ℕ) → Result (List ℕ) LineFault

@@ -6,6 +6,7 @@ use Rattle.tw_model.specs.declared.case.Scene.TheVariants.{Fail, Restore, Swap}
 use Rattle.tw_text.specs.declared.keyword.Keyword.{Keyword}
 use Rattle.tw_text.specs.declared.keyword.Keyword.TheVariants as keyword
 use Rattle.tw_text.specs.Statements.{Statement, nodes_line, link_line, path_line, scene_line, end_line, word_of}
+use Rattle.tw_text.specs.Words.{line_feed, space}
 
 -- what the lines of a case say, from line 2 on
 abbrev pub statements_of : Case → List Statement
@@ -39,11 +40,11 @@ words_of s = word_of (keyword_in s) ∷ map decimal (numbers_in s)
 
 -- the line that says it: its words, with a space between each two
 abbrev pub line_of : Statement → List ℕ
-line_of s = join_with_byte 32 (words_of s)
+line_of s = join_with_byte space (words_of s)
 
 -- a line with its end
 abbrev pub ended_line : List ℕ → List ℕ
-ended_line line = line ++ 10 ∷ []
+ended_line line = line ++ line_feed ∷ []
 
 -- the lines of a case
 abbrev pub lines_of : Case → List (List ℕ)

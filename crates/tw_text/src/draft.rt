@@ -1,8 +1,8 @@
 ghost use Rattle.std.specs.Prelude.{◌≡◌};
 ghost use Rattle.tw_model.specs.Memory.{IsUnlessMemory};
 ghost use Rattle.tw_model.specs.declared.case.Scene.TheVariants as AScene;
-ghost use Rattle.tw_text.specs.Drafts.{before_paths, before_scenes, check_ended, node_in, nodes_in, of_rule, place_of, result_items, rule_fault, step_by, step_said, with_link, with_nodes, with_path, with_scene};
-ghost use Rattle.tw_text.specs.Statements.{nodes_line, link_line, path_line, scene_line, end_line, said};
+ghost use Rattle.tw_text.specs.Drafts.{before_links, before_paths, before_scenes, check_ended, check_header, node_in, nodes_in, of_rule, place_of, result_items, rule_fault, step_said, with_link, with_nodes, with_path, with_scene};
+ghost use Rattle.tw_text.specs.Statements.{said};
 
 use crate::keyword::Keyword;
 use crate::text_fault::LineFault;
@@ -27,16 +27,6 @@ pub(crate) enum Draft {
     Done(Case),
 }
 
-impl From<LineFault> for OrMemory<LineFault> {
-    ghost use Rattle.tw_model.specs.declared.memory.OrMemory.TheVariants.{Fault};
-
-    ghost from_gives = { λ fault error. error ≡ Fault fault };
-
-    fn from(fault: LineFault) -> OrMemory<LineFault> {
-        OrMemory::Fault(fault)
-    }
-}
-
 /// The draft with a line of this keyword and these numbers, or the lowest fault of the line.
 pub(crate) fn take_statement(
     alloc: Global,
@@ -48,39 +38,32 @@ pub(crate) fn take_statement(
     ensures { IsUnlessMemory result (step_said draft (said keyword numbers.now) ended) }
 {
     match (keyword, numbers) {
-        (Keyword::Nodes, [nodes]) => take_nodes(alloc, draft, *nodes, ended),
-        (Keyword::Link, [first, second, delay]) => {
-            take_link(draft, *first, *second, *delay, ended)
+        (Keyword::Nodes, [nodes]) => {
+            check_header(draft, ended)?;
+            with_nodes(alloc, *nodes)
         }
-        (Keyword::Path, [owner, nodes @ ..]) => take_path(alloc, draft, *owner, nodes, ended),
+        (Keyword::Link, [first, second, delay]) => {
+            let instance = before_links(draft, ended)?;
+            with_link(instance, *first, *second, *delay)
+        }
+        (Keyword::Path, [owner, nodes @ ..]) => {
+            let instance = before_paths(draft, ended)?;
+            with_path(alloc, instance, *owner, nodes)
+        }
         (Keyword::Fail, [time, first, second]) => {
-            take_fail(alloc, draft, *time, *first, *second, ended)
+            let case = before_scenes(alloc, draft, ended)?;
+            with_fail(case, *time, *first, *second)
         }
         (Keyword::Restore, [time, first, second]) => {
-            take_restore(alloc, draft, *time, *first, *second, ended)
+            let case = before_scenes(alloc, draft, ended)?;
+            with_restore(case, *time, *first, *second)
         }
         (Keyword::Swap, [time, node, first, second]) => {
-            take_swap(alloc, draft, *time, *node, *first, *second, ended)
+            let case = before_scenes(alloc, draft, ended)?;
+            with_swap(case, *time, *node, *first, *second)
         }
-        (Keyword::End, []) => take_end(alloc, draft, ended),
+        (Keyword::End, []) => Ok(Draft::Done(before_scenes(alloc, draft, ended)?)),
         _ => Err(OrMemory::Fault(LineFault::Word)),
-    }
-}
-
-fn take_nodes(
-    alloc: Global,
-    draft: Draft,
-    nodes: u64,
-    ended: bool,
-) -> Result<Draft, OrMemory<LineFault>>
-    ensures { IsUnlessMemory result (step_by draft (nodes_line nodes) ended) }
-{
-    match draft {
-        Draft::Header => {
-            check_end(ended)?;
-            with_nodes(alloc, nodes)
-        }
-        _ => Err(OrMemory::Fault(LineFault::Order)),
     }
 }
 
@@ -93,24 +76,6 @@ fn with_nodes(alloc: Global, nodes: u64) -> Result<Draft, OrMemory<LineFault>>
     match Instance::new(alloc, nodes) {
         Ok(instance) => Ok(Draft::Links(instance)),
         Err(refusal) => Err(rule_fault(refusal)),
-    }
-}
-
-fn take_link(
-    draft: Draft,
-    first: u64,
-    second: u64,
-    delay: u64,
-    ended: bool,
-) -> Result<Draft, OrMemory<LineFault>>
-    ensures { IsUnlessMemory result (step_by draft (link_line (record { first = first; second = second; delay = delay })) ended) }
-{
-    match draft {
-        Draft::Links(instance) => {
-            check_end(ended)?;
-            with_link(instance, first, second, delay)
-        }
-        _ => Err(OrMemory::Fault(LineFault::Order)),
     }
 }
 
@@ -134,19 +99,6 @@ fn with_link(
     }
 }
 
-fn take_path(
-    alloc: Global,
-    draft: Draft,
-    owner: u64,
-    nodes: &[u64],
-    ended: bool,
-) -> Result<Draft, OrMemory<LineFault>>
-    ensures { IsUnlessMemory result (step_by draft (path_line (record { owner = owner; nodes = nodes.now })) ended) }
-{
-    let instance = before_paths(draft, ended)?;
-    with_path(alloc, instance, owner, nodes)
-}
-
 fn with_path(
     alloc: Global,
     mut instance: Instance,
@@ -163,26 +115,7 @@ fn with_path(
     }
 }
 
-fn take_fail(
-    alloc: Global,
-    draft: Draft,
-    time: u64,
-    first: u64,
-    second: u64,
-    ended: bool,
-) -> Result<Draft, OrMemory<LineFault>>
-    ensures { IsUnlessMemory result (step_by draft (scene_line (AScene.Fail time first second)) ended) }
-{
-    let case = before_scenes(alloc, draft, ended)?;
-    with_fail(case, time, first, second)
-}
-
-fn with_fail(
-    case: Case,
-    time: u64,
-    first: u64,
-    second: u64,
-) -> Result<Draft, OrMemory<LineFault>>
+fn with_fail(case: Case, time: u64, first: u64, second: u64) -> Result<Draft, OrMemory<LineFault>>
     ensures { IsUnlessMemory result (with_scene case (AScene.Fail time first second)) }
 {
     let first = node_in(case.instance(), first)?;
@@ -195,20 +128,6 @@ fn with_fail(
             second,
         },
     )
-}
-
-fn take_restore(
-    alloc: Global,
-    draft: Draft,
-    time: u64,
-    first: u64,
-    second: u64,
-    ended: bool,
-) -> Result<Draft, OrMemory<LineFault>>
-    ensures { IsUnlessMemory result (step_by draft (scene_line (AScene.Restore time first second)) ended) }
-{
-    let case = before_scenes(alloc, draft, ended)?;
-    with_restore(case, time, first, second)
 }
 
 fn with_restore(
@@ -229,21 +148,6 @@ fn with_restore(
             second,
         },
     )
-}
-
-fn take_swap(
-    alloc: Global,
-    draft: Draft,
-    time: u64,
-    node: u64,
-    first: u64,
-    second: u64,
-    ended: bool,
-) -> Result<Draft, OrMemory<LineFault>>
-    ensures { IsUnlessMemory result (step_by draft (scene_line (AScene.Swap time node first second)) ended) }
-{
-    let case = before_scenes(alloc, draft, ended)?;
-    with_swap(case, time, node, first, second)
 }
 
 fn with_swap(
@@ -277,10 +181,27 @@ fn with_scene(mut case: Case, scene: Scene) -> Result<Draft, OrMemory<LineFault>
     }
 }
 
-fn take_end(alloc: Global, draft: Draft, ended: bool) -> Result<Draft, OrMemory<LineFault>>
-    ensures { IsUnlessMemory result (step_by draft end_line ended) }
+/// That the line after the header has its end.
+fn check_header(draft: Draft, ended: bool) -> Result<(), LineFault>
+    ensures { result ≡ check_header draft ended }
 {
-    Ok(Draft::Done(before_scenes(alloc, draft, ended)?))
+    match draft {
+        Draft::Header => check_end(ended),
+        _ => Err(LineFault::Order),
+    }
+}
+
+/// The instance to which a link may be added, where its line has its end.
+fn before_links(draft: Draft, ended: bool) -> Result<Instance, LineFault>
+    ensures { result ≡ before_links draft ended }
+{
+    match draft {
+        Draft::Links(instance) => {
+            check_end(ended)?;
+            Ok(instance)
+        }
+        _ => Err(LineFault::Order),
+    }
 }
 
 /// The instance to which a path may be added, where its line has its end.

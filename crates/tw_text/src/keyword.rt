@@ -1,6 +1,6 @@
 ghost use Rattle.std.specs.List.{list_any};
 ghost use Rattle.std.specs.Prelude.{◌≡◌, ◌==◌, length, map};
-ghost use Rattle.tw_text.specs.Statements.{fits, keyword_of, takes};
+ghost use Rattle.tw_text.specs.Statements.{keyword_of, takes, takes_words};
 
 /// What a line from the second on begins with.
 #[derive(Clone, Copy)]
@@ -32,8 +32,8 @@ impl Keyword {
     }
 
     /// Whether these words may follow the keyword on its line, whatever numbers they are.
-    pub(crate) fn fits(self, words: &[&[u8]]) -> bool
-        ensures { result ≡ fits self (map (λ w. w.now) words.now) }
+    pub(crate) fn takes_words(self, words: &[&[u8]]) -> bool
+        ensures { result ≡ takes_words self (map (λ w. w.now) words.now) }
     {
         self.takes(words.len()) && !has_empty(words)
     }

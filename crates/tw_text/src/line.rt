@@ -1,7 +1,7 @@
 ghost use Rattle.std.specs.List.{list_all};
 ghost use Rattle.std.specs.Prelude.{◌≡◌, map, false, true, bytes_eq, codes};
 ghost use Rattle.tw_model.specs.Memory.{IsUnlessMemory};
-ghost use Rattle.tw_text.specs.Drafts.{number_at, result_items, step_said};
+ghost use Rattle.tw_text.specs.Drafts.{result_items, step_said};
 ghost use Rattle.tw_text.specs.FaultTable.{is_start, step};
 ghost use Rattle.tw_text.specs.Statements.{keyword_before, keyword_of, numbers_of, statement_of};
 ghost use Rattle.tw_text.specs.Words.{is_plain, words};
@@ -87,7 +87,7 @@ fn keyword_before(word: &[u8], arguments: &[&[u8]]) -> Result<Keyword, LineFault
     ensures { result ≡ keyword_before (keyword_of word.now) (map (λ w. w.now) arguments.now) }
 {
     let keyword = Keyword::from_word(word).ok_or(LineFault::Word)?;
-    if keyword.fits(arguments) {
+    if keyword.takes_words(arguments) {
         Ok(keyword)
     } else {
         Err(LineFault::Word)
@@ -99,13 +99,7 @@ fn numbers_of(alloc: Global, words: &[&[u8]]) -> Result<Vec<u64>, OrMemory<LineF
 {
     let mut numbers = Vec::with_capacity(alloc, words.len())?;
     for word in words {
-        numbers.push_reserved(number_at(word)?);
+        numbers.push_reserved(number_of(word)?);
     }
     Ok(numbers)
-}
-
-fn number_at(word: &[u8]) -> Result<u64, LineFault>
-    ensures { result ≡ number_at word.now }
-{
-    number_of(word).ok_or(LineFault::Number)
 }

@@ -84,13 +84,3 @@ fn at_line(fault: OrMemory<LineFault>, line: usize) -> OrMemory<TextFault>
         OrMemory::Memory => OrMemory::Memory,
     }
 }
-
-impl From<TextFault> for OrMemory<TextFault> {
-    ghost use Rattle.tw_model.specs.declared.memory.OrMemory.TheVariants.{Fault};
-
-    ghost from_gives = { λ fault error. error ≡ Fault fault };
-
-    fn from(fault: TextFault) -> OrMemory<TextFault> {
-        OrMemory::Fault(fault)
-    }
-}

@@ -1,9 +1,10 @@
 ghost use Rattle.std.specs.Prelude.{◌≡◌, Some};
+ghost use Rattle.tw_model.specs.declared.memory.OrMemory.TheVariants.{Fault};
 ghost use Rattle.tw_text.specs.FaultNames.{fault_code, fault_name, fault_text, refusal_text, rule_code, rule_name};
 
 use std::fmt::{self, Display, Formatter};
 use thiserror::Error;
-use tw_model::Rule;
+use tw_model::{OrMemory, Rule};
 
 /// What a line of a text breaks, in ascending order of the codes, which `docs/FORMATS.md` lists. It
 /// is shown as its code and name, as `I2 SelfLink`.
@@ -82,6 +83,22 @@ impl Display for TextFault {
     fn fmt<W: fmt::Write>(&self, f: &mut Formatter<W>) -> fmt::Result {
         let TextFault { line, fault } = *self;
         write!(f, "refused line {line} {fault}")
+    }
+}
+
+impl From<LineFault> for OrMemory<LineFault> {
+    ghost from_gives = { λ fault error. error ≡ Fault fault };
+
+    fn from(fault: LineFault) -> OrMemory<LineFault> {
+        OrMemory::Fault(fault)
+    }
+}
+
+impl From<TextFault> for OrMemory<TextFault> {
+    ghost from_gives = { λ fault error. error ≡ Fault fault };
+
+    fn from(fault: TextFault) -> OrMemory<TextFault> {
+        OrMemory::Fault(fault)
     }
 }
 
