@@ -7,6 +7,6 @@ pub mod Lines
 pub mod Rows
 pub mod Facts
 pub mod Sound
-pub mod HashRows
+pub mod Growing
 pub mod Told
 pub mod Scenes

@@ -1,5 +1,5 @@
 -- What the rules give of a net's links and neighbours.
-use Rattle.std.proofs.Common.{◌≡◌, ℕ, suc, zero, ◌<◌, ◌≤◌, ◌==◌, true, false, ◌||◌, List, [], ◌∷◌, ◌++◌, length, map, refl, ap, sym, ◌∙◌, subst, inl, inr, None, append_assoc, arith}
+use Rattle.std.proofs.Common.{◌≡◌, ℕ, suc, zero, ◌≤◌, ◌==◌, true, false, ◌||◌, List, [], ◌∷◌, ◌++◌, length, map, refl, ap, sym, ◌∙◌, subst, inl, inr, None, append_assoc, arith}
 use Rattle.std.specs.List.{All}
 use native.Mathlib.Numerals.{unary_clauses}
 use Rattle.std.proofs.lemmas.Bool.{cases_Bool, cases_eq, cases_lt, eq-eqb, ne_eqb, or_from, or_left, or_right}
@@ -64,17 +64,17 @@ counted_more net l next counted v =
       | inl e ↦
           (let ends : (l.first == v || l.second == v) ≡ true = or_left (l.first == v) (l.second == v) (eq-eqb l.first v (sym e)) in
           let hops : length (hops_of (record net { links = net.links ++ l ∷ [] }) v) ≡ suc (length (hops_of net v)) =
-          subst (λ u. length (hops_of (record net { links = net.links ++ l ∷ [] }) u) ≡ suc (length (hops_of net u))) (sym e) (ap length joined.first ∙ length-with_hop _ _) in
+          subst (λ u. length (hops_of (record net { links = net.links ++ l ∷ [] }) u) ≡ suc (length (hops_of net u))) (sym e) (ap length (sym joined.first) ∙ length-with_hop _ _) in
           hops ∙ (ap suc (counted v) ∙ sym (degree_more net.links l v ends)))
       | inr ne ↦ elim (cases_eq v l.second) [
         | inl e ↦
             (let ends : (l.first == v || l.second == v) ≡ true = or_right (l.first == v) (l.second == v) (eq-eqb l.second v (sym e)) in
             let hops : length (hops_of (record net { links = net.links ++ l ∷ [] }) v) ≡ suc (length (hops_of net v)) =
-            subst (λ u. length (hops_of (record net { links = net.links ++ l ∷ [] }) u) ≡ suc (length (hops_of net u))) (sym e) (ap length joined.second ∙ length-with_hop _ _) in
+            subst (λ u. length (hops_of (record net { links = net.links ++ l ∷ [] }) u) ≡ suc (length (hops_of net u))) (sym e) (ap length (sym joined.second) ∙ length-with_hop _ _) in
             hops ∙ (ap suc (counted v) ∙ sym (degree_more net.links l v ends)))
         | inr nf ↦
             (let ends = or_from (l.first == v) (l.second == v) (ne_eqb l.first v (λ e. ne (sym e))) (ne_eqb l.second v (λ e. nf (sym e))) in
-            ap length (joined.others v ne nf) ∙ (counted v ∙ sym (degree_same net.links l v ends)))
+            ap length (sym (joined.others v ne nf)) ∙ (counted v ∙ sym (degree_same net.links l v ends)))
       ]
     ]
 

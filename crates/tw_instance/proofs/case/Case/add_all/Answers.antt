@@ -1,5 +1,5 @@
-use Rattle.std.proofs.Common.{◌≡◌, ◌+◌, [], ◌∷◌, ◌++◌, None, length, get_or, take, ap, refl, sym, ◌∙◌, arith}
-use Rattle.std.proofs.lemmas.List.{at_drop_all, at_drop_more, length-take-le, take_more}
+use Rattle.std.proofs.Common.{◌+◌, [], ◌∷◌, ◌++◌, get_or, ap, refl, sym, ◌∙◌, arith}
+use Rattle.std.proofs.lemmas.List.{at_drop_all, at_drop_more, take_more}
 use Rattle.tw_model.specs.declared.case.Scene.{Scene as AScene}
 use Rattle.tw_model.specs.declared.case.Scene.TheVariants.{Fail}
 use Rattle.tw_model.specs.Case.{Case}

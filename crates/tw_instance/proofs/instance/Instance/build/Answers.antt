@@ -1,5 +1,4 @@
 use Rattle.std.proofs.Common.{Ok, Err, subst}
-use Rattle.std.specs.List.{All}
 use Rattle.std.proofs.lemmas.Result.{err_from_is_err_and}
 use Rattle.tw_model.specs.Net.{Net}
 use Rattle.tw_model.specs.Rules.{nodes_fault}
