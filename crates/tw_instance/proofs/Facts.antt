@@ -1,6 +1,8 @@
 -- Tests that code makes, and what they say of a net.
 use Rattle.std.proofs.Common.{◌≡◌, ℕ, suc, zero, ◌<◌, ◌==◌, true, false, not, ◌&&◌, ◌||◌, List, [], ◌∷◌, length, nat_le, Option, Some, is_some, IfSome, refl, ap, sym, ◌∙◌, subst, inl, inr, arith}
-use Rattle.std.specs.List.{AllByRecursion, list_any}
+use Rattle.std.specs.Cmp.{both_ways as same_truth}
+use Rattle.std.specs.List.{All, list_any}
+use Rattle.std.proofs.lemmas.List.Elements.{All-head, All-tail}
 use Rattle.std.proofs.lemmas.Bool.{and_parts, both_ways, eq-eqb, eqb-true, eqb-false, false_from_ne_true, ne_eqb, not-false, not-true, or_cases, or_parts}
 use Rattle.tw_event.specs.declared.event.PathNo.{PathNo}
 use Rattle.tw_model.specs.declared.limits.TheConstants.{MOST_PATHS}
@@ -10,7 +12,7 @@ use Rattle.tw_model.specs.Rules.{IsNet, is_linked, path_count}
 use Rattle.tw_sim.proofs.Members.{any_from_in, in_from_any}
 use Rattle.tw_model.proofs.Nets.{hop_between, hop_of, is_link_of, joined_by}
 use Rattle.tw_model.proofs.Paths.{same_path_is}
-use Rattle.tw_instance.proofs.Lines.{listed, same_truth, taken}
+use Rattle.tw_instance.proofs.Lines.{listed, taken}
 
 -- ---- links
 
@@ -29,9 +31,9 @@ peer-linked net v w is = same_truth _ _
 
 -- ---- permitted paths
 
-none_of_origin : (nodes : ℕ) (lines : List Line) → AllByRecursion (λ p. (0 < p.owner) × (p.owner < nodes)) lines → path_count lines 0 ≡ 0
+none_of_origin : (nodes : ℕ) (lines : List Line) → All (λ p. (0 < p.owner) × (p.owner < nodes)) lines → path_count lines 0 ≡ 0
 none_of_origin nodes [] all = refl
-none_of_origin nodes (p ∷ lines) all = let no : (p.owner == 0) ≡ false = ne_eqb p.owner 0 (λ e. let some = all.0.0 in omega arith) in rw no (none_of_origin nodes lines all.1)
+none_of_origin nodes (p ∷ lines) all = let no : (p.owner == 0) ≡ false = ne_eqb p.owner 0 (λ e. let here = All-head (λ q. (0 < q.owner) × (q.owner < nodes)) p lines all in let some = here.0 in omega arith) in rw no (none_of_origin nodes lines (All-tail (λ q. (0 < q.owner) × (q.owner < nodes)) p lines all))
 
 -- whether a router has as many permitted paths as it may
 pub full-counted : (net : Net) (v : ℕ) → IsNet net → nat_le MOST_PATHS (length (paths_of net v)) ≡ nat_le MOST_PATHS (path_count net.lines v)
@@ -40,7 +42,7 @@ full-counted net zero h =
     ap (λ xs. nat_le MOST_PATHS (length xs)) all.origin ∙ ap (nat_le MOST_PATHS) (sym (none_of_origin net.nodes net.lines all.owners))
 full-counted net (suc v) h = ap (nat_le MOST_PATHS) ((listed net h).counts (suc v) (omega arith))
 
-none_given : (count owner : ℕ) (nodes : List ℕ) (lines : List Line) → AllByRecursion (λ p. (0 < p.owner) × (p.owner < count)) lines → AllByRecursion (λ p. begins_at p.nodes p.owner ≡ true) lines
+none_given : (count owner : ℕ) (nodes : List ℕ) (lines : List Line) → All (λ p. (0 < p.owner) × (p.owner < count)) lines → All (λ p. begins_at p.nodes p.owner ≡ true) lines
     → (owner == 0 || not (begins_at nodes owner)) ≡ true → list_any (λ q. q.owner == owner && same_path q.nodes nodes) lines ≡ false
 none_given count owner nodes [] owners begin mis = refl
 none_given count owner nodes (q ∷ lines) owners begin mis =
@@ -48,12 +50,12 @@ none_given count owner nodes (q ∷ lines) owners begin mis =
     (let both = and_parts (q.owner == owner) (same_path q.nodes nodes) t in
     let e = eqb-true q.owner owner both.0 in
     let same = same_path_is q.nodes nodes both.1 in
-    let begins : begins_at nodes owner ≡ true = subst (λ v. begins_at nodes v ≡ true) e (subst (λ ns. begins_at ns q.owner ≡ true) same begin.0) in
+    let begins : begins_at nodes owner ≡ true = subst (λ v. begins_at nodes v ≡ true) e (subst (λ ns. begins_at ns q.owner ≡ true) same (All-head (λ p. begins_at p.nodes p.owner ≡ true) q lines begin)) in
     elim (or_cases (owner == 0) (not (begins_at nodes owner)) mis) [
-      | inl z ↦ (let zero_is = eqb-true owner 0 z in let some = owners.0.0 in absurd (omega arith))
+      | inl z ↦ (let zero_is = eqb-true owner 0 z in let here = All-head (λ p. (0 < p.owner) × (p.owner < count)) q lines owners in let some = here.0 in absurd (omega arith))
       | inr other ↦ both_ways (begins_at nodes owner) (not-true (begins_at nodes owner) other) begins
     ])) in
-    rw other (none_given count owner nodes lines owners.1 begin.1 mis)
+    rw other (none_given count owner nodes lines (All-tail (λ p. (0 < p.owner) × (p.owner < count)) q lines owners) (All-tail (λ p. begins_at p.nodes p.owner ≡ true) q lines begin) mis)
 
 -- nodes that begin elsewhere were not given for this owner
 pub not_given : (net : Net) (owner : ℕ) (nodes : List ℕ) → IsNet net → (owner == 0 || not (begins_at nodes owner)) ≡ true

@@ -14,6 +14,7 @@ use Rattle.tw_model.proofs.Grown.{net_alone, net_with_line}
 use Rattle.tw_model.proofs.Nets.{nodes_within}
 use Rattle.tw_instance.specs.Tables.{IsTable, hash, items, push_at, tail_hash, tail_hashes_of, with_link}
 use Rattle.tw_instance.proofs.Hops.{is_joined}
+use Rattle.tw_instance.proofs.Lists.{map_alike}
 use Rattle.tw_instance.proofs.Lines.{is_listed, length-paths, next_line, no_lines, paths_push}
 use Rattle.tw_instance.proofs.Links.{next_link, no_links}
 use Rattle.tw_instance.proofs.Paths.{path-origin}
@@ -66,11 +67,6 @@ pub hashes_kept : (net : Net) (links : List Link) (v : ℕ) → tail_hashes_of (
 unfolding paths_of path
 hashes_kept net links v = refl
 
--- paths don't matter for the neighbours
-pub hops_alike : (net : Net) (lines : List Line) (v : ℕ) → hops_of (record net { lines = lines }) v ≡ hops_of net v
-unfolding hops_of
-hops_alike net lines v = refl
-
 pub linked_table : {Z : Type 0} (net : Net) (l : Link) (links : List Link) (rows more : List (Vec Hop Z)) → link_fault net l ≡ None → links ≡ net.links ++ l ∷ []
     → IsTable rows net.nodes (hops_of net) → items more ≡ with_link (items rows) l → IsTable more net.nodes (hops_of (record net { links = links }))
 linked_table net l links rows more fault is table e =
@@ -81,13 +77,6 @@ linked_table net l links rows more fault is table e =
     subst (λ ls. IsTable more net.nodes (hops_of (record net { links = ls }))) (sym is) grown
 
 -- ---- one more path
-
-map_same : {X : Type 0} (P : X → Type 0) (f g : X → ℕ) → ((x : X) → P x → f x ≡ g x) → (xs : List X) → All P xs → map f xs ≡ map g xs
-map_same P f g same [] all = refl
-map_same P f g same (x ∷ xs) all =
-    let here : f x ≡ g x = same x (all 0 x (omega arith)) in
-    let rest = map_same P f g same xs (λ k d h. all (suc k) d (omega arith)) in
-    cc
 
 path_kept : (net : Net) (p : Line) (q : PathNo) → IsPath net q → path (record net { lines = net.lines ++ p ∷ [] }) q ≡ path net q
 unfolding path
@@ -107,7 +96,7 @@ tails_kept : (net : Net) (p : Line) (v : ℕ) → IsNet net → tail_hashes_of n
 tails_kept net p v h =
     let more : Net = record net { lines = net.lines ++ p ∷ [] } in
     let same = λ (q : PathNo) (i : IsPath net q). ap (λ ns. hash (drop 1 ns)) (sym (path_kept net p q i)) in
-    map_same (IsPath net) (tail_hash net) (tail_hash more) same (paths_of net v) (is_router net v h).paths
+    map_alike (IsPath net) (tail_hash net) (tail_hash more) same (paths_of net v) (is_router net v h).paths
 
 -- the tables of paths and of their hashes after one more path
 pub record IsNextTables {Y Z : Type 0} (net : Net) (permitted : List (Vec PathNo Y)) (tail_hashes : List (Vec ℕ Z)) : Type 0 where

@@ -13,6 +13,7 @@ use Rattle.tw_model.specs.Net.{Net, hop_to, hops_of, joins}
 use Rattle.tw_model.specs.Rules.{is_linked}
 use Rattle.tw_model.proofs.Nets.{joins_back, linked_back}
 use Rattle.tw_instance.specs.Tables.{with_hop}
+use Rattle.tw_instance.proofs.Lists.{find_more, find_new}
 use Rattle.tw_instance.proofs.Rows.{IsLinkedTable}
 
 -- ---- hops that are listed by their number
@@ -95,15 +96,6 @@ pub named_hop : (links : List Link) (v w : ℕ) → IfSome (hop_to links v w) (�
 named_hop links v w = named_of (find (joins v w) links) w
 
 -- ---- one more link
-
-find_more : {X : Type 0} (p : X → Bool) (xs : List X) (y : X) → p y ≡ false → find p (xs ++ y ∷ []) ≡ find p xs
-find_more p xs y h = find-append p xs (y ∷ []) ∙ rw h (or_none (find p xs)) where
-  or_none : {T : Type 0} → (o : Option T) → option_or o None ≡ o
-  or_none None = refl
-  or_none (Some x) = refl
-
-find_new : {X : Type 0} (p : X → Bool) (xs : List X) (y : X) → p y ≡ true → find p xs ≡ None → find p (xs ++ y ∷ []) ≡ Some y
-find_new p xs y h none = find-append p xs (y ∷ []) ∙ rw (none, h) refl
 
 find_none : (links : List Link) (v w : ℕ) → is_linked links v w ≡ false → find (joins v w) links ≡ None
 find_none [] v w h = refl

@@ -5,8 +5,9 @@ use Rattle.tw_model.specs.Net.{paths_of}
 use Rattle.tw_model.specs.Rules.{IsNet, line_fault}
 use Rattle.tw_instance.specs.Instance.{net_of}
 use Rattle.tw_instance.specs.Tables.{IsTable, hash, items, push_at, tail_hashes_of}
-use Rattle.tw_instance.proofs.Growing.{hops_alike, next_tables}
+use Rattle.tw_instance.proofs.Growing.{next_tables}
 use Rattle.tw_instance.proofs.Lines.{few_lines}
+use Rattle.tw_instance.proofs.Links.{hops_alike}
 use Rattle.tw_instance.proofs.Rows.{table_as, table_in, table_same}
 use Rattle.tw_instance.proofs.instance.Instance.add_path.Goals as goal
 
