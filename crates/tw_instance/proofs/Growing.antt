@@ -122,7 +122,7 @@ module _ {Y Z : Type 0} (net : Net) (p : Line) (permitted numbers : List (Vec Pa
         kept = net_with_line net p h fault;
         path_rows = table_push permitted numbers net.nodes (paths_of net) (paths_of more) p.owner (next_number net) next.owner paths_so e (sym at.owner) (λ v ne. sym (at.others v ne));
         hash_rows = table_push tail_hashes hashes net.nodes (tail_hashes_of net) (tail_hashes_of more) p.owner k next.owner hashes_so f whole
-        (λ v ne. tails_kept net p v h ∙ ap (map (tail_hash more)) (sym (at.others v ne)));
+            (λ v ne. tails_kept net p v h ∙ ap (map (tail_hash more)) (sym (at.others v ne)));
       }
 
   pub next_tables : (lines : List Line) (q : PathNo) (k : ℕ) → IsNet net → line_fault net p ≡ None → lines ≡ net.lines ++ p ∷ [] → q.0 ≡ length net.lines + 2 → k ≡ hash (drop 1 p.nodes)

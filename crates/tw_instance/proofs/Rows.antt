@@ -155,5 +155,5 @@ module _ {Z : Type 0} where
       record {
         long = sym (length-items more) ∙ (ap length e ∙ (length-set one l.second second ∙ (wide ∙ (long ∙ h.long))));
         rows = λ v. ap (λ (t : List (List Hop)). get_or t v []) e
-        ∙ row_set one (λ u. get_or one u []) G l.second second within' (λ u. refl) (ap (with_hop (hop_over l l.first)) (h.rows l.second) ∙ linked.second) others v;
+            ∙ row_set one (λ u. get_or one u []) G l.second second within' (λ u. refl) (ap (with_hop (hop_over l l.first)) (h.rows l.second) ∙ linked.second) others v;
       }
