@@ -2,7 +2,7 @@
 use Rattle.std.proofs.Common.{◌≡◌, ℕ, suc, zero, ◌+◌, ◌-◌, ◌<◌, ◌≤◌, Bool, true, false, cond, List, [], ◌∷◌, length, map, slice_index_or, take, drop, arith}
 use Rattle.std.proofs.Common.{Option, Some, None, IfSome, IsTrue, refl, ap, sym, ◌∙◌, subst, ⊎_elim, inl, inr}
 use Rattle.std.specs.List.{filter, find, range_with_len}
-use Rattle.std.proofs.lemmas.Bool.{cases_eq, cases_lt, false_from_ne_true, cases_Bool, eq-eqb}
+use Rattle.std.proofs.lemmas.Bool.{cases_eq, cases_lt, false_from_ne_true, eq-eqb}
 use Rattle.std.proofs.lemmas.List.{get_or_past, take_rest}
 use Rattle.tw_event.specs.declared.event.PathNo.{PathNo}
 use Rattle.tw_model.specs.Net.{Net, IsPath, begins_at, is_own, path, paths, paths_of, same_path}

@@ -1,10 +1,8 @@
 -- The neighbours of a router, and what one more link adds to them.
-use Rattle.std.proofs.Common.{◌≡◌, ℕ, suc, zero, ◌+◌, ◌<◌, ◌≤◌, ◌==◌, Bool, true, false, ◌&&◌, List, [], ◌∷◌, ◌++◌, length, arith, nat_lt}
+use Rattle.std.proofs.Common.{◌≡◌, ℕ, suc, zero, ◌+◌, ◌<◌, ◌≤◌, ◌==◌, true, false, ◌&&◌, List, [], ◌∷◌, ◌++◌, length, arith, nat_lt}
 use Rattle.std.proofs.Common.{refl, ap, sym, ◌∙◌, inl, inr, Option, Some, None, find, filter_map, option_map, IfSome, insert}
 use Rattle.std.specs.List.{range_with_len, AllByRecursion, cons_option, prefix_len}
-use Rattle.std.specs.Option.{option_or}
 use Rattle.std.proofs.Math.Numerals.{one-add}
-use Rattle.std.proofs.lemmas.List.Folds.{find-append}
 use Rattle.std.proofs.lemmas.Option.{IfSome_then}
 use Rattle.std.proofs.lemmas.Bool.{cases_Bool, cases_eq, eq-eqb, lt-ltb, le-ltb, ne_eqb, and_left, and_right, or_from, or_parts}
 use Rattle.tw_model.specs.declared.net.Hop.{Hop}

@@ -185,11 +185,7 @@ fn has_all_paths(instance: &Instance, node: u32) -> bool
 fn is_given(instance: &Instance, owner: u32, nodes: &[u32]) -> bool
     ensures { result ≡ list_any (λ q. q.owner == owner && net.same_path q.nodes nodes.now) instance.now.lines }
 {
-    let number = instance.number(nodes);
-    if is_misowned(owner, nodes) {
-        return false;
-    }
-    number.is_some()
+    instance.number(nodes).is_some() && !is_misowned(owner, nodes)
 }
 
 /// Whether a link joins the two.

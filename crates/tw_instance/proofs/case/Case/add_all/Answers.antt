@@ -35,7 +35,8 @@ loop-i-preserved c =
     let s = get_or scenes i none in
     let next = at_drop_more (judged_scenes net i) scenes i none c.loop-i-test.true in
     let same = judged_alike c.loop-i.self c.args.self.now scenes i s (omega arith) c.loop-i.invariant.taken in
+    let grown = ap (λ ss. record c.args.self.now { scenes = ss }) (sym (take_more scenes i none c.loop-i-test.true)) in
     record {
-      taken = c.in_default.ensures.ok ∙ (ap (λ (k : Case). record k { scenes = k.scenes ++ s ∷ [] }) c.loop-i.invariant.taken ∙ ap (λ ss. record c.args.self.now { scenes = ss }) (sym (take_more scenes i none c.loop-i-test.true)));
+      taken = c.in_default.ensures.ok ∙ (ap (λ (k : Case). record k { scenes = k.scenes ++ s ∷ [] }) c.loop-i.invariant.taken ∙ grown);
       covers = covers_after _ _ _ (scene_fault net i s) (Scene (i + 1)) c.loop-i.invariant.covers next (sym same ∙ c.in_default.ensures.kept);
     }
