@@ -1,6 +1,9 @@
 -- The neighbours of a router, and what one more link adds to them.
-use Rattle.std.proofs.Common.{◌≡◌, ℕ, suc, zero, ◌+◌, ◌<◌, ◌≤◌, ◌==◌, Bool, true, false, cond, ◌&&◌, List, [], ◌∷◌, ◌++◌, length, refl, ap, sym, ◌∙◌, inl, inr, arith, nat_lt, Option, Some, None, find, filter_map, option_map, IfSome, insert}
-use Rattle.std.specs.List.{range_with_len, AllByRecursion, cons_option, position_or_len}
+use Rattle.std.proofs.Common.{◌≡◌, ℕ, suc, zero, ◌+◌, ◌<◌, ◌≤◌, ◌==◌, true, false, ◌&&◌, List, [], ◌∷◌, ◌++◌, length, arith, nat_lt}
+use Rattle.std.proofs.Common.{refl, ap, sym, ◌∙◌, inl, inr, Option, Some, None, find, filter_map, option_map, IfSome, insert}
+use Rattle.std.specs.List.{range_with_len, AllByRecursion, cons_option, prefix_len}
+use Rattle.std.proofs.Math.Numerals.{one-add}
+use Rattle.std.proofs.lemmas.Option.{IfSome_then}
 use Rattle.std.proofs.lemmas.Bool.{cases_Bool, cases_eq, eq-eqb, lt-ltb, le-ltb, ne_eqb, and_left, and_right, or_from, or_parts}
 use Rattle.tw_model.specs.declared.net.Hop.{Hop}
 use Rattle.tw_model.specs.declared.net.Link.{Link}
@@ -8,6 +11,8 @@ use Rattle.tw_model.specs.Net.{Net, hop_to, hops_of, joins}
 use Rattle.tw_model.specs.Rules.{is_linked}
 use Rattle.tw_model.proofs.Nets.{joins_back, linked_back}
 use Rattle.tw_instance.specs.Tables.{with_hop}
+use Rattle.tw_instance.proofs.Lists.{find_more, find_new}
+use Rattle.tw_instance.proofs.Rows.{IsLinkedTable}
 
 -- ---- hops that are listed by their number
 
@@ -30,39 +35,32 @@ all_from P h (suc n) a each =
     let rest = all_from P h n (a + 1) (λ w low high. each w (omega arith) (omega arith)) in
     joined P (h a) (hops_from h (a + 1) n) (each a (omega arith) (omega arith)) rest
 
-pub if_some_weaker : (P Q : Hop → Type 0) → ((x : Hop) → P x → Q x) → (o : Option Hop) → IfSome o P → IfSome o Q
-if_some_weaker P Q f None h = tt
-if_some_weaker P Q f (Some x) h = f x h
-
--- ---- a hop in its place among others in rising number
+-- ---- a hop among others in rising number
 
 pub length-with_hop : (x : Hop) (ys : List Hop) → length (with_hop x ys) ≡ suc (length ys)
 length-with_hop x [] = refl
 length-with_hop x (y ∷ ys) =
-    elim (cases_Bool (nat_lt x.peer y.peer)) [
-      | inl t ↦ rw t refl
-      | inr f ↦ rw f (ap suc (length-with_hop x ys))
+    elim (cases_Bool (nat_lt y.peer x.peer)) [
+      | inl t ↦ rw t (ap suc (length-with_hop x ys))
+      | inr f ↦ rw f refl
     ]
 
-insert_next : (y x : Hop) (n : ℕ) (ys : List Hop) → insert (y ∷ ys) (1 + n) x ≡ y ∷ insert ys n x
-insert_next y x n ys = let e : 1 + n ≡ suc n = omega arith in rw e refl
-
--- it stands before the first of a higher number
-pub insert_hop : (x : Hop) (ys : List Hop) → insert ys (position_or_len (λ y. nat_lt x.peer y.peer) ys) x ≡ with_hop x ys
+-- it stands behind those of a lower number
+pub insert_hop : (x : Hop) (ys : List Hop) → insert ys (prefix_len (λ y. nat_lt y.peer x.peer) ys) x ≡ with_hop x ys
 insert_hop x [] = refl
 insert_hop x (y ∷ ys) =
-    elim (cases_Bool (nat_lt x.peer y.peer)) [
-      | inl t ↦ rw t refl
-      | inr f ↦ rw f (insert_next y x (position_or_len (λ z. nat_lt x.peer z.peer) ys) ys ∙ ap (λ zs. y ∷ zs) (insert_hop x ys))
+    elim (cases_Bool (nat_lt y.peer x.peer)) [
+      | inl t ↦ rw (t, one-add) (ap (λ zs. y ∷ zs) (insert_hop x ys))
+      | inr f ↦ rw f refl
     ]
 
 before_all : (x : Hop) (ys : List Hop) → AllByRecursion (λ y. x.peer < y.peer) ys → with_hop x ys ≡ x ∷ ys
 before_all x [] h = refl
-before_all x (y ∷ ys) h = rw (lt-ltb x.peer y.peer h.0) refl
+before_all x (y ∷ ys) h = rw (le-ltb y.peer x.peer (let low = h.0 in omega arith)) refl
 
 after_lower : (o : Option Hop) (x : Hop) (xs : List Hop) → IfSome o (λ y. y.peer < x.peer) → with_hop x (cons_option o xs) ≡ cons_option o (with_hop x xs)
 after_lower None x xs h = refl
-after_lower (Some y) x xs h = rw (le-ltb x.peer y.peer (omega arith)) refl
+after_lower (Some y) x xs h = rw (lt-ltb y.peer x.peer h) refl
 
 hops_same : (h k : ℕ → Option Hop) (n a : ℕ) → ((w : ℕ) → a ≤ w → k w ≡ h w) → hops_from k a n ≡ hops_from h a n
 hops_same h k zero a same = refl
@@ -78,10 +76,10 @@ hops_more h k named b x e none some same (suc n) a low high =
           (let none' : h a ≡ None = ap h here ∙ none in
           let some' : k a ≡ Some x = ap k here ∙ some in
           let rest = hops_same h k n (a + 1) (λ w from. same w (λ i. let j : w ≡ b = i in omega arith)) in
-          let above = all_from (λ y. x.peer < y.peer) h n (a + 1) (λ w from below. if_some_weaker (λ y. y.peer ≡ w) (λ y. x.peer < y.peer) (λ y i. omega arith) (h w) (named w)) in
+          let above = all_from (λ y. x.peer < y.peer) h n (a + 1) (λ w from below. IfSome_then (h w) (named w) (λ y i. omega arith)) in
           rw (none', some') (ap (λ xs. x ∷ xs) rest ∙ sym (before_all x (hops_from h (a + 1) n) above)))
       | inr other ↦
-          (let lower = if_some_weaker (λ y. y.peer ≡ a) (λ y. y.peer < x.peer) (λ y i. let ne : a ≡ b → ⊥ = other in omega arith) (h a) (named a) in
+          (let lower = IfSome_then (h a) {Q = λ y. y.peer < x.peer} (named a) (λ y i. let ne : a ≡ b → ⊥ = other in omega arith) in
           let rest = hops_more h k named b x e none some same n (a + 1) (let ne : a ≡ b → ⊥ = other in omega arith) (omega arith) in
           rw (same a other) (ap (cons_option (h a)) rest ∙ sym (after_lower (h a) x (hops_from h (a + 1) n) lower)))
     ]
@@ -96,18 +94,6 @@ pub named_hop : (links : List Link) (v w : ℕ) → IfSome (hop_to links v w) (�
 named_hop links v w = named_of (find (joins v w) links) w
 
 -- ---- one more link
-
-find_more : {X : Type 0} (p : X → Bool) (xs : List X) (y : X) → p y ≡ false → find p (xs ++ y ∷ []) ≡ find p xs
-find_more p [] y h = rw h refl
-find_more p (x ∷ xs) y h = ap (λ o. cond (p x) (Some x) o) (find_more p xs y h)
-
-find_new : {X : Type 0} (p : X → Bool) (xs : List X) (y : X) → p y ≡ true → find p xs ≡ None → find p (xs ++ y ∷ []) ≡ Some y
-find_new p [] y h none = rw h refl
-find_new p (x ∷ xs) y h none =
-    elim (cases_Bool (p x)) [
-      | inl t ↦ let some : Some x ≡ None = rw t at none in absurd (cc)
-      | inr f ↦ rw f (find_new p xs y h (rw f at none))
-    ]
 
 find_none : (links : List Link) (v w : ℕ) → is_linked links v w ≡ false → find (joins v w) links ≡ None
 find_none [] v w h = refl
@@ -144,7 +130,9 @@ joins_first_only l u apart ne =
 
 joins_second_only : (l : Link) (u : ℕ) → (l.first ≡ l.second → ⊥) → (u ≡ l.first → ⊥) → joins l.second u l ≡ false
 joins_second_only l u apart ne =
-    or_from (l.first == l.second && l.second == u) (l.first == u && l.second == l.second) (and_left (l.first == l.second) (l.second == u) (ne_eqb l.first l.second apart)) (and_left (l.first == u) (l.second == l.second) (ne_eqb l.first u (λ e. ne (sym e))))
+    let a : (l.first == l.second) ≡ false = ne_eqb l.first l.second apart in
+    let b : (l.first == u) ≡ false = ne_eqb l.first u (λ e. ne (sym e)) in
+    or_from (l.first == l.second && l.second == u) (l.first == u && l.second == l.second) (and_left (l.first == l.second) (l.second == u) a) (and_left (l.first == u) (l.second == l.second) b)
 
 joins_apart : (l : Link) (v u : ℕ) → (v ≡ l.first → ⊥) → (v ≡ l.second → ⊥) → joins v u l ≡ false
 joins_apart l v u ne nf =
@@ -153,16 +141,14 @@ joins_apart l v u ne nf =
     or_from (l.first == v && l.second == u) (l.first == u && l.second == v) (and_left (l.first == v) (l.second == u) a) (and_right (l.first == u) (l.second == v) b)
 
 -- the neighbours after one more link: its ends have each other
-pub record IsJoined (net : Net) (l : Link) : Type 0 where
-  pub first : hops_of (record net { links = net.links ++ l ∷ [] }) l.first ≡ with_hop (record { peer = l.second; delay = l.delay }) (hops_of net l.first)
-  pub second : hops_of (record net { links = net.links ++ l ∷ [] }) l.second ≡ with_hop (record { peer = l.first; delay = l.delay }) (hops_of net l.second)
-  pub others : (v : ℕ) → (v ≡ l.first → ⊥) → (v ≡ l.second → ⊥) → hops_of (record net { links = net.links ++ l ∷ [] }) v ≡ hops_of net v
-
-pub is_joined : (net : Net) (l : Link) → l.first < net.nodes → l.second < net.nodes → (l.first ≡ l.second → ⊥) → is_linked net.links l.first l.second ≡ false → IsJoined net l
+pub is_joined : (net : Net) (l : Link) → l.first < net.nodes → l.second < net.nodes → (l.first ≡ l.second → ⊥) → is_linked net.links l.first l.second ≡ false
+    → IsLinkedTable (hops_of net) (hops_of (record net { links = net.links ++ l ∷ [] })) l
 is_joined net l below below' apart new = record {
-  first = hops_added net l l.first l.second below' (joins_first l) (λ u ne. joins_first_only l u apart ne) new;
-  second = hops_added net l l.second l.first below (joins_back l.second l.first l ∙ joins_first l) (λ u ne. joins_second_only l u apart ne) (linked_back net.links l.second l.first ∙ new);
-  others = λ v ne nf. hops_kept net l v (λ u. joins_apart l v u ne nf);
+  first = sym (hops_added net l l.first l.second below' (joins_first l) (λ u ne. joins_first_only l u apart ne) new);
+  second =
+      let back = joins_back l.second l.first l ∙ joins_first l in
+      sym (hops_added net l l.second l.first below back (λ u ne. joins_second_only l u apart ne) (linked_back net.links l.second l.first ∙ new));
+  others = λ v ne nf. sym (hops_kept net l v (λ u. joins_apart l v u ne nf));
 }
 
 -- no hop to anyone where there is no link

@@ -1,12 +1,13 @@
+pub mod Lists
 pub mod Paths
 pub mod Finding
-pub mod Keys
+pub mod Hashes
 pub mod Hops
 pub mod Links
 pub mod Lines
 pub mod Rows
 pub mod Facts
 pub mod Sound
-pub mod KeyRows
+pub mod Growing
 pub mod Told
 pub mod Scenes

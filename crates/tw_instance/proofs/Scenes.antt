@@ -1,23 +1,30 @@
--- A scenario with one more line.
-use Rattle.std.proofs.Common.{◌≡◌, ℕ, suc, ◌+◌, List, [], ◌∷◌, ◌++◌, length, Option, Some, None, sym, subst, ap, ◌∙◌, append_assoc, arith}
+-- A scenario with one more scene.
+use Rattle.std.proofs.Common.{◌≡◌, ℕ, suc, ◌+◌, ◌≤◌, List, [], ◌∷◌, ◌++◌, length, take, Option, Some, None, Result, Err, sym, subst, ap, ◌∙◌, append_assoc, arith}
 use Rattle.std.specs.List.{enumerate_from, flat_map}
-use Rattle.std.proofs.lemmas.List.{append-nil}
+use Rattle.std.proofs.lemmas.List.{append-nil, length-take-le}
 use Rattle.tw_event.specs.declared.event.Event.{Event}
 use Rattle.tw_event.specs.declared.event.Body.TheVariants.{Start}
 use Rattle.tw_model.specs.declared.case.Scene.{Scene}
-use Rattle.tw_model.specs.declared.net.Rule.{Rule as ARule}
-use Rattle.tw_model.specs.Case.{IsCase, opening_event, opening_events, scene_events}
+use Rattle.tw_model.specs.declared.memory.OrMemory.{OrMemory}
+use Rattle.tw_model.specs.declared.memory.OrMemory.TheVariants.{Fault}
+use Rattle.tw_model.specs.declared.rule.Rule.{Rule}
+use Rattle.tw_model.specs.Case.{Case, IsCase, opening_event, opening_events, scene_events}
 use Rattle.tw_model.specs.Net.{Net}
 use Rattle.tw_model.specs.Rules.{scene_fault}
 use Rattle.tw_model.proofs.Grown.{case_with_scene}
-use Rattle.tw_instance.specs.declared.refusal.Refusal.TheVariants.{Rule}
-use Rattle.tw_instance.proofs.Told.{IsOf}
+use Rattle.tw_instance.proofs.Told.{SaysRule}
 
--- the rule that is told is the fault's
-pub says : (T : Type 0) (fault : Option ARule) (rule : ARule) → fault ≡ Some rule → IsOf T (Rule rule) fault
-says T fault rule h r = (λ e. cc, λ f. cc)
+-- the rule that is told is the one that the scene breaks
+pub says_rule : (T : Type 0) (broken : Option Rule) (rule : Rule) → broken ≡ Some rule → (let e : Result T (OrMemory Rule) = Err (Fault rule) in SaysRule e broken)
+says_rule T broken rule h r = (λ e. cc, λ f. cc)
 
--- the events of scenario lines from number n on
+-- a scene is judged by how many others there are
+pub judged_alike : (now old : Case) (all : List Scene) (i : ℕ) (s : Scene) → i ≤ length all → now ≡ record old { scenes = take i all }
+    → scene_fault now.net (length now.scenes) s ≡ scene_fault old.net i s
+judged_alike now old all i s within is =
+    ap (λ (k : Case). scene_fault k.net (length k.scenes) s) is ∙ ap (λ n. scene_fault old.net n s) (length-take-le i all within)
+
+-- the events of scenes from number n on
 abbrev events_from : ℕ → List Scene → List Event
 events_from n scenes = flat_map (λ l. scene_events l.0 l.1) (enumerate_from n scenes)
 
@@ -28,7 +35,7 @@ events_more n (x ∷ scenes) s =
     ∙ (sym (append_assoc (scene_events n x) (events_from (n + 1) scenes) (scene_events (n + 1 + length scenes) s))
     ∙ (let e : n + 1 + length scenes ≡ n + suc (length scenes) = omega arith in ap (λ k. (scene_events n x ++ events_from (n + 1) scenes) ++ scene_events k s) e))
 
--- a scenario and its opening events with one more line
+-- a scenario and its opening events with one more scene
 pub record IsWithScene (net : Net) (scenes : List Scene) (events : List Event) : Type 0 where
   pub case : IsCase (record { net = net; scenes = scenes })
   pub opening : events ≡ opening_events scenes

@@ -1,44 +1,58 @@
--- The first item that breaks a rule, and the first rule that it breaks.
-use Rattle.std.specs.Prelude.{ℕ, ◌+◌, ◌≡◌, List, [], ◌∷◌, ◌++◌, Option, Some, None, Result, Ok, Err}
-use Rattle.std.specs.Option.{option_or}
+-- The items of an instance or of a case in the order in which they are judged, and what a build of them may answer (own).
+use Rattle.std.specs.Prelude.{ℕ, ◌+◌, ◌≡◌, List, [], ◌∷◌, ◌++◌, Option, Some, None, Result, Ok, Err, ◌⊎◌}
+use Rattle.std.specs.List.{All}
 use Rattle.tw_model.specs.declared.case.Scene.{Scene as AScene}
+use Rattle.tw_model.specs.declared.memory.OrMemory.TheVariants.{Fault, Memory}
 use Rattle.tw_model.specs.declared.net.Link.{Link as ALink}
-use Rattle.tw_model.specs.declared.net.Rule.{Rule}
+use Rattle.tw_model.specs.declared.rule.Rule.{Rule}
 use Rattle.tw_model.specs.Line.{Line}
 use Rattle.tw_model.specs.Net.{Net}
 use Rattle.tw_model.specs.Rules.{line_fault, link_fault, nodes_fault, scene_fault}
 use Rattle.tw_instance.specs.declared.refusal.At.{At}
-use Rattle.tw_instance.specs.declared.refusal.At.TheVariants.{Fault, Memory}
 use Rattle.tw_instance.specs.declared.refusal.Place.{Place}
-use Rattle.tw_instance.specs.declared.refusal.Place.TheVariants.{Nodes, Link, Path, Scene}
+use Rattle.tw_instance.specs.declared.refusal.Place.TheVariants.{Nodes, Link, Path, Start, Scene}
 
--- a fault of this item, or else a later one
-abbrev pub at_or : Option Rule → Place → Option (Place × Rule) → Option (Place × Rule)
-at_or (Some r) place later = Some (place, r)
-at_or None place later = later
+-- an item, and the first rule that it breaks after the items before it
+abbrev pub JudgedItem : Type 0
+JudgedItem = Place × Option Rule
 
--- the first link that breaks a rule after those of the net and the links before it; the first of them is number k
-abbrev pub links_fault : Net → ℕ → List ALink → Option (Place × Rule)
-links_fault net k [] = None
-links_fault net k (l ∷ links) = at_or (link_fault net l) (Link k) (links_fault (record net { links = net.links ++ l ∷ [] }) (k + 1) links)
+-- links that follow those of the net; the first of them is number k
+abbrev pub judged_links : Net → ℕ → List ALink → List JudgedItem
+judged_links net k [] = []
+judged_links net k (l ∷ links) = (Link k, link_fault net l) ∷ judged_links (record net { links = net.links ++ l ∷ [] }) (k + 1) links
 
--- the same of permitted paths
-abbrev pub lines_fault : Net → ℕ → List Line → Option (Place × Rule)
-lines_fault net k [] = None
-lines_fault net k (p ∷ lines) = at_or (line_fault net p) (Path k) (lines_fault (record net { lines = net.lines ++ p ∷ [] }) (k + 1) lines)
+-- permitted paths that follow those of the net; the first of them is number k
+abbrev pub judged_lines : Net → ℕ → List Line → List JudgedItem
+judged_lines net k [] = []
+judged_lines net k (p ∷ lines) = (Path k, line_fault net p) ∷ judged_lines (record net { lines = net.lines ++ p ∷ [] }) (k + 1) lines
 
--- the same of the scenario lines after so many others
-abbrev pub scenes_fault : Net → ℕ → List AScene → Option (Place × Rule)
-scenes_fault net count [] = None
-scenes_fault net count (s ∷ scenes) = at_or (scene_fault net count s) (Scene (count + 1)) (scenes_fault net (count + 1) scenes)
+-- scenes that follow so many others
+abbrev pub judged_scenes : Net → ℕ → List AScene → List JudgedItem
+judged_scenes net count [] = []
+judged_scenes net count (s ∷ scenes) = (Scene (count + 1), scene_fault net count s) ∷ judged_scenes net (count + 1) scenes
 
--- the first fault of a whole instance: of the number of routers, the links, the permitted paths
-abbrev pub instance_fault : ℕ → List ALink → List Line → Option (Place × Rule)
-instance_fault nodes links lines =
-    at_or (nodes_fault nodes) Nodes (option_or (links_fault (record { nodes = nodes; links = []; lines = [] }) 1 links) (lines_fault (record { nodes = nodes; links = links; lines = [] }) 1 lines))
+-- the items of a whole instance: the number of routers, the links, the permitted paths
+abbrev pub judged_instance : ℕ → List ALink → List Line → List JudgedItem
+judged_instance nodes links lines =
+    let of_links = judged_links (record { nodes = nodes; links = []; lines = [] }) 1 links in
+    let of_lines = judged_lines (record { nodes = nodes; links = links; lines = [] }) 1 lines in
+    (Nodes, nodes_fault nodes) ∷ of_links ++ of_lines
 
--- what was returned tells the first fault, unless memory ran out
-abbrev pub Tells : {T : Type 0} → Result T At → Option (Place × Rule) → Type 0
-Tells (Ok x) fault = fault ≡ None
-Tells (Err Memory) fault = Unit {0}
-Tells (Err (Fault place rule)) fault = fault ≡ Some (place, rule)
+-- the items of a whole case: the start of the origin, which breaks no rule, and the scenes
+abbrev pub judged_case : Net → List AScene → List JudgedItem
+judged_case net scenes = (Start, None) ∷ judged_scenes net 0 scenes
+
+-- none of these items breaks a rule
+abbrev pub NoneBreaks : List JudgedItem → Type 0
+NoneBreaks items = All (λ item. item.1 ≡ None) items
+
+-- a build was refused at the first item that breaks a rule, or at one before it, for which memory was refused
+abbrev pub IsRefusedAt : List JudgedItem → At → Type 0
+IsRefusedAt [] at = ⊥
+IsRefusedAt ((place, Some rule) ∷ items) at = at ≡ record { place = place; fault = Fault rule }
+IsRefusedAt ((place, None) ∷ items) at = (at ≡ record { place = place; fault = Memory }) ⊎ IsRefusedAt items at
+
+-- what was returned tells of these items: none breaks a rule, or where and why the build was refused
+abbrev pub TellsOf : {T : Type 0} → Result T At → List JudgedItem → Type 0
+TellsOf (Ok x) items = NoneBreaks items
+TellsOf (Err at) items = IsRefusedAt items at

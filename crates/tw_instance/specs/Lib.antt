@@ -2,5 +2,4 @@ pub mod Build
 pub mod Hops
 pub mod Instance
 pub mod Opening
-pub mod Refused
 pub mod Tables

@@ -1,8 +1,9 @@
--- What the fields of a case say, and what holds of them.
+-- What the fields of a case say, and what holds of them (own).
 use Rattle.std.specs.Prelude.{◌≡◌}
 use Rattle.tw_model.specs.Case.{Case, IsCase, opening_events}
 use Rattle.tw_instance.specs.declared.case.Case.TheInside.{Inside}
 
+-- the case that the fields are: an instance with its scenes
 abbrev pub case_of : Inside → Case
 case_of a = record { net = a.instance; scenes = a.scenario.items }
 

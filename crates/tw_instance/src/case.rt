@@ -1,16 +1,16 @@
 ghost use Rattle.std.specs.Prelude.{◌≡◌, ◌↔◌, length, [], ◌∷◌, ◌++◌, IfOk, OnErr, OnOk, slice_get, List};
-ghost use Rattle.tw_model.specs.declared.net.Rule.{Rule as ARule};
+ghost use Rattle.tw_model.specs.declared.rule.Rule.{Rule as ARule};
 ghost use Rattle.tw_model.specs.Case.{IsCase, opening_events};
 ghost use Rattle.tw_model.specs.Rules.{scene_fault};
-ghost use Rattle.tw_instance.specs.Build.{Tells, scenes_fault};
+ghost use Rattle.tw_instance.specs.Build.{TellsOf, judged_case, judged_scenes};
 
 use crate::instance::Instance;
-use crate::refusal::{At, Place, Refusal};
-use crate::{faults, opening};
+use crate::refusal::{At, Place};
+use crate::{opening, rules};
 use std::alloc::{AllocError, Global};
 use std::marker::Model;
 use tw_event::Event;
-use tw_model::Scene;
+use tw_model::{OrMemory, Rule, Scene};
 
 /// An instance with a scenario: failures and repairs of links and exchanges of ranks. It keeps every
 /// rule at any time.
@@ -18,7 +18,7 @@ use tw_model::Scene;
 pub struct Case {
     instance: Instance,
     scenario: Vec<Scene>,
-    /// The opening events: the start of the origin, then those of each scenario line.
+    /// The opening events: the start of the origin, then those of each scene.
     opening: Vec<Event>,
 }
 
@@ -49,16 +49,16 @@ impl Case {
         })
     }
 
-    /// Adds a scenario line. An error leaves the case as it was.
-    pub fn add(&mut self, scene: Scene) -> Result<(), Refusal>
+    /// Adds a scene. An error leaves the case as it was.
+    pub fn add(&mut self, scene: Scene) -> Result<(), OrMemory<Rule>>
         ensures ok { OnOk result (self.new ≡ record self.old { scenes = self.old.scenes ++ scene ∷ [] }) }
-        ensures rule { (r : ARule) → (result ≡ Err (Refusal.Rule r)) ↔ (scene_fault self.old.net (length self.old.scenes) scene ≡ Some r) }
+        ensures rule { (r : ARule) → (result ≡ Err (OrMemory.Fault r)) ↔ (scene_fault self.old.net (length self.old.scenes) scene ≡ Some r) }
         ensures kept { OnOk result (scene_fault self.old.net (length self.old.scenes) scene ≡ None) }
         ensures err { OnErr result (self.new ≡ self.old) }
     {
         let count = self.scenario.len();
-        if let Some(rule) = faults::scene_fault(&self.instance, count, &scene) {
-            return Err(Refusal::Rule(rule));
+        if let Some(rule) = rules::scene_fault(&self.instance, count, &scene) {
+            return Err(OrMemory::Fault(rule));
         }
         self.scenario.reserve(1)?;
         opening::add(&mut self.opening, count as u64 + 1, &scene)?;
@@ -66,12 +66,21 @@ impl Case {
         Ok(())
     }
 
-    /// A case of this instance with these scenario lines, or the first that is refused.
+    /// A case of this instance with these scenes, or the first that is not taken.
     pub fn build(alloc: Global, instance: Instance, scenes: Vec<Scene>) -> Result<Case, At>
         ensures ok { IfOk result (λ c. c ≡ record { net = instance; scenes = scenes.items }) }
-        ensures fault { Tells result (scenes_fault instance 0 scenes.items) }
+        ensures told { TellsOf result (judged_case instance scenes.items) }
     {
-        let mut case = Case::new(alloc, instance)?;
+        let mut case = match Case::new(alloc, instance) {
+            Ok(case) => case,
+            Err(error) => {
+                let place = Place::Start;
+                return Err(At {
+                    place,
+                    fault: error.into(),
+                });
+            }
+        };
         case.add_all(&scenes)?;
         Ok(case)
     }
@@ -79,12 +88,12 @@ impl Case {
     fn add_all(&mut self, scenes: &[Scene]) -> Result<(), At>
         requires { self.old.scenes ≡ [] }
         ensures ok { OnOk result (self.new ≡ record self.old { scenes = scenes.now }) }
-        ensures fault { Tells result (scenes_fault self.old.net 0 scenes.now) }
+        ensures told { TellsOf result (judged_scenes self.old.net 0 scenes.now) }
     {
         for (i, scene) in scenes.iter().enumerate() {
-            match self.add(*scene) {
-                Ok(()) => {}
-                Err(refusal) => return Err(refusal.at(Place::Scene(i + 1))),
+            if let Err(fault) = self.add(*scene) {
+                let place = Place::Scene(i + 1);
+                return Err(At { place, fault });
             }
         }
         Ok(())
@@ -98,7 +107,7 @@ impl Case {
         &self.instance
     }
 
-    /// The scenario lines, as they were given.
+    /// The scenes, as they were given.
     pub fn scenario(&self) -> &[Scene]
         ensures value { result.now ≡ self.now.scenes }
         ensures case { IsCase self.now }
@@ -106,16 +115,16 @@ impl Case {
         &self.scenario
     }
 
-    /// The opening event at this place, from 0: the start of the origin, then those of each scenario
-    /// line in turn, of a failure or a repair one at each end. `None` past the last.
+    /// Opening event number `k`, from 0: the start of the origin, then those of each scene in turn, of a
+    /// failure or a repair one at each end. `None` past the last.
     pub fn opening(&self, k: usize) -> Option<Event>
         ensures { result ≡ slice_get (opening_events self.now.scenes) k }
     {
         self.opening.get(k).copied()
     }
 
-    /// The opening events: the start of the origin, then those of each scenario line in turn, of a
-    /// failure or a repair one at each end.
+    /// The opening events: the start of the origin, then those of each scene in turn, of a failure or a
+    /// repair one at each end.
     pub fn openings(&self) -> &[Event]
         ensures value { result.now ≡ opening_events self.now.scenes }
         ensures case { IsCase self.now }

@@ -1,21 +1,23 @@
-ghost use Rattle.std.specs.Prelude.{◌≡◌, ◌↔◌, ℕ, ◌+◌, ◌==◌, ◌<◌, ◌≤◌, List, [], ◌∷◌, ◌++◌, length, true, IfOk, IfSome, OnErr, OnOk, SomeIff, IsTrue, slice_index_or, map, drop};
+ghost use Rattle.std.specs.Prelude.{◌≡◌, ◌↔◌, ℕ, ◌+◌, ◌-◌, ◌*◌, ◌==◌, ◌<◌, ◌≤◌, List, [], ◌∷◌, ◌++◌, length, true, IfOk, IfSome, OnErr, OnOk, SomeIff, IsTrue, slice_index_or, map, drop};
 ghost use Rattle.std.specs.List.{All, find, position};
+ghost use Rattle.std.specs.List.Sorted.{IsStrictlyIncreasing};
 ghost use Rattle.tw_event.specs.declared.event.PathNo.{PathNo as APathNo};
+ghost use Rattle.tw_model.specs.declared.limits.TheConstants.{LONGEST_DELAY, MOST_LINKS, MOST_PATHS, MOST_ROUTERS};
+ghost use Rattle.tw_model.specs.declared.rule.Rule.{Rule as ARule};
 ghost use Rattle.tw_model.specs.Net.{IsPath, empty_path, hops_of, is_own, origin_path, path, paths, paths_of, same_path};
-ghost use Rattle.tw_model.specs.declared.net.Rule.{Rule as ARule};
 ghost use Rattle.tw_model.specs.Rules.{IsNet, line_fault, link_fault, nodes_fault};
 ghost use Rattle.tw_model.specs.State.{has_peer, hop, slot as slot_of};
-ghost use Rattle.tw_instance.specs.Build.{Tells, instance_fault, lines_fault, links_fault};
-ghost use Rattle.tw_instance.specs.Hops.{AreDistinct, AreRising, IsGoodHop};
-ghost use Rattle.tw_instance.specs.Tables.{key, tail_key};
+ghost use Rattle.tw_instance.specs.Build.{TellsOf, judged_instance, judged_lines, judged_links};
+ghost use Rattle.tw_instance.specs.Hops.{AreDistinct, IsGoodHop};
+ghost use Rattle.tw_instance.specs.Tables.{hash, tail_hash, tail_hashes_of};
 
-use crate::refusal::{At, Place, Refusal};
-use crate::{faults, tables};
+use crate::refusal::{At, Place};
+use crate::{rules, tables};
 use std::alloc::Global;
 use std::marker::Model;
 use tw_event::PathNo;
 use tw_lanes::first_equal;
-use tw_model::{Hop, Link, PathLine};
+use tw_model::{Hop, Link, OrMemory, PathLine, Rule};
 
 /// An instance of the stable paths problem: routers, links with delays, and permitted paths.
 ///
@@ -29,8 +31,8 @@ pub struct Instance {
     hops: Vec<Vec<Hop>>,
     /// Of each router its permitted paths, best first.
     permitted: Vec<Vec<PathNo>>,
-    /// Of each of them, in the same order, the key of the path without its first node.
-    tail_keys: Vec<Vec<u32>>,
+    /// Of each of them, in the same order, the hash of the path without its first node.
+    tail_hashes: Vec<Vec<u32>>,
 }
 
 impl Model for Instance {
@@ -47,36 +49,36 @@ impl Model for Instance {
 
 impl Instance {
     /// An instance of so many routers, with no link and no permitted path.
-    pub fn new(alloc: Global, nodes: u32) -> Result<Instance, Refusal>
+    pub fn new(alloc: Global, nodes: u32) -> Result<Instance, OrMemory<Rule>>
         ensures ok { IfOk result (λ i. i ≡ record { nodes = nodes; links = []; lines = [] }) }
-        ensures rule { (r : ARule) → (result ≡ Err (Refusal.Rule r)) ↔ (nodes_fault nodes ≡ Some r) }
+        ensures rule { (r : ARule) → (result ≡ Err (OrMemory.Fault r)) ↔ (nodes_fault nodes ≡ Some r) }
         ensures kept { OnOk result (nodes_fault nodes ≡ None) }
     {
-        if let Some(rule) = faults::nodes_fault(nodes) {
-            return Err(Refusal::Rule(rule));
+        if let Some(rule) = rules::nodes_fault(nodes) {
+            return Err(OrMemory::Fault(rule));
         }
         let hops = tables::empty_rows(alloc, nodes)?;
         let permitted = tables::opening_rows(alloc, nodes, PathNo::ORIGIN)?;
-        let tail_keys = tables::opening_rows(alloc, nodes, tables::key_of(&[]))?;
+        let tail_hashes = tables::opening_rows(alloc, nodes, tables::hash_of(&[]))?;
         Ok(Instance {
             nodes,
             links: Vec::new(alloc),
             paths: Vec::new(alloc),
             hops,
             permitted,
-            tail_keys,
+            tail_hashes,
         })
     }
 
     /// Adds a link. An error leaves the instance as it was.
-    pub fn add_link(&mut self, link: Link) -> Result<(), Refusal>
+    pub fn add_link(&mut self, link: Link) -> Result<(), OrMemory<Rule>>
         ensures ok { OnOk result (self.new ≡ record self.old { links = self.old.links ++ link ∷ [] }) }
-        ensures rule { (r : ARule) → (result ≡ Err (Refusal.Rule r)) ↔ (link_fault self.old link ≡ Some r) }
+        ensures rule { (r : ARule) → (result ≡ Err (OrMemory.Fault r)) ↔ (link_fault self.old link ≡ Some r) }
         ensures kept { OnOk result (link_fault self.old link ≡ None) }
         ensures err { OnErr result (self.new ≡ self.old) }
     {
-        if let Some(rule) = faults::link_fault(self, &link) {
-            return Err(Refusal::Rule(rule));
+        if let Some(rule) = rules::link_fault(self, &link) {
+            return Err(OrMemory::Fault(rule));
         }
         self.links.reserve(1)?;
         tables::join(&mut self.hops, &link)?;
@@ -86,24 +88,24 @@ impl Instance {
 
     /// Adds a permitted path, worse than those of its owner before it. An error leaves the instance
     /// as it was.
-    pub fn add_path(&mut self, path: PathLine) -> Result<(), Refusal>
+    pub fn add_path(&mut self, path: PathLine) -> Result<(), OrMemory<Rule>>
         ensures ok { OnOk result (self.new ≡ record self.old { lines = self.old.lines ++ path ∷ [] }) }
-        ensures rule { (r : ARule) → (result ≡ Err (Refusal.Rule r)) ↔ (line_fault self.old path ≡ Some r) }
+        ensures rule { (r : ARule) → (result ≡ Err (OrMemory.Fault r)) ↔ (line_fault self.old path ≡ Some r) }
         ensures kept { OnOk result (line_fault self.old path ≡ None) }
         ensures err { OnErr result (self.new ≡ self.old) }
     {
-        if let Some(rule) = faults::line_fault(self, &path) {
-            return Err(Refusal::Rule(rule));
+        if let Some(rule) = rules::line_fault(self, &path) {
+            return Err(OrMemory::Fault(rule));
         }
         let number = PathNo(self.paths.len() as u32 + 2);
-        let key = tail_key(&path.nodes);
+        let hash = tail_hash(&path.nodes);
         self.paths.reserve(1)?;
-        tables::list(
+        tables::push_path(
             &mut self.permitted,
-            &mut self.tail_keys,
+            &mut self.tail_hashes,
             path.owner,
             number,
-            key,
+            hash,
         )?;
         self.paths.push_reserved(path);
         Ok(())
@@ -118,11 +120,14 @@ impl Instance {
         paths: Vec<PathLine>,
     ) -> Result<Instance, At>
         ensures ok { IfOk result (λ i. i ≡ record { nodes = nodes; links = links.items; lines = paths.items }) }
-        ensures fault { Tells result (instance_fault nodes links.items paths.items) }
+        ensures told { TellsOf result (judged_instance nodes links.items paths.items) }
     {
         let mut instance = match Instance::new(alloc, nodes) {
             Ok(instance) => instance,
-            Err(refusal) => return Err(refusal.at(Place::Nodes)),
+            Err(fault) => {
+                let place = Place::Nodes;
+                return Err(At { place, fault });
+            }
         };
         instance.add_links(&links)?;
         instance.add_paths(paths)?;
@@ -131,12 +136,12 @@ impl Instance {
 
     fn add_links(&mut self, links: &[Link]) -> Result<(), At>
         ensures ok { OnOk result (self.new ≡ record self.old { links = self.old.links ++ links.now }) }
-        ensures fault { Tells result (links_fault self.old 1 links.now) }
+        ensures told { TellsOf result (judged_links self.old 1 links.now) }
     {
         for (i, link) in links.iter().enumerate() {
-            match self.add_link(*link) {
-                Ok(()) => {}
-                Err(refusal) => return Err(refusal.at(Place::Link(i + 1))),
+            if let Err(fault) = self.add_link(*link) {
+                let place = Place::Link(i + 1);
+                return Err(At { place, fault });
             }
         }
         Ok(())
@@ -144,12 +149,12 @@ impl Instance {
 
     fn add_paths(&mut self, paths: Vec<PathLine>) -> Result<(), At>
         ensures ok { OnOk result (self.new ≡ record self.old { lines = self.old.lines ++ paths.items }) }
-        ensures fault { Tells result (lines_fault self.old 1 paths.items) }
+        ensures told { TellsOf result (judged_lines self.old 1 paths.items) }
     {
         for (i, path) in paths.into_iter().enumerate() {
-            match self.add_path(path) {
-                Ok(()) => {}
-                Err(refusal) => return Err(refusal.at(Place::Path(i + 1))),
+            if let Err(fault) = self.add_path(path) {
+                let place = Place::Path(i + 1);
+                return Err(At { place, fault });
             }
         }
         Ok(())
@@ -160,8 +165,8 @@ impl Instance {
         ensures value { result ≡ self.now.nodes }
         ensures net { IsNet self.now }
         ensures some { 1 ≤ result }
-        ensures most { result ≤ 1024 }
-        ensures few_paths { length (paths self.now) ≤ 204602 }
+        ensures most { result ≤ MOST_ROUTERS }
+        ensures few_paths { length (paths self.now) ≤ MOST_PATHS * (MOST_ROUTERS - 1) + 2 }
         ensures distinct { AreDistinct self.now }
     {
         self.nodes
@@ -187,9 +192,9 @@ impl Instance {
     pub fn hops(&self, node: u32) -> &[Hop]
         ensures value { result.now ≡ hops_of self.now node }
         ensures net { IsNet self.now }
-        ensures few { length result.now ≤ 64 }
+        ensures few { length result.now ≤ MOST_LINKS }
         ensures good { All (IsGoodHop self.now.nodes) result.now }
-        ensures rising { AreRising result.now }
+        ensures rising { IsStrictlyIncreasing (map (λ h. h.peer) result.now) }
     {
         tables::row_of(&self.hops, node)
     }
@@ -198,26 +203,27 @@ impl Instance {
     pub fn permitted(&self, node: u32) -> &[PathNo]
         ensures value { result.now ≡ paths_of self.now node }
         ensures net { IsNet self.now }
-        ensures few { length result.now ≤ 200 }
+        ensures few { length result.now ≤ MOST_PATHS }
         ensures paths { All (IsPath self.now) result.now }
         ensures own { All (λ q. is_own self.now node q ≡ true) result.now }
     {
         tables::row_of(&self.permitted, node)
     }
 
-    /// The place of a neighbour among a router's neighbours, from 0.
+    /// The slot of a neighbour: how many neighbours of the router have a lower number. `None` where the
+    /// two are no neighbours.
     pub fn slot(&self, node: u32, peer: u32) -> Option<usize>
         ensures { SomeIff result (IsTrue (has_peer self.now node peer)) (slot_of self.now node peer) }
     {
-        place_of(self.hops(node), peer)
+        slot_of_peer(self.hops(node), peer)
     }
 
-    /// The delay in ticks of the link to the neighbour at this place.
+    /// The delay in ticks of the link to the neighbour of a slot.
     pub fn delay(&self, node: u32, slot: usize) -> u64
         requires { slot < length (hops_of self.now node) }
         ensures value { result ≡ (hop self.now node slot).delay }
         ensures some { 1 ≤ result }
-        ensures most { result ≤ 1000000 }
+        ensures most { result ≤ LONGEST_DELAY }
     {
         self.hops(node)[slot].delay
     }
@@ -252,16 +258,29 @@ impl Instance {
         }
     }
 
-    /// The path that is `node` followed by this path, where it is permitted at `node`. `slot` is the
-    /// place of the neighbour that the path came from; the answer is the same for each of them.
+    /// Whether a path has this number.
+    pub fn has_path(&self, number: PathNo) -> bool
+        ensures { IsTrue result ↔ IsPath self.now number }
+    {
+        (number.0 as usize) < self.paths.len() + 2
+    }
+
+    /// The path that is `node` followed by this path, where it is permitted at `node`; `None` where it
+    /// is not, and where there is no such router, slot or path. `slot` is that of the neighbour that
+    /// the path came from; the answer is the same for each of them.
     pub fn extend(&self, node: u32, slot: usize, number: PathNo) -> Option<PathNo>
-        requires router { node < self.now.nodes }
-        requires slot { slot < length (hops_of self.now node) }
-        requires path { IsPath self.now number }
         ensures some { IfSome result (λ q. IsTrue (same_path (path self.now q) (node ∷ path self.now number))) }
         ensures own { IfSome result (λ q. IsPath self.now q × IsTrue (is_own self.now node q)) }
-        ensures only { (q : APathNo) → IsTrue (same_path (path self.now q) (node ∷ path self.now number)) → result ≡ Some q }
+        ensures only { slot < length (hops_of self.now node) → IsPath self.now number
+            → (q : APathNo) → IsTrue (same_path (path self.now q) (node ∷ path self.now number)) → result ≡ Some q }
+
+        ensures no_router { self.now.nodes ≤ node → result ≡ None }
+        ensures no_slot { length (hops_of self.now node) ≤ slot → result ≡ None }
+        ensures no_path { length (paths self.now) ≤ number.0 → result ≡ None }
     {
+        if slot >= self.hops(node).len() || !self.has_path(number) {
+            return None;
+        }
         self.number_at(node, self.path(number))
     }
 
@@ -274,39 +293,39 @@ impl Instance {
         // Opens the invariant, from which each answer follows.
         let _ = &self.links;
         let numbers = self.permitted(node);
-        find_path(self, numbers, self.tail_keys(node), node, rest)
+        find_path(self, numbers, self.tail_hashes(node), node, rest)
     }
 
-    /// Of each permitted path of a router, best first, the key of the path without its first node.
-    fn tail_keys(&self, node: u32) -> &[u32]
-        ensures { result.now ≡ map (tail_key self.now) (paths_of self.now node) }
+    /// Of each permitted path of a router, best first, the hash of the path without its first node.
+    fn tail_hashes(&self, node: u32) -> &[u32]
+        ensures { result.now ≡ tail_hashes_of self.now node }
     {
-        tables::row_of(&self.tail_keys, node)
+        tables::row_of(&self.tail_hashes, node)
     }
 }
 
-fn place_of(hops: &[Hop], peer: u32) -> Option<usize>
+fn slot_of_peer(hops: &[Hop], peer: u32) -> Option<usize>
     ensures { result ≡ position (λ h. h.peer == peer) hops.now }
 {
     hops.iter().position(|hop| hop.peer == peer)
 }
 
-/// The first of these paths that is `node` followed by `rest`, given the key of each path without
-/// its first node. Nodes are compared only where the key is that of `rest`.
+/// The first of these paths that is `node` followed by `rest`, given the hash of each path without
+/// its first node. Nodes are compared only where the hash is that of `rest`.
 fn find_path(
     instance: &Instance,
     numbers: &[PathNo],
-    keys: &[u32],
+    hashes: &[u32],
     node: u32,
     rest: &[u32],
 ) -> Option<PathNo>
     requires paths { All (IsPath instance.now) numbers.now }
-    requires keys { keys.now ≡ map (tail_key instance.now) numbers.now }
+    requires hashes { hashes.now ≡ map (tail_hash instance.now) numbers.now }
     ensures { result ≡ find (λ q. same_path (path instance.now q) (node ∷ rest.now)) numbers.now }
 {
-    let key = tables::key_of(rest);
+    let hash = tables::hash_of(rest);
     let mut start = 0;
-    while let Some(skipped) = first_equal(&keys[start..], key) {
+    while let Some(skipped) = first_equal(&hashes[start..], hash) {
         let number = numbers[start + skipped];
         if is_made_of(instance.path(number), node, rest) {
             return Some(number);
@@ -316,16 +335,17 @@ fn find_path(
     None
 }
 
-/// The key of these nodes without the first.
-fn tail_key(nodes: &[u32]) -> u32
-    ensures { result ≡ key (drop 1 nodes.now) }
+/// The hash of these nodes without the first.
+fn tail_hash(nodes: &[u32]) -> u32
+    ensures { result ≡ hash (drop 1 nodes.now) }
 {
     match nodes {
-        [] => tables::key_of(&[]),
-        [_, rest @ ..] => tables::key_of(rest),
+        [] => tables::hash_of(&[]),
+        [_, rest @ ..] => tables::hash_of(rest),
     }
 }
 
+/// Whether these nodes are `first` followed by `rest`.
 fn is_made_of(nodes: &[u32], first: u32, rest: &[u32]) -> bool
     ensures { result ≡ same_path nodes.now (first ∷ rest.now) }
 {

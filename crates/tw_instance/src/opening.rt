@@ -16,7 +16,7 @@ pub fn start(alloc: Global) -> Result<Vec<Event>, AllocError>
     Ok(events)
 }
 
-/// Puts the events of a scenario line behind the others.
+/// Puts the events of a scene behind the others.
 pub fn add(events: &mut Vec<Event>, number: u64, scene: &Scene) -> Result<(), AllocError>
     ensures ok { OnOk result (events.new.items ≡ events.old.items ++ scene_events number scene.now) }
     ensures err { OnErr result (events.new.items ≡ events.old.items) }
@@ -49,7 +49,7 @@ pub fn add(events: &mut Vec<Event>, number: u64, scene: &Scene) -> Result<(), Al
     Ok(())
 }
 
-/// The opening event of a scenario line at a router.
+/// The opening event of scene `number` at a router.
 fn at(number: u64, time: u64, node: u32, body: Body) -> Event
     ensures { result ≡ opening_event number time node body }
 {

@@ -1,49 +1,8 @@
-ghost use Rattle.std.specs.Prelude.{◌≡◌};
-ghost use Rattle.tw_instance.specs.Refused.{refused_at};
-ghost use Rattle.tw_instance.specs.declared.refusal.At.TheVariants as at_memory;
-ghost use Rattle.tw_instance.specs.declared.refusal.Refusal.TheVariants.{Memory};
+use std::fmt::{self, Display, Formatter};
+use thiserror::Error;
+use tw_model::{OrMemory, Rule};
 
-use std::alloc::AllocError;
-use tw_model::Rule;
-
-/// Why an item was refused.
-#[derive(Clone, Copy, PartialEq, Eq, Debug)]
-pub enum Refusal {
-    /// It breaks this rule, and none before it.
-    Rule(Rule),
-    /// Memory ran out.
-    Memory,
-}
-
-impl Refusal {
-    /// The refusal of a whole, where this item was refused.
-    pub(crate) fn at(self, place: Place) -> At
-        ensures { result ≡ refused_at place self }
-    {
-        match self {
-            Refusal::Rule(rule) => At::Fault { place, rule },
-            Refusal::Memory => At::Memory,
-        }
-    }
-}
-
-impl From<AllocError> for Refusal {
-    ghost from_gives = { λ _ refusal. refusal ≡ Memory };
-
-    fn from(_error: AllocError) -> Refusal {
-        Refusal::Memory
-    }
-}
-
-impl From<AllocError> for At {
-    ghost from_gives = { λ _ at. at ≡ at_memory.Memory };
-
-    fn from(_error: AllocError) -> At {
-        At::Memory
-    }
-}
-
-/// An item of an instance or of a scenario.
+/// An item of an instance or of a case.
 #[derive(Clone, Copy, PartialEq, Eq, Debug)]
 pub enum Place {
     /// The number of routers.
@@ -52,20 +11,31 @@ pub enum Place {
     Link(usize),
     /// A permitted path, from 1.
     Path(usize),
-    /// A scenario line, from 1.
+    /// The start of the origin, which comes before the scenes.
+    Start,
+    /// A scene, from 1.
     Scene(usize),
 }
 
-/// Why a whole instance or scenario was refused.
-#[derive(Clone, Copy, PartialEq, Eq, Debug)]
-pub enum At {
-    /// The first item that breaks a rule, and the first rule that it breaks.
-    Fault {
-        /// The item.
-        place: Place,
-        /// The rule.
-        rule: Rule,
-    },
-    /// Memory ran out.
-    Memory,
+impl Display for Place {
+    fn fmt<W: fmt::Write>(&self, f: &mut Formatter<W>) -> fmt::Result {
+        match self {
+            Place::Nodes => write!(f, "nodes"),
+            Place::Link(number) => write!(f, "link {number}"),
+            Place::Path(number) => write!(f, "path {number}"),
+            Place::Start => write!(f, "start"),
+            Place::Scene(number) => write!(f, "scene {number}"),
+        }
+    }
+}
+
+/// Where and why an instance or a case was not built: at the first item that was not taken. The
+/// items before it keep the rules.
+#[derive(Clone, Copy, PartialEq, Eq, Debug, Error)]
+#[error("{place}: {fault}")]
+pub struct At {
+    /// The item.
+    pub place: Place,
+    /// The first rule that the item breaks, or that it breaks none and memory was refused.
+    pub fault: OrMemory<Rule>,
 }

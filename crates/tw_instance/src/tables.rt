@@ -1,14 +1,14 @@
-//! Rows of neighbours, of path numbers and of keys, one for each router.
+//! Tables by router: a row for each, of neighbours, of path numbers, of hashes of paths.
 
-ghost use Rattle.std.specs.Prelude.{◌≡◌, ◌≢◌, ◌<◌, ◌≤◌, List, [], ◌∷◌, ◌++◌, length, slice_index_or, slice_set, map, replicate, IfOk, OnErr, OnOk, vec_len, vec_capacity, ◌-◌, ◌+◌, ◌*◌, ◌%◌, ◌^◌};
-ghost use Rattle.std.specs.List.{insert, position_or_len};
-ghost use Rattle.std.specs.Prelude.{nat_lt};
-ghost use Rattle.tw_instance.specs.Tables.{items, key, row, with_hop};
+ghost use Rattle.std.specs.Prelude.{◌≡◌, ◌≢◌, ◌<◌, ◌≤◌, ◌-◌, ◌+◌, ◌*◌, ◌%◌, ◌^◌, [], ◌∷◌, length, replicate, nat_lt, IfOk, OnErr, OnOk, vec_len, vec_capacity};
+ghost use Rattle.std.specs.List.{prefix_len};
+ghost use Rattle.tw_instance.specs.Tables.{hash, items, push_at, row, with_hop, with_link};
 
 use std::alloc::{AllocError, Global};
 use tw_event::PathNo;
 use tw_model::{Hop, Link};
 
+/// The row of a router, empty where there is no such router.
 pub fn row_of<T>(rows: &[Vec<T>], node: u32) -> &[T]
     ensures { result.now ≡ row rows.now node }
 {
@@ -18,6 +18,7 @@ pub fn row_of<T>(rows: &[Vec<T>], node: u32) -> &[T]
     }
 }
 
+/// A table of so many empty rows.
 pub fn empty_rows<T: Drop>(alloc: Global, count: u32) -> Result<Vec<Vec<T>>, AllocError>
     ensures { IfOk result (λ rows. items rows.items ≡ replicate count []) }
 {
@@ -43,9 +44,7 @@ pub fn join(rows: &mut [Vec<Hop>], link: &Link) -> Result<(), AllocError>
     requires first { link.now.first < length rows.old }
     requires second { link.now.second < length rows.old }
     requires apart { link.now.first ≢ link.now.second }
-    ensures ok { OnOk result (items rows.new ≡ slice_set (slice_set (items rows.old)
-        link.now.first (with_hop (record { peer = link.now.second; delay = link.now.delay }) (row rows.old link.now.first)))
-        link.now.second (with_hop (record { peer = link.now.first; delay = link.now.delay }) (row rows.old link.now.second))) }
+    ensures ok { OnOk result (items rows.new ≡ with_link (items rows.old) link.now) }
     ensures err { OnErr result (items rows.new ≡ items rows.old) }
 {
     let (first, second) = (link.first as usize, link.second as usize);
@@ -68,58 +67,54 @@ pub fn join(rows: &mut [Vec<Hop>], link: &Link) -> Result<(), AllocError>
     Ok(())
 }
 
-/// Puts a neighbour in its place among others in rising number, where there is room.
+/// Puts a neighbour among others in rising number, where there is room.
 fn insert_reserved(row: &mut Vec<Hop>, hop: Hop)
     requires { vec_len row.old < vec_capacity row.old }
     ensures { row.new.items ≡ with_hop hop row.old.items }
 {
-    let place = place_above(row, hop.peer);
-    let _ = row.insert(place, hop);
+    let index = count_below(row, hop.peer);
+    let _ = row.insert(index, hop);
 }
 
-fn place_above(row: &[Hop], peer: u32) -> usize
-    ensures value { result ≡ position_or_len (λ h. nat_lt peer h.peer) row.now }
+/// How many neighbours stand before the first that has no lower number than this.
+fn count_below(row: &[Hop], peer: u32) -> usize
+    ensures value { result ≡ prefix_len (λ h. nat_lt h.peer peer) row.now }
     ensures within { result ≤ length row.now }
 {
-    for (i, hop) in row.iter().enumerate() {
-        if peer < hop.peer {
-            return i;
-        }
-    }
-    row.len()
+    row.iter().take_while(|hop| hop.peer < peer).count()
 }
 
-/// Puts a path number and its key behind those of a router.
-pub fn list(
+/// Puts a path number, and the hash of the path, behind those of a router.
+pub fn push_path(
     numbers: &mut [Vec<PathNo>],
-    keys: &mut [Vec<u32>],
+    hashes: &mut [Vec<u32>],
     node: u32,
     number: PathNo,
-    key: u32,
+    hash: u32,
 ) -> Result<(), AllocError>
     requires number { node < length numbers.old }
-    requires key { node < length keys.old }
-    ensures numbers { OnOk result (items numbers.new ≡ slice_set (items numbers.old) node (row numbers.old node ++ number ∷ [])) }
-    ensures keys { OnOk result (items keys.new ≡ slice_set (items keys.old) node (row keys.old node ++ key ∷ [])) }
-    ensures err { OnErr result ((items numbers.new ≡ items numbers.old) × (items keys.new ≡ items keys.old)) }
+    requires hash { node < length hashes.old }
+    ensures numbers { OnOk result (items numbers.new ≡ push_at (items numbers.old) node number) }
+    ensures hashes { OnOk result (items hashes.new ≡ push_at (items hashes.old) node hash) }
+    ensures err { OnErr result ((items numbers.new ≡ items numbers.old) × (items hashes.new ≡ items hashes.old)) }
 {
     let node = node as usize;
     numbers[node].reserve(1)?;
-    keys[node].reserve(1)?;
+    hashes[node].reserve(1)?;
     numbers[node].push_reserved(number);
-    keys[node].push_reserved(key);
+    hashes[node].push_reserved(hash);
     Ok(())
 }
 
-/// A number that equal lists of nodes share.
-pub fn key_of(nodes: &[u32]) -> u32
-    ensures { result ≡ key nodes.now }
+/// A hash of these nodes.
+pub fn hash_of(nodes: &[u32]) -> u32
+    ensures { result ≡ hash nodes.now }
 {
-    nodes.iter().fold(0, |key, node| next_key(key, *node))
+    nodes.iter().fold(0, |hash, node| next_hash(hash, *node))
 }
 
-fn next_key(key: u32, node: u32) -> u32
-    ensures { result ≡ (key * 1000003 + node) % 2 ^ 32 }
+fn next_hash(hash: u32, node: u32) -> u32
+    ensures { result ≡ (hash * 1000003 + node) % 2 ^ 32 }
 {
-    key.wrapping_mul(1_000_003).wrapping_add(node)
+    hash.wrapping_mul(1_000_003).wrapping_add(node)
 }

@@ -4,7 +4,7 @@ use Rattle.std.proofs.lemmas.Bool.{not-false, or_left, or_parts}
 use Rattle.std.proofs.lemmas.List.Folds.{list_any-append}
 use Rattle.tw_model.specs.declared.case.Scene.{Scene}
 use Rattle.tw_model.specs.declared.net.Link.{Link}
-use Rattle.tw_model.specs.declared.net.Rule.TheVariants.{PathNoLink}
+use Rattle.tw_model.specs.declared.rule.Rule.TheVariants.{PathNoLink}
 use Rattle.tw_model.specs.Case.{IsCase}
 use Rattle.tw_model.specs.Line.{Line}
 use Rattle.tw_model.specs.Net.{Net, joins}

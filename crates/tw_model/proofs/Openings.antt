@@ -8,8 +8,8 @@ use Rattle.tw_event.specs.declared.event.PathNo.{PathNo}
 use Rattle.tw_event.proofs.Order.{same_is}
 use Rattle.tw_model.specs.declared.case.Scene.{Scene}
 use Rattle.tw_model.specs.declared.case.Scene.TheVariants as scene
-use Rattle.tw_model.specs.declared.net.Rule.{Rule}
-use Rattle.tw_model.specs.declared.net.Rule.TheVariants.{Range, NoSuchLink, NoSuchPlace}
+use Rattle.tw_model.specs.declared.rule.Rule.{Rule}
+use Rattle.tw_model.specs.declared.rule.Rule.TheVariants.{Range, NoSuchLink, NoSuchPlace}
 use Rattle.tw_model.specs.Net.{Net, joins}
 use Rattle.tw_model.specs.Rules.{IsNet, ScenesFollow, has_place, is_linked, scene_breaks}
 use Rattle.tw_model.specs.State.{has_peer}

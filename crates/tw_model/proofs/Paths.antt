@@ -6,7 +6,7 @@ use Rattle.std.proofs.lemmas.Bool.{cases_lt, both_ways, and_parts, and_from, or_
 use Rattle.std.proofs.lemmas.Cmp.{nat_list_eq_equiv}
 use Rattle.std.proofs.lemmas.List.{get_or_past}
 use Rattle.tw_event.specs.declared.event.PathNo.{PathNo}
-use Rattle.tw_model.specs.declared.net.Rule.TheVariants.{PathOwner, TwicePath}
+use Rattle.tw_model.specs.declared.rule.Rule.TheVariants.{PathOwner, TwicePath}
 use Rattle.tw_model.specs.Line.{Line}
 use Rattle.tw_model.specs.Net.{Net, paths, path, IsPath, empty_path, origin_path, same_path, begins_at, paths_of, is_own, is_permitted}
 use Rattle.tw_model.specs.Rules.{IsNet, LinesFollow, line_breaks, line_fault}

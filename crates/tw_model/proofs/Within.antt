@@ -6,7 +6,7 @@ use Rattle.tw_event.specs.declared.event.Body.{Body}
 use Rattle.tw_event.specs.declared.event.Body.TheVariants.{Start, Fail, Restore, Swap, Update}
 use Rattle.tw_event.specs.declared.event.Event.{Event}
 use Rattle.tw_model.specs.declared.net.Link.{Link}
-use Rattle.tw_model.specs.declared.net.Rule.TheVariants.{Range, PathOwner}
+use Rattle.tw_model.specs.declared.rule.Rule.TheVariants.{Range, PathOwner}
 use Rattle.tw_model.specs.Line.{Line}
 use Rattle.tw_model.specs.Net.{Net, begins_at, hops_of, is_permitted, paths, paths_of}
 use Rattle.tw_model.specs.Rules.{IsNet, LinesFollow, has_place, line_breaks}

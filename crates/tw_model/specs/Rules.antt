@@ -5,8 +5,8 @@ use Rattle.tw_model.specs.declared.case.Scene.{Scene}
 use Rattle.tw_model.specs.declared.case.Scene.TheVariants.{Fail, Restore, Swap}
 use Rattle.tw_model.specs.declared.limits.TheConstants.{LATEST, LONGEST_DELAY, MOST_LINKS, MOST_NODES, MOST_PATHS, MOST_ROUTERS, MOST_SCENES}
 use Rattle.tw_model.specs.declared.net.Link.{Link}
-use Rattle.tw_model.specs.declared.net.Rule.{Rule}
-use Rattle.tw_model.specs.declared.net.Rule.TheVariants.{Range, SelfLink, TwiceLink, Delay, PathOwner, PathEnd, PathRepeats, PathNoLink, TwicePath, TooMany, NoSuchLink, NoSuchPlace, Time}
+use Rattle.tw_model.specs.declared.rule.Rule.{Rule}
+use Rattle.tw_model.specs.declared.rule.Rule.TheVariants.{Range, SelfLink, TwiceLink, Delay, PathOwner, PathEnd, PathRepeats, PathNoLink, TwicePath, TooMany, NoSuchLink, NoSuchPlace, Time}
 use Rattle.tw_model.specs.Line.{Line}
 use Rattle.tw_model.specs.Net.{Net, joins, same_path, begins_at, paths_of}
 

@@ -8,10 +8,12 @@ pub mod limits;
 mod memory;
 mod net;
 mod outcome;
+mod rule;
 mod state;
 
 pub use case::Scene;
 pub use memory::OrMemory;
-pub use net::{Hop, Link, PathLine, Rule};
+pub use net::{Hop, Link, PathLine};
 pub use outcome::{Outcome, RouterEnd};
+pub use rule::Rule;
 pub use state::{Counters, Row};

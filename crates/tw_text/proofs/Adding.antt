@@ -4,16 +4,15 @@ use Rattle.std.proofs.lemmas.Bool.{and_parts, cases_Bool, not-false}
 use Rattle.std.proofs.lemmas.Bool.Decides.{nat_tests}
 use Rattle.std.specs.List.{find, list_all}
 use Rattle.tw_instance.proofs.Sound.{is_router}
-use Rattle.tw_instance.specs.declared.refusal.Refusal.{Refusal}
-use Rattle.tw_instance.specs.declared.refusal.Refusal.TheVariants as refusal
 use Rattle.tw_model.proofs.Unbroken.{none_broken}
 use Rattle.tw_model.specs.declared.case.Scene.{Scene}
 use Rattle.tw_model.specs.declared.case.Scene.TheVariants.{Fail, Restore, Swap}
 use Rattle.tw_model.specs.declared.memory.OrMemory.{OrMemory}
-use Rattle.tw_model.specs.declared.net.Rule.{Rule}
-use Rattle.tw_model.specs.declared.net.Rule.TheVariants.{NoSuchPlace}
+use Rattle.tw_model.specs.declared.memory.OrMemory.TheVariants.{Fault, Memory}
+use Rattle.tw_model.specs.declared.rule.Rule.{Rule}
+use Rattle.tw_model.specs.declared.rule.Rule.TheVariants.{NoSuchPlace}
 use Rattle.tw_model.specs.Case.{Case, IsCase}
-use Rattle.tw_model.specs.Memory.{IsUnlessMemory}
+use Rattle.tw_model.specs.Memory.{IsUnlessMemory, map_fault}
 use Rattle.tw_model.specs.Net.{Net, paths_of}
 use Rattle.tw_model.specs.Rules.{has_place, is_within, line_fault, link_fault, scene_breaks, scene_fault}
 use Rattle.tw_text.specs.declared.draft.Draft.{Draft}
@@ -21,14 +20,15 @@ use Rattle.tw_text.specs.declared.draft.Draft.TheVariants.{Start, Header, Links,
 use Rattle.tw_text.specs.declared.keyword.Keyword.{Keyword}
 use Rattle.tw_text.specs.declared.keyword.Keyword.TheVariants as keyword
 use Rattle.tw_text.specs.declared.text_fault.LineFault.{LineFault}
-use Rattle.tw_text.specs.Drafts.{before_scenes, node_in, nodes_in, of_rule, place_of, rule_fault, step_by, step_said, with_link, with_path, with_scene}
+use Rattle.tw_text.specs.declared.text_fault.LineFault.TheVariants as x
+use Rattle.tw_text.specs.Drafts.{before_scenes, node_in, nodes_in, of_rule, place_of, step_by, step_said, with_link, with_path, with_scene}
 use Rattle.tw_text.specs.FaultTable.{unless_fault}
 use Rattle.tw_text.specs.Statements.{said, scene_line}
 
-pub refused : {A : Type 0} (result : Result A Refusal) (e : Refusal) (f : OrMemory LineFault) (fault : Option Rule) (next : Draft) → result ≡ Err e → f ≡ rule_fault e
-    → ((r : Rule) → (result ≡ Err (refusal.Rule r)) ↔ (fault ≡ Some r)) → IsUnlessMemory (Err f) (unless_fault (of_rule fault) next)
-refused result refusal.Memory f fault next is same h = rw same tt
-refused result (refusal.Rule r) f fault next is same h = rw (same, (h r).0 is) refl
+pub refused : {A : Type 0} (result : Result A (OrMemory Rule)) (e : OrMemory Rule) (f : OrMemory LineFault) (fault : Option Rule) (next : Draft) → result ≡ Err e → f ≡ map_fault (λ r. x.Rule r) e
+    → ((r : Rule) → (result ≡ Err (Fault r)) ↔ (fault ≡ Some r)) → IsUnlessMemory (Err f) (unless_fault (of_rule fault) next)
+refused result Memory f fault next is same h = rw same tt
+refused result (Fault r) f fault next is same h = rw (same, (h r).0 is) refl
 
 pub node_is : (net : Net) (n m : ℕ) → Ok m ≡ node_in net n → m ≡ n
 node_is net n m h = elim (cases_Bool (nat_lt n net.nodes)) [ inl t ↦ (let g : Ok m ≡ Ok n = rw t at h in cc) | inr f ↦ absurd (let g = rw f at h in cc) ]
@@ -37,14 +37,14 @@ pub nodes_are : (net : Net) (ns ms : List ℕ) → nodes_in net ns ≡ Ok ms →
 nodes_are net ns ms h =
     elim (cases_Bool (list_all (λ n. nat_lt n net.nodes) ns)) [ inl t ↦ (let g : Ok ns ≡ Ok ms = rw t at h in cc) | inr f ↦ absurd (let g = rw f at h in cc) ]
 
-pub link_refused : {A : Type 0} (result : Result A Refusal) (e : Refusal) (f : OrMemory LineFault) (net : Net) (a b delay k l : ℕ) → Ok k ≡ node_in net a → Ok l ≡ node_in net b
-    → result ≡ Err e → f ≡ rule_fault e → ((r : Rule) → (result ≡ Err (refusal.Rule r)) ↔ (link_fault net (record { first = k; second = l; delay = delay }) ≡ Some r))
+pub link_refused : {A : Type 0} (result : Result A (OrMemory Rule)) (e : OrMemory Rule) (f : OrMemory LineFault) (net : Net) (a b delay k l : ℕ) → Ok k ≡ node_in net a → Ok l ≡ node_in net b
+    → result ≡ Err e → f ≡ map_fault (λ r. x.Rule r) e → ((r : Rule) → (result ≡ Err (Fault r)) ↔ (link_fault net (record { first = k; second = l; delay = delay }) ≡ Some r))
     → IsUnlessMemory (Err f) (with_link net (record { first = a; second = b; delay = delay }))
 link_refused result e f net a b delay k l first second is same h =
     rw (← node_is net a k first, ← node_is net b l second) (refused result e f (link_fault net (record { first = k; second = l; delay = delay })) _ is same h)
 
-pub path_refused : {A : Type 0} (result : Result A Refusal) (e : Refusal) (f : OrMemory LineFault) (net : Net) (v w : ℕ) (ns ms : List ℕ) → Ok w ≡ node_in net v → nodes_in net ns ≡ Ok ms
-    → result ≡ Err e → f ≡ rule_fault e → ((r : Rule) → (result ≡ Err (refusal.Rule r)) ↔ (line_fault net (record { owner = w; nodes = ms }) ≡ Some r))
+pub path_refused : {A : Type 0} (result : Result A (OrMemory Rule)) (e : OrMemory Rule) (f : OrMemory LineFault) (net : Net) (v w : ℕ) (ns ms : List ℕ) → Ok w ≡ node_in net v → nodes_in net ns ≡ Ok ms
+    → result ≡ Err e → f ≡ map_fault (λ r. x.Rule r) e → ((r : Rule) → (result ≡ Err (Fault r)) ↔ (line_fault net (record { owner = w; nodes = ms }) ≡ Some r))
     → IsUnlessMemory (Err f) (with_path net (record { owner = v; nodes = ns }))
 path_refused result e f net v w ns ms owner nodes is same h =
     rw (← node_is net v w owner, ← nodes_are net ns ms nodes) (refused result e f (line_fault net (record { owner = w; nodes = ms })) _ is same h)

@@ -4,7 +4,7 @@ use Rattle.std.proofs.lemmas.Bool.{cases_Bool}
 use Rattle.std.specs.List.{find, list_all}
 use Rattle.std.specs.Str.Parse.{digits_value}
 use Rattle.tw_model.specs.Rules.{rules_in_order}
-use Rattle.tw_model.specs.declared.net.Rule.{Rule}
+use Rattle.tw_model.specs.declared.rule.Rule.{Rule}
 use Rattle.tw_text.specs.declared.draft.Draft.{Draft}
 use Rattle.tw_text.specs.declared.draft.Draft.TheVariants.{Start, Header, Links, Paths, Scenes, Done}
 use Rattle.tw_text.specs.declared.keyword.Keyword.{Keyword}

@@ -10,7 +10,7 @@ use Rattle.tw_model.specs.Net.{Net}
 use Rattle.tw_model.specs.Rules.{IsNet, link_fault, rules_in_order}
 use Rattle.tw_model.specs.declared.case.Scene.{Scene}
 use Rattle.tw_model.specs.declared.net.Link.{Link}
-use Rattle.tw_model.specs.declared.net.Rule.{Rule}
+use Rattle.tw_model.specs.declared.rule.Rule.{Rule}
 use Rattle.tw_model.proofs.Grown.{case_alone, case_with_scene, net_alone, net_with_line, net_with_link}
 use Rattle.tw_text.specs.declared.draft.Draft.{Draft}
 use Rattle.tw_text.specs.declared.draft.Draft.TheVariants.{Start, Header, Links, Paths, Scenes, Done}

@@ -13,7 +13,7 @@ use Rattle.tw_model.specs.declared.case.Scene.{Scene}
 use Rattle.tw_model.specs.declared.case.Scene.TheVariants.{Fail, Restore, Swap}
 use Rattle.tw_model.specs.declared.limits.TheConstants.{LATEST, LONGEST_DELAY, MOST_ROUTERS}
 use Rattle.tw_model.specs.declared.net.Link.{Link}
-use Rattle.tw_model.specs.declared.net.Rule.TheVariants.{Range, Delay, PathOwner, NoSuchPlace, Time}
+use Rattle.tw_model.specs.declared.rule.Rule.TheVariants.{Range, Delay, PathOwner, NoSuchPlace, Time}
 use Rattle.tw_text.specs.Statements.{nodes_line, link_line, path_line, scene_line}
 use Rattle.tw_text.proofs.Said.{IsSayable, IsShort}
 

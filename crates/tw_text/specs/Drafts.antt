@@ -4,18 +4,14 @@ use Rattle.std.specs.List.{find, list_all}
 use Rattle.std.specs.Result.{result_map_both}
 use Rattle.std.specs.declared.alloc.Global.{Global}
 use Rattle.std.specs.declared.vec.Vec.{Vec}
-use Rattle.tw_instance.specs.declared.refusal.Refusal.{Refusal}
-use Rattle.tw_instance.specs.declared.refusal.Refusal.TheVariants as refusal
 use Rattle.tw_model.specs.Case.{Case}
 use Rattle.tw_model.specs.Net.{Net}
 use Rattle.tw_model.specs.Line.{Line}
 use Rattle.tw_model.specs.Rules.{line_fault, link_fault, nodes_fault, rules_in_order, scene_fault}
 use Rattle.tw_model.specs.declared.case.Scene.{Scene}
 use Rattle.tw_model.specs.declared.net.Link.{Link}
-use Rattle.tw_model.specs.declared.memory.OrMemory.{OrMemory}
-use Rattle.tw_model.specs.declared.memory.OrMemory.TheVariants.{Fault, Memory}
-use Rattle.tw_model.specs.declared.net.Rule.{Rule}
-use Rattle.tw_model.specs.declared.net.Rule.TheVariants.{Range}
+use Rattle.tw_model.specs.declared.rule.Rule.{Rule}
+use Rattle.tw_model.specs.declared.rule.Rule.TheVariants.{Range}
 use Rattle.tw_text.specs.declared.draft.Draft.{Draft}
 use Rattle.tw_text.specs.declared.draft.Draft.TheVariants.{Start, Header, Links, Paths, Scenes, Done}
 use Rattle.tw_text.specs.declared.text_fault.LineFault.{LineFault}
@@ -101,8 +97,3 @@ with_path net p = unless_fault (of_rule (line_fault net p)) (Paths (record net {
 -- the case with one more scene that keeps the rules
 abbrev pub with_scene : Case → Scene → Result Draft LineFault
 with_scene case s = unless_fault (of_rule (scene_fault case.net (length case.scenes) s)) (Scenes (record case { scenes = case.scenes ++ s ∷ [] }))
-
--- the fault of a line whose item was refused
-abbrev pub rule_fault : Refusal → OrMemory LineFault
-rule_fault (refusal.Rule rule) = Fault (x.Rule rule)
-rule_fault refusal.Memory = Memory

@@ -4,7 +4,7 @@ use Rattle.std.specs.List.{find, list_all}
 use Rattle.tw_model.specs.Net.{Net}
 use Rattle.tw_model.specs.Rules.{nodes_break, link_breaks, line_breaks, scene_breaks, rules_in_order}
 use Rattle.tw_model.specs.declared.case.Scene.{Scene}
-use Rattle.tw_model.specs.declared.net.Rule.{Rule}
+use Rattle.tw_model.specs.declared.rule.Rule.{Rule}
 use Rattle.tw_text.specs.declared.draft.Draft.{Draft}
 use Rattle.tw_text.specs.declared.draft.Draft.TheVariants.{Start, Header, Links, Paths, Scenes, Done}
 use Rattle.tw_text.specs.declared.text_fault.LineFault.{LineFault}

@@ -1,13 +1,13 @@
 ghost use Rattle.std.specs.Prelude.{◌≡◌};
-ghost use Rattle.tw_model.specs.Memory.{IsUnlessMemory};
+ghost use Rattle.tw_model.specs.Memory.{IsUnlessMemory, map_fault};
 ghost use Rattle.tw_model.specs.declared.case.Scene.TheVariants as AScene;
-ghost use Rattle.tw_text.specs.Drafts.{before_links, before_paths, before_scenes, check_ended, check_header, node_in, nodes_in, of_rule, place_of, result_items, rule_fault, step_said, with_link, with_nodes, with_path, with_scene};
+ghost use Rattle.tw_text.specs.Drafts.{before_links, before_paths, before_scenes, check_ended, check_header, node_in, nodes_in, of_rule, place_of, result_items, step_said, with_link, with_nodes, with_path, with_scene};
 ghost use Rattle.tw_text.specs.Statements.{said};
 
 use crate::keyword::Keyword;
 use crate::text_fault::LineFault;
 use std::alloc::Global;
-use tw_instance::{Case, Instance, Refusal};
+use tw_instance::{Case, Instance};
 use tw_model::{Link, OrMemory, PathLine, Rule, Scene};
 
 /// What the lines so far have given, by what may follow.
@@ -275,11 +275,11 @@ fn place_of(number: u64) -> u32
 }
 
 /// The fault of a line whose item was refused.
-fn rule_fault(refusal: Refusal) -> OrMemory<LineFault>
-    ensures { result ≡ rule_fault refusal }
+fn rule_fault(refusal: OrMemory<Rule>) -> OrMemory<LineFault>
+    ensures { result ≡ map_fault (λ rule. LineFault.Rule rule) refusal }
 {
     match refusal {
-        Refusal::Rule(rule) => OrMemory::Fault(LineFault::Rule(rule)),
-        Refusal::Memory => OrMemory::Memory,
+        OrMemory::Fault(rule) => OrMemory::Fault(LineFault::Rule(rule)),
+        OrMemory::Memory => OrMemory::Memory,
     }
 }

@@ -1,5 +1,5 @@
 use Rattle.std.proofs.Common.{◌∙◌, ap, insert, nat_lt}
-use Rattle.std.specs.List.{position_or_len}
+use Rattle.std.specs.List.{prefix_len}
 use Rattle.tw_instance.proofs.Hops.{insert_hop}
 use Rattle.tw_instance.proofs.tables.insert_reserved.Goals as goal
 
@@ -9,5 +9,5 @@ returns c =
     let hop = c.args.hop in
     let done = c.insert.ensures.succeeds c.requires in
     let put = rw done at c.insert.ensures.items in
-    let place = c.place_above-place.ensures.value ∙ ap (λ r. position_or_len (λ h. nat_lt hop.peer h.peer) r) c.deref.ensures.value in
-    put ∙ (ap (λ k. insert row k hop) place ∙ insert_hop hop row)
+    let index = c.count_below-index.ensures.value ∙ ap (λ r. prefix_len (λ h. nat_lt h.peer hop.peer) r) c.deref.ensures.value in
+    put ∙ (ap (λ k. insert row k hop) index ∙ insert_hop hop row)

@@ -1,6 +1,7 @@
 use Rattle.std.proofs.Common.{◌≡◌, ◌≤◌, true, List, length, ap, subst, sym, ◌∙◌}
 use Rattle.std.specs.List.{All}
 use Rattle.tw_event.specs.declared.event.PathNo.{PathNo}
+use Rattle.tw_model.specs.declared.limits.TheConstants.{MOST_PATHS}
 use Rattle.tw_model.specs.Net.{IsPath, is_own, paths_of}
 use Rattle.tw_model.specs.Rules.{IsNet}
 use Rattle.tw_instance.specs.Tables.{row}
@@ -10,12 +11,12 @@ use Rattle.tw_instance.proofs.instance.Instance.permitted.Goals as goal
 pub returns-clause-value : goal.returns-clause-value
 returns-clause-value c =
     c.row_of.ensures
-    ∙ (ap (λ rows. row rows c.args.node) c.deref.ensures.value ∙ (c.self.invariant.permitted c.args.node ∙ ap (λ n. paths_of n c.args.node) c.self.view_is))
+    ∙ (ap (λ rows. row rows c.args.node) c.deref.ensures.value ∙ (c.self.invariant.permitted.rows c.args.node ∙ ap (λ n. paths_of n c.args.node) c.self.view_is))
 
 pub returns-clause-few : goal.returns-clause-few
 returns-clause-few c =
     let r = is_router c.args.self.now c.args.node (subst IsNet c.self.view_is c.self.invariant.net) in
-    subst (λ (xs : List PathNo). length xs ≤ 200) (sym (returns-clause-value c)) r.few_paths
+    subst (λ (xs : List PathNo). length xs ≤ MOST_PATHS) (sym (returns-clause-value c)) r.few_paths
 
 pub returns-clause-paths : goal.returns-clause-paths
 returns-clause-paths c =

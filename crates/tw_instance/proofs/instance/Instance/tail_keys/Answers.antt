@@ -1,9 +1,0 @@
-use Rattle.std.proofs.Common.{ap, ◌∙◌}
-use Rattle.tw_instance.specs.Tables.{row}
-use Rattle.tw_instance.proofs.KeyRows.{keys_of}
-use Rattle.tw_instance.proofs.instance.Instance.tail_keys.Goals as goal
-
-pub returns : goal.returns
-returns c =
-    c.row_of.ensures
-    ∙ (ap (λ rows. row rows c.args.node) c.deref.ensures.value ∙ (c.self.invariant.tail_keys c.args.node ∙ ap (λ n. keys_of n c.args.node) c.self.view_is))

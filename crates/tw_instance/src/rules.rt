@@ -1,0 +1,269 @@
+//! Items judged by the rules of an instance and of a scenario: the first rule that an item breaks.
+
+ghost use Rattle.std.specs.Prelude.{◌≡◌, ℕ, ◌∷◌, ◌==◌, ◌&&◌, ◌||◌, not, nat_le, nat_lt};
+ghost use Rattle.std.specs.List.{list_all, list_any};
+ghost use Rattle.tw_model.specs.declared.limits.TheConstants.{MOST_LINKS, MOST_PATHS};
+ghost use Rattle.tw_model.specs.Net as net;
+ghost use Rattle.tw_model.specs.Rules as defined;
+
+use crate::instance::Instance;
+use tw_model::{Hop, Link, PathLine, Rule, Scene, limits};
+
+/// The rules in rising order of their codes. Of those that an item breaks the first decides.
+const RULES: [Rule; 13] = [
+    Rule::Range,
+    Rule::SelfLink,
+    Rule::TwiceLink,
+    Rule::Delay,
+    Rule::PathOwner,
+    Rule::PathEnd,
+    Rule::PathRepeats,
+    Rule::PathNoLink,
+    Rule::TwicePath,
+    Rule::TooMany,
+    Rule::NoSuchLink,
+    Rule::NoSuchPlace,
+    Rule::Time,
+];
+
+/// The first rule that a number of routers breaks.
+pub fn nodes_fault(nodes: u32) -> Option<Rule>
+    ensures { result ≡ defined.nodes_fault nodes }
+{
+    if nodes < 1 || limits::MOST_ROUTERS < nodes {
+        return Some(Rule::Range);
+    }
+    None
+}
+
+/// The first rule that a link breaks after those of the instance.
+pub fn link_fault(instance: &Instance, link: &Link) -> Option<Rule>
+    ensures { result ≡ defined.link_fault instance.now link.now }
+{
+    RULES
+        .iter()
+        .copied()
+        .find(|rule| link_breaks(instance, link, *rule))
+}
+
+/// The first rule that a permitted path breaks after those of the instance.
+pub fn line_fault(instance: &Instance, path: &PathLine) -> Option<Rule>
+    ensures { result ≡ defined.line_fault instance.now path.now }
+{
+    RULES
+        .iter()
+        .copied()
+        .find(|rule| line_breaks(instance, path, *rule))
+}
+
+/// The first rule that a scene breaks after so many others.
+pub fn scene_fault(instance: &Instance, count: usize, scene: &Scene) -> Option<Rule>
+    ensures { result ≡ defined.scene_fault instance.now count scene.now }
+{
+    RULES
+        .iter()
+        .copied()
+        .find(|rule| scene_breaks(instance, count, scene, *rule))
+}
+
+fn link_breaks(instance: &Instance, link: &Link, rule: Rule) -> bool
+    ensures { result ≡ defined.link_breaks instance.now link.now rule }
+{
+    match rule {
+        Rule::Range => link.first >= instance.nodes() || link.second >= instance.nodes(),
+        Rule::SelfLink => link.first == link.second,
+        Rule::TwiceLink => is_linked(instance, link.first, link.second),
+        Rule::Delay => link.delay < 1 || limits::LONGEST_DELAY < link.delay,
+        Rule::TooMany => has_all_links(instance, link.first)
+            || has_all_links(instance, link.second),
+        _ => false,
+    }
+}
+
+fn line_breaks(instance: &Instance, path: &PathLine, rule: Rule) -> bool
+    ensures { result ≡ defined.line_breaks instance.now path.now rule }
+{
+    let owner = path.owner;
+    let nodes = path.nodes.as_slice();
+    match rule {
+        Rule::Range => owner >= instance.nodes() || !are_below(nodes, instance.nodes()),
+        Rule::PathOwner => is_misowned(owner, nodes),
+        Rule::PathEnd => !ends_at_origin(nodes),
+        Rule::PathRepeats => repeats(nodes),
+        Rule::PathNoLink => leaves_links(instance, nodes),
+        Rule::TwicePath => is_given(instance, owner, nodes),
+        Rule::TooMany => has_all_paths(instance, owner) || nodes.len() > limits::MOST_NODES,
+        _ => false,
+    }
+}
+
+fn scene_breaks(instance: &Instance, count: usize, scene: &Scene, rule: Rule) -> bool
+    ensures { result ≡ defined.scene_breaks instance.now count scene.now rule }
+{
+    match rule {
+        Rule::Range => names_no_router(instance, scene),
+        Rule::TooMany => count >= limits::MOST_SCENES,
+        Rule::NoSuchLink => names_no_link(instance, scene),
+        Rule::NoSuchPlace => names_no_place(instance, scene),
+        Rule::Time => is_late(scene),
+        _ => false,
+    }
+}
+
+/// Whether a scene is at a router that is not there.
+fn names_no_router(instance: &Instance, scene: &Scene) -> bool
+    ensures { (count : ℕ) → result ≡ defined.scene_breaks instance.now count scene.now Rule.Range }
+{
+    match *scene {
+        Scene::Fail { first, second, .. } | Scene::Restore { first, second, .. } => {
+            first >= instance.nodes() || second >= instance.nodes()
+        }
+        Scene::Swap { node, .. } => node >= instance.nodes(),
+    }
+}
+
+/// Whether a scene is the failure or the repair of a link that is not there.
+fn names_no_link(instance: &Instance, scene: &Scene) -> bool
+    ensures { (count : ℕ) → result ≡ defined.scene_breaks instance.now count scene.now Rule.NoSuchLink }
+{
+    match *scene {
+        Scene::Fail { first, second, .. } | Scene::Restore { first, second, .. } => {
+            !is_linked(instance, first, second)
+        }
+        Scene::Swap { .. } => false,
+    }
+}
+
+/// Whether a scene is the exchange of a place that the router's order does not have.
+fn names_no_place(instance: &Instance, scene: &Scene) -> bool
+    ensures { (count : ℕ) → result ≡ defined.scene_breaks instance.now count scene.now Rule.NoSuchPlace }
+{
+    match *scene {
+        Scene::Fail { .. } | Scene::Restore { .. } => false,
+        Scene::Swap {
+            node,
+            first,
+            second,
+            ..
+        } => !has_place(instance, node, first) || !has_place(instance, node, second),
+    }
+}
+
+/// Whether the time of a scene is past the latest.
+fn is_late(scene: &Scene) -> bool
+    ensures { (n : net.Net) (count : ℕ) → result ≡ defined.scene_breaks n count scene.now Rule.Time }
+{
+    match *scene {
+        Scene::Fail { time, .. } | Scene::Restore { time, .. } | Scene::Swap { time, .. } => {
+            time > limits::LATEST
+        }
+    }
+}
+
+/// Whether a router's order has this place, from 1.
+fn has_place(instance: &Instance, node: u32, place: u32) -> bool
+    ensures { result ≡ defined.has_place instance.now node place }
+{
+    1 <= place && place as usize <= instance.permitted(node).len()
+}
+
+/// Whether a router has as many links as it may.
+fn has_all_links(instance: &Instance, node: u32) -> bool
+    ensures { result ≡ nat_le MOST_LINKS (defined.degree instance.now.links node) }
+{
+    instance.hops(node).len() >= limits::MOST_LINKS
+}
+
+/// Whether a router has as many permitted paths as it may.
+fn has_all_paths(instance: &Instance, node: u32) -> bool
+    ensures { result ≡ nat_le MOST_PATHS (defined.path_count instance.now.lines node) }
+{
+    instance.permitted(node).len() >= limits::MOST_PATHS
+}
+
+/// Whether these nodes were given for the router.
+fn is_given(instance: &Instance, owner: u32, nodes: &[u32]) -> bool
+    ensures { result ≡ list_any (λ q. q.owner == owner && net.same_path q.nodes nodes.now) instance.now.lines }
+{
+    instance.number(nodes).is_some() && !is_misowned(owner, nodes)
+}
+
+/// Whether a link joins the two.
+fn is_linked(instance: &Instance, first: u32, second: u32) -> bool
+    ensures { result ≡ defined.is_linked instance.now.links first second }
+{
+    has_peer(instance.hops(first), second)
+}
+
+fn has_peer(hops: &[Hop], peer: u32) -> bool
+    ensures { result ≡ list_any (λ h. h.peer == peer) hops.now }
+{
+    hops.iter().any(|hop| hop.peer == peer)
+}
+
+fn are_below(nodes: &[u32], count: u32) -> bool
+    ensures { result ≡ list_all (λ v. nat_lt v count) nodes.now }
+{
+    nodes.iter().all(|node| *node < count)
+}
+
+/// Whether these nodes cannot be a path of this owner: it is the origin, or they begin elsewhere.
+fn is_misowned(owner: u32, nodes: &[u32]) -> bool
+    ensures { result ≡ (owner == 0 || not (net.begins_at nodes.now owner)) }
+{
+    owner == 0 || !begins_at(nodes, owner)
+}
+
+fn begins_at(nodes: &[u32], node: u32) -> bool
+    ensures { result ≡ net.begins_at nodes.now node }
+{
+    match nodes {
+        [] => false,
+        [first, ..] => *first == node,
+    }
+}
+
+/// Whether the last of these nodes is the origin.
+fn ends_at_origin(nodes: &[u32]) -> bool
+    ensures { result ≡ defined.ends_at nodes.now 0 }
+{
+    match nodes {
+        [] => false,
+        [.., last] => *last == 0,
+    }
+}
+
+/// Whether a node stands twice among these.
+fn repeats(nodes: &[u32]) -> bool
+    ensures { result ≡ defined.repeats nodes.now }
+{
+    for (i, node) in nodes.iter().enumerate() {
+        if nodes[i + 1..].contains(node) {
+            return true;
+        }
+    }
+    false
+}
+
+/// Whether two neighbouring nodes of these have no link.
+fn leaves_links(instance: &Instance, nodes: &[u32]) -> bool
+    ensures { result ≡ defined.leaves_links instance.now.links nodes.now }
+{
+    match nodes {
+        [] => false,
+        [first, rest @ ..] => leaves_links_from(instance, *first, rest),
+    }
+}
+
+fn leaves_links_from(instance: &Instance, first: u32, rest: &[u32]) -> bool
+    ensures { result ≡ defined.leaves_links instance.now.links (first ∷ rest.now) }
+{
+    let mut last = first;
+    for node in rest {
+        if !is_linked(instance, last, *node) {
+            return true;
+        }
+        last = *node;
+    }
+    false
+}
