@@ -1,7 +1,9 @@
 -- Tests that code makes, and what they say of a net.
-use Rattle.std.proofs.Common.{◌≡◌, ℕ, suc, zero, ◌<◌, ◌==◌, true, false, not, ◌&&◌, ◌||◌, List, [], ◌∷◌, length, nat_le, Option, Some, is_some, IfSome, refl, ap, sym, ◌∙◌, subst, inl, inr, arith}
-use Rattle.std.specs.List.{AllByRecursion, list_any}
-use Rattle.std.proofs.lemmas.Bool.{and_parts, both_ways, eq-eqb, eqb-true, eqb-false, false_from_ne_true, ne_eqb, not-false, not-true, or_cases, or_parts}
+use Rattle.std.proofs.Common.{◌≡◌, ℕ, suc, zero, ◌<◌, ◌==◌, true, false, not, ◌&&◌, ◌||◌, List, [], ◌∷◌, length, nat_le, Option, Some, None, Bool, is_some, IfSome, refl, ap, sym, ◌∙◌, subst, inl, inr, arith}
+use Rattle.std.specs.Cmp.{both_ways as same_truth}
+use Rattle.std.specs.List.{All, list_any}
+use Rattle.std.proofs.lemmas.List.Elements.{All-head, All-tail}
+use Rattle.std.proofs.lemmas.Bool.{and_parts, both_ways, cases_Bool, eq-eqb, eqb-true, eqb-false, false_from_ne_true, ne_eqb, not-false, not-true, or_cases, or_parts}
 use Rattle.tw_event.specs.declared.event.PathNo.{PathNo}
 use Rattle.tw_model.specs.declared.limits.TheConstants.{MOST_PATHS}
 use Rattle.tw_model.specs.Line.{Line}
@@ -10,7 +12,7 @@ use Rattle.tw_model.specs.Rules.{IsNet, is_linked, path_count}
 use Rattle.tw_sim.proofs.Members.{any_from_in, in_from_any}
 use Rattle.tw_model.proofs.Nets.{hop_between, hop_of, is_link_of, joined_by}
 use Rattle.tw_model.proofs.Paths.{same_path_is}
-use Rattle.tw_instance.proofs.Lines.{listed, same_truth, taken}
+use Rattle.tw_instance.proofs.Lines.{listed, taken}
 
 -- ---- links
 
@@ -29,9 +31,19 @@ peer-linked net v w is = same_truth _ _
 
 -- ---- permitted paths
 
-none_of_origin : (nodes : ℕ) (lines : List Line) → AllByRecursion (λ p. (0 < p.owner) × (p.owner < nodes)) lines → path_count lines 0 ≡ 0
+-- the owners and the begin of paths that were given
+abbrev IsOwned : ℕ → Line → Type 0
+IsOwned nodes p = (0 < p.owner) × (p.owner < nodes)
+
+abbrev Begins : Line → Type 0
+Begins p = begins_at p.nodes p.owner ≡ true
+
+none_of_origin : (nodes : ℕ) (lines : List Line) → All (IsOwned nodes) lines → path_count lines 0 ≡ 0
 none_of_origin nodes [] all = refl
-none_of_origin nodes (p ∷ lines) all = let no : (p.owner == 0) ≡ false = ne_eqb p.owner 0 (λ e. let some = all.0.0 in omega arith) in rw no (none_of_origin nodes lines all.1)
+none_of_origin nodes (p ∷ lines) all =
+    let here = All-head (IsOwned nodes) p lines all in
+    let no : (p.owner == 0) ≡ false = ne_eqb p.owner 0 (λ e. let some = here.0 in omega arith) in
+    rw no (none_of_origin nodes lines (All-tail (IsOwned nodes) p lines all))
 
 -- whether a router has as many permitted paths as it may
 pub full-counted : (net : Net) (v : ℕ) → IsNet net → nat_le MOST_PATHS (length (paths_of net v)) ≡ nat_le MOST_PATHS (path_count net.lines v)
@@ -40,32 +52,51 @@ full-counted net zero h =
     ap (λ xs. nat_le MOST_PATHS (length xs)) all.origin ∙ ap (nat_le MOST_PATHS) (sym (none_of_origin net.nodes net.lines all.owners))
 full-counted net (suc v) h = ap (nat_le MOST_PATHS) ((listed net h).counts (suc v) (omega arith))
 
-none_given : (count owner : ℕ) (nodes : List ℕ) (lines : List Line) → AllByRecursion (λ p. (0 < p.owner) × (p.owner < count)) lines → AllByRecursion (λ p. begins_at p.nodes p.owner ≡ true) lines
-    → (owner == 0 || not (begins_at nodes owner)) ≡ true → list_any (λ q. q.owner == owner && same_path q.nodes nodes) lines ≡ false
+-- whether these nodes were given for this owner
+abbrev is_given : List Line → ℕ → List ℕ → Bool
+is_given lines owner nodes = list_any (λ q. q.owner == owner && same_path q.nodes nodes) lines
+
+-- whether these nodes are no path of this owner
+abbrev is_misowned : ℕ → List ℕ → Bool
+is_misowned owner nodes = owner == 0 || not (begins_at nodes owner)
+
+none_given : (count owner : ℕ) (nodes : List ℕ) (lines : List Line) → All (IsOwned count) lines → All Begins lines → is_misowned owner nodes ≡ true → is_given lines owner nodes ≡ false
 none_given count owner nodes [] owners begin mis = refl
 none_given count owner nodes (q ∷ lines) owners begin mis =
     let other : (q.owner == owner && same_path q.nodes nodes) ≡ false = false_from_ne_true (q.owner == owner && same_path q.nodes nodes) (λ t.
     (let both = and_parts (q.owner == owner) (same_path q.nodes nodes) t in
     let e = eqb-true q.owner owner both.0 in
-    let same = same_path_is q.nodes nodes both.1 in
-    let begins : begins_at nodes owner ≡ true = subst (λ v. begins_at nodes v ≡ true) e (subst (λ ns. begins_at ns q.owner ≡ true) same begin.0) in
+    let first = subst (λ ns. begins_at ns q.owner ≡ true) (same_path_is q.nodes nodes both.1) (All-head Begins q lines begin) in
+    let begins : begins_at nodes owner ≡ true = subst (λ v. begins_at nodes v ≡ true) e first in
     elim (or_cases (owner == 0) (not (begins_at nodes owner)) mis) [
-      | inl z ↦ (let zero_is = eqb-true owner 0 z in let some = owners.0.0 in absurd (omega arith))
+      | inl z ↦ (let zero_is = eqb-true owner 0 z in let here = All-head (IsOwned count) q lines owners in let some = here.0 in absurd (omega arith))
       | inr other ↦ both_ways (begins_at nodes owner) (not-true (begins_at nodes owner) other) begins
     ])) in
-    rw other (none_given count owner nodes lines owners.1 begin.1 mis)
+    rw other (none_given count owner nodes lines (All-tail (IsOwned count) q lines owners) (All-tail Begins q lines begin) mis)
 
 -- nodes that begin elsewhere were not given for this owner
-pub not_given : (net : Net) (owner : ℕ) (nodes : List ℕ) → IsNet net → (owner == 0 || not (begins_at nodes owner)) ≡ true
-    → list_any (λ q. q.owner == owner && same_path q.nodes nodes) net.lines ≡ false
-not_given net owner nodes h mis =
-    let all = listed net h in none_given net.nodes owner nodes net.lines all.owners all.begin mis
+not_given : (net : Net) (owner : ℕ) (nodes : List ℕ) → IsNet net → is_misowned owner nodes ≡ true → is_given net.lines owner nodes ≡ false
+not_given net owner nodes h mis = let all = listed net h in none_given net.nodes owner nodes net.lines all.owners all.begin mis
 
 -- nodes were given for their owner exactly where they have a number
-pub given_number : (net : Net) (owner : ℕ) (nodes : List ℕ) (o : Option PathNo) → IsNet net → (owner == 0 || not (begins_at nodes owner)) ≡ false
-    → IfSome o (λ q. IsPath net q × (path net q ≡ nodes)) → ((q : PathNo) → IsPath net q → path net q ≡ nodes → o ≡ Some q)
-    → is_some o ≡ list_any (λ q. q.owner == owner && same_path q.nodes nodes) net.lines
+given_number : (net : Net) (owner : ℕ) (nodes : List ℕ) (o : Option PathNo) → IsNet net → is_misowned owner nodes ≡ false
+    → IfSome o (λ q. IsPath net q × (path net q ≡ nodes)) → ((q : PathNo) → IsPath net q → path net q ≡ nodes → o ≡ Some q) → is_some o ≡ is_given net.lines owner nodes
 given_number net owner nodes o h mis found only =
     let parts = or_parts (owner == 0) (not (begins_at nodes owner)) mis in
     let ne = eqb-false owner 0 parts.0 in
     taken net (record { owner = owner; nodes = nodes }) o h (omega arith) (not-false (begins_at nodes owner) parts.1) found only
+
+-- nodes were given exactly where they have a number and are a path of the owner
+pub given_exactly : (net : Net) (owner : ℕ) (nodes : List ℕ) (o : Option PathNo) → IsNet net
+    → IfSome o (λ q. IsPath net q × (path net q ≡ nodes)) → ((q : PathNo) → IsPath net q → path net q ≡ nodes → o ≡ Some q)
+    → (is_some o && not (is_misowned owner nodes)) ≡ is_given net.lines owner nodes
+given_exactly net owner nodes None h found only =
+    elim (cases_Bool (is_misowned owner nodes)) [
+      | inl mis ↦ sym (not_given net owner nodes h mis)
+      | inr own ↦ given_number net owner nodes None h own found only
+    ]
+given_exactly net owner nodes (Some q) h found only =
+    elim (cases_Bool (is_misowned owner nodes)) [
+      | inl mis ↦ ap not mis ∙ sym (not_given net owner nodes h mis)
+      | inr own ↦ ap not own ∙ given_number net owner nodes (Some q) h own found only
+    ]

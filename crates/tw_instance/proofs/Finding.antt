@@ -1,11 +1,13 @@
 -- The number of a path, found among the permitted paths of its first node.
-use Rattle.std.proofs.Common.{◌≡◌, ℕ, ◌+◌, ◌-◌, ◌<◌, ◌≤◌, Bool, true, false, cond, List, [], ◌∷◌, length, map, slice_index_or, take, drop, Option, Some, None, IfSome, IsTrue, refl, ap, sym, ◌∙◌, subst, arith, zero, suc, ⊎_elim, inl, inr}
+use Rattle.std.proofs.Common.{◌≡◌, ℕ, suc, zero, ◌+◌, ◌-◌, ◌<◌, ◌≤◌, Bool, true, false, cond, List, [], ◌∷◌, length, map, slice_index_or, take, drop, arith}
+use Rattle.std.proofs.Common.{Option, Some, None, IfSome, IsTrue, refl, ap, sym, ◌∙◌, subst, ⊎_elim, inl, inr}
 use Rattle.std.specs.List.{filter, find, range_with_len}
-use Rattle.std.proofs.lemmas.Bool.{cases_eq, cases_lt, false_from_ne_true, cases_Bool, eq-eqb}
+use Rattle.std.proofs.lemmas.Bool.{cases_eq, cases_lt, false_from_ne_true, eq-eqb}
 use Rattle.std.proofs.lemmas.List.{get_or_past, take_rest}
-use lib.Pointwise.{bytes_decides}
 use Rattle.tw_event.specs.declared.event.PathNo.{PathNo}
 use Rattle.tw_model.specs.Net.{Net, IsPath, begins_at, is_own, path, paths, paths_of, same_path}
+use Rattle.tw_model.proofs.Paths.{same_path_is, same_path_self}
+use Rattle.tw_sim.proofs.Members.{in_find}
 use Rattle.tw_instance.proofs.Paths.{path-empty}
 use Rattle.tw_instance.specs.Hops.{AreDistinct}
 
@@ -31,20 +33,8 @@ finds keep test (suc n) a k low high kept passes only =
     ∙ finds keep test n (a + 1) k (let l : a ≡ k → ⊥ = ne in omega arith) (omega arith) kept passes (λ j h t. only j (omega arith) t))
     (cases_eq a k)
 
--- what is found passes the test
-found : (test : PathNo → Bool) (xs : List PathNo) → IfSome (find test xs) (λ q. test q ≡ true)
-found test [] = tt
-found test (x ∷ xs) =
-    elim (cases_Bool (test x)) [
-      | inl t ↦ rw t t
-      | inr f ↦ rw f (found test xs)
-    ]
-
-pub same-is : (xs ys : List ℕ) → IsTrue (same_path xs ys) → xs ≡ ys
-same-is xs ys h = (bytes_decides xs ys).0 h
-
-pub is-same : (xs ys : List ℕ) → xs ≡ ys → IsTrue (same_path xs ys)
-is-same xs ys h = (bytes_decides xs ys).1 h
+pub is-same : (xs ys : List ℕ) → xs ≡ ys → same_path xs ys ≡ true
+is-same xs ys h = subst (λ zs. same_path xs zs ≡ true) h (same_path_self xs)
 
 -- a number with nodes stands for a path
 pub is_path : (net : Net) (q : PathNo) (v : ℕ) (p : List ℕ) → path net q ≡ v ∷ p → IsPath net q
@@ -59,7 +49,7 @@ is_path net q v p e =
 pub found_path : (net : Net) (o : Option PathNo) (qs : List PathNo) (v : ℕ) (p : List ℕ)
     → o ≡ find (λ r. same_path (path net r) (v ∷ p)) qs → IfSome o (λ q. path net q ≡ v ∷ p)
 found_path net None qs v p e = tt
-found_path net (Some q) qs v p e = let f = found (λ r. same_path (path net r) (v ∷ p)) qs in same-is _ _ (rw (← e) at f)
+found_path net (Some q) qs v p e = same_path_is _ _ (in_find (λ r. same_path (path net r) (v ∷ p)) q qs (sym e)).0
 
 -- and it is permitted there
 pub found_own : (net : Net) (o : Option PathNo) (v : ℕ) (p : List ℕ) → IfSome o (λ q. path net q ≡ v ∷ p)
@@ -67,12 +57,7 @@ pub found_own : (net : Net) (o : Option PathNo) (v : ℕ) (p : List ℕ) → IfS
 found_own net None v p h = tt
 found_own net (Some q) v p h = (is_path net q v p h, rw h (eq-eqb v v refl))
 
--- the same for whatever list the rest is
-pub found_same : (net : Net) (o : Option PathNo) (v : ℕ) (p r : List ℕ) → p ≡ r → IfSome o (λ q. path net q ≡ v ∷ p)
-    → IfSome o (λ q. IsTrue (same_path (path net q) (v ∷ r)))
-found_same net None v p r e h = tt
-found_same net (Some q) v p r e h = is-same _ _ (h ∙ ap (λ l. v ∷ l) e)
-
+-- it has these nodes, written as one list
 pub found_whole : (net : Net) (o : Option PathNo) (v : ℕ) (p xs : List ℕ) → v ∷ p ≡ xs → IfSome o (λ q. path net q ≡ v ∷ p)
     → IfSome o (λ q. IsPath net q × (path net q ≡ xs))
 found_whole net None v p xs e h = tt
@@ -100,4 +85,4 @@ finds_path net apart q v p e =
     finds (λ k. begins_at (slice_index_or (paths net) k []) v) (λ r. same_path (path net r) (v ∷ p)) (length (paths net)) 0 q.0 (omega arith) (omega arith)
     (rw e (eq-eqb v v refl))
     (is-same _ _ e)
-    (λ j h t. ap (λ r. r.0) (apart (no j) q (omega arith) in' (same-is _ _ t ∙ sym e)))
+    (λ j h t. ap (λ r. r.0) (apart (no j) q (omega arith) in' (same_path_is _ _ t ∙ sym e)))

@@ -6,7 +6,7 @@ use Rattle.std.proofs.lemmas.List.{at_drop_all, at_drop_more, drop-drop, drop-ma
 use Rattle.tw_event.specs.declared.event.PathNo.{PathNo}
 use Rattle.tw_model.specs.Net.{Net, path, same_path}
 use Rattle.tw_instance.specs.Tables.{hash, tail_hash}
-use Rattle.tw_instance.proofs.Finding.{same-is}
+use Rattle.tw_model.proofs.Paths.{same_path_is}
 
 -- what passes the test has the hash
 abbrev IsHashed : (PathNo → Bool) → (PathNo → ℕ) → ℕ → Type 0
@@ -55,7 +55,7 @@ abbrev is_made_of : Net → ℕ → List ℕ → PathNo → Bool
 is_made_of net v p q = same_path (path net q) (v ∷ p)
 
 hashed : (net : Net) (v : ℕ) (p : List ℕ) (k : ℕ) → k ≡ hash p → IsHashed (is_made_of net v p) (tail_hash net) k
-hashed net v p k e q t = ap (λ r. hash (drop 1 r)) (same-is (path net q) (v ∷ p) t) ∙ sym e
+hashed net v p k e q t = ap (λ r. hash (drop 1 r)) (same_path_is (path net q) (v ∷ p) t) ∙ sym e
 
 -- the first of the hash among the paths behind place n stands j further on
 pub record IsFirst (net : Net) (v : ℕ) (p : List ℕ) (xs : List PathNo) (n j : ℕ) (d : PathNo) : Type 0 where

@@ -1,9 +1,8 @@
 -- The neighbours of a router, and what one more link adds to them.
-use Rattle.std.proofs.Common.{◌≡◌, ℕ, suc, zero, ◌+◌, ◌<◌, ◌≤◌, ◌==◌, Bool, true, false, cond, ◌&&◌, List, [], ◌∷◌, ◌++◌, length, refl, ap, sym, ◌∙◌, inl, inr, arith, nat_lt, Option, Some, None, find, filter_map, option_map, IfSome, insert}
+use Rattle.std.proofs.Common.{◌≡◌, ℕ, suc, zero, ◌+◌, ◌<◌, ◌≤◌, ◌==◌, true, false, ◌&&◌, List, [], ◌∷◌, ◌++◌, length, arith, nat_lt}
+use Rattle.std.proofs.Common.{refl, ap, sym, ◌∙◌, inl, inr, Option, Some, None, find, filter_map, option_map, IfSome, insert}
 use Rattle.std.specs.List.{range_with_len, AllByRecursion, cons_option, prefix_len}
-use Rattle.std.specs.Option.{option_or}
 use Rattle.std.proofs.Math.Numerals.{one-add}
-use Rattle.std.proofs.lemmas.List.Folds.{find-append}
 use Rattle.std.proofs.lemmas.Option.{IfSome_then}
 use Rattle.std.proofs.lemmas.Bool.{cases_Bool, cases_eq, eq-eqb, lt-ltb, le-ltb, ne_eqb, and_left, and_right, or_from, or_parts}
 use Rattle.tw_model.specs.declared.net.Hop.{Hop}
@@ -12,6 +11,8 @@ use Rattle.tw_model.specs.Net.{Net, hop_to, hops_of, joins}
 use Rattle.tw_model.specs.Rules.{is_linked}
 use Rattle.tw_model.proofs.Nets.{joins_back, linked_back}
 use Rattle.tw_instance.specs.Tables.{with_hop}
+use Rattle.tw_instance.proofs.Lists.{find_more, find_new}
+use Rattle.tw_instance.proofs.Rows.{IsLinkedTable}
 
 -- ---- hops that are listed by their number
 
@@ -94,15 +95,6 @@ named_hop links v w = named_of (find (joins v w) links) w
 
 -- ---- one more link
 
-find_more : {X : Type 0} (p : X → Bool) (xs : List X) (y : X) → p y ≡ false → find p (xs ++ y ∷ []) ≡ find p xs
-find_more p xs y h = find-append p xs (y ∷ []) ∙ rw h (or_none (find p xs)) where
-  or_none : {T : Type 0} → (o : Option T) → option_or o None ≡ o
-  or_none None = refl
-  or_none (Some x) = refl
-
-find_new : {X : Type 0} (p : X → Bool) (xs : List X) (y : X) → p y ≡ true → find p xs ≡ None → find p (xs ++ y ∷ []) ≡ Some y
-find_new p xs y h none = find-append p xs (y ∷ []) ∙ rw (none, h) refl
-
 find_none : (links : List Link) (v w : ℕ) → is_linked links v w ≡ false → find (joins v w) links ≡ None
 find_none [] v w h = refl
 find_none (l ∷ links) v w h = let parts = or_parts (joins v w l) (is_linked links v w) h in rw parts.0 (find_none links v w parts.1)
@@ -138,7 +130,9 @@ joins_first_only l u apart ne =
 
 joins_second_only : (l : Link) (u : ℕ) → (l.first ≡ l.second → ⊥) → (u ≡ l.first → ⊥) → joins l.second u l ≡ false
 joins_second_only l u apart ne =
-    or_from (l.first == l.second && l.second == u) (l.first == u && l.second == l.second) (and_left (l.first == l.second) (l.second == u) (ne_eqb l.first l.second apart)) (and_left (l.first == u) (l.second == l.second) (ne_eqb l.first u (λ e. ne (sym e))))
+    let a : (l.first == l.second) ≡ false = ne_eqb l.first l.second apart in
+    let b : (l.first == u) ≡ false = ne_eqb l.first u (λ e. ne (sym e)) in
+    or_from (l.first == l.second && l.second == u) (l.first == u && l.second == l.second) (and_left (l.first == l.second) (l.second == u) a) (and_left (l.first == u) (l.second == l.second) b)
 
 joins_apart : (l : Link) (v u : ℕ) → (v ≡ l.first → ⊥) → (v ≡ l.second → ⊥) → joins v u l ≡ false
 joins_apart l v u ne nf =
@@ -147,16 +141,14 @@ joins_apart l v u ne nf =
     or_from (l.first == v && l.second == u) (l.first == u && l.second == v) (and_left (l.first == v) (l.second == u) a) (and_right (l.first == u) (l.second == v) b)
 
 -- the neighbours after one more link: its ends have each other
-pub record IsJoined (net : Net) (l : Link) : Type 0 where
-  pub first : hops_of (record net { links = net.links ++ l ∷ [] }) l.first ≡ with_hop (record { peer = l.second; delay = l.delay }) (hops_of net l.first)
-  pub second : hops_of (record net { links = net.links ++ l ∷ [] }) l.second ≡ with_hop (record { peer = l.first; delay = l.delay }) (hops_of net l.second)
-  pub others : (v : ℕ) → (v ≡ l.first → ⊥) → (v ≡ l.second → ⊥) → hops_of (record net { links = net.links ++ l ∷ [] }) v ≡ hops_of net v
-
-pub is_joined : (net : Net) (l : Link) → l.first < net.nodes → l.second < net.nodes → (l.first ≡ l.second → ⊥) → is_linked net.links l.first l.second ≡ false → IsJoined net l
+pub is_joined : (net : Net) (l : Link) → l.first < net.nodes → l.second < net.nodes → (l.first ≡ l.second → ⊥) → is_linked net.links l.first l.second ≡ false
+    → IsLinkedTable (hops_of net) (hops_of (record net { links = net.links ++ l ∷ [] })) l
 is_joined net l below below' apart new = record {
-  first = hops_added net l l.first l.second below' (joins_first l) (λ u ne. joins_first_only l u apart ne) new;
-  second = hops_added net l l.second l.first below (joins_back l.second l.first l ∙ joins_first l) (λ u ne. joins_second_only l u apart ne) (linked_back net.links l.second l.first ∙ new);
-  others = λ v ne nf. hops_kept net l v (λ u. joins_apart l v u ne nf);
+  first = sym (hops_added net l l.first l.second below' (joins_first l) (λ u ne. joins_first_only l u apart ne) new);
+  second =
+      let back = joins_back l.second l.first l ∙ joins_first l in
+      sym (hops_added net l l.second l.first below back (λ u ne. joins_second_only l u apart ne) (linked_back net.links l.second l.first ∙ new));
+  others = λ v ne nf. sym (hops_kept net l v (λ u. joins_apart l v u ne nf));
 }
 
 -- no hop to anyone where there is no link

@@ -1,3 +1,4 @@
+pub mod Lists
 pub mod Paths
 pub mod Finding
 pub mod Hashes
@@ -7,6 +8,6 @@ pub mod Lines
 pub mod Rows
 pub mod Facts
 pub mod Sound
-pub mod HashRows
+pub mod Growing
 pub mod Told
 pub mod Scenes

@@ -1,8 +1,11 @@
 -- What the rules give of a net's permitted paths, and what one more path adds.
-use Rattle.std.proofs.Common.{◌≡◌, ℕ, suc, zero, ◌+◌, ◌-◌, ◌*◌, ◌<◌, ◌≤◌, ◌==◌, Bool, true, false, not, cond, ◌&&◌, List, [], ◌∷◌, ◌++◌, length, map, get_or, refl, ap, sym, ◌∙◌, subst, inl, inr, arith, nat_lt, nat_le, Option, Some, None, is_some, filter, IfSome, append_assoc}
-use Rattle.std.specs.List.{AllByRecursion, list_all, list_any, range_with_len}
-use Rattle.std.proofs.lemmas.Bool.{cases_Bool, cases_eq, eqb-true, eqb-false, eq-eqb, ltb-true, ne_eqb, and_parts, and_from, or_parts, not-false, leb-false, false_from_ne_true}
-use Rattle.std.proofs.lemmas.List.Elements.{All-from_recursion, filter-append}
+use Rattle.std.proofs.Common.{◌≡◌, ℕ, suc, zero, ◌+◌, ◌-◌, ◌*◌, ◌<◌, ◌≤◌, ◌==◌, Bool, true, false, not, cond, ◌&&◌, List, [], ◌∷◌, ◌++◌, length, map, get_or, arith, nat_lt, nat_le}
+use Rattle.std.proofs.Common.{refl, ap, sym, ◌∙◌, subst, inl, inr, Option, Some, None, is_some, filter, IfSome, append_assoc}
+use Rattle.std.specs.Cmp.{both_ways as same_truth}
+use Rattle.std.specs.List.{All, list_all, list_any, range_with_len}
+use Rattle.std.proofs.lemmas.Bool.{cases_Bool, cases_eq, eqb-true, eqb-false, eq-eqb, ltb-true, ne_eqb, and_parts, and_from, or_parts, not-false, not-true, leb-false}
+use Rattle.std.proofs.lemmas.List.Elements.{All-filter, All-head, All-nil, All-push, filter-append, filter_passes}
+use Rattle.std.proofs.lemmas.List.Filters.{length-filter_both}
 use Rattle.std.proofs.lemmas.List.Folds.{list_any_at, Any-from_list_any}
 use Rattle.std.proofs.lemmas.List.{append-nil, length_push, length-map, map-append, map_push, get_or_append_left, get_or_push}
 use Rattle.tw_event.specs.declared.event.PathNo.{PathNo}
@@ -15,6 +18,7 @@ use Rattle.tw_model.specs.Rules.{IsNet, LinesFollow, line_breaks, line_fault, pa
 use Rattle.tw_model.proofs.Nets.{nodes_within}
 use Rattle.tw_model.proofs.Unbroken.{none_broken}
 use Rattle.tw_model.proofs.Paths.{same_path_is, same_path_self}
+use Rattle.tw_instance.proofs.Lists.{count_push, filter_alike, range_push}
 use Rattle.tw_instance.proofs.Paths.{index-map, path-empty, path-line, path-origin}
 
 -- ---- the rules of a path
@@ -51,15 +55,6 @@ lines_hold P net step before (p ∷ lines) h s =
 
 -- ---- the numbers of one more path
 
-range_more : (n a : ℕ) → range_with_len a (suc n) ≡ range_with_len a n ++ (a + n) ∷ []
-range_more zero a = let e : a ≡ a + 0 = omega arith in ap (λ b. b ∷ []) e
-range_more (suc n) a = ap (λ xs. a ∷ xs) (range_more n (a + 1) ∙ (let e : a + 1 + n ≡ a + suc n = omega arith in ap (λ b. range_with_len (a + 1) n ++ b ∷ []) e))
-
-filter_within : (p q : ℕ → Bool) (n a : ℕ) → ((k : ℕ) → k < a + n → p k ≡ q k) → filter p (range_with_len a n) ≡ filter q (range_with_len a n)
-filter_within p q zero a same = refl
-filter_within p q (suc n) a same =
-    rw (same a (omega arith)) (ap (λ xs. cond (q a) (a ∷ xs) xs) (filter_within p q n (a + 1) (λ k h. same k (omega arith))))
-
 abbrev places : List (List ℕ) → ℕ → List ℕ
 places ps v = filter (λ k. begins_at (get_or ps k []) v) (range_with_len 0 (length ps))
 
@@ -70,10 +65,11 @@ places_more ps x v =
     let starts = λ (k : ℕ). begins_at (get_or more k []) v in
     let e : length more ≡ suc n = omega (arith, length_push ps x) in
     let last : get_or more n [] ≡ x = get_or_push ps x [] n refl in
+    let before = filter_alike starts (λ k. begins_at (get_or ps k []) v) n 0 (λ k h. ap (λ q. begins_at q v) (get_or_append_left ps (x ∷ []) [] k (omega arith))) in
     ap (λ m. filter starts (range_with_len 0 m)) e
-    ∙ (ap (filter starts) (range_more n 0)
+    ∙ (ap (filter starts) (range_push n 0)
     ∙ (filter-append starts (range_with_len 0 n) ((0 + n) ∷ [])
-    ∙ (let z : 0 + n ≡ n = omega arith in rw (z, last) (ap (λ xs. xs ++ cond (begins_at x v) (n ∷ []) []) (filter_within starts (λ k. begins_at (get_or ps k []) v) n 0 (λ k h. ap (λ q. begins_at q v) (get_or_append_left ps (x ∷ []) [] k (omega arith))))))))
+    ∙ (let z : 0 + n ≡ n = omega arith in rw (z, last) (ap (λ xs. xs ++ cond (begins_at x v) (n ∷ []) []) before))))
 
 abbrev no : ℕ → PathNo
 no k = record { 0 = k }
@@ -114,51 +110,39 @@ is_listed net p begins = record {
 
 -- ---- how many paths a router has
 
-count_more : (lines : List Line) (p : Line) (v : ℕ) → (p.owner == v) ≡ true → path_count (lines ++ p ∷ []) v ≡ suc (path_count lines v)
-count_more [] p v h = rw h refl
-count_more (k ∷ lines) p v h =
-    elim (cases_Bool (k.owner == v)) [
-      | inl t ↦ rw t (ap suc (count_more lines p v h))
-      | inr f ↦ rw f (count_more lines p v h)
-    ]
-
-count_same : (lines : List Line) (p : Line) (v : ℕ) → (p.owner == v) ≡ false → path_count (lines ++ p ∷ []) v ≡ path_count lines v
-count_same [] p v h = rw h refl
-count_same (k ∷ lines) p v h =
-    elim (cases_Bool (k.owner == v)) [
-      | inl t ↦ rw t (ap suc (count_same lines p v h))
-      | inr f ↦ rw f (count_same lines p v h)
-    ]
+-- a path counts at its owner
+count_path : (lines : List Line) (p : Line) (v : ℕ) (b : Bool) → (p.owner == v) ≡ b → path_count (lines ++ p ∷ []) v ≡ path_count lines v + cond b 1 0
+count_path lines p v b e = count_push (λ l. l.owner == v) lines p ∙ rw e refl
 
 -- of each router but the origin the permitted paths are as many as were given for it; of the origin there is one
 pub record AreListed (net : Net) : Type 0 where
   pub origin : paths_of net 0 ≡ origin_path ∷ []
   pub counts : (v : ℕ) → 0 < v → length (paths_of net v) ≡ path_count net.lines v
   pub few : (v : ℕ) → path_count net.lines v ≤ MOST_PATHS
-  pub owners : AllByRecursion (λ p. (0 < p.owner) × (p.owner < net.nodes)) net.lines
-  pub begin : AllByRecursion (λ p. begins_at p.nodes p.owner ≡ true) net.lines
-
-all_push : {X : Type 0} (P : X → Type 0) (xs : List X) (y : X) → AllByRecursion P xs → P y → AllByRecursion P (xs ++ y ∷ [])
-all_push P [] y all h = (h, tt)
-all_push P (x ∷ xs) y all h = (all.0, all_push P xs y all.1 h)
+  pub owners : All (λ p. (0 < p.owner) × (p.owner < net.nodes)) net.lines
+  pub begin : All (λ p. begins_at p.nodes p.owner ≡ true) net.lines
 
 listed_more : (net : Net) (p : Line) → IsNextLine net p → AreListed net → AreListed (record net { lines = net.lines ++ p ∷ [] })
 listed_more net p next so =
+    let more : Net = record net { lines = net.lines ++ p ∷ [] } in
     let at = is_listed net p next.begins in
+    let ours = count_path net.lines p p.owner true (eq-eqb p.owner p.owner refl) in
+    let theirs = λ (v : ℕ) (ne : v ≡ p.owner → ⊥). count_path net.lines p v false (ne_eqb p.owner v (λ e. ne (sym e))) in
+    let longer = ap length at.owner ∙ length_push (paths_of net p.owner) (no (suc (suc (length net.lines)))) in
+    let counts_ours : length (paths_of more p.owner) ≡ path_count more.lines p.owner = (let same = so.counts p.owner next.some in omega arith) in
+    let few_ours : path_count more.lines p.owner ≤ MOST_PATHS = (let room = next.room in omega arith) in
     record {
       origin = at.others 0 (λ e. let some = next.some in omega arith) ∙ so.origin;
       counts = λ v pos. elim (cases_eq v p.owner) [
-        | inl e ↦ (subst (λ u. length (paths_of (record net { lines = net.lines ++ p ∷ [] }) u) ≡ path_count (net.lines ++ p ∷ []) u) (sym e)
-            (ap length at.owner ∙ (length_push (paths_of net p.owner) (no (suc (suc (length net.lines))))
-            ∙ (let same = so.counts p.owner next.some in let more = count_more net.lines p p.owner (eq-eqb p.owner p.owner refl) in omega arith))))
-        | inr ne ↦ (ap length (at.others v ne) ∙ (so.counts v pos ∙ sym (count_same net.lines p v (ne_eqb p.owner v (λ e. ne (sym e))))))
+        | inl e ↦ subst (λ u. length (paths_of more u) ≡ path_count more.lines u) (sym e) counts_ours
+        | inr ne ↦ (let kept = ap length (at.others v ne) in let same = so.counts v pos in let count = theirs v ne in omega arith)
       ];
       few = λ v. elim (cases_eq v p.owner) [
-        | inl e ↦ (subst (λ u. path_count (net.lines ++ p ∷ []) u ≤ MOST_PATHS) (sym e) (let room = next.room in let more = count_more net.lines p p.owner (eq-eqb p.owner p.owner refl) in omega arith))
-        | inr ne ↦ (let same = count_same net.lines p v (ne_eqb p.owner v (λ e. ne (sym e))) in let few = so.few v in omega arith)
+        | inl e ↦ subst (λ u. path_count more.lines u ≤ MOST_PATHS) (sym e) few_ours
+        | inr ne ↦ (let count = theirs v ne in let few = so.few v in omega arith)
       ];
-      owners = all_push (λ q. (0 < q.owner) × (q.owner < net.nodes)) net.lines p so.owners (next.some, next.owner);
-      begin = all_push (λ q. begins_at q.nodes q.owner ≡ true) net.lines p so.begin next.begins;
+      owners = All-push (λ q. (0 < q.owner) × (q.owner < net.nodes)) net.lines p so.owners (next.some, next.owner);
+      begin = All-push (λ q. begins_at q.nodes q.owner ≡ true) net.lines p so.begin next.begins;
     }
 
 pub no_lines : (nodes v : ℕ) (links : List Link) → paths_of (record { nodes = nodes; links = links; lines = [] }) v ≡ cond (0 == v) (origin_path ∷ []) []
@@ -167,12 +151,13 @@ no_lines nodes v links = map_no (0 == v) 1
 
 pub listed : (net : Net) → IsNet net → AreListed net
 listed net h =
+    let none : (v : ℕ) → 0 < v → paths_of (record net { lines = [] }) v ≡ [] = λ v pos. no_lines net.nodes v net.links ∙ (let ne : (0 == v) ≡ false = ne_eqb 0 v (λ e. omega arith) in rw ne refl) in
     let start : AreListed (record net { lines = [] }) = record {
       origin = no_lines net.nodes 0 net.links;
-      counts = λ v pos. (let ne : (0 == v) ≡ false = ne_eqb 0 v (λ e. omega arith) in let none : paths_of (record net { lines = [] }) v ≡ [] = no_lines net.nodes v net.links ∙ rw ne refl in ap length none);
+      counts = λ v pos. ap length (none v pos);
       few = λ v. omega arith;
-      owners = tt;
-      begin = tt;
+      owners = All-nil (λ p. (0 < p.owner) × (p.owner < net.nodes));
+      begin = All-nil (λ p. begins_at p.nodes p.owner ≡ true);
     } in
     lines_hold (λ lines. AreListed (record net { lines = lines })) net
     (λ before p no_fault so. listed_more (record net { lines = before }) p (next_line _ p no_fault) so) [] net.lines h.lines start
@@ -185,22 +170,16 @@ owned v p = p.owner == v
 abbrev others : ℕ → List Line → List Line
 others v lines = filter (λ p. not (owned v p)) lines
 
-split_count : (v : ℕ) (lines : List Line) → length lines ≡ path_count lines v + length (others v lines)
-split_count v [] = refl
-split_count v (p ∷ lines) =
-    let rest = split_count v lines in
-    elim (cases_Bool (p.owner == v)) [
-      | inl t ↦ rw t (omega arith)
-      | inr f ↦ rw f (omega arith)
-    ]
+abbrev IsOwnerBelow : ℕ → Line → Type 0
+IsOwnerBelow m p = (0 < p.owner) × (p.owner < m)
 
-others_below : (m : ℕ) (lines : List Line) → AllByRecursion (λ p. (0 < p.owner) × (p.owner < suc (suc m))) lines → AllByRecursion (λ p. (0 < p.owner) × (p.owner < suc m)) (others (suc m) lines)
-others_below m [] all = tt
-others_below m (p ∷ lines) all =
-    elim (cases_Bool (p.owner == suc m)) [
-      | inl t ↦ rw t (others_below m lines all.1)
-      | inr f ↦ rw f ((all.0.0, (let ne = eqb-false p.owner (suc m) f in let high = all.0.1 in omega arith)), others_below m lines all.1)
-    ]
+others_below : (m : ℕ) (lines : List Line) → All (IsOwnerBelow (suc (suc m))) lines → All (IsOwnerBelow (suc m)) (others (suc m) lines)
+others_below m lines all k d within =
+    let other = λ (p : Line). not (owned (suc m) p) in
+    let owner = All-filter other (IsOwnerBelow (suc (suc m))) lines all k d within in
+    let ne = eqb-false (get_or (others (suc m) lines) k d).owner (suc m) (not-true _ (filter_passes other lines k d within)) in
+    let high = owner.1 in
+    (owner.0, omega arith)
 
 count_others : (u v : ℕ) (lines : List Line) → path_count (others u lines) v ≤ path_count lines v
 count_others u v [] = omega arith
@@ -212,12 +191,12 @@ count_others u v (p ∷ lines) =
     ]
 
 -- paths of so many owners, at most so many each
-bounded : (m : ℕ) (lines : List Line) → AllByRecursion (λ p. (0 < p.owner) × (p.owner < suc m)) lines → ((v : ℕ) → path_count lines v ≤ MOST_PATHS) → length lines ≤ MOST_PATHS * m
+bounded : (m : ℕ) (lines : List Line) → All (IsOwnerBelow (suc m)) lines → ((v : ℕ) → path_count lines v ≤ MOST_PATHS) → length lines ≤ MOST_PATHS * m
 bounded zero [] all few = omega arith
-bounded zero (p ∷ lines) all few = let a = all.0.0 in let b = all.0.1 in absurd (omega arith)
+bounded zero (p ∷ lines) all few = let here = All-head (IsOwnerBelow 1) p lines all in let low = here.0 in let high = here.1 in absurd (omega arith)
 bounded (suc m) lines all few =
     let rest = bounded m (others (suc m) lines) (others_below m lines all) (λ v. let less = count_others (suc m) v lines in let most = few v in omega arith) in
-    let split = split_count (suc m) lines in
+    let split = length-filter_both (owned (suc m)) (λ p. not (owned (suc m) p)) (λ p. refl) lines in
     let most = few (suc m) in
     omega arith
 
@@ -226,29 +205,27 @@ few_lines net h =
     let all = listed net h in
     let n = nodes_within net.nodes h.nodes in
     let e : net.nodes ≡ suc (net.nodes - 1) = let some = n.0 in omega arith in
-    let most = bounded (net.nodes - 1) net.lines (subst (λ k. AllByRecursion (λ p. (0 < p.owner) × (p.owner < k)) net.lines) e all.owners) all.few in
+    let most = bounded (net.nodes - 1) net.lines (subst (λ k. All (IsOwnerBelow k) net.lines) e all.owners) all.few in
     let high = n.1 in
     omega arith
 
 -- ---- whether a path was given before
 
-begins_same : (p : List ℕ) (v w : ℕ) → begins_at p v ≡ true → begins_at p w ≡ true → (v == w) ≡ true
-begins_same p v w h k = sym (begins_owner p v w h) ∙ k
+-- whether the same path was given for its owner
+abbrev is_given : List Line → Line → Bool
+is_given lines p = list_any (λ q. q.owner == p.owner && same_path q.nodes p.nodes) lines
 
-is_some_same : (o : Option PathNo) (q : PathNo) → o ≡ Some q → is_some o ≡ true
-is_some_same o q e = ap is_some e
-
-given_at : (net : Net) (p : Line) (k : ℕ) → IsNet net → begins_at p.nodes p.owner ≡ true → k < length net.lines → (get_or net.lines k p).nodes ≡ p.nodes
-    → list_any (λ q. q.owner == p.owner && same_path q.nodes p.nodes) net.lines ≡ true
+given_at : (net : Net) (p : Line) (k : ℕ) → IsNet net → begins_at p.nodes p.owner ≡ true → k < length net.lines → (get_or net.lines k p).nodes ≡ p.nodes → is_given net.lines p ≡ true
 given_at net p k h begins below e =
     let l = get_or net.lines k p in
-    let owns : begins_at l.nodes l.owner ≡ true = All-from_recursion (λ q. begins_at q.nodes q.owner ≡ true) net.lines (listed net h).begin k p below in
+    let owns : begins_at l.nodes l.owner ≡ true = (listed net h).begin k p below in
     let ours : begins_at l.nodes p.owner ≡ true = subst (λ (ns : List ℕ). begins_at ns p.owner ≡ true) (sym e) begins in
+    let owner : (l.owner == p.owner) ≡ true = sym (begins_owner l.nodes l.owner p.owner owns) ∙ ours in
     let same : same_path l.nodes p.nodes ≡ true = subst (λ (ns : List ℕ). same_path l.nodes ns ≡ true) e (same_path_self l.nodes) in
-    list_any_at (λ q. q.owner == p.owner && same_path q.nodes p.nodes) net.lines k p below (and_from (l.owner == p.owner) (same_path l.nodes p.nodes) (begins_same l.nodes l.owner p.owner owns ours) same)
+    list_any_at (λ q. q.owner == p.owner && same_path q.nodes p.nodes) net.lines k p below (and_from (l.owner == p.owner) (same_path l.nodes p.nodes) owner same)
 
 found_given : (net : Net) (p : Line) (n : ℕ) → IsNet net → 0 < p.owner → begins_at p.nodes p.owner ≡ true → IsPath net (no n) → path net (no n) ≡ p.nodes
-    → list_any (λ q. q.owner == p.owner && same_path q.nodes p.nodes) net.lines ≡ true
+    → is_given net.lines p ≡ true
 found_given net p zero h some begins is e =
     let b : begins_at [] p.owner ≡ true = subst (λ (ns : List ℕ). begins_at ns p.owner ≡ true) (sym e ∙ path-empty net (no 0) refl) begins in absurd (cc)
 found_given net p (suc zero) h some begins is e =
@@ -259,12 +236,7 @@ found_given net p (suc (suc k)) h some begins is e =
     let below : k < length net.lines = omega arith in
     given_at net p k h begins below (sym (index-map net.lines k p below) ∙ (sym (path-line net (no (suc (suc k))) k refl) ∙ e))
 
-pub same_truth : (a b : Bool) → (a ≡ true → b ≡ true) → (b ≡ true → a ≡ true) → a ≡ b
-same_truth true b f g = sym (f refl)
-same_truth false b f g = sym (false_from_ne_true b (λ t. let h : false ≡ true = g t in cc))
-
-given_found : (net : Net) (p : Line) (o : Option PathNo) → ((q : PathNo) → IsPath net q → path net q ≡ p.nodes → o ≡ Some q)
-    → list_any (λ q. q.owner == p.owner && same_path q.nodes p.nodes) net.lines ≡ true → is_some o ≡ true
+given_found : (net : Net) (p : Line) (o : Option PathNo) → ((q : PathNo) → IsPath net q → path net q ≡ p.nodes → o ≡ Some q) → is_given net.lines p ≡ true → is_some o ≡ true
 given_found net p o only t =
     let a = Any-from_list_any (λ q. q.owner == p.owner && same_path q.nodes p.nodes) net.lines t in
     let k = a.0 in
@@ -273,7 +245,7 @@ given_found net p o only t =
     let same = same_path_is l.nodes p.nodes (and_parts (l.owner == p.owner) (same_path l.nodes p.nodes) a.4).1 in
     let e : path net (no (suc (suc k))) ≡ p.nodes =
     path-line net (no (suc (suc k))) k refl ∙ (index-map net.lines k l a.2 ∙ (ap (λ (q : Line). q.nodes) a.3 ∙ same)) in
-    is_some_same o (no (suc (suc k))) (only (no (suc (suc k))) (let low = a.2 in omega arith) e)
+    ap is_some (only (no (suc (suc k))) (let low = a.2 in omega arith) e)
 
 -- a path was given before exactly where it has a number
 pub taken : (net : Net) (p : Line) (o : Option PathNo) → IsNet net → 0 < p.owner → begins_at p.nodes p.owner ≡ true

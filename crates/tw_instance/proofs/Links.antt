@@ -1,18 +1,21 @@
 -- What the rules give of a net's links and neighbours.
-use Rattle.std.proofs.Common.{◌≡◌, ℕ, suc, zero, ◌<◌, ◌≤◌, ◌==◌, true, false, ◌||◌, List, [], ◌∷◌, ◌++◌, length, map, refl, ap, sym, ◌∙◌, subst, inl, inr, None, append_assoc, arith}
+use Rattle.std.proofs.Common.{◌≡◌, ℕ, suc, zero, ◌+◌, ◌≤◌, ◌==◌, Bool, true, false, cond, ◌||◌, List, [], ◌∷◌, ◌++◌, length, map}
+use Rattle.std.proofs.Common.{refl, ap, sym, ◌∙◌, subst, inl, inr, None, append_assoc, arith}
 use Rattle.std.specs.List.{All}
 use native.Mathlib.Numerals.{unary_clauses}
-use Rattle.std.proofs.lemmas.Bool.{cases_Bool, cases_eq, cases_lt, eq-eqb, ne_eqb, or_from, or_left, or_right}
+use Rattle.std.proofs.lemmas.Bool.{cases_eq, cases_lt, eq-eqb, ne_eqb, or_from, or_left, or_right}
 use Rattle.std.proofs.lemmas.List.{append-nil}
 use Rattle.std.specs.List.Sorted.{IsStrictlyIncreasing}
 use Rattle.tw_model.specs.declared.net.Hop.{Hop}
 use Rattle.tw_model.specs.declared.net.Link.{Link}
 use Rattle.tw_model.specs.declared.rule.Rule.TheVariants.{TwiceLink}
+use Rattle.tw_model.specs.Line.{Line}
 use Rattle.tw_model.specs.Net.{Net, hops_of}
 use Rattle.tw_model.specs.State.{hop}
 use Rattle.tw_model.specs.Rules.{IsNet, LinksFollow, degree, is_linked, link_breaks, link_fault}
 use Rattle.tw_instance.specs.Hops.{IsGoodHop}
 use Rattle.tw_instance.proofs.Hops.{is_joined, length-with_hop, none_there}
+use Rattle.tw_instance.proofs.Lists.{count_push}
 use Rattle.tw_sim.proofs.Members.{all_from_in}
 use Rattle.tw_model.proofs.Nets.{IsLink, Rises, hop_in_hops, hops_rises, is_link, neighbour}
 use Rattle.tw_model.proofs.Unbroken.{none_broken}
@@ -40,48 +43,40 @@ links_hold P nodes step before (l ∷ links) h p =
 abbrev pub AreCounted : Net → Type 0
 AreCounted net = (v : ℕ) → length (hops_of net v) ≡ degree net.links v
 
-degree_more : (links : List Link) (l : Link) (v : ℕ) → (l.first == v || l.second == v) ≡ true → degree (links ++ l ∷ []) v ≡ suc (degree links v)
-degree_more [] l v h = rw h refl
-degree_more (k ∷ links) l v h =
-    elim (cases_Bool (k.first == v || k.second == v)) [
-      | inl t ↦ rw t (ap suc (degree_more links l v h))
-      | inr f ↦ rw f (degree_more links l v h)
-    ]
-
-degree_same : (links : List Link) (l : Link) (v : ℕ) → (l.first == v || l.second == v) ≡ false → degree (links ++ l ∷ []) v ≡ degree links v
-degree_same [] l v h = rw h refl
-degree_same (k ∷ links) l v h =
-    elim (cases_Bool (k.first == v || k.second == v)) [
-      | inl t ↦ rw t (ap suc (degree_same links l v h))
-      | inr f ↦ rw f (degree_same links l v h)
-    ]
+-- a link counts at its ends
+degree_push : (links : List Link) (l : Link) (v : ℕ) (b : Bool) → (l.first == v || l.second == v) ≡ b → degree (links ++ l ∷ []) v ≡ degree links v + cond b 1 0
+degree_push links l v b e = count_push (λ k. k.first == v || k.second == v) links l ∙ rw e refl
 
 pub counted_more : (net : Net) (l : Link) → IsNextLink net l → AreCounted net → AreCounted (record net { links = net.links ++ l ∷ [] })
 counted_more net l next counted v =
+    let more : Net = record net { links = net.links ++ l ∷ [] } in
     let good = next.good in
     let joined = is_joined net l good.first good.second good.apart next.new in
+    let so = counted v in
+    let longer : (w : ℕ) → v ≡ w → length (hops_of more w) ≡ suc (length (hops_of net w)) → length (hops_of more v) ≡ suc (length (hops_of net v)) = λ w e h.
+    subst (λ u. length (hops_of more u) ≡ suc (length (hops_of net u))) (sym e) h in
     elim (cases_eq v l.first) [
-      | inl e ↦
-          (let ends : (l.first == v || l.second == v) ≡ true = or_left (l.first == v) (l.second == v) (eq-eqb l.first v (sym e)) in
-          let hops : length (hops_of (record net { links = net.links ++ l ∷ [] }) v) ≡ suc (length (hops_of net v)) =
-          subst (λ u. length (hops_of (record net { links = net.links ++ l ∷ [] }) u) ≡ suc (length (hops_of net u))) (sym e) (ap length joined.first ∙ length-with_hop _ _) in
-          hops ∙ (ap suc (counted v) ∙ sym (degree_more net.links l v ends)))
+      | inl e ↦ (
+          let pushed = degree_push net.links l v true (or_left (l.first == v) (l.second == v) (eq-eqb l.first v (sym e))) in
+          let hops = longer l.first e (ap length (sym joined.first) ∙ length-with_hop _ _) in
+          omega arith)
       | inr ne ↦ elim (cases_eq v l.second) [
-        | inl e ↦
-            (let ends : (l.first == v || l.second == v) ≡ true = or_right (l.first == v) (l.second == v) (eq-eqb l.second v (sym e)) in
-            let hops : length (hops_of (record net { links = net.links ++ l ∷ [] }) v) ≡ suc (length (hops_of net v)) =
-            subst (λ u. length (hops_of (record net { links = net.links ++ l ∷ [] }) u) ≡ suc (length (hops_of net u))) (sym e) (ap length joined.second ∙ length-with_hop _ _) in
-            hops ∙ (ap suc (counted v) ∙ sym (degree_more net.links l v ends)))
-        | inr nf ↦
-            (let ends = or_from (l.first == v) (l.second == v) (ne_eqb l.first v (λ e. ne (sym e))) (ne_eqb l.second v (λ e. nf (sym e))) in
-            ap length (joined.others v ne nf) ∙ (counted v ∙ sym (degree_same net.links l v ends)))
+        | inl e ↦ (
+            let pushed = degree_push net.links l v true (or_right (l.first == v) (l.second == v) (eq-eqb l.second v (sym e))) in
+            let hops = longer l.second e (ap length (sym joined.second) ∙ length-with_hop _ _) in
+            omega arith)
+        | inr nf ↦ (
+            let none = or_from (l.first == v) (l.second == v) (ne_eqb l.first v (λ e. ne (sym e))) (ne_eqb l.second v (λ e. nf (sym e))) in
+            let pushed = degree_push net.links l v false none in
+            let hops = ap length (joined.others v ne nf) in
+            omega arith)
       ]
     ]
 
 -- the paths don't matter for the neighbours
-hops_of_links : (net : Net) (v : ℕ) → hops_of (record { nodes = net.nodes; links = net.links; lines = [] }) v ≡ hops_of net v
+pub hops_alike : (net : Net) (lines : List Line) (v : ℕ) → hops_of (record net { lines = lines }) v ≡ hops_of net v
 unfolding hops_of
-hops_of_links net v = refl
+hops_alike net lines v = refl
 
 pub no_links : (nodes v : ℕ) → hops_of (record { nodes = nodes; links = []; lines = [] }) v ≡ []
 unfolding hops_of
@@ -92,7 +87,7 @@ counted net h v =
     let start : AreCounted (record { nodes = net.nodes; links = []; lines = [] }) = λ u. ap length (no_links net.nodes u) in
     let all = links_hold (λ links. AreCounted (record { nodes = net.nodes; links = links; lines = [] })) net.nodes
     (λ before l no_fault so. counted_more (record { nodes = net.nodes; links = before; lines = [] }) l (next_link _ l no_fault) so) [] net.links h.links start in
-    ap length (sym (hops_of_links net v)) ∙ all v
+    ap length (sym (hops_alike net [] v)) ∙ all v
 
 -- ---- what holds of each neighbour
 

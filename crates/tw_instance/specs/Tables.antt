@@ -1,9 +1,10 @@
 -- Tables by router: a row for each, of neighbours, of path numbers, of hashes of paths (own).
-use Rattle.std.specs.Prelude.{ℕ, ◌+◌, ◌*◌, ◌%◌, ◌^◌, List, [], drop, fold, map, slice_index_or, nat_lt}
+use Rattle.std.specs.Prelude.{ℕ, ◌≡◌, ◌+◌, ◌*◌, ◌%◌, ◌^◌, List, [], ◌∷◌, ◌++◌, drop, fold, length, map, slice_index_or, slice_set, nat_lt}
 use Rattle.std.specs.declared.vec.Vec.{Vec}
 use Rattle.tw_event.specs.declared.event.PathNo.{PathNo}
 use Rattle.tw_model.specs.declared.net.Hop.{Hop}
-use Rattle.tw_model.specs.Net.{Net, path}
+use Rattle.tw_model.specs.declared.net.Link.{Link}
+use Rattle.tw_model.specs.Net.{Net, path, paths_of}
 use Rattle.tw_sim.specs.Ordered.{insert}
 
 -- the items of each row
@@ -14,6 +15,11 @@ items rows = map (λ r. r.items) rows
 abbrev pub row : {X Z : Type 0} → List (Vec X Z) → ℕ → List X
 row rows v = slice_index_or (items rows) v []
 
+-- a table with a row for each of so many routers: that of v is F v
+pub record IsTable {X Z : Type 0} (table : List (Vec X Z)) (nodes : ℕ) (F : ℕ → List X) : Type 0 where
+  pub long : length table ≡ nodes
+  pub rows : (v : ℕ) → row table v ≡ F v
+
 -- a polynomial hash of nodes by Horner's rule, as of Java's strings, with the multiplier of CPython's string hash
 unfoldable pub hash : List ℕ → ℕ
 hash nodes = fold (λ h v. (h * 1000003 + v) % 2 ^ 32) 0 nodes
@@ -22,6 +28,24 @@ hash nodes = fold (λ h v. (h * 1000003 + v) % 2 ^ 32) 0 nodes
 abbrev pub tail_hash : Net → PathNo → ℕ
 tail_hash net q = hash (drop 1 (path net q))
 
+-- those of the permitted paths of v, best first
+abbrev pub tail_hashes_of : Net → ℕ → List ℕ
+tail_hashes_of net v = map (tail_hash net) (paths_of net v)
+
+-- rows with x behind the items of row v
+abbrev pub push_at : {X : Type 0} → List (List X) → ℕ → X → List (List X)
+push_at rows v x = slice_set rows v (slice_index_or rows v [] ++ x ∷ [])
+
 -- a hop among others in rising number
 abbrev pub with_hop : Hop → List Hop → List Hop
 with_hop = insert (λ h k. nat_lt h.peer k.peer)
+
+-- the end w of a link as a neighbour of the other end
+abbrev pub hop_over : Link → ℕ → Hop
+hop_over l w = record { peer = w; delay = l.delay }
+
+-- rows of neighbours with one more link: each of its ends has the other
+abbrev pub with_link : List (List Hop) → Link → List (List Hop)
+with_link rows l =
+    let one = slice_set rows l.first (with_hop (hop_over l l.second) (slice_index_or rows l.first [])) in
+    slice_set one l.second (with_hop (hop_over l l.first) (slice_index_or rows l.second []))

@@ -9,7 +9,7 @@ ghost use Rattle.tw_model.specs.Rules.{IsNet, line_fault, link_fault, nodes_faul
 ghost use Rattle.tw_model.specs.State.{has_peer, hop, slot as slot_of};
 ghost use Rattle.tw_instance.specs.Build.{TellsOf, judged_instance, judged_lines, judged_links};
 ghost use Rattle.tw_instance.specs.Hops.{AreDistinct, IsGoodHop};
-ghost use Rattle.tw_instance.specs.Tables.{hash, tail_hash};
+ghost use Rattle.tw_instance.specs.Tables.{hash, tail_hash, tail_hashes_of};
 
 use crate::refusal::{At, Place};
 use crate::{rules, tables};
@@ -298,7 +298,7 @@ impl Instance {
 
     /// Of each permitted path of a router, best first, the hash of the path without its first node.
     fn tail_hashes(&self, node: u32) -> &[u32]
-        ensures { result.now ≡ map (tail_hash self.now) (paths_of self.now node) }
+        ensures { result.now ≡ tail_hashes_of self.now node }
     {
         tables::row_of(&self.tail_hashes, node)
     }

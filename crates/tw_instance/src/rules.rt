@@ -3,8 +3,8 @@
 ghost use Rattle.std.specs.Prelude.{◌≡◌, ℕ, ◌∷◌, ◌==◌, ◌&&◌, ◌||◌, not, nat_le, nat_lt};
 ghost use Rattle.std.specs.List.{list_all, list_any};
 ghost use Rattle.tw_model.specs.declared.limits.TheConstants.{MOST_LINKS, MOST_PATHS};
-ghost use Rattle.tw_model.specs.Net.{Net, begins_at as begins_at_spec, same_path};
-ghost use Rattle.tw_model.specs.Rules.{degree, ends_at, has_place as has_place_of, is_linked as linked, leaves_links as leaving, line_breaks as line_breaks_of, line_fault as line_fault_of, link_breaks as link_breaks_of, link_fault as link_fault_of, nodes_fault as nodes_fault_of, path_count, repeats as repeating, scene_breaks as scene_breaks_of, scene_fault as scene_fault_of};
+ghost use Rattle.tw_model.specs.Net as net;
+ghost use Rattle.tw_model.specs.Rules as defined;
 
 use crate::instance::Instance;
 use tw_model::{Hop, Link, PathLine, Rule, Scene, limits};
@@ -28,7 +28,7 @@ const RULES: [Rule; 13] = [
 
 /// The first rule that a number of routers breaks.
 pub fn nodes_fault(nodes: u32) -> Option<Rule>
-    ensures { result ≡ nodes_fault_of nodes }
+    ensures { result ≡ defined.nodes_fault nodes }
 {
     if nodes < 1 || limits::MOST_ROUTERS < nodes {
         return Some(Rule::Range);
@@ -38,7 +38,7 @@ pub fn nodes_fault(nodes: u32) -> Option<Rule>
 
 /// The first rule that a link breaks after those of the instance.
 pub fn link_fault(instance: &Instance, link: &Link) -> Option<Rule>
-    ensures { result ≡ link_fault_of instance.now link.now }
+    ensures { result ≡ defined.link_fault instance.now link.now }
 {
     RULES
         .iter()
@@ -48,7 +48,7 @@ pub fn link_fault(instance: &Instance, link: &Link) -> Option<Rule>
 
 /// The first rule that a permitted path breaks after those of the instance.
 pub fn line_fault(instance: &Instance, path: &PathLine) -> Option<Rule>
-    ensures { result ≡ line_fault_of instance.now path.now }
+    ensures { result ≡ defined.line_fault instance.now path.now }
 {
     RULES
         .iter()
@@ -58,7 +58,7 @@ pub fn line_fault(instance: &Instance, path: &PathLine) -> Option<Rule>
 
 /// The first rule that a scene breaks after so many others.
 pub fn scene_fault(instance: &Instance, count: usize, scene: &Scene) -> Option<Rule>
-    ensures { result ≡ scene_fault_of instance.now count scene.now }
+    ensures { result ≡ defined.scene_fault instance.now count scene.now }
 {
     RULES
         .iter()
@@ -67,7 +67,7 @@ pub fn scene_fault(instance: &Instance, count: usize, scene: &Scene) -> Option<R
 }
 
 fn link_breaks(instance: &Instance, link: &Link, rule: Rule) -> bool
-    ensures { result ≡ link_breaks_of instance.now link.now rule }
+    ensures { result ≡ defined.link_breaks instance.now link.now rule }
 {
     match rule {
         Rule::Range => link.first >= instance.nodes() || link.second >= instance.nodes(),
@@ -81,7 +81,7 @@ fn link_breaks(instance: &Instance, link: &Link, rule: Rule) -> bool
 }
 
 fn line_breaks(instance: &Instance, path: &PathLine, rule: Rule) -> bool
-    ensures { result ≡ line_breaks_of instance.now path.now rule }
+    ensures { result ≡ defined.line_breaks instance.now path.now rule }
 {
     let owner = path.owner;
     let nodes = path.nodes.as_slice();
@@ -98,7 +98,7 @@ fn line_breaks(instance: &Instance, path: &PathLine, rule: Rule) -> bool
 }
 
 fn scene_breaks(instance: &Instance, count: usize, scene: &Scene, rule: Rule) -> bool
-    ensures { result ≡ scene_breaks_of instance.now count scene.now rule }
+    ensures { result ≡ defined.scene_breaks instance.now count scene.now rule }
 {
     match rule {
         Rule::Range => names_no_router(instance, scene),
@@ -112,7 +112,7 @@ fn scene_breaks(instance: &Instance, count: usize, scene: &Scene, rule: Rule) ->
 
 /// Whether a scene is at a router that is not there.
 fn names_no_router(instance: &Instance, scene: &Scene) -> bool
-    ensures { (count : ℕ) → result ≡ scene_breaks_of instance.now count scene.now Rule.Range }
+    ensures { (count : ℕ) → result ≡ defined.scene_breaks instance.now count scene.now Rule.Range }
 {
     match *scene {
         Scene::Fail { first, second, .. } | Scene::Restore { first, second, .. } => {
@@ -124,7 +124,7 @@ fn names_no_router(instance: &Instance, scene: &Scene) -> bool
 
 /// Whether a scene is the failure or the repair of a link that is not there.
 fn names_no_link(instance: &Instance, scene: &Scene) -> bool
-    ensures { (count : ℕ) → result ≡ scene_breaks_of instance.now count scene.now Rule.NoSuchLink }
+    ensures { (count : ℕ) → result ≡ defined.scene_breaks instance.now count scene.now Rule.NoSuchLink }
 {
     match *scene {
         Scene::Fail { first, second, .. } | Scene::Restore { first, second, .. } => {
@@ -136,7 +136,7 @@ fn names_no_link(instance: &Instance, scene: &Scene) -> bool
 
 /// Whether a scene is the exchange of a place that the router's order does not have.
 fn names_no_place(instance: &Instance, scene: &Scene) -> bool
-    ensures { (count : ℕ) → result ≡ scene_breaks_of instance.now count scene.now Rule.NoSuchPlace }
+    ensures { (count : ℕ) → result ≡ defined.scene_breaks instance.now count scene.now Rule.NoSuchPlace }
 {
     match *scene {
         Scene::Fail { .. } | Scene::Restore { .. } => false,
@@ -151,7 +151,7 @@ fn names_no_place(instance: &Instance, scene: &Scene) -> bool
 
 /// Whether the time of a scene is past the latest.
 fn is_late(scene: &Scene) -> bool
-    ensures { (net : Net) (count : ℕ) → result ≡ scene_breaks_of net count scene.now Rule.Time }
+    ensures { (n : net.Net) (count : ℕ) → result ≡ defined.scene_breaks n count scene.now Rule.Time }
 {
     match *scene {
         Scene::Fail { time, .. } | Scene::Restore { time, .. } | Scene::Swap { time, .. } => {
@@ -162,39 +162,35 @@ fn is_late(scene: &Scene) -> bool
 
 /// Whether a router's order has this place, from 1.
 fn has_place(instance: &Instance, node: u32, place: u32) -> bool
-    ensures { result ≡ has_place_of instance.now node place }
+    ensures { result ≡ defined.has_place instance.now node place }
 {
     1 <= place && place as usize <= instance.permitted(node).len()
 }
 
 /// Whether a router has as many links as it may.
 fn has_all_links(instance: &Instance, node: u32) -> bool
-    ensures { result ≡ nat_le MOST_LINKS (degree instance.now.links node) }
+    ensures { result ≡ nat_le MOST_LINKS (defined.degree instance.now.links node) }
 {
     instance.hops(node).len() >= limits::MOST_LINKS
 }
 
 /// Whether a router has as many permitted paths as it may.
 fn has_all_paths(instance: &Instance, node: u32) -> bool
-    ensures { result ≡ nat_le MOST_PATHS (path_count instance.now.lines node) }
+    ensures { result ≡ nat_le MOST_PATHS (defined.path_count instance.now.lines node) }
 {
     instance.permitted(node).len() >= limits::MOST_PATHS
 }
 
 /// Whether these nodes were given for the router.
 fn is_given(instance: &Instance, owner: u32, nodes: &[u32]) -> bool
-    ensures { result ≡ list_any (λ q. q.owner == owner && same_path q.nodes nodes.now) instance.now.lines }
+    ensures { result ≡ list_any (λ q. q.owner == owner && net.same_path q.nodes nodes.now) instance.now.lines }
 {
-    let number = instance.number(nodes);
-    if is_misowned(owner, nodes) {
-        return false;
-    }
-    number.is_some()
+    instance.number(nodes).is_some() && !is_misowned(owner, nodes)
 }
 
 /// Whether a link joins the two.
 fn is_linked(instance: &Instance, first: u32, second: u32) -> bool
-    ensures { result ≡ linked instance.now.links first second }
+    ensures { result ≡ defined.is_linked instance.now.links first second }
 {
     has_peer(instance.hops(first), second)
 }
@@ -213,13 +209,13 @@ fn are_below(nodes: &[u32], count: u32) -> bool
 
 /// Whether these nodes cannot be a path of this owner: it is the origin, or they begin elsewhere.
 fn is_misowned(owner: u32, nodes: &[u32]) -> bool
-    ensures { result ≡ (owner == 0 || not (begins_at_spec nodes.now owner)) }
+    ensures { result ≡ (owner == 0 || not (net.begins_at nodes.now owner)) }
 {
     owner == 0 || !begins_at(nodes, owner)
 }
 
 fn begins_at(nodes: &[u32], node: u32) -> bool
-    ensures { result ≡ begins_at_spec nodes.now node }
+    ensures { result ≡ net.begins_at nodes.now node }
 {
     match nodes {
         [] => false,
@@ -229,7 +225,7 @@ fn begins_at(nodes: &[u32], node: u32) -> bool
 
 /// Whether the last of these nodes is the origin.
 fn ends_at_origin(nodes: &[u32]) -> bool
-    ensures { result ≡ ends_at nodes.now 0 }
+    ensures { result ≡ defined.ends_at nodes.now 0 }
 {
     match nodes {
         [] => false,
@@ -239,7 +235,7 @@ fn ends_at_origin(nodes: &[u32]) -> bool
 
 /// Whether a node stands twice among these.
 fn repeats(nodes: &[u32]) -> bool
-    ensures { result ≡ repeating nodes.now }
+    ensures { result ≡ defined.repeats nodes.now }
 {
     for (i, node) in nodes.iter().enumerate() {
         if nodes[i + 1..].contains(node) {
@@ -251,7 +247,7 @@ fn repeats(nodes: &[u32]) -> bool
 
 /// Whether two neighbouring nodes of these have no link.
 fn leaves_links(instance: &Instance, nodes: &[u32]) -> bool
-    ensures { result ≡ leaving instance.now.links nodes.now }
+    ensures { result ≡ defined.leaves_links instance.now.links nodes.now }
 {
     match nodes {
         [] => false,
@@ -260,7 +256,7 @@ fn leaves_links(instance: &Instance, nodes: &[u32]) -> bool
 }
 
 fn leaves_links_from(instance: &Instance, first: u32, rest: &[u32]) -> bool
-    ensures { result ≡ leaving instance.now.links (first ∷ rest.now) }
+    ensures { result ≡ defined.leaves_links instance.now.links (first ∷ rest.now) }
 {
     let mut last = first;
     for node in rest {

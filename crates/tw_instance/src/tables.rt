@@ -1,9 +1,8 @@
 //! Tables by router: a row for each, of neighbours, of path numbers, of hashes of paths.
 
-ghost use Rattle.std.specs.Prelude.{◌≡◌, ◌≢◌, ◌<◌, ◌≤◌, List, [], ◌∷◌, ◌++◌, length, slice_index_or, slice_set, map, replicate, IfOk, OnErr, OnOk, vec_len, vec_capacity, ◌-◌, ◌+◌, ◌*◌, ◌%◌, ◌^◌};
+ghost use Rattle.std.specs.Prelude.{◌≡◌, ◌≢◌, ◌<◌, ◌≤◌, ◌-◌, ◌+◌, ◌*◌, ◌%◌, ◌^◌, [], ◌∷◌, length, replicate, nat_lt, IfOk, OnErr, OnOk, vec_len, vec_capacity};
 ghost use Rattle.std.specs.List.{prefix_len};
-ghost use Rattle.std.specs.Prelude.{nat_lt};
-ghost use Rattle.tw_instance.specs.Tables.{hash, items, row, with_hop};
+ghost use Rattle.tw_instance.specs.Tables.{hash, items, push_at, row, with_hop, with_link};
 
 use std::alloc::{AllocError, Global};
 use tw_event::PathNo;
@@ -45,9 +44,7 @@ pub fn join(rows: &mut [Vec<Hop>], link: &Link) -> Result<(), AllocError>
     requires first { link.now.first < length rows.old }
     requires second { link.now.second < length rows.old }
     requires apart { link.now.first ≢ link.now.second }
-    ensures ok { OnOk result (items rows.new ≡ slice_set (slice_set (items rows.old)
-        link.now.first (with_hop (record { peer = link.now.second; delay = link.now.delay }) (row rows.old link.now.first)))
-        link.now.second (with_hop (record { peer = link.now.first; delay = link.now.delay }) (row rows.old link.now.second))) }
+    ensures ok { OnOk result (items rows.new ≡ with_link (items rows.old) link.now) }
     ensures err { OnErr result (items rows.new ≡ items rows.old) }
 {
     let (first, second) = (link.first as usize, link.second as usize);
@@ -97,8 +94,8 @@ pub fn push_path(
 ) -> Result<(), AllocError>
     requires number { node < length numbers.old }
     requires hash { node < length hashes.old }
-    ensures numbers { OnOk result (items numbers.new ≡ slice_set (items numbers.old) node (row numbers.old node ++ number ∷ [])) }
-    ensures hashes { OnOk result (items hashes.new ≡ slice_set (items hashes.old) node (row hashes.old node ++ hash ∷ [])) }
+    ensures numbers { OnOk result (items numbers.new ≡ push_at (items numbers.old) node number) }
+    ensures hashes { OnOk result (items hashes.new ≡ push_at (items hashes.old) node hash) }
     ensures err { OnErr result ((items numbers.new ≡ items numbers.old) × (items hashes.new ≡ items hashes.old)) }
 {
     let node = node as usize;

@@ -1,4 +1,5 @@
 pub mod Line
+pub mod Memory
 pub mod Net
 pub mod Rules
 pub mod State

@@ -1,17 +1,118 @@
--- An item that was added breaks no rule; one that was refused breaks the rule that was named.
-use Rattle.std.proofs.Common.{◌≡◌, ◌↔◌, Option, Some, None, Result, Ok, Err, refl, ap, sym, ◌∙◌}
-use Rattle.tw_instance.specs.declared.refusal.Refusal.{Refusal}
-use Rattle.tw_instance.specs.declared.refusal.Refusal.TheVariants as refusal
+-- An item that was added is the one that was read; one that was refused breaks the rule that was named.
+use Rattle.std.proofs.Common.{◌≡◌, ◌↔◌, ◌^◌, ◌≤◌, ◌<◌, ℕ, nat_lt, nat_le, Bool, true, false, not, ◌&&◌, List, [], ◌∷◌, ◌++◌, get_or, length, Option, Some, None, Result, Ok, Err, refl, ap₂, subst, ap, sym, ◌∙◌, inl, inr, arith, if◌then◌else◌}
+use Rattle.std.proofs.lemmas.Bool.{and_parts, cases_Bool, not-false}
+use Rattle.std.proofs.lemmas.Bool.Decides.{nat_tests}
+use Rattle.std.specs.List.{find, list_all}
+use Rattle.tw_instance.proofs.Sound.{is_router}
+use Rattle.tw_model.proofs.Unbroken.{none_broken}
+use Rattle.tw_model.specs.declared.case.Scene.{Scene}
+use Rattle.tw_model.specs.declared.case.Scene.TheVariants.{Fail, Restore, Swap}
+use Rattle.tw_model.specs.declared.memory.OrMemory.{OrMemory}
+use Rattle.tw_model.specs.declared.memory.OrMemory.TheVariants.{Fault, Memory}
 use Rattle.tw_model.specs.declared.rule.Rule.{Rule}
+use Rattle.tw_model.specs.declared.rule.Rule.TheVariants.{NoSuchPlace}
+use Rattle.tw_model.specs.Case.{Case, IsCase}
+use Rattle.tw_model.specs.Memory.{IsUnlessMemory, map_fault}
+use Rattle.tw_model.specs.Net.{Net, paths_of}
+use Rattle.tw_model.specs.Rules.{has_place, is_within, line_fault, link_fault, scene_breaks, scene_fault}
 use Rattle.tw_text.specs.declared.draft.Draft.{Draft}
-use Rattle.tw_text.specs.Steps.{Steps, of_rule, refusal_error}
+use Rattle.tw_text.specs.declared.draft.Draft.TheVariants.{Start, Header, Links, Paths, Scenes, Done}
+use Rattle.tw_text.specs.declared.keyword.Keyword.{Keyword}
+use Rattle.tw_text.specs.declared.keyword.Keyword.TheVariants as keyword
+use Rattle.tw_text.specs.declared.text_fault.LineFault.{LineFault}
+use Rattle.tw_text.specs.declared.text_fault.LineFault.TheVariants as x
+use Rattle.tw_text.specs.Drafts.{before_scenes, node_in, nodes_in, of_rule, place_of, step_by, step_said, with_link, with_path, with_scene}
+use Rattle.tw_text.specs.FaultTable.{unless_fault}
+use Rattle.tw_text.specs.Statements.{said, scene_line}
 
-pub added : {A : Type 0} (result : Result A Refusal) (x : A) (fault : Option Rule) → result ≡ Ok x
-    → ((r : Rule) → (result ≡ Err (refusal.Rule r)) ↔ (fault ≡ Some r)) → of_rule fault ≡ None
-added result x None is h = refl
-added result x (Some r) is h = absurd (let e = sym is ∙ (h r).1 refl in cc)
+pub refused : {A : Type 0} (result : Result A (OrMemory Rule)) (e : OrMemory Rule) (f : OrMemory LineFault) (fault : Option Rule) (next : Draft) → result ≡ Err e → f ≡ map_fault (λ r. x.Rule r) e
+    → ((r : Rule) → (result ≡ Err (Fault r)) ↔ (fault ≡ Some r)) → IsUnlessMemory (Err f) (unless_fault (of_rule fault) next)
+refused result Memory f fault next is same h = rw same tt
+refused result (Fault r) f fault next is same h = rw (same, (h r).0 is) refl
 
-pub refused : {A : Type 0} (result : Result A Refusal) (e : Refusal) (fault : Option Rule) (next : Draft) → result ≡ Err e
-    → ((r : Rule) → (result ≡ Err (refusal.Rule r)) ↔ (fault ≡ Some r)) → Steps (Err (refusal_error e)) (of_rule fault) next
-refused result refusal.Memory fault next is h = tt
-refused result (refusal.Rule r) fault next is h = ap of_rule ((h r).0 is)
+pub node_is : (net : Net) (n m : ℕ) → Ok m ≡ node_in net n → m ≡ n
+node_is net n m h = elim (cases_Bool (nat_lt n net.nodes)) [ inl t ↦ (let g : Ok m ≡ Ok n = rw t at h in cc) | inr f ↦ absurd (let g = rw f at h in cc) ]
+
+pub nodes_are : (net : Net) (ns ms : List ℕ) → nodes_in net ns ≡ Ok ms → ms ≡ ns
+nodes_are net ns ms h =
+    elim (cases_Bool (list_all (λ n. nat_lt n net.nodes) ns)) [ inl t ↦ (let g : Ok ns ≡ Ok ms = rw t at h in cc) | inr f ↦ absurd (let g = rw f at h in cc) ]
+
+pub link_refused : {A : Type 0} (result : Result A (OrMemory Rule)) (e : OrMemory Rule) (f : OrMemory LineFault) (net : Net) (a b delay k l : ℕ) → Ok k ≡ node_in net a → Ok l ≡ node_in net b
+    → result ≡ Err e → f ≡ map_fault (λ r. x.Rule r) e → ((r : Rule) → (result ≡ Err (Fault r)) ↔ (link_fault net (record { first = k; second = l; delay = delay }) ≡ Some r))
+    → IsUnlessMemory (Err f) (with_link net (record { first = a; second = b; delay = delay }))
+link_refused result e f net a b delay k l first second is same h =
+    rw (← node_is net a k first, ← node_is net b l second) (refused result e f (link_fault net (record { first = k; second = l; delay = delay })) _ is same h)
+
+pub path_refused : {A : Type 0} (result : Result A (OrMemory Rule)) (e : OrMemory Rule) (f : OrMemory LineFault) (net : Net) (v w : ℕ) (ns ms : List ℕ) → Ok w ≡ node_in net v → nodes_in net ns ≡ Ok ms
+    → result ≡ Err e → f ≡ map_fault (λ r. x.Rule r) e → ((r : Rule) → (result ≡ Err (Fault r)) ↔ (line_fault net (record { owner = w; nodes = ms }) ≡ Some r))
+    → IsUnlessMemory (Err f) (with_path net (record { owner = v; nodes = ns }))
+path_refused result e f net v w ns ms owner nodes is same h =
+    rw (← node_is net v w owner, ← nodes_are net ns ms nodes) (refused result e f (line_fault net (record { owner = w; nodes = ms })) _ is same h)
+
+pub path_added : (net new : Net) (v w : ℕ) (ns ms : List ℕ) → Ok w ≡ node_in net v → nodes_in net ns ≡ Ok ms → line_fault net (record { owner = w; nodes = ms }) ≡ None
+    → new ≡ record net { lines = net.lines ++ (record { owner = w; nodes = ms }) ∷ [] } → with_path net (record { owner = v; nodes = ns }) ≡ Ok (Paths new)
+path_added net new v w ns ms owner nodes none is =
+    rw (← node_is net v w owner, ← nodes_are net ns ms nodes) (ap (λ f. unless_fault (of_rule f) (Paths (record net { lines = net.lines ++ (record { owner = w; nodes = ms }) ∷ [] }))) none ∙ ap (λ n. Ok (Paths n)) (sym is))
+
+-- what a `u32` does not hold is no place, and nor is 0
+place-within : (n i : ℕ) → n < 2 ^ 32 → is_within 1 n (place_of i) ≡ is_within 1 n i
+place-within n i h =
+    elim (cases_Bool (nat_lt i (2 ^ 32))) [
+      | inl t ↦ rw t refl
+      | inr f ↦ rw f (grind (arith, nat_tests))
+    ]
+
+place_is : (n i : ℕ) → n < 2 ^ 32 → is_within 1 n i ≡ true → place_of i ≡ i
+place_is n i h t = let g : nat_lt i (2 ^ 32) ≡ true = grind (arith, nat_tests) in rw g refl
+
+none_same : (f g : Option Rule) (a b : Draft) → f ≡ g → (g ≡ None → ⊥) → unless_fault (of_rule f) a ≡ unless_fault (of_rule g) b
+none_same f None a b e some = absurd (some refl)
+none_same f (Some r) a b e some = rw e refl
+
+-- an exchange of places as a `u32` holds them
+swap_same : (case : Case) (t v i j : ℕ) → IsCase case → with_scene case (Swap t v (place_of i) (place_of j)) ≡ with_scene case (Swap t v i j)
+swap_same case t v i j is =
+    let n = length (paths_of case.net v) in
+    let few = (is_router case.net v is.net).few_paths in
+    let small : n < 2 ^ 32 = omega arith in
+    let count = length case.scenes in
+    elim (cases_Bool (has_place case.net v i && has_place case.net v j)) [
+      | inl t' ↦ (let w = and_parts (has_place case.net v i) (has_place case.net v j) t' in
+          ap₂ (λ i j. with_scene case (Swap t v i j)) (place_is n i small w.0) (place_is n j small w.1))
+      | inr f ↦
+          none_same (scene_fault case.net count (Swap t v (place_of i) (place_of j))) (scene_fault case.net count (Swap t v i j)) _ _
+          (rw (place-within n i small, place-within n j small) refl)
+          (λ none. absurd (let w = none_broken (scene_breaks case.net count (Swap t v i j)) none NoSuchPlace in let both = not-false (has_place case.net v i && has_place case.net v j) w in let g = sym both ∙ f in cc))
+    ]
+
+pub swap_taken : (case : Case) (t v i j w k l : ℕ) (r : Result Draft (OrMemory LineFault)) → IsCase case → w ≡ v → k ≡ place_of i → l ≡ place_of j
+    → IsUnlessMemory r (with_scene case (Swap t w k l)) → IsUnlessMemory r (with_scene case (Swap t v i j))
+swap_taken case t v i j w k l r is e p q h =
+    subst (IsUnlessMemory r) (swap_same case t v i j is) (subst (λ v. IsUnlessMemory r (with_scene case (Swap t v (place_of i) (place_of j)))) e
+    (subst (λ k. IsUnlessMemory r (with_scene case (Swap t w k (place_of j)))) p (subst (λ l. IsUnlessMemory r (with_scene case (Swap t w k l))) q h)))
+
+-- a scene, where its line may stand
+scene_step : (d : Draft) (s : Scene) (ended : Bool) (case : Case) → before_scenes d ended ≡ Ok case → step_by d (scene_line s) ended ≡ with_scene case s
+scene_step Start s ended case h = absurd (cc)
+scene_step Header s ended case h = absurd (cc)
+scene_step (Done c) s ended case h = absurd (cc)
+scene_step d s false case h = absurd (cc)
+scene_step (Links net) s true case h = let r : Result Case LineFault = Ok (record { net = net; scenes = [] }) in let g : r ≡ Ok case = h in let e : (record { net = net; scenes = [] }) ≡ case = cc in ap (λ case. with_scene case s) e
+scene_step (Paths net) s true case h = let r : Result Case LineFault = Ok (record { net = net; scenes = [] }) in let g : r ≡ Ok case = h in let e : (record { net = net; scenes = [] }) ≡ case = cc in ap (λ case. with_scene case s) e
+scene_step (Scenes c) s true case h = let r : Result Case LineFault = Ok c in let g : r ≡ Ok case = h in let e : c ≡ case = cc in ap (λ case. with_scene case s) e
+
+pub scene_taken : (d : Draft) (k : Keyword) (ns : List ℕ) (s : Scene) (ended : Bool) (case : Case) (r : Result Draft (OrMemory LineFault)) → said k ns ≡ Ok (scene_line s)
+    → before_scenes d ended ≡ Ok case → IsUnlessMemory r (with_scene case s) → IsUnlessMemory r (step_said d (said k ns) ended)
+scene_taken d k ns s ended case r e before h = rw (e, scene_step d s ended case before) h
+
+pub fail_said : (k : Keyword) (ns : List ℕ) → k ≡ keyword.Fail → 3 ≤ length ns → length ns < 4 → said k ns ≡ Ok (scene_line (Fail (get_or ns 0 0) (get_or ns 1 0) (get_or ns 2 0)))
+fail_said k (a ∷ b ∷ c ∷ []) e low high = rw e refl
+fail_said k ns e low high = absurd (omega arith)
+
+pub restore_said : (k : Keyword) (ns : List ℕ) → k ≡ keyword.Restore → 3 ≤ length ns → length ns < 4 → said k ns ≡ Ok (scene_line (Restore (get_or ns 0 0) (get_or ns 1 0) (get_or ns 2 0)))
+restore_said k (a ∷ b ∷ c ∷ []) e low high = rw e refl
+restore_said k ns e low high = absurd (omega arith)
+
+pub swap_said : (k : Keyword) (ns : List ℕ) → k ≡ keyword.Swap → 4 ≤ length ns → length ns < 5 → said k ns ≡ Ok (scene_line (Swap (get_or ns 0 0) (get_or ns 1 0) (get_or ns 2 0) (get_or ns 3 0)))
+swap_said k (a ∷ b ∷ c ∷ d ∷ []) e low high = rw e refl
+swap_said k ns e low high = absurd (omega arith)

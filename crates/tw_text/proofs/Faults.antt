@@ -1,20 +1,20 @@
 -- The lowest fault of a line, test by test.
-use Rattle.std.proofs.Common.{◌≡◌, ℕ, Bool, true, false, not, ◌&&◌, ◌||◌, cond, List, [], ◌∷◌, map, Option, Some, None, Result, Ok, Err, refl, ap, sym, ◌∙◌, inl, inr, bytes_eq, codes}
+use Rattle.std.proofs.Common.{◌≡◌, ℕ, Bool, true, false, not, ◌&&◌, ◌||◌, cond, List, [], ◌∷◌, length, map, if◌then◌else◌, Option, Some, None, Result, Ok, Err, refl, ap, sym, ◌∙◌, inl, inr, bytes_eq, codes}
 use Rattle.std.proofs.lemmas.Bool.{cases_Bool}
 use Rattle.std.specs.List.{find, list_all}
+use Rattle.std.specs.Str.Parse.{digits_value}
 use Rattle.tw_model.specs.Rules.{rules_in_order}
 use Rattle.tw_model.specs.declared.rule.Rule.{Rule}
 use Rattle.tw_text.specs.declared.draft.Draft.{Draft}
-use Rattle.tw_text.specs.declared.draft.Draft.TheVariants.{Start}
-use Rattle.tw_text.specs.declared.fault.LineFault.{LineFault}
-use Rattle.tw_text.specs.declared.fault.LineFault.TheVariants as x
-use Rattle.tw_text.specs.declared.statement.Statement.{Statement}
-use Rattle.tw_text.specs.declared.statement.WordsFault.{WordsFault}
-use Rattle.tw_text.specs.declared.statement.WordsFault.TheVariants.{Word, Number}
-use Rattle.tw_text.specs.Statements.{statement_of}
-use Rattle.tw_text.specs.Steps.{of_rule, said_fault}
-use Rattle.tw_text.specs.Table.{breaks, fault_of, from_second, has_no_number, holds, if_said, is_done, is_misplaced, is_no_statement, is_start}
-use Rattle.tw_text.specs.Words.{is_plain, words}
+use Rattle.tw_text.specs.declared.draft.Draft.TheVariants.{Start, Header, Links, Paths, Scenes, Done}
+use Rattle.tw_text.specs.declared.keyword.Keyword.{Keyword}
+use Rattle.tw_text.specs.declared.keyword.Keyword.TheVariants as keyword
+use Rattle.tw_text.specs.declared.text_fault.LineFault.{LineFault}
+use Rattle.tw_text.specs.declared.text_fault.LineFault.TheVariants as x
+use Rattle.tw_text.specs.Drafts.{of_rule, step_said}
+use Rattle.tw_text.specs.FaultTable.{breaks, fault_of, from_second, has_no_number, holds, if_said, is_done, is_misplaced, is_no_statement, is_start, step, unless_fault, with_line, with_said}
+use Rattle.tw_text.specs.Statements.{◌>>=◌, Statement, takes_words, keyword_before, keyword_of, numbers_of, said, statement_of}
+use Rattle.tw_text.specs.Words.{is_number, is_plain, words}
 
 -- the lowest rule, among the faults
 find_rules : (test : LineFault → Bool) (broken : Rule → Bool) → ((r : Rule) → test (x.Rule r) ≡ broken r) → (rs : List Rule)
@@ -27,12 +27,12 @@ find_rules test broken same (r ∷ rs) =
     ]
 
 -- the first of six tests that holds, or what comes after
-abbrev pub first_of_six : Bool → Bool → Bool → Bool → Bool → Bool → Option LineFault → Option LineFault
+abbrev first_of_six : Bool → Bool → Bool → Bool → Bool → Bool → Option LineFault → Option LineFault
 first_of_six byte header word number order end rest =
     cond byte (Some x.Byte) (cond header (Some x.Header) (cond word (Some x.Word) (cond number (Some x.Number) (cond order (Some x.Order) (cond end (Some x.End) rest)))))
 
 -- the table, with the tests of one statement
-abbrev form : Draft → Bool → Bool → Bool → Result Statement WordsFault → Option LineFault
+abbrev form : Draft → Bool → Bool → Bool → Result Statement LineFault → Option LineFault
 form d ended plain header said =
     first_of_six (not plain) (is_start d && not header) (from_second d (is_no_statement said)) (from_second d (has_no_number said))
     (from_second d (if_said said (is_misplaced d))) (not ended || is_done d) (of_rule (find (λ r. from_second d (if_said said (λ s. breaks d s r))) rules_in_order))
@@ -48,7 +48,12 @@ fault_of-form d line ended =
 pub plain_fault : (d : Draft) (line : List ℕ) (ended : Bool) → list_all is_plain line ≡ false → fault_of d line ended ≡ Some x.Byte
 plain_fault d line ended h = fault_of-form d line ended ∙ rw h refl
 
-form-start : (ended header : Bool) (said : Result Statement WordsFault) → form Start ended true header said ≡ cond header (cond ended None (Some x.End)) (Some x.Header)
+pub plain_step : (d : Draft) (line : List ℕ) (ended : Bool) → list_all is_plain line ≡ false → step d line ended ≡ Err x.Byte
+plain_step d line ended h = ap (λ fault. unless_fault fault (with_line d line)) (plain_fault d line ended h)
+
+-- ---- line 1
+
+form-start : (ended header : Bool) (said : Result Statement LineFault) → form Start ended true header said ≡ cond header (cond ended None (Some x.End)) (Some x.Header)
 form-start ended false said = refl
 form-start true true said = refl
 form-start false true said = refl
@@ -57,22 +62,65 @@ pub start_fault : (line : List ℕ) (ended : Bool) → list_all is_plain line �
     → fault_of Start line ended ≡ cond (bytes_eq line (codes "spp 1")) (cond ended None (Some x.End)) (Some x.Header)
 start_fault line ended plain = fault_of-form Start line ended ∙ rw plain (form-start ended (bytes_eq line (codes "spp 1")) (statement_of (words line)))
 
-form-later : (d : Draft) (ended header : Bool) (said : Result Statement WordsFault) → is_start d ≡ false → form d ended true header said ≡ said_fault d said ended
-form-later d ended header (Ok s) h = rw h refl
-form-later d ended header (Err Word) h = rw h refl
-form-later d ended header (Err Number) h = rw h refl
+start_if : (ended header : Bool) → unless_fault (cond header (cond ended None (Some x.End)) (Some x.Header)) Header ≡ cond header (cond ended (Ok Header) (Err x.End)) (Err x.Header)
+start_if ended false = refl
+start_if true true = refl
+start_if false true = refl
 
-pub later_fault : (d : Draft) (line : List ℕ) (ended : Bool) → is_start d ≡ false → list_all is_plain line ≡ true
-    → fault_of d line ended ≡ said_fault d (statement_of (words line)) ended
-later_fault d line ended later plain =
-    fault_of-form d line ended ∙ rw plain (form-later d ended (bytes_eq line (codes "spp 1")) (statement_of (words line)) later)
+-- the step of line 1, by what a comparison with the header told
+pub start_step : (line : List ℕ) (ended header : Bool) → list_all is_plain line ≡ true → header ≡ bytes_eq line (codes "spp 1")
+    → step Start line ended ≡ cond header (cond ended (Ok Header) (Err x.End)) (Err x.Header)
+unfolding with_line
+start_step line ended header plain is =
+    ap (λ fault. unless_fault fault Header) (start_fault line ended plain) ∙ start_if ended (bytes_eq line (codes "spp 1"))
+    ∙ ap (λ b. cond b (cond ended (Ok Header) (Err x.End)) (Err x.Header)) (sym is)
 
--- the same, by what a comparison with the header returned
-pub header_fault : (line header : List ℕ) (ended differs b : Bool) → list_all is_plain line ≡ true → header ≡ codes "spp 1" → differs ≡ not (bytes_eq line header) → differs ≡ b
-    → fault_of Start line ended ≡ cond b (Some x.Header) (cond ended None (Some x.End))
-header_fault line header ended differs b plain is compared e =
-    let same = rw is at compared in
-    start_fault line ended plain ∙ elim (cases_Bool (bytes_eq line (codes "spp 1"))) [
-      | inl t ↦ (let f : b ≡ false = sym e ∙ same ∙ ap not t in rw (t, f) refl)
-      | inr f ↦ (let t : b ≡ true = sym e ∙ same ∙ ap not f in rw (f, t) refl)
-    ]
+-- ---- the lines behind it
+
+-- words say something, or are none of a line, or have a word that is no number
+abbrev IsToldEarly : Result Statement LineFault → Type 0
+IsToldEarly (Ok s) = Unit {0}
+IsToldEarly (Err x.Word) = Unit {0}
+IsToldEarly (Err x.Number) = Unit {0}
+IsToldEarly (Err fault) = ⊥
+
+said_early : (k : Keyword) (ns : List ℕ) → IsToldEarly (said k ns)
+said_early keyword.Nodes (n ∷ []) = tt
+said_early keyword.Link (a ∷ b ∷ delay ∷ []) = tt
+said_early keyword.Path (v ∷ path) = tt
+said_early keyword.Fail (t ∷ a ∷ b ∷ []) = tt
+said_early keyword.Restore (t ∷ a ∷ b ∷ []) = tt
+said_early keyword.Swap (t ∷ v ∷ i ∷ j ∷ []) = tt
+said_early keyword.End [] = tt
+said_early k ns = tt
+
+early_if : (k : Keyword) (fit all : Bool) (ns : List ℕ) → IsToldEarly ((if fit then Ok k else Err x.Word) >>= λ k. (if all then Ok ns else Err x.Number) >>= λ ns. said k ns)
+early_if k false all ns = tt
+early_if k true false ns = tt
+early_if k true true ns = said_early k ns
+
+early_by : (found : Option Keyword) (ws : List (List ℕ)) → IsToldEarly (keyword_before found ws >>= λ k. numbers_of ws >>= λ ns. said k ns)
+early_by None ws = tt
+early_by (Some k) ws = early_if k (takes_words k ws) (list_all is_number ws) (map (digits_value 10) ws)
+
+early : (ws : List (List ℕ)) → IsToldEarly (statement_of ws)
+unfolding statement_of
+early [] = tt
+early (word ∷ ws) = early_by (keyword_of word) ws
+
+form-later : (d : Draft) (ended header : Bool) (said : Result Statement LineFault) → IsToldEarly said → is_start d ≡ false
+    → unless_fault (form d ended true header said) (with_said d said) ≡ step_said d said ended
+form-later d ended header (Ok s) early h = rw h refl
+form-later d ended header (Err x.Word) early h = rw h refl
+form-later d ended header (Err x.Number) early h = rw h refl
+form-later d ended header (Err fault) early h = absurd early
+
+with_line-later : (d : Draft) (line : List ℕ) → is_start d ≡ false → with_line d line ≡ with_said d (statement_of (words line))
+unfolding with_line
+with_line-later Start line h = absurd (cc)
+with_line-later d line h = refl
+
+pub later_step : (d : Draft) (line : List ℕ) (ended : Bool) → is_start d ≡ false → list_all is_plain line ≡ true
+    → step d line ended ≡ step_said d (statement_of (words line)) ended
+later_step d line ended later plain =
+    rw (fault_of-form d line ended, with_line-later d line later, plain) (form-later d ended (bytes_eq line (codes "spp 1")) (statement_of (words line)) (early (words line)) later)

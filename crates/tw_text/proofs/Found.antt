@@ -1,10 +1,9 @@
 -- A text that is read as a case is the text of that case, and the case keeps the rules.
-use Rattle.std.specs.List.{find}
-use Rattle.std.proofs.Common.{◌≡◌, ℕ, suc, true, false, List, [], ◌∷◌, ◌++◌, map, bytes_eq, codes, Option, Some, None, Result, Ok, Err, refl, ap, ap₂, sym, ◌∙◌, append_assoc, inl, inr, arith, subst}
+use Rattle.std.proofs.Common.{◌≡◌, ℕ, suc, true, false, List, [], ◌∷◌, ◌++◌, map, bytes_eq, codes, cond, Bool, if◌then◌else◌, Option, Some, None, Result, Ok, Err, refl, ap, ap₂, sym, ◌∙◌, append_assoc, inl, inr, arith, subst}
 use Rattle.std.proofs.lemmas.Bool.{cases_Bool}
 use Rattle.std.proofs.lemmas.List.{append-nil, map-append}
 use Rattle.std.specs.Cmp.Lexicographic.{bytes_decides}
-use Rattle.std.specs.List.{join_with_byte}
+use Rattle.std.specs.List.{find, join_with_byte, list_all}
 use Rattle.tw_model.specs.Case.{Case, IsCase}
 use Rattle.tw_model.specs.Line.{Line}
 use Rattle.tw_model.specs.Net.{Net}
@@ -15,37 +14,36 @@ use Rattle.tw_model.specs.declared.rule.Rule.{Rule}
 use Rattle.tw_model.proofs.Grown.{case_alone, case_with_scene, net_alone, net_with_line, net_with_link}
 use Rattle.tw_text.specs.declared.draft.Draft.{Draft}
 use Rattle.tw_text.specs.declared.draft.Draft.TheVariants.{Start, Header, Links, Paths, Scenes, Done}
-use Rattle.tw_text.specs.declared.fault.LineFault.TheVariants as x
-use Rattle.tw_text.specs.declared.statement.Statement.{Statement}
-use Rattle.tw_text.specs.declared.statement.Statement.TheVariants as say
-use Rattle.tw_text.specs.declared.statement.WordsFault.{WordsFault}
+use Rattle.tw_text.specs.declared.text_fault.LineFault.{LineFault}
+use Rattle.tw_text.specs.declared.text_fault.LineFault.TheVariants as x
+use Rattle.tw_text.specs.Drafts.{fault_after, of_rule, step_by, step_said}
+use Rattle.tw_text.specs.FaultTable.{breaks, is_done, is_misplaced, is_start, step, unless_fault, with_statement}
 use Rattle.tw_text.specs.Reading.{case_of, reads}
-use Rattle.tw_text.specs.Statements.{statement_of}
-use Rattle.tw_text.specs.Steps.{fault_after, of_rule, said_fault}
-use Rattle.tw_text.specs.Table.{breaks, fault_of, is_done, is_misplaced, is_start, with_line, with_said, with_statement}
-use Rattle.tw_text.specs.Text.{text_of}
+use Rattle.tw_text.specs.Statements.{Statement, nodes_line, link_line, path_line, scene_line, end_line, statement_of}
+use Rattle.tw_text.specs.Text.{line_of, lines_of, statements_of, text_of_case}
 use Rattle.tw_text.specs.Words.{parts_of, words}
-use Rattle.tw_text.proofs.Faults.{later_fault, start_fault}
-use Rattle.tw_text.proofs.Later.{with_line-later}
-use Rattle.tw_text.proofs.Lines.{Fits, text_line}
-use Rattle.tw_text.proofs.Only.{bare_lines, text_of-lines}
-use Rattle.tw_text.proofs.Parts.{plain-from_none, reads-first, reads-last, reads-none}
+use Rattle.tw_text.proofs.Faults.{later_step, start_step}
+use Rattle.tw_text.proofs.Lines.{Fits}
+use Rattle.tw_text.proofs.Parts.{plain-from_step, reads-first, reads-last, reads-none}
+use Rattle.tw_text.proofs.Said.{statement_of-is}
 use Rattle.tw_text.proofs.Splits.{join-words, lines-text}
-use Rattle.tw_text.proofs.Unsaid.{statement_of-is}
+use Rattle.tw_text.proofs.Steps.{bound}
 
--- the lines that a draft was made of
-abbrev built : Net → List Scene → List (List ℕ)
-built net scenes =
-    codes "spp 1" ∷ text_line (say.Nodes net.nodes)
-    ∷ (map (λ l. text_line (say.Link l)) net.links ++ (map (λ p. text_line (say.Path p)) net.lines ++ map (λ s. text_line (say.Scene s)) scenes))
+-- what the lines have said that gave these, from line 2 on
+abbrev said_of : Net → List Scene → List Statement
+said_of net scenes = nodes_line net.nodes ∷ (map (λ l. link_line l) net.links ++ (map (λ p. path_line p) net.lines ++ map (λ s. scene_line s) scenes))
 
-abbrev items : Draft → List (List ℕ)
-items Start = []
-items Header = codes "spp 1" ∷ []
-items (Links net) = built net []
-items (Paths net) = built net []
-items (Scenes c) = built c.net c.scenes
-items (Done c) = bare_lines c
+abbrev said_in : Draft → List Statement
+said_in Start = []
+said_in Header = []
+said_in (Links net) = said_of net []
+said_in (Paths net) = said_of net []
+said_in (Scenes c) = said_of c.net c.scenes
+said_in (Done c) = statements_of c
+
+-- the lines of which a draft was made
+abbrev lines_in : Draft → List (List ℕ)
+lines_in d = if is_start d then [] else codes "spp 1" ∷ map line_of (said_in d)
 
 -- what a draft holds keeps the rules
 abbrev IsDraft : Draft → Type 0
@@ -56,66 +54,39 @@ IsDraft (Paths net) = IsNet net
 IsDraft (Scenes c) = IsCase c
 IsDraft (Done c) = IsCase c
 
--- the lines of a draft with one more item
-module _ (a b c : List (List ℕ)) (x : List ℕ) where
-  after_links : (a ++ x ∷ []) ++ ([] ++ []) ≡ (a ++ ([] ++ [])) ++ x ∷ []
-  after_links = simp append-nil
-
-  after_paths : a ++ ((b ++ x ∷ []) ++ []) ≡ (a ++ (b ++ [])) ++ x ∷ []
-  after_paths = simp (append-nil, append_assoc)
-
-  after_scenes : a ++ (b ++ (c ++ x ∷ [])) ≡ (a ++ (b ++ c)) ++ x ∷ []
-  after_scenes = simp append_assoc
-
 -- a draft with what a statement adds
 record Adds (d : Draft) (s : Statement) : Type 0 where
   draft : IsDraft (with_statement d s)
-  lines : items (with_statement d s) ≡ items d ++ text_line s ∷ []
+  said : said_in (with_statement d s) ≡ said_in d ++ s ∷ []
 
-add_link : (net : Net) (l : Link) → IsNet net → net.lines ≡ [] → link_fault net l ≡ None → Adds (Links net) (say.Link l)
-add_link net l h none f = record {
-  draft = (net_with_link net l h f, none);
-  lines = rw (none, map-append (λ l. text_line (say.Link l)) net.links (l ∷ []))
-      (ap (λ t. codes "spp 1" ∷ text_line (say.Nodes net.nodes) ∷ t) (after_links (map (λ l. text_line (say.Link l)) net.links) [] [] (text_line (say.Link l))));
-}
+link_said : (net : Net) (l : Link) (lines : List Line) → lines ≡ []
+    → said_of (record { nodes = net.nodes; links = net.links ++ l ∷ []; lines = lines }) [] ≡ said_of (record { nodes = net.nodes; links = net.links; lines = lines }) [] ++ link_line l ∷ []
+link_said net l lines none =
+    let said = map (λ l. link_line l) net.links in
+    rw none (ap (λ t. nodes_line net.nodes ∷ t) (append-nil (map (λ l. link_line l) (net.links ++ l ∷ [])) ∙ (map-append (λ l. link_line l) net.links (l ∷ [])
+    ∙ ap (λ t. t ++ link_line l ∷ []) (sym (append-nil said)))))
 
-path_lines : (net : Net) (p : Line) → built (record net { lines = net.lines ++ p ∷ [] }) [] ≡ built net [] ++ text_line (say.Path p) ∷ []
-path_lines net p =
-    rw (map-append (λ p. text_line (say.Path p)) net.lines (p ∷ []))
-    (ap (λ t. codes "spp 1" ∷ text_line (say.Nodes net.nodes) ∷ t) (after_paths (map (λ l. text_line (say.Link l)) net.links) (map (λ p. text_line (say.Path p)) net.lines) [] (text_line (say.Path p))))
+path_said : (net : Net) (p : Line) → said_of (record net { lines = net.lines ++ p ∷ [] }) [] ≡ said_of net [] ++ path_line p ∷ []
+path_said net p = simp (map-append, append_assoc, append-nil)
 
-scene_lines : (net : Net) (scenes : List Scene) (s : Scene) → built net (scenes ++ s ∷ []) ≡ built net scenes ++ text_line (say.Scene s) ∷ []
-scene_lines net scenes s =
-    rw (map-append (λ s. text_line (say.Scene s)) scenes (s ∷ []))
-    (ap (λ t. codes "spp 1" ∷ text_line (say.Nodes net.nodes) ∷ t) (after_scenes (map (λ l. text_line (say.Link l)) net.links) (map (λ p. text_line (say.Path p)) net.lines) (map (λ s. text_line (say.Scene s)) scenes) (text_line (say.Scene s))))
+scene_said : (net : Net) (scenes : List Scene) (s : Scene) → said_of net (scenes ++ s ∷ []) ≡ said_of net scenes ++ scene_line s ∷ []
+scene_said net scenes s = simp (map-append, append_assoc)
 
-end_lines : (net : Net) (scenes : List Scene) → bare_lines (record { net = net; scenes = scenes }) ≡ built net scenes ++ text_line say.End ∷ []
-end_lines net scenes =
-    ap (λ t. codes "spp 1" ∷ text_line (say.Nodes net.nodes) ∷ t) (after_scenes (map (λ l. text_line (say.Link l)) net.links) (map (λ p. text_line (say.Path p)) net.lines) (map (λ s. text_line (say.Scene s)) scenes) (text_line say.End))
+end_said : (net : Net) (scenes : List Scene) → statements_of (record { net = net; scenes = scenes }) ≡ said_of net scenes ++ end_line ∷ []
+end_said net scenes = simp append_assoc
 
 adds : (d : Draft) (s : Statement) → IsDraft d → Fits d s → Adds d s
-adds Start s h f = absurd (let e = f.later in cc)
-adds Header (say.Nodes n) h f = record { draft = (net_alone n f.kept, refl); lines = refl }
-adds Header (say.Link l) h f = absurd (let e = f.placed in cc)
-adds Header (say.Path p) h f = absurd (let e = f.placed in cc)
-adds Header (say.Scene s) h f = absurd (let e = f.placed in cc)
-adds Header say.End h f = absurd (let e = f.placed in cc)
-adds (Links net) (say.Nodes n) h f = absurd (let e = f.placed in cc)
-adds (Links net) (say.Link l) h f = add_link net l h.0 h.1 f.kept
-adds (Links net) (say.Path p) h f = record { draft = net_with_line net p h.0 f.kept; lines = path_lines net p }
-adds (Links net) (say.Scene s) h f = record { draft = case_with_scene net [] s (case_alone net h.0) f.kept; lines = scene_lines net [] s }
-adds (Links net) say.End h f = record { draft = case_alone net h.0; lines = end_lines net [] }
-adds (Paths net) (say.Nodes n) h f = absurd (let e = f.placed in cc)
-adds (Paths net) (say.Link l) h f = absurd (let e = f.placed in cc)
-adds (Paths net) (say.Path p) h f = record { draft = net_with_line net p h f.kept; lines = path_lines net p }
-adds (Paths net) (say.Scene s) h f = record { draft = case_with_scene net [] s (case_alone net h) f.kept; lines = scene_lines net [] s }
-adds (Paths net) say.End h f = record { draft = case_alone net h; lines = end_lines net [] }
-adds (Scenes c) (say.Nodes n) h f = absurd (let e = f.placed in cc)
-adds (Scenes c) (say.Link l) h f = absurd (let e = f.placed in cc)
-adds (Scenes c) (say.Path p) h f = absurd (let e = f.placed in cc)
-adds (Scenes c) (say.Scene s) h f = record { draft = case_with_scene c.net c.scenes s h f.kept; lines = scene_lines c.net c.scenes s }
-adds (Scenes c) say.End h f = record { draft = h; lines = end_lines c.net c.scenes }
-adds (Done c) s h f = absurd (let e = f.unended in cc)
+adds Header (nodes_line n) h f = record { draft = (net_alone n f.kept, refl); said = refl }
+adds (Links net) (link_line l) h f = record { draft = (net_with_link net l h.0 f.kept, h.1); said = link_said net l net.lines h.1 }
+adds (Links net) (path_line p) h f = record { draft = net_with_line net p h.0 f.kept; said = path_said net p }
+adds (Links net) (scene_line s) h f = record { draft = case_with_scene net [] s (case_alone net h.0) f.kept; said = scene_said net [] s }
+adds (Links net) end_line h f = record { draft = case_alone net h.0; said = end_said net [] }
+adds (Paths net) (path_line p) h f = record { draft = net_with_line net p h f.kept; said = path_said net p }
+adds (Paths net) (scene_line s) h f = record { draft = case_with_scene net [] s (case_alone net h) f.kept; said = scene_said net [] s }
+adds (Paths net) end_line h f = record { draft = case_alone net h; said = end_said net [] }
+adds (Scenes c) (scene_line s) h f = record { draft = case_with_scene c.net c.scenes s h f.kept; said = scene_said c.net c.scenes s }
+adds (Scenes c) end_line h f = record { draft = h; said = end_said c.net c.scenes }
+adds d s h f = absurd (let placed = f.placed in let unended = f.unended in let later = f.later in cc)
 
 no_rule : (broken : Option Rule) → of_rule broken ≡ None → broken ≡ None
 no_rule None h = refl
@@ -133,55 +104,64 @@ fits d s later h =
           ]
     ]
 
+no_fault : (fault : Option LineFault) (next after : Draft) → unless_fault fault next ≡ Ok after → (fault ≡ None) × (next ≡ after)
+no_fault None next after h = (refl, let r : Result Draft LineFault = Ok next in let g : r ≡ Ok after = h in cc)
+no_fault (Some f) next after h = absurd (cc)
+
 -- the draft after a line without a fault
-record Steps (d : Draft) (line : List ℕ) : Type 0 where
-  draft : IsDraft (with_line d line)
-  lines : items (with_line d line) ≡ items d ++ line ∷ []
+record Steps (d after : Draft) (line : List ℕ) : Type 0 where
+  draft : IsDraft after
+  lines : lines_in after ≡ lines_in d ++ line ∷ []
 
-said_step : (d : Draft) (line : List ℕ) (said : Result Statement WordsFault) → is_start d ≡ false → IsDraft d → statement_of (words line) ≡ said → said_fault d said true ≡ None
-    → IsDraft (with_said d said) × (items (with_said d said) ≡ items d ++ line ∷ [])
-said_step d line (Err e) later h is f = absurd (cc)
-said_step d line (Ok s) later h is f =
-    let a = adds d s h (fits d s later f) in
-    let e : line ≡ text_line s = sym (join-words line) ∙ ap (join_with_byte 32) (statement_of-is (words line) s is).0 in
-    (a.draft, a.lines ∙ ap (λ l. items d ++ l ∷ []) (sym e))
+lines-more : (d next : Draft) (s : Statement) → is_start d ≡ false → is_start next ≡ false → said_in next ≡ said_in d ++ s ∷ [] → lines_in next ≡ lines_in d ++ line_of s ∷ []
+lines-more d next s h g e = rw (h, g) (ap (λ ls. codes "spp 1" ∷ ls) (ap (map line_of) e ∙ map-append line_of (said_in d) (s ∷ [])))
 
-later_step : (d : Draft) (line : List ℕ) → is_start d ≡ false → IsDraft d → fault_of d line true ≡ None → Steps d line
-later_step d line later h none =
-    let w = said_step d line (statement_of (words line)) later h refl (sym (later_fault d line true later (plain-from_none d line true none)) ∙ none) in
-    let e = with_line-later d line later in
-    record { draft = subst IsDraft (sym e) w.0; lines = ap items e ∙ w.1 }
+begun : (d : Draft) (s : Statement) → is_start (with_statement d s) ≡ false
+begun d (nodes_line n) = refl
+begun d (link_line l) = refl
+begun d (path_line p) = refl
+begun d (scene_line s) = refl
+begun d end_line = refl
 
-start_step : (line : List ℕ) → fault_of Start line true ≡ None → Steps Start line
-unfolding with_line
-start_step line none =
-    let e = sym (start_fault line true (plain-from_none Start line true none)) ∙ none in
-    elim (cases_Bool (bytes_eq line (codes "spp 1"))) [
-      | inl t ↦ record { draft = tt; lines = ap (λ l. l ∷ []) (sym ((bytes_decides line (codes "spp 1")).0 t)) }
-      | inr f ↦ absurd (let g : Some x.Header ≡ None = rw f at e in cc)
-    ]
+later_steps : (d after : Draft) (line : List ℕ) → is_start d ≡ false → IsDraft d → step d line true ≡ Ok after → Steps d after line
+later_steps d after line later h stepped =
+    let plain = plain-from_step d after line true stepped in
+    let b = bound (statement_of (words line)) (λ s. step_by d s true) after (sym (later_step d line true later plain) ∙ stepped) in
+    let s = b.value in
+    let n = no_fault (fault_after d s true) (with_statement d s) after b.next in
+    let a = adds d s h (fits d s later n.0) in
+    let e : line ≡ line_of s = sym (join-words line) ∙ ap (join_with_byte 32) (statement_of-is (words line) s b.was) in
+    record {
+      draft = subst IsDraft n.1 a.draft;
+      lines = sym (ap lines_in n.1) ∙ (lines-more d (with_statement d s) s later (begun d s) a.said ∙ ap (λ l. lines_in d ++ l ∷ []) (sym e));
+    }
 
-step : (d : Draft) (line : List ℕ) → IsDraft d → fault_of d line true ≡ None → Steps d line
-step Start line h none = start_step line none
-step Header line h none = later_step Header line refl h none
-step (Links net) line h none = later_step (Links net) line refl h none
-step (Paths net) line h none = later_step (Paths net) line refl h none
-step (Scenes c) line h none = later_step (Scenes c) line refl h none
-step (Done c) line h none = later_step (Done c) line refl h none
+start_by : (after : Draft) (header : Bool) → (let r : Result Draft LineFault = cond header (Ok Header) (Err x.Header) in r ≡ Ok after) → (header ≡ true) × (Header ≡ after)
+start_by after true h = (refl, let r : Result Draft LineFault = Ok Header in let g : r ≡ Ok after = h in cc)
+start_by after false h = absurd (let r : Result Draft LineFault = Err x.Header in let g : r ≡ Ok after = h in cc)
+
+start_steps : (after : Draft) (line : List ℕ) → step Start line true ≡ Ok after → Steps Start after line
+start_steps after line stepped =
+    let header = bytes_eq line (codes "spp 1") in
+    let b = start_by after header (sym (start_step line true header (plain-from_step Start after line true stepped) refl) ∙ stepped) in
+    record { draft = subst IsDraft b.1 tt; lines = sym (ap lines_in b.1) ∙ ap (λ l. l ∷ []) (sym ((bytes_decides line (codes "spp 1")).0 b.0)) }
+
+steps : (d after : Draft) (line : List ℕ) → IsDraft d → step d line true ≡ Ok after → Steps d after line
+steps Start after line h stepped = start_steps after line stepped
+steps d after line h stepped = later_steps d after line refl h stepped
 
 -- the parts of which a case was read are its lines, and nothing after them
-leads : (d : Draft) (c : Case) (k : ℕ) (parts : List (List ℕ)) → IsDraft d → reads d k parts ≡ Ok c → IsCase c × (items d ++ parts ≡ items (Done c) ++ [] ∷ [])
+leads : (d : Draft) (c : Case) (k : ℕ) (parts : List (List ℕ)) → IsDraft d → reads d k parts ≡ Ok c → IsCase c × (lines_in d ++ parts ≡ lines_of c ++ [] ∷ [])
 leads d c k [] h r = absurd (reads-none d c k r)
-leads d c k (rest ∷ []) h r = let w = reads-last d c k rest r in (subst IsDraft w.1 h, ap₂ (λ d rest. items d ++ rest ∷ []) w.1 w.0)
+leads d c k (rest ∷ []) h r = let w = reads-last d c k rest r in (subst IsDraft w.1 h, ap₂ (λ d rest. lines_in d ++ rest ∷ []) w.1 w.0)
 leads d c k (l ∷ next ∷ parts) h r =
     let w = reads-first d c k l (next ∷ parts) (omega arith) r in
-    let s = step d l h w.0 in
-    let rest = leads (with_line d l) c (suc k) (next ∷ parts) s.draft w.1 in
-    (rest.0, sym (append_assoc (items d) (l ∷ []) (next ∷ parts)) ∙ ap (λ t. t ++ next ∷ parts) (sym s.lines) ∙ rest.1)
+    let s = steps d w.after l h w.stepped in
+    let rest = leads w.after c (suc k) (next ∷ parts) s.draft w.rest in
+    (rest.0, sym (append_assoc (lines_in d) (l ∷ []) (next ∷ parts)) ∙ ap (λ t. t ++ next ∷ parts) (sym s.lines) ∙ rest.1)
 
 -- what was read is the case of the text
-pub case_of-is : (text : List ℕ) (c : Case) → case_of text ≡ Ok c → IsCase c × (text ≡ text_of c)
-unfolding case_of
+pub case_of-is : (text : List ℕ) (c : Case) → case_of text ≡ Ok c → IsCase c × (text ≡ text_of_case c)
+unfolding case_of text_of_case
 case_of-is text c h =
-    let l = leads Start c 1 (parts_of text) tt h in
-    (l.0, lines-text text (items (Done c)) l.1 ∙ sym (text_of-lines c))
+    let l = leads Start c 1 (parts_of text) tt h in (l.0, lines-text text (lines_of c) l.1)

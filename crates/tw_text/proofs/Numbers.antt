@@ -1,30 +1,49 @@
--- The digits, and the words, that are left to read.
-use Rattle.std.proofs.Common.{◌≡◌, ℕ, ◌+◌, ◌<◌, List, [], ◌∷◌, ◌++◌, length, get_or, drop, map, if◌then◌else◌, Option, Some, None, Result, Ok, Err, refl, ◌∙◌, append_assoc}
+-- Digits and numbers that are read one by one.
+use Rattle.std.proofs.Common.{◌≡◌, ℕ, ◌+◌, ◌<◌, true, false, List, [], ◌∷◌, ◌++◌, length, get_or, take, map, if◌then◌else◌, Option, Some, None, Ok, Err, refl, ap, sym, ◌∙◌, inl, inr}
+use Rattle.std.proofs.lemmas.Bool.{cases_Bool}
+use Rattle.std.proofs.lemmas.List.{map-append, take_more}
+use Rattle.std.proofs.lemmas.List.Folds.{list_all-append, list_all-map, list_all_at}
 use Rattle.std.specs.Borrow.{Bor}
 use Rattle.std.specs.Char.{is_ascii_digit}
 use Rattle.std.specs.List.{list_all}
-use Rattle.std.specs.Str.Parse.{digits_value_after}
-use Rattle.std.proofs.lemmas.List.{at_drop_more}
-use Rattle.tw_text.specs.declared.statement.WordsFault.{WordsFault}
-use Rattle.tw_text.specs.Statements.{◌>>=◌, number_at, numbers_of}
-use Rattle.tw_text.specs.Steps.{clamp, result_map}
+use Rattle.std.specs.Str.Parse.{digits_value, digits_value_after}
+use Rattle.tw_text.specs.declared.text_fault.LineFault.{LineFault}
+use Rattle.tw_text.specs.declared.text_fault.LineFault.TheVariants.{Number}
+use Rattle.tw_text.specs.Statements.{number_of, numbers_of}
+use Rattle.tw_text.specs.Words.{is_number}
 
 -- the number that these digits write behind those of n, if they are digits
 abbrev pub number_after : ℕ → List ℕ → Option ℕ
 number_after n ds = if list_all is_ascii_digit ds then Some (digits_value_after 10 n ds) else None
 
--- the numbers of these words behind those of ns
-abbrev pub numbers_after : List ℕ → List (Bor (List ℕ)) → Result (List ℕ) WordsFault
-numbers_after ns words = result_map (λ ms. ns ++ map clamp ms) (numbers_of (map (λ w. w.now) words))
+-- these are the numbers of the first i words
+pub record AreRead (ws : List (Bor (List ℕ))) (i : ℕ) (ns : List ℕ) : Type 0 where
+  pub same : ns ≡ map (digits_value 10) (map (λ w. w.now) (take i ws))
+  pub right : list_all is_number (map (λ w. w.now) (take i ws)) ≡ true
 
--- one more number, as it was read
-read_more : (r : Result ℕ WordsFault) (q : Result (List ℕ) WordsFault) (ns : List ℕ) (m : ℕ) → Ok m ≡ result_map clamp r
-    → result_map (λ ms. ns ++ map clamp ms) (r >>= λ n. q >>= λ ms. Ok (n ∷ ms)) ≡ result_map (λ ms. (ns ++ m ∷ []) ++ map clamp ms) q
-read_more (Ok n) (Ok ms) ns m h = let e : m ≡ clamp n = cc in rw (e, append_assoc) refl
-read_more (Ok n) (Err e) ns m h = refl
-read_more (Err e) q ns m h = absurd (cc)
+was_number : (w : List ℕ) (n : ℕ) → Ok n ≡ number_of w → (is_number w ≡ true) × (n ≡ digits_value 10 w)
+was_number w n h =
+    elim (cases_Bool (is_number w)) [ inl t ↦ (let g : Ok n ≡ Ok (digits_value 10 w) = rw t at h in (t, cc)) | inr f ↦ absurd (let g : Ok n ≡ Err Number = rw f at h in cc) ]
 
-pub numbers_after-more : (ns : List ℕ) (words : List (Bor (List ℕ))) (i : ℕ) (w : Bor (List ℕ)) (m : ℕ) → i < length words
-    → Ok m ≡ result_map clamp (number_at (get_or words i w).now) → numbers_after ns (drop i words) ≡ numbers_after (ns ++ m ∷ []) (drop (i + 1) words)
-numbers_after-more ns words i w m h is =
-    at_drop_more (numbers_after ns) words i w h ∙ read_more (number_at (get_or words i w).now) (numbers_of (map (λ w. w.now) (drop (i + 1) words))) ns m is
+was_none : (w : List ℕ) (fault : LineFault) → Err fault ≡ number_of w → (is_number w ≡ false) × (fault ≡ Number)
+was_none w fault h =
+    elim (cases_Bool (is_number w)) [ inl t ↦ absurd (let g : Err fault ≡ Ok (digits_value 10 w) = rw t at h in cc) | inr f ↦ (let g : Err fault ≡ Err Number = rw f at h in (f, cc)) ]
+
+pub read_more : (ws : List (Bor (List ℕ))) (i : ℕ) (w : Bor (List ℕ)) (n : ℕ) (ns more : List ℕ) → i < length ws → Ok n ≡ number_of (get_or ws i w).now
+    → AreRead ws i ns → more ≡ ns ++ n ∷ [] → AreRead ws (i + 1) more
+read_more ws i w n ns more h is read e =
+    let m = was_number (get_or ws i w).now n is in
+    let taken = take_more ws i w h in
+    let now : map (λ w. w.now) (take (i + 1) ws) ≡ map (λ w. w.now) (take i ws) ++ (get_or ws i w).now ∷ [] = ap (map (λ w. w.now)) taken ∙ map-append (λ w. w.now) (take i ws) (get_or ws i w ∷ []) in
+    record {
+      same = e ∙ (ap (λ ns. ns ++ n ∷ []) read.same ∙ (ap (λ n. map (digits_value 10) (map (λ w. w.now) (take i ws)) ++ n ∷ []) m.1
+          ∙ sym (ap (map (digits_value 10)) now ∙ map-append (digits_value 10) (map (λ w. w.now) (take i ws)) ((get_or ws i w).now ∷ []))));
+      right = ap (list_all is_number) now ∙ (list_all-append is_number (map (λ w. w.now) (take i ws)) ((get_or ws i w).now ∷ []) ∙ rw (read.right, m.0) refl);
+    }
+
+pub read_none : (ws : List (Bor (List ℕ))) (i : ℕ) (w : Bor (List ℕ)) (fault : LineFault) → i < length ws → Err fault ≡ number_of (get_or ws i w).now
+    → numbers_of (map (λ w. w.now) ws) ≡ Err fault
+read_none ws i w fault h is =
+    let n = was_none (get_or ws i w).now fault is in
+    let no : list_all is_number (map (λ w. w.now) ws) ≡ false = list_all-map is_number (λ w. w.now) ws ∙ list_all_at (λ w. is_number w.now) ws i w h n.0 in
+    rw no (ap (λ fault. Err fault) (sym n.1))

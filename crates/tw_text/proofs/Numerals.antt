@@ -7,7 +7,8 @@ use Rattle.std.proofs.lemmas.Str.Parse.{IsNumeralModel, digits_value_short, nume
 use Rattle.std.specs.Char.{is_ascii_digit}
 use Rattle.std.specs.List.{list_all}
 use Rattle.std.specs.Str.Parse.{digits_value}
-use Rattle.tw_text.specs.Words.{has_number_form, number_of}
+use Rattle.tw_text.specs.declared.words.TheConstants.{MOST_DIGITS}
+use Rattle.tw_text.specs.Words.{is_number}
 
 own : IsNumeralModel (λ ds. list_all is_ascii_digit ds ≡ true) (digits_value 10)
 own = numerals_by_value _ (search rules)
@@ -15,7 +16,7 @@ own = numerals_by_value _ (search rules)
 -- what a word of the right form says
 record HasForm (w : List ℕ) : Type 0 where
   some : 0 < length w
-  most : length w ≤ 10
+  most : length w ≤ MOST_DIGITS
   first : get_or w 0 0 ≡ 48 → length w ≡ 1
   digits : list_all is_ascii_digit w ≡ true
 
@@ -29,43 +30,37 @@ no_zero n h =
       | inr zero ↦ (let one = ap length (decimal_digit n (omega arith)) in grind (arith, nat_tests))
     ]
 
-form_of : (w : List ℕ) → has_number_form w ≡ true → HasForm w
+form_of : (w : List ℕ) → is_number w ≡ true → HasForm w
 form_of w h =
-    let a = and_parts (not (length w == 0) && nat_le (length w) 10 && not (nat_lt 1 (length w) && (slice_index w 0 == 48))) (list_all is_ascii_digit w) h in
-    let b = and_parts (not (length w == 0) && nat_le (length w) 10) (not (nat_lt 1 (length w) && (slice_index w 0 == 48))) a.0 in
-    let c = and_parts (not (length w == 0)) (nat_le (length w) 10) b.0 in
+    let a = and_parts (not (length w == 0) && nat_le (length w) MOST_DIGITS && not (nat_lt 1 (length w) && (slice_index w 0 == 48))) (list_all is_ascii_digit w) h in
+    let b = and_parts (not (length w == 0) && nat_le (length w) MOST_DIGITS) (not (nat_lt 1 (length w) && (slice_index w 0 == 48))) a.0 in
+    let c = and_parts (not (length w == 0)) (nat_le (length w) MOST_DIGITS) b.0 in
     let e = not-true (length w == 0) c.0 in
     let f = not-true (nat_lt 1 (length w) && (slice_index w 0 == 48)) b.1 in
     record { some = grind (arith, nat_tests); most = grind (arith, nat_tests); first = λ z. only_zero w z f (grind (arith, nat_tests)); digits = a.1 }
 
-pub number_is : (w : List ℕ) (n : ℕ) → number_of w ≡ Some n → (w ≡ decimal n) × (n < 10 ^ 10)
-number_is w n h =
-    elim (cases_Bool (has_number_form w)) [
-      | inl t ↦
-          (let e : Some (digits_value 10 w) ≡ Some n = rw t at h in
-          let same : digits_value 10 w ≡ n = cc in
-          let form = form_of w t in
-          let small = digits_value_short own w 10 form.digits form.most in
-          let lt : digits_value 10 w < 2 ^ 64 = omega (arith, small) in
-          (sym (decimal-digits_value own w form.digits form.some form.first lt) ∙ ap decimal same, rw same at small))
-      | inr f ↦ (let e : None ≡ Some n = rw f at h in absurd (cc))
-    ]
+pub number_is : (w : List ℕ) → is_number w ≡ true → w ≡ decimal (digits_value 10 w)
+number_is w h =
+    let form = form_of w h in
+    let small = digits_value_short own w MOST_DIGITS form.digits form.most in
+    let lt : digits_value 10 w < 2 ^ 64 = omega (arith, small) in
+    sym (decimal-digits_value own w form.digits form.some form.first lt)
 
-decimal-form : (n : ℕ) → n < 10 ^ 10 → has_number_form (decimal n) ≡ true
+pub decimal-form : (n : ℕ) → n < 10 ^ MOST_DIGITS → is_number (decimal n) ≡ true
 decimal-form n h =
     let lt : n < 2 ^ 64 = omega arith in
     let some = decimal_nonempty n lt in
-    let most = length-decimal-le 10 n (omega arith) h lt in
+    let most = length-decimal-le MOST_DIGITS n (omega arith) h lt in
     let digits = digits_decimal own n lt in
     let a : (length (decimal n) == 0) ≡ false = grind (arith, nat_tests) in
-    let b : nat_le (length (decimal n)) 10 ≡ true = grind (arith, nat_tests) in
+    let b : nat_le (length (decimal n)) MOST_DIGITS ≡ true = grind (arith, nat_tests) in
     rw (a, b, no_zero n lt, digits) refl
 
-pub number_of-decimal : (n : ℕ) → n < 10 ^ 10 → number_of (decimal n) ≡ Some n
-number_of-decimal n h = let lt : n < 2 ^ 64 = omega arith in rw (decimal-form n h, digits_value-decimal own n lt) refl
+pub value-decimal : (n : ℕ) → n < 10 ^ MOST_DIGITS → digits_value 10 (decimal n) ≡ n
+value-decimal n h = let lt : n < 2 ^ 64 = omega arith in digits_value-decimal own n lt
 
-pub decimal-digits : (n : ℕ) → n < 10 ^ 10 → list_all is_ascii_digit (decimal n) ≡ true
+pub decimal-digits : (n : ℕ) → n < 10 ^ MOST_DIGITS → list_all is_ascii_digit (decimal n) ≡ true
 decimal-digits n h = digits_decimal own n (omega arith)
 
-pub decimal-some : (n : ℕ) → n < 10 ^ 10 → (length (decimal n) == 0) ≡ false
+pub decimal-some : (n : ℕ) → n < 10 ^ MOST_DIGITS → (length (decimal n) == 0) ≡ false
 decimal-some n h = let lt : n < 2 ^ 64 = omega arith in let some = decimal_nonempty n lt in grind (arith, nat_tests)

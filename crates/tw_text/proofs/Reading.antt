@@ -1,5 +1,5 @@
 -- The part of a text that is left to read.
-use Rattle.std.proofs.Common.{◌≡◌, ℕ, suc, ◌+◌, ◌<◌, ◌==◌, nat_lt, true, false, List, [], ◌∷◌, length, take, drop, Some, None, Err, refl, ap, ◌∙◌, inl, inr, arith, add-one}
+use Rattle.std.proofs.Common.{◌≡◌, ℕ, suc, ◌+◌, ◌<◌, ◌==◌, nat_lt, true, false, List, [], ◌∷◌, length, take, drop, Some, None, Ok, Err, refl, ap, ◌∙◌, inl, inr, arith, add-one}
 use Rattle.std.proofs.lemmas.Bool.{cases_Bool}
 use Rattle.std.proofs.lemmas.Bool.Decides.{nat_tests}
 use Rattle.std.proofs.lemmas.List.Elements.{All-from_get_or}
@@ -7,12 +7,14 @@ use Rattle.std.proofs.lemmas.List.Splits.{length-slice_split, slice_split_first,
 use Rattle.std.proofs.lemmas.List.Sums.{fails_before_first}
 use Rattle.std.specs.List.{position, position_or_len}
 use Rattle.tw_model.specs.Case.{Case}
+use Rattle.tw_model.specs.declared.memory.OrMemory.{OrMemory}
+use Rattle.tw_model.specs.declared.memory.OrMemory.TheVariants.{Fault, Memory}
+use Rattle.tw_model.specs.Memory.{IsUnlessMemory, map_fault}
 use Rattle.tw_text.specs.declared.draft.Draft.{Draft}
-use Rattle.tw_text.specs.declared.draft.LineError.{LineError}
-use Rattle.tw_text.specs.declared.draft.LineError.TheVariants as error
-use Rattle.tw_text.specs.Reading.{Told, finishes, reads, unless_fault}
-use Rattle.tw_text.specs.Steps.{Steps, at_line}
-use Rattle.tw_text.specs.Table.{fault_of, with_line}
+use Rattle.tw_text.specs.declared.text_fault.LineFault.{LineFault}
+use Rattle.tw_text.specs.FaultTable.{step}
+use Rattle.tw_text.specs.Reading.{at_line, fault_at, finishes, reads}
+use Rattle.tw_text.specs.Statements.{◌>>=◌}
 use Rattle.tw_text.specs.Words.{parts_of}
 
 -- the first part ends at the first line end
@@ -34,27 +36,27 @@ parts-None text h =
     ]
 
 pub reads-more : (d : Draft) (k : ℕ) (line : List ℕ) (parts : List (List ℕ)) → 0 < length parts
-    → reads d k (line ∷ parts) ≡ unless_fault (fault_of d line true) k (reads (with_line d line) (suc k) parts)
+    → reads d k (line ∷ parts) ≡ (at_line k (step d line true) >>= λ after. reads after (suc k) parts)
 unfolding reads
 reads-more d k line [] h = absurd (omega arith)
 reads-more d k line (next ∷ parts) h = refl
 
 reads-line : (d : Draft) (k : ℕ) (text : List ℕ) (i : ℕ) → position (λ b. b == 10) text ≡ Some i
-    → reads d k (parts_of text) ≡ unless_fault (fault_of d (take i text) true) k (reads (with_line d (take i text)) (suc k) (parts_of (drop (i + 1) text)))
+    → reads d k (parts_of text) ≡ (at_line k (step d (take i text) true) >>= λ after. reads after (suc k) (parts_of (drop (i + 1) text)))
 reads-line d k text i h =
     let n = length-slice_split (λ b. b == 10) (drop (i + 1) text) in
     ap (reads d k) (parts-Some text i h) ∙ reads-more d k (take i text) (parts_of (drop (i + 1) text)) (omega arith)
 
 -- one line without a fault
 pub read_on : (d next : Draft) (k : ℕ) (text : List ℕ) (i : ℕ) → position (λ b. b == 10) text ≡ Some i
-    → (fault_of d (take i text) true ≡ None) × (next ≡ with_line d (take i text)) → reads d k (parts_of text) ≡ reads next (k + 1) (parts_of (drop (i + 1) text))
-read_on d next k text i h e = reads-line d k text i h ∙ rw (e.0, e.1, add-one k) refl
+    → step d (take i text) true ≡ Ok next → reads d k (parts_of text) ≡ reads next (k + 1) (parts_of (drop (i + 1) text))
+read_on d next k text i h e = reads-line d k text i h ∙ rw (e, add-one k) refl
 
 -- a line with a fault
-pub stopped : (d next : Draft) (k : ℕ) (text : List ℕ) (i : ℕ) (error : LineError) → position (λ b. b == 10) text ≡ Some i
-    → Steps (Err error) (fault_of d (take i text) true) next → Told {A = Case} (Err (at_line error k)) (reads d k (parts_of text))
-stopped d next k text i error.Memory h e = tt
-stopped d next k text i (error.Fault f) h e = reads-line d k text i h ∙ rw e refl
+pub stopped : (d : Draft) (k : ℕ) (text : List ℕ) (i : ℕ) (fault : OrMemory LineFault) → position (λ b. b == 10) text ≡ Some i
+    → IsUnlessMemory (Err fault) (step d (take i text) true) → IsUnlessMemory {T = Case} (Err (map_fault (fault_at k) fault)) (reads d k (parts_of text))
+stopped d k text i Memory h e = tt
+stopped d k text i (Fault f) h e = reads-line d k text i h ∙ rw e refl
 
 -- no line end is left
 pub read_all : (d : Draft) (k : ℕ) (text : List ℕ) → position (λ b. b == 10) text ≡ None → reads d k (parts_of text) ≡ finishes d k text

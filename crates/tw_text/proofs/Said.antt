@@ -1,85 +1,153 @@
 -- The words of a statement, and the statement of words.
-use Rattle.std.proofs.Common.{◌≡◌, ℕ, ◌<◌, ◌^◌, ◌==◌, false, List, [], ◌∷◌, length, map, decimal, Ok, refl, ap}
+use Rattle.std.proofs.Common.{◌≡◌, ℕ, ◌<◌, ◌^◌, ◌==◌, Bool, true, false, not, ◌&&◌, List, [], ◌∷◌, length, map, codes, decimal, bytes_eq, if◌then◌else◌, Option, Some, None, Result, Ok, Err, refl, ap, ap₂, sym, ◌∙◌, inl, inr}
+use Rattle.std.proofs.lemmas.Bool.{and_parts, cases_Bool}
 use Rattle.std.proofs.lemmas.List.{length-map}
-use Rattle.std.specs.List.{AllByRecursion}
-use Rattle.std.specs.Option.{ok_or}
-use Rattle.tw_model.specs.Line.{Line}
-use Rattle.tw_model.specs.declared.case.Scene.{Scene}
+use Rattle.std.specs.Cmp.Lexicographic.{bytes_decides}
+use Rattle.std.specs.List.{AllByRecursion, list_all, list_any}
+use Rattle.std.specs.Str.Parse.{digits_value}
 use Rattle.tw_model.specs.declared.case.Scene.TheVariants.{Fail, Restore, Swap}
-use Rattle.tw_text.specs.declared.statement.Statement.{Statement}
-use Rattle.tw_text.specs.declared.statement.Statement.TheVariants as say
-use Rattle.tw_text.specs.declared.statement.WordsFault.TheVariants.{Number}
-use Rattle.tw_text.specs.Statements.{number_at, numbers_of, said_at, statement_of}
-use Rattle.tw_text.specs.Text.{end_words, link_words, nodes_words, path_words, scene_words}
-use Rattle.tw_text.proofs.Numerals.{number_of-decimal, decimal-digits, decimal-some}
+use Rattle.tw_text.specs.declared.keyword.Keyword.{Keyword}
+use Rattle.tw_text.specs.declared.keyword.Keyword.TheVariants as keyword
+use Rattle.tw_text.specs.declared.text_fault.LineFault.{LineFault}
+use Rattle.tw_text.specs.declared.text_fault.LineFault.TheVariants as x
+use Rattle.tw_text.specs.Statements.{◌>>=◌, Statement, nodes_line, link_line, path_line, scene_line, end_line, takes_words, keyword_before, keyword_of, numbers_of, said, statement_of, takes, word_of}
+use Rattle.tw_text.specs.Text.{keyword_in, numbers_in, words_of}
+use Rattle.tw_text.specs.declared.words.TheConstants.{MOST_DIGITS}
+use Rattle.tw_text.specs.Words.{is_number}
+use Rattle.tw_text.proofs.Numerals.{decimal-digits, decimal-form, decimal-some, number_is, value-decimal}
 use Rattle.tw_text.proofs.Splits.{IsWord, digits_are_signs, none_empty}
+use Rattle.tw_text.proofs.Steps.{bound}
 
--- the words that say it
-abbrev pub statement_words : Statement → List (List ℕ)
-statement_words (say.Nodes n) = nodes_words n
-statement_words (say.Link l) = link_words l
-statement_words (say.Path p) = path_words p
-statement_words (say.Scene s) = scene_words s
-statement_words say.End = end_words
+-- ---- from a statement to its words and back
 
--- it is at most ten digits long
+-- at most ten digits long
 abbrev pub IsShort : ℕ → Type 0
-IsShort n = n < 10 ^ 10
+IsShort n = n < 10 ^ MOST_DIGITS
 
-pub record IsShortPath (p : Line) : Type 0 where
-  pub owner : IsShort p.owner
-  pub nodes : AllByRecursion IsShort p.nodes
-  pub some : (length p.nodes == 0) ≡ false
+-- its numbers are short, and as many as its keyword takes
+pub record IsSayable (s : Statement) : Type 0 where
+  pub short : AllByRecursion IsShort (numbers_in s)
+  pub count : takes (keyword_in s) (length (numbers_in s)) ≡ true
 
-abbrev pub IsShortScene : Scene → Type 0
-IsShortScene (Fail t a b) = IsShort t × IsShort a × IsShort b
-IsShortScene (Restore t a b) = IsShort t × IsShort a × IsShort b
-IsShortScene (Swap t v i j) = IsShort t × IsShort v × IsShort i × IsShort j
+keyword-word : (k : Keyword) → IsWord (word_of k)
+keyword-word keyword.Nodes = record { some = refl; signs = refl }
+keyword-word keyword.Link = record { some = refl; signs = refl }
+keyword-word keyword.Path = record { some = refl; signs = refl }
+keyword-word keyword.Fail = record { some = refl; signs = refl }
+keyword-word keyword.Restore = record { some = refl; signs = refl }
+keyword-word keyword.Swap = record { some = refl; signs = refl }
+keyword-word keyword.End = record { some = refl; signs = refl }
 
--- each of its numbers is at most ten digits long
-abbrev pub IsSayable : Statement → Type 0
-IsSayable (say.Nodes n) = IsShort n
-IsSayable (say.Link l) = IsShort l.first × IsShort l.second × IsShort l.delay
-IsSayable (say.Path p) = IsShortPath p
-IsSayable (say.Scene s) = IsShortScene s
-IsSayable say.End = Unit {0}
+numbers-words : (ns : List ℕ) → AllByRecursion IsShort ns → AllByRecursion IsWord (map decimal ns)
+numbers-words [] h = tt
+numbers-words (n ∷ ns) h = (record { some = decimal-some n h.0; signs = digits_are_signs (decimal n) (decimal-digits n h.0) }, numbers-words ns h.1)
 
-decimal-word : (n : ℕ) → IsShort n → IsWord (decimal n)
-decimal-word n h = record { some = decimal-some n h; signs = digits_are_signs (decimal n) (decimal-digits n h) }
+pub words-are : (s : Statement) → IsSayable s → AllByRecursion IsWord (words_of s)
+words-are s h = (keyword-word (keyword_in s), numbers-words (numbers_in s) h.short)
 
-decimal-words : (ns : List ℕ) → AllByRecursion IsShort ns → AllByRecursion IsWord (map decimal ns)
-decimal-words [] h = tt
-decimal-words (n ∷ ns) h = (decimal-word n h.0, decimal-words ns h.1)
+keyword_of-word : (k : Keyword) → keyword_of (word_of k) ≡ Some k
+keyword_of-word keyword.Nodes = refl
+keyword_of-word keyword.Link = refl
+keyword_of-word keyword.Path = refl
+keyword_of-word keyword.Fail = refl
+keyword_of-word keyword.Restore = refl
+keyword_of-word keyword.Swap = refl
+keyword_of-word keyword.End = refl
 
-pub words-are : (s : Statement) → IsSayable s → AllByRecursion IsWord (statement_words s)
-words-are (say.Nodes n) h = (record { some = refl; signs = refl }, (decimal-word n h, tt))
-words-are (say.Link l) h = (record { some = refl; signs = refl }, (decimal-word l.first h.0, (decimal-word l.second h.1, (decimal-word l.delay h.2, tt))))
-words-are (say.Path p) h = (record { some = refl; signs = refl }, (decimal-word p.owner h.owner, decimal-words p.nodes h.nodes))
-words-are (say.Scene (Fail t a b)) h = (record { some = refl; signs = refl }, (decimal-word t h.0, (decimal-word a h.1, (decimal-word b h.2, tt))))
-words-are (say.Scene (Restore t a b)) h = (record { some = refl; signs = refl }, (decimal-word t h.0, (decimal-word a h.1, (decimal-word b h.2, tt))))
-words-are (say.Scene (Swap t v i j)) h = (record { some = refl; signs = refl }, (decimal-word t h.0, (decimal-word v h.1, (decimal-word i h.2, (decimal-word j h.3, tt)))))
-words-are say.End h = (record { some = refl; signs = refl }, tt)
+all-numbers : (ns : List ℕ) → AllByRecursion IsShort ns → list_all is_number (map decimal ns) ≡ true
+all-numbers [] h = refl
+all-numbers (n ∷ ns) h = ap₂ (λ a b. a && b) (decimal-form n h.0) (all-numbers ns h.1)
 
-number-said : (n : ℕ) → IsShort n → number_at (decimal n) ≡ Ok n
-number-said n h = ap (λ o. ok_or o Number) (number_of-decimal n h)
+values-decimals : (ns : List ℕ) → AllByRecursion IsShort ns → map (digits_value 10) (map decimal ns) ≡ ns
+values-decimals [] h = refl
+values-decimals (n ∷ ns) h = ap₂ (λ m ms. m ∷ ms) (value-decimal n h.0) (values-decimals ns h.1)
 
-numbers-said : (ns : List ℕ) → AllByRecursion IsShort ns → numbers_of (map decimal ns) ≡ Ok ns
-numbers-said [] h = refl
-numbers-said (n ∷ ns) h = rw (number-said n h.0, numbers-said ns h.1) refl
+numbers_of-decimals : (ns : List ℕ) → AllByRecursion IsShort ns → numbers_of (map decimal ns) ≡ Ok ns
+numbers_of-decimals ns h = rw (all-numbers ns h, values-decimals ns h) refl
 
-length-decimals : (ns : List ℕ) → (length ns == 0) ≡ false → (length (map decimal ns) == 0) ≡ false
-length-decimals ns h = rw (length-map ns decimal) h
+takes_words-decimals : (k : Keyword) (ns : List ℕ) → AllByRecursion IsShort ns → takes k (length ns) ≡ true → takes_words k (map decimal ns) ≡ true
+takes_words-decimals k ns h count = rw (length-map ns decimal, count, none_empty (map decimal ns) (numbers-words ns h)) refl
 
-said : (s : Statement) → IsSayable s → said_at (statement_words s) ≡ Ok s
-said (say.Nodes n) h = rw (number-said n h) refl
-said (say.Link l) h = rw (number-said l.first h.0, number-said l.second h.1, number-said l.delay h.2) refl
-said (say.Path p) h = rw (length-decimals p.nodes h.some, number-said p.owner h.owner, numbers-said p.nodes h.nodes) refl
-said (say.Scene (Fail t a b)) h = rw (number-said t h.0, number-said a h.1, number-said b h.2) refl
-said (say.Scene (Restore t a b)) h = rw (number-said t h.0, number-said a h.1, number-said b h.2) refl
-said (say.Scene (Swap t v i j)) h = rw (number-said t h.0, number-said v h.1, number-said i h.2, number-said j h.3) refl
-said say.End h = refl
+said-in : (s : Statement) → said (keyword_in s) (numbers_in s) ≡ Ok s
+said-in (nodes_line n) = refl
+said-in (link_line l) = refl
+said-in (path_line p) = refl
+said-in (scene_line (Fail t a b)) = refl
+said-in (scene_line (Restore t a b)) = refl
+said-in (scene_line (Swap t v i j)) = refl
+said-in end_line = refl
+
+chain : (k : Keyword) (fit : Bool) (read : Result (List ℕ) LineFault) (ns : List ℕ) (s : Statement) → fit ≡ true → read ≡ Ok ns → said k ns ≡ Ok s
+    → ((if fit then Ok k else Err x.Word) >>= λ k. read >>= λ ns. said k ns) ≡ Ok s
+chain k fit read ns s p q r = rw (p, q) r
 
 -- a statement is read from its words
-pub statement_of-words : (s : Statement) → IsSayable s → statement_of (statement_words s) ≡ Ok s
+pub statement_of-words : (s : Statement) → IsSayable s → statement_of (words_of s) ≡ Ok s
 unfolding statement_of
-statement_of-words s h = rw (none_empty (statement_words s) (words-are s h)) (said s h)
+statement_of-words s h =
+    let k = keyword_in s in let ns = numbers_in s in let ws = map decimal ns in
+    ap (λ found. keyword_before found ws >>= λ k. numbers_of ws >>= λ ns. said k ns) (keyword_of-word k)
+    ∙ chain k (takes_words k ws) (numbers_of ws) ns s (takes_words-decimals k ns h.short h.count) (numbers_of-decimals ns h.short) (said-in s)
+
+-- ---- from words to their statement and back
+
+keyword_was : (found : Option Keyword) (ws : List (List ℕ)) (k : Keyword) → keyword_before found ws ≡ Ok k → found ≡ Some k
+keyword_was None ws k h = absurd (cc)
+keyword_was (Some j) ws k h =
+    elim (cases_Bool (takes_words j ws)) [
+      | inl t ↦ (let r : Result Keyword LineFault = Ok j in let g : r ≡ Ok k = rw t at h in let e : j ≡ k = cc in ap (λ k. Some k) e)
+      | inr f ↦ absurd (let r : Result Keyword LineFault = Err x.Word in let g : r ≡ Ok k = rw f at h in cc)
+    ]
+
+-- one test of the word
+unless_word : (word : List ℕ) (j k : Keyword) (other : Option Keyword) → (other ≡ Some k → word ≡ word_of k) → (if bytes_eq word (word_of j) then Some j else other) ≡ Some k → word ≡ word_of k
+unless_word word j k other there h =
+    elim (cases_Bool (bytes_eq word (word_of j))) [
+      | inl t ↦ (let g : Some j ≡ Some k = rw t at h in let e : j ≡ k = cc in (bytes_decides word (word_of j)).0 t ∙ ap word_of e)
+      | inr f ↦ there (rw f at h)
+    ]
+
+word_of-keyword : (word : List ℕ) (k : Keyword) → keyword_of word ≡ Some k → word ≡ word_of k
+word_of-keyword word k =
+    unless_word word keyword.Nodes k _ (unless_word word keyword.Link k _ (unless_word word keyword.Path k _ (unless_word word keyword.Fail k _
+    (unless_word word keyword.Restore k _ (unless_word word keyword.Swap k _ (unless_word word keyword.End k None (λ e. absurd (cc))))))))
+
+decimals-values : (ws : List (List ℕ)) → list_all is_number ws ≡ true → ws ≡ map decimal (map (digits_value 10) ws)
+decimals-values [] h = refl
+decimals-values (w ∷ ws) h = let p = and_parts (is_number w) (list_all is_number ws) h in ap₂ (λ w ws. w ∷ ws) (number_is w p.0) (decimals-values ws p.1)
+
+numbers_was : (ws : List (List ℕ)) (ns : List ℕ) → numbers_of ws ≡ Ok ns → ws ≡ map decimal ns
+numbers_was ws ns h =
+    elim (cases_Bool (list_all is_number ws)) [
+      | inl t ↦ (let r : Result (List ℕ) LineFault = Ok (map (digits_value 10) ws) in let g : r ≡ Ok ns = rw t at h in let e : map (digits_value 10) ws ≡ ns = cc in decimals-values ws t ∙ ap (map decimal) e)
+      | inr f ↦ absurd (let r : Result (List ℕ) LineFault = Err x.Number in let g : r ≡ Ok ns = rw f at h in cc)
+    ]
+
+-- what stands in a statement
+record Holds (s : Statement) (k : Keyword) (ns : List ℕ) : Type 0 where
+  keyword : keyword_in s ≡ k
+  numbers : numbers_in s ≡ ns
+
+holds : (k : Keyword) (ns : List ℕ) (s t : Statement) → Holds s k ns → (let r : Result Statement LineFault = Ok s in r ≡ Ok t) → Holds t k ns
+holds k ns s t h e = let same : s ≡ t = cc in record { keyword = sym (ap keyword_in same) ∙ h.keyword; numbers = sym (ap numbers_in same) ∙ h.numbers }
+
+said_was : (k : Keyword) (ns : List ℕ) (s : Statement) → said k ns ≡ Ok s → Holds s k ns
+said_was keyword.Nodes (n ∷ []) s h = holds _ _ (nodes_line n) s (record { keyword = refl; numbers = refl }) h
+said_was keyword.Link (a ∷ b ∷ delay ∷ []) s h = holds _ _ (link_line (record { first = a; second = b; delay = delay })) s (record { keyword = refl; numbers = refl }) h
+said_was keyword.Path (v ∷ path) s h = holds _ _ (path_line (record { owner = v; nodes = path })) s (record { keyword = refl; numbers = refl }) h
+said_was keyword.Fail (t ∷ a ∷ b ∷ []) s h = holds _ _ (scene_line (Fail t a b)) s (record { keyword = refl; numbers = refl }) h
+said_was keyword.Restore (t ∷ a ∷ b ∷ []) s h = holds _ _ (scene_line (Restore t a b)) s (record { keyword = refl; numbers = refl }) h
+said_was keyword.Swap (t ∷ v ∷ i ∷ j ∷ []) s h = holds _ _ (scene_line (Swap t v i j)) s (record { keyword = refl; numbers = refl }) h
+said_was keyword.End [] s h = holds _ _ end_line s (record { keyword = refl; numbers = refl }) h
+said_was k ns s h = absurd (cc)
+
+-- words that say a statement are its words
+pub statement_of-is : (ws : List (List ℕ)) (s : Statement) → statement_of ws ≡ Ok s → ws ≡ words_of s
+unfolding statement_of
+statement_of-is [] s h = absurd (let r : Result Statement LineFault = Err x.Word in let g : r ≡ Ok s = h in cc)
+statement_of-is (word ∷ ws) s h =
+    let k = bound (keyword_before (keyword_of word) ws) (λ k. numbers_of ws >>= λ ns. said k ns) s h in
+    let ns = bound (numbers_of ws) (λ ns. said k.value ns) s k.next in
+    let parts = said_was k.value ns.value s ns.next in
+    ap₂ (λ w ws. w ∷ ws) (word_of-keyword word k.value (keyword_was (keyword_of word) ws k.value k.was) ∙ ap word_of (sym parts.keyword))
+    (numbers_was ws ns.value ns.was ∙ ap (map decimal) (sym parts.numbers))

@@ -8,6 +8,7 @@ use Rattle.std.proofs.lemmas.List.Folds.{list_all-append}
 use Rattle.std.proofs.lemmas.List.Splits.{join_with_byte-slice_split}
 use Rattle.std.specs.Char.{is_ascii_digit}
 use Rattle.std.specs.List.{AllByRecursion, flat_map, join_with_byte, list_all, list_any, slice_split}
+use Rattle.tw_text.specs.Text.{ended_line}
 use Rattle.tw_text.specs.Words.{is_plain, parts_of, words}
 
 -- a letter a to z, or a digit
@@ -67,21 +68,20 @@ none_empty [] h = refl
 none_empty (w ∷ ws) h = rw (h.0.some, none_empty ws h.1) refl
 
 -- lines, each with its end
-pub parts-lines : (lines : List (List ℕ)) → AllByRecursion (λ l. list_all is_plain l ≡ true) lines
-    → parts_of (flat_map (λ l. l ++ 10 ∷ []) lines) ≡ lines ++ [] ∷ []
+pub parts-lines : (lines : List (List ℕ)) → AllByRecursion (λ l. list_all is_plain l ≡ true) lines → parts_of (flat_map ended_line lines) ≡ lines ++ [] ∷ []
 parts-lines [] h = refl
 parts-lines (l ∷ lines) h =
-    ap (slice_split (λ b. b == 10)) (append_assoc l (10 ∷ []) (flat_map (λ l. l ++ 10 ∷ []) lines))
-    ∙ split_at 10 is_plain plain_apart l (flat_map (λ l. l ++ 10 ∷ []) lines) h.0
+    ap (slice_split (λ b. b == 10)) (append_assoc l (10 ∷ []) (flat_map ended_line lines))
+    ∙ split_at 10 is_plain plain_apart l (flat_map ended_line lines) h.0
     ∙ ap (λ t. l ∷ t) (parts-lines lines h.1)
 
-join-lines : (lines : List (List ℕ)) → join_with_byte 10 (lines ++ [] ∷ []) ≡ flat_map (λ l. l ++ 10 ∷ []) lines
+join-lines : (lines : List (List ℕ)) → join_with_byte 10 (lines ++ [] ∷ []) ≡ flat_map ended_line lines
 join-lines [] = refl
 join-lines (l ∷ []) = sym (append-nil (l ++ 10 ∷ []))
-join-lines (l ∷ m ∷ lines) = ap (λ t. l ++ 10 ∷ t) (join-lines (m ∷ lines)) ∙ sym (append_assoc l (10 ∷ []) (flat_map (λ l. l ++ 10 ∷ []) (m ∷ lines)))
+join-lines (l ∷ m ∷ lines) = ap (λ t. l ++ 10 ∷ t) (join-lines (m ∷ lines)) ∙ sym (append_assoc l (10 ∷ []) (flat_map ended_line (m ∷ lines)))
 
 -- a text whose parts are these lines and nothing after them
-pub lines-text : (text : List ℕ) (lines : List (List ℕ)) → parts_of text ≡ lines ++ [] ∷ [] → text ≡ flat_map (λ l. l ++ 10 ∷ []) lines
+pub lines-text : (text : List ℕ) (lines : List (List ℕ)) → parts_of text ≡ lines ++ [] ∷ [] → text ≡ flat_map ended_line lines
 lines-text text lines h = sym (join_with_byte-slice_split 10 text) ∙ ap (join_with_byte 10) h ∙ join-lines lines
 
 -- the words of a line, joined, are the line

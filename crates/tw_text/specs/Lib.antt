@@ -1,7 +1,7 @@
 pub mod Words
 pub mod Statements
-pub mod Table
-pub mod Steps
+pub mod FaultNames
+pub mod FaultTable
+pub mod Drafts
 pub mod Reading
-pub mod Names
 pub mod Text

@@ -1,100 +1,92 @@
--- What the words of a line say.
-use Rattle.std.specs.Prelude.{ℕ, ◌==◌, List, [], ◌∷◌, length, if◌then◌else◌, Result, Ok, Err, bytes_eq, codes}
-use Rattle.std.specs.List.{list_any}
-use Rattle.std.specs.Option.{ok_or}
+-- What a line says, from line 2 on: a keyword with numbers behind it (own).
+use Rattle.std.specs.Prelude.{ℕ, ◌==◌, nat_le, Bool, not, ◌&&◌, List, [], ◌∷◌, length, map, if◌then◌else◌, Option, Some, None, Result, Ok, Err, bytes_eq, codes}
+use Rattle.std.specs.List.{list_all, list_any}
+use Rattle.std.specs.Str.Parse.{digits_value}
+use Rattle.tw_model.specs.declared.case.Scene.{Scene}
 use Rattle.tw_model.specs.declared.case.Scene.TheVariants.{Fail, Restore, Swap}
-use Rattle.tw_text.specs.declared.statement.Statement.{Statement}
-use Rattle.tw_text.specs.declared.statement.Statement.TheVariants as say
-use Rattle.tw_text.specs.declared.statement.WordsFault.{WordsFault}
-use Rattle.tw_text.specs.declared.statement.WordsFault.TheVariants.{Word, Number}
-use Rattle.tw_text.specs.Words.{number_of}
+use Rattle.tw_model.specs.declared.net.Link.{Link}
+use Rattle.tw_model.specs.Line.{Line}
+use Rattle.tw_text.specs.declared.keyword.Keyword.{Keyword}
+use Rattle.tw_text.specs.declared.keyword.Keyword.TheVariants as keyword
+use Rattle.tw_text.specs.declared.text_fault.LineFault.{LineFault}
+use Rattle.tw_text.specs.declared.text_fault.LineFault.TheVariants as x
+use Rattle.tw_text.specs.Words.{is_number}
+
+-- what a line says
+pub data Statement : Type 0 where
+  nodes_line : ℕ → Statement
+  link_line : Link → Statement
+  path_line : Line → Statement
+  scene_line : Scene → Statement
+  end_line : Statement
 
 -- the first fault, or what follows
 infixl 10 ◌>>=◌
-abbrev pub ◌>>=◌ : {A B : Type 0} → Result A WordsFault → (A → Result B WordsFault) → Result B WordsFault
+abbrev pub ◌>>=◌ : {A B E : Type 0} → Result A E → (A → Result B E) → Result B E
 (Ok x) >>= f = f x
 (Err e) >>= f = Err e
 
--- the number that a word is
-abbrev pub number_at : List ℕ → Result ℕ WordsFault
-number_at word = ok_or (number_of word) Number
+-- the word of a keyword
+abbrev pub word_of : Keyword → List ℕ
+word_of keyword.Nodes = codes "nodes"
+word_of keyword.Link = codes "link"
+word_of keyword.Path = codes "path"
+word_of keyword.Fail = codes "fail"
+word_of keyword.Restore = codes "restore"
+word_of keyword.Swap = codes "swap"
+word_of keyword.End = codes "end"
 
--- the numbers of several words
-abbrev pub numbers_of : List (List ℕ) → Result (List ℕ) WordsFault
-numbers_of [] = Ok []
-numbers_of (w ∷ ws) = number_at w >>= λ n. numbers_of ws >>= λ ns. Ok (n ∷ ns)
+-- the keyword that a word is
+abbrev pub keyword_of : List ℕ → Option Keyword
+keyword_of word =
+    if bytes_eq word (codes "nodes") then Some keyword.Nodes
+    else if bytes_eq word (codes "link") then Some keyword.Link
+    else if bytes_eq word (codes "path") then Some keyword.Path
+    else if bytes_eq word (codes "fail") then Some keyword.Fail
+    else if bytes_eq word (codes "restore") then Some keyword.Restore
+    else if bytes_eq word (codes "swap") then Some keyword.Swap
+    else if bytes_eq word (codes "end") then Some keyword.End
+    else None
 
--- one word, and no more
-abbrev pub with_one : (List ℕ → Result Statement WordsFault) → List (List ℕ) → Result Statement WordsFault
-with_one say (a ∷ []) = say a
-with_one say ws = Err Word
+-- whether so many words may follow the keyword on its line
+abbrev pub takes : Keyword → ℕ → Bool
+takes keyword.Nodes n = n == 1
+takes keyword.Link n = n == 3
+takes keyword.Path n = nat_le 2 n
+takes keyword.Fail n = n == 3
+takes keyword.Restore n = n == 3
+takes keyword.Swap n = n == 4
+takes keyword.End n = n == 0
 
--- three words
-abbrev pub with_three : (List ℕ → List ℕ → List ℕ → Result Statement WordsFault) → List (List ℕ) → Result Statement WordsFault
-with_three say (a ∷ b ∷ c ∷ []) = say a b c
-with_three say ws = Err Word
+-- whether these words, none of them empty, may follow the keyword
+abbrev pub takes_words : Keyword → List (List ℕ) → Bool
+takes_words k ws = takes k (length ws) && not (list_any (λ w. length w == 0) ws)
 
--- four words
-abbrev pub with_four : (List ℕ → List ℕ → List ℕ → List ℕ → Result Statement WordsFault) → List (List ℕ) → Result Statement WordsFault
-with_four say (a ∷ b ∷ c ∷ d ∷ []) = say a b c d
-with_four say ws = Err Word
+-- the keyword, where it is one and these words may follow it
+abbrev pub keyword_before : Option Keyword → List (List ℕ) → Result Keyword LineFault
+keyword_before None ws = Err x.Word
+keyword_before (Some k) ws = if takes_words k ws then Ok k else Err x.Word
 
--- nodes n
-abbrev pub nodes_of : List ℕ → Result Statement WordsFault
-nodes_of n = number_at n >>= λ n. Ok (say.Nodes n)
+-- the number that the word is
+abbrev pub number_of : List ℕ → Result ℕ LineFault
+number_of w = if is_number w then Ok (digits_value 10 w) else Err x.Number
 
--- link a b delay
-abbrev pub link_of : List ℕ → List ℕ → List ℕ → Result Statement WordsFault
-link_of a b delay =
-    number_at a >>= λ a. number_at b >>= λ b. number_at delay >>= λ delay. Ok (say.Link (record { first = a; second = b; delay = delay }))
+-- the numbers that the words are
+abbrev pub numbers_of : List (List ℕ) → Result (List ℕ) LineFault
+numbers_of ws = if list_all is_number ws then Ok (map (digits_value 10) ws) else Err x.Number
 
--- path owner node ..
-abbrev pub owned_path : List ℕ → List (List ℕ) → Result Statement WordsFault
-owned_path owner nodes =
-    number_at owner >>= λ owner. numbers_of nodes >>= λ nodes. Ok (say.Path (record { owner = owner; nodes = nodes }))
+-- what the keyword says with these numbers
+abbrev pub said : Keyword → List ℕ → Result Statement LineFault
+said keyword.Nodes (n ∷ []) = Ok (nodes_line n)
+said keyword.Link (a ∷ b ∷ delay ∷ []) = Ok (link_line (record { first = a; second = b; delay = delay }))
+said keyword.Path (v ∷ path) = Ok (path_line (record { owner = v; nodes = path }))
+said keyword.Fail (t ∷ a ∷ b ∷ []) = Ok (scene_line (Fail t a b))
+said keyword.Restore (t ∷ a ∷ b ∷ []) = Ok (scene_line (Restore t a b))
+said keyword.Swap (t ∷ v ∷ i ∷ j ∷ []) = Ok (scene_line (Swap t v i j))
+said keyword.End [] = Ok end_line
+said k ns = Err x.Word
 
--- an owner, and one node or more
-abbrev pub path_of : List (List ℕ) → Result Statement WordsFault
-path_of [] = Err Word
-path_of (owner ∷ nodes) = if length nodes == 0 then Err Word else owned_path owner nodes
-
--- fail time a b
-abbrev pub fail_of : List ℕ → List ℕ → List ℕ → Result Statement WordsFault
-fail_of time a b = number_at time >>= λ time. number_at a >>= λ a. number_at b >>= λ b. Ok (say.Scene (Fail time a b))
-
--- restore time a b
-abbrev pub restore_of : List ℕ → List ℕ → List ℕ → Result Statement WordsFault
-restore_of time a b = number_at time >>= λ time. number_at a >>= λ a. number_at b >>= λ b. Ok (say.Scene (Restore time a b))
-
--- swap time node place place
-abbrev pub swap_of : List ℕ → List ℕ → List ℕ → List ℕ → Result Statement WordsFault
-swap_of time node i j =
-    number_at time >>= λ time. number_at node >>= λ node. number_at i >>= λ i. number_at j >>= λ j. Ok (say.Scene (Swap time node i j))
-
--- end, and no more
-abbrev pub end_of : List (List ℕ) → Result Statement WordsFault
-end_of ws = if length ws == 0 then Ok say.End else Err Word
-
--- what these words say behind this one, where the kind of line has a fixed number of words
-abbrev pub plain_statement : List ℕ → List (List ℕ) → Result Statement WordsFault
-plain_statement word ws =
-    if bytes_eq word (codes "nodes") then with_one nodes_of ws
-    else if bytes_eq word (codes "link") then with_three link_of ws
-    else if bytes_eq word (codes "fail") then with_three fail_of ws
-    else if bytes_eq word (codes "restore") then with_three restore_of ws
-    else if bytes_eq word (codes "swap") then with_four swap_of ws
-    else if bytes_eq word (codes "end") then end_of ws
-    else Err Word
-
--- what these words say behind this one
-abbrev pub said_by : List ℕ → List (List ℕ) → Result Statement WordsFault
-said_by word ws = if bytes_eq word (codes "path") then path_of ws else plain_statement word ws
-
--- what words say of which none is empty
-abbrev pub said_at : List (List ℕ) → Result Statement WordsFault
-said_at [] = Err Word
-said_at (word ∷ ws) = said_by word ws
-
--- what the words of a line say
-unfoldable pub statement_of : List (List ℕ) → Result Statement WordsFault
-statement_of ws = if list_any (λ w. length w == 0) ws then Err Word else said_at ws
+-- what the words of a line say, or why they say nothing
+unfoldable pub statement_of : List (List ℕ) → Result Statement LineFault
+statement_of [] = Err x.Word
+statement_of (word ∷ ws) = keyword_before (keyword_of word) ws >>= λ k. numbers_of ws >>= λ ns. said k ns

@@ -1,48 +1,55 @@
--- The one text of each case.
+-- The one text of each case (own).
 use Rattle.std.specs.Prelude.{ℕ, List, [], ◌∷◌, ◌++◌, map, codes, decimal}
 use Rattle.std.specs.List.{flat_map, join_with_byte}
 use Rattle.tw_model.specs.Case.{Case}
-use Rattle.tw_model.specs.Line.{Line}
-use Rattle.tw_model.specs.declared.case.Scene.{Scene}
 use Rattle.tw_model.specs.declared.case.Scene.TheVariants.{Fail, Restore, Swap}
-use Rattle.tw_model.specs.declared.net.Link.{Link}
+use Rattle.tw_text.specs.declared.keyword.Keyword.{Keyword}
+use Rattle.tw_text.specs.declared.keyword.Keyword.TheVariants as keyword
+use Rattle.tw_text.specs.Statements.{Statement, nodes_line, link_line, path_line, scene_line, end_line, word_of}
+use Rattle.tw_text.specs.Words.{line_feed, space}
 
--- line 1
-abbrev pub header_words : List (List ℕ)
-header_words = codes "spp" ∷ codes "1" ∷ []
+-- what the lines of a case say, from line 2 on
+abbrev pub statements_of : Case → List Statement
+statements_of case =
+    nodes_line case.net.nodes
+    ∷ (map (λ l. link_line l) case.net.links ++ (map (λ p. path_line p) case.net.lines ++ (map (λ s. scene_line s) case.scenes ++ end_line ∷ [])))
 
--- line 2
-abbrev pub nodes_words : ℕ → List (List ℕ)
-nodes_words n = codes "nodes" ∷ decimal n ∷ []
+-- the keyword of a line
+abbrev pub keyword_in : Statement → Keyword
+keyword_in (nodes_line n) = keyword.Nodes
+keyword_in (link_line l) = keyword.Link
+keyword_in (path_line p) = keyword.Path
+keyword_in (scene_line (Fail t a b)) = keyword.Fail
+keyword_in (scene_line (Restore t a b)) = keyword.Restore
+keyword_in (scene_line (Swap t v i j)) = keyword.Swap
+keyword_in end_line = keyword.End
 
--- a link
-abbrev pub link_words : Link → List (List ℕ)
-link_words l = codes "link" ∷ decimal l.first ∷ decimal l.second ∷ decimal l.delay ∷ []
+-- the numbers behind it
+abbrev pub numbers_in : Statement → List ℕ
+numbers_in (nodes_line n) = n ∷ []
+numbers_in (link_line l) = l.first ∷ l.second ∷ l.delay ∷ []
+numbers_in (path_line p) = p.owner ∷ p.nodes
+numbers_in (scene_line (Fail t a b)) = t ∷ a ∷ b ∷ []
+numbers_in (scene_line (Restore t a b)) = t ∷ a ∷ b ∷ []
+numbers_in (scene_line (Swap t v i j)) = t ∷ v ∷ i ∷ j ∷ []
+numbers_in end_line = []
 
--- a permitted path
-abbrev pub path_words : Line → List (List ℕ)
-path_words p = codes "path" ∷ decimal p.owner ∷ map decimal p.nodes
+-- the words that say it
+abbrev pub words_of : Statement → List (List ℕ)
+words_of s = word_of (keyword_in s) ∷ map decimal (numbers_in s)
 
--- a scenario line
-abbrev pub scene_words : Scene → List (List ℕ)
-scene_words (Fail t a b) = codes "fail" ∷ decimal t ∷ decimal a ∷ decimal b ∷ []
-scene_words (Restore t a b) = codes "restore" ∷ decimal t ∷ decimal a ∷ decimal b ∷ []
-scene_words (Swap t v i j) = codes "swap" ∷ decimal t ∷ decimal v ∷ decimal i ∷ decimal j ∷ []
+-- the line that says it: its words, with a space between each two
+abbrev pub line_of : Statement → List ℕ
+line_of s = join_with_byte space (words_of s)
 
--- the last line
-abbrev pub end_words : List (List ℕ)
-end_words = codes "end" ∷ []
+-- a line with its end
+abbrev pub ended_line : List ℕ → List ℕ
+ended_line line = line ++ line_feed ∷ []
 
--- the words of each line
-abbrev pub lines_of : Case → List (List (List ℕ))
-lines_of case =
-    header_words ∷ nodes_words case.net.nodes
-    ∷ (map link_words case.net.links ++ (map path_words case.net.lines ++ (map scene_words case.scenes ++ end_words ∷ [])))
-
--- words with a space between each two, and a line end
-abbrev pub line_text : List (List ℕ) → List ℕ
-line_text words = join_with_byte 32 words ++ 10 ∷ []
+-- the lines of a case
+abbrev pub lines_of : Case → List (List ℕ)
+lines_of case = codes "spp 1" ∷ map line_of (statements_of case)
 
 -- the text of a case
-unfoldable pub text_of : Case → List ℕ
-text_of case = flat_map line_text (lines_of case)
+unfoldable pub text_of_case : Case → List ℕ
+text_of_case case = flat_map ended_line (lines_of case)

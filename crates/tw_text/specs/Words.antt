@@ -1,25 +1,29 @@
--- Lines, words and numbers of a text.
-use Rattle.std.specs.Prelude.{ℕ, ◌==◌, nat_lt, nat_le, Bool, not, ◌||◌, ◌&&◌, List, length, slice_index, if◌then◌else◌, Option, Some, None}
+-- Lines, words and numbers of a text (own).
+use Rattle.std.specs.Prelude.{ℕ, ◌==◌, nat_lt, nat_le, Bool, not, ◌||◌, ◌&&◌, List, length, slice_index}
 use Rattle.std.specs.Char.{is_ascii_digit}
 use Rattle.std.specs.List.{list_all, slice_split}
-use Rattle.std.specs.Str.Parse.{digits_value}
+use Rattle.tw_text.specs.declared.words.TheConstants.{MOST_DIGITS}
+
+-- the byte between two words
+abbrev pub space : ℕ
+space = 32
+
+-- the byte at the end of a line
+abbrev pub line_feed : ℕ
+line_feed = 10
 
 -- a space, a letter a to z, or a digit
 abbrev pub is_plain : ℕ → Bool
-is_plain b = (b == 32) || ((nat_le 97 b && nat_le b 122) || (nat_le 48 b && nat_le b 57))
+is_plain b = (b == space) || ((nat_le 97 b && nat_le b 122) || (nat_le 48 b && nat_le b 57))
 
 -- what stands between line ends, and what follows the last
 abbrev pub parts_of : List ℕ → List (List ℕ)
-parts_of text = slice_split (λ b. b == 10) text
+parts_of text = slice_split (λ b. b == line_feed) text
 
 -- what stands between spaces; two spaces together, or one at an end, make an empty word
 abbrev pub words : List ℕ → List (List ℕ)
-words line = slice_split (λ b. b == 32) line
+words line = slice_split (λ b. b == space) line
 
--- at most ten digits, and no 0 in front of another
-abbrev pub has_number_form : List ℕ → Bool
-has_number_form w = not (length w == 0) && nat_le (length w) 10 && not (nat_lt 1 (length w) && (slice_index w 0 == 48)) && list_all is_ascii_digit w
-
--- the number that a word is
-abbrev pub number_of : List ℕ → Option ℕ
-number_of w = if has_number_form w then Some (digits_value 10 w) else None
+-- whether the word is a number: at most ten digits, and no 0 in front of another
+abbrev pub is_number : List ℕ → Bool
+is_number w = not (length w == 0) && nat_le (length w) MOST_DIGITS && not (nat_lt 1 (length w) && (slice_index w 0 == 48)) && list_all is_ascii_digit w

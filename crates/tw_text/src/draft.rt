@@ -1,16 +1,14 @@
-ghost use Rattle.std.specs.List.{list_all};
-ghost use Rattle.std.specs.Prelude.{◌≡◌, [], ◌∷◌, ◌++◌, length, true, false, if◌then◌else◌};
-ghost use Rattle.tw_model.specs.Rules.{nodes_fault, link_fault, line_fault, scene_fault};
-ghost use Rattle.tw_text.specs.Steps.{IsSmall, Steps, fault_after, of_rule};
-ghost use Rattle.tw_text.specs.Table.{fault_of, is_start, net_of, with_line, with_statement};
-ghost use Rattle.tw_text.specs.Words.{is_plain};
+ghost use Rattle.std.specs.Prelude.{◌≡◌};
+ghost use Rattle.tw_model.specs.Memory.{IsUnlessMemory, map_fault};
+ghost use Rattle.tw_model.specs.declared.case.Scene.TheVariants as AScene;
+ghost use Rattle.tw_text.specs.Drafts.{before_links, before_paths, before_scenes, check_ended, check_header, node_in, nodes_in, of_rule, place_of, result_items, step_said, with_link, with_nodes, with_path, with_scene};
+ghost use Rattle.tw_text.specs.Statements.{said};
 
-use crate::fault::LineFault;
-use crate::statement::{Statement, WordsError, WordsFault, read_statement};
-use crate::words::is_plain_line;
-use std::alloc::{AllocError, Global};
-use tw_instance::{Case, Instance, Refusal};
-use tw_model::{Link, PathLine, Scene};
+use crate::keyword::Keyword;
+use crate::text_fault::LineFault;
+use std::alloc::Global;
+use tw_instance::{Case, Instance};
+use tw_model::{Link, OrMemory, PathLine, Rule, Scene};
 
 /// What the lines so far have given, by what may follow.
 #[derive(Drop)]
@@ -21,242 +19,267 @@ pub(crate) enum Draft {
     Header,
     /// No path yet.
     Links(Instance),
-    /// No scenario line yet.
+    /// No scene yet.
     Paths(Instance),
-    /// A scenario line.
+    /// A scene.
     Scenes(Case),
     /// The last line.
     Done(Case),
 }
 
-/// Why a line was not read.
-#[derive(Clone, Copy)]
-pub(crate) enum LineError {
-    Fault(LineFault),
-    Memory,
-}
-
-impl From<LineFault> for LineError {
-    ghost use Rattle.tw_text.specs.declared.draft.LineError.TheVariants.{Fault};
-
-    ghost from_gives = { λ fault error. error ≡ Fault fault };
-
-    fn from(fault: LineFault) -> LineError {
-        LineError::Fault(fault)
-    }
-}
-
-impl From<AllocError> for LineError {
-    ghost use Rattle.tw_text.specs.declared.draft.LineError.TheVariants.{Memory};
-
-    ghost from_gives = { λ _ error. error ≡ Memory };
-
-    fn from(_error: AllocError) -> LineError {
-        LineError::Memory
-    }
-}
-
-impl From<Refusal> for LineError {
-    ghost use Rattle.tw_text.specs.Steps.{refusal_error};
-
-    ghost from_gives = { λ refusal error. error ≡ refusal_error refusal };
-
-    fn from(refusal: Refusal) -> LineError {
-        match refusal {
-            Refusal::Rule(rule) => LineError::Fault(LineFault::Rule(rule)),
-            Refusal::Memory => LineError::Memory,
-        }
-    }
-}
-
-impl From<WordsError> for LineError {
-    ghost use Rattle.tw_text.specs.Steps.{words_error};
-
-    ghost from_gives = { λ words error. error ≡ words_error words };
-
-    fn from(error: WordsError) -> LineError {
-        match error {
-            WordsError::Fault(WordsFault::Word) => LineError::Fault(LineFault::Word),
-            WordsError::Fault(WordsFault::Number) => LineError::Fault(LineFault::Number),
-            WordsError::Memory => LineError::Memory,
-        }
-    }
-}
-
-impl Draft {
-    /// The number of routers, 0 before it is known.
-    fn nodes(&self) -> u32
-        ensures value { result ≡ (net_of self.now).nodes }
-        ensures small { IsSmall self.now }
-    {
-        match self {
-            Draft::Start | Draft::Header => 0,
-            Draft::Links(instance) | Draft::Paths(instance) => instance.nodes(),
-            Draft::Scenes(case) | Draft::Done(case) => case.instance().nodes(),
-        }
-    }
-}
-
-/// The draft with one more line, or the lowest fault of the line.
-pub(crate) fn read_line(
+/// The draft with a line of this keyword and these numbers, or the lowest fault of the line.
+pub(crate) fn take_statement(
     alloc: Global,
     draft: Draft,
-    line: &[u8],
+    keyword: Keyword,
+    numbers: &[u64],
     ended: bool,
-) -> Result<Draft, LineError>
-    ensures { Steps result (fault_of draft line.now ended) (with_line draft line.now) }
+) -> Result<Draft, OrMemory<LineFault>>
+    ensures { IsUnlessMemory result (step_said draft (said keyword numbers.now) ended) }
 {
-    if !is_plain_line(line) {
-        return Err(LineError::Fault(LineFault::Byte));
-    }
-    match draft {
-        Draft::Start => read_header(line, ended),
-        _ => read_later(alloc, draft, line, ended),
-    }
-}
-
-fn read_header(line: &[u8], ended: bool) -> Result<Draft, LineError>
-    requires { list_all is_plain line.now ≡ true }
-    ensures { Steps result (fault_of Draft.Start line.now ended) (with_line Draft.Start line.now) }
-{
-    if line != b"spp 1".as_slice() {
-        Err(LineError::Fault(LineFault::Header))
-    } else if !ended {
-        Err(LineError::Fault(LineFault::End))
-    } else {
-        Ok(Draft::Header)
-    }
-}
-
-fn read_later(alloc: Global, draft: Draft, line: &[u8], ended: bool) -> Result<Draft, LineError>
-    requires plain { list_all is_plain line.now ≡ true }
-    requires later { is_start draft ≡ false }
-    ensures { Steps result (fault_of draft line.now ended) (with_line draft line.now) }
-{
-    // A number that no `u32` holds is above that of any router and any place.
-    let nodes = draft.nodes();
-    prove!(nodes <= 1024);
-    let statement = read_statement(alloc, line)?;
-    take_statement(alloc, draft, statement, ended)
-}
-
-/// The draft with one more statement, or its lowest fault.
-fn take_statement(
-    alloc: Global,
-    draft: Draft,
-    statement: Statement,
-    ended: bool,
-) -> Result<Draft, LineError>
-    ensures { Steps result (fault_after draft statement ended) (with_statement draft statement) }
-{
-    match statement {
-        Statement::Nodes(nodes) => take_nodes(alloc, draft, nodes, ended),
-        Statement::Link(link) => take_link(draft, link, ended),
-        Statement::Path(path) => take_path(draft, path, ended),
-        Statement::Scene(scene) => take_scene(alloc, draft, scene, ended),
-        Statement::End => take_end(alloc, draft, ended),
-    }
-}
-
-fn take_nodes(alloc: Global, draft: Draft, nodes: u32, ended: bool) -> Result<Draft, LineError>
-    ensures { Steps result (fault_after draft (Statement.Nodes nodes) ended) (with_statement draft (Statement.Nodes nodes)) }
-{
-    match draft {
-        Draft::Header => {
-            check_end(ended)?;
-            new_instance(alloc, nodes)
+    match (keyword, numbers) {
+        (Keyword::Nodes, [nodes]) => {
+            check_header(draft, ended)?;
+            with_nodes(alloc, *nodes)
         }
-        _ => Err(LineError::Fault(LineFault::Order)),
+        (Keyword::Link, [first, second, delay]) => {
+            let instance = before_links(draft, ended)?;
+            with_link(instance, *first, *second, *delay)
+        }
+        (Keyword::Path, [owner, nodes @ ..]) => {
+            let instance = before_paths(draft, ended)?;
+            with_path(alloc, instance, *owner, nodes)
+        }
+        (Keyword::Fail, [time, first, second]) => {
+            let case = before_scenes(alloc, draft, ended)?;
+            with_fail(case, *time, *first, *second)
+        }
+        (Keyword::Restore, [time, first, second]) => {
+            let case = before_scenes(alloc, draft, ended)?;
+            with_restore(case, *time, *first, *second)
+        }
+        (Keyword::Swap, [time, node, first, second]) => {
+            let case = before_scenes(alloc, draft, ended)?;
+            with_swap(case, *time, *node, *first, *second)
+        }
+        (Keyword::End, []) => Ok(Draft::Done(before_scenes(alloc, draft, ended)?)),
+        _ => Err(OrMemory::Fault(LineFault::Word)),
     }
 }
 
-fn take_link(draft: Draft, link: Link, ended: bool) -> Result<Draft, LineError>
-    ensures { Steps result (fault_after draft (Statement.Link link) ended) (with_statement draft (Statement.Link link)) }
+fn with_nodes(alloc: Global, nodes: u64) -> Result<Draft, OrMemory<LineFault>>
+    ensures { IsUnlessMemory result (with_nodes nodes) }
+{
+    let Ok(nodes) = u32::try_from(nodes) else {
+        return Err(OrMemory::Fault(LineFault::Rule(Rule::Range)));
+    };
+    match Instance::new(alloc, nodes) {
+        Ok(instance) => Ok(Draft::Links(instance)),
+        Err(refusal) => Err(rule_fault(refusal)),
+    }
+}
+
+fn with_link(
+    mut instance: Instance,
+    first: u64,
+    second: u64,
+    delay: u64,
+) -> Result<Draft, OrMemory<LineFault>>
+    ensures { IsUnlessMemory result (with_link instance (record { first = first; second = second; delay = delay })) }
+{
+    let first = node_in(&instance, first)?;
+    let second = node_in(&instance, second)?;
+    match instance.add_link(Link {
+        first,
+        second,
+        delay,
+    }) {
+        Ok(()) => Ok(Draft::Links(instance)),
+        Err(refusal) => Err(rule_fault(refusal)),
+    }
+}
+
+fn with_path(
+    alloc: Global,
+    mut instance: Instance,
+    owner: u64,
+    nodes: &[u64],
+) -> Result<Draft, OrMemory<LineFault>>
+    ensures { IsUnlessMemory result (with_path instance (record { owner = owner; nodes = nodes.now })) }
+{
+    let owner = node_in(&instance, owner)?;
+    let nodes = nodes_in(alloc, &instance, nodes)?;
+    match instance.add_path(PathLine { owner, nodes }) {
+        Ok(()) => Ok(Draft::Paths(instance)),
+        Err(refusal) => Err(rule_fault(refusal)),
+    }
+}
+
+fn with_fail(case: Case, time: u64, first: u64, second: u64) -> Result<Draft, OrMemory<LineFault>>
+    ensures { IsUnlessMemory result (with_scene case (AScene.Fail time first second)) }
+{
+    let first = node_in(case.instance(), first)?;
+    let second = node_in(case.instance(), second)?;
+    with_scene(
+        case,
+        Scene::Fail {
+            time,
+            first,
+            second,
+        },
+    )
+}
+
+fn with_restore(
+    case: Case,
+    time: u64,
+    first: u64,
+    second: u64,
+) -> Result<Draft, OrMemory<LineFault>>
+    ensures { IsUnlessMemory result (with_scene case (AScene.Restore time first second)) }
+{
+    let first = node_in(case.instance(), first)?;
+    let second = node_in(case.instance(), second)?;
+    with_scene(
+        case,
+        Scene::Restore {
+            time,
+            first,
+            second,
+        },
+    )
+}
+
+fn with_swap(
+    case: Case,
+    time: u64,
+    node: u64,
+    first: u64,
+    second: u64,
+) -> Result<Draft, OrMemory<LineFault>>
+    ensures { IsUnlessMemory result (with_scene case (AScene.Swap time node first second)) }
+{
+    let node = node_in(case.instance(), node)?;
+    let (first, second) = (place_of(first), place_of(second));
+    with_scene(
+        case,
+        Scene::Swap {
+            time,
+            node,
+            first,
+            second,
+        },
+    )
+}
+
+fn with_scene(mut case: Case, scene: Scene) -> Result<Draft, OrMemory<LineFault>>
+    ensures { IsUnlessMemory result (with_scene case scene) }
+{
+    match case.add(scene) {
+        Ok(()) => Ok(Draft::Scenes(case)),
+        Err(refusal) => Err(rule_fault(refusal)),
+    }
+}
+
+/// That the line after the header has its end.
+fn check_header(draft: Draft, ended: bool) -> Result<(), LineFault>
+    ensures { result ≡ check_header draft ended }
+{
+    match draft {
+        Draft::Header => check_end(ended),
+        _ => Err(LineFault::Order),
+    }
+}
+
+/// The instance to which a link may be added, where its line has its end.
+fn before_links(draft: Draft, ended: bool) -> Result<Instance, LineFault>
+    ensures { result ≡ before_links draft ended }
 {
     match draft {
         Draft::Links(instance) => {
             check_end(ended)?;
-            with_link(instance, link)
+            Ok(instance)
         }
-        _ => Err(LineError::Fault(LineFault::Order)),
+        _ => Err(LineFault::Order),
     }
 }
 
-fn take_path(draft: Draft, path: PathLine, ended: bool) -> Result<Draft, LineError>
-    ensures { Steps result (fault_after draft (Statement.Path path) ended) (with_statement draft (Statement.Path path)) }
+/// The instance to which a path may be added, where its line has its end.
+fn before_paths(draft: Draft, ended: bool) -> Result<Instance, LineFault>
+    ensures { result ≡ before_paths draft ended }
 {
     match draft {
         Draft::Links(instance) | Draft::Paths(instance) => {
             check_end(ended)?;
-            with_path(instance, path)
+            Ok(instance)
         }
-        _ => Err(LineError::Fault(LineFault::Order)),
+        _ => Err(LineFault::Order),
     }
 }
 
-fn take_scene(alloc: Global, draft: Draft, scene: Scene, ended: bool) -> Result<Draft, LineError>
-    ensures { Steps result (fault_after draft (Statement.Scene scene) ended) (with_statement draft (Statement.Scene scene)) }
+/// The case to which a scene may be added, where its line has its end.
+fn before_scenes(alloc: Global, draft: Draft, ended: bool) -> Result<Case, OrMemory<LineFault>>
+    ensures { IsUnlessMemory result (before_scenes draft ended) }
 {
     match draft {
         Draft::Links(instance) | Draft::Paths(instance) => {
             check_end(ended)?;
-            with_scene(Case::new(alloc, instance)?, scene)
+            Ok(Case::new(alloc, instance)?)
         }
         Draft::Scenes(case) => {
             check_end(ended)?;
-            with_scene(case, scene)
+            Ok(case)
         }
-        Draft::Done(_) => Err(LineError::Fault(LineFault::End)),
-        Draft::Start | Draft::Header => Err(LineError::Fault(LineFault::Order)),
-    }
-}
-
-fn take_end(alloc: Global, draft: Draft, ended: bool) -> Result<Draft, LineError>
-    ensures { Steps result (fault_after draft Statement.End ended) (with_statement draft Statement.End) }
-{
-    match draft {
-        Draft::Links(instance) | Draft::Paths(instance) => {
-            check_end(ended)?;
-            Ok(Draft::Done(Case::new(alloc, instance)?))
-        }
-        Draft::Scenes(case) => {
-            check_end(ended)?;
-            Ok(Draft::Done(case))
-        }
-        Draft::Done(_) => Err(LineError::Fault(LineFault::End)),
-        Draft::Start | Draft::Header => Err(LineError::Fault(LineFault::Order)),
+        Draft::Done(_) => Err(OrMemory::Fault(LineFault::End)),
+        Draft::Start | Draft::Header => Err(OrMemory::Fault(LineFault::Order)),
     }
 }
 
 fn check_end(ended: bool) -> Result<(), LineFault>
-    ensures { result ≡ (if ended then Ok tt else Err LineFault.End) }
+    ensures { result ≡ check_ended ended tt }
 {
     if ended { Ok(()) } else { Err(LineFault::End) }
 }
 
-fn new_instance(alloc: Global, nodes: u32) -> Result<Draft, LineError>
-    ensures { Steps result (of_rule (nodes_fault nodes)) (Draft.Links (record { nodes = nodes; links = []; lines = [] })) }
+/// The node with this number, if the instance has it.
+fn node_in(instance: &Instance, number: u64) -> Result<u32, LineFault>
+    ensures { result ≡ node_in instance.now number }
 {
-    Ok(Draft::Links(Instance::new(alloc, nodes)?))
+    if number < u64::from(instance.nodes()) {
+        Ok(number as u32)
+    } else {
+        Err(LineFault::Rule(Rule::Range))
+    }
 }
 
-fn with_link(mut instance: Instance, link: Link) -> Result<Draft, LineError>
-    ensures { Steps result (of_rule (link_fault instance link)) (Draft.Links (record instance { links = instance.links ++ link ∷ [] })) }
+/// The nodes with these numbers, if the instance has them.
+fn nodes_in(
+    alloc: Global,
+    instance: &Instance,
+    numbers: &[u64],
+) -> Result<Vec<u32>, OrMemory<LineFault>>
+    ensures { IsUnlessMemory (result_items result) (nodes_in instance.now numbers.now) }
 {
-    instance.add_link(link)?;
-    Ok(Draft::Links(instance))
+    let mut nodes = Vec::with_capacity(alloc, numbers.len())?;
+    for number in numbers {
+        nodes.push_reserved(node_in(instance, *number)?);
+    }
+    Ok(nodes)
 }
 
-fn with_path(mut instance: Instance, path: PathLine) -> Result<Draft, LineError>
-    ensures { Steps result (of_rule (line_fault instance path)) (Draft.Paths (record instance { lines = instance.lines ++ path ∷ [] })) }
+/// A place as a `u32`. What a `u32` doesn't hold is 0, which is no place of an order either.
+fn place_of(number: u64) -> u32
+    ensures { result ≡ place_of number }
 {
-    instance.add_path(path)?;
-    Ok(Draft::Paths(instance))
+    u32::try_from(number).unwrap_or(0)
 }
 
-fn with_scene(mut case: Case, scene: Scene) -> Result<Draft, LineError>
-    ensures { Steps result (of_rule (scene_fault case.net (length case.scenes) scene)) (Draft.Scenes (record case { scenes = case.scenes ++ scene ∷ [] })) }
+/// The fault of a line whose item was refused.
+fn rule_fault(refusal: OrMemory<Rule>) -> OrMemory<LineFault>
+    ensures { result ≡ map_fault (λ rule. LineFault.Rule rule) refusal }
 {
-    case.add(scene)?;
-    Ok(Draft::Scenes(case))
+    match refusal {
+        OrMemory::Fault(rule) => OrMemory::Fault(LineFault::Rule(rule)),
+        OrMemory::Memory => OrMemory::Memory,
+    }
 }

@@ -1,37 +1,29 @@
-ghost use Rattle.std.specs.Prelude.{◌≡◌, IfOk};
+ghost use Rattle.std.specs.Prelude.{◌≡◌, Ok, IfOk};
 ghost use Rattle.tw_model.specs.Case.{Case as ACase, IsCase};
-ghost use Rattle.tw_text.specs.Reading.{Told, case_at, case_of, finishes};
-ghost use Rattle.tw_text.specs.Steps.{at_line};
-ghost use Rattle.tw_text.specs.Text.{text_of};
+ghost use Rattle.tw_model.specs.Memory.{IsUnlessMemory, map_fault};
+ghost use Rattle.tw_text.specs.Reading.{case_at, case_of, fault_at, finishes};
+ghost use Rattle.tw_text.specs.Text.{text_of_case};
 
-use crate::draft::{Draft, LineError, read_line};
-use crate::fault::{LineFault, TextFault};
+use crate::draft::Draft;
+use crate::line::read_line;
+use crate::text_fault::{LineFault, TextFault};
 use crate::words::line_end;
-use std::alloc::{AllocError, Global};
+use std::alloc::Global;
 use tw_instance::Case;
-
-impl From<AllocError> for TextFault {
-    ghost use Rattle.tw_text.specs.declared.fault.TextFault.TheVariants.{Memory};
-
-    ghost from_gives = { λ _ fault. fault ≡ Memory };
-
-    fn from(_error: AllocError) -> TextFault {
-        TextFault::Memory
-    }
-}
+use tw_model::OrMemory;
 
 /// The case of a text. A text that is none is refused at its first line that has a fault, with the
 /// lowest fault of that line.
-pub fn read_case(alloc: Global, text: &[u8]) -> Result<Case, TextFault>
-    ensures found { IfOk result (λ c. IsCase c × (text.now ≡ text_of c)) }
-    ensures only { (c : ACase) → IsCase c → text.now ≡ text_of c → Told result (Ok c) }
-    ensures exact { Told result (case_of text.now) }
+pub fn read_case(alloc: Global, text: &[u8]) -> Result<Case, OrMemory<TextFault>>
+    ensures found { IfOk result (λ c. IsCase c × (text.now ≡ text_of_case c)) }
+    ensures only { (c : ACase) → IsCase c → text.now ≡ text_of_case c → IsUnlessMemory result (Ok c) }
+    ensures exact { IsUnlessMemory result (case_of text.now) }
 {
     read_exactly(alloc, text)
 }
 
-fn read_exactly(alloc: Global, text: &[u8]) -> Result<Case, TextFault>
-    ensures { Told result (case_of text.now) }
+fn read_exactly(alloc: Global, text: &[u8]) -> Result<Case, OrMemory<TextFault>>
+    ensures { IsUnlessMemory result (case_of text.now) }
 {
     let mut draft = Draft::Start;
     let mut line = 1;
@@ -39,7 +31,7 @@ fn read_exactly(alloc: Global, text: &[u8]) -> Result<Case, TextFault>
     while let Some(end) = line_end(rest) {
         match read_line(alloc, draft, &rest[..end], true) {
             Ok(next) => draft = next,
-            Err(error) => return Err(at_line(error, line)),
+            Err(fault) => return Err(at_line(fault, line)),
         }
         rest = &rest[end + 1..];
         line += 1;
@@ -48,20 +40,25 @@ fn read_exactly(alloc: Global, text: &[u8]) -> Result<Case, TextFault>
 }
 
 /// The case, given what follows the last line end: a line's beginning, or nothing.
-fn finish(alloc: Global, draft: Draft, rest: &[u8], line: usize) -> Result<Case, TextFault>
-    ensures { Told result (finishes draft line rest.now) }
+fn finish(
+    alloc: Global,
+    draft: Draft,
+    rest: &[u8],
+    line: usize,
+) -> Result<Case, OrMemory<TextFault>>
+    ensures { IsUnlessMemory result (finishes draft line rest.now) }
 {
     if rest.is_empty() {
-        return case_at(draft, line);
+        return Ok(case_at(draft, line)?);
     }
     match read_line(alloc, draft, rest, false) {
-        Ok(_) => Err(end_fault(line)),
-        Err(error) => Err(at_line(error, line)),
+        Ok(_) => Err(OrMemory::Fault(end_fault(line))),
+        Err(fault) => Err(at_line(fault, line)),
     }
 }
 
 fn case_at(draft: Draft, line: usize) -> Result<Case, TextFault>
-    ensures { Told result (case_at draft line) }
+    ensures { result ≡ case_at line draft }
 {
     match draft {
         Draft::Done(case) => Ok(case),
@@ -71,19 +68,19 @@ fn case_at(draft: Draft, line: usize) -> Result<Case, TextFault>
 
 /// The fault of a line that is missing or is not ended.
 fn end_fault(line: usize) -> TextFault
-    ensures { result ≡ TextFault.At line LineFault.End }
+    ensures { result ≡ fault_at line LineFault.End }
 {
-    TextFault::At {
+    TextFault {
         line,
         fault: LineFault::End,
     }
 }
 
-fn at_line(error: LineError, line: usize) -> TextFault
-    ensures { result ≡ at_line error line }
+fn at_line(fault: OrMemory<LineFault>, line: usize) -> OrMemory<TextFault>
+    ensures { result ≡ map_fault (fault_at line) fault }
 {
-    match error {
-        LineError::Fault(fault) => TextFault::At { line, fault },
-        LineError::Memory => TextFault::Memory,
+    match fault {
+        OrMemory::Fault(fault) => OrMemory::Fault(TextFault { line, fault }),
+        OrMemory::Memory => OrMemory::Memory,
     }
 }

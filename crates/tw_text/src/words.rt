@@ -1,10 +1,15 @@
 ghost use Rattle.std.specs.Char.{is_ascii_digit};
 ghost use Rattle.std.specs.List.{list_all, position};
-ghost use Rattle.std.specs.Prelude.{◌≡◌, ◌≤◌, ◌==◌, length, map, IfOk, if◌then◌else◌};
+ghost use Rattle.std.specs.Prelude.{◌≡◌, ◌≤◌, ◌==◌, length, map, Some, None, IfOk, if◌then◌else◌};
 ghost use Rattle.std.specs.Str.Parse.{digits_value};
-ghost use Rattle.tw_text.specs.Words.{is_plain, words, number_of};
+ghost use Rattle.tw_text.specs.Statements.{number_of};
+ghost use Rattle.tw_text.specs.Words.{is_plain, line_feed, words};
 
+use crate::text_fault::LineFault;
 use std::alloc::{AllocError, Global};
+
+/// How many digits a number has at most.
+pub(crate) const MOST_DIGITS: usize = 10;
 
 /// Whether each byte of the line is a space, a letter a to z, or a digit.
 pub(crate) fn is_plain_line(line: &[u8]) -> bool
@@ -28,23 +33,23 @@ pub(crate) fn split_words(alloc: Global, line: &[u8]) -> Result<Vec<&[u8]>, Allo
 
 /// Where the first line end of a text stands, if there is one.
 pub(crate) fn line_end(text: &[u8]) -> Option<usize>
-    ensures { result ≡ position (λ b. b == 10) text.now }
+    ensures { result ≡ position (λ b. b == line_feed) text.now }
 {
     text.iter().position(|byte| *byte == b'\n')
 }
 
-/// The number that a word is, if it is one: at most ten digits, with no zero in front.
-pub(crate) fn number_of(word: &[u8]) -> Option<u64>
+/// The number that a word is: at most ten digits, with no zero in front.
+pub(crate) fn number_of(word: &[u8]) -> Result<u64, LineFault>
     ensures { result ≡ number_of word.now }
 {
-    if word.is_empty() || word.len() > 10 || (word.len() > 1 && word[0] == b'0') {
-        return None;
+    if word.is_empty() || word.len() > MOST_DIGITS || (word.len() > 1 && word[0] == b'0') {
+        return Err(LineFault::Number);
     }
-    digits_value(word)
+    digits_value(word).ok_or(LineFault::Number)
 }
 
 fn digits_value(digits: &[u8]) -> Option<u64>
-    requires { length digits.now ≤ 10 }
+    requires { length digits.now ≤ MOST_DIGITS }
     ensures { result ≡ (if list_all is_ascii_digit digits.now then Some (digits_value 10 digits.now) else None) }
 {
     let mut value: u64 = 0;

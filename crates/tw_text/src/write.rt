@@ -1,7 +1,8 @@
 ghost use Rattle.std.specs.Prelude.{◌≡◌, ◌∷◌, ◌++◌, decimal, IfOk, OnOk};
 ghost use Rattle.std.specs.List.{flat_map};
 ghost use Rattle.std.specs.String.{string_bytes};
-ghost use Rattle.tw_text.specs.Text.{line_text, link_words, path_words, scene_words, text_of};
+ghost use Rattle.tw_text.specs.Statements.{link_line, path_line, scene_line};
+ghost use Rattle.tw_text.specs.Text.{ended_line, line_of, text_of_case};
 
 use std::alloc::{AllocError, Global};
 use tw_instance::Case;
@@ -9,7 +10,7 @@ use tw_model::{Link, PathLine, Scene};
 
 /// The text of a case, which `read_case` reads as that case.
 pub fn write_case(alloc: Global, case: &Case) -> Result<Vec<u8>, AllocError>
-    ensures { IfOk result (λ v. v.items ≡ text_of case.now) }
+    ensures { IfOk result (λ v. v.items ≡ text_of_case case.now) }
 {
     let instance = case.instance();
     let nodes = instance.nodes();
@@ -22,7 +23,7 @@ pub fn write_case(alloc: Global, case: &Case) -> Result<Vec<u8>, AllocError>
 }
 
 fn push_links(text: &mut String, links: &[Link]) -> Result<(), AllocError>
-    ensures { OnOk result (string_bytes text.new ≡ string_bytes text.old ++ flat_map (λ l. line_text (link_words l)) links.now) }
+    ensures { OnOk result (string_bytes text.new ≡ string_bytes text.old ++ flat_map (λ l. ended_line (line_of (link_line l))) links.now) }
 {
     for link in links {
         push_link(text, link)?;
@@ -31,7 +32,7 @@ fn push_links(text: &mut String, links: &[Link]) -> Result<(), AllocError>
 }
 
 fn push_link(text: &mut String, link: &Link) -> Result<(), AllocError>
-    ensures { OnOk result (string_bytes text.new ≡ string_bytes text.old ++ line_text (link_words link.now)) }
+    ensures { OnOk result (string_bytes text.new ≡ string_bytes text.old ++ ended_line (line_of (link_line link.now))) }
 {
     let Link {
         first,
@@ -42,7 +43,7 @@ fn push_link(text: &mut String, link: &Link) -> Result<(), AllocError>
 }
 
 fn push_paths(text: &mut String, paths: &[PathLine]) -> Result<(), AllocError>
-    ensures { OnOk result (string_bytes text.new ≡ string_bytes text.old ++ flat_map (λ p. line_text (path_words p)) paths.now) }
+    ensures { OnOk result (string_bytes text.new ≡ string_bytes text.old ++ flat_map (λ p. ended_line (line_of (path_line p))) paths.now) }
 {
     for path in paths {
         push_path(text, path.owner, &path.nodes)?;
@@ -51,7 +52,7 @@ fn push_paths(text: &mut String, paths: &[PathLine]) -> Result<(), AllocError>
 }
 
 fn push_path(text: &mut String, owner: u32, nodes: &[u32]) -> Result<(), AllocError>
-    ensures { OnOk result (string_bytes text.new ≡ string_bytes text.old ++ line_text (path_words (record { owner = owner; nodes = nodes.now }))) }
+    ensures { OnOk result (string_bytes text.new ≡ string_bytes text.old ++ ended_line (line_of (path_line (record { owner = owner; nodes = nodes.now })))) }
 {
     write!(text, "path {owner}")?;
     push_nodes(text, nodes)?;
@@ -70,7 +71,7 @@ fn push_nodes(text: &mut String, nodes: &[u32]) -> Result<(), AllocError>
 }
 
 fn push_scenes(text: &mut String, scenes: &[Scene]) -> Result<(), AllocError>
-    ensures { OnOk result (string_bytes text.new ≡ string_bytes text.old ++ flat_map (λ s. line_text (scene_words s)) scenes.now) }
+    ensures { OnOk result (string_bytes text.new ≡ string_bytes text.old ++ flat_map (λ s. ended_line (line_of (scene_line s))) scenes.now) }
 {
     for scene in scenes {
         push_scene(text, scene)?;
@@ -79,7 +80,7 @@ fn push_scenes(text: &mut String, scenes: &[Scene]) -> Result<(), AllocError>
 }
 
 fn push_scene(text: &mut String, scene: &Scene) -> Result<(), AllocError>
-    ensures { OnOk result (string_bytes text.new ≡ string_bytes text.old ++ line_text (scene_words scene.now)) }
+    ensures { OnOk result (string_bytes text.new ≡ string_bytes text.old ++ ended_line (line_of (scene_line scene.now))) }
 {
     match *scene {
         Scene::Fail {

@@ -1,11 +1,15 @@
-use Rattle.std.proofs.Common.{◌∙◌, sym}
-use Rattle.tw_instance.proofs.Facts.{given_number, not_given}
+use Rattle.std.proofs.Common.{not, ap, sym, ◌∙◌}
+use Rattle.tw_instance.proofs.Facts.{given_exactly}
 use Rattle.tw_instance.proofs.rules.is_given.Goals as goal
 
-pub returns-then-is_misowned : goal.returns-then-is_misowned
-returns-then-is_misowned c =
-    sym (not_given c.args.instance.now c.args.owner c.args.nodes.now c.number-number.ensures.net (sym c.is_misowned.ensures ∙ c.if-is_misowned.true))
+pub returns-then-is_some : goal.returns-then-is_some
+returns-then-is_some c =
+    let n = c.number.ensures in
+    let exact = given_exactly c.args.instance.now c.args.owner c.args.nodes.now c.number.result n.net n.some n.only in
+    ap not c.is_misowned.ensures ∙ (rw (sym c.is_some.ensures ∙ c.if-is_some.true) at exact)
 
-pub returns : goal.returns
-returns c =
-    c.is_some.ensures ∙ given_number c.args.instance.now c.args.owner c.args.nodes.now c.number-number.result c.number-number.ensures.net (sym c.is_misowned.ensures ∙ c.if-is_misowned.false) c.number-number.ensures.some c.number-number.ensures.only
+pub returns-else-is_some : goal.returns-else-is_some
+returns-else-is_some c =
+    let n = c.number.ensures in
+    let exact = given_exactly c.args.instance.now c.args.owner c.args.nodes.now c.number.result n.net n.some n.only in
+    c.if-is_some.false ∙ (rw (sym c.is_some.ensures ∙ c.if-is_some.false) at exact)

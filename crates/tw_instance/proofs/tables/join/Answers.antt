@@ -14,7 +14,7 @@ returns-in_err-reserve-2-clause-err c =
 
 pub returns-clause-ok : goal.returns-clause-ok
 returns-clause-ok c =
-    items-join c.args.rows.now c.args.link.now.first c.args.link.now.second c.reserve.new.self c.reserve-2.new.self c.insert_reserved.new.row c.insert_reserved-2.new.row
-    c.index-rows-first.result c.index-rows-second.result c.index-rows-first-2.result c.index-rows-second-2.result _ _
+    items-join c.args.rows.now c.args.link.now c.reserve.new.self c.reserve-2.new.self c.insert_reserved.new.row c.insert_reserved-2.new.row
+    c.index-rows-first.result c.index-rows-second.result c.index-rows-first-2.result c.index-rows-second-2.result
     c.requires.first c.requires.second c.requires.apart
     c.in_ok-reserve.ensures.items c.in_ok-reserve-2.ensures.items c.insert_reserved.ensures c.insert_reserved-2.ensures

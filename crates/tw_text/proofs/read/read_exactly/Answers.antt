@@ -11,7 +11,7 @@ loop-end-init c = record { line = omega arith; same = refl }
 
 pub returns-in-Err : goal.returns-in-Err
 returns-in-Err c =
-    rw (c.at_line.ensures, ← c.loop-end.invariant.same) (stopped c.loop-end.draft _ c.loop-end.line c.loop-end.rest.now c.in-Some.end c.in-Err.error (sym c.in-Some.ensures) c.in-Err.ensures)
+    rw (c.at_line.ensures, ← c.loop-end.invariant.same) (stopped c.loop-end.draft c.loop-end.line c.loop-end.rest.now c.in-Some.end c.in-Err.fault (sym c.in-Some.ensures) c.in-Err.ensures)
 
 pub loop-end-preserved : goal.loop-end-preserved
 loop-end-preserved c =

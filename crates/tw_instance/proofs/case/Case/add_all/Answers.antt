@@ -1,5 +1,5 @@
-use Rattle.std.proofs.Common.{◌≡◌, ◌+◌, [], ◌∷◌, ◌++◌, None, length, get_or, take, ap, refl, sym, ◌∙◌, arith}
-use Rattle.std.proofs.lemmas.List.{at_drop_all, at_drop_more, length-take-le, take_more}
+use Rattle.std.proofs.Common.{◌+◌, [], ◌∷◌, ◌++◌, get_or, ap, refl, sym, ◌∙◌, arith}
+use Rattle.std.proofs.lemmas.List.{at_drop_all, at_drop_more, take_more}
 use Rattle.tw_model.specs.declared.case.Scene.{Scene as AScene}
 use Rattle.tw_model.specs.declared.case.Scene.TheVariants.{Fail}
 use Rattle.tw_model.specs.Case.{Case}
@@ -35,7 +35,8 @@ loop-i-preserved c =
     let s = get_or scenes i none in
     let next = at_drop_more (judged_scenes net i) scenes i none c.loop-i-test.true in
     let same = judged_alike c.loop-i.self c.args.self.now scenes i s (omega arith) c.loop-i.invariant.taken in
+    let grown = ap (λ ss. record c.args.self.now { scenes = ss }) (sym (take_more scenes i none c.loop-i-test.true)) in
     record {
-      taken = c.in_default.ensures.ok ∙ (ap (λ (k : Case). record k { scenes = k.scenes ++ s ∷ [] }) c.loop-i.invariant.taken ∙ ap (λ ss. record c.args.self.now { scenes = ss }) (sym (take_more scenes i none c.loop-i-test.true)));
+      taken = c.in_default.ensures.ok ∙ (ap (λ (k : Case). record k { scenes = k.scenes ++ s ∷ [] }) c.loop-i.invariant.taken ∙ grown);
       covers = covers_after _ _ _ (scene_fault net i s) (Scene (i + 1)) c.loop-i.invariant.covers next (sym same ∙ c.in_default.ensures.kept);
     }

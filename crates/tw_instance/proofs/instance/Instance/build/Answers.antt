@@ -1,5 +1,4 @@
 use Rattle.std.proofs.Common.{Ok, Err, subst}
-use Rattle.std.specs.List.{All}
 use Rattle.std.proofs.lemmas.Result.{err_from_is_err_and}
 use Rattle.tw_model.specs.Net.{Net}
 use Rattle.tw_model.specs.Rules.{nodes_fault}
@@ -24,7 +23,8 @@ returns-in_err-add_paths-clause-told c =
     let p = err_from_is_err_and c.from_residual-in_err-add_paths.result c.from_residual-in_err-add_paths.ensures.1 in
     let at = c.in_err-add_paths.field-0.0 in
     let links = same_links c.in-Ok.instance c.args.nodes c.deref.result.now c.args.links.items c.in-Ok.ensures.ok c.deref.ensures.value in
-    let lines = same_lines c.in-Ok.instance c.add_links.new.self c.args.nodes c.deref.result.now c.args.links.items c.args.paths.items c.in-Ok.ensures.ok c.deref.ensures.value c.in_ok-add_links.ensures.ok in
+    let lines = same_lines c.in-Ok.instance c.add_links.new.self c.args.nodes c.deref.result.now c.args.links.items c.args.paths.items
+    c.in-Ok.ensures.ok c.deref.ensures.value c.in_ok-add_links.ensures.ok in
     let refused = subst (λ items. IsRefusedAt items at) lines c.in_err-add_paths.ensures.told in
     rw (p.1, p.2) (told_after {T = Net} (Err at) (nodes_fault c.args.nodes) Nodes _ c.in-Ok.ensures.kept
     (told_later {T = Net} (Err at) _ _ (subst NoneBreaks links c.in_ok-add_links.ensures.told) refused))
@@ -32,6 +32,7 @@ returns-in_err-add_paths-clause-told c =
 pub returns-clause-told : goal.returns-clause-told
 returns-clause-told c =
     let links = same_links c.in-Ok.instance c.args.nodes c.deref.result.now c.args.links.items c.in-Ok.ensures.ok c.deref.ensures.value in
-    let lines = same_lines c.in-Ok.instance c.add_links.new.self c.args.nodes c.deref.result.now c.args.links.items c.args.paths.items c.in-Ok.ensures.ok c.deref.ensures.value c.in_ok-add_links.ensures.ok in
+    let lines = same_lines c.in-Ok.instance c.add_links.new.self c.args.nodes c.deref.result.now c.args.links.items c.args.paths.items
+    c.in-Ok.ensures.ok c.deref.ensures.value c.in_ok-add_links.ensures.ok in
     told_after {T = Net} (Ok c.add_paths.new.self) (nodes_fault c.args.nodes) Nodes _ c.in-Ok.ensures.kept
     (told_later {T = Net} (Ok c.add_paths.new.self) _ _ (subst NoneBreaks links c.in_ok-add_links.ensures.told) (subst NoneBreaks lines c.in_ok-add_paths.ensures.told))

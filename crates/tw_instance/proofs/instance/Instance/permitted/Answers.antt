@@ -11,7 +11,7 @@ use Rattle.tw_instance.proofs.instance.Instance.permitted.Goals as goal
 pub returns-clause-value : goal.returns-clause-value
 returns-clause-value c =
     c.row_of.ensures
-    ∙ (ap (λ rows. row rows c.args.node) c.deref.ensures.value ∙ (c.self.invariant.permitted c.args.node ∙ ap (λ n. paths_of n c.args.node) c.self.view_is))
+    ∙ (ap (λ rows. row rows c.args.node) c.deref.ensures.value ∙ (c.self.invariant.permitted.rows c.args.node ∙ ap (λ n. paths_of n c.args.node) c.self.view_is))
 
 pub returns-clause-few : goal.returns-clause-few
 returns-clause-few c =

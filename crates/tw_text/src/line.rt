@@ -1,0 +1,105 @@
+ghost use Rattle.std.specs.List.{list_all};
+ghost use Rattle.std.specs.Prelude.{◌≡◌, map, false, true, bytes_eq, codes};
+ghost use Rattle.tw_model.specs.Memory.{IsUnlessMemory};
+ghost use Rattle.tw_text.specs.Drafts.{result_items, step_said};
+ghost use Rattle.tw_text.specs.FaultTable.{is_start, step};
+ghost use Rattle.tw_text.specs.Statements.{keyword_before, keyword_of, numbers_of, statement_of};
+ghost use Rattle.tw_text.specs.Words.{is_plain, words};
+
+use crate::draft::{Draft, take_statement};
+use crate::keyword::Keyword;
+use crate::text_fault::LineFault;
+use crate::words::{is_plain_line, number_of, split_words};
+use std::alloc::Global;
+use tw_model::OrMemory;
+
+/// The draft with one more line, or the lowest fault of the line. `ended` says whether the line has
+/// its end.
+pub(crate) fn read_line(
+    alloc: Global,
+    draft: Draft,
+    line: &[u8],
+    ended: bool,
+) -> Result<Draft, OrMemory<LineFault>>
+    ensures { IsUnlessMemory result (step draft line.now ended) }
+{
+    if !is_plain_line(line) {
+        return Err(OrMemory::Fault(LineFault::Byte));
+    }
+    match draft {
+        Draft::Start => Ok(read_header(line, ended)?),
+        _ => read_later(alloc, draft, line, ended),
+    }
+}
+
+fn read_header(line: &[u8], ended: bool) -> Result<Draft, LineFault>
+    requires { list_all is_plain line.now ≡ true }
+    ensures { result ≡ step Draft.Start line.now ended }
+{
+    if !is_header(line) {
+        Err(LineFault::Header)
+    } else if !ended {
+        Err(LineFault::End)
+    } else {
+        Ok(Draft::Header)
+    }
+}
+
+fn is_header(line: &[u8]) -> bool
+    ensures { result ≡ bytes_eq line.now (codes "spp 1") }
+{
+    line == b"spp 1".as_slice()
+}
+
+fn read_later(
+    alloc: Global,
+    draft: Draft,
+    line: &[u8],
+    ended: bool,
+) -> Result<Draft, OrMemory<LineFault>>
+    requires plain { list_all is_plain line.now ≡ true }
+    requires later { is_start draft ≡ false }
+    ensures { IsUnlessMemory result (step draft line.now ended) }
+{
+    let words = split_words(alloc, line)?;
+    read_words(alloc, draft, &words, ended)
+}
+
+#[tactic(auto, unfolding(crate::specs::Statements::statement_of))]
+fn read_words(
+    alloc: Global,
+    draft: Draft,
+    words: &[&[u8]],
+    ended: bool,
+) -> Result<Draft, OrMemory<LineFault>>
+    ensures { IsUnlessMemory result (step_said draft (statement_of (map (λ w. w.now) words.now)) ended) }
+{
+    let [word, arguments @ ..] = words else {
+        return Err(OrMemory::Fault(LineFault::Word));
+    };
+    let keyword = keyword_before(word, arguments)?;
+    let numbers = numbers_of(alloc, arguments)?;
+    take_statement(alloc, draft, keyword, &numbers, ended)
+}
+
+/// The keyword that a word is, where these words may follow it.
+fn keyword_before(word: &[u8], arguments: &[&[u8]]) -> Result<Keyword, LineFault>
+    ensures { result ≡ keyword_before (keyword_of word.now) (map (λ w. w.now) arguments.now) }
+{
+    let keyword = Keyword::from_word(word).ok_or(LineFault::Word)?;
+    if keyword.takes_words(arguments) {
+        Ok(keyword)
+    } else {
+        Err(LineFault::Word)
+    }
+}
+
+fn numbers_of(alloc: Global, words: &[&[u8]]) -> Result<Vec<u64>, OrMemory<LineFault>>
+    ensures { IsUnlessMemory (result_items result) (numbers_of (map (λ w. w.now) words.now)) }
+{
+    let mut numbers = Vec::with_capacity(alloc, words.len())?;
+    for word in words {
+        numbers.push_reserved(number_of(word)?);
+    }
+    Ok(numbers)
+}
