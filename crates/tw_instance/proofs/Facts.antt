@@ -1,5 +1,6 @@
 -- Tests that code makes, and what they say of a net.
-use Rattle.std.proofs.Common.{◌≡◌, ℕ, suc, zero, ◌<◌, ◌==◌, true, false, not, ◌&&◌, ◌||◌, List, [], ◌∷◌, length, nat_le, Option, Some, None, Bool, is_some, IfSome, refl, ap, sym, ◌∙◌, subst, inl, inr, arith}
+use Rattle.std.proofs.Common.{◌≡◌, ℕ, suc, zero, ◌==◌, true, false, not, ◌&&◌, ◌||◌, List, [], ◌∷◌, length}
+use Rattle.std.proofs.Common.{nat_le, Option, Some, None, Bool, is_some, IfSome, refl, ap, sym, ◌∙◌, subst, inl, inr, arith}
 use Rattle.std.specs.Cmp.{both_ways as same_truth}
 use Rattle.std.specs.List.{All, list_any}
 use Rattle.std.proofs.lemmas.List.Elements.{All-head, All-tail}
@@ -12,7 +13,7 @@ use Rattle.tw_model.specs.Rules.{IsNet, is_linked, path_count}
 use Rattle.tw_sim.proofs.Members.{any_from_in, in_from_any}
 use Rattle.tw_model.proofs.Nets.{hop_between, hop_of, is_link_of, joined_by}
 use Rattle.tw_model.proofs.Paths.{same_path_is}
-use Rattle.tw_instance.proofs.Lines.{listed, taken}
+use Rattle.tw_instance.proofs.Lines.{Begins, IsOwned, is_given, are_listed, given_where_numbered}
 
 -- ---- links
 
@@ -31,13 +32,6 @@ peer-linked net v w is = same_truth _ _
 
 -- ---- permitted paths
 
--- the owners and the begin of paths that were given
-abbrev IsOwned : ℕ → Line → Type 0
-IsOwned nodes p = (0 < p.owner) × (p.owner < nodes)
-
-abbrev Begins : Line → Type 0
-Begins p = begins_at p.nodes p.owner ≡ true
-
 none_of_origin : (nodes : ℕ) (lines : List Line) → All (IsOwned nodes) lines → path_count lines 0 ≡ 0
 none_of_origin nodes [] all = refl
 none_of_origin nodes (p ∷ lines) all =
@@ -48,13 +42,9 @@ none_of_origin nodes (p ∷ lines) all =
 -- whether a router has as many permitted paths as it may
 pub full-counted : (net : Net) (v : ℕ) → IsNet net → nat_le MOST_PATHS (length (paths_of net v)) ≡ nat_le MOST_PATHS (path_count net.lines v)
 full-counted net zero h =
-    let all = listed net h in
+    let all = are_listed net h in
     ap (λ xs. nat_le MOST_PATHS (length xs)) all.origin ∙ ap (nat_le MOST_PATHS) (sym (none_of_origin net.nodes net.lines all.owners))
-full-counted net (suc v) h = ap (nat_le MOST_PATHS) ((listed net h).counts (suc v) (omega arith))
-
--- whether these nodes were given for this owner
-abbrev is_given : List Line → ℕ → List ℕ → Bool
-is_given lines owner nodes = list_any (λ q. q.owner == owner && same_path q.nodes nodes) lines
+full-counted net (suc v) h = ap (nat_le MOST_PATHS) ((are_listed net h).counts (suc v) (omega arith))
 
 -- whether these nodes are no path of this owner
 abbrev is_misowned : ℕ → List ℕ → Bool
@@ -76,7 +66,7 @@ none_given count owner nodes (q ∷ lines) owners begin mis =
 
 -- nodes that begin elsewhere were not given for this owner
 not_given : (net : Net) (owner : ℕ) (nodes : List ℕ) → IsNet net → is_misowned owner nodes ≡ true → is_given net.lines owner nodes ≡ false
-not_given net owner nodes h mis = let all = listed net h in none_given net.nodes owner nodes net.lines all.owners all.begin mis
+not_given net owner nodes h mis = let all = are_listed net h in none_given net.nodes owner nodes net.lines all.owners all.begin mis
 
 -- nodes were given for their owner exactly where they have a number
 given_number : (net : Net) (owner : ℕ) (nodes : List ℕ) (o : Option PathNo) → IsNet net → is_misowned owner nodes ≡ false
@@ -84,7 +74,7 @@ given_number : (net : Net) (owner : ℕ) (nodes : List ℕ) (o : Option PathNo) 
 given_number net owner nodes o h mis found only =
     let parts = or_parts (owner == 0) (not (begins_at nodes owner)) mis in
     let ne = eqb-false owner 0 parts.0 in
-    taken net (record { owner = owner; nodes = nodes }) o h (omega arith) (not-false (begins_at nodes owner) parts.1) found only
+    given_where_numbered net (record { owner = owner; nodes = nodes }) o h (omega arith) (not-false (begins_at nodes owner) parts.1) found only
 
 -- nodes were given exactly where they have a number and are a path of the owner
 pub given_exactly : (net : Net) (owner : ℕ) (nodes : List ℕ) (o : Option PathNo) → IsNet net

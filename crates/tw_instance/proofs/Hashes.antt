@@ -13,19 +13,19 @@ abbrev IsHashed : (PathNo → Bool) → (PathNo → ℕ) → ℕ → Type 0
 IsHashed test f k = (q : PathNo) → test q ≡ true → f q ≡ k
 
 fails : (test : PathNo → Bool) (f : PathNo → ℕ) (k : ℕ) → IsHashed test f k → (q : PathNo) → (f q == k) ≡ false → test q ≡ false
-fails test f k hashed q other = false_from_ne_true (test q) (λ t. both_ways (f q == k) other (eq-eqb (f q) k (hashed q t)))
+fails test f k made_of_hash q other = false_from_ne_true (test q) (λ t. both_ways (f q == k) other (eq-eqb (f q) k (made_of_hash q t)))
 
 -- what stands before the first of the hash is passed over
 passes_over : (test : PathNo → Bool) (f : PathNo → ℕ) (k : ℕ) → IsHashed test f k → (xs : List PathNo)
     → find test (drop (position_or_len (λ o. o == k) (map f xs)) xs) ≡ find test xs
-passes_over test f k hashed [] = refl
-passes_over test f k hashed (x ∷ xs) =
+passes_over test f k made_of_hash [] = refl
+passes_over test f k made_of_hash (x ∷ xs) =
     elim (cases_Bool (f x == k)) [
       | inl t ↦ rw t refl
       | inr other ↦ (
           let n = position_or_len (λ o. o == k) (map f xs) in
           let e : 1 + n ≡ suc n = omega arith in
-          rw (other, e, fails test f k hashed x other) (passes_over test f k hashed xs))
+          rw (other, e, fails test f k made_of_hash x other) (passes_over test f k made_of_hash xs))
     ]
 
 -- a place that was found is the first
@@ -54,8 +54,8 @@ hashes_behind f xs hashes n is = take_rest hashes n ∙ (ap (drop n) is ∙ drop
 abbrev is_made_of : Net → ℕ → List ℕ → PathNo → Bool
 is_made_of net v p q = same_path (path net q) (v ∷ p)
 
-hashed : (net : Net) (v : ℕ) (p : List ℕ) (k : ℕ) → k ≡ hash p → IsHashed (is_made_of net v p) (tail_hash net) k
-hashed net v p k e q t = ap (λ r. hash (drop 1 r)) (same_path_is (path net q) (v ∷ p) t) ∙ sym e
+made_of_hash : (net : Net) (v : ℕ) (p : List ℕ) (k : ℕ) → k ≡ hash p → IsHashed (is_made_of net v p) (tail_hash net) k
+made_of_hash net v p k e q t = ap (λ r. hash (drop 1 r)) (same_path_is (path net q) (v ∷ p) t) ∙ sym e
 
 -- the first of the hash among the paths behind place n stands j further on
 pub record IsFirst (net : Net) (v : ℕ) (p : List ℕ) (xs : List PathNo) (n j : ℕ) (d : PathNo) : Type 0 where
@@ -71,7 +71,7 @@ is_first net v p k xs hashes n j d e is found =
     let at = first_place (λ o. o == k) (map (tail_hash net) behind) j (found ∙ ap (position (λ o. o == k)) (hashes_behind (tail_hash net) xs hashes n is)) in
     let below : n + j < length xs = omega (arith, length-map behind (tail_hash net), length-drop n xs) in
     let over : find test behind ≡ find test (get_or xs (n + j) d ∷ drop (n + j + 1) xs) =
-    sym (passes_over test (tail_hash net) k (hashed net v p k e) behind)
+    sym (passes_over test (tail_hash net) k (made_of_hash net v p k e) behind)
     ∙ (ap (λ m. find test (drop m behind)) (sym at.0) ∙ (ap (find test) (drop-drop j n xs) ∙ at_drop_more (find test) xs (n + j) d below)) in
     let next : n + j + 1 ≡ n + (j + 1) = omega arith in
     record {
@@ -87,5 +87,5 @@ is_none net v p k xs hashes n e is none =
     let test = is_made_of net v p in
     let behind = drop n xs in
     let past = no_place (λ o. o == k) (map (tail_hash net) behind) (none ∙ ap (position (λ o. o == k)) (hashes_behind (tail_hash net) xs hashes n is)) in
-    sym (passes_over test (tail_hash net) k (hashed net v p k e) behind)
+    sym (passes_over test (tail_hash net) k (made_of_hash net v p k e) behind)
     ∙ at_drop_all (find test) behind (position_or_len (λ o. o == k) (map (tail_hash net) behind)) (omega (arith, length-map behind (tail_hash net)))

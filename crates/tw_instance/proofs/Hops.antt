@@ -24,16 +24,16 @@ IsNamed h = (w : ℕ) → IfSome (h w) (λ x. x.peer ≡ w)
 abbrev pub hops_from : (ℕ → Option Hop) → ℕ → ℕ → List Hop
 hops_from h a n = filter_map h (range_with_len a n)
 
-joined : (P : Hop → Type 0) (o : Option Hop) (xs : List Hop) → IfSome o P → AllByRecursion P xs → AllByRecursion P (cons_option o xs)
-joined P None xs p all = all
-joined P (Some x) xs p all = (p, all)
+all_cons_option : (P : Hop → Type 0) (o : Option Hop) (xs : List Hop) → IfSome o P → AllByRecursion P xs → AllByRecursion P (cons_option o xs)
+all_cons_option P None xs p all = all
+all_cons_option P (Some x) xs p all = (p, all)
 
 -- what holds of the hop of each number from a on holds of each of them
 pub all_from : (P : Hop → Type 0) (h : ℕ → Option Hop) (n a : ℕ) → ((w : ℕ) → a ≤ w → w < a + n → IfSome (h w) P) → AllByRecursion P (hops_from h a n)
 all_from P h zero a each = tt
 all_from P h (suc n) a each =
     let rest = all_from P h n (a + 1) (λ w low high. each w (omega arith) (omega arith)) in
-    joined P (h a) (hops_from h (a + 1) n) (each a (omega arith) (omega arith)) rest
+    all_cons_option P (h a) (hops_from h (a + 1) n) (each a (omega arith) (omega arith)) rest
 
 -- ---- a hop among others in rising number
 

@@ -23,12 +23,24 @@ use Rattle.tw_instance.proofs.Paths.{index-map, path-empty, path-line, path-orig
 
 -- ---- the rules of a path
 
+-- a path of a router below so many, and not of the origin
+abbrev pub IsOwned : ℕ → Line → Type 0
+IsOwned nodes p = (0 < p.owner) × (p.owner < nodes)
+
+-- a path that begins at its owner
+abbrev pub Begins : Line → Type 0
+Begins p = begins_at p.nodes p.owner ≡ true
+
+-- whether these nodes were given for this owner
+abbrev pub is_given : List Line → ℕ → List ℕ → Bool
+is_given lines owner nodes = list_any (λ q. q.owner == owner && same_path q.nodes nodes) lines
+
 -- what a path keeps after those of the net
 pub record IsNextLine (net : Net) (p : Line) : Type 0 where
   pub owner : p.owner < net.nodes
   pub some : 0 < p.owner
-  pub begins : begins_at p.nodes p.owner ≡ true
-  pub new : list_any (λ q. q.owner == p.owner && same_path q.nodes p.nodes) net.lines ≡ false
+  pub begins : Begins p
+  pub new : is_given net.lines p.owner p.nodes ≡ false
   pub room : path_count net.lines p.owner < MOST_PATHS
 
 pub next_line : (net : Net) (p : Line) → line_fault net p ≡ None → IsNextLine net p
@@ -119,11 +131,11 @@ pub record AreListed (net : Net) : Type 0 where
   pub origin : paths_of net 0 ≡ origin_path ∷ []
   pub counts : (v : ℕ) → 0 < v → length (paths_of net v) ≡ path_count net.lines v
   pub few : (v : ℕ) → path_count net.lines v ≤ MOST_PATHS
-  pub owners : All (λ p. (0 < p.owner) × (p.owner < net.nodes)) net.lines
-  pub begin : All (λ p. begins_at p.nodes p.owner ≡ true) net.lines
+  pub owners : All (IsOwned net.nodes) net.lines
+  pub begin : All Begins net.lines
 
-listed_more : (net : Net) (p : Line) → IsNextLine net p → AreListed net → AreListed (record net { lines = net.lines ++ p ∷ [] })
-listed_more net p next so =
+are_listed_more : (net : Net) (p : Line) → IsNextLine net p → AreListed net → AreListed (record net { lines = net.lines ++ p ∷ [] })
+are_listed_more net p next so =
     let more : Net = record net { lines = net.lines ++ p ∷ [] } in
     let at = is_listed net p next.begins in
     let ours = count_path net.lines p p.owner true (eq-eqb p.owner p.owner refl) in
@@ -141,26 +153,26 @@ listed_more net p next so =
         | inl e ↦ subst (λ u. path_count more.lines u ≤ MOST_PATHS) (sym e) few_ours
         | inr ne ↦ (let count = theirs v ne in let few = so.few v in omega arith)
       ];
-      owners = All-push (λ q. (0 < q.owner) × (q.owner < net.nodes)) net.lines p so.owners (next.some, next.owner);
-      begin = All-push (λ q. begins_at q.nodes q.owner ≡ true) net.lines p so.begin next.begins;
+      owners = All-push (IsOwned net.nodes) net.lines p so.owners (next.some, next.owner);
+      begin = All-push Begins net.lines p so.begin next.begins;
     }
 
 pub no_lines : (nodes v : ℕ) (links : List Link) → paths_of (record { nodes = nodes; links = links; lines = [] }) v ≡ cond (0 == v) (origin_path ∷ []) []
 unfolding paths_of
 no_lines nodes v links = map_no (0 == v) 1
 
-pub listed : (net : Net) → IsNet net → AreListed net
-listed net h =
+pub are_listed : (net : Net) → IsNet net → AreListed net
+are_listed net h =
     let none : (v : ℕ) → 0 < v → paths_of (record net { lines = [] }) v ≡ [] = λ v pos. no_lines net.nodes v net.links ∙ (let ne : (0 == v) ≡ false = ne_eqb 0 v (λ e. omega arith) in rw ne refl) in
     let start : AreListed (record net { lines = [] }) = record {
       origin = no_lines net.nodes 0 net.links;
       counts = λ v pos. ap length (none v pos);
       few = λ v. omega arith;
-      owners = All-nil (λ p. (0 < p.owner) × (p.owner < net.nodes));
-      begin = All-nil (λ p. begins_at p.nodes p.owner ≡ true);
+      owners = All-nil (IsOwned net.nodes);
+      begin = All-nil Begins;
     } in
     lines_hold (λ lines. AreListed (record net { lines = lines })) net
-    (λ before p no_fault so. listed_more (record net { lines = before }) p (next_line _ p no_fault) so) [] net.lines h.lines start
+    (λ before p no_fault so. are_listed_more (record net { lines = before }) p (next_line _ p no_fault) so) [] net.lines h.lines start
 
 -- ---- how many paths there are
 
@@ -170,13 +182,10 @@ owned v p = p.owner == v
 abbrev others : ℕ → List Line → List Line
 others v lines = filter (λ p. not (owned v p)) lines
 
-abbrev IsOwnerBelow : ℕ → Line → Type 0
-IsOwnerBelow m p = (0 < p.owner) × (p.owner < m)
-
-others_below : (m : ℕ) (lines : List Line) → All (IsOwnerBelow (suc (suc m))) lines → All (IsOwnerBelow (suc m)) (others (suc m) lines)
+others_below : (m : ℕ) (lines : List Line) → All (IsOwned (suc (suc m))) lines → All (IsOwned (suc m)) (others (suc m) lines)
 others_below m lines all k d within =
     let other = λ (p : Line). not (owned (suc m) p) in
-    let owner = All-filter other (IsOwnerBelow (suc (suc m))) lines all k d within in
+    let owner = All-filter other (IsOwned (suc (suc m))) lines all k d within in
     let ne = eqb-false (get_or (others (suc m) lines) k d).owner (suc m) (not-true _ (filter_passes other lines k d within)) in
     let high = owner.1 in
     (owner.0, omega arith)
@@ -191,9 +200,9 @@ count_others u v (p ∷ lines) =
     ]
 
 -- paths of so many owners, at most so many each
-bounded : (m : ℕ) (lines : List Line) → All (IsOwnerBelow (suc m)) lines → ((v : ℕ) → path_count lines v ≤ MOST_PATHS) → length lines ≤ MOST_PATHS * m
+bounded : (m : ℕ) (lines : List Line) → All (IsOwned (suc m)) lines → ((v : ℕ) → path_count lines v ≤ MOST_PATHS) → length lines ≤ MOST_PATHS * m
 bounded zero [] all few = omega arith
-bounded zero (p ∷ lines) all few = let here = All-head (IsOwnerBelow 1) p lines all in let low = here.0 in let high = here.1 in absurd (omega arith)
+bounded zero (p ∷ lines) all few = let here = All-head (IsOwned 1) p lines all in let low = here.0 in let high = here.1 in absurd (omega arith)
 bounded (suc m) lines all few =
     let rest = bounded m (others (suc m) lines) (others_below m lines all) (λ v. let less = count_others (suc m) v lines in let most = few v in omega arith) in
     let split = length-filter_both (owned (suc m)) (λ p. not (owned (suc m) p)) (λ p. refl) lines in
@@ -202,30 +211,26 @@ bounded (suc m) lines all few =
 
 pub few_lines : (net : Net) → IsNet net → length net.lines ≤ MOST_PATHS * (MOST_ROUTERS - 1)
 few_lines net h =
-    let all = listed net h in
+    let all = are_listed net h in
     let n = nodes_within net.nodes h.nodes in
     let e : net.nodes ≡ suc (net.nodes - 1) = let some = n.0 in omega arith in
-    let most = bounded (net.nodes - 1) net.lines (subst (λ k. All (IsOwnerBelow k) net.lines) e all.owners) all.few in
+    let most = bounded (net.nodes - 1) net.lines (subst (λ k. All (IsOwned k) net.lines) e all.owners) all.few in
     let high = n.1 in
     omega arith
 
 -- ---- whether a path was given before
 
--- whether the same path was given for its owner
-abbrev is_given : List Line → Line → Bool
-is_given lines p = list_any (λ q. q.owner == p.owner && same_path q.nodes p.nodes) lines
-
-given_at : (net : Net) (p : Line) (k : ℕ) → IsNet net → begins_at p.nodes p.owner ≡ true → k < length net.lines → (get_or net.lines k p).nodes ≡ p.nodes → is_given net.lines p ≡ true
+given_at : (net : Net) (p : Line) (k : ℕ) → IsNet net → begins_at p.nodes p.owner ≡ true → k < length net.lines → (get_or net.lines k p).nodes ≡ p.nodes → is_given net.lines p.owner p.nodes ≡ true
 given_at net p k h begins below e =
     let l = get_or net.lines k p in
-    let owns : begins_at l.nodes l.owner ≡ true = (listed net h).begin k p below in
+    let owns : begins_at l.nodes l.owner ≡ true = (are_listed net h).begin k p below in
     let ours : begins_at l.nodes p.owner ≡ true = subst (λ (ns : List ℕ). begins_at ns p.owner ≡ true) (sym e) begins in
     let owner : (l.owner == p.owner) ≡ true = sym (begins_owner l.nodes l.owner p.owner owns) ∙ ours in
     let same : same_path l.nodes p.nodes ≡ true = subst (λ (ns : List ℕ). same_path l.nodes ns ≡ true) e (same_path_self l.nodes) in
     list_any_at (λ q. q.owner == p.owner && same_path q.nodes p.nodes) net.lines k p below (and_from (l.owner == p.owner) (same_path l.nodes p.nodes) owner same)
 
 found_given : (net : Net) (p : Line) (n : ℕ) → IsNet net → 0 < p.owner → begins_at p.nodes p.owner ≡ true → IsPath net (no n) → path net (no n) ≡ p.nodes
-    → is_given net.lines p ≡ true
+    → is_given net.lines p.owner p.nodes ≡ true
 found_given net p zero h some begins is e =
     let b : begins_at [] p.owner ≡ true = subst (λ (ns : List ℕ). begins_at ns p.owner ≡ true) (sym e ∙ path-empty net (no 0) refl) begins in absurd (cc)
 found_given net p (suc zero) h some begins is e =
@@ -236,7 +241,7 @@ found_given net p (suc (suc k)) h some begins is e =
     let below : k < length net.lines = omega arith in
     given_at net p k h begins below (sym (index-map net.lines k p below) ∙ (sym (path-line net (no (suc (suc k))) k refl) ∙ e))
 
-given_found : (net : Net) (p : Line) (o : Option PathNo) → ((q : PathNo) → IsPath net q → path net q ≡ p.nodes → o ≡ Some q) → is_given net.lines p ≡ true → is_some o ≡ true
+given_found : (net : Net) (p : Line) (o : Option PathNo) → ((q : PathNo) → IsPath net q → path net q ≡ p.nodes → o ≡ Some q) → is_given net.lines p.owner p.nodes ≡ true → is_some o ≡ true
 given_found net p o only t =
     let a = Any-from_list_any (λ q. q.owner == p.owner && same_path q.nodes p.nodes) net.lines t in
     let k = a.0 in
@@ -248,8 +253,8 @@ given_found net p o only t =
     ap is_some (only (no (suc (suc k))) (let low = a.2 in omega arith) e)
 
 -- a path was given before exactly where it has a number
-pub taken : (net : Net) (p : Line) (o : Option PathNo) → IsNet net → 0 < p.owner → begins_at p.nodes p.owner ≡ true
+pub given_where_numbered : (net : Net) (p : Line) (o : Option PathNo) → IsNet net → 0 < p.owner → begins_at p.nodes p.owner ≡ true
     → IfSome o (λ q. IsPath net q × (path net q ≡ p.nodes)) → ((q : PathNo) → IsPath net q → path net q ≡ p.nodes → o ≡ Some q)
-    → is_some o ≡ list_any (λ q. q.owner == p.owner && same_path q.nodes p.nodes) net.lines
-taken net p None h some begins found only = same_truth _ _ (λ t. absurd (cc)) (λ t. given_found net p None only t)
-taken net p (Some q) h some begins found only = sym (found_given net p q.0 h some begins found.0 found.1)
+    → is_some o ≡ is_given net.lines p.owner p.nodes
+given_where_numbered net p None h some begins found only = same_truth _ _ (λ t. absurd (cc)) (λ t. given_found net p None only t)
+given_where_numbered net p (Some q) h some begins found only = sym (found_given net p q.0 h some begins found.0 found.1)

@@ -47,12 +47,12 @@ AreCounted net = (v : ℕ) → length (hops_of net v) ≡ degree net.links v
 degree_push : (links : List Link) (l : Link) (v : ℕ) (b : Bool) → (l.first == v || l.second == v) ≡ b → degree (links ++ l ∷ []) v ≡ degree links v + cond b 1 0
 degree_push links l v b e = count_push (λ k. k.first == v || k.second == v) links l ∙ rw e refl
 
-pub counted_more : (net : Net) (l : Link) → IsNextLink net l → AreCounted net → AreCounted (record net { links = net.links ++ l ∷ [] })
-counted_more net l next counted v =
+pub are_counted_more : (net : Net) (l : Link) → IsNextLink net l → AreCounted net → AreCounted (record net { links = net.links ++ l ∷ [] })
+are_counted_more net l next are_counted v =
     let more : Net = record net { links = net.links ++ l ∷ [] } in
     let good = next.good in
     let joined = is_joined net l good.first good.second good.apart next.new in
-    let so = counted v in
+    let so = are_counted v in
     let longer : (w : ℕ) → v ≡ w → length (hops_of more w) ≡ suc (length (hops_of net w)) → length (hops_of more v) ≡ suc (length (hops_of net v)) = λ w e h.
     subst (λ u. length (hops_of more u) ≡ suc (length (hops_of net u))) (sym e) h in
     elim (cases_eq v l.first) [
@@ -82,11 +82,11 @@ pub no_links : (nodes v : ℕ) → hops_of (record { nodes = nodes; links = []; 
 unfolding hops_of
 no_links nodes v = none_there nodes 0 v
 
-pub counted : (net : Net) → IsNet net → AreCounted net
-counted net h v =
+pub are_counted : (net : Net) → IsNet net → AreCounted net
+are_counted net h v =
     let start : AreCounted (record { nodes = net.nodes; links = []; lines = [] }) = λ u. ap length (no_links net.nodes u) in
     let all = links_hold (λ links. AreCounted (record { nodes = net.nodes; links = links; lines = [] })) net.nodes
-    (λ before l no_fault so. counted_more (record { nodes = net.nodes; links = before; lines = [] }) l (next_link _ l no_fault) so) [] net.links h.links start in
+    (λ before l no_fault so. are_counted_more (record { nodes = net.nodes; links = before; lines = [] }) l (next_link _ l no_fault) so) [] net.links h.links start in
     ap length (sym (hops_alike net [] v)) ∙ all v
 
 -- ---- what holds of each neighbour

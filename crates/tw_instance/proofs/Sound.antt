@@ -10,7 +10,7 @@ use Rattle.tw_model.proofs.Nets.{hops_few, nodes_within}
 use Rattle.tw_model.proofs.Paths.{own_is_path, path_exact, paths_own}
 use Rattle.tw_instance.specs.Hops.{AreDistinct, IsGoodHop}
 use Rattle.tw_instance.proofs.Links.{good_hops, rising_hops}
-use Rattle.tw_instance.proofs.Lines.{few_lines, length-paths, listed}
+use Rattle.tw_instance.proofs.Lines.{few_lines, length-paths, are_listed}
 
 -- what is known of router v
 pub record IsRouter (net : Net) (v : ℕ) : Type 0 where
@@ -22,8 +22,8 @@ pub record IsRouter (net : Net) (v : ℕ) : Type 0 where
   pub own : All (λ q. is_own net v q ≡ true) (paths_of net v)
 
 few_paths_of : (net : Net) (v : ℕ) → IsNet net → length (paths_of net v) ≤ MOST_PATHS
-few_paths_of net zero h = let one = ap length (listed net h).origin in omega arith
-few_paths_of net (suc v) h = let few = (listed net h).few (suc v) in let same = (listed net h).counts (suc v) (omega arith) in omega arith
+few_paths_of net zero h = let one = ap length (are_listed net h).origin in omega arith
+few_paths_of net (suc v) h = let few = (are_listed net h).few (suc v) in let same = (are_listed net h).counts (suc v) (omega arith) in omega arith
 
 pub is_router : (net : Net) (v : ℕ) → IsNet net → IsRouter net v
 is_router net v h = record {

@@ -71,16 +71,10 @@ impl Case {
         ensures ok { IfOk result (λ c. c ≡ record { net = instance; scenes = scenes.items }) }
         ensures told { TellsOf result (judged_case instance scenes.items) }
     {
-        let mut case = match Case::new(alloc, instance) {
-            Ok(case) => case,
-            Err(error) => {
-                let place = Place::Start;
-                return Err(At {
-                    place,
-                    fault: error.into(),
-                });
-            }
-        };
+        let mut case = Case::new(alloc, instance).map_err(|error| At {
+            place: Place::Start,
+            fault: error.into(),
+        })?;
         case.add_all(&scenes)?;
         Ok(case)
     }
