@@ -1,4 +1,5 @@
 -- At words that the parser takes, the matches have what each subcommand requires.
+use Rattle.std.specs.Prelude.{◌-◌}
 use Rattle.std.proofs.Common.{◌≡◌, ◌⊎◌, ◌∙◌, ◌||◌, sym, subst, inl, inr, refl, true, false, not, ℕ, Bool, codes, Option, Some, None, is_some, option_map, true≢false, drop, List, []}
 use Rattle.std.specs.List.{AllByRecursion, find}
 use Rattle.std.specs.Option.{option_map_or}
@@ -12,6 +13,7 @@ use Rattle.clap.specs.Takes.{is_given}
 use Rattle.clap.specs.Walk.{Row, Rule, Text, Walk, answers_to, finished, nothing_held, rows_after, settled, walk, walk_from}
 use Rattle.clap.specs.Words.{HasMatchesOf, fault_of, subcommand_of, subcommand_rows_of}
 use Rattle.clap.specs.declared.parser.matches.ArgMatches.{ArgMatches}
+use Rattle.tw_model.specs.declared.limits.TheConstants.{LATEST, MOST_ROUTERS}
 use Rattle.tw_options.specs.App.{check_app, number_rule, seq_app, trail_app, twarp_app}
 use Rattle.tw_options.specs.Fit.{Fits, HasNumber, HasTrail, IsFit}
 use Rattle.tw_options.proofs.Kept.{Fits as FitsRule, GoodRows, accepted, found_has, given_good, good_level, none_of_both}
@@ -44,38 +46,38 @@ first_given true rest h = (refl, h)
 first_given false rest h = cc
 
 module _ (words : List Text) where
-  seq_fits : AllByRecursion (FitsRule (option_rule (codes "stop") 1 1000000000)) (leaf seq_app.top).rules
+  seq_fits : AllByRecursion (FitsRule (option_rule (codes "stop") 1 LATEST)) (leaf seq_app.top).rules
   seq_fits = (((λ _. refl), tt), (((λ e. cc), tt), (((λ e. cc), tt), tt)))
 
   seq_level : level_fault (leaf seq_app.top) [] nothing_held words false [] ≡ []
-      → HasNumber (codes "stop") 1 1000000000 (rows_after (leaf seq_app.top).rules [] words)
+      → HasNumber (codes "stop") 1 LATEST (rows_after (leaf seq_app.top).rules [] words)
   seq_level f =
       let rows = rows_after (leaf seq_app.top).rules [] words in
-      let level = good_level (option_rule (codes "stop") 1 1000000000) refl refl (leaf seq_app.top) seq_fits refl [] words false [] f in
-      has_number (codes "stop") 1 1000000000 rows level.0 (first_given (is_given (codes "stop") rows) _ level.1).0
+      let level = good_level (option_rule (codes "stop") 1 LATEST) refl refl (leaf seq_app.top) seq_fits refl [] words false [] f in
+      has_number (codes "stop") 1 LATEST rows level.0 (first_given (is_given (codes "stop") rows) _ level.1).0
 
-  router_fits : AllByRecursion (FitsRule (option_rule (codes "router") 0 1023)) (leaf trail_app.top).rules
+  router_fits : AllByRecursion (FitsRule (option_rule (codes "router") 0 (MOST_ROUTERS - 1))) (leaf trail_app.top).rules
   router_fits = (((λ _. refl), tt), (((λ e. cc), tt), (((λ e. cc), tt), (((λ e. cc), tt), tt))))
 
-  stop_fits : AllByRecursion (FitsRule (option_rule (codes "stop") 1 1000000000)) (leaf trail_app.top).rules
+  stop_fits : AllByRecursion (FitsRule (option_rule (codes "stop") 1 LATEST)) (leaf trail_app.top).rules
   stop_fits = (((λ e. cc), tt), (((λ _. refl), tt), (((λ e. cc), tt), (((λ e. cc), tt), tt))))
 
-  keep_fits : AllByRecursion (FitsRule (option_rule (codes "keep") 0 1000000000)) (leaf trail_app.top).rules
+  keep_fits : AllByRecursion (FitsRule (option_rule (codes "keep") 0 LATEST)) (leaf trail_app.top).rules
   keep_fits = (((λ e. cc), tt), (((λ e. cc), tt), (((λ _. refl), tt), (((λ e. cc), tt), tt))))
 
   trail_level : level_fault (leaf trail_app.top) [] nothing_held words false [] ≡ []
       → HasTrail (rows_after (leaf trail_app.top).rules [] words)
   trail_level f =
       let rows = rows_after (leaf trail_app.top).rules [] words in
-      let r = good_level (option_rule (codes "router") 0 1023) refl refl (leaf trail_app.top) router_fits refl [] words false [] f in
-      let s = good_level (option_rule (codes "stop") 1 1000000000) refl refl (leaf trail_app.top) stop_fits refl [] words false [] f in
-      let k = good_level (option_rule (codes "keep") 0 1000000000) refl refl (leaf trail_app.top) keep_fits refl [] words false [] f in
+      let r = good_level (option_rule (codes "router") 0 (MOST_ROUTERS - 1)) refl refl (leaf trail_app.top) router_fits refl [] words false [] f in
+      let s = good_level (option_rule (codes "stop") 1 LATEST) refl refl (leaf trail_app.top) stop_fits refl [] words false [] f in
+      let k = good_level (option_rule (codes "keep") 0 LATEST) refl refl (leaf trail_app.top) keep_fits refl [] words false [] f in
       let router = first_given (is_given (codes "router") rows) _ r.1 in
       let stop = first_given (is_given (codes "stop") rows) _ router.1 in
       let keep = first_given (is_given (codes "keep") rows) _ stop.1 in record {
-        router = has_number (codes "router") 0 1023 rows r.0 router.0;
-        stop = has_number (codes "stop") 1 1000000000 rows s.0 stop.0;
-        keep = has_number (codes "keep") 0 1000000000 rows k.0 keep.0;
+        router = has_number (codes "router") 0 (MOST_ROUTERS - 1) rows r.0 router.0;
+        stop = has_number (codes "stop") 1 LATEST rows s.0 stop.0;
+        keep = has_number (codes "keep") 0 LATEST rows k.0 keep.0;
       }
 
 differ : (a b : Text) → bytes_eq a b ≡ false → a ≡ b → ⊥

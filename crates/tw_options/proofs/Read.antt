@@ -7,7 +7,7 @@ use Rattle.clap.specs.Words.{ReadsOne, Row, Text, one_of, one_text, rows_of}
 use Rattle.clap.specs.declared.parser.matches.Found.{Found}
 use Rattle.clap.proofs.WalkLemmas.{one_text-rows}
 use Rattle.tw_options.specs.Fit.{HasNumber}
-use Rattle.tw_options.specs.Says.{Gives, Sets}
+use Rattle.tw_options.specs.Says.{IsNumberGiven, Sets}
 
 module _ (E : Type 0) where
   sets_text : (t : Text) (r : Option Bool) → ReadsOne {T = Bool} {E = E} ParsesBool t r
@@ -30,7 +30,7 @@ module _ (E : Type 0) where
 
 -- a text in the bounds that is read as a number
 gives_text : (E : Type 0) (id t : Text) (least most : ℕ) (rows : List Row) (r : Option ℕ) → one_of id rows ≡ Some t → IsUnsignedIn least most t
-    → ReadsOne {T = ℕ} {E = E} (λ u x. ParsesUnsigned 64 10 u x) t r → (n : ℕ) × (r ≡ Some n) × Gives id least most rows n
+    → ReadsOne {T = ℕ} {E = E} (λ u x. ParsesUnsigned 64 10 u x) t r → (n : ℕ) × (r ≡ Some n) × IsNumberGiven id least most rows n
 gives_text E id t least most rows (Some n) given passed h = (
   n,
   refl,
@@ -53,7 +53,7 @@ only E G t None reads h = (h.0, reads t (Err h.0) h.1)
 -- an option that has a number in the bounds gives it
 pub gives : (E : Type 0) (G : Text → Result ℕ E → Type 0) (f : Found) (id : Text) (least most : ℕ) (r : Option ℕ)
     → ((u : Text) (x : Result ℕ E) → G u x → ParsesUnsigned 64 10 u x) → ((t : Text) → one_text f id ≡ Some t → ReadsOne G t r)
-    → HasNumber id least most (rows_of f) → (n : ℕ) × (r ≡ Some n) × Gives id least most (rows_of f) n
+    → HasNumber id least most (rows_of f) → (n : ℕ) × (r ≡ Some n) × IsNumberGiven id least most (rows_of f) n
 gives E G f id least most r reads value has =
     gives_text E id has.0 least most (rows_of f) r has.1 has.2
     (only E G has.0 r reads (value has.0 (one_text-rows f id ∙ has.1)))

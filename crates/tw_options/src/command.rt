@@ -23,6 +23,7 @@ fn top<'a>(alloc: Global) -> Command<'a>
     ensures local { (fields_of result).has_globals ≡ false }
 {
     Command::new(alloc, "twarp")
+        .version(help::VERSION)
         .about(help::TWARP)
         .long_about(help::TWARP_LONG)
         .after_help(help::STATUSES)

@@ -9,15 +9,15 @@ ghost use Rattle.tw_options.specs.Fault.{Explains};
 ghost use Rattle.tw_options.specs.Says.{Says};
 
 mod command;
+mod command_line;
 mod fault;
 mod help;
-mod line;
 mod number;
 
 use command::twarp;
-pub use fault::LineFault;
-pub use line::Line;
-use line::line_of;
+pub use command_line::CommandLine;
+use command_line::command_line_of;
+pub use fault::CommandLineFault;
 use std::alloc::Global;
 use std::convert::AsStr;
 
@@ -25,11 +25,11 @@ use std::convert::AsStr;
 ///
 /// The error is `Help` where they ask for help, `Bad` where the parser refuses them, and `Memory`
 /// where memory is refused.
-pub fn options<'a, S: AsStr>(alloc: Global, words: &'a [S]) -> Result<Line, LineFault>
-    ensures line { IfOk result (Says (subcommand_of twarp_app (map S.text words.entry.now))) }
+pub fn options<'a, S: AsStr>(alloc: Global, words: &'a [S]) -> Result<CommandLine, CommandLineFault>
+    ensures says { IfOk result (Says (subcommand_of twarp_app (map S.text words.entry.now))) }
     ensures taken { IfOk result (λ _. fault_of twarp_app (map S.text words.entry.now) ≡ []) }
     ensures fault { IfErr result (Explains (fault_of twarp_app (map S.text words.entry.now))) }
 {
     let matches = twarp(alloc)?.try_get_matches_from(words)?;
-    Ok(line_of(&matches))
+    Ok(command_line_of(&matches))
 }

@@ -2,11 +2,12 @@ ghost use Rattle.std.specs.Prelude.{◌≡◌, false};
 ghost use Rattle.clap.specs.Words.{found_of, rows_of, rule_of};
 ghost use Rattle.tw_options.specs.App.{number_rule};
 ghost use Rattle.tw_options.specs.Fit.{HasNumber};
-ghost use Rattle.tw_options.specs.Says.{Gives};
+ghost use Rattle.tw_options.specs.Says.{IsNumberGiven};
 
 use clap::builder::ValueParser;
 use clap::{Arg, ArgAction, ArgMatches};
 use std::alloc::Global;
+use tw_model::limits::{LATEST, MOST_ROUTERS};
 
 /// A required option `--id` that takes a number from `least` to `most`.
 #[derive(Clone, Copy)]
@@ -22,7 +23,7 @@ pub(crate) const STOP: NumberOption = NumberOption {
     id: "stop",
     value_name: "TICKS",
     least: 1,
-    most: 1_000_000_000,
+    most: LATEST,
     help: "Handle the events below this time, in ticks: 1 to 1000000000",
 };
 
@@ -30,7 +31,7 @@ pub(crate) const ROUTER: NumberOption = NumberOption {
     id: "router",
     value_name: "NUMBER",
     least: 0,
-    most: 1_023,
+    most: MOST_ROUTERS as u64 - 1,
     help: "The router whose events are shown: 0 to 1023, and a router of the case",
 };
 
@@ -38,7 +39,7 @@ pub(crate) const KEEP: NumberOption = NumberOption {
     id: "keep",
     value_name: "COUNT",
     least: 0,
-    most: 1_000_000_000,
+    most: LATEST,
     help: "How many of the router's events stay handled: 0 to 1000000000",
 };
 
@@ -60,7 +61,7 @@ impl NumberOption {
     /// The number that was given.
     pub(crate) fn read(self, given: &ArgMatches<'_>) -> u64
         requires { HasNumber self.id.now self.least self.most (rows_of (found_of given.now)) }
-        ensures { Gives self.id.now self.least self.most (rows_of (found_of given.now)) result }
+        ensures { IsNumberGiven self.id.now self.least self.most (rows_of (found_of given.now)) result }
     {
         given.get_one::<u64>(self.id).unwrap()
     }

@@ -10,8 +10,8 @@ returns-in_err-matches-clause-fault g c =
     c.from_residual-in_err-matches.result c.in_ok-twarp.ensures c.in_err-matches.ensures.kinds
     c.from_residual-in_err-matches.ensures.1
 
-pub line_of-requires : goal.line_of-requires
-line_of-requires g c =
+pub command_line_of-requires : goal.command_line_of-requires
+command_line_of-requires g c =
     let words = map g.S.AsStr.text c.args.words.now in
     matches_fit (app_of c.in_ok-twarp.field-0) words c.in_ok-matches.matches c.in_ok-twarp.ensures c.in_ok-matches.ensures.matches
     (taken (app_of c.in_ok-twarp.field-0) words c.in_ok-twarp.ensures c.in_ok-matches.ensures.kinds)
