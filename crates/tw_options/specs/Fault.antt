@@ -1,6 +1,6 @@
 -- Why the words give no command line. Own, over the kinds of error that the parser has.
-use Rattle.std.specs.Prelude.{◌≡◌, ◌⊎◌}
-use Rattle.clap.specs.Words.{IsAmong, Kinds, kind_of}
+use Rattle.std.specs.Prelude.{◌≡◌, ◌⊎◌, List, [], ◌∷◌, codes}
+use Rattle.clap.specs.Words.{IsAmong, Kinds, Text, kind_of}
 use Rattle.clap.specs.declared.error.Error.{Error}
 use Rattle.clap.specs.declared.error.kind.ErrorKind.{ErrorKind}
 use Rattle.clap.specs.declared.error.kind.ErrorKind.TheVariants as kind
@@ -23,3 +23,13 @@ Explains kinds (Help e) = Answers (kind_of e) × IsAmong (kind_of e) kinds
 Explains kinds (Bad e) =
     (Answers (kind_of e) → ⊥) × (kind_of e ≡ kind.OutOfMemory → ⊥) × IsAmong (kind_of e) kinds
 Explains kinds Memory = Unit {0}
+
+-- the words are the program's name, and then `--version` or `-V`
+abbrev pub AsksVersion : List Text → Type 0
+AsksVersion words = (name : Text) × ((words ≡ name ∷ codes "--version" ∷ []) ⊎ (words ≡ name ∷ codes "-V" ∷ []))
+
+-- the fault is the text of the version, or memory was refused
+abbrev pub TellsVersion : CommandLineFault → Type 0
+TellsVersion (Help e) = kind_of e ≡ kind.DisplayVersion
+TellsVersion (Bad e) = ⊥
+TellsVersion Memory = Unit {0}

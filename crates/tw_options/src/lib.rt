@@ -1,11 +1,11 @@
 //! The command line of the program `twarp`: what its words ask for.
 #![tactic(auto)]
 
-ghost use Rattle.std.specs.Prelude.{◌≡◌, [], IfErr, IfOk, map};
+ghost use Rattle.std.specs.Prelude.{◌≡◌, [], IfErr, IfOk, IsErrAnd, map};
 ghost use Rattle.clap.specs.Words.{subcommand_of};
 ghost use Rattle.clap.specs.Faults.{fault_of};
 ghost use Rattle.tw_options.specs.App.{twarp_app};
-ghost use Rattle.tw_options.specs.Fault.{Explains};
+ghost use Rattle.tw_options.specs.Fault.{AsksVersion, Explains, TellsVersion};
 ghost use Rattle.tw_options.specs.Says.{Says};
 
 mod command;
@@ -29,6 +29,7 @@ pub fn options<'a, S: AsStr>(alloc: Global, words: &'a [S]) -> Result<CommandLin
     ensures says { IfOk result (Says (subcommand_of twarp_app (map S.text words.entry.now))) }
     ensures taken { IfOk result (λ _. fault_of twarp_app (map S.text words.entry.now) ≡ []) }
     ensures fault { IfErr result (Explains (fault_of twarp_app (map S.text words.entry.now))) }
+    ensures version { AsksVersion (map S.text words.entry.now) → IsErrAnd result TellsVersion }
 {
     let matches = twarp(alloc)?.try_get_matches_from(words)?;
     Ok(command_line_of(&matches))
