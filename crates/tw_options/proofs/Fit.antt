@@ -64,8 +64,8 @@ module _ (words : List Text) where
       → HasSeq (rows_after (leaf seq_app.top).rules [] words)
   seq_level f =
       let rows = rows_after (leaf seq_app.top).rules [] words in
-      let s = good_level (option_rule (codes "stop") true 1 LATEST) refl refl (leaf seq_app.top) seq_stop_fits refl [] words false [] f in
-      let e = good_level (option_rule (codes "every") false 1 LATEST) refl refl (leaf seq_app.top) every_fits refl [] words false [] f in
+      let s = good_level (option_rule (codes "stop") true 1 LATEST) (record { one = refl; no_default = refl }) (leaf seq_app.top) seq_stop_fits refl [] words false [] f in
+      let e = good_level (option_rule (codes "every") false 1 LATEST) (record { one = refl; no_default = refl }) (leaf seq_app.top) every_fits refl [] words false [] f in
       let stop = first_given (is_given (codes "stop") rows) _ s.1 in record {
         stop = has_number (codes "stop") 1 LATEST rows s.0 stop.0;
         every = has_number_if_given (codes "every") 1 LATEST rows e.0;
@@ -84,9 +84,9 @@ module _ (words : List Text) where
       → HasTrail (rows_after (leaf trail_app.top).rules [] words)
   trail_level f =
       let rows = rows_after (leaf trail_app.top).rules [] words in
-      let r = good_level (option_rule (codes "router") true 0 (MOST_ROUTERS - 1)) refl refl (leaf trail_app.top) router_fits refl [] words false [] f in
-      let s = good_level (option_rule (codes "stop") true 1 LATEST) refl refl (leaf trail_app.top) stop_fits refl [] words false [] f in
-      let k = good_level (option_rule (codes "keep") true 0 LATEST) refl refl (leaf trail_app.top) keep_fits refl [] words false [] f in
+      let r = good_level (option_rule (codes "router") true 0 (MOST_ROUTERS - 1)) (record { one = refl; no_default = refl }) (leaf trail_app.top) router_fits refl [] words false [] f in
+      let s = good_level (option_rule (codes "stop") true 1 LATEST) (record { one = refl; no_default = refl }) (leaf trail_app.top) stop_fits refl [] words false [] f in
+      let k = good_level (option_rule (codes "keep") true 0 LATEST) (record { one = refl; no_default = refl }) (leaf trail_app.top) keep_fits refl [] words false [] f in
       let router = first_given (is_given (codes "router") rows) _ r.1 in
       let stop = first_given (is_given (codes "stop") rows) _ router.1 in
       let keep = first_given (is_given (codes "keep") rows) _ stop.1 in record {

@@ -15,7 +15,8 @@ pub enum CommandLine {
     Seq {
         /// From 1 to 1,000,000,000.
         stop: u64,
-        /// The time between two checkpoints, from 1 to 1,000,000,000, where shapes are compared.
+        /// The time from one checkpoint to the next, from 1 to 1,000,000,000; `None` where no shapes
+        /// are compared.
         every: Option<u64>,
         /// Whether the report lists the events.
         log: bool,

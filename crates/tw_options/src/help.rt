@@ -56,14 +56,14 @@ Example:
 pub(crate) const EVERY_LONG: &str = "\
 Look for a period at the multiples of this time, in ticks: 1 to 1000000000
 
-The checkpoints are the multiples of this time, up to --stop. The shape at a checkpoint is the
-state of every router without its counters, and what is pending, with times counted from the
-checkpoint. It is compared with the shapes at the 64 checkpoints before it. Where two are equal,
-while messages are pending and no event of the scenario is, the run repeats for ever, and the
-verdict is `oscillates`, with the earlier checkpoint and the period.
+The checkpoints are the multiples of this time, up to --stop. The shape at a checkpoint
+is the state of every router without its counters, and what is pending, with times
+counted from the checkpoint. It is compared with the shapes at the 64 checkpoints before
+it. Where two are equal, while messages are pending and no event of the scenario is, the
+run repeats for ever: the verdict is `oscillates`, from the earlier checkpoint on.
 
-1 finds the least period, up to 64 ticks. A greater number N finds the least period that is a
-multiple of N, up to 64 times N. Without --every the verdict is `quiet` or `open`.";
+1 finds the least period, up to 64 ticks. A greater number N finds the least period that
+is a multiple of N, up to 64 times N. Without --every the verdict is `quiet` or `open`.";
 
 pub(crate) const TRAIL: &str = "Runs a case, and undoes one router's last events";
 
@@ -81,8 +81,8 @@ Example:
 pub(crate) const STATUSES: &str = "\
 Exit status:
   0  done
-  1  the input was refused, or has no router of the number given; one line on standard output
-     says where and why
+  1  the input was refused, or --router is none of its routers; one line on standard output
+     says why
   2  stopped for want of memory, by a full counter or by a failed device; one line on standard
      error says which
   3  the command line was refused; standard error says why";
