@@ -1,5 +1,6 @@
 -- A parse that finds no fault keeps one value of an option that takes one, and the option takes it.
-use Rattle.std.proofs.Common.{◌≡◌, ◌∙◌, ◌&&◌, ◌||◌, ap, ap₂, option_map, sym, subst, refl, arith, true, false, not, ℕ, zero, suc, Bool, cond, Option, Some, None, is_some, List, [], ◌∷◌, ◌++◌, length, drop}
+use Rattle.std.proofs.Common.{◌≡◌, ◌∙◌, ◌&&◌, ◌||◌, ap, ap₂, option_map, sym, subst, refl, arith, true, false, not, ℕ, zero, suc, Bool, cond, Option, Some}
+use Rattle.std.proofs.Common.{None, is_some, List, [], ◌∷◌, ◌++◌, length, drop}
 use Rattle.std.specs.Prelude.{◌==◌, encode_utf8, option_and_then, slice_get}
 use Rattle.std.specs.List.{AllByRecursion, find, fold}
 use Rattle.std.specs.Option.{option_map_or}
@@ -8,7 +9,9 @@ use Rattle.std.proofs.lemmas.List.{append-nil}
 use Rattle.std.proofs.lemmas.Bool.{eqb-true}
 use Rattle.clap.proofs.ValueTestLemmas.{accepts-Accepts}
 use Rattle.clap.specs.Facts.{explicit_source, parser_of_value, unwrap_or_range}
-use Rattle.clap.specs.Faults.{action_fault, bundle_fault, bundle_step_fault, check_fault, defaults_fault, level_fault, flag_word_fault, flags_fault, long_fault, option_fault, other_fault, positional_fault, react_fault, settle_fault, short_fault, step_fault, stray_fault, turn_fault, use_fault, values_fault, walk_fault, word_fault}
+use Rattle.clap.specs.Faults.{action_fault, bundle_fault, bundle_step_fault, check_fault, defaults_fault, level_fault, flag_word_fault, flags_fault, long_fault}
+use Rattle.clap.specs.Faults.{option_fault, other_fault, positional_fault, react_fault, settle_fault, short_fault, step_fault, stray_fault, turn_fault}
+use Rattle.clap.specs.Faults.{use_fault, values_fault, walk_fault, word_fault}
 use Rattle.clap.specs.Kinds.{Kinds, or_else, range_kinds, value_kinds}
 use Rattle.clap.specs.Lexer.{long_of, short_of}
 use Rattle.clap.specs.Simple.{Shape}
@@ -16,7 +19,12 @@ use Rattle.clap.specs.Takes.{is_given}
 use Rattle.clap.specs.ValueTests.{accepts}
 use Rattle.clap.specs.Values.{Accepts, read_as, refused_kind}
 use Rattle.clap.specs.declared.builder.value_parser.ValueParser.{ValueParser}
-use Rattle.clap.specs.Walk.{nothing_held, one_of, row_text, rows_after, walk, walk_from, Held, Names, Outcome, Row, Rule, Step, Text, Waiting, Walk, done, flag_met, bundle_step, option, option_word, plain, positional, refused, short_or_plain, used_by_id, waits, action_of, after_flag, arg_by_id, arg_by_index, arg_by_long, arg_by_short, at_row, attached_value, bundle, bundle_met, has_row, idle, long_met, long_or_other, most_values, option_met, plain_word, reacted, reading_by, settled, settled_rows, short_met, subcommand_met, default_rows, with_default, next, subcommand, value, walked_from, is_pending, subcommand_or_other, takes_several, trailing, takes_values, to_positional, after_step, used, used_as, values_or_missing, walked, with_values, without, word_met}
+use Rattle.clap.specs.Walk.{nothing_held, one_of, row_text, rows_after, walk, walk_from, Held, Names, Outcome, Row, Rule, Step, Text, Waiting, Walk, done}
+use Rattle.clap.specs.Walk.{flag_met, bundle_step, option, option_word, plain, positional, refused, short_or_plain, used_by_id, waits, action_of, after_flag}
+use Rattle.clap.specs.Walk.{arg_by_id, arg_by_index, arg_by_long, arg_by_short, at_row, attached_value, bundle, bundle_met, has_row, idle, long_met}
+use Rattle.clap.specs.Walk.{long_or_other, most_values, option_met, plain_word, reacted, reading_by, settled, settled_rows, short_met, subcommand_met}
+use Rattle.clap.specs.Walk.{default_rows, with_default, next, subcommand, value, walked_from, is_pending, subcommand_or_other, takes_several, trailing}
+use Rattle.clap.specs.Walk.{takes_values, to_positional, after_step, used, used_as, values_or_missing, walked, with_values, without, word_met}
 use Rattle.clap.specs.declared.builder.range.ValueRange.{ValueRange}
 use Rattle.clap.specs.declared.builder.value_parser.Reading.{Reading}
 use Rattle.clap.specs.declared.builder.action.ArgAction.{ArgAction}
@@ -303,8 +311,9 @@ module _ (t : Rule) where
             go (Some p) f = all
             go None f =
                 let two = none_of_both _ _ f in
-                let of_c = subst (λ (d : List Rule). step_fault s w.position (word_met d names w.is_trailing w.waiting w.position word w.held).0 (word_met d names w.is_trailing w.waiting w.position word w.held).1 ≡ []) own two.1 in
-                let here : Held × Step = word_met c names w.is_trailing w.waiting w.position word w.held in
+                let met_by : List Rule → Held × Step = λ d. word_met d names w.is_trailing w.waiting w.position word w.held in
+                let of_c = subst (λ (d : List Rule). step_fault s w.position (met_by d).0 (met_by d).1 ≡ []) own two.1 in
+                let here : Held × Step = met_by c in
                 good_step_taken word w here.0 here.1 of_c
                 (good_word names w.is_trailing w.waiting w.position word s w.held own again two.0 all)
 
@@ -335,8 +344,13 @@ module _ (t : Rule) where
         good_defaults [] rows fits all = all
         good_defaults (a ∷ xs) rows fits all = good_defaults xs (with_default rows a) fits.1 (good_default a rows fits.0 all)
 
+-- an option that takes one value and has no default
+pub record IsPlainOption (t : Rule) : Type 0 where
+  pub one : unwrap_or_range t.range ≡ record { start_inclusive = 1; end_inclusive = 1 }
+  pub no_default : t.defaults ≡ []
+
 -- the rows of a level without a fault
-module _ (t : Rule) (one : unwrap_or_range t.range ≡ record { start_inclusive = 1; end_inclusive = 1 }) (no_default : t.defaults ≡ []) (s : Shape) (fit : AllByRecursion (Fits t) s.rules) (again : s.args_override_self ≡ false) where
+module _ (t : Rule) (is_plain : IsPlainOption t) (s : Shape) (fit : AllByRecursion (Fits t) s.rules) (again : s.args_override_self ≡ false) where
   pub good_level : (names : Names) (words : List Text) (has : Bool) (below : Kinds) → level_fault s names nothing_held words has below ≡ []
       → GoodRows t (rows_after s.rules names words) × (check_fault s (rows_after s.rules names words) has ≡ [])
   good_level names words has below f =
@@ -345,9 +359,9 @@ module _ (t : Rule) (one : unwrap_or_range t.range ≡ record { start_inclusive 
       let b = none_of_both _ _ a.1 in
       let d = none_of_both (settle_fault s.rules s.args_override_self end) _ b.1 in
       let e = none_of_both (defaults_fault (settled s.rules end).rows s.rules) _ d.1 in
-      let held = good_walk t one s.rules fit s refl again names words (walk_from nothing_held) a.0 tt in
-      let used = good_settled t one s.rules fit end (rw again at d.0) held in
-      (good_defaults t one s.rules fit no_default s.rules (settled s.rules end).rows fit used, e.1)
+      let held = good_walk t is_plain.one s.rules fit s refl again names words (walk_from nothing_held) a.0 tt in
+      let used = good_settled t is_plain.one s.rules fit end (rw again at d.0) held in
+      (good_defaults t is_plain.one s.rules fit is_plain.no_default s.rules (settled s.rules end).rows fit used, e.1)
 
 text_in : (r : Row) (v : Text) (how : Reading) → r.values ≡ v ∷ [] → r.reading ≡ how → row_text r ≡ Some (read_as how v)
 text_in r v how values reading = ap₂ (λ (vs : List Text) (h : Reading). option_map (read_as h) (slice_get vs 0)) values reading
@@ -364,6 +378,21 @@ given_good t rows all given = go (find (λ r. bytes_eq r.id t.id) rows) (λ r is
         let both = has r refl in
         let one : Single t r = both.0 both.1 in
         (one.0, text_in r one.0 (reading_by t) one.1 one.3, one.2)
+
+-- a text that is given under t's id is read from a value that t takes
+pub taken_text : (t : Rule) (rows : List Row) (text : Text) → GoodRows t rows → one_of t.id rows ≡ Some text
+    → (v : Text) × (read_as (reading_by t) v ≡ text) × (value_kinds t.ignore_case (parser_of_value t.parser) v ≡ [])
+taken_text t rows text all given = go (find (λ r. bytes_eq r.id t.id) rows) (λ r is. found_has (Good t) (λ r. bytes_eq r.id t.id) rows r all is) given
+  where
+    go : (o : Option Row) → ((r : Row) → o ≡ Some r → Good t r × (bytes_eq r.id t.id ≡ true)) → option_and_then row_text o ≡ Some text
+        → (v : Text) × (read_as (reading_by t) v ≡ text) × (value_kinds t.ignore_case (parser_of_value t.parser) v ≡ [])
+    go None has g = cc
+    go (Some r) has g =
+        let both = has r refl in
+        let one : Single t r = both.0 both.1 in
+        let same : read_as (reading_by t) one.0 ≡ text =
+        let same : Some (read_as (reading_by t) one.0) ≡ Some text = sym (text_in r one.0 (reading_by t) one.1 one.3) ∙ g in cc in
+        (one.0, same, one.2)
 
 pub accepted : (ignore_case : Bool) (p : ValueParser) (v : Text) → value_kinds ignore_case p v ≡ [] → Accepts ignore_case p v
 accepted i p v h = accepts-Accepts i p v (go (accepts i p v) h)

@@ -3,3 +3,4 @@ pub mod Fit
 pub mod Kept
 pub mod Read
 pub mod Stop
+pub mod Version

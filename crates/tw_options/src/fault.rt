@@ -1,38 +1,41 @@
 ghost use Rattle.std.specs.Prelude.{◌≡◌};
 ghost use Rattle.tw_options.specs.Fault.{Tells};
-ghost use Rattle.tw_options.specs.declared.fault.LineFault.TheVariants.{Memory};
+ghost use Rattle.tw_options.specs.declared.fault.CommandLineFault.TheVariants.{Memory};
 
-use clap::Error;
 use clap::error::ErrorKind;
 use std::alloc::AllocError;
+use thiserror::Error;
 
-/// Why a command line asks for nothing.
-#[derive(Debug, Drop)]
-pub enum LineFault {
-    /// It asks for help, which is the text of this error.
-    Help(Error),
-    /// Its words are refused; the error's text says why.
-    Bad(Error),
+/// Why the words of a command line are not a command to run.
+#[derive(Debug, Drop, Error)]
+pub enum CommandLineFault {
+    /// They ask for help or for the version, which is the text of this error.
+    #[error(transparent)]
+    Help(clap::Error),
+    /// They are refused; the error's text says why.
+    #[error(transparent)]
+    Bad(clap::Error),
     /// Memory was refused.
+    #[error("memory was refused")]
     Memory,
 }
 
-impl From<AllocError> for LineFault {
+impl From<AllocError> for CommandLineFault {
     ghost from_gives = { λ _ fault. fault ≡ Memory };
 
-    fn from(_error: AllocError) -> LineFault {
-        LineFault::Memory
+    fn from(_error: AllocError) -> CommandLineFault {
+        CommandLineFault::Memory
     }
 }
 
-impl From<Error> for LineFault {
+impl From<clap::Error> for CommandLineFault {
     ghost from_gives = { Tells };
 
-    fn from(error: Error) -> LineFault {
+    fn from(error: clap::Error) -> CommandLineFault {
         match error.kind() {
-            ErrorKind::OutOfMemory => LineFault::Memory,
-            ErrorKind::DisplayHelp | ErrorKind::DisplayVersion => LineFault::Help(error),
-            _ => LineFault::Bad(error),
+            ErrorKind::OutOfMemory => CommandLineFault::Memory,
+            ErrorKind::DisplayHelp | ErrorKind::DisplayVersion => CommandLineFault::Help(error),
+            _ => CommandLineFault::Bad(error),
         }
     }
 }

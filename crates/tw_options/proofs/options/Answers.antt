@@ -2,6 +2,7 @@ use Rattle.std.proofs.Common.{map}
 use Rattle.clap.specs.Words.{app_of}
 use Rattle.tw_options.proofs.Faults.{explains_err, taken}
 use Rattle.tw_options.proofs.Fit.{matches_fit}
+use Rattle.tw_options.proofs.Version.{not_taken, version_told}
 use Rattle.tw_options.proofs.options.Goals as goal
 
 pub returns-in_err-matches-clause-fault : goal.returns-in_err-matches-clause-fault
@@ -10,8 +11,13 @@ returns-in_err-matches-clause-fault g c =
     c.from_residual-in_err-matches.result c.in_ok-twarp.ensures c.in_err-matches.ensures.kinds
     c.from_residual-in_err-matches.ensures.1
 
-pub line_of-requires : goal.line_of-requires
-line_of-requires g c =
+pub returns-in_err-matches-clause-version : goal.returns-in_err-matches-clause-version
+returns-in_err-matches-clause-version g c asks =
+    version_told (map g.S.AsStr.text c.args.words.now) _ c.from_residual-in_err-matches.result asks
+    c.from_residual-in_err-matches.ensures.1 (returns-in_err-matches-clause-fault g c)
+
+pub command_line_of-requires : goal.command_line_of-requires
+command_line_of-requires g c =
     let words = map g.S.AsStr.text c.args.words.now in
     matches_fit (app_of c.in_ok-twarp.field-0) words c.in_ok-matches.matches c.in_ok-twarp.ensures c.in_ok-matches.ensures.matches
     (taken (app_of c.in_ok-twarp.field-0) words c.in_ok-twarp.ensures c.in_ok-matches.ensures.kinds)
@@ -19,3 +25,6 @@ line_of-requires g c =
 pub returns-clause-taken : goal.returns-clause-taken
 returns-clause-taken g c =
     taken (app_of c.in_ok-twarp.field-0) (map g.S.AsStr.text c.args.words.now) c.in_ok-twarp.ensures c.in_ok-matches.ensures.kinds
+
+pub returns-clause-version : goal.returns-clause-version
+returns-clause-version g c asks = not_taken (map g.S.AsStr.text c.args.words.now) asks (returns-clause-taken g c)

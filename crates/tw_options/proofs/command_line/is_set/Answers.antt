@@ -1,6 +1,6 @@
 use Rattle.clap.specs.Words.{found_of}
 use Rattle.tw_options.proofs.Read.{sets}
-use Rattle.tw_options.proofs.line.is_set.Goals as goal
+use Rattle.tw_options.proofs.command_line.is_set.Goals as goal
 
 pub returns : goal.returns
 returns c =

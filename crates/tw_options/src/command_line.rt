@@ -1,20 +1,23 @@
 ghost use Rattle.std.specs.Prelude.{Some, codes};
 ghost use Rattle.clap.specs.Words.{found_of, rows_of, subcommand_rows_of};
-ghost use Rattle.tw_options.specs.Fit.{HasNumber, HasTrail, IsFit};
+ghost use Rattle.tw_options.specs.Fit.{HasSeq, HasTrail, IsFit};
 ghost use Rattle.tw_options.specs.Says.{Says, Sets};
 
-use crate::number::{KEEP, ROUTER, STOP};
+use crate::number::{EVERY, KEEP, ROUTER, STOP};
 use clap::ArgMatches;
 
 /// What a command line asks for. The input comes from standard input, and times are in ticks.
 #[derive(Clone, Copy, PartialEq, Eq, Debug)]
-pub enum Line {
+pub enum CommandLine {
     /// Whether the input is a case text.
     Check,
     /// The report of the run of a case below `stop`.
     Seq {
         /// From 1 to 1,000,000,000.
         stop: u64,
+        /// The time from one checkpoint to the next, from 1 to 1,000,000,000; `None` where no shapes
+        /// are compared.
+        every: Option<u64>,
         /// Whether the report lists the events.
         log: bool,
     },
@@ -29,35 +32,36 @@ pub enum Line {
     },
 }
 
-/// The line of what the parser found.
-pub(crate) fn line_of(matches: &ArgMatches<'_>) -> Line
+/// The command line that the parser's matches stand for.
+pub(crate) fn command_line_of(matches: &ArgMatches<'_>) -> CommandLine
     requires { IsFit (subcommand_rows_of matches.now) }
     ensures { Says (subcommand_rows_of matches.now) result }
 {
     let (name, given) = matches.subcommand().unwrap();
     match name {
-        "check" => Line::Check,
-        "seq" => seq_line(given),
-        "trail" => trail_line(given),
+        "check" => CommandLine::Check,
+        "seq" => seq_of(given),
+        "trail" => trail_of(given),
         _ => unreachable!(),
     }
 }
 
-fn seq_line(given: &ArgMatches<'_>) -> Line
-    requires { HasNumber (codes "stop") 1 1000000000 (rows_of (found_of given.now)) }
+fn seq_of(given: &ArgMatches<'_>) -> CommandLine
+    requires { HasSeq (rows_of (found_of given.now)) }
     ensures { Says (Some (codes "seq", rows_of (found_of given.now))) result }
 {
-    Line::Seq {
+    CommandLine::Seq {
         stop: STOP.read(given),
+        every: EVERY.read_if_given(given),
         log: is_set(given, "log"),
     }
 }
 
-fn trail_line(given: &ArgMatches<'_>) -> Line
+fn trail_of(given: &ArgMatches<'_>) -> CommandLine
     requires { HasTrail (rows_of (found_of given.now)) }
     ensures { Says (Some (codes "trail", rows_of (found_of given.now))) result }
 {
-    Line::Trail {
+    CommandLine::Trail {
         router: ROUTER.read(given) as u32,
         stop: STOP.read(given),
         keep: KEEP.read(given),
