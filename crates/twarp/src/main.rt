@@ -1,14 +1,17 @@
 //! The program `twarp`: simulates path-vector routing, event by event.
 #![tactic(auto)]
 
-ghost use Rattle.twarp.specs.Runs.{IsRunnable};
+mod perform;
 
+ghost use Rattle.twarp.specs.Due.{IsRunnable};
+
+use perform::perform;
 use std::env;
 use std::io::{self, BufWriter, Write};
 use std::process::ExitCode;
-use tw_commands::{Cause, OverRead, Status, check_io, seq_io, trail_io};
-use tw_options::{Line, LineFault, options};
-use tw_report::OverWrite;
+use tw_commands::{Cause, Status};
+use tw_device::{OverRead, OverWrite};
+use tw_options::{CommandLine, CommandLineFault, options};
 
 /// The exit status of words that are no command line.
 const BAD_LINE: u8 = 3;
@@ -29,20 +32,20 @@ fn main(rt: HostRuntime) -> ExitCode {
     };
     match options(rt.alloc(), words.as_slice()) {
         Ok(line) => run(&rt, line),
-        Err(LineFault::Help(text)) => match text.print(&rt) {
+        Err(CommandLineFault::Help(text)) => match text.print(&rt) {
             Ok(()) => ExitCode::SUCCESS,
             Err(_) => stopped(&rt, Cause::Device),
         },
-        Err(LineFault::Bad(text)) => {
+        Err(CommandLineFault::Bad(text)) => {
             let _ = text.print(&rt);
             ExitCode::from(BAD_LINE)
         }
-        Err(LineFault::Memory) => stopped(&rt, Cause::Memory),
+        Err(CommandLineFault::Memory) => stopped(&rt, Cause::Memory),
     }
 }
 
 /// Does what the line asks, from standard input to standard output.
-fn run<R: Input + Print + Eprint + AllocGlobal>(rt: &R, line: Line) -> ExitCode
+fn run<R: Input + Print + Eprint + AllocGlobal>(rt: &R, line: CommandLine) -> ExitCode
     requires { IsRunnable line }
 {
     match answer(rt, line) {
@@ -52,7 +55,7 @@ fn run<R: Input + Print + Eprint + AllocGlobal>(rt: &R, line: Line) -> ExitCode
     }
 }
 
-fn answer<R: Input + Print + AllocGlobal>(rt: &R, line: Line) -> Result<Status, Cause>
+fn answer<R: Input + Print + AllocGlobal>(rt: &R, line: CommandLine) -> Result<Status, Cause>
     requires { IsRunnable line }
 {
     let alloc = rt.alloc();
@@ -61,13 +64,7 @@ fn answer<R: Input + Print + AllocGlobal>(rt: &R, line: Line) -> Result<Status, 
         Ok(writer) => writer,
         Err(_) => return Err(Cause::Memory),
     });
-    let status = match line {
-        Line::Check => check_io(alloc, &mut source, &mut sink)?,
-        Line::Seq { stop, log } => seq_io(alloc, &mut source, &mut sink, stop, log)?,
-        Line::Trail { router, stop, keep } => {
-            trail_io(alloc, &mut source, &mut sink, router, stop, keep)?
-        }
-    };
+    let status = perform(alloc, line, &mut source, &mut sink)?;
     match sink.into_writer().flush() {
         Ok(()) => Ok(status),
         Err(_) => Err(Cause::Device),

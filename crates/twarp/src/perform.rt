@@ -1,0 +1,34 @@
+ghost use Rattle.std.specs.Prelude.{◌≡◌, false, OnOk};
+ghost use Rattle.tw_commands.specs.Output.{Answers};
+ghost use Rattle.tw_device.specs.Source.{LosesInput, TakesInput};
+ghost use Rattle.twarp.specs.Due.{IsRunnable, StopsFull, due};
+
+use std::alloc::Global;
+use tw_commands::{Cause, Status, check_io, seq_io, trail_io};
+use tw_device::{Sink, Source};
+use tw_options::CommandLine;
+
+/// Does what a command line asks: reads a case from the source and writes the answer that is due to
+/// the sink.
+pub(crate) fn perform<R: Source, W: Sink>(
+    alloc: Global,
+    line: CommandLine,
+    source: &mut R,
+    sink: &mut W,
+) -> Result<Status, Cause>
+    requires line { IsRunnable line }
+    requires source { R.failed source.old ≡ false }
+    requires sink { W.failed sink.old ≡ false }
+    ensures answer { Answers result (due line) (StopsFull line)
+        (R.remaining source.old) (W.written sink.old) (W.written sink.new) (R.failed source.new) (W.failed sink.new) }
+    ensures read { OnOk result (LosesInput (R.remaining source.old) (R.remaining source.new)) }
+    ensures most { TakesInput (R.remaining source.old) (R.remaining source.new) }
+{
+    match line {
+        CommandLine::Check => check_io(alloc, source, sink),
+        CommandLine::Seq { stop, log } => seq_io(alloc, source, sink, stop, log),
+        CommandLine::Trail { router, stop, keep } => {
+            trail_io(alloc, source, sink, router, stop, keep)
+        }
+    }
+}
