@@ -3,11 +3,11 @@ use Rattle.std.proofs.Common.{◌≡◌, ℕ, suc, true, false, List, [], ◌∷
 use Rattle.std.proofs.lemmas.Bool.{cases_Bool}
 use Rattle.std.proofs.lemmas.List.{append-nil, map-append}
 use Rattle.std.specs.Cmp.Lexicographic.{bytes_decides}
-use Rattle.std.specs.List.{find, join_with_byte, list_all}
+use Rattle.std.specs.List.{find, join_with_byte}
 use Rattle.tw_model.specs.Case.{Case, IsCase}
 use Rattle.tw_model.specs.Line.{Line}
 use Rattle.tw_model.specs.Net.{Net}
-use Rattle.tw_model.specs.Rules.{IsNet, link_fault, rules_in_order}
+use Rattle.tw_model.specs.Rules.{IsNet, rules_in_order}
 use Rattle.tw_model.specs.declared.case.Scene.{Scene}
 use Rattle.tw_model.specs.declared.net.Link.{Link}
 use Rattle.tw_model.specs.declared.rule.Rule.{Rule}
@@ -16,7 +16,7 @@ use Rattle.tw_text.specs.declared.draft.Draft.{Draft}
 use Rattle.tw_text.specs.declared.draft.Draft.TheVariants.{Start, Header, Links, Paths, Scenes, Done}
 use Rattle.tw_text.specs.declared.text_fault.LineFault.{LineFault}
 use Rattle.tw_text.specs.declared.text_fault.LineFault.TheVariants as x
-use Rattle.tw_text.specs.Drafts.{fault_after, of_rule, step_by, step_said}
+use Rattle.tw_text.specs.Drafts.{fault_after, of_rule, step_by}
 use Rattle.tw_text.specs.FaultTable.{breaks, is_done, is_misplaced, is_start, step, unless_fault, with_statement}
 use Rattle.tw_text.specs.Reading.{case_of, reads}
 use Rattle.tw_text.specs.Statements.{Statement, nodes_line, link_line, path_line, scene_line, end_line, statement_of}

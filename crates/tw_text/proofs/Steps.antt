@@ -1,5 +1,5 @@
 -- What stands first in a chain of steps that give something, each.
-use Rattle.std.proofs.Common.{◌≡◌, Option, Some, None, Result, Ok, Err, refl}
+use Rattle.std.proofs.Common.{◌≡◌, Result, Ok, Err, refl}
 use Rattle.tw_text.specs.Statements.{◌>>=◌}
 
 -- what was given, and what followed from it
