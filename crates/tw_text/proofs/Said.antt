@@ -16,7 +16,7 @@ use Rattle.tw_text.specs.declared.words.TheConstants.{MOST_DIGITS}
 use Rattle.tw_text.specs.Words.{is_number}
 use Rattle.tw_text.proofs.Numerals.{decimal-digits, decimal-form, decimal-some, number_is, value-decimal}
 use Rattle.tw_text.proofs.Splits.{IsWord, digits_are_signs, none_empty}
-use Rattle.tw_text.proofs.Steps.{bound}
+use Rattle.tw_text.proofs.Steps.{bound, passed}
 
 -- ---- from a statement to its words and back
 
@@ -93,11 +93,7 @@ statement_of-words s h =
 
 keyword_was : (found : Option Keyword) (ws : List (List ℕ)) (k : Keyword) → keyword_before found ws ≡ Ok k → found ≡ Some k
 keyword_was None ws k h = absurd (cc)
-keyword_was (Some j) ws k h =
-    elim (cases_Bool (takes_words j ws)) [
-      | inl t ↦ (let r : Result Keyword LineFault = Ok j in let g : r ≡ Ok k = rw t at h in let e : j ≡ k = cc in ap (λ k. Some k) e)
-      | inr f ↦ absurd (let r : Result Keyword LineFault = Err x.Word in let g : r ≡ Ok k = rw f at h in cc)
-    ]
+keyword_was (Some j) ws k h = ap (λ k. Some k) (passed (takes_words j ws) j k x.Word h).1
 
 -- one test of the word
 unless_word : (word : List ℕ) (j k : Keyword) (other : Option Keyword) → (other ≡ Some k → word ≡ word_of k) → (if bytes_eq word (word_of j) then Some j else other) ≡ Some k → word ≡ word_of k
@@ -118,10 +114,7 @@ decimals-values (w ∷ ws) h = let p = and_parts (is_number w) (list_all is_numb
 
 numbers_was : (ws : List (List ℕ)) (ns : List ℕ) → numbers_of ws ≡ Ok ns → ws ≡ map decimal ns
 numbers_was ws ns h =
-    elim (cases_Bool (list_all is_number ws)) [
-      | inl t ↦ (let r : Result (List ℕ) LineFault = Ok (map (digits_value 10) ws) in let g : r ≡ Ok ns = rw t at h in let e : map (digits_value 10) ws ≡ ns = cc in decimals-values ws t ∙ ap (map decimal) e)
-      | inr f ↦ absurd (let r : Result (List ℕ) LineFault = Err x.Number in let g : r ≡ Ok ns = rw f at h in cc)
-    ]
+    let p = passed (list_all is_number ws) (map (digits_value 10) ws) ns x.Number h in decimals-values ws p.0 ∙ ap (map decimal) p.1
 
 -- what stands in a statement
 record Holds (s : Statement) (k : Keyword) (ns : List ℕ) : Type 0 where
