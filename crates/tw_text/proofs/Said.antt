@@ -1,16 +1,17 @@
 -- The words of a statement, and the statement of words.
-use Rattle.std.proofs.Common.{◌≡◌, ℕ, ◌<◌, ◌^◌, Bool, true, ◌&&◌, List, [], ◌∷◌, length, map, decimal, bytes_eq, if◌then◌else◌, Option, Some, None, Result, Ok, Err, refl, ap, ap₂, sym, ◌∙◌, inl, inr}
-use Rattle.std.proofs.lemmas.Bool.{and_parts, cases_Bool}
+use Rattle.std.proofs.Common.{◌≡◌, ℕ, ◌<◌, ◌^◌, Bool, true, ◌&&◌, List, [], ◌∷◌, length, map, decimal, bytes_eq, if◌then◌else◌, Option, Some, None, Result, Ok, Err, refl, ap, ap₂, sym, ◌∙◌}
+use Rattle.std.proofs.lemmas.Bool.{and_parts}
 use Rattle.std.proofs.lemmas.List.{length-map}
 use Rattle.std.specs.Cmp.Lexicographic.{bytes_decides}
 use Rattle.std.specs.List.{AllByRecursion, list_all}
 use Rattle.std.specs.Str.Parse.{digits_value}
 use Rattle.tw_model.specs.declared.case.Scene.TheVariants.{Fail, Restore, Swap}
+use Rattle.tw_sim.proofs.Members.{in_find}
 use Rattle.tw_text.specs.declared.keyword.Keyword.{Keyword}
 use Rattle.tw_text.specs.declared.keyword.Keyword.TheVariants as keyword
 use Rattle.tw_text.specs.declared.text_fault.LineFault.{LineFault}
 use Rattle.tw_text.specs.declared.text_fault.LineFault.TheVariants as x
-use Rattle.tw_text.specs.Statements.{◌>>=◌, Statement, nodes_line, link_line, path_line, scene_line, end_line, takes_words, keyword_before, keyword_of, numbers_of, said, statement_of, takes, word_of}
+use Rattle.tw_text.specs.Statements.{◌>>=◌, Statement, nodes_line, link_line, path_line, scene_line, end_line, takes_words, keyword_before, keyword_of, keywords, numbers_of, said, statement_of, takes, word_of}
 use Rattle.tw_text.specs.Text.{keyword_in, numbers_in, words_of}
 use Rattle.tw_text.specs.declared.words.TheConstants.{MOST_DIGITS}
 use Rattle.tw_text.specs.Words.{is_number}
@@ -95,18 +96,8 @@ keyword_was : (found : Option Keyword) (ws : List (List ℕ)) (k : Keyword) → 
 keyword_was None ws k h = absurd (cc)
 keyword_was (Some j) ws k h = ap (λ k. Some k) (passed (takes_words j ws) j k x.Word h).1
 
--- one test of the word
-unless_word : (word : List ℕ) (j k : Keyword) (other : Option Keyword) → (other ≡ Some k → word ≡ word_of k) → (if bytes_eq word (word_of j) then Some j else other) ≡ Some k → word ≡ word_of k
-unless_word word j k other there h =
-    elim (cases_Bool (bytes_eq word (word_of j))) [
-      | inl t ↦ (let g : Some j ≡ Some k = rw t at h in let e : j ≡ k = cc in (bytes_decides word (word_of j)).0 t ∙ ap word_of e)
-      | inr f ↦ there (rw f at h)
-    ]
-
 word_of-keyword : (word : List ℕ) (k : Keyword) → keyword_of word ≡ Some k → word ≡ word_of k
-word_of-keyword word k =
-    unless_word word keyword.Nodes k _ (unless_word word keyword.Link k _ (unless_word word keyword.Path k _ (unless_word word keyword.Fail k _
-    (unless_word word keyword.Restore k _ (unless_word word keyword.Swap k _ (unless_word word keyword.End k None (λ e. absurd (cc))))))))
+word_of-keyword word k h = (bytes_decides word (word_of k)).0 (in_find (λ k. bytes_eq word (word_of k)) k keywords h).0
 
 decimals-values : (ws : List (List ℕ)) → list_all is_number ws ≡ true → ws ≡ map decimal (map (digits_value 10) ws)
 decimals-values [] h = refl

@@ -42,7 +42,7 @@ step_by d s ended = unless_fault (fault_after d s ended) (with_statement d s)
 abbrev pub step_said : Draft → Result Statement LineFault → Bool → Result Draft LineFault
 step_said d said ended = said >>= λ s. step_by d s ended
 
--- whether the line has its end
+-- what comes next, where the line has its end
 abbrev pub check_ended : Bool → {A : Type 0} → A → Result A LineFault
 check_ended ended next = if ended then Ok next else Err x.End
 
