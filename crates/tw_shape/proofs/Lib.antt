@@ -1,0 +1,4 @@
+pub mod Shift
+pub mod Alike
+pub mod Waiting
+pub mod Repeating
