@@ -1,2 +1,5 @@
 pub mod Shape
+pub mod Same
 pub mod Verdict
+pub mod Packed
+pub mod Storage

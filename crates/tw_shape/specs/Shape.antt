@@ -1,6 +1,6 @@
 -- What a run looks like at a time, without what only counts up and without the time itself (own).
-use Rattle.std.specs.Prelude.{ℕ, ◌≡◌, ◌+◌, ◌-◌, ◌*◌, ◌==◌, Bool, false, true, not, ◌&&◌, List, length, map, if◌then◌else◌}
-use Rattle.std.specs.List.{list_all, range_with_len}
+use Rattle.std.specs.Prelude.{ℕ, ◌≡◌, ◌≤◌, ◌+◌, ◌-◌, ◌*◌, ◌==◌, Bool, false, true, not, ◌&&◌, List, length, map, if◌then◌else◌}
+use Rattle.std.specs.List.{All, list_all, range_with_len}
 use Rattle.tw_event.specs.declared.event.Body.{Body}
 use Rattle.tw_event.specs.declared.event.Body.TheVariants.{Start, Fail, Restore, Swap, Update}
 use Rattle.tw_event.specs.declared.event.Event.{Event}
@@ -44,6 +44,18 @@ shape case t = record {
   pending = map (λ e. seen_from t (at (simulation case) t e.src).counters.sent e) (rest (simulation case) t);
 }
 
+-- an event, so many ticks closer
+abbrev pub sooner : ℕ → Event → Event
+sooner d e = record e { time = e.time - d }
+
+-- the shape so many ticks later, where nothing is handled meanwhile
+abbrev pub later : ℕ → Shape → Shape
+later d s = record s { pending = map (sooner d) s.pending }
+
+-- nothing pending is to be handled less than so many ticks from then
+abbrev pub IsStill : ℕ → Shape → Type 0
+IsStill d s = All (λ e. d ≤ e.time) s.pending
+
 -- whether events are pending, none of them an opening event
 abbrev pub can_repeat : Shape → Bool
 can_repeat s = not (length s.pending == 0) && list_all (λ e. is_update e.body) s.pending
@@ -51,3 +63,9 @@ can_repeat s = not (length s.pending == 0) && list_all (λ e. is_update e.body) 
 -- from time a on, the shape comes again every p ticks
 abbrev pub Repeats : Case → ℕ → ℕ → Type 0
 Repeats case a p = (n : ℕ) → shape case (a + n * p) ≡ shape case a
+
+-- routers as they are gathered for a shape at this time, with how many messages each has sent
+pub record Draft : Type 0 where
+  pub time : ℕ
+  pub routers : List RouterShape
+  pub sent : List ℕ

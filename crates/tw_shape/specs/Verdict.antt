@@ -1,33 +1,16 @@
 -- What is found at the checkpoints of a run, and the verdict on it (own).
 use Rattle.std.specs.Prelude.{ℕ, ◌≡◌, ◌≤◌, ◌<◌, ◌+◌, ◌-◌, ◌*◌, ◌==◌, Bool, true, ◌&&◌, List, [], ◌∷◌, ◌++◌, map, nat_le, Option, None, Some, if◌then◌else◌}
-use lib.Pointwise.{pointwise}
-use Rattle.std.specs.Bool.{beq}
 use Rattle.std.specs.List.{find, range_with_len}
 use Rattle.std.specs.Option.{option_map}
 use Rattle.tw_event.specs.declared.event.Event.{Event}
-use Rattle.tw_event.specs.declared.event.PathNo.{PathNo}
-use Rattle.tw_event.specs.Order.{event_same}
-use Rattle.tw_model.specs.declared.state.Row.{Row}
 use Rattle.tw_model.specs.Case.{Case}
 use Rattle.tw_model.specs.Summary.{Summary}
 use Rattle.tw_shape.specs.declared.verdict.Finding.{Finding}
 use Rattle.tw_shape.specs.declared.verdict.Verdict.{Verdict}
 use Rattle.tw_shape.specs.declared.verdict.Verdict.TheVariants.{Quiet, Oscillates, Undecided}
 use Rattle.tw_shape.specs.declared.verdict.TheConstants.{WINDOW}
-use Rattle.tw_shape.specs.Shape.{RouterShape, Shape, can_repeat, shape}
-
--- whether two paths, rows, routers or shapes are the same in every part
-abbrev pub same_path : PathNo → PathNo → Bool
-same_path p q = p.0 == q.0
-
-abbrev pub same_row : Row → Row → Bool
-same_row r s = same_path r.heard s.heard && (beq r.up s.up && (r.session == s.session))
-
-abbrev pub same_router : RouterShape → RouterShape → Bool
-same_router r s = same_path r.rib s.rib && (pointwise same_row r.rows s.rows && pointwise same_path r.order s.order)
-
-abbrev pub same_shape : Shape → Shape → Bool
-same_shape s t = pointwise same_router s.routers t.routers && pointwise event_same s.pending t.pending
+use Rattle.tw_shape.specs.Shape.{Shape, can_repeat, shape}
+use Rattle.tw_shape.specs.Same.{same_shape}
 
 -- a time of a run, and the shape then
 pub record Checkpoint : Type 0 where

@@ -1,6 +1,10 @@
 //! Shapes of a run, what is found at its checkpoints, and the verdict on it.
 #![tactic(auto)]
 
+mod builder;
+mod shape;
 mod verdict;
 
+pub use builder::ShapeBuilder;
+pub use shape::Shape;
 pub use verdict::{Finding, Verdict, WINDOW};
