@@ -5,3 +5,5 @@ pub mod Repeating
 pub mod Sameness
 pub mod Hashing
 pub mod Packing
+pub mod Looking
+pub mod Searching

@@ -3,3 +3,5 @@ pub mod Same
 pub mod Verdict
 pub mod Packed
 pub mod Storage
+pub mod Watch
+pub mod Windows

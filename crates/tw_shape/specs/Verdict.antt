@@ -1,7 +1,7 @@
 -- What is found at the checkpoints of a run, and the verdict on it (own).
 use Rattle.std.specs.Prelude.{ℕ, ◌≡◌, ◌≤◌, ◌<◌, ◌+◌, ◌-◌, ◌*◌, ◌==◌, Bool, true, ◌&&◌, List, [], ◌∷◌, ◌++◌, map, nat_le, Option, None, Some, if◌then◌else◌}
 use Rattle.std.specs.List.{find, range_with_len}
-use Rattle.std.specs.Option.{option_map}
+use Rattle.std.specs.Option.{option_map, option_or}
 use Rattle.tw_event.specs.declared.event.Event.{Event}
 use Rattle.tw_model.specs.Case.{Case}
 use Rattle.tw_model.specs.Summary.{Summary}
@@ -37,15 +37,10 @@ since b a = record { from = a.time; period = b.time - a.time }
 abbrev pub found_at : ℕ → List Checkpoint → Checkpoint → Option Finding
 found_at every before b = if can_repeat b.shape then option_map (since b) (find (is_again every b) before) else None
 
--- the first finding, or else the other
-abbrev pub first : Option Finding → Option Finding → Option Finding
-first None f = f
-first (Some f) g = Some f
-
 -- what is found first at checkpoints that come one after the other, after those before them
 abbrev pub first_found : ℕ → List Checkpoint → List Checkpoint → Option Finding
 first_found every before [] = None
-first_found every before (b ∷ later) = first (found_at every before b) (first_found every (before ++ b ∷ []) later)
+first_found every before (b ∷ later) = option_or (found_at every before b) (first_found every (before ++ b ∷ []) later)
 
 -- what is found first at checkpoints 1 to n of a case
 abbrev pub finding : Case → ℕ → ℕ → Option Finding

@@ -4,7 +4,9 @@
 mod builder;
 mod shape;
 mod verdict;
+mod watch;
 
 pub use builder::ShapeBuilder;
 pub use shape::Shape;
 pub use verdict::{Finding, Verdict, WINDOW};
+pub use watch::Watch;
