@@ -7,3 +7,4 @@ pub mod Hashing
 pub mod Packing
 pub mod Looking
 pub mod Searching
+pub mod Firsts

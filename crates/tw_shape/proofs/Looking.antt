@@ -18,11 +18,11 @@ use Rattle.tw_shape.proofs.Sameness.{shape_decides}
 -- ---- the first that passes, of a range
 
 module _ {X : Type 0} (p : X → Bool) (f : ℕ → X) where
-  find_none : (a n : ℕ) → ((m : ℕ) → a ≤ m → m < a + n → p (f m) ≡ false) → find p (map f (range_with_len a n)) ≡ None
+  pub find_none : (a n : ℕ) → ((m : ℕ) → a ≤ m → m < a + n → p (f m) ≡ false) → find p (map f (range_with_len a n)) ≡ None
   find_none a zero h = refl
   find_none a (suc n) h = rw (h a (omega arith) (omega arith)) (find_none (a + 1) n (λ m l u. h m (omega arith) (omega arith)))
 
-  find_only : (a n k : ℕ) → a ≤ k → k < a + n → ((m : ℕ) → a ≤ m → m < a + n → p (f m) ≡ true → m ≡ k) → find p (map f (range_with_len a n)) ≡ cond (p (f k)) (Some (f k)) None
+  pub find_only : (a n k : ℕ) → a ≤ k → k < a + n → ((m : ℕ) → a ≤ m → m < a + n → p (f m) ≡ true → m ≡ k) → find p (map f (range_with_len a n)) ≡ cond (p (f k)) (Some (f k)) None
   find_only a zero k l u only = absurd (omega arith)
   find_only a (suc n) k l u only =
       elim (cases_eq a k) [

@@ -1,9 +1,10 @@
 -- A search through the gaps of a watch, the oldest first.
-use Rattle.std.proofs.Common.{◌≡◌, ℕ, Bool, false, true, List, [], ◌∷◌, ◌++◌, Option, Some, None, refl, ap, sym, ◌∙◌, subst, inl, inr}
+use Rattle.std.proofs.Common.{◌≡◌, ℕ, suc, zero, ◌-◌, Bool, false, true, List, [], ◌∷◌, ◌++◌, drop, length, Option, Some, None, refl, ap, sym, ◌∙◌, subst, inl, inr}
 use Rattle.std.specs.List.{All, find, flat_map}
 use Rattle.std.specs.Option.{is_some, option_map, option_or}
 use Rattle.std.proofs.lemmas.List.Folds.{find-append}
-use Rattle.tw_sim.proofs.Members.{all_from_in, in_from_all}
+use Rattle.tw_sim.proofs.Members.{In, all_from_in, in_append, in_from_all}
+use Rattle.circular_buffer.specs.Buffer.{keep_last}
 use Rattle.tw_shape.specs.declared.watch.Gap.{Gap}
 use Rattle.tw_shape.specs.Verdict.{Checkpoint, is_again}
 use Rattle.tw_shape.specs.Watch.{Watch, after_first, gap_checkpoints, shown}
@@ -66,3 +67,17 @@ module _ (ticks : ℕ) (gap : Gap) (w : Watch) (x : Gap) (all left : List Gap) (
 
 pub left_all : (ticks : ℕ) (gap : Gap) (w : Watch) → IsLeft ticks gap w [] → None ≡ time_first (is_again w.every (after_first gap ticks)) (shown w)
 left_all ticks gap w is = is.same
+
+in_drop : {X : Type 0} (x : X) (n : ℕ) (xs : List X) → In x (drop n xs) → In x xs
+in_drop x zero xs h = h
+in_drop x (suc n) [] h = absurd h
+in_drop x (suc n) (y ∷ xs) h = inr (in_drop x n xs h)
+
+-- the window stays timely with one gap more
+pub timely_push : (every n : ℕ) (gaps : List Gap) (gap : Gap) → All (IsTimely every) gaps → IsTimely every gap → All (IsTimely every) (keep_last n (gaps ++ gap ∷ []))
+timely_push every n gaps gap all is =
+    all_from_in (IsTimely every) (keep_last n (gaps ++ gap ∷ [])) (λ g h.
+    elim (in_append g gaps (gap ∷ []) (in_drop g (length (gaps ++ gap ∷ []) - n) (gaps ++ gap ∷ []) h)) [
+      | inl k ↦ in_from_all (IsTimely every) gaps all g k
+      | inr k ↦ elim k [ inl e ↦ subst (IsTimely every) (sym e) is | inr z ↦ absurd z ]
+    ])

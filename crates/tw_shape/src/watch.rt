@@ -1,4 +1,5 @@
 ghost use Rattle.std.specs.Prelude.{◌≡◌, ◌≤◌, ◌<◌, ◌+◌, ◌-◌, ◌*◌, true, find, option_map, IfOk};
+ghost use Rattle.std.specs.Option.{option_or};
 ghost use Rattle.std.specs.List.{All};
 ghost use Rattle.tw_model.specs.declared.limits.TheConstants.{LATEST};
 ghost use Rattle.tw_model.specs.Summary.{summary_of};
@@ -107,9 +108,7 @@ impl Watch {
     {
         let count = shape.still_times(self.every, most);
         let gap = Gap { time, count, shape };
-        if self.found.is_none() {
-            self.found = self.find(&gap);
-        }
+        self.found = self.found_with(&gap);
         self.window.push_back(gap);
         count
     }
@@ -126,6 +125,18 @@ impl Watch {
         ensures { result ≡ verdict_of (summary_of outcome.now) self.now.found }
     {
         Verdict::of(outcome, self.found)
+    }
+
+    /// What is found first, with the checkpoints of one more gap.
+    fn found_with(&self, gap: &Gap) -> Option<Finding>
+        requires timely { IsTimely self.now.every gap.now }
+        requires later { All (λ c. c.time < gap.now.time) (shown self.now) }
+        ensures { result ≡ option_or self.now.found (first_found self.now.every (shown self.now) (gap_checkpoints self.now.every gap.now)) }
+    {
+        match self.found {
+            Some(finding) => Some(finding),
+            None => self.find(gap),
+        }
     }
 
     /// What is found first at the checkpoints of the gap.
