@@ -32,7 +32,7 @@ never_same s a b less still some same = go s.pending some still (ap (λ w. w.pen
 pub some_pending : (s : Shape) → can_repeat s ≡ true → s.pending ≡ [] → ⊥
 some_pending s can none = both_ways (can_repeat s) (no_repeat s none) can
 
-range_push : {X : Type 0} (f : ℕ → X) (a n k : ℕ) → k ≡ a + n → map f (range_with_len a n) ++ f k ∷ [] ≡ map f (range_with_len a (suc n))
+pub range_push : {X : Type 0} (f : ℕ → X) (a n k : ℕ) → k ≡ a + n → map f (range_with_len a n) ++ f k ∷ [] ≡ map f (range_with_len a (suc n))
 range_push f a zero k is = ap (λ m. f m ∷ []) (let e : k ≡ a = omega arith in e)
 range_push f a (suc n) k is = ap (λ l. f a ∷ l) (range_push f (a + 1) n k (omega arith))
 

@@ -8,3 +8,5 @@ pub mod Packing
 pub mod Looking
 pub mod Searching
 pub mod Firsts
+pub mod Stillness
+pub mod Findings
