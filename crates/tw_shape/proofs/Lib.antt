@@ -10,3 +10,4 @@ pub mod Searching
 pub mod Firsts
 pub mod Stillness
 pub mod Findings
+pub mod Seeing

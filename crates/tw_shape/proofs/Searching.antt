@@ -68,7 +68,7 @@ module _ (ticks : ℕ) (gap : Gap) (w : Watch) (x : Gap) (all left : List Gap) (
 pub left_all : (ticks : ℕ) (gap : Gap) (w : Watch) → IsLeft ticks gap w [] → None ≡ time_first (is_again w.every (after_first gap ticks)) (shown w)
 left_all ticks gap w is = is.same
 
-in_drop : {X : Type 0} (x : X) (n : ℕ) (xs : List X) → In x (drop n xs) → In x xs
+pub in_drop : {X : Type 0} (x : X) (n : ℕ) (xs : List X) → In x (drop n xs) → In x xs
 in_drop x zero xs h = h
 in_drop x (suc n) [] h = absurd h
 in_drop x (suc n) (y ∷ xs) h = inr (in_drop x n xs h)
