@@ -207,8 +207,9 @@ module _ (case : Case) (every : ℕ) (some : 0 < every) where
       let period : f.period ≡ g.period = one.period ∙ (λ i. (new i - old i) * every) ∙ sym two.period in
       λ i. record { from = from i; period = period i }
 
-  -- what was found stays found
-  pub finding_stays : (n k : ℕ) (f : Finding) → finding case every n ≡ Some f → finding case every (n + k) ≡ Some f
-  finding_stays n k f h =
-      ap (first_found every []) (sym (range_append nth 1 n k (n + 1) (omega arith))) ∙ first_found-append every [] (upto n) (map nth (range_with_len (n + 1) k))
-      ∙ ap (λ o. option_or o (first_found every (upto n) (map nth (range_with_len (n + 1) k)))) h
+-- what was found stays found
+pub finding_stays : (case : Case) (every n k : ℕ) (f : Finding) → finding case every n ≡ Some f → finding case every (n + k) ≡ Some f
+finding_stays case every n k f h =
+    ap (first_found every []) (sym (range_append (checkpoint case every) 1 n k (n + 1) (omega arith)))
+    ∙ first_found-append every [] (checkpoints case every n) (map (checkpoint case every) (range_with_len (n + 1) k))
+    ∙ ap (λ o. option_or o (first_found every (checkpoints case every n) (map (checkpoint case every) (range_with_len (n + 1) k)))) h

@@ -11,3 +11,4 @@ pub mod Firsts
 pub mod Stillness
 pub mod Findings
 pub mod Seeing
+pub mod Forever

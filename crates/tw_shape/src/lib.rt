@@ -2,6 +2,7 @@
 #![tactic(auto)]
 
 mod builder;
+pub mod laws;
 mod shape;
 mod verdict;
 mod watch;
