@@ -1,19 +1,18 @@
 -- Two states of a router that differ in what they count do the same with an update, later and with other numbers.
-use Rattle.std.proofs.Common.{◌≡◌, ℕ, suc, zero, ◌+◌, ◌-◌, ◌<◌, ◌≤◌, ◌==◌, true, false, List, [], ◌∷◌, length, map, refl, ap, sym, ◌∙◌, subst, inl, inr, arith, nat_lt}
-use Rattle.std.specs.List.{enumerate_from, zip}
+use Rattle.std.proofs.Common.{◌≡◌, ℕ, ◌+◌, ◌==◌, true, List, [], ◌∷◌, length, map, refl, ap, inl, inr, arith}
+use Rattle.std.specs.List.{enumerate_from}
 use Rattle.std.proofs.lemmas.Bool.{cases_Bool}
-use Rattle.std.specs.Ordering.{is_lt, nat_cmp}
+use Rattle.std.specs.Ordering.{nat_cmp}
 use Rattle.tw_event.specs.declared.event.Body.{Body}
 use Rattle.tw_event.specs.declared.event.Body.TheVariants.{Start, Fail, Restore, Swap, Update}
 use Rattle.tw_event.specs.declared.event.Event.{Event}
 use Rattle.tw_event.specs.declared.event.PathNo.{PathNo}
-use Rattle.tw_event.specs.Order.{event_before, event_cmp}
 use Rattle.tw_model.specs.declared.net.Hop.{Hop}
 use Rattle.tw_model.specs.declared.state.Counters.{Counters}
 use Rattle.tw_model.specs.declared.state.Row.{Row}
 use Rattle.tw_model.specs.Net.{Net}
 use Rattle.tw_model.specs.State.{State, best, slot}
-use Rattle.tw_model.specs.Effect.{Reaction, acts, accepts, effect, settle, update_to, updates, ups, with_heard, without_sends, with_dropped}
+use Rattle.tw_model.specs.Effect.{Reaction, acts, accepts, effect, settle, update_to, ups, with_heard, without_sends}
 use Rattle.tw_shape.specs.Shape.{is_update}
 use Rattle.tw_shape.proofs.Shift.{Each}
 
@@ -70,7 +69,7 @@ module _ (net : Net) (p : ℕ) (d : ℕ → ℕ) where
   react_acts s u e (Update q n) g a =
       rw a.same (elim (cases_Bool (accepts s (slot net e.dst e.src) n)) [
         | inl b ↦ rw b (react_settle e.dst e.time (with_heard s (slot net e.dst e.src) q) (record (with_heard s (slot net e.dst e.src) q) { counters = a.counters })
-          (record { counters = a.counters; same = refl; sent = a.sent }))
+            (record { counters = a.counters; same = refl; sent = a.sent }))
         | inr b ↦ rw b (record {
           state = record { counters = record a.counters { dropped = a.counters.dropped + 1 }; same = refl; sent = a.sent };
           sends = refl;

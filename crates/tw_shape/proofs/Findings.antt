@@ -1,9 +1,9 @@
 -- What is found is the first checkpoint whose shape came before, and nothing is found where there is none.
-use Rattle.std.proofs.Common.{◌≡◌, ℕ, suc, zero, ◌+◌, ◌-◌, ◌*◌, ◌<◌, ◌≤◌, Bool, true, false, ◌&&◌, List, [], ◌∷◌, ◌++◌, map, Option, Some, None, refl, ap, sym, ◌∙◌, subst, ◌⊎◌, inl, inr, arith, nat_le, append-nil, append_assoc}
+use Rattle.std.proofs.Common.{◌≡◌, ℕ, suc, zero, ◌+◌, ◌-◌, ◌*◌, ◌<◌, ◌≤◌, Bool, true, false, List, [], ◌∷◌, ◌++◌, map, Option, Some, None, refl, ap, sym, ◌∙◌, subst, inl, inr, arith, nat_le, append-nil, append_assoc}
 use Rattle.std.specs.List.{find, range_with_len}
 use Rattle.std.specs.Option.{option_map, option_or}
 use Rattle.std.proofs.Math.Nat.{add-mul, le_of_mul-le-mul_right, mul-le-mul_right}
-use Rattle.std.proofs.lemmas.Bool.{and_from, and_parts, both_ways, cases_Bool, cases_eq, cases_lt, leb-true, le-leb}
+use Rattle.std.proofs.lemmas.Bool.{and_from, and_parts, cases_Bool, cases_eq, cases_lt, leb-true, le-leb}
 use Rattle.tw_model.specs.Case.{Case}
 use Rattle.tw_sim.proofs.Members.{In, in_find, in_map, in_mapped, in_range, range_has}
 use Rattle.tw_shape.specs.declared.verdict.Finding.{Finding}
@@ -20,9 +20,9 @@ first_found-append every before [] ys = ap (λ l. first_found every l ys) (sym (
 first_found-append every before (x ∷ xs) ys =
     ap (option_or (found_at every before x)) (first_found-append every (before ++ x ∷ []) xs ys ∙ ap (λ l. option_or (first_found every (before ++ x ∷ []) xs) (first_found every l ys)) (append_assoc before (x ∷ []) xs))
     ∙ sym (option_or_assoc (found_at every before x) (first_found every (before ++ x ∷ []) xs) (first_found every (before ++ x ∷ xs) ys)) where
-  option_or_assoc : (a b c : Option Finding) → option_or (option_or a b) c ≡ option_or a (option_or b c)
-  option_or_assoc None b c = refl
-  option_or_assoc (Some f) b c = refl
+      option_or_assoc : (a b c : Option Finding) → option_or (option_or a b) c ≡ option_or a (option_or b c)
+      option_or_assoc None b c = refl
+      option_or_assoc (Some f) b c = refl
 
 pub range_append : {X : Type 0} (f : ℕ → X) (a n k b : ℕ) → b ≡ a + n → map f (range_with_len a n) ++ map f (range_with_len b k) ≡ map f (range_with_len a (n + k))
 range_append f a zero k b is =
@@ -70,14 +70,18 @@ module _ (case : Case) (every : ℕ) (some : 0 < every) where
         let again : is_again every (nth j) (nth place.0) ≡ true = ap (is_again every (nth j)) (sym place.1) ∙ there.0 in
         let parts = and_parts (nat_le (j * every) (place.0 * every + 64 * every)) (same_shape (nth place.0).shape (nth j).shape) again in
         let near : j * every ≤ (place.0 + 64) * every = (let n = leb-true (j * every) (place.0 * every + 64 * every) parts.0 in omega arith) in
-        let is : f ≡ since (nth j) (nth place.0) = (let l : since (nth j) a ≡ f = cc in sym l ∙ ap (since (nth j)) place.1) in
-        (place.0, record {
-          some = number.0;
-          later = omega arith;
-          near = le_of_mul-le-mul_right near some;
-          can = c;
-          same = (shape_decides (nth place.0).shape (nth j).shape).0 parts.1;
-        }, is)
+        let is : f ≡ since (nth j) (nth place.0) = (let l : since (nth j) a ≡ f = cc in sym l ∙ ap (since (nth j)) place.1) in (
+          place.0,
+          record {
+            some = number.0;
+            later = omega arith;
+            near = le_of_mul-le-mul_right near some;
+            can = c;
+            same = (shape_decides (nth place.0).shape (nth j).shape).0 parts.1;
+          },
+          is,
+        )
+
     can : (b : Bool) → can_repeat (nth j).shape ≡ b → (i : ℕ) × ComesAgain case every i j × (f ≡ since (nth j) (nth i))
     can false e = let none : found j ≡ None = rw e refl in cc
     can true e = at e (find (is_again every (nth j)) (map nth (range_with_len 1 (j - 1)))) refl (let k : found j ≡ option_map (since (nth j)) (find (is_again every (nth j)) (map nth (range_with_len 1 (j - 1)))) = rw e refl in sym k ∙ h)
@@ -88,8 +92,10 @@ module _ (case : Case) (every : ℕ) (some : 0 < every) where
     test =
         let near : j * every ≤ i * every + 64 * every = (let n = mul-le-mul_right every again.near in omega arith) in
         and_from (nat_le (j * every) (i * every + 64 * every)) (same_shape (nth i).shape (nth j).shape) (le-leb (j * every) (i * every + 64 * every) near) ((shape_decides (nth i).shape (nth j).shape).1 again.same)
+
     there : In (nth i) (map nth (range_with_len 1 (j - 1)))
     there = in_mapped nth i (range_with_len 1 (j - 1)) (let a = again.some in let b = again.later in range_has i 1 (j - 1) (omega arith) (omega arith))
+
     at : (o : Option Checkpoint) → find (is_again every (nth j)) (map nth (range_with_len 1 (j - 1))) ≡ o → ⊥
     at None e = passes (is_again every (nth j)) (nth i) (map nth (range_with_len 1 (j - 1))) test there e
     at (Some a) e = let k : found j ≡ Some (since (nth j) a) = rw (again.can, e) refl in cc

@@ -1,7 +1,7 @@
 -- What is found first at the checkpoints of a gap: none of them shows the shape of another, so those before the gap decide, and
 -- past the window's length none is near.
-use Rattle.std.proofs.Common.{◌≡◌, ℕ, suc, zero, ◌+◌, ◌-◌, ◌*◌, ◌<◌, ◌≤◌, ◌==◌, Bool, true, false, ◌&&◌, List, [], ◌∷◌, ◌++◌, length, map, Option, Some, None, refl, ap, sym, ◌∙◌, subst, inl, inr, arith, nat_le, append_assoc, append-nil, min}
-use Rattle.std.specs.List.{All, find, flat_map, range_with_len}
+use Rattle.std.proofs.Common.{◌≡◌, ℕ, suc, zero, ◌+◌, ◌-◌, ◌*◌, ◌<◌, ◌≤◌, true, false, List, [], ◌∷◌, ◌++◌, map, Option, Some, None, refl, ap, sym, ◌∙◌, subst, inl, inr, arith, nat_le, append_assoc, append-nil, min}
+use Rattle.std.specs.List.{All, find, range_with_len}
 use Rattle.std.specs.Option.{option_map, option_or}
 use Rattle.std.proofs.Math.Nat.{mul-le-mul_right}
 use Rattle.std.proofs.lemmas.Bool.{and_parts, both_ways, cases_eq, cases_lt, false_from_ne_true, leb-true}
@@ -11,9 +11,8 @@ use Rattle.tw_sim.proofs.Members.{In, in_find, in_from_all}
 use Rattle.tw_shape.specs.declared.verdict.Finding.{Finding}
 use Rattle.tw_shape.specs.declared.watch.Gap.{Gap}
 use Rattle.tw_shape.specs.Shape.{IsStill, Shape, can_repeat, later, sooner}
-use Rattle.tw_shape.specs.Same.{same_shape}
 use Rattle.tw_shape.specs.Verdict.{Checkpoint, first_found, found_at, is_again, since}
-use Rattle.tw_shape.specs.Watch.{IsGap, Watch, after_first, gap_checkpoints, shown}
+use Rattle.tw_shape.specs.Watch.{IsGap, after_first, gap_checkpoints}
 use Rattle.tw_shape.proofs.Looking.{can_repeat-later, find_none, no_repeat}
 use Rattle.tw_shape.proofs.Sameness.{shape_decides}
 use Rattle.tw_shape.proofs.Searching.{time_first}
@@ -113,11 +112,11 @@ module _ (every : ℕ) (some : 0 < every) (w : List Checkpoint) (gap : Gap) (is 
     find_at k (suc n) j t le low up none found =
         elim (cases_eq k j) [
           | inl is_k ↦ first_step k n ∙ ap (λ o. option_or o (first_found every (w ++ own (k + 1)) (map nth (range_with_len (k + 1) n))))
-            (found_nth k (omega arith) ∙ subst (λ z. option_map (finding_from (nth k)) (time_first (is_again every (nth k)) w) ≡ Some (finding_from (nth z) t)) is_k
+              (found_nth k (omega arith) ∙ subst (λ z. option_map (finding_from (nth k)) (time_first (is_again every (nth k)) w) ≡ Some (finding_from (nth z) t)) is_k
               (ap (option_map (finding_from (nth k))) (subst (λ z. time_first (is_again every (nth z)) w ≡ Some t) (sym is_k) found)))
           | inr not_k ↦ first_step k n
-            ∙ ap (λ o. option_or o (first_found every (w ++ own (k + 1)) (map nth (range_with_len (k + 1) n)))) (found_nth k (omega arith) ∙ ap (option_map (finding_from (nth k))) (none k (omega arith) (omega arith)))
-            ∙ find_at (k + 1) n j t (omega arith) (omega arith) (omega arith) (λ i a b. none i (omega arith) (omega arith)) found
+              ∙ ap (λ o. option_or o (first_found every (w ++ own (k + 1)) (map nth (range_with_len (k + 1) n)))) (found_nth k (omega arith) ∙ ap (option_map (finding_from (nth k))) (none k (omega arith) (omega arith)))
+              ∙ find_at (k + 1) n j t (omega arith) (omega arith) (omega arith) (λ i a b. none i (omega arith) (omega arith)) found
         ]
 
     module _ (before : All (λ c. c.time < gap.time) w) where

@@ -1,13 +1,12 @@
 -- The checkpoint of a gap that shows a given shape, by when the next event is handled.
-use Rattle.std.proofs.Common.{◌≡◌, ℕ, suc, zero, ◌+◌, ◌-◌, ◌*◌, ◌/◌, ◌%◌, ◌<◌, ◌≤◌, ◌==◌, Bool, true, false, cond, ◌&&◌, not, List, [], ◌∷◌, length, map, Option, Some, None, refl, ap, sym, ◌∙◌, subst, inl, inr, arith, nat_le}
-use Rattle.std.specs.List.{All, find, list_all, range_with_len}
+use Rattle.std.proofs.Common.{◌≡◌, ℕ, suc, zero, ◌+◌, ◌-◌, ◌*◌, ◌/◌, ◌%◌, ◌<◌, ◌≤◌, ◌==◌, Bool, true, false, cond, ◌&&◌, not, [], length, map, Option, Some, None, refl, ap, sym, ◌∙◌, subst, inl, inr, arith, nat_le}
+use Rattle.std.specs.List.{find, list_all, range_with_len}
 use Rattle.std.specs.Option.{option_map}
 use Rattle.std.proofs.Math.Nat.{le_of_mul-le-mul_right, mul-div_cancel, mul-le-mul_right, mul-mod_left}
 use Rattle.std.proofs.lemmas.Bool.{and_parts, cases_Bool, cases_eq, false_from_ne_true, both_ways}
 use Rattle.std.proofs.lemmas.List.{length-map}
 use Rattle.std.proofs.lemmas.List.Folds.{list_all-map}
-use Rattle.tw_event.specs.declared.event.Event.{Event}
-use Rattle.tw_sim.proofs.Members.{In, all_from_in, in_from_all, in_map, in_mapped}
+use Rattle.tw_sim.proofs.Members.{all_from_in, in_from_all, in_map, in_mapped}
 use Rattle.tw_shape.specs.declared.watch.Gap.{Gap}
 use Rattle.tw_shape.specs.Shape.{IsStill, Shape, can_repeat, is_update, later, sooner}
 use Rattle.tw_shape.specs.Same.{same_shape}
@@ -73,8 +72,8 @@ same_due s w t u d e a b tl ul h =
     let right : IsStill (d - t) (later t s) = still_later t (d - t) s (subst (λ k. IsStill k s) (omega arith) a.still) in
     let two : u + (d - t) ≤ e = b.longest (u + (d - t)) (still_back u (d - t) w (less u e w ul b.still) (subst (IsStill (d - t)) h right)) in
     omega arith where
-  less : (x y : ℕ) (z : Shape) → x ≤ y → IsStill y z → IsStill x z
-  less x y z le still = λ k v l. let h = still k v l in omega arith
+      less : (x y : ℕ) (z : Shape) → x ≤ y → IsStill y z → IsStill x z
+      less x y z le still = λ k v l. let h = still k v l in omega arith
 
 -- whether a shape can repeat does not change while nothing is handled
 pub can_repeat-later : (t : ℕ) (s : Shape) → can_repeat (later t s) ≡ can_repeat s
@@ -168,6 +167,6 @@ module _ (every : ℕ) (some : 0 < every) (old new : Gap) (d : ℕ) (a : IsGap e
         let all : found ≡ cond (near && same) (Some (after_first old since)) None = one ∙ ap (λ b. cond b (Some (after_first old (k * every))) None) test
         ∙ ap (λ t. cond (near && same) (Some (after_first old t)) None) times in
         sym (ap (option_map (λ c. c.time)) all ∙ out (near && same)) where
-      out : (b : Bool) → option_map (λ c. c.time) (cond b (Some (after_first old since)) None) ≡ cond b (Some (old.time + since)) None
-      out true = refl
-      out false = refl
+          out : (b : Bool) → option_map (λ c. c.time) (cond b (Some (after_first old since)) None) ≡ cond b (Some (old.time + since)) None
+          out true = refl
+          out false = refl

@@ -1,5 +1,5 @@
 -- Shapes as they are stored: what is stored is the same exactly where the shapes are.
-use Rattle.std.proofs.Common.{◌≡◌, ℕ, suc, zero, ◌+◌, ◌-◌, ◌≤◌, ◌==◌, Bool, true, false, ◌&&◌, not, List, [], ◌∷◌, ◌++◌, drop, length, map, take, min, refl, ap, sym, ◌∙◌, subst, ◌⊎◌, inl, inr, arith, nat_eq}
+use Rattle.std.proofs.Common.{◌≡◌, ℕ, suc, zero, ◌+◌, ◌-◌, ◌≤◌, ◌==◌, Bool, false, ◌&&◌, not, List, [], ◌∷◌, ◌++◌, drop, length, map, take, min, refl, ap, sym, ◌∙◌, subst, ◌⊎◌, inl, inr, arith}
 use lib.Pointwise.{pointwise, pointwise_decides}
 use Rattle.std.specs.Bool.{Decides, one_answer}
 use Rattle.std.specs.Cmp.{unsigned_Decides}
@@ -95,8 +95,8 @@ routers_back (s ∷ ss) (t ∷ ts) rs qs os ps c d h =
     let span = span_same s t (ap (λ r. r.rib) head) rows.0 order.0 in
     let spans = more.0 in
     (cc, rows.1, order.1) where
-  span_same : (s t : Span) → s.rib ≡ t.rib → s.rows ≡ t.rows → s.order ≡ t.order → s ≡ t
-  span_same s t a b e = λ i. record { rib = a i; rows = b i; order = e i }
+      span_same : (s t : Span) → s.rib ≡ t.rib → s.rows ≡ t.rows → s.order ≡ t.order → s ≡ t
+      span_same s t a b e = λ i. record { rib = a i; rows = b i; order = e i }
 
 -- ---- the pending events
 
@@ -126,11 +126,13 @@ least_below : (a : ℕ) (xs : List Event) → (least_from a xs ≤ a) × ((e : E
 least_below a [] = (omega arith, (λ e h. absurd h))
 least_below a (x ∷ xs) =
     let r = least_below (min a x.time) xs in
-    let first : least_from (min a x.time) xs ≤ min a x.time = r.0 in
-    (omega arith, (λ e h. elim h [
-      | inl is ↦ subst (λ z. least_from (min a x.time) xs ≤ z.time) (sym is) (omega arith)
-      | inr k ↦ r.1 e k
-    ]))
+    let first : least_from (min a x.time) xs ≤ min a x.time = r.0 in (
+      omega arith,
+      (λ e h. elim h [
+        | inl is ↦ subst (λ z. least_from (min a x.time) xs ≤ z.time) (sym is) (omega arith)
+        | inr k ↦ r.1 e k
+      ]),
+    )
 
 least_from-delayed : (d a : ℕ) (xs : List Event) → least_from (a + d) (map (delayed d) xs) ≡ least_from a xs + d
 least_from-delayed d a [] = refl
@@ -151,8 +153,8 @@ undelayed d (x ∷ xs) (y ∷ ys) h =
     let first = same x y (omega arith) (ap (λ e. e.dst) head) (ap (λ e. e.src) head) (ap (λ e. e.seq) head) (ap (λ e. e.body) head) in
     let others = undelayed d xs ys (let k : map (delayed d) xs ≡ map (delayed d) ys = cc in k) in
     cc where
-  same : (a b : Event) → a.time ≡ b.time → a.dst ≡ b.dst → a.src ≡ b.src → a.seq ≡ b.seq → a.body ≡ b.body → a ≡ b
-  same a b t r s n o = λ i. record { time = t i; dst = r i; src = s i; seq = n i; body = o i }
+      same : (a b : Event) → a.time ≡ b.time → a.dst ≡ b.dst → a.src ≡ b.src → a.seq ≡ b.seq → a.body ≡ b.body → a ≡ b
+      same a b t r s n o = λ i. record { time = t i; dst = r i; src = s i; seq = n i; body = o i }
 
 sooner_delayed : (t d : ℕ) (xs : List Event) → t ≤ d → map (sooner t) (map (delayed d) xs) ≡ map (delayed (d - t)) xs
 sooner_delayed t d [] le = refl
@@ -288,9 +290,12 @@ covers-push (t ∷ ss) rows rs order os s a b c =
     let n = length-append rows rs in
     let m = length-append order os in
     let first = c.0 in
-    let second = c.1 in
-    (omega arith, omega arith, subst (λ l. Covers (ss ++ s ∷ []) l (drop t.order (order ++ os))) (sym r.1)
-    (subst (λ l. Covers (ss ++ s ∷ []) (drop t.rows rows ++ rs) l) (sym o.1) (covers-push ss (drop t.rows rows) rs (drop t.order order) os s a b c.2)))
+    let second = c.1 in (
+      omega arith,
+      omega arith,
+      subst (λ l. Covers (ss ++ s ∷ []) l (drop t.order (order ++ os))) (sym r.1)
+          (subst (λ l. Covers (ss ++ s ∷ []) (drop t.rows rows ++ rs) l) (sym o.1) (covers-push ss (drop t.rows rows) rs (drop t.order order) os s a b c.2)),
+    )
 
 pub routers-push : (ss : List Span) (rows rs : List Row) (order os : List PathNo) (s : Span) → s.rows ≡ length rs → s.order ≡ length os → Covers ss rows order
     → routers_of (ss ++ s ∷ []) (rows ++ rs) (order ++ os) ≡ routers_of ss rows order ++ record { rib = s.rib; rows = rs; order = os } ∷ []
@@ -343,9 +348,9 @@ are_counted xs ys due d y =
       least = ap least_time y ∙ least-sooner due xs ∙ (let k : least_time xs - due ≡ 0 = omega arith in k);
       none = λ e. none xs d (sym y ∙ e);
     } where
-  none : (zs : List Event) → due ≡ least_time zs → map (sooner due) zs ≡ [] → due ≡ 0
-  none [] e h = e
-  none (z ∷ zs) e h = cc
+      none : (zs : List Event) → due ≡ least_time zs → map (sooner due) zs ≡ [] → due ≡ 0
+      none [] e h = e
+      none (z ∷ zs) e h = cc
 
 pub undelayed_none : (xs : List Event) → map (delayed 0) xs ≡ xs
 undelayed_none [] = refl

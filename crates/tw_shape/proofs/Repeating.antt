@@ -1,5 +1,5 @@
 -- Where a shape comes again with updates pending alone, it comes again for ever, and something is always pending.
-use Rattle.std.proofs.Common.{◌≡◌, ℕ, suc, zero, ◌+◌, ◌-◌, ◌*◌, ◌<◌, ◌≤◌, ◌==◌, Bool, true, false, ◌&&◌, not, List, [], ◌∷◌, length, map, refl, ap, sym, ◌∙◌, subst, inl, inr, arith}
+use Rattle.std.proofs.Common.{◌≡◌, ℕ, suc, zero, ◌+◌, ◌-◌, ◌*◌, ◌<◌, ◌≤◌, ◌==◌, true, false, ◌&&◌, not, List, [], ◌∷◌, length, map, refl, ap, sym, ◌∙◌, subst, inl, inr, arith}
 use Rattle.std.specs.List.{list_all, range_with_len}
 use Rattle.std.specs.Ordering.{is_lt, nat_cmp, ordering_then}
 use Rattle.std.specs.declared.cmp.Ordering.{Ordering}
@@ -10,7 +10,7 @@ use Rattle.std.proofs.lemmas.Map.Lookups.{exact_unsigned}
 use Rattle.tw_event.specs.declared.event.Body.{Body}
 use Rattle.tw_event.specs.declared.event.Event.{Event}
 use Rattle.tw_event.specs.declared.event.PathNo.{PathNo}
-use Rattle.tw_event.specs.Order.{body_cmp, class_of, event_before, event_cmp, place_of}
+use Rattle.tw_event.specs.Order.{body_cmp, class_of, event_cmp, place_of}
 use Rattle.tw_model.specs.declared.state.Counters.{Counters}
 use Rattle.tw_model.specs.declared.state.Row.{Row}
 use Rattle.tw_model.specs.Case.{Case, IsCase, simulation}
@@ -154,9 +154,9 @@ module _ (case : Case) (is : IsCase case) where
         let more : (r : ℕ) → sent_at (t + p) r ≡ sent_at t r + d r = λ r. ap (λ s. s.counters.sent) (w.states r).same ∙ (w.states r).sent in
         let pending : seen (t + p) (rest m (t + p)) ≡ seen t (rest m t) = ap (seen (t + p)) w.rest ∙ seen_moved t more (rest m t) w.good in
         shape_of routers pending where
-      shape_of : map (λ r. bare (at m (t + p) r)) (range_with_len 0 case.net.nodes) ≡ map (λ r. bare (at m t r)) (range_with_len 0 case.net.nodes)
-          → seen (t + p) (rest m (t + p)) ≡ seen t (rest m t) → shape case (t + p) ≡ shape case t
-      shape_of r q = λ i. record { routers = r i; pending = q i }
+          shape_of : map (λ r. bare (at m (t + p) r)) (range_with_len 0 case.net.nodes) ≡ map (λ r. bare (at m t r)) (range_with_len 0 case.net.nodes)
+              → seen (t + p) (rest m (t + p)) ≡ seen t (rest m t) → shape case (t + p) ≡ shape case t
+          shape_of r q = λ i. record { routers = r i; pending = q i }
 
   -- where the shape at a comes again p ticks later, the runs to these times differ by a shift
   module _ (a p : ℕ) (can : can_repeat (shape case a) ≡ true) (again : shape case (a + p) ≡ shape case a) where

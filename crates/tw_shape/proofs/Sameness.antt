@@ -1,5 +1,5 @@
 -- The tests of sameness decide equality.
-use Rattle.std.proofs.Common.{◌≡◌, ℕ, ◌==◌, Bool, true, false, ◌&&◌, List, refl, ap, sym, ◌∙◌, subst}
+use Rattle.std.proofs.Common.{◌≡◌, ℕ, ◌==◌, Bool, true, ◌&&◌, ap, subst}
 use lib.Pointwise.{pointwise, pointwise_decides}
 use Rattle.std.specs.Bool.{Decides, beq}
 use Rattle.std.specs.Cmp.{booleans_Decides, unsigned_Decides}
@@ -13,9 +13,10 @@ use Rattle.tw_shape.specs.Shape.{RouterShape, Shape}
 use Rattle.tw_shape.specs.Same.{same_path, same_row, same_router, same_shape}
 
 pub both_decide : {P Q R : Type 0} (a b : Bool) → Decides a P → Decides b Q → (P → Q → R) → (R → P × Q) → Decides (a && b) R
-both_decide a b p q make parts =
-    ((λ h. let k = and_parts a b h in make (p.0 k.0) (q.0 k.1)),
-    (λ r. and_from a b (p.1 (parts r).0) (q.1 (parts r).1)))
+both_decide a b p q make parts = (
+  (λ h. let k = and_parts a b h in make (p.0 k.0) (q.0 k.1)),
+  (λ r. and_from a b (p.1 (parts r).0) (q.1 (parts r).1)),
+)
 
 path_of : ℕ → PathNo
 path_of k = record { 0 = k }

@@ -54,9 +54,9 @@ module _ (ticks : ℕ) (gap : Gap) (w : Watch) (x : Gap) (all left : List Gap) (
           same = ap (λ o. option_or o (time_first test (flat_map (gap_checkpoints w.every) left))) (sym (is_none r none) ∙ own_first) ∙ both;
           timely = all_from_in (IsTimely w.every) left (λ y k. in_from_all (IsTimely w.every) (x ∷ left) now.timely y (inr k));
         } where
-      is_none : (o : Option ℕ) → is_some o ≡ false → o ≡ None
-      is_none None h = refl
-      is_none (Some t) h = cc
+          is_none : (o : Option ℕ) → is_some o ≡ false → o ≡ None
+          is_none None h = refl
+          is_none (Some t) h = cc
 
     -- it has one
     pub left_some : is_some r ≡ true → r ≡ time_first test (shown w)

@@ -1,5 +1,5 @@
 -- A watch that has seen checkpoints 1 to n of a case has found what is found first there.
-use Rattle.std.proofs.Common.{◌≡◌, ℕ, suc, zero, ◌+◌, ◌-◌, ◌*◌, ◌<◌, ◌≤◌, Bool, true, false, ◌&&◌, List, [], ◌∷◌, ◌++◌, drop, length, map, Option, Some, None, refl, ap, sym, ◌∙◌, subst, ◌⊎◌, inl, inr, arith, nat_le, append-nil, append_assoc, length-drop, if◌then◌else◌}
+use Rattle.std.proofs.Common.{◌≡◌, ℕ, suc, zero, ◌+◌, ◌-◌, ◌*◌, ◌<◌, ◌≤◌, false, List, [], ◌∷◌, ◌++◌, drop, length, map, None, refl, ap, sym, ◌∙◌, subst, ◌⊎◌, inl, inr, arith, nat_le, append-nil, append_assoc, length-drop, if◌then◌else◌}
 use Rattle.std.specs.List.{All, find, flat_map, range_with_len}
 use Rattle.std.specs.Option.{option_map, option_or}
 use Rattle.std.proofs.Math.Nat.{add-mul, mul-le-mul_right}
@@ -9,13 +9,11 @@ use Rattle.std.proofs.lemmas.List.Folds.{find-append}
 use Rattle.circular_buffer.specs.Buffer.{keep_last}
 use Rattle.tw_model.specs.Case.{Case, IsCase}
 use Rattle.tw_sim.proofs.Members.{In, all_from_in, in_append, in_from_all, in_map, in_range}
-use Rattle.tw_shape.specs.declared.verdict.Finding.{Finding}
 use Rattle.tw_shape.specs.declared.watch.Gap.{Gap}
-use Rattle.tw_shape.specs.Shape.{IsStill, can_repeat, later, shape}
-use Rattle.tw_shape.specs.Verdict.{Checkpoint, checkpoint, checkpoints, finding, first_found, found_at, is_again, since}
+use Rattle.tw_shape.specs.Shape.{IsStill, can_repeat, shape}
+use Rattle.tw_shape.specs.Verdict.{Checkpoint, checkpoint, finding, first_found, found_at, is_again, since}
 use Rattle.tw_shape.specs.Watch.{HasSeen, IsGap, Watch, after_first, case_gap, fresh, gap, gap_checkpoints, nothing, shown, watched}
 use Rattle.tw_shape.proofs.Findings.{first_found-append, range_append}
-use Rattle.tw_shape.proofs.Looking.{find_none}
 use Rattle.tw_shape.proofs.Searching.{in_drop}
 use Rattle.tw_shape.proofs.Stillness.{still_shape}
 
@@ -66,9 +64,9 @@ module _ (every : ℕ) where
   found_drop older before b old =
       ap (λ o. if can_repeat b.shape then option_map (since b) o else None)
       (find-append (is_again every b) older before ∙ ap (λ o. option_or o (find (is_again every b) before)) (none older old)) where
-    none : (cs : List Checkpoint) → ((a : Checkpoint) → In a cs → is_again every b a ≡ false) → find (is_again every b) cs ≡ None
-    none [] h = refl
-    none (c ∷ cs) h = rw (h c (inl refl)) (none cs (λ a k. h a (inr k)))
+        none : (cs : List Checkpoint) → ((a : Checkpoint) → In a cs → is_again every b a ≡ false) → find (is_again every b) cs ≡ None
+        none [] h = refl
+        none (c ∷ cs) h = rw (h c (inl refl)) (none cs (λ a k. h a (inr k)))
 
   first_drop : (older before cs : List Checkpoint) → ((b : Checkpoint) → In b cs → (a : Checkpoint) → In a older → is_again every b a ≡ false)
       → first_found every (older ++ before) cs ≡ first_found every before cs

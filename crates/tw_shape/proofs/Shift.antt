@@ -1,5 +1,5 @@
 -- A run and the same run later: where two worlds differ by a map on events that keeps the order, they go on to differ by it alone.
-use Rattle.std.proofs.Common.{◌≡◌, ℕ, suc, zero, ◌+◌, ◌<◌, ◌≤◌, ◌==◌, List, [], ◌∷◌, map, refl, ap, sym, ◌∙◌, subst, inl, inr, arith}
+use Rattle.std.proofs.Common.{◌≡◌, ℕ, suc, zero, ◌+◌, ◌<◌, ◌==◌, List, [], ◌∷◌, map, refl, ap, sym, ◌∙◌, subst, inl, inr, arith}
 use Rattle.std.proofs.lemmas.Bool.{cases_Bool, eqb-true}
 use Rattle.tw_sim.specs.Simulation.{Simulation, IsLawful, only, state}
 use Rattle.tw_sim.specs.Seq.{World, begin, finished, insert, insert_all, seq, turn, turns, weight}
@@ -65,9 +65,9 @@ module _ {S E : Type 0} (m : Simulation S E) where
     states_after x log later g all r =
         rw (is.dst x) (elim (cases_Bool (m.dst x == r)) [
           | inl b ↦ rw b (
-            let here : m.dst x ≡ r = eqb-true (m.dst x) r b in
-            subst (λ q. Like q (m.after (state m q (only m q log)) x) (m.after (state m q (only m q later)) (shift x))) here
-            (is.after (state m (m.dst x) (only m (m.dst x) log)) (state m (m.dst x) (only m (m.dst x) later)) x g (all (m.dst x))))
+              let here : m.dst x ≡ r = eqb-true (m.dst x) r b in
+              subst (λ q. Like q (m.after (state m q (only m q log)) x) (m.after (state m q (only m q later)) (shift x))) here
+              (is.after (state m (m.dst x) (only m (m.dst x) log)) (state m (m.dst x) (only m (m.dst x) later)) x g (all (m.dst x))))
           | inr b ↦ rw b (all r)
         ])
 

@@ -1,6 +1,6 @@
 -- Where nothing is handled for a while, the shape is the same one later; and what a shape is gathered from.
-use Rattle.std.proofs.Common.{◌≡◌, ℕ, suc, zero, ◌+◌, ◌-◌, ◌<◌, ◌≤◌, List, [], ◌∷◌, map, get_or, slice_index, refl, ap, sym, ◌∙◌, subst, inl, inr, arith, if◌then◌else◌}
-use Rattle.std.specs.List.{All, range_with_len}
+use Rattle.std.proofs.Common.{◌≡◌, ℕ, suc, zero, ◌+◌, ◌-◌, ◌<◌, ◌≤◌, List, [], ◌∷◌, map, get_or, slice_index, refl, ap, sym, ◌∙◌, inl, inr, arith}
+use Rattle.std.specs.List.{range_with_len}
 use Rattle.tw_event.specs.declared.event.Event.{Event}
 use Rattle.tw_model.specs.Case.{Case, IsCase, simulation}
 use Rattle.tw_model.specs.State.{State}
@@ -9,7 +9,7 @@ use Rattle.tw_sim.specs.Simulation.{Simulation, only, state}
 use Rattle.tw_sim.specs.Seq.{World, at, begin, rest, seq}
 use Rattle.tw_sim.proofs.Members.{In, in_from_all, in_mapped}
 use Rattle.tw_sim.proofs.Seq.{IsOver, finished_finished, finished_over}
-use Rattle.tw_shape.specs.Shape.{IsStill, Shape, bare, is_update, later, seen_from, shape, sooner}
+use Rattle.tw_shape.specs.Shape.{IsStill, Shape, bare, later, seen_from, shape, sooner}
 use Rattle.tw_shape.proofs.Waiting.{pending_late, pending_sender}
 
 module _ (case : Case) (is : IsCase case) where
@@ -71,6 +71,6 @@ module _ (case : Case) (is : IsCase case) where
       let routers = map_map bare (at m t) (range_with_len 0 case.net.nodes) in
       let pending = seen_same t (sent_at t) sent (rest m t) (λ e h. sym (get_map (λ s. s.counters.sent) (at m t) 0 case.net.nodes e.src (pending_sender case is t e h) ∙ ap (sent_at t) (let k : 0 + e.src ≡ e.src = omega arith in k))) in
       λ i. record { routers = routers i; pending = pending i } where
-    map_map : {X Y Z : Type 0} (f : Y → Z) (g : X → Y) (xs : List X) → map (λ x. f (g x)) xs ≡ map f (map g xs)
-    map_map f g [] = refl
-    map_map f g (x ∷ xs) = ap (λ l. f (g x) ∷ l) (map_map f g xs)
+        map_map : {X Y Z : Type 0} (f : Y → Z) (g : X → Y) (xs : List X) → map (λ x. f (g x)) xs ≡ map f (map g xs)
+        map_map f g [] = refl
+        map_map f g (x ∷ xs) = ap (λ l. f (g x) ∷ l) (map_map f g xs)

@@ -1,6 +1,6 @@
 -- What is pending in the run of a case: for routers and from routers of the case, not before its time, and numbered below what its
 -- sender has sent, which never falls.
-use Rattle.std.proofs.Common.{◌≡◌, ℕ, suc, zero, ◌+◌, ◌<◌, ◌≤◌, ◌==◌, Bool, true, false, cond, ◌&&◌, List, [], ◌∷◌, filter, refl, ap, sym, ◌∙◌, subst, inl, inr, arith, nat_lt}
+use Rattle.std.proofs.Common.{◌≡◌, ℕ, suc, zero, ◌+◌, ◌<◌, ◌≤◌, ◌==◌, Bool, true, false, cond, ◌&&◌, List, [], ◌∷◌, filter, refl, ap, sym, subst, inl, inr, arith, nat_lt}
 use Rattle.std.proofs.lemmas.Bool.{cases_Bool, and_parts, eqb-true, ltb-false, ltb-true}
 use Rattle.tw_event.specs.declared.event.Body.{Body}
 use Rattle.tw_event.specs.declared.event.Body.TheVariants.{Start, Fail, Restore, Swap, Update}
@@ -9,13 +9,12 @@ use Rattle.tw_event.specs.declared.event.PathNo.{PathNo}
 use Rattle.tw_event.proofs.Order.{same_is, same_self}
 use Rattle.tw_model.specs.Case.{Case, IsCase, opening_events, simulation}
 use Rattle.tw_model.specs.Effect.{body_suits}
-use Rattle.tw_model.specs.Net.{hops_of}
 use Rattle.tw_model.specs.State.{State, has_peer, hop, opening, slot}
 use Rattle.tw_model.proofs.Lawful.{lawful, numbered}
 use Rattle.tw_model.proofs.Nets.{hop_in_hops, hop_slot, neighbour}
 use Rattle.tw_model.proofs.Openings.{opening_no_update}
 use Rattle.tw_model.proofs.Within.{suits_within}
-use Rattle.tw_sim.specs.Simulation.{Simulation, IsNumbered, all_sent, only, sent, state, times}
+use Rattle.tw_sim.specs.Simulation.{Simulation, IsNumbered, only, state, times}
 use Rattle.tw_sim.specs.Seq.{World, at, begin, finished, log, rest, seq, turn, turns, weight}
 use Rattle.tw_sim.proofs.Closed.{rest_late, running_seq, sent_number}
 use Rattle.tw_sim.proofs.Members.{In, in_times, times_in}

@@ -1,5 +1,5 @@
 -- How a shape is stored: the rows and the orders of all routers one after the other, and pending times counted from the least (own).
-use Rattle.std.specs.Prelude.{ℕ, ◌≡◌, ◌≤◌, ◌+◌, List, [], ◌∷◌, ◌++◌, drop, length, map, min, take}
+use Rattle.std.specs.Prelude.{ℕ, ◌≡◌, ◌≤◌, ◌+◌, List, [], ◌∷◌, ◌++◌, drop, length, min, take}
 use Rattle.std.specs.Hash.{HashWrites, slice}
 use Rattle.std.specs.Hash.FoldHasher as folding
 use Rattle.std.specs.List.{fold}

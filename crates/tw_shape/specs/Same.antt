@@ -1,5 +1,5 @@
 -- Tests of whether shapes are the same (own).
-use Rattle.std.specs.Prelude.{ℕ, ◌==◌, Bool, ◌&&◌}
+use Rattle.std.specs.Prelude.{◌==◌, Bool, ◌&&◌}
 use lib.Pointwise.{pointwise}
 use Rattle.std.specs.Bool.{beq}
 use Rattle.std.specs.Cmp.{IsEquivalence, and_equiv, bool_eq_equiv, eq_by_cmp_equiv, nat_eq_equiv, on_equiv}
@@ -26,10 +26,11 @@ same_shape s t = pointwise same_router s.routers t.routers && pointwise event_sa
 router_equiv : IsEquivalence same_router
 router_equiv =
     and_equiv (on_equiv (λ r. r.rib) path_equiv) (and_equiv (on_equiv (λ r. r.rows) (lists_equiv row_equiv)) (on_equiv (λ r. r.order) (lists_equiv path_equiv))) where
-  path_equiv : IsEquivalence same_path
-  path_equiv = on_equiv (λ p. p.0) nat_eq_equiv
-  row_equiv : IsEquivalence same_row
-  row_equiv = and_equiv (on_equiv (λ r. r.heard) path_equiv) (and_equiv (on_equiv (λ r. r.up) bool_eq_equiv) (on_equiv (λ r. r.session) nat_eq_equiv))
+      path_equiv : IsEquivalence same_path
+      path_equiv = on_equiv (λ p. p.0) nat_eq_equiv
+
+      row_equiv : IsEquivalence same_row
+      row_equiv = and_equiv (on_equiv (λ r. r.heard) path_equiv) (and_equiv (on_equiv (λ r. r.up) bool_eq_equiv) (on_equiv (λ r. r.session) nat_eq_equiv))
 
 -- the law of the equality of shapes
 pub shape_equiv : IsEquivalence same_shape

@@ -1,5 +1,5 @@
 -- What the fields of a shape say, and what holds of them.
-use Rattle.std.specs.Prelude.{ℕ, ◌≡◌, List, [], map}
+use Rattle.std.specs.Prelude.{ℕ, ◌≡◌, [], map}
 use Rattle.std.specs.Hash.{HashWrites}
 use Rattle.tw_event.specs.declared.event.Event.{Event}
 use Rattle.tw_shape.specs.declared.shape.Parts.{Parts}

@@ -36,8 +36,9 @@ pub fn shape_between_events()
 pub fn shape_is_gathered()
     ensures { (case : Case) → IsCase case → (t : ℕ) → let states = map (at (simulation case) t) (range_with_len 0 case.net.nodes) in
         shape case t ≡ record {
-        routers = map bare states;
-        pending = map (λ e. seen_from t (slice_index (map (λ s. s.counters.sent) states) e.src) e) (rest (simulation case) t) } }
+          routers = map bare states;
+          pending = map (λ e. seen_from t (slice_index (map (λ s. s.counters.sent) states) e.src) e) (rest (simulation case) t);
+        } }
 {}
 
 /// What is found at checkpoints is the first of them whose shape came before, with events pending and

@@ -1,4 +1,4 @@
-use Rattle.std.proofs.Common.{◌≡◌, ℕ, List, map, slice_index, ap, sym, ◌∙◌}
+use Rattle.std.proofs.Common.{◌≡◌, List, map, slice_index, ap, ◌∙◌}
 use Rattle.std.specs.Vec.{with_items}
 use Rattle.tw_event.specs.declared.event.Event.{Event}
 use Rattle.tw_shape.specs.Shape.{Draft, RouterShape, Shape, seen_from}

@@ -1,4 +1,4 @@
-use Rattle.std.proofs.Common.{◌≡◌, ap, sym, ◌∙◌}
+use Rattle.std.proofs.Common.{sym, ◌∙◌}
 use Rattle.std.proofs.lemmas.Bool.{ne_eqb}
 use Rattle.tw_shape.proofs.Packing.{meets_alike, meets_apart, same_hash}
 use Rattle.tw_shape.proofs.shape.Shape.meets.Goals as goal

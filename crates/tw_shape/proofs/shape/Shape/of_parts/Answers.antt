@@ -1,4 +1,4 @@
-use Rattle.std.proofs.Common.{◌≡◌, ap, sym, ◌∙◌}
+use Rattle.std.proofs.Common.{ap, ◌∙◌}
 use Rattle.std.specs.Vec.{with_items}
 use Rattle.tw_shape.specs.Packed.{least_time, routers_of}
 use Rattle.tw_shape.specs.Shape.{sooner}

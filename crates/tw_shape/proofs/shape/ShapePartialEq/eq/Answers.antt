@@ -1,4 +1,4 @@
-use Rattle.std.proofs.Common.{◌≡◌, ap, ◌∙◌}
+use Rattle.std.proofs.Common.{ap, ◌∙◌}
 use Rattle.tw_shape.specs.Same.{same_shape}
 use Rattle.tw_shape.specs.Shape.{later}
 use Rattle.tw_shape.proofs.Packing.{later_none}

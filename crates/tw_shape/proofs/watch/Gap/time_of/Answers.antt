@@ -1,4 +1,4 @@
-use Rattle.std.proofs.Common.{◌≡◌, ◌+◌, ◌*◌, false, true, refl, ap, sym, ◌∙◌, arith}
+use Rattle.std.proofs.Common.{false, true, refl, ap, sym, ◌∙◌, arith}
 use Rattle.std.specs.Option.{option_map}
 use Rattle.std.proofs.lemmas.Bool.{le-leb, lt-leb}
 use Rattle.tw_shape.proofs.Looking.{found_empty, found_none, no_time_between, no_time_past, one_time}

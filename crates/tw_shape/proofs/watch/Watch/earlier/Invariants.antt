@@ -1,4 +1,3 @@
-use Rattle.std.proofs.Common.{◌≡◌}
 use Rattle.tw_shape.proofs.Searching.{IsLeft}
 use Rattle.tw_shape.proofs.watch.Watch.earlier.Given as goal
 
