@@ -3,7 +3,7 @@
 use crate::texts::DISAGREE;
 use std::alloc::{AllocError, Global};
 use tw_event::{Body, Event, PathNo};
-use tw_instance::{At, Case, Instance, Link, PathLine, Place, Rule, Scene};
+use tw_instance::{At, Case, Instance, Link, OrMemory, PathLine, Place, Rule, Scene};
 use tw_text::write_case;
 
 /// A link between two routers, with its delay.
@@ -34,16 +34,25 @@ fn links() -> [Link; 3] {
 }
 
 /// DISAGREE with these links and this scenario.
-fn built(alloc: Global, links: &[Link], scenes: &[Scene]) -> Result<Case, At> {
+fn built(alloc: Global, links: &[Link], scenes: &[Scene]) -> Result<Case, OrMemory<At>> {
     let links = Vec::from_slice(alloc, links)?;
-    let instance = Instance::build(alloc, 3, links, paths(alloc)?)?;
-    Case::build(alloc, instance, Vec::from_slice(alloc, scenes)?)
+    let scenes = Vec::from_slice(alloc, scenes)?;
+    let instance = Instance::build(alloc, 3, links, paths(alloc)?).map_err(OrMemory::Fault)?;
+    Case::build(alloc, instance, scenes).map_err(OrMemory::Fault)
 }
 
 /// The same, built once more where memory was refused.
-fn build(alloc: Global, links: &[Link], scenes: &[Scene]) -> Result<Case, At> {
+fn build(alloc: Global, links: &[Link], scenes: &[Scene]) -> Result<Case, OrMemory<At>> {
     match built(alloc, links, scenes) {
-        Err(At::Memory) => built(alloc, links, scenes),
+        Err(OrMemory::Memory) => built(alloc, links, scenes),
+        Err(
+            OrMemory::Fault(
+                At {
+                    fault: OrMemory::Memory,
+                    ..
+                },
+            ),
+        ) => built(alloc, links, scenes),
         answer => answer,
     }
 }
@@ -86,24 +95,35 @@ fn paths_are_found_by_their_nodes_and_by_what_they_extend(rt: HostRuntime) {
     };
     assert!(rt; slot == 0 && instance.delay(2, slot) == 5);
     assert!(rt; instance.extend(2, slot, direct) == Some(PathNo(5)));
+    assert!(rt; instance.extend(3, slot, direct) == None);
+    assert!(rt; instance.extend(2, 2, direct) == None);
+    assert!(rt; instance.extend(2, slot, PathNo(6)) == None);
     assert!(rt; instance.path(direct) == [0].as_slice());
 }
 
 /// Where and why the items are refused.
-fn refused(alloc: Global, links: &[Link], scenes: &[Scene]) -> Option<(Place, Rule)> {
+fn refused(alloc: Global, links: &[Link], scenes: &[Scene]) -> Option<At> {
     match build(alloc, links, scenes) {
-        Err(At::Fault { place, rule }) => Some((place, rule)),
+        Err(OrMemory::Fault(at)) => Some(at),
         _ => None,
     }
+}
+
+/// A rule that is broken at a place.
+fn broken(place: Place, rule: Rule) -> Option<At> {
+    Some(At {
+        place,
+        fault: OrMemory::Fault(rule),
+    })
 }
 
 #[test]
 fn the_first_bad_item_is_named(rt: HostRuntime) {
     let alloc = rt.alloc();
     let looped = [link(0, 1, 1), link(1, 1, 0)];
-    assert!(rt; refused(alloc, &looped, &[]) == Some((Place::Link(2), Rule::SelfLink)));
+    assert!(rt; refused(alloc, &looped, &[]) == broken(Place::Link(2), Rule::SelfLink));
     let two = [link(0, 1, 1), link(1, 2, 1)];
-    assert!(rt; refused(alloc, &two, &[]) == Some((Place::Path(1), Rule::PathNoLink)));
+    assert!(rt; refused(alloc, &two, &[]) == broken(Place::Path(1), Rule::PathNoLink));
     let failure = Scene::Fail {
         time: 4,
         first: 0,
@@ -116,5 +136,18 @@ fn the_first_bad_item_is_named(rt: HostRuntime) {
         second: 3,
     };
     let scenes = [failure, exchange];
-    assert!(rt; refused(alloc, &links(), &scenes) == Some((Place::Scene(2), Rule::NoSuchPlace)));
+    assert!(rt; refused(alloc, &links(), &scenes) == broken(Place::Scene(2), Rule::NoSuchPlace));
+}
+
+#[test]
+fn a_refusal_is_shown_with_its_place(rt: HostRuntime) {
+    let alloc = rt.alloc();
+    let at = At {
+        place: Place::Link(2),
+        fault: OrMemory::Fault(Rule::SelfLink),
+    };
+    let Ok(text) = format!(in alloc; "{at}").or_else(|_| format!(in alloc; "{at}")) else {
+        panic!(rt; "no memory")
+    };
+    assert!(rt; text.as_str() == "link 2: the ends of a link are equal");
 }
