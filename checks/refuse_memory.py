@@ -19,8 +19,8 @@ from concurrent.futures import ThreadPoolExecutor
 from common import DISAGREE, PROGRAM, TESTS, Refuser, Tally, need, run
 
 LONG = [
-    "programs::a_sink_that_fails_has_a_beginning",
-    "refusals::every_beginning_of_a_case_is_refused_near_its_end",
+    "programs::a_sink_that_fails_has_a_prefix",
+    "refusals::every_prefix_of_a_case_is_refused_near_its_end",
     "refusals::the_first_bad_line_and_its_lowest_fault_are_named",
 ]
 

@@ -3,27 +3,26 @@
 ghost use Rattle.std.specs.Prelude.{◌≡◌, false, Some, None, IfOk};
 
 use std::alloc::{AllocError, Global};
-use tw_commands::Source;
-use tw_report::{Failed, Sink};
+use tw_device::{Failed, Sink, Source};
 
 /// More bytes than any text of the tests.
 pub(crate) const AMPLE: usize = 4096;
 
 /// A sink that takes so many bytes in all, at most so many in one call, and then fails.
 #[derive(Drop)]
-pub(crate) struct Page {
+pub(crate) struct ShortPage {
     held: Vec<u8>,
     room: usize,
     most: usize,
     failed: bool,
 }
 
-impl Page {
+impl ShortPage {
     /// A sink that takes `room` bytes, at most `most` in one call.
-    pub(crate) fn new(alloc: Global, room: usize, most: usize) -> Result<Page, AllocError>
+    pub(crate) fn new(alloc: Global, room: usize, most: usize) -> Result<ShortPage, AllocError>
         ensures { IfOk result (λ page. page.failed ≡ false) }
     {
-        Ok(Page {
+        Ok(ShortPage {
             held: Vec::with_capacity(alloc, AMPLE)?,
             room,
             most,
@@ -37,7 +36,7 @@ impl Page {
     }
 }
 
-impl Sink for Page {
+impl Sink for ShortPage {
     ghost written = { λ s. Some s.held.items };
 
     ghost failed = { λ s. s.failed };
@@ -58,7 +57,7 @@ impl Sink for Page {
 }
 
 /// A source that gives a text, and fails after so many bytes.
-#[derive(Drop)]
+#[derive(Clone, Copy)]
 pub(crate) struct Tape<'a> {
     rest: &'a [u8],
     left: usize,

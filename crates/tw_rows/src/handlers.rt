@@ -10,7 +10,8 @@ use tw_event::{Body, Event, PathNo};
 use tw_handlers::{Fault, Trail, UndoRecord, handle, undo};
 use tw_instance::{Case, Instance};
 use tw_lanes::first_equal;
-use tw_model::Counters;
+use tw_model::limits::MOST_COUNTED;
+use tw_model::{Counters, OrMemory};
 use tw_router::{OpenFault, Router};
 use tw_text::{TextFault, read_case, write_case};
 
@@ -29,19 +30,23 @@ fn update(time: u64, src: u32, seq: u64, path: u32, session: u64) -> Event {
 }
 
 /// The case of a text, which is read once more where memory was refused.
-pub(crate) fn case(alloc: Global, text: &str) -> Result<Case, TextFault> {
+pub(crate) fn case(alloc: Global, text: &str) -> Result<Case, OrMemory<TextFault>> {
     match read_case(alloc, text.as_bytes()) {
-        Err(TextFault::Memory) => read_case(alloc, text.as_bytes()),
+        Err(OrMemory::Memory) => read_case(alloc, text.as_bytes()),
         answer => answer,
     }
 }
 
-fn router(alloc: Global, instance: &Instance, counters: Counters) -> Result<Router<'_>, OpenFault>
+fn router(
+    alloc: Global,
+    instance: &Instance,
+    counters: Counters,
+) -> Result<Router<'_>, OrMemory<OpenFault>>
     requires { 1 < instance.now.nodes }
     ensures { IfOk result (λ router. router.net ≡ instance.now) }
 {
     match Router::with_counters(alloc, instance, 1, counters) {
-        Err(OpenFault::Memory) => Router::with_counters(alloc, instance, 1, counters),
+        Err(OrMemory::Memory) => Router::with_counters(alloc, instance, 1, counters),
         answer => answer,
     }
 }
@@ -54,12 +59,16 @@ const NO_COUNTS: Counters = Counters {
 };
 
 /// Handles the event on the trail, and answers the router's path and messages sent then.
-fn step(trail: &mut Trail<'_>, instance: &Instance, event: &Event) -> Result<(PathNo, u64), Fault>
+fn step(
+    trail: &mut Trail<'_>,
+    instance: &Instance,
+    event: &Event,
+) -> Result<(PathNo, u64), OrMemory<Fault>>
     requires { instance.now ≡ trail.old.opening.net }
     ensures { trail.new.opening ≡ trail.old.opening }
 {
     match trail.handle(instance, event) {
-        Err(Fault::Memory) => trail.handle(instance, event)?,
+        Err(OrMemory::Memory) => trail.handle(instance, event)?,
         answer => answer?,
     }
     let router = trail.router();
@@ -199,7 +208,7 @@ fn a_full_counter_is_refused(rt: HostRuntime) {
     let instance = case.instance();
     assert!(rt; instance.nodes() == 3);
     let mut counters = Counters {
-        sent: (1 << 48) - 1,
+        sent: MOST_COUNTED - 1,
         handled: 5,
         dropped: 0,
         changed: 5,
@@ -209,14 +218,15 @@ fn a_full_counter_is_refused(rt: HostRuntime) {
     let Ok(mut full) = router(alloc, instance, counters) else {
         panic!(rt; "the router is refused")
     };
-    assert!(rt; handle(instance, &mut full, &event, &mut sends) == Err(Fault::CounterFull));
+    let refused = handle(instance, &mut full, &event, &mut sends);
+    assert!(rt; refused == Err(OrMemory::Fault(Fault::CounterFull)));
     assert!(rt; full.counters() == counters && full.rib() == PathNo::EMPTY && sends.is_empty());
-    counters.sent = (1 << 48) - 2;
+    counters.sent = MOST_COUNTED - 2;
     let Ok(mut router) = router(alloc, instance, counters) else {
         panic!(rt; "the router is refused")
     };
     assert!(rt; handle(instance, &mut router, &event, &mut sends).is_ok());
-    assert!(rt; times(&sends, &[(2, (1 << 48) - 2), (2, (1 << 48) - 1)]));
+    assert!(rt; times(&sends, &[(2, MOST_COUNTED - 2), (2, MOST_COUNTED - 1)]));
     assert!(rt; router.counters().sent == 1 << 48);
 }
 
@@ -231,7 +241,7 @@ fn counters_that_no_router_has_are_refused(rt: HostRuntime) {
     let mut counters = NO_COUNTS;
     counters.handled = 2;
     counters.dropped = 3;
-    assert!(rt; matches!(router(alloc, instance, counters), Err(OpenFault::Counters)));
+    assert!(rt; matches!(router(alloc, instance, counters), Err(OrMemory::Fault(OpenFault::Counters))));
     counters.dropped = 2;
     assert!(rt; router(alloc, instance, counters).is_ok());
 }

@@ -16,7 +16,7 @@ fn offer(time: u64, dst: u32, seq: u64) -> Event
         src: 0,
         seq,
         body: Body::Update {
-            path: PathNo(1),
+            path: PathNo::ORIGIN,
             session: 0,
         },
     }

@@ -2,7 +2,7 @@
 
 ghost use Rattle.std.specs.Prelude.{◌≡◌, false};
 
-use crate::devices::{AMPLE, Endless, Page, Tape};
+use crate::devices::{AMPLE, Endless, ShortPage, Tape};
 use crate::texts::{
     ALONE, ALONE_LOG, DISAGREE, DISAGREE_LOG, DISAGREE_TO_SEVEN, DISAGREE_TRAIL,
     FAILURE_AND_REPAIR, FAILURE_AND_REPAIR_LOG, FAILURE_AND_REPAIR_TRAIL, RANK_EXCHANGE,
@@ -19,7 +19,12 @@ pub(crate) enum Asked {
     Trail { router: u16, stop: u16, keep: u64 },
 }
 
-fn run(alloc: Global, asked: Asked, tape: &mut Tape<'_>, page: &mut Page) -> Result<Status, Cause>
+fn run(
+    alloc: Global,
+    asked: Asked,
+    tape: &mut Tape<'_>,
+    page: &mut ShortPage,
+) -> Result<Status, Cause>
     requires source { tape.old.failed ≡ false }
     requires sink { page.old.failed ≡ false }
 {
@@ -32,26 +37,40 @@ fn run(alloc: Global, asked: Asked, tape: &mut Tape<'_>, page: &mut Page) -> Res
     }
 }
 
-/// How the program ends on a text, and the page that it wrote, which takes `room` bytes, `most` in
+/// How the program ends on a tape, and the page that it wrote, which takes `room` bytes, `most` in
 /// one call. It is run once more where memory was refused and nothing stands on the page.
-pub(crate) fn answer(
+fn answer_from(
     alloc: Global,
     asked: Asked,
-    text: &str,
+    tape: Tape<'_>,
     room: usize,
     most: usize,
-) -> Option<(Result<Status, Cause>, Page)> {
+) -> Option<(Result<Status, Cause>, ShortPage)>
+    requires { tape.failed ≡ false }
+{
     for _ in 0..2 {
-        let Ok(mut page) = Page::new(alloc, room, most) else {
+        let Ok(mut page) = ShortPage::new(alloc, room, most) else {
             continue;
         };
-        let mut tape = Tape::new(text.as_bytes(), usize::MAX);
-        match run(alloc, asked, &mut tape, &mut page) {
+        let mut source = tape;
+        match run(alloc, asked, &mut source, &mut page) {
             Err(Cause::Memory) if page.bytes().is_empty() => {}
             status => return Some((status, page)),
         }
     }
     None
+}
+
+/// The same, on a tape that gives the whole text.
+fn answer(
+    alloc: Global,
+    asked: Asked,
+    text: &str,
+    room: usize,
+    most: usize,
+) -> Option<(Result<Status, Cause>, ShortPage)> {
+    let tape = Tape::new(text.as_bytes(), usize::MAX);
+    answer_from(alloc, asked, tape, room, most)
 }
 
 /// Whether the program ends so, having written just this.
@@ -102,9 +121,9 @@ fn reports_and_trails_are_written_to_the_byte(rt: HostRuntime) {
 
 const ACCEPTED: &str = "accepted nodes 3 links 3 paths 4 scenario 0\n";
 
-/// Whether each shorter page has a beginning of what the program writes on DISAGREE, and tells that
+/// Whether each shorter page has a prefix of what the program writes on DISAGREE, and tells that
 /// it failed.
-fn fails_with_a_beginning(alloc: Global, asked: Asked, whole: &[u8], most: usize) -> bool {
+fn fails_with_a_prefix(alloc: Global, asked: Asked, whole: &[u8], most: usize) -> bool {
     for room in 0..whole.len() {
         let Some((ended, page)) = answer(alloc, asked, DISAGREE, room, most) else {
             return false;
@@ -117,7 +136,7 @@ fn fails_with_a_beginning(alloc: Global, asked: Asked, whole: &[u8], most: usize
 }
 
 #[test]
-fn a_sink_that_fails_has_a_beginning(rt: HostRuntime) {
+fn a_sink_that_fails_has_a_prefix(rt: HostRuntime) {
     let asked = Asked::Seq {
         stop: 20,
         log: true,
@@ -126,7 +145,7 @@ fn a_sink_that_fails_has_a_beginning(rt: HostRuntime) {
     for (asked, text) in rows {
         for most in [AMPLE, 1] {
             assert!(rt;
-                fails_with_a_beginning(rt.alloc(), asked, text.as_bytes(), most),
+                fails_with_a_prefix(rt.alloc(), asked, text.as_bytes(), most),
                 "{asked:?}"
             );
         }
@@ -167,21 +186,20 @@ fn a_source_that_fails_leaves_nothing_written(rt: HostRuntime) {
     };
     for asked in [Asked::Check, seq] {
         for left in [0, 1, 20] {
-            let mut tape = Tape::new(DISAGREE.as_bytes(), left);
-            let Ok(mut page) = Page::new(rt.alloc(), AMPLE, AMPLE) else {
-                continue;
+            let tape = Tape::new(DISAGREE.as_bytes(), left);
+            let Some((ended, page)) = answer_from(rt.alloc(), asked, tape, AMPLE, AMPLE) else {
+                panic!(rt; "no answer")
             };
-            let ended = run(rt.alloc(), asked, &mut tape, &mut page);
-            assert!(rt; ended.is_err() && page.bytes().is_empty());
+            assert!(rt; ended == Err(Cause::Device) && page.bytes().is_empty());
         }
     }
 }
 
 /// How `check` ends on line ends without end, how many it read, and what it wrote. It is run once
 /// more where memory was refused.
-fn check_endless(alloc: Global) -> Option<(Result<Status, Cause>, usize, Page)> {
+fn check_endless(alloc: Global) -> Option<(Result<Status, Cause>, usize, ShortPage)> {
     for _ in 0..2 {
-        let Ok(mut page) = Page::new(alloc, AMPLE, AMPLE) else {
+        let Ok(mut page) = ShortPage::new(alloc, AMPLE, AMPLE) else {
             continue;
         };
         let mut source = Endless::new();

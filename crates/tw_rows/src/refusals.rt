@@ -2,7 +2,8 @@
 
 use crate::programs::{Asked, answers};
 use crate::texts::{DISAGREE, FAILURE_AND_REPAIR};
-use tw_commands::Status;
+use tw_commands::{Cause, Status};
+use tw_model::OrMemory;
 use tw_text::{TextFault, read_case};
 
 /// A text, and the line that each program answers to it.
@@ -95,15 +96,15 @@ fn a_router_that_is_not_there_is_refused(rt: HostRuntime) {
 }
 
 /// The line that a refused text is refused at.
-fn refused_line(fault: TextFault) -> Option<usize> {
+fn refused_line(fault: OrMemory<TextFault>) -> Option<usize> {
     match fault {
-        TextFault::At { line, .. } => Some(line),
-        TextFault::Memory => None,
+        OrMemory::Fault(fault) => Some(fault.line),
+        OrMemory::Memory => None,
     }
 }
 
 #[test]
-fn every_beginning_of_a_case_is_refused_near_its_end(rt: HostRuntime) {
+fn every_prefix_of_a_case_is_refused_near_its_end(rt: HostRuntime) {
     let whole = FAILURE_AND_REPAIR.as_bytes();
     for cut in 0..whole.len() {
         let ended = whole[..cut].iter().filter(|byte| **byte == b'\n').count();
@@ -113,5 +114,21 @@ fn every_beginning_of_a_case_is_refused_near_its_end(rt: HostRuntime) {
         if let Some(line) = refused_line(fault) {
             assert!(rt; line <= ended + 1, "after {cut} bytes");
         }
+    }
+}
+
+#[test]
+fn each_cause_to_stop_is_shown_in_two_words(rt: HostRuntime) {
+    let alloc = rt.alloc();
+    let texts = [
+        (Cause::Memory, "stopped memory"),
+        (Cause::CounterFull, "stopped counter"),
+        (Cause::Device, "stopped device"),
+    ];
+    for (cause, text) in texts {
+        let Ok(shown) = format!(in alloc; "{cause}").or_else(|_| format!(in alloc; "{cause}")) else {
+            panic!(rt; "no memory")
+        };
+        assert!(rt; shown.as_str() == text);
     }
 }

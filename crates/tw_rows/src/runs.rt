@@ -1,23 +1,25 @@
 //! Runs and reports by calls.
 
 ghost use Rattle.std.specs.Prelude.{◌≡◌, ◌≤◌, IfOk};
+ghost use Rattle.tw_model.specs.declared.limits.TheConstants.{LATEST};
 ghost use Rattle.tw_model.specs.Net.{Net};
 ghost use Rattle.tw_model.specs.Summary.{summary_of};
 ghost use Rattle.tw_report.specs.Report.{HasPaths};
 
-use crate::devices::{AMPLE, Page};
+use crate::devices::{AMPLE, ShortPage};
 use crate::handlers::case;
 use crate::texts::{ALONE, ALONE_LOG, DISAGREE};
 use std::alloc::{AllocError, Global};
+use tw_device::Failed;
 use tw_event::{Body, Event, PathNo};
 use tw_instance::Instance;
 use tw_model::{Counters, Outcome, RouterEnd};
-use tw_report::{ReportError, Verdict, write_report};
+use tw_report::{Verdict, write_report};
 use tw_seq::OneThread;
 
 /// Runs to the stop, once more where memory was refused.
 fn run_to(run: &mut OneThread<'_>, stop: u64) -> bool
-    requires { stop ≤ 1000000000 }
+    requires { stop ≤ LATEST }
     ensures { run.new.case ≡ run.old.case }
 {
     run.run_to(stop).is_ok() || run.run_to(stop).is_ok()
@@ -36,18 +38,18 @@ fn a_run_goes_on_to_a_later_stop(rt: HostRuntime) {
     assert!(rt; run.handled().is_empty());
     assert!(rt; run_to(&mut run, 7) && run.handled().len() == 6);
     assert!(rt; run_to(&mut run, 3) && run.handled().len() == 6);
-    let Ok(pending) = run.pending(alloc).or_else(|_| run.pending(alloc)) else {
+    let Ok(pending) = run.pending().or_else(|_| run.pending()) else {
         panic!(rt; "no memory")
     };
     assert!(rt; pending.len() == 1 && pending[0].time == 7);
     assert!(rt; run_to(&mut run, 20) && run.handled().len() == 7);
     assert!(rt; run.router(1).rib() == PathNo(3));
-    let Ok(outcome) = run.outcome(alloc).or_else(|_| run.outcome(alloc)) else {
+    let Ok(outcome) = run.outcome().or_else(|_| run.outcome()) else {
         panic!(rt; "no memory")
     };
     assert!(rt; outcome.stop == 20 && outcome.bound == 20 && outcome.events.len() == 7);
     assert!(rt; Verdict::of(&outcome) == Verdict::Quiet(2));
-    if let Ok(moved) = run.into_outcome(alloc) {
+    if let Ok(moved) = run.into_outcome() {
         assert!(rt; moved.events.as_slice() == outcome.events.as_slice());
     }
 }
@@ -92,31 +94,22 @@ fn alone_at_last(alloc: Global) -> Result<Outcome, AllocError>
     }
 }
 
-/// How writing the report ends, and the page that it is on, which takes `room` bytes. It is written
-/// once more where memory was refused.
+/// How writing the report ends, and the page that it is on, which takes `room` bytes.
 fn report(
     alloc: Global,
     instance: &Instance,
     outcome: &Outcome,
     room: usize,
-) -> Option<(Result<(), ReportError>, Page)>
+) -> Result<(Result<(), Failed>, ShortPage), AllocError>
     requires { HasPaths instance.now (summary_of outcome.now) }
 {
-    for _ in 0..2 {
-        let Ok(mut page) = Page::new(alloc, room, AMPLE) else {
-            continue;
-        };
-        let verdict = Verdict::of(outcome);
-        match write_report(alloc, &mut page, instance, outcome, verdict, true) {
-            Err(ReportError::Memory) => {}
-            ended => return Some((ended, page)),
-        }
-    }
-    None
+    let mut page = ShortPage::new(alloc, room, AMPLE).or_else(|_| ShortPage::new(alloc, room, AMPLE))?;
+    let ended = write_report(&mut page, instance, outcome, Verdict::of(outcome), true);
+    Ok((ended, page))
 }
 
 #[test]
-fn a_report_is_whole_or_a_beginning(rt: HostRuntime) {
+fn a_report_is_whole_or_a_prefix(rt: HostRuntime) {
     let alloc = rt.alloc();
     let Ok(case) = case(alloc, ALONE) else {
         panic!(rt; "the case is refused")
@@ -124,13 +117,13 @@ fn a_report_is_whole_or_a_beginning(rt: HostRuntime) {
     let Ok(outcome) = alone_at_last(alloc) else {
         panic!(rt; "no memory")
     };
-    let Some((ended, page)) = report(alloc, case.instance(), &outcome, AMPLE) else {
-        panic!(rt; "no answer")
+    let Ok((ended, page)) = report(alloc, case.instance(), &outcome, AMPLE) else {
+        panic!(rt; "no memory")
     };
     assert!(rt; ended == Ok(()) && page.bytes() == ALONE_LOG.as_bytes());
-    let Some((ended, page)) = report(alloc, case.instance(), &outcome, 13) else {
-        panic!(rt; "no answer")
+    let Ok((ended, page)) = report(alloc, case.instance(), &outcome, 13) else {
+        panic!(rt; "no memory")
     };
-    assert!(rt; ended == Err(ReportError::Device));
+    assert!(rt; ended == Err(Failed));
     assert!(rt; page.bytes() == b"spp-report 1\n".as_slice());
 }
