@@ -103,7 +103,9 @@ fn report(
 ) -> Result<(Result<(), Failed>, ShortPage), AllocError>
     requires { HasPaths instance.now (summary_of outcome.now) }
 {
-    let mut page = ShortPage::new(alloc, room, AMPLE).or_else(|_| ShortPage::new(alloc, room, AMPLE))?;
+    let mut page = ShortPage::new(alloc, room, AMPLE).or_else(|_| ShortPage::new(
+        alloc, room, AMPLE,
+    ))?;
     let ended = write_report(&mut page, instance, outcome, Verdict::of(outcome), true);
     Ok((ended, page))
 }
