@@ -5,3 +5,4 @@ pub mod Next
 pub mod Fields
 pub mod Back
 pub mod Going
+pub mod Gathered

@@ -5,8 +5,9 @@ ghost use Rattle.tw_model.specs.declared.memory.OrMemory.TheVariants as or_memor
 ghost use Rattle.tw_handlers.specs.Calls.{counter_full};
 ghost use Rattle.tw_seq.specs.Outcome.{least, outcome_of};
 ghost use Rattle.tw_seq.specs.Run.{Continues, IsBegun, IsNext, IsNextRun, IsStuck, NoneBefore, complete_run, opening_run, router_after};
+ghost use Rattle.tw_shape.specs.Shape.{shape as shape_at};
 
-use crate::routers::{opening_routers, router_ends};
+use crate::routers::{gather, opening_routers, router_ends};
 use crate::turn::{handle_at, insert_each, make_room, opening_queue, undo_at};
 use smallvec::SmallVec;
 use std::alloc::{AllocError, Global};
@@ -17,6 +18,7 @@ use tw_instance::Case;
 use tw_model::{OrMemory, Outcome};
 use tw_queue::Pending;
 use tw_router::Router;
+use tw_shape::{Shape, ShapeBuilder};
 
 /// The sequential run of a case: again and again the least pending event is handled at its router, and
 /// what it sends becomes pending.
@@ -105,6 +107,16 @@ impl<'a> OneThread<'a> {
         ensures begun { IsBegun self.now }
     {
         self.pending.list()
+    }
+
+    /// The shape of the run at its stop, when all events before it are handled.
+    pub fn shape(&self) -> Result<Shape, AllocError>
+        requires { self.now ≡ complete_run self.now.case self.now.stop }
+        ensures { IfOk result (λ shape. shape ≡ shape_at self.now.case self.now.stop) }
+    {
+        let mut builder = ShapeBuilder::new(*self.events.allocator(), self.stop);
+        gather(&mut builder, &self.routers)?;
+        Ok(builder.finish(self.pending.list()?))
     }
 
     /// The least of the stop and of the times pending: all events before it are handled.

@@ -1,12 +1,14 @@
-ghost use Rattle.std.specs.Prelude.{◌≡◌, map, IfOk};
+ghost use Rattle.std.specs.Prelude.{◌≡◌, ◌++◌, map, IfOk, OnOk};
 ghost use Rattle.std.specs.List.{range_with_len};
 ghost use Rattle.tw_model.specs.State.{opening};
 ghost use Rattle.tw_seq.specs.Outcome.{end_of};
+ghost use Rattle.tw_shape.specs.Shape.{bare};
 
 use std::alloc::{AllocError, Global};
 use tw_instance::Instance;
 use tw_model::RouterEnd;
 use tw_router::Router;
+use tw_shape::ShapeBuilder;
 
 /// Every router of the instance as it begins, in rising number.
 pub(crate) fn opening_routers<'a>(
@@ -39,4 +41,21 @@ pub(crate) fn router_ends(
         })?;
     }
     Ok(ends)
+}
+
+/// Adds each router to a shape.
+pub(crate) fn gather(
+    builder: &mut ShapeBuilder,
+    routers: &[Router<'_>],
+) -> Result<(), AllocError>
+    ensures { OnOk result (builder.new ≡ record builder.old {
+        routers = builder.old.routers ++ map (λ r. bare r.state) routers.now;
+        sent = builder.old.sent ++ map (λ r. r.state.counters.sent) routers.now;
+    }) }
+{
+    for router in routers {
+        let sent = router.counters().sent;
+        builder.add_router(router.rib(), router.rows(), router.order(), sent)?;
+    }
+    Ok(())
 }
