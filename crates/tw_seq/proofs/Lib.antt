@@ -6,3 +6,4 @@ pub mod Fields
 pub mod Back
 pub mod Going
 pub mod Gathered
+pub mod Checkpoints

@@ -62,3 +62,11 @@ NoneBefore t (e ∷ later) = t ≤ e.time
 -- one event more is handled
 abbrev pub IsNextRun : Run → Run → Type 0
 IsNextRun run next = (next.case ≡ run.case) × (next.stop ≡ run.stop) × (turns (simulation run.case) 1 run.stop (world run) ≡ world next)
+
+-- on its way to the stop the run of the case comes to an event that would pass a counter's limit
+pub record GetsStuck (case : Case) (stop : ℕ) : Type 0 where
+  pub run : Run
+  pub own : run.case ≡ case
+  pub to_stop : run.stop ≡ stop
+  pub reached : Continues (opening_run case) run
+  pub stuck : IsStuck run

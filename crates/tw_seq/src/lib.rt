@@ -13,6 +13,7 @@ pub mod laws;
 mod one_thread;
 mod routers;
 mod turn;
+mod watched;
 
 pub use one_thread::OneThread;
 pub use tw_handlers::CounterFull;

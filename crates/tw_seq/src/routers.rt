@@ -44,13 +44,10 @@ pub(crate) fn router_ends(
 }
 
 /// Adds each router to a shape.
-pub(crate) fn gather(
-    builder: &mut ShapeBuilder,
-    routers: &[Router<'_>],
-) -> Result<(), AllocError>
+pub(crate) fn gather(builder: &mut ShapeBuilder, routers: &[Router<'_>]) -> Result<(), AllocError>
     ensures { OnOk result (builder.new ≡ record builder.old {
-        routers = builder.old.routers ++ map (λ r. bare r.state) routers.now;
-        sent = builder.old.sent ++ map (λ r. r.state.counters.sent) routers.now;
+      routers = builder.old.routers ++ map (λ r. bare r.state) routers.now;
+      sent = builder.old.sent ++ map (λ r. r.state.counters.sent) routers.now;
     }) }
 {
     for router in routers {
