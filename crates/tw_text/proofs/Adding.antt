@@ -109,14 +109,17 @@ pub scene_taken : (d : Draft) (k : Keyword) (ns : List ℕ) (s : Scene) (ended :
     → before_scenes d ended ≡ Ok case → IsUnlessMemory r (with_scene case s) → IsUnlessMemory r (step_said d (statement_with k ns) ended)
 scene_taken d k ns s ended case r e before h = rw (e, scene_step d s ended case before) h
 
-pub fail_said : (k : Keyword) (ns : List ℕ) → k ≡ keyword.Fail → 3 ≤ length ns → length ns < 4 → statement_with k ns ≡ Ok (scene_line (Fail (get_or ns 0 0) (get_or ns 1 0) (get_or ns 2 0)))
+pub fail_said : (k : Keyword) (ns : List ℕ) → k ≡ keyword.Fail → 3 ≤ length ns → length ns < 4
+    → statement_with k ns ≡ Ok (scene_line (Fail (get_or ns 0 0) (get_or ns 1 0) (get_or ns 2 0)))
 fail_said k (a ∷ b ∷ c ∷ []) e low high = rw e refl
 fail_said k ns e low high = absurd (omega arith)
 
-pub restore_said : (k : Keyword) (ns : List ℕ) → k ≡ keyword.Restore → 3 ≤ length ns → length ns < 4 → statement_with k ns ≡ Ok (scene_line (Restore (get_or ns 0 0) (get_or ns 1 0) (get_or ns 2 0)))
+pub restore_said : (k : Keyword) (ns : List ℕ) → k ≡ keyword.Restore → 3 ≤ length ns → length ns < 4
+    → statement_with k ns ≡ Ok (scene_line (Restore (get_or ns 0 0) (get_or ns 1 0) (get_or ns 2 0)))
 restore_said k (a ∷ b ∷ c ∷ []) e low high = rw e refl
 restore_said k ns e low high = absurd (omega arith)
 
-pub swap_said : (k : Keyword) (ns : List ℕ) → k ≡ keyword.Swap → 4 ≤ length ns → length ns < 5 → statement_with k ns ≡ Ok (scene_line (Swap (get_or ns 0 0) (get_or ns 1 0) (get_or ns 2 0) (get_or ns 3 0)))
+pub swap_said : (k : Keyword) (ns : List ℕ) → k ≡ keyword.Swap → 4 ≤ length ns → length ns < 5
+    → statement_with k ns ≡ Ok (scene_line (Swap (get_or ns 0 0) (get_or ns 1 0) (get_or ns 2 0) (get_or ns 3 0)))
 swap_said k (a ∷ b ∷ c ∷ d ∷ []) e low high = rw e refl
 swap_said k ns e low high = absurd (omega arith)

@@ -60,8 +60,12 @@ record Adds (d : Draft) (s : Statement) : Type 0 where
   draft : IsDraft (with_statement d s)
   said : statements_in (with_statement d s) ≡ statements_in d ++ s ∷ []
 
+-- an instance without paths
+abbrev bare : Net → List Link → List Line → Net
+bare net links lines = record net { links = links; lines = lines }
+
 link_said : (net : Net) (l : Link) (lines : List Line) → lines ≡ []
-    → statements_from (record { nodes = net.nodes; links = net.links ++ l ∷ []; lines = lines }) [] ≡ statements_from (record { nodes = net.nodes; links = net.links; lines = lines }) [] ++ link_line l ∷ []
+    → statements_from (bare net (net.links ++ l ∷ []) lines) [] ≡ statements_from (bare net net.links lines) [] ++ link_line l ∷ []
 link_said net l lines none =
     let said = map (λ l. link_line l) net.links in
     rw none (ap (λ t. nodes_line net.nodes ∷ t) (append-nil (map (λ l. link_line l) (net.links ++ l ∷ [])) ∙ (map-append (λ l. link_line l) net.links (l ∷ [])
