@@ -241,7 +241,12 @@ fn counters_that_no_router_has_are_refused(rt: HostRuntime) {
     let mut counters = NO_COUNTS;
     counters.handled = 2;
     counters.dropped = 3;
-    assert!(rt; matches!(router(alloc, instance, counters), Err(OrMemory::Fault(OpenFault::Counters))));
+    assert!(rt;
+        matches!(
+            router(alloc, instance, counters),
+            Err(OrMemory::Fault(OpenFault::Counters))
+        )
+    );
     counters.dropped = 2;
     assert!(rt; router(alloc, instance, counters).is_ok());
 }

@@ -126,7 +126,8 @@ fn each_cause_to_stop_is_shown_in_two_words(rt: HostRuntime) {
         (Cause::Device, "stopped device"),
     ];
     for (cause, text) in texts {
-        let Ok(shown) = format!(in alloc; "{cause}").or_else(|_| format!(in alloc; "{cause}")) else {
+        let Ok(shown) = format!(in alloc; "{cause}").or_else(|_| format!(in alloc; "{cause}"))
+        else {
             panic!(rt; "no memory")
         };
         assert!(rt; shown.as_str() == text);
