@@ -21,7 +21,11 @@ leaves_weaker (Err Device) output stuck other old new failed f h = h
 
 pub answers_never : (result : Result Status Cause) (output : List ℕ → Output) (read : List ℕ → Result Case TextFault) (known old new : Option (List ℕ)) (reader writer : Bool)
     → Answers result output (λ input. StuckFor (λ _. ⊥) (read input)) known old new reader writer → Answers result output (λ _. ⊥) known old new reader writer
-answers_never result output read known old new reader writer h = (h.0, h.1, elim h.2 [
-  | inl unread ↦ inl unread
-  | inr left ↦ inr (left.0, leaves_weaker result (output h.0) (StuckFor (λ _. ⊥) (read h.0)) ⊥ old new writer (never (read h.0)) left.1)
-])
+answers_never result output read known old new reader writer h = (
+  h.0,
+  h.1,
+  elim h.2 [
+    | inl unread ↦ inl unread
+    | inr left ↦ inr (left.0, leaves_weaker result (output h.0) (StuckFor (λ _. ⊥) (read h.0)) ⊥ old new writer (never (read h.0)) left.1)
+  ],
+)

@@ -33,7 +33,10 @@ impl Command for Trail {
 
     fn answer<W: Sink>(&self, alloc: Global, case: &Case, sink: &mut W) -> Result<Status, Cause> {
         if self.router >= case.instance().nodes() {
-            put_line(sink, &[Name("refused"), Name("option"), Name("N1"), Name("Router")])?;
+            put_line(
+                sink,
+                &[Name("refused"), Name("option"), Name("N1"), Name("Router")],
+            )?;
             return Ok(Status::Refused);
         }
         let mut run = OneThread::new(alloc, case)?;

@@ -167,11 +167,7 @@ fn put_undo<S: Sink>(
 }
 
 /// Puts the lines of what an event had sent.
-fn put_sends<S: Sink>(
-    sink: &mut S,
-    instance: &Instance,
-    sends: &[Event],
-) -> Result<(), Failed>
+fn put_sends<S: Sink>(sink: &mut S, instance: &Instance, sends: &[Event]) -> Result<(), Failed>
     requires open { S.failed sink.old ≡ false }
     requires paths { All (λ x. NamesPath instance.now x.body) sends.now }
     ensures { Puts result (S.written sink.old) (S.written sink.new) (S.failed sink.new) (send_lines instance.now sends.now) }

@@ -6,6 +6,7 @@ use Rattle.tw_model.specs.declared.net.Hop.{Hop}
 use Rattle.tw_model.specs.declared.net.Link.{Link}
 use Rattle.tw_model.specs.Net.{Net, path, paths_of}
 use Rattle.tw_sim.specs.Ordered.{insert}
+use Rattle.tw_instance.specs.declared.tables.TheConstants.{MULTIPLIER}
 
 -- the items of each row
 abbrev pub items : {X Z : Type 0} → List (Vec X Z) → List (List X)
@@ -22,7 +23,7 @@ pub record IsTable {X Z : Type 0} (table : List (Vec X Z)) (nodes : ℕ) (F : �
 
 -- a polynomial hash of nodes by Horner's rule, as of Java's strings, with the multiplier of CPython's string hash
 unfoldable pub hash : List ℕ → ℕ
-hash nodes = fold (λ h v. (h * 1000003 + v) % 2 ^ 32) 0 nodes
+hash nodes = fold (λ h v. (h * MULTIPLIER + v) % 2 ^ 32) 0 nodes
 
 -- the hash of a path without its first node
 abbrev pub tail_hash : Net → PathNo → ℕ

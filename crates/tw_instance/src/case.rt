@@ -49,7 +49,7 @@ impl Case {
         })
     }
 
-    /// Adds a scene. An error leaves the case as it was.
+    /// Adds a scene, or tells the first rule that it breaks. An error leaves the case as it was.
     pub fn add(&mut self, scene: Scene) -> Result<(), OrMemory<Rule>>
         ensures ok { OnOk result (self.new ≡ record self.old { scenes = self.old.scenes ++ scene ∷ [] }) }
         ensures rule { (r : ARule) → (result ≡ Err (OrMemory.Fault r)) ↔ (scene_fault self.old.net (length self.old.scenes) scene ≡ Some r) }
@@ -66,7 +66,8 @@ impl Case {
         Ok(())
     }
 
-    /// A case of this instance with these scenes, or the first that is not taken.
+    /// A case of this instance with these scenes. Scenes are judged in the order given; an error names
+    /// the first that breaks a rule, or the start or one before it for which memory was refused.
     pub fn build(alloc: Global, instance: Instance, scenes: Vec<Scene>) -> Result<Case, At>
         ensures ok { IfOk result (λ c. c ≡ record { net = instance; scenes = scenes.items }) }
         ensures told { TellsOf result (judged_case instance scenes.items) }

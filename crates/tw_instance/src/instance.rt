@@ -48,7 +48,7 @@ impl Model for Instance {
 }
 
 impl Instance {
-    /// An instance of so many routers, with no link and no permitted path.
+    /// An instance of so many routers, 1 to 1,024, with no link and no permitted path.
     pub fn new(alloc: Global, nodes: u32) -> Result<Instance, OrMemory<Rule>>
         ensures ok { IfOk result (λ i. i ≡ record { nodes = nodes; links = []; lines = [] }) }
         ensures rule { (r : ARule) → (result ≡ Err (OrMemory.Fault r)) ↔ (nodes_fault nodes ≡ Some r) }
@@ -70,7 +70,7 @@ impl Instance {
         })
     }
 
-    /// Adds a link. An error leaves the instance as it was.
+    /// Adds a link, or tells the first rule that it breaks. An error leaves the instance as it was.
     pub fn add_link(&mut self, link: Link) -> Result<(), OrMemory<Rule>>
         ensures ok { OnOk result (self.new ≡ record self.old { links = self.old.links ++ link ∷ [] }) }
         ensures rule { (r : ARule) → (result ≡ Err (OrMemory.Fault r)) ↔ (link_fault self.old link ≡ Some r) }
@@ -86,8 +86,8 @@ impl Instance {
         Ok(())
     }
 
-    /// Adds a permitted path, worse than those of its owner before it. An error leaves the instance
-    /// as it was.
+    /// Adds a permitted path, worse than those of its owner before it, or tells the first rule that it
+    /// breaks. An error leaves the instance as it was.
     pub fn add_path(&mut self, path: PathLine) -> Result<(), OrMemory<Rule>>
         ensures ok { OnOk result (self.new ≡ record self.old { lines = self.old.lines ++ path ∷ [] }) }
         ensures rule { (r : ARule) → (result ≡ Err (OrMemory.Fault r)) ↔ (line_fault self.old path ≡ Some r) }
@@ -111,8 +111,9 @@ impl Instance {
         Ok(())
     }
 
-    /// An instance with these links and permitted paths, or the first item that is refused, in the
-    /// order of nodes, links, paths.
+    /// An instance with these links and permitted paths. Items are judged in the order of nodes, links,
+    /// paths, each after those before it; an error names the first that breaks a rule, or one before it
+    /// for which memory was refused.
     pub fn build(
         alloc: Global,
         nodes: u32,
@@ -218,7 +219,7 @@ impl Instance {
         slot_of_peer(self.hops(node), peer)
     }
 
-    /// The delay in ticks of the link to the neighbour of a slot.
+    /// The delay in ticks, 1 to 1,000,000, of the link to the neighbour of a slot.
     pub fn delay(&self, node: u32, slot: usize) -> u64
         requires { slot < length (hops_of self.now node) }
         ensures value { result ≡ (hop self.now node slot).delay }
@@ -228,7 +229,8 @@ impl Instance {
         self.hops(node)[slot].delay
     }
 
-    /// The nodes of a path number.
+    /// The nodes of a path number: none of 0, the origin alone of 1, and from 2 on those of the
+    /// permitted paths, as they were given.
     pub fn path(&self, number: PathNo) -> &[u32]
         requires { IsPath self.now number }
         ensures value { result.now ≡ path self.now number }

@@ -36,6 +36,6 @@ impl Display for Place {
 pub struct At {
     /// The item.
     pub place: Place,
-    /// The first rule that the item breaks, or that it breaks none and memory was refused.
+    /// The first rule that the item breaks, or `Memory`, where it breaks none.
     pub fault: OrMemory<Rule>,
 }

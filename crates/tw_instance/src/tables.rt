@@ -8,6 +8,9 @@ use std::alloc::{AllocError, Global};
 use tw_event::PathNo;
 use tw_model::{Hop, Link};
 
+/// The multiplier of a hash of nodes, as in CPython's hash of strings.
+const MULTIPLIER: u32 = 1_000_003;
+
 /// The row of a router, empty where there is no such router.
 pub fn row_of<T>(rows: &[Vec<T>], node: u32) -> &[T]
     ensures { result.now ≡ row rows.now node }
@@ -106,7 +109,7 @@ pub fn push_path(
     Ok(())
 }
 
-/// A hash of these nodes.
+/// A hash of these nodes: a polynomial in the multiplier, by Horner's rule.
 pub fn hash_of(nodes: &[u32]) -> u32
     ensures { result ≡ hash nodes.now }
 {
@@ -114,7 +117,7 @@ pub fn hash_of(nodes: &[u32]) -> u32
 }
 
 fn next_hash(hash: u32, node: u32) -> u32
-    ensures { result ≡ (hash * 1000003 + node) % 2 ^ 32 }
+    ensures { result ≡ (hash * MULTIPLIER + node) % 2 ^ 32 }
 {
-    hash.wrapping_mul(1_000_003).wrapping_add(node)
+    hash.wrapping_mul(MULTIPLIER).wrapping_add(node)
 }

@@ -2,21 +2,18 @@ ghost use Rattle.std.specs.Prelude.{◌≡◌};
 ghost use Rattle.tw_options.specs.Fault.{Tells};
 ghost use Rattle.tw_options.specs.declared.fault.CommandLineFault.TheVariants.{Memory};
 
+use clap::Error;
 use clap::error::ErrorKind;
 use std::alloc::AllocError;
-use thiserror::Error;
 
-/// Why the words of a command line are not a command to run.
-#[derive(Debug, Drop, Error)]
+/// Why a command line asks for nothing.
+#[derive(Debug, Drop)]
 pub enum CommandLineFault {
-    /// They ask for help or for the version, which is the text of this error.
-    #[error(transparent)]
-    Help(clap::Error),
-    /// They are refused; the error's text says why.
-    #[error(transparent)]
-    Bad(clap::Error),
+    /// It asks for help, which is the text of this error.
+    Help(Error),
+    /// Its words are refused; the error's text says why.
+    Bad(Error),
     /// Memory was refused.
-    #[error("memory was refused")]
     Memory,
 }
 
@@ -28,10 +25,10 @@ impl From<AllocError> for CommandLineFault {
     }
 }
 
-impl From<clap::Error> for CommandLineFault {
+impl From<Error> for CommandLineFault {
     ghost from_gives = { Tells };
 
-    fn from(error: clap::Error) -> CommandLineFault {
+    fn from(error: Error) -> CommandLineFault {
         match error.kind() {
             ErrorKind::OutOfMemory => CommandLineFault::Memory,
             ErrorKind::DisplayHelp | ErrorKind::DisplayVersion => CommandLineFault::Help(error),

@@ -38,7 +38,19 @@ pub fn put_event<S: Sink>(sink: &mut S, instance: &Instance, event: &Event) -> R
         Body::Update { path, session } => {
             let (src, session) = (Number(u64::from(event.src)), Number(session));
             let path = Path(instance.path(path));
-            put_line(sink, &[event_name, time, dst, Name("update"), src, seq, session, path])
+            put_line(
+                sink,
+                &[
+                    event_name,
+                    time,
+                    dst,
+                    Name("update"),
+                    src,
+                    seq,
+                    session,
+                    path,
+                ],
+            )
         }
     }
 }

@@ -10,7 +10,7 @@ use Rattle.tw_sim.proofs.Unique.{list_closed, same_histories, same_lists, sent_b
 
 module _ {S E : Type 0} (m : Simulation S E) (law : IsLawful m) (numbered : IsNumbered m) where
   -- what a router has sent has numbers below its counter
-  sent_number : (r : ℕ) (xs : List E) (e : E) → 0 < times m e (sent m r xs) → m.seq e < m.number (state m r xs)
+  pub sent_number : (r : ℕ) (xs : List E) (e : E) → 0 < times m e (sent m r xs) → m.seq e < m.number (state m r xs)
   sent_number r [] e h = absurd (omega arith)
   sent_number r (x ∷ xs) e h =
       let all = times-append m e (m.sends (state m r xs) x) (sent m r xs) in

@@ -1,8 +1,9 @@
 -- An item that was added is the one that was read; one that was refused breaks the rule that was named.
-use Rattle.std.proofs.Common.{◌≡◌, ◌↔◌, ◌^◌, ◌≤◌, ◌<◌, ℕ, nat_lt, nat_le, Bool, true, false, not, ◌&&◌, List, [], ◌∷◌, ◌++◌, get_or, length, Option, Some, None, Result, Ok, Err, refl, ap₂, subst, ap, sym, ◌∙◌, inl, inr, arith, if◌then◌else◌}
+use Rattle.std.proofs.Common.{◌≡◌, ◌↔◌, ◌^◌, ◌≤◌, ◌<◌, ℕ, nat_lt, Bool, true, false, ◌&&◌, List, [], ◌∷◌, ◌++◌, get_or}
+use Rattle.std.proofs.Common.{length, Option, Some, None, Result, Ok, Err, refl, ap₂, subst, ap, sym, ◌∙◌, inl, inr, arith}
 use Rattle.std.proofs.lemmas.Bool.{and_parts, cases_Bool, not-false}
 use Rattle.std.proofs.lemmas.Bool.Decides.{nat_tests}
-use Rattle.std.specs.List.{find, list_all}
+use Rattle.std.specs.List.{list_all}
 use Rattle.tw_instance.proofs.Sound.{is_router}
 use Rattle.tw_model.proofs.Unbroken.{none_broken}
 use Rattle.tw_model.specs.declared.case.Scene.{Scene}
@@ -10,7 +11,7 @@ use Rattle.tw_model.specs.declared.case.Scene.TheVariants.{Fail, Restore, Swap}
 use Rattle.tw_model.specs.declared.memory.OrMemory.{OrMemory}
 use Rattle.tw_model.specs.declared.memory.OrMemory.TheVariants.{Fault, Memory}
 use Rattle.tw_model.specs.declared.rule.Rule.{Rule}
-use Rattle.tw_model.specs.declared.rule.Rule.TheVariants.{NoSuchPlace}
+use Rattle.tw_model.specs.declared.rule.Rule.TheVariants.{NoSuchPlace, Range}
 use Rattle.tw_model.specs.Case.{Case, IsCase}
 use Rattle.tw_model.specs.Memory.{IsUnlessMemory, map_fault}
 use Rattle.tw_model.specs.Net.{Net, paths_of}
@@ -24,6 +25,7 @@ use Rattle.tw_text.specs.declared.text_fault.LineFault.TheVariants as x
 use Rattle.tw_text.specs.Drafts.{before_scenes, node_in, nodes_in, of_rule, place_of, step_by, step_said, with_link, with_path, with_scene}
 use Rattle.tw_text.specs.FaultTable.{unless_fault}
 use Rattle.tw_text.specs.Statements.{said, scene_line}
+use Rattle.tw_text.proofs.Steps.{passed}
 
 pub refused : {A : Type 0} (result : Result A (OrMemory Rule)) (e : OrMemory Rule) (f : OrMemory LineFault) (fault : Option Rule) (next : Draft) → result ≡ Err e → f ≡ map_fault (λ r. x.Rule r) e
     → ((r : Rule) → (result ≡ Err (Fault r)) ↔ (fault ≡ Some r)) → IsUnlessMemory (Err f) (unless_fault (of_rule fault) next)
@@ -31,11 +33,10 @@ refused result Memory f fault next is same h = rw same tt
 refused result (Fault r) f fault next is same h = rw (same, (h r).0 is) refl
 
 pub node_is : (net : Net) (n m : ℕ) → Ok m ≡ node_in net n → m ≡ n
-node_is net n m h = elim (cases_Bool (nat_lt n net.nodes)) [ inl t ↦ (let g : Ok m ≡ Ok n = rw t at h in cc) | inr f ↦ absurd (let g = rw f at h in cc) ]
+node_is net n m h = sym (passed (nat_lt n net.nodes) n m (x.Rule Range) (sym h)).1
 
 pub nodes_are : (net : Net) (ns ms : List ℕ) → nodes_in net ns ≡ Ok ms → ms ≡ ns
-nodes_are net ns ms h =
-    elim (cases_Bool (list_all (λ n. nat_lt n net.nodes) ns)) [ inl t ↦ (let g : Ok ns ≡ Ok ms = rw t at h in cc) | inr f ↦ absurd (let g = rw f at h in cc) ]
+nodes_are net ns ms h = sym (passed (list_all (λ n. nat_lt n net.nodes) ns) ns ms (x.Rule Range) h).1
 
 pub link_refused : {A : Type 0} (result : Result A (OrMemory Rule)) (e : OrMemory Rule) (f : OrMemory LineFault) (net : Net) (a b delay k l : ℕ) → Ok k ≡ node_in net a → Ok l ≡ node_in net b
     → result ≡ Err e → f ≡ map_fault (λ r. x.Rule r) e → ((r : Rule) → (result ≡ Err (Fault r)) ↔ (link_fault net (record { first = k; second = l; delay = delay }) ≡ Some r))
@@ -52,7 +53,8 @@ path_refused result e f net v w ns ms owner nodes is same h =
 pub path_added : (net new : Net) (v w : ℕ) (ns ms : List ℕ) → Ok w ≡ node_in net v → nodes_in net ns ≡ Ok ms → line_fault net (record { owner = w; nodes = ms }) ≡ None
     → new ≡ record net { lines = net.lines ++ (record { owner = w; nodes = ms }) ∷ [] } → with_path net (record { owner = v; nodes = ns }) ≡ Ok (Paths new)
 path_added net new v w ns ms owner nodes none is =
-    rw (← node_is net v w owner, ← nodes_are net ns ms nodes) (ap (λ f. unless_fault (of_rule f) (Paths (record net { lines = net.lines ++ (record { owner = w; nodes = ms }) ∷ [] }))) none ∙ ap (λ n. Ok (Paths n)) (sym is))
+    let more : Net = record net { lines = net.lines ++ (record { owner = w; nodes = ms }) ∷ [] } in
+    rw (← node_is net v w owner, ← nodes_are net ns ms nodes) (ap (λ f. unless_fault (of_rule f) (Paths more)) none ∙ ap (λ n. Ok (Paths n)) (sym is))
 
 -- what a `u32` does not hold is no place, and nor is 0
 place-within : (n i : ℕ) → n < 2 ^ 32 → is_within 1 n (place_of i) ≡ is_within 1 n i
@@ -82,7 +84,9 @@ swap_same case t v i j is =
       | inr f ↦
           none_same (scene_fault case.net count (Swap t v (place_of i) (place_of j))) (scene_fault case.net count (Swap t v i j)) _ _
           (rw (place-within n i small, place-within n j small) refl)
-          (λ none. absurd (let w = none_broken (scene_breaks case.net count (Swap t v i j)) none NoSuchPlace in let both = not-false (has_place case.net v i && has_place case.net v j) w in let g = sym both ∙ f in cc))
+          (λ none. absurd (
+          let places = not-false (has_place case.net v i && has_place case.net v j) (none_broken (scene_breaks case.net count (Swap t v i j)) none NoSuchPlace) in
+          let g = sym places ∙ f in cc))
     ]
 
 pub swap_taken : (case : Case) (t v i j w k l : ℕ) (r : Result Draft (OrMemory LineFault)) → IsCase case → w ≡ v → k ≡ place_of i → l ≡ place_of j
@@ -97,9 +101,9 @@ scene_step Start s ended case h = absurd (cc)
 scene_step Header s ended case h = absurd (cc)
 scene_step (Done c) s ended case h = absurd (cc)
 scene_step d s false case h = absurd (cc)
-scene_step (Links net) s true case h = let r : Result Case LineFault = Ok (record { net = net; scenes = [] }) in let g : r ≡ Ok case = h in let e : (record { net = net; scenes = [] }) ≡ case = cc in ap (λ case. with_scene case s) e
-scene_step (Paths net) s true case h = let r : Result Case LineFault = Ok (record { net = net; scenes = [] }) in let g : r ≡ Ok case = h in let e : (record { net = net; scenes = [] }) ≡ case = cc in ap (λ case. with_scene case s) e
-scene_step (Scenes c) s true case h = let r : Result Case LineFault = Ok c in let g : r ≡ Ok case = h in let e : c ≡ case = cc in ap (λ case. with_scene case s) e
+scene_step (Links net) s true case h = ap (λ case. with_scene case s) (passed true (record { net = net; scenes = [] }) case x.End h).1
+scene_step (Paths net) s true case h = ap (λ case. with_scene case s) (passed true (record { net = net; scenes = [] }) case x.End h).1
+scene_step (Scenes c) s true case h = ap (λ case. with_scene case s) (passed true c case x.End h).1
 
 pub scene_taken : (d : Draft) (k : Keyword) (ns : List ℕ) (s : Scene) (ended : Bool) (case : Case) (r : Result Draft (OrMemory LineFault)) → said k ns ≡ Ok (scene_line s)
     → before_scenes d ended ≡ Ok case → IsUnlessMemory r (with_scene case s) → IsUnlessMemory r (step_said d (said k ns) ended)

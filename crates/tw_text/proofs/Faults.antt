@@ -1,12 +1,12 @@
 -- The lowest fault of a line, test by test.
-use Rattle.std.proofs.Common.{◌≡◌, ℕ, Bool, true, false, not, ◌&&◌, ◌||◌, cond, List, [], ◌∷◌, length, map, if◌then◌else◌, Option, Some, None, Result, Ok, Err, refl, ap, sym, ◌∙◌, inl, inr, bytes_eq, codes}
+use Rattle.std.proofs.Common.{◌≡◌, ℕ, Bool, true, false, not, ◌&&◌, ◌||◌, cond, List, [], ◌∷◌, map, if◌then◌else◌, Option, Some, None, Result, Ok, Err, refl, ap, sym, ◌∙◌, inl, inr, bytes_eq, codes}
 use Rattle.std.proofs.lemmas.Bool.{cases_Bool}
 use Rattle.std.specs.List.{find, list_all}
 use Rattle.std.specs.Str.Parse.{digits_value}
 use Rattle.tw_model.specs.Rules.{rules_in_order}
 use Rattle.tw_model.specs.declared.rule.Rule.{Rule}
 use Rattle.tw_text.specs.declared.draft.Draft.{Draft}
-use Rattle.tw_text.specs.declared.draft.Draft.TheVariants.{Start, Header, Links, Paths, Scenes, Done}
+use Rattle.tw_text.specs.declared.draft.Draft.TheVariants.{Start, Header}
 use Rattle.tw_text.specs.declared.keyword.Keyword.{Keyword}
 use Rattle.tw_text.specs.declared.keyword.Keyword.TheVariants as keyword
 use Rattle.tw_text.specs.declared.text_fault.LineFault.{LineFault}
@@ -31,19 +31,26 @@ abbrev first_of_six : Bool → Bool → Bool → Bool → Bool → Bool → Opti
 first_of_six byte header word number order end rest =
     cond byte (Some x.Byte) (cond header (Some x.Header) (cond word (Some x.Word) (cond number (Some x.Number) (cond order (Some x.Order) (cond end (Some x.End) rest)))))
 
--- the table, with the tests of one statement
-abbrev form : Draft → Bool → Bool → Bool → Result Statement LineFault → Option LineFault
-form d ended plain header said =
+-- the rows above those of the rules, of a line that says this
+abbrev rows : Draft → Bool → Bool → Bool → Result Statement LineFault → Option LineFault → Option LineFault
+rows d ended plain header said =
     first_of_six (not plain) (is_start d && not header) (from_second d (is_no_statement said)) (from_second d (has_no_number said))
-    (from_second d (if_said said (is_misplaced d))) (not ended || is_done d) (of_rule (find (λ r. from_second d (if_said said (λ s. breaks d s r))) rules_in_order))
+    (from_second d (if_said said (is_misplaced d))) (not ended || is_done d)
+
+-- the rules that the line breaks
+abbrev breaks_if_said : Draft → Result Statement LineFault → Rule → Bool
+breaks_if_said d said r = from_second d (if_said said (λ s. breaks d s r))
+
+-- the table, by what the line says
+abbrev form : Draft → Bool → Bool → Bool → Result Statement LineFault → Option LineFault
+form d ended plain header said = rows d ended plain header said (of_rule (find (breaks_if_said d said) rules_in_order))
 
 fault_of-form : (d : Draft) (line : List ℕ) (ended : Bool)
     → fault_of d line ended ≡ form d ended (list_all is_plain line) (bytes_eq line (codes "spp 1")) (statement_of (words line))
 unfolding fault_of
 fault_of-form d line ended =
     let said = statement_of (words line) in
-    ap (first_of_six (not (list_all is_plain line)) (is_start d && not (bytes_eq line (codes "spp 1"))) (from_second d (is_no_statement said)) (from_second d (has_no_number said)) (from_second d (if_said said (is_misplaced d))) (not ended || is_done d))
-    (find_rules (holds d line ended) (λ r. from_second d (if_said said (λ s. breaks d s r))) (λ r. refl) rules_in_order)
+    ap (rows d ended (list_all is_plain line) (bytes_eq line (codes "spp 1")) said) (find_rules (holds d line ended) (breaks_if_said d said) (λ r. refl) rules_in_order)
 
 pub plain_fault : (d : Draft) (line : List ℕ) (ended : Bool) → list_all is_plain line ≡ false → fault_of d line ended ≡ Some x.Byte
 plain_fault d line ended h = fault_of-form d line ended ∙ rw h refl

@@ -1,13 +1,14 @@
 -- A text that is read as a case is the text of that case, and the case keeps the rules.
-use Rattle.std.proofs.Common.{◌≡◌, ℕ, suc, true, false, List, [], ◌∷◌, ◌++◌, map, bytes_eq, codes, cond, Bool, if◌then◌else◌, Option, Some, None, Result, Ok, Err, refl, ap, ap₂, sym, ◌∙◌, append_assoc, inl, inr, arith, subst}
+use Rattle.std.proofs.Common.{◌≡◌, ℕ, suc, true, false, List, [], ◌∷◌, ◌++◌, map, bytes_eq, codes, if◌then◌else◌, Option}
+use Rattle.std.proofs.Common.{Some, None, Result, Ok, refl, ap, ap₂, sym, ◌∙◌, append_assoc, inl, inr, arith, subst}
 use Rattle.std.proofs.lemmas.Bool.{cases_Bool}
 use Rattle.std.proofs.lemmas.List.{append-nil, map-append}
 use Rattle.std.specs.Cmp.Lexicographic.{bytes_decides}
-use Rattle.std.specs.List.{find, join_with_byte, list_all}
+use Rattle.std.specs.List.{find, join_with_byte}
 use Rattle.tw_model.specs.Case.{Case, IsCase}
 use Rattle.tw_model.specs.Line.{Line}
 use Rattle.tw_model.specs.Net.{Net}
-use Rattle.tw_model.specs.Rules.{IsNet, link_fault, rules_in_order}
+use Rattle.tw_model.specs.Rules.{IsNet, rules_in_order}
 use Rattle.tw_model.specs.declared.case.Scene.{Scene}
 use Rattle.tw_model.specs.declared.net.Link.{Link}
 use Rattle.tw_model.specs.declared.rule.Rule.{Rule}
@@ -16,7 +17,7 @@ use Rattle.tw_text.specs.declared.draft.Draft.{Draft}
 use Rattle.tw_text.specs.declared.draft.Draft.TheVariants.{Start, Header, Links, Paths, Scenes, Done}
 use Rattle.tw_text.specs.declared.text_fault.LineFault.{LineFault}
 use Rattle.tw_text.specs.declared.text_fault.LineFault.TheVariants as x
-use Rattle.tw_text.specs.Drafts.{fault_after, of_rule, step_by, step_said}
+use Rattle.tw_text.specs.Drafts.{fault_after, of_rule, step_by}
 use Rattle.tw_text.specs.FaultTable.{breaks, is_done, is_misplaced, is_start, step, unless_fault, with_statement}
 use Rattle.tw_text.specs.Reading.{case_of, reads}
 use Rattle.tw_text.specs.Statements.{Statement, nodes_line, link_line, path_line, scene_line, end_line, statement_of}
@@ -27,7 +28,7 @@ use Rattle.tw_text.proofs.Lines.{Fits}
 use Rattle.tw_text.proofs.Parts.{plain-from_step, reads-first, reads-last, reads-none}
 use Rattle.tw_text.proofs.Said.{statement_of-is}
 use Rattle.tw_text.proofs.Splits.{join-words, lines-text}
-use Rattle.tw_text.proofs.Steps.{bound}
+use Rattle.tw_text.proofs.Steps.{bound, passed}
 
 -- what the lines have said that gave these, from line 2 on
 abbrev said_of : Net → List Scene → List Statement
@@ -136,14 +137,10 @@ later_steps d after line later h stepped =
       lines = sym (ap lines_in n.1) ∙ (lines-more d (with_statement d s) s later (begun d s) a.said ∙ ap (λ l. lines_in d ++ l ∷ []) (sym e));
     }
 
-start_by : (after : Draft) (header : Bool) → (let r : Result Draft LineFault = cond header (Ok Header) (Err x.Header) in r ≡ Ok after) → (header ≡ true) × (Header ≡ after)
-start_by after true h = (refl, let r : Result Draft LineFault = Ok Header in let g : r ≡ Ok after = h in cc)
-start_by after false h = absurd (let r : Result Draft LineFault = Err x.Header in let g : r ≡ Ok after = h in cc)
-
 start_steps : (after : Draft) (line : List ℕ) → step Start line true ≡ Ok after → Steps Start after line
 start_steps after line stepped =
     let header = bytes_eq line (codes "spp 1") in
-    let b = start_by after header (sym (start_step line true header (plain-from_step Start after line true stepped) refl) ∙ stepped) in
+    let b = passed header Header after x.Header (sym (start_step line true header (plain-from_step Start after line true stepped) refl) ∙ stepped) in
     record { draft = subst IsDraft b.1 tt; lines = sym (ap lines_in b.1) ∙ ap (λ l. l ∷ []) (sym ((bytes_decides line (codes "spp 1")).0 b.0)) }
 
 steps : (d after : Draft) (line : List ℕ) → IsDraft d → step d line true ≡ Ok after → Steps d after line

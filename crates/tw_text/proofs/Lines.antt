@@ -1,5 +1,5 @@
 -- The line of a statement.
-use Rattle.std.proofs.Common.{◌≡◌, ℕ, true, false, List, None, Result, Ok, refl, ap, ◌∙◌, map, decimal}
+use Rattle.std.proofs.Common.{◌≡◌, true, false, None, Ok, refl, ap, ◌∙◌, map, decimal}
 use Rattle.std.specs.List.{find, list_all}
 use Rattle.tw_model.specs.Rules.{rules_in_order}
 use Rattle.tw_text.specs.declared.draft.Draft.{Draft}

@@ -1,6 +1,5 @@
 -- Digits and numbers that are read one by one.
-use Rattle.std.proofs.Common.{◌≡◌, ℕ, ◌+◌, ◌<◌, true, false, List, [], ◌∷◌, ◌++◌, length, get_or, take, map, if◌then◌else◌, Option, Some, None, Ok, Err, refl, ap, sym, ◌∙◌, inl, inr}
-use Rattle.std.proofs.lemmas.Bool.{cases_Bool}
+use Rattle.std.proofs.Common.{◌≡◌, ℕ, ◌+◌, ◌<◌, true, false, List, [], ◌∷◌, ◌++◌, length, get_or, take, map, if◌then◌else◌, Option, Some, None, Ok, Err, refl, ap, sym, ◌∙◌}
 use Rattle.std.proofs.lemmas.List.{map-append, take_more}
 use Rattle.std.proofs.lemmas.List.Folds.{list_all-append, list_all-map, list_all_at}
 use Rattle.std.specs.Borrow.{Bor}
@@ -11,6 +10,7 @@ use Rattle.tw_text.specs.declared.text_fault.LineFault.{LineFault}
 use Rattle.tw_text.specs.declared.text_fault.LineFault.TheVariants.{Number}
 use Rattle.tw_text.specs.Statements.{number_of, numbers_of}
 use Rattle.tw_text.specs.Words.{is_number}
+use Rattle.tw_text.proofs.Steps.{failed, passed}
 
 -- the number that these digits write behind those of n, if they are digits
 abbrev pub number_after : ℕ → List ℕ → Option ℕ
@@ -22,12 +22,10 @@ pub record AreRead (ws : List (Bor (List ℕ))) (i : ℕ) (ns : List ℕ) : Type
   pub right : list_all is_number (map (λ w. w.now) (take i ws)) ≡ true
 
 was_number : (w : List ℕ) (n : ℕ) → Ok n ≡ number_of w → (is_number w ≡ true) × (n ≡ digits_value 10 w)
-was_number w n h =
-    elim (cases_Bool (is_number w)) [ inl t ↦ (let g : Ok n ≡ Ok (digits_value 10 w) = rw t at h in (t, cc)) | inr f ↦ absurd (let g : Ok n ≡ Err Number = rw f at h in cc) ]
+was_number w n h = let p = passed (is_number w) (digits_value 10 w) n Number (sym h) in (p.0, sym p.1)
 
 was_none : (w : List ℕ) (fault : LineFault) → Err fault ≡ number_of w → (is_number w ≡ false) × (fault ≡ Number)
-was_none w fault h =
-    elim (cases_Bool (is_number w)) [ inl t ↦ absurd (let g : Err fault ≡ Ok (digits_value 10 w) = rw t at h in cc) | inr f ↦ (let g : Err fault ≡ Err Number = rw f at h in (f, cc)) ]
+was_none w fault h = let p = failed (is_number w) (digits_value 10 w) Number fault (sym h) in (p.0, sym p.1)
 
 pub read_more : (ws : List (Bor (List ℕ))) (i : ℕ) (w : Bor (List ℕ)) (n : ℕ) (ns more : List ℕ) → i < length ws → Ok n ≡ number_of (get_or ws i w).now
     → AreRead ws i ns → more ≡ ns ++ n ∷ [] → AreRead ws (i + 1) more

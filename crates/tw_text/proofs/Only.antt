@@ -1,7 +1,6 @@
 -- The text of a case is read as that case.
-use Rattle.std.proofs.Common.{◌≡◌, ℕ, suc, ◌≤◌, true, false, List, [], ◌∷◌, ◌++◌, length, map, Ok, refl, ap, sym, ◌∙◌, append_assoc, codes, arith}
-use Rattle.std.proofs.lemmas.List.{append-nil, length-append, length_push, map-append}
-use Rattle.std.proofs.lemmas.Simd.{map-map}
+use Rattle.std.proofs.Common.{◌≡◌, ℕ, suc, ◌≤◌, true, false, List, [], ◌∷◌, ◌++◌, length, map, Ok, refl, ap, ◌∙◌, append_assoc, codes, arith}
+use Rattle.std.proofs.lemmas.List.{append-nil, length-append, length_push}
 use Rattle.tw_model.specs.Case.{Case, IsCase}
 use Rattle.tw_model.proofs.Nets.{nodes_within}
 use Rattle.tw_model.specs.Line.{Line}
@@ -16,7 +15,6 @@ use Rattle.tw_text.specs.FaultTable.{is_done, is_misplaced, is_start, net_of, sc
 use Rattle.tw_text.specs.Reading.{case_of, reads}
 use Rattle.tw_text.specs.Statements.{Statement, nodes_line, link_line, path_line, scene_line, end_line}
 use Rattle.tw_text.specs.Text.{line_of, lines_of, statements_of, text_of_case}
-use Rattle.tw_text.specs.Words.{parts_of}
 use Rattle.tw_text.proofs.Faults.{start_step}
 use Rattle.tw_text.proofs.Lines.{Fits, line-step}
 use Rattle.tw_text.proofs.Parts.{all-plain}

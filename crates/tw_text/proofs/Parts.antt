@@ -6,7 +6,7 @@ use Rattle.std.proofs.lemmas.List.{length-append}
 use Rattle.std.specs.List.{AllByRecursion, list_all}
 use Rattle.tw_model.specs.Case.{Case}
 use Rattle.tw_text.specs.declared.draft.Draft.{Draft}
-use Rattle.tw_text.specs.declared.draft.Draft.TheVariants.{Start, Header, Links, Paths, Scenes, Done}
+use Rattle.tw_text.specs.declared.draft.Draft.TheVariants.{Done}
 use Rattle.tw_text.specs.declared.text_fault.LineFault.{LineFault}
 use Rattle.tw_text.specs.declared.text_fault.LineFault.TheVariants.{End}
 use Rattle.tw_text.specs.declared.text_fault.TextFault.{TextFault}

@@ -1,22 +1,23 @@
 -- The words of a statement, and the statement of words.
-use Rattle.std.proofs.Common.{◌≡◌, ℕ, ◌<◌, ◌^◌, ◌==◌, Bool, true, false, not, ◌&&◌, List, [], ◌∷◌, length, map, codes, decimal, bytes_eq, if◌then◌else◌, Option, Some, None, Result, Ok, Err, refl, ap, ap₂, sym, ◌∙◌, inl, inr}
-use Rattle.std.proofs.lemmas.Bool.{and_parts, cases_Bool}
+use Rattle.std.proofs.Common.{◌≡◌, ℕ, ◌<◌, ◌^◌, Bool, true, ◌&&◌, List, [], ◌∷◌, length, map, decimal, bytes_eq, if◌then◌else◌, Option, Some, None, Result, Ok, Err, refl, ap, ap₂, sym, ◌∙◌}
+use Rattle.std.proofs.lemmas.Bool.{and_parts}
 use Rattle.std.proofs.lemmas.List.{length-map}
 use Rattle.std.specs.Cmp.Lexicographic.{bytes_decides}
-use Rattle.std.specs.List.{AllByRecursion, list_all, list_any}
+use Rattle.std.specs.List.{AllByRecursion, list_all}
 use Rattle.std.specs.Str.Parse.{digits_value}
 use Rattle.tw_model.specs.declared.case.Scene.TheVariants.{Fail, Restore, Swap}
+use Rattle.tw_sim.proofs.Members.{in_find}
 use Rattle.tw_text.specs.declared.keyword.Keyword.{Keyword}
 use Rattle.tw_text.specs.declared.keyword.Keyword.TheVariants as keyword
 use Rattle.tw_text.specs.declared.text_fault.LineFault.{LineFault}
 use Rattle.tw_text.specs.declared.text_fault.LineFault.TheVariants as x
-use Rattle.tw_text.specs.Statements.{◌>>=◌, Statement, nodes_line, link_line, path_line, scene_line, end_line, takes_words, keyword_before, keyword_of, numbers_of, said, statement_of, takes, word_of}
+use Rattle.tw_text.specs.Statements.{◌>>=◌, Statement, nodes_line, link_line, path_line, scene_line, end_line, takes_words, keyword_before, keyword_of, keywords, numbers_of, said, statement_of, takes, word_of}
 use Rattle.tw_text.specs.Text.{keyword_in, numbers_in, words_of}
 use Rattle.tw_text.specs.declared.words.TheConstants.{MOST_DIGITS}
 use Rattle.tw_text.specs.Words.{is_number}
 use Rattle.tw_text.proofs.Numerals.{decimal-digits, decimal-form, decimal-some, number_is, value-decimal}
 use Rattle.tw_text.proofs.Splits.{IsWord, digits_are_signs, none_empty}
-use Rattle.tw_text.proofs.Steps.{bound}
+use Rattle.tw_text.proofs.Steps.{bound, passed}
 
 -- ---- from a statement to its words and back
 
@@ -93,24 +94,10 @@ statement_of-words s h =
 
 keyword_was : (found : Option Keyword) (ws : List (List ℕ)) (k : Keyword) → keyword_before found ws ≡ Ok k → found ≡ Some k
 keyword_was None ws k h = absurd (cc)
-keyword_was (Some j) ws k h =
-    elim (cases_Bool (takes_words j ws)) [
-      | inl t ↦ (let r : Result Keyword LineFault = Ok j in let g : r ≡ Ok k = rw t at h in let e : j ≡ k = cc in ap (λ k. Some k) e)
-      | inr f ↦ absurd (let r : Result Keyword LineFault = Err x.Word in let g : r ≡ Ok k = rw f at h in cc)
-    ]
-
--- one test of the word
-unless_word : (word : List ℕ) (j k : Keyword) (other : Option Keyword) → (other ≡ Some k → word ≡ word_of k) → (if bytes_eq word (word_of j) then Some j else other) ≡ Some k → word ≡ word_of k
-unless_word word j k other there h =
-    elim (cases_Bool (bytes_eq word (word_of j))) [
-      | inl t ↦ (let g : Some j ≡ Some k = rw t at h in let e : j ≡ k = cc in (bytes_decides word (word_of j)).0 t ∙ ap word_of e)
-      | inr f ↦ there (rw f at h)
-    ]
+keyword_was (Some j) ws k h = ap (λ k. Some k) (passed (takes_words j ws) j k x.Word h).1
 
 word_of-keyword : (word : List ℕ) (k : Keyword) → keyword_of word ≡ Some k → word ≡ word_of k
-word_of-keyword word k =
-    unless_word word keyword.Nodes k _ (unless_word word keyword.Link k _ (unless_word word keyword.Path k _ (unless_word word keyword.Fail k _
-    (unless_word word keyword.Restore k _ (unless_word word keyword.Swap k _ (unless_word word keyword.End k None (λ e. absurd (cc))))))))
+word_of-keyword word k h = (bytes_decides word (word_of k)).0 (in_find (λ k. bytes_eq word (word_of k)) k keywords h).0
 
 decimals-values : (ws : List (List ℕ)) → list_all is_number ws ≡ true → ws ≡ map decimal (map (digits_value 10) ws)
 decimals-values [] h = refl
@@ -118,10 +105,7 @@ decimals-values (w ∷ ws) h = let p = and_parts (is_number w) (list_all is_numb
 
 numbers_was : (ws : List (List ℕ)) (ns : List ℕ) → numbers_of ws ≡ Ok ns → ws ≡ map decimal ns
 numbers_was ws ns h =
-    elim (cases_Bool (list_all is_number ws)) [
-      | inl t ↦ (let r : Result (List ℕ) LineFault = Ok (map (digits_value 10) ws) in let g : r ≡ Ok ns = rw t at h in let e : map (digits_value 10) ws ≡ ns = cc in decimals-values ws t ∙ ap (map decimal) e)
-      | inr f ↦ absurd (let r : Result (List ℕ) LineFault = Err x.Number in let g : r ≡ Ok ns = rw f at h in cc)
-    ]
+    let p = passed (list_all is_number ws) (map (digits_value 10) ws) ns x.Number h in decimals-values ws p.0 ∙ ap (map decimal) p.1
 
 -- what stands in a statement
 record Holds (s : Statement) (k : Keyword) (ns : List ℕ) : Type 0 where

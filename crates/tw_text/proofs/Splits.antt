@@ -4,10 +4,11 @@ use Rattle.std.proofs.lemmas.Bool.{and_parts}
 use Rattle.std.proofs.Math.Bool.{or-true}
 use Rattle.std.proofs.lemmas.Bool.Decides.{nat_tests}
 use Rattle.std.proofs.lemmas.List.{append-nil}
+use Rattle.std.proofs.lemmas.List.Elements.{All-from_recursion}
 use Rattle.std.proofs.lemmas.List.Folds.{list_all-append}
-use Rattle.std.proofs.lemmas.List.Splits.{join_with_byte-slice_split}
+use Rattle.std.proofs.lemmas.List.Splits.{join_with_byte-slice_split, slice_split_at, slice_split_none}
 use Rattle.std.specs.Char.{is_ascii_digit}
-use Rattle.std.specs.List.{AllByRecursion, flat_map, join_with_byte, list_all, list_any, slice_split}
+use Rattle.std.specs.List.{All, AllByRecursion, flat_map, join_with_byte, list_all, list_any, slice_split}
 use Rattle.tw_text.specs.Text.{ended_line}
 use Rattle.tw_text.specs.Words.{is_plain, parts_of, words}
 
@@ -19,43 +20,32 @@ pub record IsWord (w : List ℕ) : Type 0 where
   pub some : (length w == 0) ≡ false
   pub signs : list_all is_sign w ≡ true
 
--- what stands before the first c is the first part
-split_at : (c : ℕ) (p : ℕ → Bool) → ((b : ℕ) → p b ≡ true → (b == c) ≡ false) → (xs ys : List ℕ) → list_all p xs ≡ true
-    → slice_split (λ b. b == c) (xs ++ c ∷ ys) ≡ xs ∷ slice_split (λ b. b == c) ys
-split_at c p apart [] ys h = let e : (c == c) ≡ true = grind (arith, nat_tests) in rw e refl
-split_at c p apart (x ∷ xs) ys h =
-    let w = and_parts (p x) (list_all p xs) h in rw (apart x w.0, split_at c p apart xs ys w.1) refl
+-- a test that passes where another does
+weaker : (p q : ℕ → Bool) → ((b : ℕ) → p b ≡ true → q b ≡ true) → (w : List ℕ) → list_all p w ≡ true → list_all q w ≡ true
+weaker p q f [] h = refl
+weaker p q f (b ∷ w) h = let v = and_parts (p b) (list_all p w) h in rw (f b v.0, weaker p q f w v.1) refl
 
--- where there is no c, there is one part
-split_one : (c : ℕ) (p : ℕ → Bool) → ((b : ℕ) → p b ≡ true → (b == c) ≡ false) → (xs : List ℕ) → list_all p xs ≡ true → slice_split (λ b. b == c) xs ≡ xs ∷ []
-split_one c p apart [] h = refl
-split_one c p apart (x ∷ xs) h =
-    let w = and_parts (p x) (list_all p xs) h in rw (apart x w.0, split_one c p apart xs w.1) refl
+-- no byte that passes the test is c
+apart : (c : ℕ) (p : ℕ → Bool) → ((b : ℕ) → p b ≡ true → (b == c) ≡ false) → (w : List ℕ) → list_all p w ≡ true → AllByRecursion (λ b. (b == c) ≡ false) w
+apart c p f [] h = tt
+apart c p f (b ∷ w) h = let v = and_parts (p b) (list_all p w) h in (f b v.0, apart c p f w v.1)
 
-sign_apart : (b : ℕ) → is_sign b ≡ true → (b == 32) ≡ false
-sign_apart b h = grind (arith, nat_tests)
+no_space : (w : List ℕ) → list_all is_sign w ≡ true → All (λ b. (b == 32) ≡ false) w
+no_space w h = All-from_recursion (λ b. (b == 32) ≡ false) w (apart 32 is_sign (λ b s. grind (arith, nat_tests)) w h)
 
-plain_apart : (b : ℕ) → is_plain b ≡ true → (b == 10) ≡ false
-plain_apart b h = grind (arith, nat_tests)
-
-sign_plain : (b : ℕ) → is_sign b ≡ true → is_plain b ≡ true
-sign_plain b h = rw h (or-true (b == 32))
+no_line_feed : (l : List ℕ) → list_all is_plain l ≡ true → All (λ b. (b == 10) ≡ false) l
+no_line_feed l h = All-from_recursion (λ b. (b == 10) ≡ false) l (apart 10 is_plain (λ b s. grind (arith, nat_tests)) l h)
 
 all_plain : (w : List ℕ) → list_all is_sign w ≡ true → list_all is_plain w ≡ true
-all_plain [] h = refl
-all_plain (b ∷ w) h = let v = and_parts (is_sign b) (list_all is_sign w) h in rw (sign_plain b v.0, all_plain w v.1) refl
+all_plain = weaker is_sign is_plain (λ b h. rw h (or-true (b == 32)))
 
 pub digits_are_signs : (w : List ℕ) → list_all is_ascii_digit w ≡ true → list_all is_sign w ≡ true
-digits_are_signs [] h = refl
-digits_are_signs (b ∷ w) h =
-    let v = and_parts (is_ascii_digit b) (list_all is_ascii_digit w) h in
-    let d : is_sign b ≡ true = grind (arith, nat_tests) in
-    rw (d, digits_are_signs w v.1) refl
+digits_are_signs = weaker is_ascii_digit is_sign (λ b h. grind (arith, nat_tests))
 
 -- words that are joined by spaces
 pub words-join : (w : List ℕ) (ws : List (List ℕ)) → AllByRecursion IsWord (w ∷ ws) → words (join_with_byte 32 (w ∷ ws)) ≡ w ∷ ws
-words-join w [] h = split_one 32 is_sign sign_apart w h.0.signs
-words-join w (v ∷ ws) h = split_at 32 is_sign sign_apart w (join_with_byte 32 (v ∷ ws)) h.0.signs ∙ ap (λ t. w ∷ t) (words-join v ws h.1)
+words-join w [] h = slice_split_none (λ b. b == 32) w (no_space w h.0.signs)
+words-join w (v ∷ ws) h = slice_split_at (λ b. b == 32) w 32 (join_with_byte 32 (v ∷ ws)) (no_space w h.0.signs) refl ∙ ap (λ t. w ∷ t) (words-join v ws h.1)
 
 -- a line of words is plain
 pub join-plain : (w : List ℕ) (ws : List (List ℕ)) → AllByRecursion IsWord (w ∷ ws) → list_all is_plain (join_with_byte 32 (w ∷ ws)) ≡ true
@@ -72,7 +62,7 @@ pub parts-lines : (lines : List (List ℕ)) → AllByRecursion (λ l. list_all i
 parts-lines [] h = refl
 parts-lines (l ∷ lines) h =
     ap (slice_split (λ b. b == 10)) (append_assoc l (10 ∷ []) (flat_map ended_line lines))
-    ∙ split_at 10 is_plain plain_apart l (flat_map ended_line lines) h.0
+    ∙ slice_split_at (λ b. b == 10) l 10 (flat_map ended_line lines) (no_line_feed l h.0) refl
     ∙ ap (λ t. l ∷ t) (parts-lines lines h.1)
 
 join-lines : (lines : List (List ℕ)) → join_with_byte 10 (lines ++ [] ∷ []) ≡ flat_map ended_line lines

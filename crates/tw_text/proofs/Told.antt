@@ -2,7 +2,6 @@
 use Rattle.std.proofs.Common.{◌≡◌, ◌↔◌, ℕ, List, Result, Ok, Err, IfOk, ap, sym, ◌∙◌}
 use Rattle.tw_model.specs.Case.{Case, IsCase}
 use Rattle.tw_model.specs.declared.memory.OrMemory.{OrMemory}
-use Rattle.tw_model.specs.declared.memory.OrMemory.TheVariants.{Fault, Memory}
 use Rattle.tw_model.specs.Memory.{IsUnlessMemory}
 use Rattle.tw_text.specs.declared.text_fault.TextFault.{TextFault}
 use Rattle.tw_text.specs.Reading.{case_of}

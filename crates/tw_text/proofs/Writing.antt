@@ -1,6 +1,6 @@
 -- The text of a case, part by part.
 use Rattle.std.proofs.Common.{◌≡◌, ℕ, List, [], ◌∷◌, ◌++◌, map, codes, decimal, ap, ap₂, sym, ◌∙◌, append_assoc}
-use Rattle.std.proofs.lemmas.List.{append-nil, map-append}
+use Rattle.std.proofs.lemmas.List.{append-nil}
 use Rattle.std.proofs.lemmas.List.Concat.{flat_map-append}
 use Rattle.std.proofs.lemmas.List.Folds.{flat_map-map}
 use Rattle.std.specs.List.{flat_map, join_with_byte}
@@ -10,7 +10,7 @@ use Rattle.tw_model.specs.Net.{Net}
 use Rattle.tw_model.specs.declared.case.Scene.{Scene}
 use Rattle.tw_model.specs.declared.net.Link.{Link}
 use Rattle.tw_text.specs.Statements.{Statement, nodes_line, link_line, path_line, scene_line, end_line}
-use Rattle.tw_text.specs.Text.{ended_line, line_of, lines_of, statements_of, text_of_case}
+use Rattle.tw_text.specs.Text.{ended_line, line_of, statements_of, text_of_case}
 
 -- the lines of statements, each with its end
 abbrev pub lines_text : List Statement → List ℕ

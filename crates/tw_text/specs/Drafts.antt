@@ -1,5 +1,5 @@
 -- What the functions return that read one line (own).
-use Rattle.std.specs.Prelude.{ℕ, ◌^◌, nat_lt, Bool, not, ◌||◌, List, [], ◌∷◌, ◌++◌, length, Option, None, Some, Result, Ok, Err, option_map, if◌then◌else◌}
+use Rattle.std.specs.Prelude.{ℕ, ◌^◌, nat_lt, Bool, not, ◌||◌, List, [], ◌∷◌, ◌++◌, length, Option, Some, Result, Ok, Err, option_map, if◌then◌else◌}
 use Rattle.std.specs.List.{find, list_all}
 use Rattle.std.specs.Result.{result_map_both}
 use Rattle.std.specs.declared.alloc.Global.{Global}
@@ -13,7 +13,7 @@ use Rattle.tw_model.specs.declared.net.Link.{Link}
 use Rattle.tw_model.specs.declared.rule.Rule.{Rule}
 use Rattle.tw_model.specs.declared.rule.Rule.TheVariants.{Range}
 use Rattle.tw_text.specs.declared.draft.Draft.{Draft}
-use Rattle.tw_text.specs.declared.draft.Draft.TheVariants.{Start, Header, Links, Paths, Scenes, Done}
+use Rattle.tw_text.specs.declared.draft.Draft.TheVariants.{Header, Links, Paths, Scenes, Done}
 use Rattle.tw_text.specs.declared.text_fault.LineFault.{LineFault}
 use Rattle.tw_text.specs.declared.text_fault.LineFault.TheVariants as x
 use Rattle.tw_text.specs.FaultTable.{breaks, is_done, is_misplaced, unless_fault, with_statement}
@@ -42,7 +42,7 @@ step_by d s ended = unless_fault (fault_after d s ended) (with_statement d s)
 abbrev pub step_said : Draft → Result Statement LineFault → Bool → Result Draft LineFault
 step_said d said ended = said >>= λ s. step_by d s ended
 
--- whether the line has its end
+-- what comes next, where the line has its end
 abbrev pub check_ended : Bool → {A : Type 0} → A → Result A LineFault
 check_ended ended next = if ended then Ok next else Err x.End
 

@@ -1,6 +1,6 @@
 -- What a line says, from line 2 on: a keyword with numbers behind it (own).
 use Rattle.std.specs.Prelude.{ℕ, ◌==◌, nat_le, Bool, not, ◌&&◌, List, [], ◌∷◌, length, map, if◌then◌else◌, Option, Some, None, Result, Ok, Err, bytes_eq, codes}
-use Rattle.std.specs.List.{list_all, list_any}
+use Rattle.std.specs.List.{find, list_all, list_any}
 use Rattle.std.specs.Str.Parse.{digits_value}
 use Rattle.tw_model.specs.declared.case.Scene.{Scene}
 use Rattle.tw_model.specs.declared.case.Scene.TheVariants.{Fail, Restore, Swap}
@@ -36,17 +36,13 @@ word_of keyword.Restore = codes "restore"
 word_of keyword.Swap = codes "swap"
 word_of keyword.End = codes "end"
 
+-- every keyword
+abbrev pub keywords : List Keyword
+keywords = keyword.Nodes ∷ keyword.Link ∷ keyword.Path ∷ keyword.Fail ∷ keyword.Restore ∷ keyword.Swap ∷ keyword.End ∷ []
+
 -- the keyword that a word is
 abbrev pub keyword_of : List ℕ → Option Keyword
-keyword_of word =
-    if bytes_eq word (codes "nodes") then Some keyword.Nodes
-    else if bytes_eq word (codes "link") then Some keyword.Link
-    else if bytes_eq word (codes "path") then Some keyword.Path
-    else if bytes_eq word (codes "fail") then Some keyword.Fail
-    else if bytes_eq word (codes "restore") then Some keyword.Restore
-    else if bytes_eq word (codes "swap") then Some keyword.Swap
-    else if bytes_eq word (codes "end") then Some keyword.End
-    else None
+keyword_of word = find (λ k. bytes_eq word (word_of k)) keywords
 
 -- whether so many words may follow the keyword on its line
 abbrev pub takes : Keyword → ℕ → Bool

@@ -1,7 +1,8 @@
 ghost use Rattle.std.specs.Prelude.{◌≡◌};
 ghost use Rattle.tw_model.specs.Memory.{IsUnlessMemory, map_fault};
 ghost use Rattle.tw_model.specs.declared.case.Scene.TheVariants as AScene;
-ghost use Rattle.tw_text.specs.Drafts.{before_links, before_paths, before_scenes, check_ended, check_header, node_in, nodes_in, of_rule, place_of, result_items, step_said, with_link, with_nodes, with_path, with_scene};
+ghost use Rattle.tw_text.specs.Drafts.{before_links, before_paths, before_scenes, check_ended, check_header, node_in, nodes_in, place_of};
+ghost use Rattle.tw_text.specs.Drafts.{result_items, step_said, with_link, with_nodes, with_path, with_scene};
 ghost use Rattle.tw_text.specs.Statements.{said};
 
 use crate::keyword::Keyword;
@@ -67,6 +68,7 @@ pub(crate) fn take_statement(
     }
 }
 
+/// An instance of so many routers, with no link and no path.
 fn with_nodes(alloc: Global, nodes: u64) -> Result<Draft, OrMemory<LineFault>>
     ensures { IsUnlessMemory result (with_nodes nodes) }
 {
@@ -79,6 +81,7 @@ fn with_nodes(alloc: Global, nodes: u64) -> Result<Draft, OrMemory<LineFault>>
     }
 }
 
+/// The instance with one more link.
 fn with_link(
     mut instance: Instance,
     first: u64,
@@ -99,6 +102,7 @@ fn with_link(
     }
 }
 
+/// The instance with one more path.
 fn with_path(
     alloc: Global,
     mut instance: Instance,
@@ -115,6 +119,7 @@ fn with_path(
     }
 }
 
+/// The case with one more failure of a link.
 fn with_fail(case: Case, time: u64, first: u64, second: u64) -> Result<Draft, OrMemory<LineFault>>
     ensures { IsUnlessMemory result (with_scene case (AScene.Fail time first second)) }
 {
@@ -130,6 +135,7 @@ fn with_fail(case: Case, time: u64, first: u64, second: u64) -> Result<Draft, Or
     )
 }
 
+/// The case with one more repair of a link.
 fn with_restore(
     case: Case,
     time: u64,
@@ -150,6 +156,7 @@ fn with_restore(
     )
 }
 
+/// The case with one more exchange of two places of an order.
 fn with_swap(
     case: Case,
     time: u64,
@@ -172,6 +179,7 @@ fn with_swap(
     )
 }
 
+/// The case with one more scene.
 fn with_scene(mut case: Case, scene: Scene) -> Result<Draft, OrMemory<LineFault>>
     ensures { IsUnlessMemory result (with_scene case scene) }
 {
@@ -181,7 +189,7 @@ fn with_scene(mut case: Case, scene: Scene) -> Result<Draft, OrMemory<LineFault>
     }
 }
 
-/// That the line after the header has its end.
+/// That the header is the line before, and that this one has its end.
 fn check_header(draft: Draft, ended: bool) -> Result<(), LineFault>
     ensures { result ≡ check_header draft ended }
 {
@@ -235,6 +243,7 @@ fn before_scenes(alloc: Global, draft: Draft, ended: bool) -> Result<Case, OrMem
     }
 }
 
+/// That the line has its end.
 fn check_end(ended: bool) -> Result<(), LineFault>
     ensures { result ≡ check_ended ended tt }
 {

@@ -52,6 +52,7 @@ impl Keyword {
     }
 }
 
+/// Whether one of the words is empty.
 fn has_empty(words: &[&[u8]]) -> bool
     ensures { result ≡ list_any (λ w. length w.now == 0) words.now }
 {

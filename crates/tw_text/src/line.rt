@@ -32,6 +32,7 @@ pub(crate) fn read_line(
     }
 }
 
+/// What line 1 gives.
 fn read_header(line: &[u8], ended: bool) -> Result<Draft, LineFault>
     requires { list_all is_plain line.now ≡ true }
     ensures { result ≡ step Draft.Start line.now ended }
@@ -51,6 +52,7 @@ fn is_header(line: &[u8]) -> bool
     line == b"spp 1".as_slice()
 }
 
+/// What a line from the second on adds.
 fn read_later(
     alloc: Global,
     draft: Draft,
@@ -94,6 +96,7 @@ fn keyword_before(word: &[u8], arguments: &[&[u8]]) -> Result<Keyword, LineFault
     }
 }
 
+/// The numbers that the words are.
 fn numbers_of(alloc: Global, words: &[&[u8]]) -> Result<Vec<u64>, OrMemory<LineFault>>
     ensures { IsUnlessMemory (result_items result) (numbers_of (map (λ w. w.now) words.now)) }
 {

@@ -1,6 +1,6 @@
 ghost use Rattle.std.specs.Prelude.{◌≡◌, Some};
 ghost use Rattle.tw_model.specs.declared.memory.OrMemory.TheVariants.{Fault};
-ghost use Rattle.tw_text.specs.FaultNames.{fault_code, fault_name, fault_text, refusal_text, rule_code, rule_name};
+ghost use Rattle.tw_text.specs.FaultNames.{fault_row, fault_text, refusal_text, rule_row};
 
 use std::fmt::{self, Display, Formatter};
 use thiserror::Error;
@@ -39,31 +39,31 @@ pub struct TextFault {
 impl LineFault {
     /// The code: `X1` to `X6`, and `I1` to `I13` of the rules.
     pub fn code(&self) -> &'static str
-        ensures { result.now ≡ fault_code self.now }
+        ensures { result.now ≡ (fault_row self.now).0 }
     {
-        match self {
-            LineFault::Byte => "X1",
-            LineFault::Header => "X2",
-            LineFault::Word => "X3",
-            LineFault::Number => "X4",
-            LineFault::Order => "X5",
-            LineFault::End => "X6",
-            LineFault::Rule(rule) => rule_code(*rule),
-        }
+        self.row().0
     }
 
     /// The name, as `Header` or `SelfLink`.
     pub fn name(&self) -> &'static str
-        ensures { result.now ≡ fault_name self.now }
+        ensures { result.now ≡ (fault_row self.now).1 }
+    {
+        self.row().1
+    }
+
+    /// The code and the name.
+    fn row(&self) -> (&'static str, &'static str)
+        ensures code { result.0.now ≡ (fault_row self.now).0 }
+        ensures name { result.1.now ≡ (fault_row self.now).1 }
     {
         match self {
-            LineFault::Byte => "Byte",
-            LineFault::Header => "Header",
-            LineFault::Word => "Word",
-            LineFault::Number => "Number",
-            LineFault::Order => "Order",
-            LineFault::End => "End",
-            LineFault::Rule(rule) => rule_name(*rule),
+            LineFault::Byte => ("X1", "Byte"),
+            LineFault::Header => ("X2", "Header"),
+            LineFault::Word => ("X3", "Word"),
+            LineFault::Number => ("X4", "Number"),
+            LineFault::Order => ("X5", "Order"),
+            LineFault::End => ("X6", "End"),
+            LineFault::Rule(rule) => rule_row(*rule),
         }
     }
 }
@@ -72,7 +72,7 @@ impl Display for LineFault {
     ghost output = { λ fault. Some (fault_text fault) };
 
     fn fmt<W: fmt::Write>(&self, f: &mut Formatter<W>) -> fmt::Result {
-        let (code, name) = (self.code(), self.name());
+        let (code, name) = self.row();
         write!(f, "{code} {name}")
     }
 }
@@ -102,42 +102,23 @@ impl From<TextFault> for OrMemory<TextFault> {
     }
 }
 
-fn rule_code(rule: Rule) -> &'static str
-    ensures { result.now ≡ rule_code rule }
+fn rule_row(rule: Rule) -> (&'static str, &'static str)
+    ensures code { result.0.now ≡ (rule_row rule).0 }
+    ensures name { result.1.now ≡ (rule_row rule).1 }
 {
     match rule {
-        Rule::Range => "I1",
-        Rule::SelfLink => "I2",
-        Rule::TwiceLink => "I3",
-        Rule::Delay => "I4",
-        Rule::PathOwner => "I5",
-        Rule::PathEnd => "I6",
-        Rule::PathRepeats => "I7",
-        Rule::PathNoLink => "I8",
-        Rule::TwicePath => "I9",
-        Rule::TooMany => "I10",
-        Rule::NoSuchLink => "I11",
-        Rule::NoSuchPlace => "I12",
-        Rule::Time => "I13",
-    }
-}
-
-fn rule_name(rule: Rule) -> &'static str
-    ensures { result.now ≡ rule_name rule }
-{
-    match rule {
-        Rule::Range => "Range",
-        Rule::SelfLink => "SelfLink",
-        Rule::TwiceLink => "TwiceLink",
-        Rule::Delay => "Delay",
-        Rule::PathOwner => "PathOwner",
-        Rule::PathEnd => "PathEnd",
-        Rule::PathRepeats => "PathRepeats",
-        Rule::PathNoLink => "PathNoLink",
-        Rule::TwicePath => "TwicePath",
-        Rule::TooMany => "TooMany",
-        Rule::NoSuchLink => "NoSuchLink",
-        Rule::NoSuchPlace => "NoSuchPlace",
-        Rule::Time => "Time",
+        Rule::Range => ("I1", "Range"),
+        Rule::SelfLink => ("I2", "SelfLink"),
+        Rule::TwiceLink => ("I3", "TwiceLink"),
+        Rule::Delay => ("I4", "Delay"),
+        Rule::PathOwner => ("I5", "PathOwner"),
+        Rule::PathEnd => ("I6", "PathEnd"),
+        Rule::PathRepeats => ("I7", "PathRepeats"),
+        Rule::PathNoLink => ("I8", "PathNoLink"),
+        Rule::TwicePath => ("I9", "TwicePath"),
+        Rule::TooMany => ("I10", "TooMany"),
+        Rule::NoSuchLink => ("I11", "NoSuchLink"),
+        Rule::NoSuchPlace => ("I12", "NoSuchPlace"),
+        Rule::Time => ("I13", "Time"),
     }
 }

@@ -8,6 +8,7 @@ returns-in_err-put_send g c =
     c.from_residual.ensures.0 c.in_err-put_send.ensures
 
 pub loop-send-preserved : goal.loop-send-preserved
-loop-send-preserved g c =
-    (c.in_ok-put_send.ensures.1,
-    each_more (send_line c.args.instance.now) c.args.sends.now c.loop-send.send-index _ _ _ _ c.loop-send-test.true c.loop-send.invariant.1 c.in_ok-put_send.ensures.0)
+loop-send-preserved g c = (
+  c.in_ok-put_send.ensures.1,
+  each_more (send_line c.args.instance.now) c.args.sends.now c.loop-send.send-index _ _ _ _ c.loop-send-test.true c.loop-send.invariant.1 c.in_ok-put_send.ensures.0,
+)

@@ -18,7 +18,8 @@ pub loop-node-preserved : goal.loop-node-preserved
 loop-node-preserved g c =
     let net = c.args.instance.now in
     let routers = c.args.routers.now in
-    let node = c.loop-node.node in
-    (c.in_ok-put_router.ensures.1,
-    partway_more _ _ _ (router_lines net (node + 1) (drop (node + 1) routers)) _ _ _
-    (ap (router_lines net node) (drop_more routers node _ c.loop-node-test.true)) c.loop-node.invariant.1 c.in_ok-put_router.ensures.0)
+    let node = c.loop-node.node in (
+      c.in_ok-put_router.ensures.1,
+      partway_more _ _ _ (router_lines net (node + 1) (drop (node + 1) routers)) _ _ _
+          (ap (router_lines net node) (drop_more routers node _ c.loop-node-test.true)) c.loop-node.invariant.1 c.in_ok-put_router.ensures.0,
+    )

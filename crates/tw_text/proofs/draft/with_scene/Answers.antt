@@ -7,4 +7,6 @@ use Rattle.tw_text.proofs.draft.with_scene.Goals as goal
 pub returns-in-Err : goal.returns-in-Err
 returns-in-Err c =
     let case = c.args.case in
-    refused c.add.result _ _ (scene_fault case.net (length case.scenes) c.args.scene) (Scenes (record case { scenes = case.scenes ++ c.args.scene ∷ [] })) c.in-Err.is c.rule_fault.ensures c.add.ensures.rule
+    let fault = scene_fault case.net (length case.scenes) c.args.scene in
+    let next = Scenes (record case { scenes = case.scenes ++ c.args.scene ∷ [] }) in
+    refused c.add.result _ _ fault next c.in-Err.is c.rule_fault.ensures c.add.ensures.rule

@@ -1,4 +1,4 @@
-use Rattle.std.proofs.Common.{refl, sym, ◌∙◌}
+use Rattle.std.proofs.Common.{sym, ◌∙◌}
 use Rattle.tw_text.proofs.Faults.{plain_step}
 use Rattle.tw_text.proofs.line.read_line.Goals as goal
 

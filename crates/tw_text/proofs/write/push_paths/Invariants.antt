@@ -7,4 +7,5 @@ use Rattle.tw_text.proofs.write.push_paths.Given as goal
 
 abbrev pub invariant-loop-path : goal.invariant-loop-path
 invariant-loop-path l =
-    string_bytes l.text ++ flat_map (λ p. ended_line (line_of (path_line p))) (drop l.path-index l.paths) ≡ string_bytes l.initial.text ++ flat_map (λ p. ended_line (line_of (path_line p))) l.paths
+    string_bytes l.text ++ flat_map (λ p. ended_line (line_of (path_line p))) (drop l.path-index l.paths)
+    ≡ string_bytes l.initial.text ++ flat_map (λ p. ended_line (line_of (path_line p))) l.paths

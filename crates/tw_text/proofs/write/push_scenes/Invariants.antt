@@ -7,4 +7,5 @@ use Rattle.tw_text.proofs.write.push_scenes.Given as goal
 
 abbrev pub invariant-loop-scene : goal.invariant-loop-scene
 invariant-loop-scene l =
-    string_bytes l.text ++ flat_map (λ s. ended_line (line_of (scene_line s))) (drop l.scene-index l.scenes) ≡ string_bytes l.initial.text ++ flat_map (λ s. ended_line (line_of (scene_line s))) l.scenes
+    string_bytes l.text ++ flat_map (λ s. ended_line (line_of (scene_line s))) (drop l.scene-index l.scenes)
+    ≡ string_bytes l.initial.text ++ flat_map (λ s. ended_line (line_of (scene_line s))) l.scenes

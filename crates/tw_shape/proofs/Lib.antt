@@ -1,0 +1,14 @@
+pub mod Shift
+pub mod Alike
+pub mod Waiting
+pub mod Repeating
+pub mod Sameness
+pub mod Hashing
+pub mod Packing
+pub mod Looking
+pub mod Searching
+pub mod Firsts
+pub mod Stillness
+pub mod Findings
+pub mod Seeing
+pub mod Forever

@@ -1,0 +1,37 @@
+-- Tests of whether shapes are the same (own).
+use Rattle.std.specs.Prelude.{◌==◌, Bool, ◌&&◌}
+use lib.Pointwise.{pointwise}
+use Rattle.std.specs.Bool.{beq}
+use Rattle.std.specs.Cmp.{IsEquivalence, and_equiv, bool_eq_equiv, eq_by_cmp_equiv, nat_eq_equiv, on_equiv}
+use Rattle.std.specs.Cmp.Lexicographic.{lists_equiv}
+use Rattle.tw_event.specs.declared.event.PathNo.{PathNo}
+use Rattle.tw_event.specs.Order.{event_same}
+use Rattle.tw_event.proofs.Order.{event_total}
+use Rattle.tw_model.specs.declared.state.Row.{Row}
+use Rattle.tw_shape.specs.Shape.{RouterShape, Shape}
+
+-- whether two paths, rows, routers or shapes are the same in every part
+abbrev pub same_path : PathNo → PathNo → Bool
+same_path p q = p.0 == q.0
+
+abbrev pub same_row : Row → Row → Bool
+same_row r s = same_path r.heard s.heard && (beq r.up s.up && (r.session == s.session))
+
+abbrev pub same_router : RouterShape → RouterShape → Bool
+same_router r s = same_path r.rib s.rib && (pointwise same_row r.rows s.rows && pointwise same_path r.order s.order)
+
+abbrev pub same_shape : Shape → Shape → Bool
+same_shape s t = pointwise same_router s.routers t.routers && pointwise event_same s.pending t.pending
+
+router_equiv : IsEquivalence same_router
+router_equiv =
+    and_equiv (on_equiv (λ r. r.rib) path_equiv) (and_equiv (on_equiv (λ r. r.rows) (lists_equiv row_equiv)) (on_equiv (λ r. r.order) (lists_equiv path_equiv))) where
+      path_equiv : IsEquivalence same_path
+      path_equiv = on_equiv (λ p. p.0) nat_eq_equiv
+
+      row_equiv : IsEquivalence same_row
+      row_equiv = and_equiv (on_equiv (λ r. r.heard) path_equiv) (and_equiv (on_equiv (λ r. r.up) bool_eq_equiv) (on_equiv (λ r. r.session) nat_eq_equiv))
+
+-- the law of the equality of shapes
+pub shape_equiv : IsEquivalence same_shape
+shape_equiv = and_equiv (on_equiv (λ s. s.routers) (lists_equiv router_equiv)) (on_equiv (λ s. s.pending) (lists_equiv (eq_by_cmp_equiv event_total)))

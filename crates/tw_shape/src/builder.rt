@@ -1,0 +1,109 @@
+ghost use Rattle.std.specs.Prelude.{◌≡◌, [], ◌∷◌, ◌++◌, map, slice_index, OnErr, OnOk};
+ghost use Rattle.tw_shape.specs.Shape.{seen_from};
+
+use crate::shape::{Parts, Shape, Span};
+use std::alloc::{AllocError, Global};
+use std::marker::Model;
+use tw_event::{Body, Event, PathNo};
+use tw_model::Row;
+
+/// Gathers a run's routers, in rising number, and then its pending events, into the shape at a time.
+#[derive(Drop, Debug)]
+pub struct ShapeBuilder {
+    time: u64,
+    spans: Vec<Span>,
+    rows: Vec<Row>,
+    order: Vec<PathNo>,
+    sent: Vec<u64>,
+}
+
+impl Model for ShapeBuilder {
+    ghost use Rattle.tw_shape.specs.Shape as shape;
+    ghost use Rattle.tw_shape.specs.Packed.{Covers, routers_of};
+
+    ghost Value = { shape.Draft };
+
+    ghost view = { λ a. record { time = a.time; routers = routers_of a.spans.items a.rows.items a.order.items; sent = a.sent.items } };
+
+    ghost invariant = { λ a. Covers a.spans.items a.rows.items a.order.items };
+}
+
+impl ShapeBuilder {
+    /// No routers, for the shape at `time`, in ticks.
+    pub fn new(alloc: Global, time: u64) -> ShapeBuilder
+        ensures { result ≡ record { time = time; routers = []; sent = [] } }
+    {
+        ShapeBuilder {
+            time,
+            spans: Vec::new(alloc),
+            rows: Vec::new(alloc),
+            order: Vec::new(alloc),
+            sent: Vec::new(alloc),
+        }
+    }
+
+    /// Adds the next router: its path, its rows, its order, and how many messages it has sent. An error
+    /// changes nothing.
+    pub fn add_router(
+        &mut self,
+        rib: PathNo,
+        rows: &[Row],
+        order: &[PathNo],
+        sent: u64,
+    ) -> Result<(), AllocError>
+        ensures ok { OnOk result
+            (self.new ≡ record self.old { routers = self.old.routers ++ record { rib = rib; rows = rows.now; order = order.now } ∷ []; sent = self.old.sent ++ sent ∷ [] }) }
+        ensures err { OnErr result (self.new ≡ self.old) }
+    {
+        self.spans.reserve(1)?;
+        self.rows.reserve(rows.len())?;
+        self.order.reserve(order.len())?;
+        self.sent.push(sent)?;
+        self.spans.push_reserved(Span {
+            rib,
+            rows: rows.len(),
+            order: order.len(),
+        });
+        self.rows.extend_from_slice(rows).unwrap();
+        self.order.extend_from_slice(order).unwrap();
+        Ok(())
+    }
+
+    /// The shape, with these events pending.
+    pub fn finish(self, mut pending: Vec<Event>) -> Shape
+        ensures { result
+            ≡ record { routers = self.routers; pending = map (λ e. seen_from self.time (slice_index self.sent e.src) e) pending.items } }
+    {
+        see_from(&mut pending, self.time, &self.sent);
+        Shape::of_parts(Parts {
+            spans: self.spans,
+            rows: self.rows,
+            order: self.order,
+            pending,
+        })
+    }
+}
+
+/// The events as they are seen from `time`, when each router has sent so many messages.
+fn see_from(events: &mut [Event], time: u64, sent: &[u64])
+    ensures { events.new ≡ map (λ e. seen_from time (slice_index sent.now e.src) e) events.old }
+{
+    for i in 0..events.len() {
+        events[i] = seen_from(events[i], time, sent);
+    }
+}
+
+fn seen_from(event: Event, time: u64, sent: &[u64]) -> Event
+    ensures { result ≡ seen_from time (slice_index sent.now event.src) event }
+{
+    let sent = sent.get(event.src as usize).copied().unwrap_or(0);
+    let seq = match event.body {
+        Body::Update { .. } => sent.saturating_sub(event.seq),
+        _ => event.seq,
+    };
+    Event {
+        time: event.time.saturating_sub(time),
+        seq,
+        ..event
+    }
+}

@@ -1,0 +1,10 @@
+use Rattle.twarp.proofs.perform.perform.Goals as goal
+
+pub returns-in-Check-clause-answer : goal.returns-in-Check-clause-answer
+returns-in-Check-clause-answer g c = rw c.in-Check.is c.check_io.ensures.answer
+
+pub returns-in-Seq-clause-answer : goal.returns-in-Seq-clause-answer
+returns-in-Seq-clause-answer g c = rw c.in-Seq.is c.seq_io.ensures.answer
+
+pub returns-in-Trail-clause-answer : goal.returns-in-Trail-clause-answer
+returns-in-Trail-clause-answer g c = rw c.in-Trail.is c.trail_io.ensures.answer
