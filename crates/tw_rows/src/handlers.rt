@@ -5,9 +5,8 @@ ghost use Rattle.std.specs.Prelude.{◌≡◌, ◌<◌, IfOk};
 use crate::texts::{DISAGREE, FAILURE_AND_REPAIR, RANK_EXCHANGE};
 use smallvec::SmallVec;
 use std::alloc::Global;
-use std::mem::size_of;
 use tw_event::{Body, Event, PathNo};
-use tw_handlers::{Fault, Trail, UndoRecord, handle, undo};
+use tw_handlers::{Fault, Trail, handle, undo};
 use tw_instance::{Case, Instance};
 use tw_lanes::first_equal;
 use tw_model::limits::MOST_COUNTED;
@@ -263,9 +262,4 @@ fn a_case_that_was_read_is_written_as_it_was(rt: HostRuntime) {
         };
         assert!(rt; written.as_slice() == text.as_bytes());
     }
-}
-
-#[test]
-fn a_record_is_small(rt: HostRuntime) {
-    assert!(rt; size_of::<UndoRecord>() <= 16);
 }

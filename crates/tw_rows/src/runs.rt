@@ -1,6 +1,6 @@
 //! Runs and reports by calls.
 
-ghost use Rattle.std.specs.Prelude.{◌≡◌, ◌≤◌, IfOk};
+ghost use Rattle.std.specs.Prelude.{◌≡◌, ◌≤◌, false, IfOk};
 ghost use Rattle.tw_model.specs.declared.limits.TheConstants.{LATEST};
 ghost use Rattle.tw_model.specs.Net.{Net};
 ghost use Rattle.tw_model.specs.Summary.{summary_of};
@@ -94,6 +94,16 @@ fn alone_at_last(alloc: Global) -> Result<Outcome, AllocError>
     }
 }
 
+/// A page that takes `room` bytes, asked for once more where memory was refused.
+fn page_at_last(alloc: Global, room: usize) -> Result<ShortPage, AllocError>
+    ensures { IfOk result (λ page. page.failed ≡ false) }
+{
+    match ShortPage::new(alloc, room, AMPLE) {
+        Err(_) => ShortPage::new(alloc, room, AMPLE),
+        answer => answer,
+    }
+}
+
 /// How writing the report ends, and the page that it is on, which takes `room` bytes.
 fn report(
     alloc: Global,
@@ -103,9 +113,7 @@ fn report(
 ) -> Result<(Result<(), Failed>, ShortPage), AllocError>
     requires { HasPaths instance.now (summary_of outcome.now) }
 {
-    let mut page = ShortPage::new(alloc, room, AMPLE).or_else(|_| ShortPage::new(
-        alloc, room, AMPLE,
-    ))?;
+    let mut page = page_at_last(alloc, room)?;
     let ended = write_report(&mut page, instance, outcome, Verdict::of(outcome), true);
     Ok((ended, page))
 }

@@ -24,7 +24,7 @@ use Rattle.tw_text.specs.declared.text_fault.LineFault.{LineFault}
 use Rattle.tw_text.specs.declared.text_fault.LineFault.TheVariants as x
 use Rattle.tw_text.specs.Drafts.{before_scenes, node_in, nodes_in, of_rule, place_of, step_by, step_said, with_link, with_path, with_scene}
 use Rattle.tw_text.specs.FaultTable.{unless_fault}
-use Rattle.tw_text.specs.Statements.{said, scene_line}
+use Rattle.tw_text.specs.Statements.{statement_with, scene_line}
 use Rattle.tw_text.proofs.Steps.{passed}
 
 pub refused : {A : Type 0} (result : Result A (OrMemory Rule)) (e : OrMemory Rule) (f : OrMemory LineFault) (fault : Option Rule) (next : Draft) → result ≡ Err e → f ≡ map_fault (λ r. x.Rule r) e
@@ -105,18 +105,21 @@ scene_step (Links net) s true case h = ap (λ case. with_scene case s) (passed t
 scene_step (Paths net) s true case h = ap (λ case. with_scene case s) (passed true (record { net = net; scenes = [] }) case x.End h).1
 scene_step (Scenes c) s true case h = ap (λ case. with_scene case s) (passed true c case x.End h).1
 
-pub scene_taken : (d : Draft) (k : Keyword) (ns : List ℕ) (s : Scene) (ended : Bool) (case : Case) (r : Result Draft (OrMemory LineFault)) → said k ns ≡ Ok (scene_line s)
-    → before_scenes d ended ≡ Ok case → IsUnlessMemory r (with_scene case s) → IsUnlessMemory r (step_said d (said k ns) ended)
+pub scene_taken : (d : Draft) (k : Keyword) (ns : List ℕ) (s : Scene) (ended : Bool) (case : Case) (r : Result Draft (OrMemory LineFault)) → statement_with k ns ≡ Ok (scene_line s)
+    → before_scenes d ended ≡ Ok case → IsUnlessMemory r (with_scene case s) → IsUnlessMemory r (step_said d (statement_with k ns) ended)
 scene_taken d k ns s ended case r e before h = rw (e, scene_step d s ended case before) h
 
-pub fail_said : (k : Keyword) (ns : List ℕ) → k ≡ keyword.Fail → 3 ≤ length ns → length ns < 4 → said k ns ≡ Ok (scene_line (Fail (get_or ns 0 0) (get_or ns 1 0) (get_or ns 2 0)))
+pub fail_said : (k : Keyword) (ns : List ℕ) → k ≡ keyword.Fail → 3 ≤ length ns → length ns < 4
+    → statement_with k ns ≡ Ok (scene_line (Fail (get_or ns 0 0) (get_or ns 1 0) (get_or ns 2 0)))
 fail_said k (a ∷ b ∷ c ∷ []) e low high = rw e refl
 fail_said k ns e low high = absurd (omega arith)
 
-pub restore_said : (k : Keyword) (ns : List ℕ) → k ≡ keyword.Restore → 3 ≤ length ns → length ns < 4 → said k ns ≡ Ok (scene_line (Restore (get_or ns 0 0) (get_or ns 1 0) (get_or ns 2 0)))
+pub restore_said : (k : Keyword) (ns : List ℕ) → k ≡ keyword.Restore → 3 ≤ length ns → length ns < 4
+    → statement_with k ns ≡ Ok (scene_line (Restore (get_or ns 0 0) (get_or ns 1 0) (get_or ns 2 0)))
 restore_said k (a ∷ b ∷ c ∷ []) e low high = rw e refl
 restore_said k ns e low high = absurd (omega arith)
 
-pub swap_said : (k : Keyword) (ns : List ℕ) → k ≡ keyword.Swap → 4 ≤ length ns → length ns < 5 → said k ns ≡ Ok (scene_line (Swap (get_or ns 0 0) (get_or ns 1 0) (get_or ns 2 0) (get_or ns 3 0)))
+pub swap_said : (k : Keyword) (ns : List ℕ) → k ≡ keyword.Swap → 4 ≤ length ns → length ns < 5
+    → statement_with k ns ≡ Ok (scene_line (Swap (get_or ns 0 0) (get_or ns 1 0) (get_or ns 2 0) (get_or ns 3 0)))
 swap_said k (a ∷ b ∷ c ∷ d ∷ []) e low high = rw e refl
 swap_said k ns e low high = absurd (omega arith)

@@ -13,7 +13,7 @@ use Rattle.tw_text.specs.declared.text_fault.LineFault.{LineFault}
 use Rattle.tw_text.specs.declared.text_fault.LineFault.TheVariants as x
 use Rattle.tw_text.specs.Drafts.{of_rule, step_said}
 use Rattle.tw_text.specs.FaultTable.{breaks, fault_of, from_second, has_no_number, holds, if_said, is_done, is_misplaced, is_no_statement, is_start, step, unless_fault, with_line, with_said}
-use Rattle.tw_text.specs.Statements.{◌>>=◌, Statement, takes_words, keyword_before, keyword_of, numbers_of, said, statement_of}
+use Rattle.tw_text.specs.Statements.{◌>>=◌, Statement, takes_words, keyword_before, keyword_of, numbers_of, statement_with, statement_of}
 use Rattle.tw_text.specs.Words.{is_number, is_plain, words}
 
 -- the lowest rule, among the faults
@@ -91,7 +91,7 @@ IsToldEarly (Err x.Word) = Unit {0}
 IsToldEarly (Err x.Number) = Unit {0}
 IsToldEarly (Err fault) = ⊥
 
-said_early : (k : Keyword) (ns : List ℕ) → IsToldEarly (said k ns)
+said_early : (k : Keyword) (ns : List ℕ) → IsToldEarly (statement_with k ns)
 said_early keyword.Nodes (n ∷ []) = tt
 said_early keyword.Link (a ∷ b ∷ delay ∷ []) = tt
 said_early keyword.Path (v ∷ path) = tt
@@ -101,12 +101,12 @@ said_early keyword.Swap (t ∷ v ∷ i ∷ j ∷ []) = tt
 said_early keyword.End [] = tt
 said_early k ns = tt
 
-early_if : (k : Keyword) (fit all : Bool) (ns : List ℕ) → IsToldEarly ((if fit then Ok k else Err x.Word) >>= λ k. (if all then Ok ns else Err x.Number) >>= λ ns. said k ns)
+early_if : (k : Keyword) (fit all : Bool) (ns : List ℕ) → IsToldEarly ((if fit then Ok k else Err x.Word) >>= λ k. (if all then Ok ns else Err x.Number) >>= λ ns. statement_with k ns)
 early_if k false all ns = tt
 early_if k true false ns = tt
 early_if k true true ns = said_early k ns
 
-early_by : (found : Option Keyword) (ws : List (List ℕ)) → IsToldEarly (keyword_before found ws >>= λ k. numbers_of ws >>= λ ns. said k ns)
+early_by : (found : Option Keyword) (ws : List (List ℕ)) → IsToldEarly (keyword_before found ws >>= λ k. numbers_of ws >>= λ ns. statement_with k ns)
 early_by None ws = tt
 early_by (Some k) ws = early_if k (takes_words k ws) (list_all is_number ws) (map (digits_value 10) ws)
 

@@ -31,20 +31,20 @@ use Rattle.tw_text.proofs.Splits.{join-words, lines-text}
 use Rattle.tw_text.proofs.Steps.{bound, passed}
 
 -- what the lines have said that gave these, from line 2 on
-abbrev said_of : Net → List Scene → List Statement
-said_of net scenes = nodes_line net.nodes ∷ (map (λ l. link_line l) net.links ++ (map (λ p. path_line p) net.lines ++ map (λ s. scene_line s) scenes))
+abbrev statements_from : Net → List Scene → List Statement
+statements_from net scenes = nodes_line net.nodes ∷ (map (λ l. link_line l) net.links ++ (map (λ p. path_line p) net.lines ++ map (λ s. scene_line s) scenes))
 
-abbrev said_in : Draft → List Statement
-said_in Start = []
-said_in Header = []
-said_in (Links net) = said_of net []
-said_in (Paths net) = said_of net []
-said_in (Scenes c) = said_of c.net c.scenes
-said_in (Done c) = statements_of c
+abbrev statements_in : Draft → List Statement
+statements_in Start = []
+statements_in Header = []
+statements_in (Links net) = statements_from net []
+statements_in (Paths net) = statements_from net []
+statements_in (Scenes c) = statements_from c.net c.scenes
+statements_in (Done c) = statements_of c
 
 -- the lines of which a draft was made
 abbrev lines_in : Draft → List (List ℕ)
-lines_in d = if is_start d then [] else codes "spp 1" ∷ map line_of (said_in d)
+lines_in d = if is_start d then [] else codes "spp 1" ∷ map line_of (statements_in d)
 
 -- what a draft holds keeps the rules
 abbrev IsDraft : Draft → Type 0
@@ -58,22 +58,26 @@ IsDraft (Done c) = IsCase c
 -- a draft with what a statement adds
 record Adds (d : Draft) (s : Statement) : Type 0 where
   draft : IsDraft (with_statement d s)
-  said : said_in (with_statement d s) ≡ said_in d ++ s ∷ []
+  said : statements_in (with_statement d s) ≡ statements_in d ++ s ∷ []
+
+-- an instance without paths
+abbrev bare : Net → List Link → List Line → Net
+bare net links lines = record net { links = links; lines = lines }
 
 link_said : (net : Net) (l : Link) (lines : List Line) → lines ≡ []
-    → said_of (record { nodes = net.nodes; links = net.links ++ l ∷ []; lines = lines }) [] ≡ said_of (record { nodes = net.nodes; links = net.links; lines = lines }) [] ++ link_line l ∷ []
+    → statements_from (bare net (net.links ++ l ∷ []) lines) [] ≡ statements_from (bare net net.links lines) [] ++ link_line l ∷ []
 link_said net l lines none =
     let said = map (λ l. link_line l) net.links in
     rw none (ap (λ t. nodes_line net.nodes ∷ t) (append-nil (map (λ l. link_line l) (net.links ++ l ∷ [])) ∙ (map-append (λ l. link_line l) net.links (l ∷ [])
     ∙ ap (λ t. t ++ link_line l ∷ []) (sym (append-nil said)))))
 
-path_said : (net : Net) (p : Line) → said_of (record net { lines = net.lines ++ p ∷ [] }) [] ≡ said_of net [] ++ path_line p ∷ []
+path_said : (net : Net) (p : Line) → statements_from (record net { lines = net.lines ++ p ∷ [] }) [] ≡ statements_from net [] ++ path_line p ∷ []
 path_said net p = simp (map-append, append_assoc, append-nil)
 
-scene_said : (net : Net) (scenes : List Scene) (s : Scene) → said_of net (scenes ++ s ∷ []) ≡ said_of net scenes ++ scene_line s ∷ []
+scene_said : (net : Net) (scenes : List Scene) (s : Scene) → statements_from net (scenes ++ s ∷ []) ≡ statements_from net scenes ++ scene_line s ∷ []
 scene_said net scenes s = simp (map-append, append_assoc)
 
-end_said : (net : Net) (scenes : List Scene) → statements_of (record { net = net; scenes = scenes }) ≡ said_of net scenes ++ end_line ∷ []
+end_said : (net : Net) (scenes : List Scene) → statements_of (record { net = net; scenes = scenes }) ≡ statements_from net scenes ++ end_line ∷ []
 end_said net scenes = simp append_assoc
 
 adds : (d : Draft) (s : Statement) → IsDraft d → Fits d s → Adds d s
@@ -114,8 +118,8 @@ record Steps (d after : Draft) (line : List ℕ) : Type 0 where
   draft : IsDraft after
   lines : lines_in after ≡ lines_in d ++ line ∷ []
 
-lines-more : (d next : Draft) (s : Statement) → is_start d ≡ false → is_start next ≡ false → said_in next ≡ said_in d ++ s ∷ [] → lines_in next ≡ lines_in d ++ line_of s ∷ []
-lines-more d next s h g e = rw (h, g) (ap (λ ls. codes "spp 1" ∷ ls) (ap (map line_of) e ∙ map-append line_of (said_in d) (s ∷ [])))
+lines-more : (d next : Draft) (s : Statement) → is_start d ≡ false → is_start next ≡ false → statements_in next ≡ statements_in d ++ s ∷ [] → lines_in next ≡ lines_in d ++ line_of s ∷ []
+lines-more d next s h g e = rw (h, g) (ap (λ ls. codes "spp 1" ∷ ls) (ap (map line_of) e ∙ map-append line_of (statements_in d) (s ∷ [])))
 
 begun : (d : Draft) (s : Statement) → is_start (with_statement d s) ≡ false
 begun d (nodes_line n) = refl

@@ -11,7 +11,8 @@ use Rattle.tw_text.specs.declared.keyword.Keyword.{Keyword}
 use Rattle.tw_text.specs.declared.keyword.Keyword.TheVariants as keyword
 use Rattle.tw_text.specs.declared.text_fault.LineFault.{LineFault}
 use Rattle.tw_text.specs.declared.text_fault.LineFault.TheVariants as x
-use Rattle.tw_text.specs.Statements.{◌>>=◌, Statement, nodes_line, link_line, path_line, scene_line, end_line, takes_words, keyword_before, keyword_of, keywords, numbers_of, said, statement_of, takes, word_of}
+use Rattle.tw_text.specs.Statements.{◌>>=◌, Statement, nodes_line, link_line, path_line, scene_line}
+use Rattle.tw_text.specs.Statements.{end_line, takes_words, keyword_before, keyword_of, keywords, numbers_of, statement_with, statement_of, takes, word_of}
 use Rattle.tw_text.specs.Text.{keyword_in, numbers_in, words_of}
 use Rattle.tw_text.specs.declared.words.TheConstants.{MOST_DIGITS}
 use Rattle.tw_text.specs.Words.{is_number}
@@ -69,7 +70,7 @@ numbers_of-decimals ns h = rw (all-numbers ns h, values-decimals ns h) refl
 takes_words-decimals : (k : Keyword) (ns : List ℕ) → AllByRecursion IsShort ns → takes k (length ns) ≡ true → takes_words k (map decimal ns) ≡ true
 takes_words-decimals k ns h count = rw (length-map ns decimal, count, none_empty (map decimal ns) (numbers-words ns h)) refl
 
-said-in : (s : Statement) → said (keyword_in s) (numbers_in s) ≡ Ok s
+said-in : (s : Statement) → statement_with (keyword_in s) (numbers_in s) ≡ Ok s
 said-in (nodes_line n) = refl
 said-in (link_line l) = refl
 said-in (path_line p) = refl
@@ -78,8 +79,8 @@ said-in (scene_line (Restore t a b)) = refl
 said-in (scene_line (Swap t v i j)) = refl
 said-in end_line = refl
 
-chain : (k : Keyword) (fit : Bool) (read : Result (List ℕ) LineFault) (ns : List ℕ) (s : Statement) → fit ≡ true → read ≡ Ok ns → said k ns ≡ Ok s
-    → ((if fit then Ok k else Err x.Word) >>= λ k. read >>= λ ns. said k ns) ≡ Ok s
+chain : (k : Keyword) (fit : Bool) (read : Result (List ℕ) LineFault) (ns : List ℕ) (s : Statement) → fit ≡ true → read ≡ Ok ns → statement_with k ns ≡ Ok s
+    → ((if fit then Ok k else Err x.Word) >>= λ k. read >>= λ ns. statement_with k ns) ≡ Ok s
 chain k fit read ns s p q r = rw (p, q) r
 
 -- a statement is read from its words
@@ -87,7 +88,7 @@ pub statement_of-words : (s : Statement) → IsSayable s → statement_of (words
 unfolding statement_of
 statement_of-words s h =
     let k = keyword_in s in let ns = numbers_in s in let ws = map decimal ns in
-    ap (λ found. keyword_before found ws >>= λ k. numbers_of ws >>= λ ns. said k ns) (keyword_of-word k)
+    ap (λ found. keyword_before found ws >>= λ k. numbers_of ws >>= λ ns. statement_with k ns) (keyword_of-word k)
     ∙ chain k (takes_words k ws) (numbers_of ws) ns s (takes_words-decimals k ns h.short h.count) (numbers_of-decimals ns h.short) (said-in s)
 
 -- ---- from words to their statement and back
@@ -115,7 +116,7 @@ record Holds (s : Statement) (k : Keyword) (ns : List ℕ) : Type 0 where
 holds : (k : Keyword) (ns : List ℕ) (s t : Statement) → Holds s k ns → (let r : Result Statement LineFault = Ok s in r ≡ Ok t) → Holds t k ns
 holds k ns s t h e = let same : s ≡ t = cc in record { keyword = sym (ap keyword_in same) ∙ h.keyword; numbers = sym (ap numbers_in same) ∙ h.numbers }
 
-said_was : (k : Keyword) (ns : List ℕ) (s : Statement) → said k ns ≡ Ok s → Holds s k ns
+said_was : (k : Keyword) (ns : List ℕ) (s : Statement) → statement_with k ns ≡ Ok s → Holds s k ns
 said_was keyword.Nodes (n ∷ []) s h = holds _ _ (nodes_line n) s (record { keyword = refl; numbers = refl }) h
 said_was keyword.Link (a ∷ b ∷ delay ∷ []) s h = holds _ _ (link_line (record { first = a; second = b; delay = delay })) s (record { keyword = refl; numbers = refl }) h
 said_was keyword.Path (v ∷ path) s h = holds _ _ (path_line (record { owner = v; nodes = path })) s (record { keyword = refl; numbers = refl }) h
@@ -130,8 +131,8 @@ pub statement_of-is : (ws : List (List ℕ)) (s : Statement) → statement_of ws
 unfolding statement_of
 statement_of-is [] s h = absurd (let r : Result Statement LineFault = Err x.Word in let g : r ≡ Ok s = h in cc)
 statement_of-is (word ∷ ws) s h =
-    let k = bound (keyword_before (keyword_of word) ws) (λ k. numbers_of ws >>= λ ns. said k ns) s h in
-    let ns = bound (numbers_of ws) (λ ns. said k.value ns) s k.next in
+    let k = bound (keyword_before (keyword_of word) ws) (λ k. numbers_of ws >>= λ ns. statement_with k ns) s h in
+    let ns = bound (numbers_of ws) (λ ns. statement_with k.value ns) s k.next in
     let parts = said_was k.value ns.value s ns.next in
     ap₂ (λ w ws. w ∷ ws) (word_of-keyword word k.value (keyword_was (keyword_of word) ws k.value k.was) ∙ ap word_of (sym parts.keyword))
     (numbers_was ws ns.value ns.was ∙ ap (map decimal) (sym parts.numbers))

@@ -72,17 +72,17 @@ abbrev pub numbers_of : List (List ℕ) → Result (List ℕ) LineFault
 numbers_of ws = if list_all is_number ws then Ok (map (digits_value 10) ws) else Err x.Number
 
 -- what the keyword says with these numbers
-abbrev pub said : Keyword → List ℕ → Result Statement LineFault
-said keyword.Nodes (n ∷ []) = Ok (nodes_line n)
-said keyword.Link (a ∷ b ∷ delay ∷ []) = Ok (link_line (record { first = a; second = b; delay = delay }))
-said keyword.Path (v ∷ path) = Ok (path_line (record { owner = v; nodes = path }))
-said keyword.Fail (t ∷ a ∷ b ∷ []) = Ok (scene_line (Fail t a b))
-said keyword.Restore (t ∷ a ∷ b ∷ []) = Ok (scene_line (Restore t a b))
-said keyword.Swap (t ∷ v ∷ i ∷ j ∷ []) = Ok (scene_line (Swap t v i j))
-said keyword.End [] = Ok end_line
-said k ns = Err x.Word
+abbrev pub statement_with : Keyword → List ℕ → Result Statement LineFault
+statement_with keyword.Nodes (n ∷ []) = Ok (nodes_line n)
+statement_with keyword.Link (a ∷ b ∷ delay ∷ []) = Ok (link_line (record { first = a; second = b; delay = delay }))
+statement_with keyword.Path (v ∷ path) = Ok (path_line (record { owner = v; nodes = path }))
+statement_with keyword.Fail (t ∷ a ∷ b ∷ []) = Ok (scene_line (Fail t a b))
+statement_with keyword.Restore (t ∷ a ∷ b ∷ []) = Ok (scene_line (Restore t a b))
+statement_with keyword.Swap (t ∷ v ∷ i ∷ j ∷ []) = Ok (scene_line (Swap t v i j))
+statement_with keyword.End [] = Ok end_line
+statement_with k ns = Err x.Word
 
 -- what the words of a line say, or why they say nothing
 unfoldable pub statement_of : List (List ℕ) → Result Statement LineFault
 statement_of [] = Err x.Word
-statement_of (word ∷ ws) = keyword_before (keyword_of word) ws >>= λ k. numbers_of ws >>= λ ns. said k ns
+statement_of (word ∷ ws) = keyword_before (keyword_of word) ws >>= λ k. numbers_of ws >>= λ ns. statement_with k ns

@@ -3,7 +3,7 @@ ghost use Rattle.tw_model.specs.Memory.{IsUnlessMemory, map_fault};
 ghost use Rattle.tw_model.specs.declared.case.Scene.TheVariants as AScene;
 ghost use Rattle.tw_text.specs.Drafts.{before_links, before_paths, before_scenes, check_ended, check_header, node_in, nodes_in, place_of};
 ghost use Rattle.tw_text.specs.Drafts.{result_items, step_said, with_link, with_nodes, with_path, with_scene};
-ghost use Rattle.tw_text.specs.Statements.{said};
+ghost use Rattle.tw_text.specs.Statements.{statement_with};
 
 use crate::keyword::Keyword;
 use crate::text_fault::LineFault;
@@ -36,7 +36,7 @@ pub(crate) fn take_statement(
     numbers: &[u64],
     ended: bool,
 ) -> Result<Draft, OrMemory<LineFault>>
-    ensures { IsUnlessMemory result (step_said draft (said keyword numbers.now) ended) }
+    ensures { IsUnlessMemory result (step_said draft (statement_with keyword numbers.now) ended) }
 {
     match (keyword, numbers) {
         (Keyword::Nodes, [nodes]) => {

@@ -12,8 +12,8 @@ use std::alloc::Global;
 use tw_instance::Case;
 use tw_model::OrMemory;
 
-/// The case of a text. A text that is none is refused at its first line that has a fault, with the
-/// lowest fault of that line.
+/// The case of a text in the grammar of `docs/FORMATS.md`. A text that is none is refused at its
+/// first line that has a fault, with the lowest fault of that line.
 pub fn read_case(alloc: Global, text: &[u8]) -> Result<Case, OrMemory<TextFault>>
     ensures found { IfOk result (λ c. IsCase c × (text.now ≡ text_of_case c)) }
     ensures only { (c : ACase) → IsCase c → text.now ≡ text_of_case c → IsUnlessMemory result (Ok c) }
@@ -22,6 +22,7 @@ pub fn read_case(alloc: Global, text: &[u8]) -> Result<Case, OrMemory<TextFault>
     read_exactly(alloc, text)
 }
 
+/// What a text is read as, line by line.
 fn read_exactly(alloc: Global, text: &[u8]) -> Result<Case, OrMemory<TextFault>>
     ensures { IsUnlessMemory result (case_of text.now) }
 {
@@ -39,7 +40,7 @@ fn read_exactly(alloc: Global, text: &[u8]) -> Result<Case, OrMemory<TextFault>>
     finish(alloc, draft, rest, line)
 }
 
-/// The case, given what follows the last line end: a line's beginning, or nothing.
+/// The case, given what follows the last line end: the beginning of a line, or nothing.
 fn finish(
     alloc: Global,
     draft: Draft,
@@ -57,6 +58,7 @@ fn finish(
     }
 }
 
+/// The case, where the last line was read.
 fn case_at(draft: Draft, line: usize) -> Result<Case, TextFault>
     ensures { result ≡ case_at line draft }
 {
@@ -76,6 +78,7 @@ fn end_fault(line: usize) -> TextFault
     }
 }
 
+/// The fault of this line.
 fn at_line(fault: OrMemory<LineFault>, line: usize) -> OrMemory<TextFault>
     ensures { result ≡ map_fault (fault_at line) fault }
 {
