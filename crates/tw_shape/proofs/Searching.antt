@@ -6,6 +6,8 @@ use Rattle.std.proofs.lemmas.List.Folds.{find-append}
 use Rattle.tw_sim.proofs.Members.{In, all_from_in, in_append, in_from_all}
 use Rattle.circular_buffer.specs.Buffer.{keep_last}
 use Rattle.tw_shape.specs.declared.watch.Gap.{Gap}
+use Rattle.tw_shape.specs.Shape.{Shape}
+use Rattle.tw_shape.specs.Same.{NeverMeet}
 use Rattle.tw_shape.specs.Verdict.{Checkpoint, is_again}
 use Rattle.tw_shape.specs.Watch.{Watch, after_first, gap_checkpoints, shown}
 use Rattle.tw_shape.specs.Windows.{IsTimely}
@@ -81,3 +83,13 @@ timely_push every n gaps gap all is =
       | inl k ↦ in_from_all (IsTimely every) gaps all g k
       | inr k ↦ elim k [ inl e ↦ subst (IsTimely every) (sym e) is | inr z ↦ absurd z ]
     ])
+
+-- a gap of another shape, and then those that are left
+pub apart_more : (s : Shape) (gaps all left : List Gap) (x : Gap) → all ≡ x ∷ left → NeverMeet x.shape s
+    → (All (λ g. NeverMeet g.shape s) all → All (λ g. NeverMeet g.shape s) gaps) → All (λ g. NeverMeet g.shape s) left → All (λ g. NeverMeet g.shape s) gaps
+apart_more s gaps all left x step first rest more =
+    rest (subst (λ l. All (λ g. NeverMeet g.shape s) l) (sym step) (all_from_in (λ g. NeverMeet g.shape s) (x ∷ left) (λ g h.
+    elim h [
+      | inl is ↦ subst (λ z. NeverMeet z.shape s) (sym is) first
+      | inr k ↦ in_from_all (λ z. NeverMeet z.shape s) left more g k
+    ])))

@@ -1,5 +1,5 @@
 -- Tests of whether shapes are the same (own).
-use Rattle.std.specs.Prelude.{◌==◌, Bool, ◌&&◌}
+use Rattle.std.specs.Prelude.{ℕ, ◌≡◌, ◌==◌, Bool, false, ◌&&◌}
 use lib.Pointwise.{pointwise}
 use Rattle.std.specs.Bool.{beq}
 use Rattle.std.specs.Cmp.{IsEquivalence, and_equiv, bool_eq_equiv, eq_by_cmp_equiv, nat_eq_equiv, on_equiv}
@@ -8,7 +8,7 @@ use Rattle.tw_event.specs.declared.event.PathNo.{PathNo}
 use Rattle.tw_event.specs.Order.{event_same}
 use Rattle.tw_event.proofs.Order.{event_total}
 use Rattle.tw_model.specs.declared.state.Row.{Row}
-use Rattle.tw_shape.specs.Shape.{RouterShape, Shape}
+use Rattle.tw_shape.specs.Shape.{IsStill, RouterShape, Shape, later}
 
 -- whether two paths, rows, routers or shapes are the same in every part
 abbrev pub same_path : PathNo → PathNo → Bool
@@ -22,6 +22,10 @@ same_router r s = same_path r.rib s.rib && (pointwise same_row r.rows s.rows && 
 
 abbrev pub same_shape : Shape → Shape → Bool
 same_shape s t = pointwise same_router s.routers t.routers && pointwise event_same s.pending t.pending
+
+-- the two are not the same at any two times later, as long as nothing is handled
+abbrev pub NeverMeet : Shape → Shape → Type 0
+NeverMeet s t = (d e : ℕ) → IsStill d s → IsStill e t → same_shape (later d s) (later e t) ≡ false
 
 router_equiv : IsEquivalence same_router
 router_equiv =

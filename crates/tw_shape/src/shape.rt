@@ -1,9 +1,9 @@
-ghost use Rattle.std.specs.Prelude.{◌≡◌, ◌≤◌, ◌<◌, ◌-◌, ◌*◌, ℕ, [], IfNone, IfSome, map};
+ghost use Rattle.std.specs.Prelude.{◌≡◌, ◌≤◌, ◌<◌, ◌-◌, ◌*◌, ℕ, false, [], IfNone, IfSome, map};
 ghost use Rattle.std.specs.List.{list_all};
 ghost use Rattle.tw_shape.specs.Packed.{Covers, hash_by, least_time};
 ghost use Rattle.tw_shape.specs.Storage.{unpacked};
 ghost use Rattle.tw_shape.specs.Shape.{IsStill, can_repeat, is_update, later, sooner};
-ghost use Rattle.tw_shape.specs.Same.{same_shape};
+ghost use Rattle.tw_shape.specs.Same.{NeverMeet, same_shape};
 
 use std::hash::{FoldHasher, Hash, Hasher};
 use std::marker::Model;
@@ -104,6 +104,14 @@ impl Shape {
         }
     }
 
+    /// Whether the two shapes may be the same later, as long as nothing is handled: where it answers no,
+    /// they never are. It costs little, and seldom answers yes for nothing.
+    pub(crate) fn may_meet(&self, other: &Shape) -> bool
+        ensures { result ≡ false → NeverMeet self.now other.now }
+    {
+        self.hash == other.hash
+    }
+
     /// Whether this shape `ticks` later is the other one `other_ticks` later, where nothing is handled
     /// meanwhile.
     pub(crate) fn meets(&self, ticks: u64, other: &Shape, other_ticks: u64) -> bool
@@ -111,7 +119,7 @@ impl Shape {
         requires other_still { IsStill other_ticks other.now }
         ensures { result ≡ same_shape (later ticks self.now) (later other_ticks other.now) }
     {
-        if self.hash != other.hash {
+        if !self.may_meet(other) {
             return false;
         }
         let left = self.due.saturating_sub(ticks);

@@ -1,8 +1,9 @@
-ghost use Rattle.std.specs.Prelude.{◌≡◌, ◌≤◌, ◌<◌, ◌+◌, ◌-◌, ◌*◌, true, find, option_map, IfOk};
+ghost use Rattle.std.specs.Prelude.{◌≡◌, ◌≤◌, ◌<◌, ◌+◌, ◌-◌, ◌*◌, false, true, find, option_map, IfOk};
 ghost use Rattle.std.specs.Option.{option_or};
 ghost use Rattle.std.specs.List.{All};
 ghost use Rattle.tw_model.specs.declared.limits.TheConstants.{LATEST};
 ghost use Rattle.tw_model.specs.Summary.{summary_of};
+ghost use Rattle.tw_shape.specs.Same.{NeverMeet};
 ghost use Rattle.tw_shape.specs.Shape.{IsStill, can_repeat};
 ghost use Rattle.tw_shape.specs.Verdict.{first_found, is_again, verdict_of};
 
@@ -148,6 +149,9 @@ impl Watch {
         if !gap.shape.can_repeat() {
             return None;
         }
+        if !self.may_have(&gap.shape) {
+            return None;
+        }
         for number in 0..gap.count.min(WINDOW as u64) {
             let ticks = number * self.every;
             if let Some(from) = self.earlier(gap, ticks) {
@@ -156,6 +160,20 @@ impl Watch {
             }
         }
         None
+    }
+
+    /// Whether a checkpoint shown may have a shape that this one is later: where it answers no, none has.
+    fn may_have(&self, shape: &Shape) -> bool
+        ensures never { result ≡ false → All (λ old. NeverMeet old.shape shape.now) self.now.window }
+        ensures some { 0 < self.now.every }
+        ensures timely { All (IsTimely self.now.every) self.now.window }
+    {
+        for old in &self.window {
+            if old.shape.may_meet(shape) {
+                return true;
+            }
+        }
+        false
     }
 
     /// The time of the first checkpoint shown, not too long before it, with the shape that the gap has

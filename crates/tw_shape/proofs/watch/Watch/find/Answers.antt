@@ -3,7 +3,7 @@ use Rattle.std.proofs.lemmas.Bool.{cases_lt}
 use Rattle.tw_shape.specs.declared.verdict.Finding.{Finding}
 use Rattle.tw_shape.specs.Verdict.{is_again}
 use Rattle.tw_shape.specs.Watch.{after_first, shown}
-use Rattle.tw_shape.proofs.Firsts.{cannot_find, found_early, found_first, found_nothing}
+use Rattle.tw_shape.proofs.Firsts.{cannot_find, found_early, found_first, found_nothing, found_unlike}
 use Rattle.tw_shape.proofs.Searching.{time_first}
 use Rattle.tw_shape.proofs.watch.Watch.find.Goals as goal
 
@@ -45,3 +45,7 @@ returns c =
     let n = c.min-number-end.ensures in
     sym (found_nothing c.args.self.now.every (subst (λ k. 0 < k) own c.self.invariant.some) (shown c.args.self.now) c.args.gap.now c.requires.timely.is (sym c.if-not-can_repeat.ensures) c.requires.later
     c.loop-number.number (omega arith) c.loop-number.invariant)
+
+pub returns-then-not-may_have : goal.returns-then-not-may_have
+returns-then-not-may_have c =
+    sym (found_unlike c.args.self.now c.args.gap.now c.may_have.ensures.some c.requires.timely c.may_have.ensures.timely (c.may_have.ensures.never c.if-not-may_have.true) c.requires.later (sym c.if-not-can_repeat.ensures))
