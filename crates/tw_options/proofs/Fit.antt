@@ -10,13 +10,14 @@ use Rattle.clap.specs.Faults.{check_fault, defaults_fault, entered_fault, level_
 use Rattle.clap.specs.Kinds.{check_kinds}
 use Rattle.clap.specs.Simple.{App, Shape, built, built_leaf, entered, filled, help_shape, inherited, label_of, marked_built, names_of, rows_at, with_leaf_noted}
 use Rattle.clap.specs.Takes.{is_given}
+use Rattle.clap.specs.Values.{IsUnsignedIn}
 use Rattle.clap.specs.Walk.{Row, Rule, Text, Walk, answers_to, finished, nothing_held, rows_after, settled, walk, walk_from}
 use Rattle.clap.specs.Words.{HasMatchesOf, fault_of, subcommand_of, subcommand_rows_of}
 use Rattle.clap.specs.declared.parser.matches.ArgMatches.{ArgMatches}
 use Rattle.tw_model.specs.declared.limits.TheConstants.{LATEST, MOST_ROUTERS}
 use Rattle.tw_options.specs.App.{check_app, number_rule, seq_app, trail_app, twarp_app}
-use Rattle.tw_options.specs.Fit.{Fits, HasNumber, HasTrail, IsFit}
-use Rattle.tw_options.proofs.Kept.{Fits as FitsRule, GoodRows, accepted, found_has, given_good, good_level, none_of_both}
+use Rattle.tw_options.specs.Fit.{Fits, HasNumber, HasNumberIfGiven, HasSeq, HasTrail, IsFit}
+use Rattle.tw_options.proofs.Kept.{Fits as FitsRule, GoodRows, accepted, found_has, given_good, good_level, none_of_both, taken_text}
 use Rattle.tw_options.proofs.Stop.{IsNoHelp, no_help}
 
 -- a subcommand, as the parser builds it
@@ -30,15 +31,22 @@ all_ours : AllByRecursion IsOurs (built twarp_app).subs
 all_ours = (inl refl, (inr (inl refl), (inr (inr (inl refl)), (inr (inr (inr refl)), tt))))
 
 -- an option, as the parser builds it
-abbrev option_rule : Text → ℕ → ℕ → Rule
-option_rule id least most = filled (number_rule id least most)
+abbrev option_rule : Text → Bool → ℕ → ℕ → Rule
+option_rule id is_required least most = filled (number_rule id is_required least most)
 
-has_number : (id : Text) (least most : ℕ) (rows : List Row) → GoodRows (option_rule id least most) rows → is_given id rows ≡ true
+has_number : (id : Text) (least most : ℕ) (rows : List Row) → GoodRows (option_rule id true least most) rows → is_given id rows ≡ true
     → HasNumber id least most rows
 has_number id least most rows all given =
-    let t = option_rule id least most in
+    let t = option_rule id true least most in
     let g = given_good t rows all given in
     (g.0, g.1, accepted t.ignore_case (parser_of_value t.parser) g.0 g.2)
+
+has_number_if_given : (id : Text) (least most : ℕ) (rows : List Row) → GoodRows (option_rule id false least most) rows
+    → HasNumberIfGiven id least most rows
+has_number_if_given id least most rows all text given =
+    let t = option_rule id false least most in
+    let g = taken_text t rows text all given in
+    subst (IsUnsignedIn least most) g.1 (accepted t.ignore_case (parser_of_value t.parser) g.0 g.2)
 
 -- what is required and not given is a fault
 first_given : (b rest : Bool) → check_kinds false false (not b || rest) ≡ [] → (b ≡ true) × (check_kinds false false rest ≡ [])
@@ -46,32 +54,39 @@ first_given true rest h = (refl, h)
 first_given false rest h = cc
 
 module _ (words : List Text) where
-  seq_fits : AllByRecursion (FitsRule (option_rule (codes "stop") 1 LATEST)) (leaf seq_app.top).rules
-  seq_fits = (((λ _. refl), tt), (((λ e. cc), tt), (((λ e. cc), tt), tt)))
+  seq_stop_fits : AllByRecursion (FitsRule (option_rule (codes "stop") true 1 LATEST)) (leaf seq_app.top).rules
+  seq_stop_fits = (((λ _. refl), tt), (((λ e. cc), tt), (((λ e. cc), tt), (((λ e. cc), tt), tt))))
+
+  every_fits : AllByRecursion (FitsRule (option_rule (codes "every") false 1 LATEST)) (leaf seq_app.top).rules
+  every_fits = (((λ e. cc), tt), (((λ _. refl), tt), (((λ e. cc), tt), (((λ e. cc), tt), tt))))
 
   seq_level : level_fault (leaf seq_app.top) [] nothing_held words false [] ≡ []
-      → HasNumber (codes "stop") 1 LATEST (rows_after (leaf seq_app.top).rules [] words)
+      → HasSeq (rows_after (leaf seq_app.top).rules [] words)
   seq_level f =
       let rows = rows_after (leaf seq_app.top).rules [] words in
-      let level = good_level (option_rule (codes "stop") 1 LATEST) (record { one = refl; no_default = refl }) (leaf seq_app.top) seq_fits refl [] words false [] f in
-      has_number (codes "stop") 1 LATEST rows level.0 (first_given (is_given (codes "stop") rows) _ level.1).0
+      let s = good_level (option_rule (codes "stop") true 1 LATEST) (record { one = refl; no_default = refl }) (leaf seq_app.top) seq_stop_fits refl [] words false [] f in
+      let e = good_level (option_rule (codes "every") false 1 LATEST) (record { one = refl; no_default = refl }) (leaf seq_app.top) every_fits refl [] words false [] f in
+      let stop = first_given (is_given (codes "stop") rows) _ s.1 in record {
+        stop = has_number (codes "stop") 1 LATEST rows s.0 stop.0;
+        every = has_number_if_given (codes "every") 1 LATEST rows e.0;
+      }
 
-  router_fits : AllByRecursion (FitsRule (option_rule (codes "router") 0 (MOST_ROUTERS - 1))) (leaf trail_app.top).rules
+  router_fits : AllByRecursion (FitsRule (option_rule (codes "router") true 0 (MOST_ROUTERS - 1))) (leaf trail_app.top).rules
   router_fits = (((λ _. refl), tt), (((λ e. cc), tt), (((λ e. cc), tt), (((λ e. cc), tt), tt))))
 
-  stop_fits : AllByRecursion (FitsRule (option_rule (codes "stop") 1 LATEST)) (leaf trail_app.top).rules
+  stop_fits : AllByRecursion (FitsRule (option_rule (codes "stop") true 1 LATEST)) (leaf trail_app.top).rules
   stop_fits = (((λ e. cc), tt), (((λ _. refl), tt), (((λ e. cc), tt), (((λ e. cc), tt), tt))))
 
-  keep_fits : AllByRecursion (FitsRule (option_rule (codes "keep") 0 LATEST)) (leaf trail_app.top).rules
+  keep_fits : AllByRecursion (FitsRule (option_rule (codes "keep") true 0 LATEST)) (leaf trail_app.top).rules
   keep_fits = (((λ e. cc), tt), (((λ e. cc), tt), (((λ _. refl), tt), (((λ e. cc), tt), tt))))
 
   trail_level : level_fault (leaf trail_app.top) [] nothing_held words false [] ≡ []
       → HasTrail (rows_after (leaf trail_app.top).rules [] words)
   trail_level f =
       let rows = rows_after (leaf trail_app.top).rules [] words in
-      let r = good_level (option_rule (codes "router") 0 (MOST_ROUTERS - 1)) (record { one = refl; no_default = refl }) (leaf trail_app.top) router_fits refl [] words false [] f in
-      let s = good_level (option_rule (codes "stop") 1 LATEST) (record { one = refl; no_default = refl }) (leaf trail_app.top) stop_fits refl [] words false [] f in
-      let k = good_level (option_rule (codes "keep") 0 LATEST) (record { one = refl; no_default = refl }) (leaf trail_app.top) keep_fits refl [] words false [] f in
+      let r = good_level (option_rule (codes "router") true 0 (MOST_ROUTERS - 1)) (record { one = refl; no_default = refl }) (leaf trail_app.top) router_fits refl [] words false [] f in
+      let s = good_level (option_rule (codes "stop") true 1 LATEST) (record { one = refl; no_default = refl }) (leaf trail_app.top) stop_fits refl [] words false [] f in
+      let k = good_level (option_rule (codes "keep") true 0 LATEST) (record { one = refl; no_default = refl }) (leaf trail_app.top) keep_fits refl [] words false [] f in
       let router = first_given (is_given (codes "router") rows) _ r.1 in
       let stop = first_given (is_given (codes "stop") rows) _ router.1 in
       let keep = first_given (is_given (codes "keep") rows) _ stop.1 in record {

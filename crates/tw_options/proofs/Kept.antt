@@ -379,6 +379,21 @@ given_good t rows all given = go (find (λ r. bytes_eq r.id t.id) rows) (λ r is
         let one : Single t r = both.0 both.1 in
         (one.0, text_in r one.0 (reading_by t) one.1 one.3, one.2)
 
+-- a text that is given under t's id is read from a value that t takes
+pub taken_text : (t : Rule) (rows : List Row) (text : Text) → GoodRows t rows → one_of t.id rows ≡ Some text
+    → (v : Text) × (read_as (reading_by t) v ≡ text) × (value_kinds t.ignore_case (parser_of_value t.parser) v ≡ [])
+taken_text t rows text all given = go (find (λ r. bytes_eq r.id t.id) rows) (λ r is. found_has (Good t) (λ r. bytes_eq r.id t.id) rows r all is) given
+  where
+    go : (o : Option Row) → ((r : Row) → o ≡ Some r → Good t r × (bytes_eq r.id t.id ≡ true)) → option_and_then row_text o ≡ Some text
+        → (v : Text) × (read_as (reading_by t) v ≡ text) × (value_kinds t.ignore_case (parser_of_value t.parser) v ≡ [])
+    go None has g = cc
+    go (Some r) has g =
+        let both = has r refl in
+        let one : Single t r = both.0 both.1 in
+        let same : read_as (reading_by t) one.0 ≡ text =
+        let same : Some (read_as (reading_by t) one.0) ≡ Some text = sym (text_in r one.0 (reading_by t) one.1 one.3) ∙ g in cc in
+        (one.0, same, one.2)
+
 pub accepted : (ignore_case : Bool) (p : ValueParser) (v : Text) → value_kinds ignore_case p v ≡ [] → Accepts ignore_case p v
 accepted i p v h = accepts-Accepts i p v (go (accepts i p v) h)
   where

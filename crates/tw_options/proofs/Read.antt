@@ -1,13 +1,13 @@
 -- What the typed getters of the matches answer, in terms of the rows.
-use Rattle.std.proofs.Common.{◌≡◌, ◌↔◌, ◌∙◌, ap, refl, true, false, ℕ, Bool, IsTrue, Option, Some, None, IsSome, subst, List, codes}
+use Rattle.std.proofs.Common.{◌≡◌, ◌↔◌, ◌∙◌, ap, sym, refl, true, false, ℕ, Bool, IsTrue, Option, Some, None, IsSome, subst, List, codes}
 use Rattle.std.specs.Prelude.{Err, Ok, Result, unwrap_or}
 use Rattle.std.specs.Str.Parse.{ParsesBool, ParsesUnsigned}
 use Rattle.clap.specs.Values.{IsUnsignedIn}
 use Rattle.clap.specs.Words.{ReadsOne, Row, Text, one_of, one_text, rows_of}
 use Rattle.clap.specs.declared.parser.matches.Found.{Found}
 use Rattle.clap.proofs.WalkLemmas.{one_text-rows}
-use Rattle.tw_options.specs.Fit.{HasNumber}
-use Rattle.tw_options.specs.Says.{IsNumberGiven, Sets}
+use Rattle.tw_options.specs.Fit.{HasNumber, HasNumberIfGiven}
+use Rattle.tw_options.specs.Says.{IsNumberGiven, IsNumberIfGiven, Sets}
 
 module _ (E : Type 0) where
   sets_text : (t : Text) (r : Option Bool) → ReadsOne {T = Bool} {E = E} ParsesBool t r
@@ -57,6 +57,20 @@ pub gives : (E : Type 0) (G : Text → Result ℕ E → Type 0) (f : Found) (id 
 gives E G f id least most r reads value has =
     gives_text E id has.0 least most (rows_of f) r has.1 has.2
     (only E G has.0 r reads (value has.0 (one_text-rows f id ∙ has.1)))
+
+-- an option that has a number in the bounds, if it has a text, gives it if it has one
+pub gives_if_given : (E : Type 0) (G : Text → Result ℕ E → Type 0) (f : Found) (id : Text) (least most : ℕ) (r : Option ℕ)
+    → ((u : Text) (x : Result ℕ E) → G u x → ParsesUnsigned 64 10 u x) → (one_text f id ≡ None → r ≡ None)
+    → ((t : Text) → one_text f id ≡ Some t → ReadsOne G t r) → HasNumberIfGiven id least most (rows_of f)
+    → IsNumberIfGiven id least most (rows_of f) r
+gives_if_given E G f id least most r reads none value has = go (one_text f id) refl
+  where
+    go : (o : Option Text) → one_text f id ≡ o → IsNumberIfGiven id least most (rows_of f) r
+    go None e = rw (none e) (sym (one_text-rows f id) ∙ e)
+    go (Some t) e =
+        let given : one_of id (rows_of f) ≡ Some t = sym (one_text-rows f id) ∙ e in
+        let g = gives_text E id t least most (rows_of f) r given (has t given) (only E G t r reads (value t e)) in
+        rw g.1 g.2
 
 pub is_some_of : {X : Type 0} (P : X → Type 0) (r : Option X) → (x : X) × (r ≡ Some x) × P x → IsSome r
 is_some_of P r h = rw h.1 refl

@@ -1,43 +1,47 @@
 -- The commands and options of `twarp`, in the words of the parser's contracts. Own.
-use Rattle.std.specs.Prelude.{◌-◌, ℕ, Some, true, codes}
+use Rattle.std.specs.Prelude.{◌-◌, ℕ, Bool, Some, true, false, codes}
 use Rattle.clap.specs.Words.{App, Rule, Text, new_app, new_rule, with_rule, with_subcommand}
 use Rattle.clap.specs.declared.builder.action.ArgAction.TheVariants.{Set, SetTrue}
 use Rattle.clap.specs.declared.builder.value_parser.ValueParser.TheVariants as vp
 use Rattle.tw_model.specs.declared.limits.TheConstants.{LATEST, MOST_ROUTERS}
 
--- a required option `--id` that takes a number from least to most
-abbrev pub number_rule : Text → ℕ → ℕ → Rule
-number_rule id least most = record (new_rule id) {
+-- an option `--id`, which may be required, that takes a number from least to most
+abbrev pub number_rule : Text → Bool → ℕ → ℕ → Rule
+number_rule id is_required least most = record (new_rule id) {
   long = Some id;
-  required = true;
+  required = is_required;
   action = Some Set;
   value_names = 1;
   parser = Some (vp.Unsigned least most);
 }
 
--- an optional flag `--id`
-abbrev pub flag_rule : Text → Rule
-flag_rule id = record (new_rule id) { long = Some id; action = Some SetTrue }
-
 -- `--stop N`: the time before which events are handled
 abbrev pub stop_rule : Rule
-stop_rule = number_rule (codes "stop") 1 LATEST
+stop_rule = number_rule (codes "stop") true 1 LATEST
 
--- `--router R`: the router whose events are shown
+-- `--every T`: checkpoints are the multiples of this time
+abbrev pub every_rule : Rule
+every_rule = number_rule (codes "every") false 1 LATEST
+
+-- `--log`, a flag that may be left out
+abbrev pub log_rule : Rule
+log_rule = record (new_rule (codes "log")) { long = Some (codes "log"); action = Some SetTrue }
+
+-- `--router R`: the router whose last events are undone
 abbrev pub router_rule : Rule
-router_rule = number_rule (codes "router") 0 (MOST_ROUTERS - 1)
+router_rule = number_rule (codes "router") true 0 (MOST_ROUTERS - 1)
 
--- `--keep K`: how many of its events stay handled
+-- `--keep K`: how many of its first events are not undone
 abbrev pub keep_rule : Rule
-keep_rule = number_rule (codes "keep") 0 LATEST
+keep_rule = number_rule (codes "keep") true 0 LATEST
 
 -- `twarp check`
 abbrev pub check_app : App
 check_app = new_app (codes "check")
 
--- `twarp seq --stop N [--log]`
+-- `twarp seq --stop N [--every T] [--log]`
 abbrev pub seq_app : App
-seq_app = with_rule (with_rule (new_app (codes "seq")) stop_rule) (flag_rule (codes "log"))
+seq_app = with_rule (with_rule (with_rule (new_app (codes "seq")) stop_rule) every_rule) log_rule
 
 -- `twarp trail --router R --stop S --keep K`
 abbrev pub trail_app : App

@@ -8,7 +8,16 @@ use Rattle.tw_model.specs.declared.limits.TheConstants.{LATEST, MOST_ROUTERS}
 abbrev pub HasNumber : Text → ℕ → ℕ → List Row → Type 0
 HasNumber id least most rows = (text : Text) × (one_of id rows ≡ Some text) × IsUnsignedIn least most text
 
--- the numbers that `trail` asks for
+-- the option id has no text, or one that is a numeral for a number in the bounds
+abbrev pub HasNumberIfGiven : Text → ℕ → ℕ → List Row → Type 0
+HasNumberIfGiven id least most rows = (text : Text) → one_of id rows ≡ Some text → IsUnsignedIn least most text
+
+-- the numbers that `seq` takes
+pub record HasSeq (rows : List Row) : Type 0 where
+  pub stop : HasNumber (codes "stop") 1 LATEST rows
+  pub every : HasNumberIfGiven (codes "every") 1 LATEST rows
+
+-- the numbers that `trail` takes
 pub record HasTrail (rows : List Row) : Type 0 where
   pub router : HasNumber (codes "router") 0 (MOST_ROUTERS - 1) rows
   pub stop : HasNumber (codes "stop") 1 LATEST rows
@@ -17,7 +26,7 @@ pub record HasTrail (rows : List Row) : Type 0 where
 -- a subcommand of ours was matched, with each option that it requires
 pub record Fits (name : Text) (rows : List Row) : Type 0 where
   pub known : (name ≡ codes "check") ⊎ ((name ≡ codes "seq") ⊎ (name ≡ codes "trail"))
-  pub seq : name ≡ codes "seq" → HasNumber (codes "stop") 1 LATEST rows
+  pub seq : name ≡ codes "seq" → HasSeq rows
   pub trail : name ≡ codes "trail" → HasTrail rows
 
 -- a subcommand was matched, and fits

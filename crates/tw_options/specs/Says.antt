@@ -15,6 +15,11 @@ pub record IsNumberGiven (id : Text) (least most : ℕ) (rows : List Row) (n : �
   pub low : least ≤ n
   pub high : n ≤ most
 
+-- the number given for the option id, and `None` where none is given
+abbrev pub IsNumberIfGiven : Text → ℕ → ℕ → List Row → Option ℕ → Type 0
+IsNumberIfGiven id least most rows None = one_of id rows ≡ None
+IsNumberIfGiven id least most rows (Some n) = IsNumberGiven id least most rows n
+
 -- the flag id is set exactly where its text is `true`
 abbrev pub Sets : Text → List Row → Bool → Type 0
 Sets id rows b = IsTrue b ↔ (one_of id rows ≡ Some (codes "true"))
@@ -23,8 +28,9 @@ Sets id rows b = IsTrue b ↔ (one_of id rows ≡ Some (codes "true"))
 abbrev pub Says : Option (Text × List Row) → CommandLine → Type 0
 Says None command = ⊥
 Says (Some found) Check = found.0 ≡ codes "check"
-Says (Some found) (Seq stop log) =
-    (found.0 ≡ codes "seq") × IsNumberGiven (codes "stop") 1 LATEST found.1 stop × Sets (codes "log") found.1 log
+Says (Some found) (Seq stop every log) =
+    (found.0 ≡ codes "seq") × IsNumberGiven (codes "stop") 1 LATEST found.1 stop
+    × IsNumberIfGiven (codes "every") 1 LATEST found.1 every × Sets (codes "log") found.1 log
 Says (Some found) (Trail router stop keep) =
     (found.0 ≡ codes "trail") × IsNumberGiven (codes "router") 0 (MOST_ROUTERS - 1) found.1 router
     × IsNumberGiven (codes "stop") 1 LATEST found.1 stop × IsNumberGiven (codes "keep") 0 LATEST found.1 keep

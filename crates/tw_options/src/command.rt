@@ -1,10 +1,10 @@
 ghost use Rattle.std.specs.Prelude.{IfOk, ◌≡◌, false};
-ghost use Rattle.clap.specs.Words.{app_of};
+ghost use Rattle.clap.specs.Words.{app_of, rule_of};
 ghost use Rattle.clap.specs.declared.builder.command.Command.TheViews.{out-Command as fields_of};
-ghost use Rattle.tw_options.specs.App.{check_app, seq_app, top_app, trail_app, twarp_app};
+ghost use Rattle.tw_options.specs.App.{check_app, log_rule, seq_app, top_app, trail_app, twarp_app};
 
 use crate::help;
-use crate::number::{KEEP, ROUTER, STOP};
+use crate::number::{EVERY, KEEP, ROUTER, STOP};
 use clap::{Arg, ArgAction, Command};
 use std::alloc::{AllocError, Global};
 
@@ -44,16 +44,23 @@ fn seq<'a>(alloc: Global) -> Result<Command<'a>, AllocError>
     ensures app { IfOk result (λ command. app_of command ≡ seq_app) }
     ensures local { IfOk result (λ command. (fields_of command).has_globals ≡ false) }
 {
-    let log = Arg::new(alloc, "log")
-        .long("log")
-        .action(ArgAction::SetTrue)
-        .help("Report each event of the run too");
     Command::new(alloc, "seq")
         .about(help::SEQ)
         .long_about(help::SEQ_LONG)
         .after_help(help::STATUSES)
         .arg(STOP.arg(alloc))?
-        .arg(log)
+        .arg(EVERY.arg(alloc).long_help(help::EVERY_LONG))?
+        .arg(log(alloc))
+}
+
+fn log<'a>(alloc: Global) -> Arg<'a>
+    ensures rule { rule_of result ≡ log_rule }
+    ensures local { result.global ≡ false }
+{
+    Arg::new(alloc, "log")
+        .long("log")
+        .action(ArgAction::SetTrue)
+        .help("Report each event of the run too")
 }
 
 fn trail<'a>(alloc: Global) -> Result<Command<'a>, AllocError>

@@ -1,10 +1,9 @@
 ghost use Rattle.std.specs.Prelude.{Some, codes};
 ghost use Rattle.clap.specs.Words.{found_of, rows_of, subcommand_rows_of};
-ghost use Rattle.tw_model.specs.declared.limits.TheConstants.{LATEST};
-ghost use Rattle.tw_options.specs.Fit.{HasNumber, HasTrail, IsFit};
+ghost use Rattle.tw_options.specs.Fit.{HasSeq, HasTrail, IsFit};
 ghost use Rattle.tw_options.specs.Says.{Says, Sets};
 
-use crate::number::{KEEP, ROUTER, STOP};
+use crate::number::{EVERY, KEEP, ROUTER, STOP};
 use clap::ArgMatches;
 
 /// What a command line asks for. The input comes from standard input, and times are in ticks.
@@ -16,6 +15,9 @@ pub enum CommandLine {
     Seq {
         /// From 1 to 1,000,000,000.
         stop: u64,
+        /// The time from one checkpoint to the next, from 1 to 1,000,000,000; `None` where no shapes
+        /// are compared.
+        every: Option<u64>,
         /// Whether the report lists the events.
         log: bool,
     },
@@ -45,11 +47,12 @@ pub(crate) fn command_line_of(matches: &ArgMatches<'_>) -> CommandLine
 }
 
 fn seq_of(given: &ArgMatches<'_>) -> CommandLine
-    requires { HasNumber (codes "stop") 1 LATEST (rows_of (found_of given.now)) }
+    requires { HasSeq (rows_of (found_of given.now)) }
     ensures { Says (Some (codes "seq", rows_of (found_of given.now))) result }
 {
     CommandLine::Seq {
         stop: STOP.read(given),
+        every: EVERY.read_if_given(given),
         log: is_set(given, "log"),
     }
 }

@@ -2,18 +2,21 @@ ghost use Rattle.std.specs.Prelude.{◌≡◌};
 ghost use Rattle.tw_options.specs.Fault.{Tells};
 ghost use Rattle.tw_options.specs.declared.fault.CommandLineFault.TheVariants.{Memory};
 
-use clap::Error;
 use clap::error::ErrorKind;
 use std::alloc::AllocError;
+use thiserror::Error;
 
-/// Why a command line asks for nothing.
-#[derive(Debug, Drop)]
+/// Why the words of a command line are not a command to run.
+#[derive(Debug, Drop, Error)]
 pub enum CommandLineFault {
-    /// It asks for help, which is the text of this error.
-    Help(Error),
-    /// Its words are refused; the error's text says why.
-    Bad(Error),
+    /// They ask for help or for the version, which is the text of this error.
+    #[error(transparent)]
+    Help(clap::Error),
+    /// They are refused; the error's text says why.
+    #[error(transparent)]
+    Bad(clap::Error),
     /// Memory was refused.
+    #[error("memory was refused")]
     Memory,
 }
 
@@ -25,10 +28,10 @@ impl From<AllocError> for CommandLineFault {
     }
 }
 
-impl From<Error> for CommandLineFault {
+impl From<clap::Error> for CommandLineFault {
     ghost from_gives = { Tells };
 
-    fn from(error: Error) -> CommandLineFault {
+    fn from(error: clap::Error) -> CommandLineFault {
         match error.kind() {
             ErrorKind::OutOfMemory => CommandLineFault::Memory,
             ErrorKind::DisplayHelp | ErrorKind::DisplayVersion => CommandLineFault::Help(error),

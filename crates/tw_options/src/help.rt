@@ -42,11 +42,28 @@ pub(crate) const SEQ_LONG: &str = "\
 Runs a case up to a time and reports where the routers stand.
 
 Reads a case text from standard input and handles its events below --stop, one after the other.
-The report has each router's counters and path at the end of the run, and whether the routers
-have come to rest.
+The report has each router's counters and path at the end of the run, and a verdict:
+
+  quiet T                     the routers have come to rest; a path last changed at time T
+  oscillates from A period P  they never will: from time A on the run repeats every P ticks
+  open                        neither is known
+
+An oscillation is looked for where --every is given.
 
 Example:
-  twarp seq --stop 20 --log < case.txt";
+  twarp seq --stop 20 --every 1 --log < case.txt";
+
+pub(crate) const EVERY_LONG: &str = "\
+Look for a period at the multiples of this time, in ticks: 1 to 1000000000
+
+The checkpoints are the multiples of this time, up to --stop. The shape at a checkpoint
+is the state of every router without its counters, and what is pending, with times
+counted from the checkpoint. It is compared with the shapes at the 64 checkpoints before
+it. Where two are equal, while messages are pending and no event of the scenario is, the
+run repeats for ever: the verdict is `oscillates`, from the earlier checkpoint on.
+
+1 finds the least period, up to 64 ticks. A greater number N finds the least period that
+is a multiple of N, up to 64 times N. Without --every the verdict is `quiet` or `open`.";
 
 pub(crate) const TRAIL: &str = "Runs a case, and undoes one router's last events";
 

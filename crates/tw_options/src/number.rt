@@ -1,19 +1,20 @@
 ghost use Rattle.std.specs.Prelude.{◌≡◌, false};
 ghost use Rattle.clap.specs.Words.{found_of, rows_of, rule_of};
 ghost use Rattle.tw_options.specs.App.{number_rule};
-ghost use Rattle.tw_options.specs.Fit.{HasNumber};
-ghost use Rattle.tw_options.specs.Says.{IsNumberGiven};
+ghost use Rattle.tw_options.specs.Fit.{HasNumber, HasNumberIfGiven};
+ghost use Rattle.tw_options.specs.Says.{IsNumberGiven, IsNumberIfGiven};
 
 use clap::builder::ValueParser;
 use clap::{Arg, ArgAction, ArgMatches};
 use std::alloc::Global;
 use tw_model::limits::{LATEST, MOST_ROUTERS};
 
-/// A required option `--id` that takes a number from `least` to `most`.
+/// An option `--id` that takes a number from `least` to `most`.
 #[derive(Clone, Copy)]
 pub(crate) struct NumberOption {
     pub(crate) id: &'static str,
     pub(crate) value_name: &'static str,
+    pub(crate) is_required: bool,
     pub(crate) least: u64,
     pub(crate) most: u64,
     pub(crate) help: &'static str,
@@ -22,47 +23,67 @@ pub(crate) struct NumberOption {
 pub(crate) const STOP: NumberOption = NumberOption {
     id: "stop",
     value_name: "TICKS",
+    is_required: true,
     least: 1,
     most: LATEST,
     help: "Handle the events below this time, in ticks: 1 to 1000000000",
 };
 
+pub(crate) const EVERY: NumberOption = NumberOption {
+    id: "every",
+    value_name: "TICKS",
+    is_required: false,
+    least: 1,
+    most: LATEST,
+    help: "Look for a period at the multiples of this time, in ticks: 1 to 1000000000",
+};
+
 pub(crate) const ROUTER: NumberOption = NumberOption {
     id: "router",
     value_name: "NUMBER",
+    is_required: true,
     least: 0,
     most: MOST_ROUTERS as u64 - 1,
-    help: "The router whose events are shown: 0 to 1023, and a router of the case",
+    help: "The router whose last events are undone: 0 to 1023, and a router of the case",
 };
 
 pub(crate) const KEEP: NumberOption = NumberOption {
     id: "keep",
     value_name: "COUNT",
+    is_required: true,
     least: 0,
     most: LATEST,
-    help: "How many of the router's events stay handled: 0 to 1000000000",
+    help: "How many of the router's first events are not undone: 0 to 1000000000",
 };
 
 impl NumberOption {
     /// The option, for the parser.
     pub(crate) fn arg<'a>(self, alloc: Global) -> Arg<'a>
-        ensures rule { rule_of result ≡ number_rule self.id.now self.least self.most }
+        ensures rule { rule_of result ≡ number_rule self.id.now self.is_required self.least self.most }
         ensures local { result.global ≡ false }
     {
         Arg::new(alloc, self.id)
             .long(self.id)
             .value_name(self.value_name)
-            .required(true)
+            .required(self.is_required)
             .action(ArgAction::Set)
             .value_parser(ValueParser::unsigned(self.least, self.most))
             .help(self.help)
     }
 
-    /// The number that was given.
+    /// The number given for a required option.
     pub(crate) fn read(self, given: &ArgMatches<'_>) -> u64
         requires { HasNumber self.id.now self.least self.most (rows_of (found_of given.now)) }
         ensures { IsNumberGiven self.id.now self.least self.most (rows_of (found_of given.now)) result }
     {
         given.get_one::<u64>(self.id).unwrap()
+    }
+
+    /// The number, where one was given.
+    pub(crate) fn read_if_given(self, given: &ArgMatches<'_>) -> Option<u64>
+        requires { HasNumberIfGiven self.id.now self.least self.most (rows_of (found_of given.now)) }
+        ensures { IsNumberIfGiven self.id.now self.least self.most (rows_of (found_of given.now)) result }
+    {
+        given.get_one::<u64>(self.id)
     }
 }
