@@ -5,7 +5,6 @@ use Rattle.tw_event.specs.declared.event.Event.{Event}
 use Rattle.tw_commands.specs.declared.cause.Status.TheVariants.{Done}
 use Rattle.tw_commands.specs.Output.{Output}
 use Rattle.tw_commands.specs.ForCase.{StuckFor, for_case, refused}
-use Rattle.tw_commands.specs.Seq.{GetsStuck}
 use Rattle.tw_model.specs.Case.{Case}
 use Rattle.tw_model.specs.Net.{Net}
 use Rattle.tw_model.specs.State.{State, opening}
@@ -13,7 +12,7 @@ use Rattle.tw_model.specs.Effect.{effect}
 use Rattle.tw_model.specs.History.{state_after}
 use Rattle.tw_report.specs.Lines.{event_words, router_words}
 use Rattle.tw_report.specs.Words.{line}
-use Rattle.tw_seq.specs.Run.{complete_run}
+use Rattle.tw_seq.specs.Run.{GetsStuck, complete_run}
 use Rattle.tw_text.specs.Reading.{case_of}
 
 -- how a router stands

@@ -1,57 +1,91 @@
-ghost use Rattle.std.specs.Prelude.{◌≡◌, ◌≤◌, false, OnOk};
+ghost use Rattle.std.specs.Prelude.{◌≡◌, ◌≤◌, ◌<◌, false, IfOk, IfSome, IsErrOf, OnOk};
 ghost use Rattle.tw_commands.specs.Output.{Answers, Leaves};
-ghost use Rattle.tw_commands.specs.Seq.{GetsStuck, GetsStuckFor, seq_output, seq_report};
+ghost use Rattle.tw_commands.specs.Seq.{GetsStuckFor, found_to, seq_output, seq_report};
 ghost use Rattle.tw_device.specs.Source.{LosesInput, TakesInput};
+ghost use Rattle.tw_handlers.specs.Calls.{counter_full};
 ghost use Rattle.tw_model.specs.declared.limits.TheConstants.{LATEST};
+ghost use Rattle.tw_model.specs.declared.memory.OrMemory.TheVariants as or_memory;
+ghost use Rattle.tw_seq.specs.Run.{GetsStuck, complete_run, opening_run};
 
 use crate::cause::{Cause, Status};
 use crate::command::{Command, answer_io};
 use std::alloc::Global;
 use tw_device::{Sink, Source};
 use tw_instance::Case;
-use tw_report::{Verdict, write_report};
-use tw_seq::OneThread;
+use tw_model::OrMemory;
+use tw_report::write_report;
+use tw_seq::{CounterFull, OneThread};
+use tw_shape::{Finding, Verdict};
 
 /// The command `seq`: runs a case on one thread to the stop and reports the run.
 #[derive(Clone, Copy)]
 struct Seq {
     stop: u64,
+    every: Option<u64>,
     log: bool,
 }
 
 impl Command for Seq {
-    ghost ready = { λ seq. seq.stop ≤ LATEST };
+    ghost ready = { λ seq. (seq.stop ≤ LATEST) × IfSome seq.every (λ every. (0 < every) × (every ≤ LATEST)) };
 
-    ghost output = { λ seq case. seq_report seq.stop seq.log case };
+    ghost output = { λ seq case. seq_report seq.stop seq.every seq.log case };
 
     ghost stuck = { λ seq case. GetsStuck case seq.stop };
 
     fn answer<W: Sink>(&self, alloc: Global, case: &Case, sink: &mut W) -> Result<Status, Cause> {
         let mut run = OneThread::new(alloc, case)?;
-        run.run_to(self.stop)?;
+        let found = run_to_stop(alloc, &mut run, self.stop, self.every)?;
         let outcome = run.into_outcome()?;
-        let verdict = Verdict::of(&outcome);
+        let verdict = Verdict::of(&outcome, found);
         write_report(sink, case.instance(), &outcome, verdict, self.log)?;
         Ok(Status::Done)
     }
 }
 
+/// Runs to the stop, and answers what was found at the checkpoints, the multiples of `every`.
+fn run_to_stop(
+    alloc: Global,
+    run: &mut OneThread<'_>,
+    stop: u64,
+    every: Option<u64>,
+) -> Result<Option<Finding>, OrMemory<CounterFull>>
+    requires opening { run.old ≡ opening_run run.old.case }
+    requires stop { stop ≤ LATEST }
+    requires every { IfSome every (λ n. (0 < n) × (n ≤ LATEST)) }
+    ensures ok { OnOk result (run.new ≡ complete_run run.old.case stop) }
+    ensures found { IfOk result (λ found. found ≡ found_to run.old.case stop every) }
+    ensures full { IsErrOf result (or_memory.Fault counter_full) → GetsStuck run.old.case stop }
+{
+    match every {
+        Some(every) => Ok(run.run_watched(alloc, stop, every)?.finding()),
+        None => {
+            run.run_to(stop)?;
+            Ok(None)
+        }
+    }
+}
+
 /// Reads a case, runs it on one thread to the stop, in ticks, and writes the report of that run, with
 /// a line for each event where `log` says so; or writes where and why the text is refused.
+///
+/// Where `every` is given, 1 to 1,000,000,000 ticks, the verdict says from when and with which period
+/// the run repeats, if two checkpoints show it; the checkpoints are the multiples of `every`.
 pub fn seq_io<R: Source, W: Sink>(
     alloc: Global,
     source: &mut R,
     sink: &mut W,
     stop: u64,
+    every: Option<u64>,
     log: bool,
 ) -> Result<Status, Cause>
     requires source { R.failed source.old ≡ false }
     requires sink { W.failed sink.old ≡ false }
     requires stop { stop ≤ LATEST }
-    ensures answer { Answers result (seq_output stop log) (GetsStuckFor stop)
+    requires every { IfSome every (λ n. (0 < n) × (n ≤ LATEST)) }
+    ensures answer { Answers result (seq_output stop every log) (GetsStuckFor stop)
         (R.remaining source.old) (W.written sink.old) (W.written sink.new) (R.failed source.new) (W.failed sink.new) }
     ensures read { OnOk result (LosesInput (R.remaining source.old) (R.remaining source.new)) }
     ensures most { TakesInput (R.remaining source.old) (R.remaining source.new) }
 {
-    answer_io(alloc, &Seq { stop, log }, source, sink)
+    answer_io(alloc, &Seq { stop, every, log }, source, sink)
 }

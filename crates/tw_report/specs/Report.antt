@@ -6,14 +6,15 @@ use Rattle.tw_event.specs.declared.event.Event.{Event}
 use Rattle.tw_model.specs.declared.outcome.RouterEnd.{RouterEnd}
 use Rattle.tw_model.specs.Net.{Net, IsPath}
 use Rattle.tw_model.specs.Summary.{Summary}
-use Rattle.tw_report.specs.declared.verdict.Verdict.{Verdict}
-use Rattle.tw_report.specs.declared.verdict.Verdict.TheVariants.{Quiet, Undecided}
 use Rattle.tw_report.specs.Lines.{NamesPath, event_words, router_words}
 use Rattle.tw_report.specs.Words.{line}
+use Rattle.tw_shape.specs.declared.verdict.Verdict.{Verdict}
+use Rattle.tw_shape.specs.declared.verdict.Verdict.TheVariants.{Oscillates, Quiet, Undecided}
 
 -- the words of the last line
 abbrev pub verdict_words : Verdict → List (List ℕ)
 verdict_words (Quiet c) = codes "verdict" ∷ codes "quiet" ∷ decimal c ∷ []
+verdict_words (Oscillates a p) = codes "verdict" ∷ codes "oscillates" ∷ codes "from" ∷ decimal a ∷ codes "period" ∷ decimal p ∷ []
 verdict_words Undecided = codes "verdict" ∷ codes "open" ∷ []
 
 -- of each event a line

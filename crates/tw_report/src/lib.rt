@@ -1,4 +1,4 @@
-//! Reports of runs: the lines of events and routers, the verdict, and writing all of them to a sink.
+//! Reports of runs: the lines of events, routers and verdicts, and writing all of them to a sink.
 //!
 //! Contracts see a line as its words (`specs/Words`, `Lines`) and a report as one text (`specs/Report`).
 //! Proved: what is put is exactly that text and nothing else, or a prefix of it where the sink failed;
@@ -7,10 +7,8 @@
 
 mod lines;
 mod report;
-mod verdict;
 mod words;
 
 pub use lines::{put_event, put_router};
 pub use report::write_report;
-pub use verdict::Verdict;
 pub use words::{Word, put_line};

@@ -8,13 +8,13 @@ ghost use Rattle.tw_report.specs.Report.{HasPaths, event_lines, head_lines, logg
 ghost use Rattle.tw_report.specs.Words.{line};
 
 use crate::lines::{put_event, put_router};
-use crate::verdict::Verdict;
 use crate::words::Word::{Name, Number};
 use crate::words::put_line;
 use tw_device::{Failed, Sink};
 use tw_event::Event;
 use tw_instance::Instance;
 use tw_model::{Outcome, RouterEnd};
+use tw_shape::Verdict;
 
 /// Writes the report of a run, with a line for each event where `log` says so. Takes no memory: hand
 /// it a sink with a buffer, for it puts word by word.
@@ -100,6 +100,10 @@ fn put_verdict<S: Sink>(sink: &mut S, verdict: Verdict) -> Result<(), Failed>
 {
     match verdict {
         Verdict::Quiet(time) => put_line(sink, &[Name("verdict"), Name("quiet"), Number(time)]),
+        Verdict::Oscillates { from, period } => {
+            let (from, period) = (Number(from), Number(period));
+            put_line(sink, &[Name("verdict"), Name("oscillates"), Name("from"), from, Name("period"), period])
+        }
         Verdict::Undecided => put_line(sink, &[Name("verdict"), Name("open")]),
     }
 }

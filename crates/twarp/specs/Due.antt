@@ -1,5 +1,5 @@
 -- What is due for a command line (own).
-use Rattle.std.specs.Prelude.{ℕ, ◌≤◌, List}
+use Rattle.std.specs.Prelude.{ℕ, ◌<◌, ◌≤◌, IfSome, List}
 use Rattle.tw_commands.specs.Check.{check_output}
 use Rattle.tw_commands.specs.Output.{Output}
 use Rattle.tw_commands.specs.Seq.{GetsStuckFor, seq_output}
@@ -8,20 +8,20 @@ use Rattle.tw_model.specs.declared.limits.TheConstants.{LATEST}
 use Rattle.tw_options.specs.declared.command_line.CommandLine.{CommandLine}
 use Rattle.tw_options.specs.declared.command_line.CommandLine.TheVariants.{Check, Seq, Trail}
 
--- its stop is within the limit of stops
+-- its stop and its checkpoints are within their limits
 abbrev pub IsRunnable : CommandLine → Type 0
 IsRunnable Check = Unit {0}
-IsRunnable (Seq stop log) = stop ≤ LATEST
+IsRunnable (Seq stop every log) = (stop ≤ LATEST) × IfSome every (λ n. (0 < n) × (n ≤ LATEST))
 IsRunnable (Trail router stop keep) = stop ≤ LATEST
 
 -- what is written for this input, and how the program ends
 abbrev pub due : CommandLine → List ℕ → Output
 due Check = check_output
-due (Seq stop log) = seq_output stop log
+due (Seq stop every log) = seq_output stop every log
 due (Trail router stop keep) = trail_output router stop keep
 
 -- for this input a router's counter would pass its limit
 abbrev pub StopsFull : CommandLine → List ℕ → Type 0
 StopsFull Check input = ⊥
-StopsFull (Seq stop log) input = GetsStuckFor stop input
+StopsFull (Seq stop every log) input = GetsStuckFor stop input
 StopsFull (Trail router stop keep) input = TrailGetsStuck router stop input

@@ -26,7 +26,7 @@ pub(crate) fn perform<R: Source, W: Sink>(
 {
     match line {
         CommandLine::Check => check_io(alloc, source, sink),
-        CommandLine::Seq { stop, log } => seq_io(alloc, source, sink, stop, log),
+        CommandLine::Seq { stop, every, log } => seq_io(alloc, source, sink, stop, every, log),
         CommandLine::Trail { router, stop, keep } => {
             trail_io(alloc, source, sink, router, stop, keep)
         }
