@@ -102,7 +102,17 @@ fn put_verdict<S: Sink>(sink: &mut S, verdict: Verdict) -> Result<(), Failed>
         Verdict::Quiet(time) => put_line(sink, &[Name("verdict"), Name("quiet"), Number(time)]),
         Verdict::Oscillates { from, period } => {
             let (from, period) = (Number(from), Number(period));
-            put_line(sink, &[Name("verdict"), Name("oscillates"), Name("from"), from, Name("period"), period])
+            put_line(
+                sink,
+                &[
+                    Name("verdict"),
+                    Name("oscillates"),
+                    Name("from"),
+                    from,
+                    Name("period"),
+                    period,
+                ],
+            )
         }
         Verdict::Undecided => put_line(sink, &[Name("verdict"), Name("open")]),
     }

@@ -17,6 +17,6 @@ returns-in_err-run_to g c =
         own = c.in_err-run_to.ensures.case ∙ ap (λ run. run.case) c.in_ok-run.ensures;
         to_stop = c.in_err-run_to.ensures.stop ∙ (ap (λ run. max run.stop c.args.self.now.stop) c.in_ok-run.ensures ∙ to_stop);
         reached = subst (λ run. Continues run c.run_to.new.self) c.in_ok-run.ensures c.in_err-run_to.ensures.goes_on;
-        stuck = c.in_err-run_to.ensures.full is;
+        stuck = c.in_err-run_to.ensures.full (ap Err is);
       },
     )))
