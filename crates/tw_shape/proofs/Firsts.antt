@@ -164,22 +164,24 @@ pub found_unlike : (w : Watch) (gap : Gap) → 0 < w.every → IsTimely w.every 
     → All (λ c. c.time < gap.time) (shown w) → can_repeat gap.shape ≡ true → first_found w.every (shown w) (gap_checkpoints w.every gap) ≡ None
 found_unlike w gap some is timely apart before can =
     found_nothing w.every some (shown w) gap is.is can before (min gap.count 64) refl (λ i l. ap (option_map (λ c. c.time)) (none i (omega arith) (shown w) (λ c h. h))) where
-  differs : (i : ℕ) → i < gap.count → (c : Checkpoint) → In c (shown w) → is_again w.every (after_first gap (i * w.every)) c ≡ false
-  differs i l c h =
-      let old = in_flat_map (gap_checkpoints w.every) c w.window h in
-      let place = in_map (λ k. after_first old.0 (k * w.every)) c (range_with_len 0 old.0.count) old.1 in
-      let within = in_range place.0 0 old.0.count place.2 in
-      let a = in_from_all (IsTimely w.every) w.window timely old.0 old.2 in
-      let never = in_from_all (λ g. NeverMeet g.shape gap.shape) w.window apart old.0 old.2 in
-      let still_old = sooner_still old.0 a place.0 (omega arith) in
-      let still_new = sooner_still gap is i l in
-      let no = never (place.0 * w.every) (i * w.every) still_old still_new in
-      ap (is_again w.every (after_first gap (i * w.every))) place.1 ∙ ap (λ b. nat_le (gap.time + i * w.every) (old.0.time + place.0 * w.every + 64 * w.every) && b) no ∙ never_both (nat_le (gap.time + i * w.every) (old.0.time + place.0 * w.every + 64 * w.every)) where
-    never_both : (b : Bool) → (b && false) ≡ false
-    never_both true = refl
-    never_both false = refl
-    sooner_still : (g : Gap) → IsTimely w.every g → (k : ℕ) → k < g.count → IsStill (k * w.every) g.shape
-    sooner_still g t k less = λ n d m. (let le : k ≤ g.count - 1 = omega arith in let far = mul-le-mul_right w.every le in let e = t.is.still n d m in omega arith)
-  none : (i : ℕ) → i < gap.count → (cs : List Checkpoint) → ((c : Checkpoint) → In c cs → In c (shown w)) → find (is_again w.every (after_first gap (i * w.every))) cs ≡ None
-  none i l [] h = refl
-  none i l (c ∷ cs) h = rw (differs i l c (h c (inl refl))) (none i l cs (λ d k. h d (inr k)))
+      differs : (i : ℕ) → i < gap.count → (c : Checkpoint) → In c (shown w) → is_again w.every (after_first gap (i * w.every)) c ≡ false
+      differs i l c h =
+          let old = in_flat_map (gap_checkpoints w.every) c w.window h in
+          let place = in_map (λ k. after_first old.0 (k * w.every)) c (range_with_len 0 old.0.count) old.1 in
+          let within = in_range place.0 0 old.0.count place.2 in
+          let a = in_from_all (IsTimely w.every) w.window timely old.0 old.2 in
+          let never = in_from_all (λ g. NeverMeet g.shape gap.shape) w.window apart old.0 old.2 in
+          let still_old = sooner_still old.0 a place.0 (omega arith) in
+          let still_new = sooner_still gap is i l in
+          let no = never (place.0 * w.every) (i * w.every) still_old still_new in
+          ap (is_again w.every (after_first gap (i * w.every))) place.1 ∙ ap (λ b. nat_le (gap.time + i * w.every) (old.0.time + place.0 * w.every + 64 * w.every) && b) no ∙ never_both (nat_le (gap.time + i * w.every) (old.0.time + place.0 * w.every + 64 * w.every)) where
+            never_both : (b : Bool) → (b && false) ≡ false
+            never_both true = refl
+            never_both false = refl
+
+            sooner_still : (g : Gap) → IsTimely w.every g → (k : ℕ) → k < g.count → IsStill (k * w.every) g.shape
+            sooner_still g t k less = λ n d m. (let le : k ≤ g.count - 1 = omega arith in let far = mul-le-mul_right w.every le in let e = t.is.still n d m in omega arith)
+
+      none : (i : ℕ) → i < gap.count → (cs : List Checkpoint) → ((c : Checkpoint) → In c cs → In c (shown w)) → find (is_again w.every (after_first gap (i * w.every))) cs ≡ None
+      none i l [] h = refl
+      none i l (c ∷ cs) h = rw (differs i l c (h c (inl refl))) (none i l cs (λ d k. h d (inr k)))
