@@ -13,10 +13,11 @@ fn asked(alloc: Global, words: &[&str]) -> Result<CommandLine, CommandLineFault>
 
 #[test]
 fn numbers_left_out_or_out_of_range_are_refused(rt: HostRuntime) {
-    let refused: [&[&str]; 4] = [
+    let refused: [&[&str]; 5] = [
         &["twarp", "seq"],
         &["twarp", "seq", "--stop", "0"],
         &["twarp", "seq", "--stop", "1000000001"],
+        &["twarp", "seq", "--stop", "20", "--every", "0"],
         &[
             "twarp", "trail", "--router", "1024", "--stop", "20", "--keep", "0",
         ],
@@ -62,8 +63,16 @@ fn the_numbers_given_are_those_asked_for(rt: HostRuntime) {
     assert!(rt; matches!(asked(rt.alloc(), &words), Ok(found) if found == line));
     let line = CommandLine::Seq {
         stop: 20,
+        every: None,
         log: true,
     };
     let words = ["twarp", "seq", "--log", "--stop", "20"];
+    assert!(rt; matches!(asked(rt.alloc(), &words), Ok(found) if found == line));
+    let line = CommandLine::Seq {
+        stop: 20,
+        every: Some(2),
+        log: false,
+    };
+    let words = ["twarp", "seq", "--stop", "20", "--every", "2"];
     assert!(rt; matches!(asked(rt.alloc(), &words), Ok(found) if found == line));
 }

@@ -23,3 +23,5 @@ mod refusals;
 mod runs;
 #[cfg(test)]
 mod texts;
+#[cfg(test)]
+mod verdicts;

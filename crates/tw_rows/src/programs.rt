@@ -15,7 +15,8 @@ use tw_commands::{Cause, Status, check_io, seq_io, trail_io};
 #[derive(Clone, Copy, Debug)]
 pub(crate) enum Asked {
     Check,
-    Seq { stop: u16, log: bool },
+    /// With `every` 0 there are no checkpoints.
+    Seq { stop: u16, every: u16, log: bool },
     Trail { router: u16, stop: u16, keep: u64 },
 }
 
@@ -30,7 +31,13 @@ fn run(
 {
     match asked {
         Asked::Check => check_io(alloc, tape, page),
-        Asked::Seq { stop, log } => seq_io(alloc, tape, page, u64::from(stop), log),
+        Asked::Seq { stop, every, log } => {
+            let every = match every {
+                0 => None,
+                ticks => Some(u64::from(ticks)),
+            };
+            seq_io(alloc, tape, page, u64::from(stop), every, log)
+        }
         Asked::Trail { router, stop, keep } => {
             trail_io(alloc, tape, page, u32::from(router), u64::from(stop), keep)
         }
@@ -62,7 +69,7 @@ fn answer_from(
 }
 
 /// The same, on a tape that gives the whole text.
-fn answer(
+pub(crate) fn answer(
     alloc: Global,
     asked: Asked,
     text: &str,
@@ -89,7 +96,11 @@ pub(crate) fn answers(
 
 #[test]
 fn reports_and_trails_are_written_to_the_byte(rt: HostRuntime) {
-    let seq = |stop, log| Asked::Seq { stop, log };
+    let seq = |stop, log| Asked::Seq {
+        stop,
+        every: 0,
+        log,
+    };
     let trail = |router, stop, keep| Asked::Trail { router, stop, keep };
     let rows = [
         (ALONE, seq(10, true), ALONE_LOG),
@@ -139,6 +150,7 @@ fn fails_with_a_prefix(alloc: Global, asked: Asked, whole: &[u8], most: usize) -
 fn a_sink_that_fails_has_a_prefix(rt: HostRuntime) {
     let asked = Asked::Seq {
         stop: 20,
+        every: 0,
         log: true,
     };
     let rows = [(asked, DISAGREE_LOG), (Asked::Check, ACCEPTED)];
@@ -156,6 +168,7 @@ fn a_sink_that_fails_has_a_prefix(rt: HostRuntime) {
 fn the_first_line_stands_where_a_sink_takes_thirteen_bytes(rt: HostRuntime) {
     let asked = Asked::Seq {
         stop: 10,
+        every: 0,
         log: true,
     };
     let Some((ended, page)) = answer(rt.alloc(), asked, ALONE, 13, AMPLE) else {
@@ -168,6 +181,7 @@ fn the_first_line_stands_where_a_sink_takes_thirteen_bytes(rt: HostRuntime) {
 fn a_sink_may_take_a_byte_at_a_time(rt: HostRuntime) {
     let asked = Asked::Seq {
         stop: 20,
+        every: 0,
         log: true,
     };
     for (asked, text) in [(asked, DISAGREE_LOG), (Asked::Check, ACCEPTED)] {
@@ -182,6 +196,7 @@ fn a_sink_may_take_a_byte_at_a_time(rt: HostRuntime) {
 fn a_source_that_fails_leaves_nothing_written(rt: HostRuntime) {
     let seq = Asked::Seq {
         stop: 20,
+        every: 0,
         log: true,
     };
     for asked in [Asked::Check, seq] {

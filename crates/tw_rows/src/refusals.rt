@@ -59,6 +59,7 @@ fn the_first_bad_line_and_its_lowest_fault_are_named(rt: HostRuntime) {
         Asked::Check,
         Asked::Seq {
             stop: 20,
+            every: 0,
             log: true,
         },
         Asked::Trail {

@@ -14,8 +14,9 @@ use tw_device::Failed;
 use tw_event::{Body, Event, PathNo};
 use tw_instance::Instance;
 use tw_model::{Counters, Outcome, RouterEnd};
-use tw_report::{Verdict, write_report};
+use tw_report::write_report;
 use tw_seq::OneThread;
+use tw_shape::Verdict;
 
 /// Runs to the stop, once more where memory was refused.
 fn run_to(run: &mut OneThread<'_>, stop: u64) -> bool
@@ -48,7 +49,7 @@ fn a_run_goes_on_to_a_later_stop(rt: HostRuntime) {
         panic!(rt; "no memory")
     };
     assert!(rt; outcome.stop == 20 && outcome.bound == 20 && outcome.events.len() == 7);
-    assert!(rt; Verdict::of(&outcome) == Verdict::Quiet(2));
+    assert!(rt; Verdict::of(&outcome, None) == Verdict::Quiet(2));
     if let Ok(moved) = run.into_outcome() {
         assert!(rt; moved.events.as_slice() == outcome.events.as_slice());
     }
@@ -114,7 +115,13 @@ fn report(
     requires { HasPaths instance.now (summary_of outcome.now) }
 {
     let mut page = page_at_last(alloc, room)?;
-    let ended = write_report(&mut page, instance, outcome, Verdict::of(outcome), true);
+    let ended = write_report(
+        &mut page,
+        instance,
+        outcome,
+        Verdict::of(outcome, None),
+        true,
+    );
     Ok((ended, page))
 }
 
