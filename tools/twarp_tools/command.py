@@ -1,0 +1,93 @@
+"""How every tool reads, writes and ends."""
+from __future__ import annotations
+
+import argparse
+import enum
+import os
+import sys
+from collections.abc import Callable
+from pathlib import Path
+from typing import NoReturn, TypeVar
+
+Value = TypeVar("Value")
+
+
+class Status(enum.IntEnum):
+    """Exit statuses, as those of twarp."""
+
+    DONE = 0
+    REFUSED = 1
+    STOPPED = 2
+    BAD_LINE = 3
+
+
+class Refused(Exception):
+    """Input that a tool does not take. Its text says why, and at which line."""
+
+    @classmethod
+    def at_line(cls, number: int, why: str) -> Refused:
+        return cls(f"refused line {number}: {why}")
+
+
+class Parser(argparse.ArgumentParser):
+    """Reads a command line; one that it does not take ends with the status that twarp has for it."""
+
+    def __init__(self, description: str, example: str):
+        super().__init__(
+            description=description,
+            epilog=f"{example}\n\nstatuses: 0 done, 1 the input is refused, 2 stopped, 3 the command line is not accepted",
+            formatter_class=argparse.RawDescriptionHelpFormatter,
+        )
+
+    def error(self, message: str) -> NoReturn:
+        self.print_usage(sys.stderr)
+        self.exit(Status.BAD_LINE, f"{self.prog}: {message}\n")
+
+
+def number_between(least: int, most: int) -> Callable[[str], int]:
+    """A type of arguments: a decimal number in a range."""
+
+    def read(word: str) -> int:
+        if not (word.isascii() and word.isdigit() and least <= int(word) <= most):
+            raise argparse.ArgumentTypeError(f"{word!r} is no number from {least} to {most}")
+        return int(word)
+
+    return read
+
+
+def read_input(file: str, read: Callable[[bytes], Value]) -> Value:
+    """What `read` makes of the file, or of standard input where it is `-`. A refusal tells the file's name."""
+    text = sys.stdin.buffer.read() if file == "-" else Path(file).read_bytes()
+    try:
+        return read(text)
+    except Refused as fault:
+        name = "standard input" if file == "-" else file
+        raise Refused(f"{name}: {fault}") from None
+
+
+def tell(message: object) -> None:
+    """Says something on standard error, under the tool's name."""
+    print(f"{Path(sys.argv[0]).name}: {message}", file=sys.stderr)
+
+
+def write_output(text: str) -> None:
+    sys.stdout.buffer.write(text.encode())
+    sys.stdout.buffer.flush()
+
+
+def run(main: Callable[[], None]) -> Status:
+    """Runs a tool and gives its exit status."""
+    try:
+        main()
+    except Refused as fault:
+        tell(fault)
+        return Status.REFUSED
+    except MemoryError:
+        tell("stopped memory")
+        return Status.STOPPED
+    except OSError as error:
+        if isinstance(error, BrokenPipeError):
+            os.dup2(os.open(os.devnull, os.O_WRONLY), sys.stdout.fileno())
+        tell(f"stopped device: {error}")
+        return Status.STOPPED
+    return Status.DONE
