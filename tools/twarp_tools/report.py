@@ -3,7 +3,8 @@ from __future__ import annotations
 
 import re
 from collections.abc import Iterator
-from dataclasses import dataclass, field
+from dataclasses import dataclass
+from typing import Generic, TypeVar
 
 from twarp_tools.case import Case, CaseReader, word_faults
 from twarp_tools.command import Refused
@@ -58,34 +59,37 @@ class Open:
 Verdict = Quiet | Oscillates | Open
 
 
-@dataclass
-class Report:
-    """A report; each event and each router line stands with the number of its line."""
-
-    stop: int = 0
-    bound: int = 0
-    events: list[tuple[int, Event]] = field(default_factory=list)
-    routers: list[tuple[int, RouterLine]] = field(default_factory=list)
-    verdict: Verdict = Open()
+Value = TypeVar("Value")
 
 
 @dataclass(frozen=True, slots=True)
-class Answer:
-    """What a replay answered to one step: done where there is no refusal."""
+class Told(Generic[Value]):
+    """What a line says, with the line's number."""
 
     line: int
-    refusal: str | None
+    value: Value
 
 
-@dataclass
+@dataclass(frozen=True)
+class Report:
+    """What twarp wrote of a run. Its events are there where it was asked for with --log."""
+
+    stop: Told[int]
+    bound: Told[int]
+    events: list[Told[Event]]
+    routers: list[Told[RouterLine]]
+    verdict: Verdict
+
+
+@dataclass(frozen=True)
 class Replay:
-    """What a replay wrote; what is compared with a run stands with the number of its line."""
+    """What twarp wrote of a replay. An answer is None where the step was done, else the refusal's code and name."""
 
-    answers: list[Answer] = field(default_factory=list)
-    bound: int = 0
-    loose: tuple[int, str] = (0, "")
-    events: list[tuple[int, Event]] = field(default_factory=list)
-    routers: list[tuple[int, RouterLine]] = field(default_factory=list)
+    answers: list[Told[str | None]]
+    bound: Told[int]
+    loose: Told[str]
+    events: list[Told[Event]]
+    routers: list[Told[RouterLine]]
 
 
 @dataclass(frozen=True, slots=True)
@@ -97,108 +101,105 @@ class Step:
         return self.word if self.number is None else f"{self.word} {self.number}"
 
 
-ROUTER_LINE = re.compile(
-    rf"router (?P<router>{NUMBER}) sent (?P<sent>{NUMBER}) handled (?P<handled>{NUMBER}) "
-    rf"dropped (?P<dropped>{NUMBER}) changed (?P<changed>{NUMBER}) rib (?P<rib>{PATH})"
+REPLAY_HEADER = "spp-replay 1"
+ROUTER_LINE = (
+    f"router {{router}} sent ({NUMBER}) handled ({NUMBER}) dropped ({NUMBER}) changed ({NUMBER}) rib ({PATH})"
 )
-VERDICT_LINE = re.compile(
-    rf"verdict (?:quiet (?P<last>{NUMBER})|oscillates from (?P<start>{NUMBER}) period (?P<period>{NUMBER})|(?P<open>open))"
-)
-STEP_LINE = re.compile(rf"step (?P<number>{NUMBER}) (?:ok|refused (?P<refusal>[A-Z][0-9]+ [A-Za-z]+))")
-LOOSE_LINE = re.compile(rf"flight {NUMBER} pending {NUMBER} kept {NUMBER} ahead {NUMBER}")
+VERDICT_LINE = f"verdict (?:quiet ({NUMBER})|oscillates from ({NUMBER}) period ({NUMBER})|open)"
+ANSWER_LINE = "step {step} (?:ok|refused ([A-Z][0-9]+ [A-Za-z]+))"
+LOOSE_LINE = f"flight {NUMBER} pending {NUMBER} kept {NUMBER} ahead {NUMBER}"
 
 
 class Cursor:
     """The lines of a text that twarp wrote, taken one after the other."""
 
-    def __init__(self, text: bytes):
-        self.lines: Iterator[Line] = lines_of(text)
-        self.number = 1
-        self.line = next(self.lines, None)
+    def __init__(self, text: bytes, header: str):
+        self.lines = lines_of(text)
+        self.number = 0
+        self.line: Line | None = None
+        self.advance()
+        self.take(header, f"`{header}`")
 
-    def refuse(self, wanted: str) -> Refused:
-        if self.line is None:
-            return Refused.at_line(self.number, f"the text ends where {wanted} should stand")
-        if not self.line.is_ended:
-            return Refused.at_line(self.number, "the line is not ended")
-        return Refused.at_line(self.number, f"{self.line.text[:80]!r} stands where {wanted} should stand")
-
-    def peek(self, pattern: re.Pattern[str]) -> re.Match[str] | None:
-        """How the next line matches, where it is there and whole."""
-        return pattern.fullmatch(self.line.text) if self.line and self.line.is_ended else None
-
-    def step(self) -> None:
+    def advance(self) -> None:
         self.number += 1
         self.line = next(self.lines, None)
 
-    def take(self, pattern: re.Pattern[str], wanted: str) -> re.Match[str]:
-        found = self.peek(pattern)
+    def take(self, pattern: str, wanted: str) -> Told[re.Match[str]]:
+        """How the next line matches; refused where it is not there, not whole or does not match."""
+        if self.line is None:
+            raise Refused.at_line(self.number, f"the text ends where {wanted} should stand")
+        found = re.fullmatch(pattern, self.line.text)
         if not found:
-            raise self.refuse(wanted)
-        self.step()
-        return found
+            raise Refused.at_line(self.number, f"{self.line.text[:80]!r} stands where {wanted} should stand")
+        if not self.line.is_ended:
+            raise Refused.at_line(self.number, "the line is not ended")
+        self.advance()
+        return Told(self.number - 1, found)
 
-    def take_word(self, word: str) -> int:
+    def take_number(self, word: str) -> Told[int]:
         """The number of a line that is a word and a number."""
-        return int(self.take(re.compile(rf"{word} ({NUMBER})"), f"`{word}` and a number")[1])
+        told = self.take(rf"{word} ({NUMBER})", f"`{word}` and a number")
+        return Told(told.line, int(told.value[1]))
 
-    def take_events(self) -> list[tuple[int, Event]]:
+    def take_events(self) -> list[Told[Event]]:
+        """The event lines that come next."""
         events = []
         while self.line and self.line.is_ended and (event := read_event(self.line.text)):
-            events.append((self.number, event))
-            self.step()
+            events.append(Told(self.number, event))
+            self.advance()
         return events
 
-    def take_routers(self, nodes: int) -> list[tuple[int, RouterLine]]:
+    def take_routers(self, nodes: int) -> list[Told[RouterLine]]:
         """The router line of each router, in ascending order."""
         routers = []
         for router in range(nodes):
-            number = self.number
-            found = self.take(ROUTER_LINE, f"the line of router {router}")
-            counters = [int(found[name]) for name in ("router", "sent", "handled", "dropped", "changed")]
-            if counters[0] != router:
-                raise Refused.at_line(number, f"the line of router {router} should stand here")
-            routers.append((number, RouterLine(*counters, read_path(found["rib"]))))
+            told = self.take(ROUTER_LINE.format(router=router), f"an event or the line of router {router}")
+            *counters, rib = told.value.groups()
+            routers.append(Told(told.line, RouterLine(router, *map(int, counters), read_path(rib))))
         return routers
 
-    def end(self) -> None:
+    def take_verdict(self) -> Verdict:
+        last_change, start, period = self.take(VERDICT_LINE, "the verdict").value.groups()
+        if last_change:
+            return Quiet(int(last_change))
+        return Oscillates(int(start), int(period)) if start else Open()
+
+    def take_answer(self, step: int) -> Told[str | None]:
+        told = self.take(ANSWER_LINE.format(step=step), f"the answer to step {step}")
+        return Told(told.line, told.value[1])
+
+    def take_end(self) -> None:
         if self.line is not None:
-            raise self.refuse("the text's end")
+            raise Refused.at_line(self.number, f"{self.line.text[:80]!r} stands where the text should end")
 
 
 def read_report(text: bytes, nodes: int) -> Report:
     """The report of a run of a case with so many routers."""
-    cursor = Cursor(text)
-    cursor.take(re.compile("spp-report 1"), "`spp-report 1`")
-    report = Report(cursor.take_word("stop"), cursor.take_word("bound"))
-    report.events = cursor.take_events()
-    report.routers = cursor.take_routers(nodes)
-    verdict = cursor.take(VERDICT_LINE, "the verdict")
-    if verdict["last"]:
-        report.verdict = Quiet(int(verdict["last"]))
-    elif verdict["start"]:
-        report.verdict = Oscillates(int(verdict["start"]), int(verdict["period"]))
-    cursor.end()
+    cursor = Cursor(text, "spp-report 1")
+    report = Report(
+        cursor.take_number("stop"),
+        cursor.take_number("bound"),
+        cursor.take_events(),
+        cursor.take_routers(nodes),
+        cursor.take_verdict(),
+    )
+    cursor.take_end()
     return report
 
 
 def read_replay(text: bytes, nodes: int, steps: int) -> Replay:
     """What twarp wrote of the replay of so many steps on a case with so many routers."""
-    cursor = Cursor(text)
-    cursor.take(re.compile("spp-replay 1"), "`spp-replay 1`")
-    replay = Replay()
-    for step in range(1, steps + 1):
-        number = cursor.number
-        found = cursor.take(STEP_LINE, f"the answer to step {step}")
-        if int(found["number"]) != step:
-            raise Refused.at_line(number, f"the answer to step {step} should stand here")
-        replay.answers.append(Answer(number, found["refusal"]))
-    replay.bound = cursor.take_word("bound")
-    replay.loose = (cursor.number, cursor.take(LOOSE_LINE, "the line `flight ..`")[0])
-    replay.events = cursor.take_events()
-    replay.routers = cursor.take_routers(nodes)
-    cursor.end()
+    cursor = Cursor(text, REPLAY_HEADER)
+    answers = [cursor.take_answer(step) for step in range(1, steps + 1)]
+    bound = cursor.take_number("bound")
+    loose = cursor.take(LOOSE_LINE, "the line `flight ..`")
+    replay = Replay(answers, bound, Told(loose.line, loose.value[0]), cursor.take_events(), cursor.take_routers(nodes))
+    cursor.take_end()
     return replay
+
+
+def is_replay(text: bytes) -> bool:
+    return text.startswith(REPLAY_HEADER.encode())
 
 
 # How many words a line of a step text may have, by its first word.

@@ -11,7 +11,7 @@ from twarp_tools.command import Refused
 from twarp_tools.event import Event, opening_events
 from twarp_tools.lines import Nodes
 from twarp_tools.protocol import Router, opening_routers
-from twarp_tools.report import Report, RouterLine
+from twarp_tools.report import Report, RouterLine, Told
 
 
 class Fate(enum.Enum):
@@ -61,6 +61,10 @@ class Follower:
     def expect(self, event: Event, message: Message | None) -> None:
         heapq.heappush(self.pending, (event.key(self.path_numbers), event, message))
 
+    def least(self) -> Event | None:
+        """The least pending event."""
+        return self.pending[0][1] if self.pending else None
+
     def handle_least(self) -> None:
         _, event, message = heapq.heappop(self.pending)
         router = self.routers[event.dst]
@@ -80,16 +84,17 @@ class Follower:
 def follow(case: Case, report: Report) -> Run:
     """What the report's events did; refused at the first line that is not the case's run."""
     follower = Follower(case)
-    end, first = report.routers[0]
-    if first.handled and not report.events:
-        raise Refused.at_line(end, "no event stands above this line: the report has to be one with --log")
-    for number, event in report.events:
-        least = follower.pending[0][1] if follower.pending else None
-        if event != least:
-            raise Refused.at_line(number, f"in the run of this case {written(least)} stands here")
+    end = report.routers[0]
+    if end.value.handled and not report.events:
+        raise Refused.at_line(end.line, "no event stands above this line: the report has to be one with --log")
+    for told in report.events:
+        least = follower.least()
+        if told.value != least:
+            raise Refused.at_line(told.line, f"in the run of this case {written(least)} stands here")
         follower.handle_least()
-    if follower.pending and follower.pending[0][1].time < report.bound:
-        raise Refused.at_line(end, f"in the run of this case {written(follower.pending[0][1])} stands here")
+    least = follower.least()
+    if least and least.time < report.bound.value:
+        raise Refused.at_line(end.line, f"in the run of this case {written(least)} stands here")
     compare_routers(report.routers, follower.routers)
     return follower.run
 
@@ -98,8 +103,8 @@ def written(event: Event | None) -> str:
     return f"`{event}`" if event else "no further event"
 
 
-def compare_routers(lines: Iterable[tuple[int, RouterLine]], routers: Iterable[Router]) -> None:
+def compare_routers(lines: Iterable[Told[RouterLine]], routers: Iterable[Router]) -> None:
     """Refuses the first router line that is not the router's."""
-    for (number, line), router in zip(lines, routers):
-        if line != router.line():
-            raise Refused.at_line(number, f"the events above lead to `{router.line()}`")
+    for told, router in zip(lines, routers):
+        if told.value != router.line():
+            raise Refused.at_line(told.line, f"the events above lead to `{router.line()}`")
