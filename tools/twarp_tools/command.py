@@ -6,6 +6,7 @@ import enum
 import os
 import sys
 from collections.abc import Callable
+from dataclasses import dataclass
 from pathlib import Path
 from typing import NoReturn, TypeVar
 
@@ -55,14 +56,26 @@ def number_between(least: int, most: int) -> Callable[[str], int]:
     return read
 
 
-def read_input(file: str, read: Callable[[bytes], Value]) -> Value:
-    """What `read` makes of the file, or of standard input where it is `-`. A refusal tells the file's name."""
-    text = sys.stdin.buffer.read() if file == "-" else Path(file).read_bytes()
-    try:
-        return read(text)
-    except Refused as fault:
-        name = "standard input" if file == "-" else file
-        raise Refused(f"{name}: {fault}") from None
+@dataclass(frozen=True)
+class Input:
+    """A text, with the name by which what is wrong with it is told."""
+
+    name: str
+    text: bytes
+
+    @classmethod
+    def of(cls, file: str) -> Input:
+        """The whole of a file, or of standard input where it is `-`."""
+        if file == "-":
+            return cls("standard input", sys.stdin.buffer.read())
+        return cls(file, Path(file).read_bytes())
+
+    def read(self, reader: Callable[[bytes], Value]) -> Value:
+        """What a reader makes of the text."""
+        try:
+            return reader(self.text)
+        except Refused as fault:
+            raise Refused(f"{self.name}: {fault}") from None
 
 
 def tell(message: object) -> None:

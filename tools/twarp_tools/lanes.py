@@ -1,52 +1,66 @@
-"""What the pictures of runs and of replays share: a lane for each router, colours for paths, and a legend."""
+"""What the pictures of runs and of replays share: a lane for each router, and a legend of the marks."""
 from __future__ import annotations
 
 import math
-from collections.abc import Callable, Iterable, Mapping
+from collections.abc import Callable, Mapping, Sequence
 from dataclasses import dataclass
+from functools import cached_property
 from xml.etree.ElementTree import Element
 
+from twarp_tools.command import Refused
 from twarp_tools.svg import add
 
 TOP = 104.0
-
-# What a path's place in its router's order is called, the best first, with the colours of its bar and of the text on
-# it: the palette of Okabe and Ito, which colour-blind people can tell apart. All later places share the last one.
-PLACES = [
-    ("1st", "#0072b2", "#fff"),
-    ("2nd", "#e69f00", "#000"),
-    ("3rd", "#009e73", "#fff"),
-    ("4th", "#cc79a7", "#000"),
-    ("5th", "#56b4e9", "#000"),
-    ("6th", "#d55e00", "#fff"),
-    ("7th or later", "#7a6a9f", "#fff"),
-]
+MOST_MARKS = 5_000
+MOST_LANES = 200
 
 
 @dataclass(frozen=True)
+class View:
+    """What is to be seen: times, or steps of a replay, from `first` to `last`, and the lanes of some routers."""
+
+    first: int
+    last: int
+    routers: Sequence[int]
+    names: Mapping[int, str]
+
+    def meets(self, start: int, end: int) -> bool:
+        """Whether some of a stretch is in view."""
+        return start <= self.last and end >= self.first
+
+    def refuse_crowd(self, marks: int) -> None:
+        """Refuses a picture in which nobody could tell the marks apart."""
+        if marks > MOST_MARKS:
+            raise Refused(
+                f"there are {marks:,} marks to be drawn, and at most {MOST_MARKS:,} can be told apart: "
+                "choose some by --from, --to and --routers"
+            )
+        if len(self.routers) > MOST_LANES:
+            raise Refused(
+                f"there are {len(self.routers):,} lanes to be drawn, and at most {MOST_LANES} can be told apart: "
+                "choose some by --routers"
+            )
+
+
 class Lanes:
-    """The lanes of some routers, from top to bottom in the order given."""
+    """The lanes of a view's routers, from top to bottom."""
 
-    places: Mapping[int, int]
-    left: float
+    def __init__(self, view: View):
+        self.names = {router: view.names.get(router, str(router)) for router in view.routers}
+        self.places = {router: place for place, router in enumerate(view.routers)}
+        self.left = 42 + 7.5 * max(map(len, self.names.values()))
 
-    @classmethod
-    def of(cls, routers: Iterable[int], names: Mapping[int, str]) -> Lanes:
-        places = {router: place for place, router in enumerate(routers)}
-        longest = max(len(names.get(router, str(router))) for router in places)
-        return cls(places, 42.0 + 7.5 * longest)
-
-    @property
+    @cached_property
     def height(self) -> float:
         """The height of a lane."""
         return 66.0 if len(self.places) <= 12 else 48.0 if len(self.places) <= 40 else 34.0
 
-    @property
+    @cached_property
     def bar(self) -> float:
         """The height of a bar."""
         return 18.0 if len(self.places) <= 40 else 14.0
 
-    @property
+    @cached_property
     def bottom(self) -> float:
         return TOP + self.height * len(self.places)
 
@@ -58,20 +72,34 @@ class Lanes:
         """That edge of the router's bar which is nearer to the height `other`."""
         return self.y(router) + math.copysign(self.bar / 2, other - self.y(router))
 
-    def draw(self, parent: Element, right: float, names: Mapping[int, str]) -> None:
-        for router in self.places:
+    def draw(self, parent: Element, right: float) -> None:
+        for router, name in self.names.items():
             y = self.y(router)
             add(parent, "line", class_="lane", x1=self.left, y1=y, x2=right, y2=y)
-            add(parent, "text", names.get(router, str(router)), class_="name", x=self.left - 18, y=y + 4)
+            add(parent, "text", name, class_="name", x=self.left - 18, y=y + 4)
 
 
 # Draws a sample of a mark around a point.
 Sample = Callable[[Element, float, float], None]
 
 
-def draw_legend(parent: Element, left: float, right: float, y: float, entries: list[tuple[str, Sample]]) -> float:
+def sample_box(**attributes: str) -> Sample:
+    def draw(parent: Element, x: float, y: float) -> None:
+        add(parent, "rect", x=x - 13, y=y - 6, width=26, height=12, rx=3, **attributes)
+
+    return draw
+
+
+def sample_line(**attributes: str) -> Sample:
+    def draw(parent: Element, x: float, y: float) -> None:
+        add(parent, "line", x1=x - 14, y1=y, x2=x + 12, y2=y, **attributes)
+
+    return draw
+
+
+def draw_legend(parent: Element, right: float, y: float, entries: list[tuple[str, Sample]]) -> float:
     """Draws samples with their names beside them, in as many lines as they take, and gives the height below them."""
-    x = left
+    x = left = 16.0
     for name, draw in entries:
         width = 52 + 6.9 * len(name)
         if x > left and x + width > right:

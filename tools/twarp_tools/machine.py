@@ -35,6 +35,11 @@ class Signed:
     delivered_at: int | None = None
     fate: Fate = Fate.IN_FLIGHT
 
+    @property
+    def words(self) -> str:
+        """What became of it."""
+        return self.fate.value if self.delivered_at is None else f"delivered by step {self.delivered_at}, {self.fate.value}"
+
 
 @dataclass(slots=True)
 class Handling:

@@ -9,7 +9,7 @@ from dataclasses import dataclass, field
 from twarp_tools.case import Case
 from twarp_tools.command import Refused
 from twarp_tools.event import Event, opening_events
-from twarp_tools.lines import Nodes
+from twarp_tools.lines import Nodes, write_path
 from twarp_tools.protocol import Router, opening_routers
 from twarp_tools.report import Report, RouterLine, Told
 
@@ -24,9 +24,17 @@ class Fate(enum.Enum):
 
 @dataclass(slots=True)
 class Message:
+    """A message with the time at which it was sent."""
+
     sent: int
     event: Event
     fate: Fate = Fate.UNDER_WAY
+
+    @property
+    def words(self) -> str:
+        """What it says, and what became of it."""
+        body = self.event.body
+        return f"path {write_path(body.path)}, session {body.session}, {self.fate.value}"
 
 
 @dataclass(frozen=True, slots=True)

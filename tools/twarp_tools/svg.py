@@ -10,16 +10,20 @@ text { font-family: Helvetica, Arial, sans-serif; font-size: 12px; fill: #222; }
 .quiet { fill: #666; }
 .name { font-weight: bold; text-anchor: end; }
 .middle { text-anchor: middle; }
+.step { text-anchor: middle; font-size: 10.5px; }
 .path { font-family: DejaVu Sans Mono, Menlo, Consolas, monospace; font-size: 10.5px; text-anchor: middle; }
 .lane { stroke: #bbb; }
 .grid { stroke: #ececec; }
 .message { stroke: #43505e; stroke-width: 1.3; fill: none; marker-end: url(#head); }
 .withdrawal { stroke-dasharray: 5 3; }
 .dropped { stroke: #c1121f; marker-end: url(#cross); }
+.gone { marker-end: url(#cross); }
 .underway { stroke: #9aa5b1; stroke-dasharray: 1.5 3; marker-end: none; }
 .anti { stroke: #c1121f; stroke-dasharray: 5 3; marker-end: url(#redhead); }
+.anti.gone { marker-end: url(#cross); }
+.underway.anti { stroke: #e5a3a7; marker-end: none; }
 .bar { stroke: #fff; stroke-width: 1; }
-.hollow { stroke: #999; stroke-dasharray: 3 2; }
+.hollow { fill: #fff; stroke: #999; stroke-dasharray: 3 2; }
 .fail { stroke: #c1121f; fill: none; stroke-width: 2; }
 .repair { stroke: #1a7f37; fill: none; stroke-width: 2; }
 .link { stroke-width: 1.2; stroke-dasharray: 2 3; }
@@ -30,6 +34,11 @@ text { font-family: Helvetica, Arial, sans-serif; font-size: 12px; fill: #222; }
 .start { fill: #222; }
 .period { fill: #f4d35e; fill-opacity: .4; }
 .again { stroke: #c79a00; stroke-dasharray: 6 4; }
+.undone { fill: #fff; stroke: #c1121f; stroke-width: 1.3; }
+.undo { fill: none; stroke: #c1121f; stroke-width: 1.3; marker-end: url(#redhead); }
+.bound { stroke: #1a7f37; stroke-dasharray: 6 4; }
+.commit { stroke: #1a7f37; fill: none; stroke-width: 2.4; }
+.refused { fill: #c1121f; }
 .fold { fill: url(#hatch); }
 .message:hover { stroke-width: 3; }
 """

@@ -1,20 +1,106 @@
-"""The tool timeline: a run or a replay as a picture."""
+"""The tool timeline: the run or the replay of a case as a picture."""
 from __future__ import annotations
 
+import argparse
+from collections.abc import Sequence
 from pathlib import Path
 
 from twarp_tools.case import GREATEST_TIME, MOST_ROUTERS, Case, read_case
-from twarp_tools.command import Parser, Refused, number_between, read_input, write_output
-from twarp_tools.report import read_report
+from twarp_tools.command import Input, Parser, Refused, number_between, write_output
+from twarp_tools.lanes import View
+from twarp_tools.machine import follow_replay
+from twarp_tools.names import add_names, names_of
+from twarp_tools.replay_picture import ReplayPicture
+from twarp_tools.report import Quiet, is_replay, read_case_and_steps, read_replay, read_report
 from twarp_tools.run import follow
-from twarp_tools.run_picture import RunPicture, View, last_time
+from twarp_tools.run_picture import RunPicture, last_time
+
+# How many undone steps the title names.
+MOST_TOLD = 8
+
+DESCRIPTION = """\
+Draws the run of a case, or its replay, as an SVG picture on standard output.
+
+Each router has a lane, and time goes to the right. A coloured bar is the path that a router uses, an arrow a message
+from when it was sent to when it arrived. Tooltips have the details. Of a replay the picture shows the steps, and which
+of them were undone.
+
+The report has to be one with --log. For a replay the first file is the text that was replayed, case and steps."""
+EXAMPLE = """\
+example:
+  ./twarp seq --stop 20 --log < cases/disagree.spp | tools/timeline cases/disagree.spp > disagree.svg"""
+
+
+def read_routers(words: str) -> list[int]:
+    """The routers of a list as 0,2,5-9, in the order given."""
+    routers: dict[int, None] = {}
+    number = number_between(0, MOST_ROUTERS - 1)
+    for word in words.split(","):
+        first, dash, last = word.partition("-")
+        routers |= dict.fromkeys(range(number(first), number(last if dash else first) + 1))
+    return list(routers)
+
+
+def command_line() -> argparse.Namespace:
+    parser = Parser(DESCRIPTION, EXAMPLE)
+    time = number_between(0, GREATEST_TIME)
+    parser.add_argument("case", metavar="CASE", help="the case, or the case and steps that were replayed; - is standard input")
+    parser.add_argument("report", metavar="REPORT", nargs="?", default="-", help="the report; standard input where none is given")
+    parser.add_argument("--from", dest="first", type=time, metavar="TIME", help="leave out what is earlier (of a replay: steps)")
+    parser.add_argument("--to", dest="last", type=time, metavar="TIME", help="leave out what is later (of a replay: steps)")
+    parser.add_argument("--routers", type=read_routers, metavar="LIST", help="draw these routers' lanes alone, as in 0,2,5-9")
+    parser.add_argument("--title", help="what stands before the verdict in the title; the case's name where it is left out")
+    add_names(parser)
+    line = parser.parse_args()
+    if line.case == line.report == "-":
+        parser.error("only one of CASE and REPORT can be standard input")
+    return line
+
+
+def view_of(line: argparse.Namespace, nodes: int, first: int, last: int) -> View:
+    """What the line asks to see of a run of so many routers that goes from `first` to `last`."""
+    routers = line.routers or range(nodes)
+    if max(routers) >= nodes:
+        raise Refused(f"refused option --routers: the case has no router {max(routers)}")
+    view = View(
+        first if line.first is None else max(first, line.first),
+        last if line.last is None else line.last,
+        routers,
+        names_of(line.names),
+    )
+    if view.first > view.last:
+        raise Refused(f"refused options --from and --to: nothing is from {view.first} to {view.last}")
+    return view
+
+
+def draw_run(line: argparse.Namespace, case_text: Input, report_text: Input) -> str:
+    case = case_text.read(read_case)
+    report = report_text.read(lambda text: read_report(text, case.nodes))
+    run = report_text.read(lambda _: follow(case, report))
+    view = view_of(line, case.nodes, 0, last_time(report))
+    picture = RunPicture(case, report, run, view)
+    subtitle = f"{len(report.events):,} events below {report.stop.value:,}"
+    return picture.draw(f"{title_of(line)}: verdict {report.verdict}", subtitle)
+
+
+def draw_replay(line: argparse.Namespace, case_text: Input, replay_text: Input) -> str:
+    case, steps = case_text.read(read_case_and_steps)
+    replay = replay_text.read(lambda text: read_replay(text, case.nodes, len(steps)))
+    history = replay_text.read(lambda _: follow_replay(case, steps, replay))
+    picture = ReplayPicture(steps, replay, history, view_of(line, case.nodes, 1, len(steps)))
+    undone = [handling for handling in history.handlings if handling.undone_at]
+    told = ", ".join(f"step {handling.done_at} by step {handling.undone_at}" for handling in undone[:MOST_TOLD])
+    more = ", .." if len(undone) > MOST_TOLD else ""
+    subtitle = f"bound {replay.bound.value:,}; undone: {told or 'none'}{more}"
+    return picture.draw(f"{title_of(line)}: replay of {len(steps):,} steps, {len(undone):,} undone", subtitle)
+
+
+def title_of(line: argparse.Namespace) -> str:
+    return line.title or ("run" if line.case == "-" else Path(line.case).stem)
+
 
 def main() -> None:
-    import sys
-    case_file, report_file, *rest = sys.argv[1:]
-    case = read_input(case_file, read_case)
-    report = read_input(report_file, lambda text: read_report(text, case.nodes))
-    run = follow(case, report)
-    view = View(int(rest[0]) if rest else 0, int(rest[1]) if rest[1:] else last_time(report), range(case.nodes) if len(rest) < 3 else list(map(int, rest[2].split(","))), {})
-    picture = RunPicture(case, report, run, view)
-    write_output(picture.draw(f"{Path(case_file).stem}: verdict {report.verdict}", f"{len(report.events):,} events below {report.stop.value:,}"))
+    line = command_line()
+    case_text, report_text = Input.of(line.case), Input.of(line.report)
+    draw = draw_replay if is_replay(report_text.text) else draw_run
+    write_output(draw(line, case_text, report_text))
