@@ -112,7 +112,7 @@ class ReplayPicture:
         tooltip = f"{kind} {event}, sent by step {message.sent_at}: {message.words}"
         add(parent, "line", "", tooltip, class_=message_look(message), x1=x1, y1=y1, x2=x2, y2=y2)
         if message.fate is Fate.KEPT:
-            add(parent, "circle", class_="fail", cx=x2, cy=here, r=5)
+            draw_kept(parent, x2, here)
 
     def draw_commits(self, parent: Element) -> None:
         for number, step, refusal in self.steps:

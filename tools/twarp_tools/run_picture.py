@@ -11,6 +11,7 @@ from twarp_tools.case import Case
 from twarp_tools.event import Event, Fail, Restore, Start, Swap
 from twarp_tools.lanes import TOP, Lanes, Sample, View, draw_legend, sample_box, sample_line
 from twarp_tools.lines import Nodes, write_path
+from twarp_tools.palette import PLACES, place_of
 from twarp_tools.report import Oscillates, Quiet, Report
 from twarp_tools.run import Change, Fate, Message, Run
 from twarp_tools.svg import Picture, add
@@ -21,17 +22,6 @@ LETTER_WIDTH = 6.4
 # How far the bars of a run that is at rest go on beyond its last event.
 REST = 36.0
 
-# What a path's place in its router's order is called, the best first, with the colours of its bar and of the text on
-# it: the palette of Okabe and Ito, which colour-blind people can tell apart. All later places share the last one.
-PLACES = [
-    ("1st path", "#0072b2", "#fff"),
-    ("2nd path", "#e69f00", "#000"),
-    ("3rd path", "#009e73", "#fff"),
-    ("4th path", "#cc79a7", "#000"),
-    ("5th path", "#56b4e9", "#000"),
-    ("6th path", "#d55e00", "#fff"),
-    ("7th path or later", "#7a6a9f", "#fff"),
-]
 MESSAGES = {
     "message": "message",
     "message withdrawal": "message without a path",
@@ -80,9 +70,7 @@ class RunPicture:
         shown = set(view.routers)
         self.view = view
         self.verdict = report.verdict
-        self.places = {
-            path: min(place, len(PLACES) - 1) for order in case.orders() for place, path in enumerate(order)
-        }
+        self.places = {path: place_of(place) for order in case.orders() for place, path in enumerate(order)}
         self.bars = [
             bar for bar in bars_of(run)
             if bar.router in shown and view.meets(bar.start, view.last if bar.end is None else bar.end)
@@ -158,12 +146,11 @@ class RunPicture:
         box = {"x": start, "y": y - self.lanes.bar / 2, "width": end - start, "height": self.lanes.bar, "rx": 3}
         group = add(parent, "g", "", bar.tooltip)
         if bar.path:
-            _, fill, ink = PLACES[self.places[bar.path]]
-            add(group, "rect", class_="bar", fill=fill, **box)
+            add(group, "rect", class_="bar", fill=self.places[bar.path].fill, **box)
         else:
-            ink = "#555"
             add(group, "rect", class_="hollow", **box)
         if LETTER_WIDTH * len(words) + 4 <= end - start:
+            ink = self.places[bar.path].ink if bar.path else "#555"
             add(group, "text", words, class_="path", style=f"fill:{ink}", x=(start + end) / 2, y=y + 3.8)
 
     def draw_message(self, parent: Element, message: Message) -> None:
@@ -209,8 +196,8 @@ class RunPicture:
 
     def legend(self) -> list[tuple[str, Sample]]:
         """A sample of each mark that the picture has."""
-        places = sorted({self.places[bar.path] for bar in self.bars if bar.path})
-        entries = [(name, sample_box(fill=fill)) for name, fill, _ in (PLACES[place] for place in places)]
+        places = {self.places[bar.path] for bar in self.bars if bar.path}
+        entries = [(f"{place.name} path", sample_box(fill=place.fill)) for place in PLACES if place in places]
         if not all(bar.path for bar in self.bars):
             entries.append(("no path", sample_box(class_="hollow")))
         looks = set(map(message_look, self.messages))
