@@ -8,7 +8,9 @@ from dataclasses import dataclass
 Span = tuple[int, int]
 
 FOLD_WIDTH = 40.0
-LEAST_STEP_WIDTH = 46.0
+DIGIT_WIDTH = 7.0
+LEAST_WIDTH = 760.0
+GREATEST_WIDTH = 12_000.0
 
 
 def merge(spans: Iterable[Span]) -> list[Span]:
@@ -51,10 +53,6 @@ class TimeAxis:
     scale: float
     folds: list[Span]
 
-    @property
-    def width(self) -> float:
-        return self.x(self.last) - self.left
-
     def x(self, time: int) -> float:
         """Where a time stands; also for times outside the axis."""
         folded, folds = 0.0, 0.0
@@ -67,7 +65,7 @@ class TimeAxis:
 
     def ticks(self) -> Iterator[int]:
         """Times to be written at the axis, none within a folded stretch."""
-        step = nice_step(LEAST_STEP_WIDTH / self.scale)
+        step = nice_step(DIGIT_WIDTH * (len(f"{self.last:,}") + 3) / self.scale)
         ends = [self.first, *(end for fold in self.folds for end in fold), self.last]
         for a, b in zip(ends[::2], ends[1::2]):
             yield from range(-(-a // step) * step, b + 1, step)
@@ -77,5 +75,6 @@ def fit(first: int, last: int, left: float, moments: int, busy: Iterable[Span]) 
     """An axis on which so many different moments have room, within reason."""
     folds = silences(first, last, busy)
     ticks = max(1, last - first - sum(b - a for a, b in folds))
-    width = min(max(760.0, 54.0 * moments), 12_000.0)
-    return TimeAxis(first, last, left, min(width / ticks, 120.0), folds)
+    width = 54.0 * min(moments, 40) + 16.0 * max(0, moments - 40)
+    scale = min(max(LEAST_WIDTH, width), GREATEST_WIDTH) / ticks
+    return TimeAxis(first, last, left, min(scale, 120.0), folds)

@@ -46,9 +46,9 @@ class Lanes:
     """The lanes of a view's routers, from top to bottom."""
 
     def __init__(self, view: View):
-        self.names = {router: view.names.get(router, str(router)) for router in view.routers}
+        self.names = {router: f"{router} {view.names.get(router, '')}".rstrip() for router in view.routers}
         self.places = {router: place for place, router in enumerate(view.routers)}
-        self.left = 42 + 7.5 * max(map(len, self.names.values()))
+        self.left = 48 + 7.5 * max(map(len, self.names.values()))
 
     @cached_property
     def height(self) -> float:

@@ -96,7 +96,7 @@ class ReplayPicture:
         box = {"x": x - width / 2, "y": y - bar / 2, "width": width, "height": bar, "rx": 3}
         add(group, "rect", class_="undone" if handling.undone_at else "bar", fill=fill, **box)
         if LETTER_WIDTH * len(words) <= width:
-            add(group, "text", words, class_="path", style=f"fill:{ink}", x=x, y=y + 3.8)
+            add(group, "text", words, class_="path middle", style=f"fill:{ink}", x=x, y=y + 3.8)
         if handling.undone_at:
             end, top = self.x(handling.undone_at), y - bar / 2
             curve = f"M{end:.1f} {top:.1f}Q{(x + end) / 2:.1f} {top - 28:.1f} {x:.1f} {top:.1f}"

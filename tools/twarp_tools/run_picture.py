@@ -19,6 +19,8 @@ from twarp_tools.svg import Picture, add
 # Beyond so many failures and repairs what happens to a link stands in tooltips alone.
 MOST_NOTES = 16
 LETTER_WIDTH = 6.4
+# How wide the bar of a path is that was given up at the time at which it was taken.
+MOMENT = 4.0
 # How far the bars of a run that is at rest go on beyond its last event.
 REST = 36.0
 
@@ -142,6 +144,8 @@ class RunPicture:
     def draw_bar(self, parent: Element, bar: Bar) -> None:
         start = self.axis.x(max(bar.start, self.view.first))
         end = self.right if bar.end is None or bar.end > self.view.last else self.axis.x(bar.end)
+        if start == end:
+            start -= MOMENT
         y, words = self.lanes.y(bar.router), write_path(bar.path)
         box = {"x": start, "y": y - self.lanes.bar / 2, "width": end - start, "height": self.lanes.bar, "rx": 3}
         group = add(parent, "g", "", bar.tooltip)
@@ -149,9 +153,9 @@ class RunPicture:
             add(group, "rect", class_="bar", fill=self.places[bar.path].fill, **box)
         else:
             add(group, "rect", class_="hollow", **box)
-        if LETTER_WIDTH * len(words) + 4 <= end - start:
+        if LETTER_WIDTH * len(words) + 6 <= end - start:
             ink = self.places[bar.path].ink if bar.path else "#555"
-            add(group, "text", words, class_="path", style=f"fill:{ink}", x=(start + end) / 2, y=y + 3.8)
+            add(group, "text", words, class_="path", style=f"fill:{ink}", x=start + 4, y=y + 3.8)
 
     def draw_message(self, parent: Element, message: Message) -> None:
         event = message.event

@@ -11,7 +11,7 @@ text { font-family: Helvetica, Arial, sans-serif; font-size: 12px; fill: #222; }
 .name { font-weight: bold; text-anchor: end; }
 .middle { text-anchor: middle; }
 .step { text-anchor: middle; font-size: 10.5px; }
-.path { font-family: DejaVu Sans Mono, Menlo, Consolas, monospace; font-size: 10.5px; text-anchor: middle; }
+.path { font-family: DejaVu Sans Mono, Menlo, Consolas, monospace; font-size: 10.5px; }
 .lane { stroke: #bbb; }
 .grid { stroke: #ececec; }
 .message { stroke: #43505e; stroke-width: 1.3; fill: none; marker-end: url(#head); }
