@@ -106,15 +106,6 @@ def distances(case: Case) -> list[int]:
     return [found.get(node, case.nodes) for node in range(case.nodes)]
 
 
-def ranks(depth: list[int]) -> Iterator[str]:
-    """Puts routers at the same distance from the origin side by side."""
-    rows = defaultdict(list)
-    for router, distance in enumerate(depth):
-        rows[distance].append(str(router))
-    for row in rows.values():
-        yield f"{{ rank=same; {'; '.join(row)} }}"
-
-
 @dataclass
 class Drawing:
     """What is to be drawn. At most `most` paths are listed at a router; `only` is the one router whose paths are shown."""
@@ -132,7 +123,6 @@ class Drawing:
         else:
             uses = uses_by_paths(self.standing.orders[self.only])
         depth = distances(self.case)
-        lines += ranks(depth)
         for link in self.case.links:
             lines += self.edges(link, uses, depth)
         return HEAD.format(title=escape(title)) + "".join(f"  {line}\n" for line in lines) + "}\n"
@@ -162,18 +152,24 @@ class Drawing:
             yield PATH_ROW.format(ground="", ink="#c1121f", words="uses no path")
 
     def edges(self, link: Link, uses: Uses, depth: list[int]) -> Iterator[str]:
-        """An arrow for each direction in which the link is used; else a line. The end farther from the origin is above."""
+        """An arrow for each direction in which the link is used, or else a line.
+
+        An edge goes from the end that is farther from the origin, so that the origin is at the bottom. Between ends at the
+        same distance it moves neither, and its label is put in place afterwards: dot takes such edges badly otherwise.
+        """
         tail, head = sorted((link.a, link.b), key=lambda node: (-depth[node], node))
-        down = frozenset((tail, head)) in self.standing.down
-        label = f'label=" {link.delay}{" down" if down else ""} "'
-        used = [(direction, hop) for direction, hop in (("forward", (tail, head)), ("back", (head, tail))) if hop in uses]
-        for direction, hop in used:
+        is_level, is_down = depth[tail] == depth[head], frozenset((tail, head)) in self.standing.down
+        words = f"{link.delay}{' down' if is_down else ''}"
+        label = f'xlabel="{words}", ' if is_level else f'label=" {words} ", '
+        level = ", constraint=false" if is_level else ""
+        used = [(hop, arrow) for hop, arrow in (((tail, head), "forward"), ((head, tail), "back")) if hop in uses]
+        for hop, arrow in used:
             colours = ":".join(dict.fromkeys(place_of(place).fill for place in uses[hop]))
-            yield f'{tail} -> {head} [{label}, dir={direction}, color="{colours}", penwidth=2]'
-            label = 'label=""'
+            yield f'{tail} -> {head} [{label}dir={arrow}, color="{colours}", penwidth=2{level}]'
+            label = ""
         if not used:
-            look = ', style=dashed, color="#c1121f", fontcolor="#c1121f"' if down else ""
-            yield f"{tail} -> {head} [{label}{look}]"
+            look = 'style=dashed, color="#c1121f", fontcolor="#c1121f"' if is_down else "style=solid"
+            yield f"{tail} -> {head} [{label}{look}{level}]"
 
 
 def command_line() -> argparse.Namespace:

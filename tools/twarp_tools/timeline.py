@@ -37,7 +37,10 @@ def read_routers(words: str) -> list[int]:
     number = number_between(0, MOST_ROUTERS - 1)
     for word in words.split(","):
         first, dash, last = word.partition("-")
-        routers |= dict.fromkeys(range(number(first), number(last if dash else first) + 1))
+        row = range(number(first), number(last if dash else first) + 1)
+        if not row:
+            raise argparse.ArgumentTypeError(f"{word!r} goes downwards")
+        routers |= dict.fromkeys(row)
     return list(routers)
 
 
@@ -57,28 +60,28 @@ def command_line() -> argparse.Namespace:
     return line
 
 
-def view_of(line: argparse.Namespace, nodes: int, first: int, last: int) -> View:
-    """What the line asks to see of a run of so many routers that goes from `first` to `last`."""
+def view_of(line: argparse.Namespace, nodes: int, whole: range, last: int) -> View:
+    """What the line asks to see of a run of so many routers, which goes from the beginning of `whole` to `last`.
+
+    Nothing beyond `whole` is known.
+    """
     routers = line.routers or range(nodes)
     if max(routers) >= nodes:
         raise Refused(f"refused option --routers: the case has no router {max(routers)}")
-    view = View(
-        first if line.first is None else max(first, line.first),
-        last if line.last is None else line.last,
-        routers,
-        names_of(line.names),
-    )
-    if view.first > view.last:
-        raise Refused(f"refused options --from and --to: nothing is from {view.first} to {view.last}")
-    return view
+    first = max(whole.start, line.first or 0)
+    last = last if line.last is None else min(line.last, whole.stop - 1)
+    if first > last:
+        raise Refused(f"refused options --from and --to: nothing is from {first:,} to {last:,}")
+    return View(first, last, routers, names_of(line.names))
 
 
 def draw_run(line: argparse.Namespace, case_text: Input, report_text: Input) -> str:
     case = case_text.read(read_case)
     report = report_text.read(lambda text: read_report(text, case.nodes))
     run = report_text.read(lambda _: follow(case, report))
-    view = view_of(line, case.nodes, 0, last_time(report))
-    picture = RunPicture(case, report, run, view)
+    is_at_rest = isinstance(report.verdict, Quiet)
+    whole = range((GREATEST_TIME if is_at_rest else report.bound.value) + 1)
+    picture = RunPicture(case, report, run, view_of(line, case.nodes, whole, last_time(report)))
     subtitle = f"{len(report.events):,} events below {report.stop.value:,}"
     return picture.draw(f"{title_of(line)}: verdict {report.verdict}", subtitle)
 
@@ -87,12 +90,14 @@ def draw_replay(line: argparse.Namespace, case_text: Input, replay_text: Input) 
     case, steps = case_text.read(read_case_and_steps)
     replay = replay_text.read(lambda text: read_replay(text, case.nodes, len(steps)))
     history = replay_text.read(lambda _: follow_replay(case, steps, replay))
-    picture = ReplayPicture(steps, replay, history, view_of(line, case.nodes, 1, len(steps)))
+    last = max(1, len(steps))
+    view = view_of(line, case.nodes, range(1, last + 1), last)
     undone = [handling for handling in history.handlings if handling.undone_at]
-    told = ", ".join(f"step {handling.done_at} by step {handling.undone_at}" for handling in undone[:MOST_TOLD])
-    more = ", .." if len(undone) > MOST_TOLD else ""
-    subtitle = f"bound {replay.bound.value:,}; undone: {told or 'none'}{more}"
-    return picture.draw(f"{title_of(line)}: replay of {len(steps):,} steps, {len(undone):,} undone", subtitle)
+    told = [f"step {handling.done_at} by step {handling.undone_at}" for handling in undone[:MOST_TOLD]]
+    told += [".."] * (len(undone) > MOST_TOLD)
+    subtitle = f"bound {replay.bound.value:,}; undone: {', '.join(told) or 'none'}"
+    title = f"{title_of(line)}: replay of {len(steps):,} steps, {len(undone):,} undone"
+    return ReplayPicture(steps, replay, history, view).draw(title, subtitle)
 
 
 def title_of(line: argparse.Namespace) -> str:
