@@ -99,8 +99,8 @@ def run(main: Callable[[], None]) -> Status:
         tell("stopped memory")
         return Status.STOPPED
     except OSError as error:
-        if isinstance(error, BrokenPipeError):
-            os.dup2(os.open(os.devnull, os.O_WRONLY), sys.stdout.fileno())
+        # What standard output did not take is not tried once more at the end.
+        os.dup2(os.open(os.devnull, os.O_WRONLY), sys.stdout.fileno())
         tell(f"stopped device: {error}")
         return Status.STOPPED
     return Status.DONE

@@ -63,9 +63,13 @@ class History:
 
 
 class Machine:
-    """Routers with what is pending, handled, in flight and kept. `number` is that of the step under way, from 1."""
+    """Routers with what is pending, handled, in flight and kept. `number` is that of the step under way, from 1.
 
-    def __init__(self, case: Case, stop: int):
+    The run's stop is not told. The last bound is the stop where nothing loose is at it or before it, and else a time
+    before the stop, which limits the bounds found as the stop does.
+    """
+
+    def __init__(self, case: Case, last_bound: int):
         self.routers = opening_routers(case)
         self.path_numbers = case.path_numbers()
         self.pending: list[list[Event]] = [[] for _ in self.routers]
@@ -73,7 +77,8 @@ class Machine:
         self.flight: list[Signed] = []
         self.kept: list[Event] = []
         self.bound = 0
-        self.stop = stop
+        self.last_bound = last_bound
+        self.is_at_stop = False
         self.number = 0
         self.history = History()
         for event in opening_events(case):
@@ -94,7 +99,8 @@ class Machine:
             case Step("bound"):
                 loose = [message.event.time for message in self.flight]
                 loose += [event.time for event in self.all_pending() + self.kept]
-                self.bound = max(self.bound, min(loose + [self.stop]))
+                self.is_at_stop |= all(time > self.last_bound for time in loose)
+                self.bound = max(self.bound, min(loose + [self.last_bound]))
                 self.history.bounds.append((self.number, self.bound))
             case Step("commit", router):
                 for handling in self.handled[router]:
@@ -176,6 +182,10 @@ def follow_replay(case: Case, steps: list[Step], replay: Replay) -> History:
 
 
 def compare(machine: Machine, replay: Replay) -> None:
+    """Refuses the first line that is not what the steps led to."""
+    latest = max((handling.event.time for handling in machine.history.handlings), default=0)
+    if machine.is_at_stop and latest >= machine.last_bound:
+        raise Refused.at_line(replay.bound.line, f"an event at {latest} was handled, so the bound is later")
     for told, found in (replay.bound, machine.bound), (replay.loose, machine.loose_line()):
         if told.value != found:
             raise Refused.at_line(told.line, f"the steps lead to `{found}`")

@@ -95,20 +95,19 @@ def case_of(topology: Topology, permitted: Permitted, line: argparse.Namespace) 
 def tell_cuts(growth: Growth, permitted: Permitted, line: argparse.Namespace) -> None:
     """Says on standard error what of the input is not in the case."""
     ases, taken = len(growth.neighbours), len(growth.routers)
-    if taken < ases:
-        tell(f"{taken:,} of {ases:,} ASes are taken, those nearest to AS {line.destination}")
     crowded = len(growth.crowded - growth.routers.keys())
-    if crowded:
-        tell(f"{crowded:,} ASes are left out because all routers that they would go by have {MOST_LINKS} links")
-    if taken < line.routers and taken + crowded < ases:
-        tell(f"{ases - taken - crowded:,} ASes are left out because no path without a valley leads from them to AS {line.destination}")
-    links = growth.left_out_links()
-    if links:
-        tell(f"{links:,} links are left out because a router has at most {MOST_LINKS}")
-    if permitted.crowded:
-        tell(f"paths are left out at {len(permitted.crowded):,} routers because each has at most {line.paths}")
-    if permitted.too_long:
-        tell(f"paths are left out at {len(permitted.too_long):,} routers because they have more than {MOST_NODES} nodes")
+    unreached = ases - taken - crowded if taken < line.routers else 0
+    counts = {
+        f"ASes left out, {taken:,} nearer to AS {line.destination} being taken": ases - taken,
+        f"of these, ASes that no router with less than {MOST_LINKS} links could be linked to": crowded,
+        f"of these, ASes without a path that has no valley and at most {MOST_NODES} nodes": unreached,
+        f"links left out because a router has at most {MOST_LINKS}": growth.left_out_links(),
+        f"routers with paths left out because each has at most {line.paths}": len(permitted.crowded),
+        f"routers with paths left out because these have more than {MOST_NODES} nodes": len(permitted.too_long),
+    }
+    for what, count in counts.items():
+        if count:
+            tell(f"{what}: {count:,}")
 
 
 def tell_circle(topology: Topology) -> None:

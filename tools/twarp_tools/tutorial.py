@@ -1,19 +1,24 @@
-"""The tutorial's commands, run one after the other as a reader would."""
+"""The tutorial's commands, run one after the other as a reader would; and the tool pictures, which keeps what they draw."""
 from __future__ import annotations
 
 import re
+import shutil
 import subprocess
+import tempfile
 from collections.abc import Iterator
-from dataclasses import dataclass, field
+from dataclasses import dataclass
 from pathlib import Path
 
+from twarp_tools.command import Parser, Refused
+
 ROOT = Path(__file__).resolve().parent.parent.parent
-TUTORIAL = ROOT / "docs/TUTORIAL.md"
+PAGE = ROOT / "docs/TUTORIAL.md"
 PICTURES = ROOT / "docs/pictures"
 PROGRAM = ROOT / "crates/twarp/out/twarp"
 
-# What the commands name of the clone.
+# What the commands name of the clone, and the folder into which they write.
 NAMED = ("cases", "docs", "tools")
+WRITTEN = "out"
 
 
 @dataclass
@@ -26,7 +31,7 @@ class Command:
 
 
 def commands_of(page: str) -> list[Command]:
-    """The commands of all console blocks of a page."""
+    """The commands of a page's console blocks."""
     commands: list[Command] = []
     is_console = False
     for number, line in enumerate(page.splitlines(), 1):
@@ -40,7 +45,7 @@ def commands_of(page: str) -> list[Command]:
 
 
 def pictures_of(page: str) -> list[str]:
-    """The names of the pictures that the page shows."""
+    """The names of the pictures that a page shows."""
     return re.findall(r"\]\(pictures/([^)]+)\)", page)
 
 
@@ -54,6 +59,38 @@ def lay_out(folder: Path, program: Path) -> None:
 
 
 def run(command: Command, folder: Path) -> str:
-    """What a terminal would show of a command that is run in the folder."""
-    done = subprocess.run(["sh", "-c", command.text], cwd=folder, stdin=subprocess.DEVNULL, stdout=subprocess.PIPE, stderr=subprocess.STDOUT)
+    """What a terminal shows of a command that is run in the folder."""
+    done = subprocess.run(
+        ["sh", "-c", command.text],
+        cwd=folder, stdin=subprocess.DEVNULL, stdout=subprocess.PIPE, stderr=subprocess.STDOUT, check=False,
+    )
     return done.stdout.decode()
+
+
+def follow(page: str, folder: Path, program: Path) -> Iterator[tuple[Command, str]]:
+    """Runs the page's commands in an empty folder, one after the other, and gives what each writes."""
+    lay_out(folder, program)
+    for command in commands_of(page):
+        yield command, run(command, folder)
+
+
+DESCRIPTION = """\
+Makes the pictures of docs/TUTORIAL.md again: runs the page's commands in a folder of their own, sees that each writes
+what the page says, and keeps the pictures that the page shows in docs/pictures."""
+EXAMPLE = """\
+example:
+  tools/pictures"""
+
+
+def main() -> None:
+    parser = Parser(DESCRIPTION, EXAMPLE)
+    parser.add_argument("--program", type=Path, default=PROGRAM, metavar="FILE", help="the built program (default crates/twarp/out/twarp)")
+    line = parser.parse_args()
+    page = PAGE.read_text()
+    with tempfile.TemporaryDirectory() as name:
+        folder = Path(name)
+        for command, output in follow(page, folder, line.program):
+            if output != command.output:
+                raise Refused(f"{PAGE.name}: line {command.line}: the command writes\n{output}")
+        for picture in pictures_of(page):
+            shutil.copyfile(folder / WRITTEN / picture, PICTURES / picture)
