@@ -1,7 +1,6 @@
 """The time axis of a picture: where a time stands, and the marks on it."""
 from __future__ import annotations
 
-import bisect
 from collections.abc import Iterable, Iterator
 from dataclasses import dataclass
 
@@ -25,7 +24,7 @@ def merge(spans: Iterable[Span]) -> list[Span]:
 
 
 def silences(first: int, last: int, busy: Iterable[Span]) -> list[Span]:
-    """The stretches from `first` to `last` in which nothing happens and that are long beside those in which something does."""
+    """The stretches in which nothing happens, where they are long beside those in which something does."""
     spans = merge([(first, first), *((max(a, first), min(b, last)) for a, b in busy if a <= last and b >= first)])
     ends = [*spans, (last, last)]
     total = max(1, sum(b - a for a, b in spans))

@@ -3,7 +3,6 @@ from __future__ import annotations
 
 import argparse
 import enum
-import os
 import sys
 from collections.abc import Callable
 from dataclasses import dataclass
@@ -11,6 +10,10 @@ from pathlib import Path
 from typing import NoReturn, TypeVar
 
 Value = TypeVar("Value")
+
+# Descriptors, since Python's own streams are not there where one of these is closed.
+STANDARD_INPUT = 0
+STANDARD_OUTPUT = 1
 
 
 class Status(enum.IntEnum):
@@ -30,13 +33,16 @@ class Refused(Exception):
         return cls(f"refused line {number}: {why}")
 
 
+STATUSES = "statuses: 0 done, 1 the input is refused, 2 stopped, 3 the command line is not accepted"
+
+
 class Parser(argparse.ArgumentParser):
     """Reads a command line; one that it does not take ends with the status that twarp has for it."""
 
     def __init__(self, description: str, example: str):
         super().__init__(
             description=description,
-            epilog=f"{example}\n\nstatuses: 0 done, 1 the input is refused, 2 stopped, 3 the command line is not accepted",
+            epilog=f"{example}\n\n{STATUSES}",
             formatter_class=argparse.RawDescriptionHelpFormatter,
         )
 
@@ -67,7 +73,8 @@ class Input:
     def of(cls, file: str) -> Input:
         """The whole of a file, or of standard input where it is `-`."""
         if file == "-":
-            return cls("standard input", sys.stdin.buffer.read())
+            with open(STANDARD_INPUT, "rb", closefd=False) as source:
+                return cls("standard input", source.read())
         return cls(file, Path(file).read_bytes())
 
     def read(self, reader: Callable[[bytes], Value]) -> Value:
@@ -84,8 +91,9 @@ def tell(message: object) -> None:
 
 
 def write_output(text: str) -> None:
-    sys.stdout.buffer.write(text.encode())
-    sys.stdout.buffer.flush()
+    """Writes the whole text, also where Python's own standard output has no buffer and takes a part at a time."""
+    with open(STANDARD_OUTPUT, "wb", closefd=False) as output:
+        output.write(text.encode())
 
 
 def run(main: Callable[[], None]) -> Status:
@@ -99,8 +107,6 @@ def run(main: Callable[[], None]) -> Status:
         tell("stopped memory")
         return Status.STOPPED
     except OSError as error:
-        # What standard output did not take is not tried once more at the end.
-        os.dup2(os.open(os.devnull, os.O_WRONLY), sys.stdout.fileno())
         tell(f"stopped device: {error}")
         return Status.STOPPED
     return Status.DONE

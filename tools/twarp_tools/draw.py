@@ -77,9 +77,7 @@ Uses = Mapping[tuple[int, int], list[int]]
 def uses_by_ribs(standing: Standing) -> Uses:
     """The first step of each router's path."""
     return {
-        (rib[0], rib[1]): [order.index(rib)]
-        for order, rib in zip(standing.orders, standing.ribs or [])
-        if len(rib) > 1
+        (rib[0], rib[1]): [order.index(rib)] for order, rib in zip(standing.orders, standing.ribs or []) if len(rib) > 1
     }
 
 
@@ -108,7 +106,7 @@ def distances(case: Case) -> list[int]:
 
 @dataclass
 class Drawing:
-    """What is to be drawn. At most `most` paths are listed at a router; `only` is the one router whose paths are shown."""
+    """What is to be drawn: at most so many paths at a router, and those of one router only where that is asked for."""
 
     case: Case
     standing: Standing
@@ -145,7 +143,7 @@ class Drawing:
             place = place_of(number)
             ground = f' BGCOLOR="{place.fill}"' if is_coloured else ""
             yield PATH_ROW.format(ground=ground, ink=place.ink if is_coloured else "#222222", words=write_path(path))
-        more = sum(path != rib for path in order[self.most:]) if self.only is None else 0
+        more = sum(path != rib for path in order[self.most :]) if self.only is None else 0
         if more:
             yield PATH_ROW.format(ground="", ink="#777777", words=f"and {more} more")
         if rib == ():
@@ -154,8 +152,8 @@ class Drawing:
     def edges(self, link: Link, uses: Uses, depth: list[int]) -> Iterator[str]:
         """An arrow for each direction in which the link is used, or else a line.
 
-        An edge goes from the end that is farther from the origin, so that the origin is at the bottom. Between ends at the
-        same distance it moves neither, and its label is put in place afterwards: dot takes such edges badly otherwise.
+        An edge goes from the end that is farther from the origin, so that the origin is at the bottom. Between ends at
+        the same distance it moves neither, and its label is placed afterwards, since dot fails on such labels otherwise.
         """
         tail, head = sorted((link.a, link.b), key=lambda node: (-depth[node], node))
         is_level, is_down = depth[tail] == depth[head], frozenset((tail, head)) in self.standing.down
@@ -174,14 +172,24 @@ class Drawing:
 
 def command_line() -> argparse.Namespace:
     parser = Parser(DESCRIPTION, EXAMPLE)
-    parser.add_argument("case", metavar="CASE", nargs="?", default="-", help="the case; standard input where none is given")
-    parser.add_argument("report", metavar="REPORT", nargs="?", help="the report of a run of the case; - is standard input")
     parser.add_argument(
-        "--paths-of", type=number_between(0, MOST_ROUTERS - 1), metavar="ROUTER",
+        "case", metavar="CASE", nargs="?", default="-", help="the case; standard input where none is given"
+    )
+    parser.add_argument(
+        "report", metavar="REPORT", nargs="?", help="the report of a run of the case; - is standard input"
+    )
+    parser.add_argument(
+        "--paths-of",
+        type=number_between(0, MOST_ROUTERS - 1),
+        metavar="ROUTER",
         help="show the permitted paths of one router, each in the colour of its place",
     )
     parser.add_argument(
-        "--list", dest="most", type=number_between(0, MOST_PATHS), default=8, metavar="N",
+        "--list",
+        dest="most",
+        type=number_between(0, MOST_PATHS),
+        default=8,
+        metavar="N",
         help="list at most N paths at a router and the one in use (default 8)",
     )
     parser.add_argument("--title", help="what stands above the picture; the case's name where it is left out")

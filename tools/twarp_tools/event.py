@@ -4,7 +4,7 @@ from __future__ import annotations
 import re
 from dataclasses import dataclass
 
-from twarp_tools.case import Case, LinkScene
+from twarp_tools.case import Case, LinkScene, SwapScene
 from twarp_tools.lines import NUMBER, PATH, Nodes, read_path, write_path
 
 
@@ -63,6 +63,7 @@ class Event:
 
     def key(self, path_numbers: dict[Nodes, int]) -> tuple[int, ...]:
         """By this key the events of a case are ordered."""
+        body: tuple[int, ...]
         match self.body:
             case Start():
                 body = ()
@@ -104,11 +105,11 @@ def opening_events(case: Case) -> list[Event]:
     """The start, and an event at each end of each scenario line, with the line's place as its number."""
     events = [Event(0, 0, 0, 0, Start())]
     for seq, scene in enumerate(case.scenes, 1):
-        if isinstance(scene, LinkScene):
-            kind = {"fail": Fail, "restore": Restore}[scene.word]
-            ends = (scene.a, scene.b), (scene.b, scene.a)
-            events += [Event(scene.time, here, here, seq, kind(there)) for here, there in ends]
-        else:
-            body = Swap(scene.first, scene.second)
-            events.append(Event(scene.time, scene.router, scene.router, seq, body))
+        match scene:
+            case LinkScene("fail", time, a, b):
+                events += [Event(time, a, a, seq, Fail(b)), Event(time, b, b, seq, Fail(a))]
+            case LinkScene(_, time, a, b):
+                events += [Event(time, a, a, seq, Restore(b)), Event(time, b, b, seq, Restore(a))]
+            case SwapScene(time, router, first, second):
+                events.append(Event(time, router, router, seq, Swap(first, second)))
     return events

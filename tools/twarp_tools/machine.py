@@ -7,6 +7,7 @@ from __future__ import annotations
 import enum
 from collections.abc import Iterable
 from dataclasses import dataclass, field
+from itertools import zip_longest
 
 from twarp_tools.case import Case
 from twarp_tools.command import Refused
@@ -38,7 +39,8 @@ class Signed:
     @property
     def words(self) -> str:
         """What became of it."""
-        return self.fate.value if self.delivered_at is None else f"delivered by step {self.delivered_at}, {self.fate.value}"
+        way = f"delivered by step {self.delivered_at}, " if self.delivered_at else ""
+        return f"{way}{self.fate.value}"
 
 
 @dataclass(slots=True)
@@ -90,11 +92,11 @@ class Machine:
     def do(self, step: Step) -> None:
         """Does a step; an IndexError or a ValueError says that it can't be done."""
         match step:
-            case Step("handle", router):
+            case Step("handle", int(router)):
                 self.handle(router)
-            case Step("undo", router):
+            case Step("undo", int(router)):
                 self.undo_last(router)
-            case Step("deliver", place):
+            case Step("deliver", int(place)):
                 self.deliver(place)
             case Step("bound"):
                 loose = [message.event.time for message in self.flight]
@@ -102,7 +104,7 @@ class Machine:
                 self.is_at_stop |= all(time > self.last_bound for time in loose)
                 self.bound = max(self.bound, min(loose + [self.last_bound]))
                 self.history.bounds.append((self.number, self.bound))
-            case Step("commit", router):
+            case Step("commit", int(router)):
                 for handling in self.handled[router]:
                     if handling.committed_at is None and handling.event.time < self.bound:
                         handling.committed_at = self.number
@@ -186,14 +188,13 @@ def compare(machine: Machine, replay: Replay) -> None:
     latest = max((handling.event.time for handling in machine.history.handlings), default=0)
     if machine.is_at_stop and latest >= machine.last_bound:
         raise Refused.at_line(replay.bound.line, f"an event at {latest} was handled, so the bound is later")
-    for told, found in (replay.bound, machine.bound), (replay.loose, machine.loose_line()):
-        if told.value != found:
-            raise Refused.at_line(told.line, f"the steps lead to `{found}`")
+    if machine.bound != replay.bound.value:
+        raise Refused.at_line(replay.bound.line, f"the steps lead to `bound {machine.bound}`")
+    if machine.loose_line() != replay.loose.value:
+        raise Refused.at_line(replay.loose.line, f"the steps lead to `{machine.loose_line()}`")
     committed = machine.committed()
-    for place, told in enumerate(replay.events):
-        event = committed[place] if place < len(committed) else None
-        if told.value != event:
-            raise Refused.at_line(told.line, f"the steps lead to {written(event)} here")
-    if len(committed) > len(replay.events):
-        raise Refused.at_line(replay.routers[0].line, f"the steps lead to {written(committed[len(replay.events)])} here")
+    first_router = replay.routers[0].line
+    for told, event in zip_longest(replay.events, committed):
+        if told is None or told.value != event:
+            raise Refused.at_line(told.line if told else first_router, f"the steps lead to {written(event)} here")
     compare_routers(replay.routers, machine.routers)

@@ -12,7 +12,9 @@ NAME_LINE = re.compile(r"(0|[1-9][0-9]{0,3}) (\S.*)")
 
 def add_names(parser: argparse.ArgumentParser) -> None:
     parser.add_argument(
-        "--names", metavar="FILE", help="a name for each router: lines of its number and its name, as relationships --map writes them"
+        "--names",
+        metavar="FILE",
+        help="names of routers: lines of a number and a name, as relationships --map writes them",
     )
 
 

@@ -14,9 +14,10 @@ from twarp_tools.topology import Role, Topology
 
 
 class Permitted:
-    """Each router's paths without a valley, ranked: by way of customers before peers before providers, then the shorter,
-    then by the lower number of the next AS, and of one next AS in the order that it has them.
+    """Each router's paths without a valley, ranked.
 
+    Paths by way of customers come before those by way of peers, and these before those by way of providers; then the
+    shorter come first, then those by way of the lower AS number, and by way of one AS in the order that it has them.
     The rest of each path is permitted at its next router, which could not offer it otherwise.
     """
 

@@ -3,14 +3,23 @@ from __future__ import annotations
 
 import argparse
 import random
-from collections.abc import Iterable, Iterator
+from collections.abc import Callable, Iterable, Iterator
 from graphlib import CycleError, TopologicalSorter
 from pathlib import Path
 
-from twarp_tools.case import GREATEST_DELAY, GREATEST_TIME, MOST_LINKS, MOST_NODES, MOST_PATHS, MOST_ROUTERS, MOST_SCENES
-from twarp_tools.case import Case, Link, LinkScene
+from twarp_tools.case import (
+    GREATEST_DELAY,
+    GREATEST_TIME,
+    MOST_LINKS,
+    MOST_NODES,
+    MOST_PATHS,
+    MOST_ROUTERS,
+    MOST_SCENES,
+    Case,
+    Link,
+    LinkScene,
+)
 from twarp_tools.command import Input, Parser, Refused, number_between, tell, write_output
-from twarp_tools.lines import Nodes
 from twarp_tools.policy import Permitted
 from twarp_tools.topology import GREATEST_AS, Growth, Role, Topology, read_relationships
 
@@ -45,15 +54,28 @@ def read_range(word: str) -> tuple[int, int]:
 
 def command_line() -> argparse.Namespace:
     parser = Parser(DESCRIPTION, EXAMPLE)
-    parser.add_argument("input", metavar="FILE", nargs="?", default="-", help="the relationships; standard input where no file is given")
-    parser.add_argument("--destination", type=number_between(1, GREATEST_AS), required=True, metavar="AS", help="the AS that all paths lead to")
-    parser.add_argument("--routers", type=number_between(1, MOST_ROUTERS), default=MOST_ROUTERS, metavar="N", help="take at most N ASes (default 1024)")
-    parser.add_argument("--paths", type=number_between(1, MOST_PATHS), default=20, metavar="N", help="permit at most N paths at a router (default 20)")
-    parser.add_argument("--delays", type=read_range, default=(1, 10), metavar="LOW-HIGH", help="draw each link's delay from this range (default 1-10)")
-    parser.add_argument("--seed", type=number_between(0, GREATEST_TIME), default=1, metavar="N", help="draw delays and failures by this number (default 1)")
-    parser.add_argument("--failures", type=number_between(0, MOST_SCENES // 2), default=0, metavar="N", help="let N links fail, each once, and be repaired (default 0)")
-    parser.add_argument("--until", type=number_between(2, GREATEST_TIME), default=1000, metavar="TIME", help="the last repair is at most at this time (default 1000)")
-    parser.add_argument("--map", metavar="FILE", help="write a line for each router into this file: its number and its AS number")
+
+    def option(name: str, metavar: str, kind: Callable[[str], object], default: object, words: str) -> None:
+        words = f"{words} (default %(default)s)"
+        parser.add_argument(f"--{name}", metavar=metavar, type=kind, default=default, help=words)
+
+    parser.add_argument("input", metavar="FILE", nargs="?", default="-", help="the relationships; - is standard input")
+    parser.add_argument(
+        "--destination",
+        metavar="AS",
+        type=number_between(1, GREATEST_AS),
+        required=True,
+        help="where all paths lead to",
+    )
+    option("routers", "N", number_between(1, MOST_ROUTERS), MOST_ROUTERS, "take at most N ASes")
+    option("paths", "N", number_between(1, MOST_PATHS), 20, "permit at most N paths at a router")
+    option("delays", "LOW-HIGH", read_range, "1-10", "draw the delays of links from this range")
+    option("seed", "N", number_between(0, GREATEST_TIME), 1, "draw delays and failures by this number")
+    option("failures", "N", number_between(0, MOST_SCENES // 2), 0, "let N links fail and be repaired")
+    option("until", "TIME", number_between(2, GREATEST_TIME), 1000, "repair no link later than this")
+    parser.add_argument(
+        "--map", metavar="FILE", help="write the number and the AS number of each router into this file"
+    )
     return parser.parse_args()
 
 
@@ -66,6 +88,8 @@ def share(*what: object) -> float:
 
 
 def delay_of(link: tuple[int, int], numbers: list[int], line: argparse.Namespace) -> int:
+    least: int
+    greatest: int
     least, greatest = line.delays
     ends = sorted(numbers[end] for end in link)
     return least + int(share(line.seed, "delay", *ends) * (greatest - least + 1))
@@ -75,7 +99,9 @@ def failures(used: Iterable[tuple[int, int]], numbers: list[int], line: argparse
     """Failures of some of the links used, each with its repair."""
     ends = {link: sorted(numbers[end] for end in link) for link in used}
     if line.failures > len(ends):
-        raise Refused(f"refused option --failures: the permitted paths use {len(ends)} links, and each fails at most once")
+        raise Refused(
+            f"refused option --failures: the permitted paths use {len(ends)} links, and each fails at most once"
+        )
     for link in sorted(ends, key=lambda link: share(line.seed, "order", *ends[link]))[: line.failures]:
         failed = 1 + int(share(line.seed, "failure", *ends[link]) * (line.until - 1))
         repaired = failed + 1 + int(share(line.seed, "repair", *ends[link]) * (line.until - failed))
@@ -89,7 +115,7 @@ def case_of(topology: Topology, permitted: Permitted, line: argparse.Namespace) 
     paths = [path for router in range(1, len(numbers)) for path in permitted.paths(router)]
     used = {(min(hop), max(hop)) for path in paths for hop in zip(path, path[1:])}
     scenes = sorted(failures(used, numbers, line), key=lambda scene: (scene.time, scene.a, scene.b))
-    return Case(len(numbers), links, paths, scenes)
+    return Case(len(numbers), links, paths, [*scenes])
 
 
 def tell_cuts(growth: Growth, permitted: Permitted, line: argparse.Namespace) -> None:
@@ -111,7 +137,7 @@ def tell_cuts(growth: Growth, permitted: Permitted, line: argparse.Namespace) ->
 
 
 def tell_circle(topology: Topology) -> None:
-    """Says on standard error where ASes are one another's providers in a circle, which the source's conditions exclude."""
+    """Says where ASes are providers of one another in a circle, which Gao and Rexford's conditions exclude."""
     try:
         TopologicalSorter(dict(enumerate(topology.neighbours(Role.PROVIDER)))).prepare()
     except CycleError as error:

@@ -38,11 +38,13 @@ class ReplayPicture:
             if view.meets(number, number)
         ]
         self.handlings = [
-            handling for handling in history.handlings
+            handling
+            for handling in history.handlings
             if handling.event.dst in shown and view.meets(handling.done_at, handling.done_at)
         ]
         self.messages = [
-            message for message in history.messages
+            message
+            for message in history.messages
             if {message.event.src, message.event.dst} <= shown
             and view.meets(message.sent_at, message.delivered_at or view.last)
         ]
@@ -124,7 +126,8 @@ class ReplayPicture:
         looks = set(map(handling_look, self.handlings))
         entries = [
             (name, sample_box(class_="undone") if look == "undone" else sample_box(fill=fill))
-            for look, (name, fill, _) in HANDLINGS.items() if look in looks
+            for look, (name, fill, _) in HANDLINGS.items()
+            if look in looks
         ]
         looks = set(map(message_look, self.messages))
         entries += [(name, sample_line(class_=look)) for look, name in MESSAGES.items() if look in looks]

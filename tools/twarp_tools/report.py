@@ -102,9 +102,7 @@ class Step:
 
 
 REPLAY_HEADER = "spp-replay 1"
-ROUTER_LINE = (
-    f"router {{router}} sent ({NUMBER}) handled ({NUMBER}) dropped ({NUMBER}) changed ({NUMBER}) rib ({PATH})"
-)
+ROUTER_LINE = f"router {{router}} sent ({NUMBER}) handled ({NUMBER}) dropped ({NUMBER}) changed ({NUMBER}) rib ({PATH})"
 VERDICT_LINE = f"verdict (?:quiet ({NUMBER})|oscillates from ({NUMBER}) period ({NUMBER})|open)"
 ANSWER_LINE = "step {step} (?:ok|refused ([A-Z][0-9]+ [A-Za-z]+))"
 LOOSE_LINE = f"flight {NUMBER} pending {NUMBER} kept {NUMBER} ahead {NUMBER}"
@@ -154,8 +152,9 @@ class Cursor:
         routers = []
         for router in range(nodes):
             told = self.take(ROUTER_LINE.format(router=router), f"an event or the line of router {router}")
-            *counters, rib = told.value.groups()
-            routers.append(Told(told.line, RouterLine(router, *map(int, counters), read_path(rib))))
+            sent, handled, dropped, changed, rib = told.value.groups()
+            line = RouterLine(router, int(sent), int(handled), int(dropped), int(changed), read_path(rib))
+            routers.append(Told(told.line, line))
         return routers
 
     def take_verdict(self) -> Verdict:
@@ -220,7 +219,8 @@ def step_faults(line: Line, steps: int, is_ended: bool) -> Iterator[str]:
 
 def read_case_and_steps(text: bytes) -> tuple[Case, list[Step]]:
     """The case and the steps of a replay text: a case text, followed at once by a step text."""
-    reader, steps, is_ended, number = CaseReader(), [], False, 0
+    reader, is_ended, number = CaseReader(), False, 0
+    steps: list[Step] = []
     for line in lines_of(text):
         number = line.number
         if not reader.is_ended:

@@ -8,8 +8,8 @@ from dataclasses import dataclass, field
 
 from twarp_tools.case import Case
 from twarp_tools.command import Refused
-from twarp_tools.event import Event, opening_events
-from twarp_tools.lines import Nodes, write_path
+from twarp_tools.event import Event, Update, opening_events
+from twarp_tools.lines import Nodes
 from twarp_tools.protocol import Router, opening_routers
 from twarp_tools.report import Report, RouterLine, Told
 
@@ -31,10 +31,10 @@ class Message:
     fate: Fate = Fate.UNDER_WAY
 
     @property
-    def words(self) -> str:
-        """What it says, and what became of it."""
-        body = self.event.body
-        return f"path {write_path(body.path)}, session {body.session}, {self.fate.value}"
+    def update(self) -> Update:
+        """What it says."""
+        assert isinstance(self.event.body, Update), "routers send updates alone"
+        return self.event.body
 
 
 @dataclass(frozen=True, slots=True)

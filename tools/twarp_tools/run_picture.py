@@ -74,11 +74,13 @@ class RunPicture:
         self.verdict = report.verdict
         self.places = {path: place_of(place) for order in case.orders() for place, path in enumerate(order)}
         self.bars = [
-            bar for bar in bars_of(run)
+            bar
+            for bar in bars_of(run)
             if bar.router in shown and view.meets(bar.start, view.last if bar.end is None else bar.end)
         ]
         self.messages = [
-            message for message in run.messages
+            message
+            for message in run.messages
             if message.event.dst in shown and view.meets(message.sent, message.event.time)
         ]
         self.scenes = [scene for scene in run.scenes if scene.dst in shown and view.meets(scene.time, scene.time)]
@@ -166,7 +168,8 @@ class RunPicture:
             # The sender is not in view: a short arrow from above stands for the message.
             y2 = here - self.lanes.bar / 2
             x1, y1 = x2 - 9, y2 - 12
-        tooltip = f"{event.src} to {event.dst}, sent {message.sent}, arrives {event.time}: {message.words}"
+        words = f"path {write_path(message.update.path)}, session {message.update.session}, {message.fate.value}"
+        tooltip = f"{event.src} to {event.dst}, sent {message.sent}, arrives {event.time}: {words}"
         add(parent, "line", "", tooltip, class_=message_look(message), x1=x1, y1=y1, x2=x2, y2=y2)
 
     def draw_scene(self, parent: Element, scene: Event) -> None:
@@ -221,7 +224,7 @@ def message_look(message: Message) -> str:
             return "message dropped"
         case Fate.UNDER_WAY:
             return "message underway"
-    return "message" if message.event.body.path else "message withdrawal"
+    return "message" if message.update.path else "message withdrawal"
 
 
 def draw_start(parent: Element, x: float, y: float) -> None:

@@ -62,7 +62,7 @@ def attribute(value: object) -> str:
     return f"{value:.1f}".removesuffix(".0") if isinstance(value, float) else str(value)
 
 
-def add(parent: Element, tag: str, text: str = "", tooltip: str = "", **attributes: object) -> Element:
+def add(parent: Element, tag: str, text: str = "", tooltip: str = "", /, **attributes: object) -> Element:
     """Adds an element. `class_` and `stroke_width` stand for `class` and `stroke-width`."""
     names = {name.rstrip("_").replace("_", "-"): attribute(value) for name, value in attributes.items()}
     element = ElementTree.SubElement(parent, tag, names)

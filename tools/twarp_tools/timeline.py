@@ -2,10 +2,9 @@
 from __future__ import annotations
 
 import argparse
-from collections.abc import Sequence
 from pathlib import Path
 
-from twarp_tools.case import GREATEST_TIME, MOST_ROUTERS, Case, read_case
+from twarp_tools.case import GREATEST_TIME, MOST_ROUTERS, read_case
 from twarp_tools.command import Input, Parser, Refused, number_between, write_output
 from twarp_tools.lanes import View
 from twarp_tools.machine import follow_replay
@@ -47,12 +46,20 @@ def read_routers(words: str) -> list[int]:
 def command_line() -> argparse.Namespace:
     parser = Parser(DESCRIPTION, EXAMPLE)
     time = number_between(0, GREATEST_TIME)
-    parser.add_argument("case", metavar="CASE", help="the case, or the case and steps that were replayed; - is standard input")
-    parser.add_argument("report", metavar="REPORT", nargs="?", default="-", help="the report; standard input where none is given")
-    parser.add_argument("--from", dest="first", type=time, metavar="TIME", help="leave out what is earlier (of a replay: steps)")
-    parser.add_argument("--to", dest="last", type=time, metavar="TIME", help="leave out what is later (of a replay: steps)")
-    parser.add_argument("--routers", type=read_routers, metavar="LIST", help="draw these routers' lanes alone, as in 0,2,5-9")
-    parser.add_argument("--title", help="what stands before the verdict in the title; the case's name where it is left out")
+    parser.add_argument("case", metavar="CASE", help="the case, or what was replayed; - is standard input")
+    parser.add_argument(
+        "report", metavar="REPORT", nargs="?", default="-", help="the report; standard input where none is given"
+    )
+    parser.add_argument(
+        "--from", dest="first", type=time, metavar="TIME", help="leave out what is earlier (of a replay: steps)"
+    )
+    parser.add_argument(
+        "--to", dest="last", type=time, metavar="TIME", help="leave out what is later (of a replay: steps)"
+    )
+    parser.add_argument(
+        "--routers", type=read_routers, metavar="LIST", help="draw these routers' lanes alone, as in 0,2,5-9"
+    )
+    parser.add_argument("--title", help="what the title begins with (default: the case's name)")
     add_names(parser)
     line = parser.parse_args()
     if line.case == line.report == "-":

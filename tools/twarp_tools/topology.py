@@ -29,7 +29,7 @@ Neighbours = dict[int, dict[int, Role]]
 
 
 def read_relationships(text: bytes) -> Neighbours:
-    """Reads lines as `provider|customer|-1` and `peer|peer|0`. A fourth field says where a line is from, and is let pass."""
+    """Reads lines as `provider|customer|-1` and `peer|peer|0`; a fourth field is let pass."""
     neighbours: Neighbours = defaultdict(dict)
     known: dict[frozenset[int], int] = {}
     for line in lines_of(text):
@@ -119,9 +119,9 @@ class Growth:
         self.topology.numbers.append(number)
         self.topology.roles.append({})
         roles = self.topology.roles
-        known = sorted((peer for peer in self.neighbours[number] if peer in self.routers), key=lambda peer: (peer != by, self.routers[peer]))
-        for peer in known:
-            other = self.routers[peer]
+        others = {self.routers[peer]: peer for peer in self.neighbours[number] if peer in self.routers}
+        for other in sorted(others, key=lambda other: (others[other] != by, other)):
+            peer = others[other]
             if max(len(roles[router]), len(roles[other])) < MOST_LINKS:
                 roles[router][other] = self.neighbours[number][peer]
                 roles[other][router] = self.neighbours[peer][number]

@@ -1,4 +1,4 @@
-"""The tutorial's commands, run one after the other as a reader would; and the tool pictures, which keeps what they draw."""
+"""The tutorial's commands, run one after the other as a reader would; the tool pictures keeps what they draw."""
 from __future__ import annotations
 
 import re
@@ -62,7 +62,11 @@ def run(command: Command, folder: Path) -> str:
     """What a terminal shows of a command that is run in the folder."""
     done = subprocess.run(
         ["sh", "-c", command.text],
-        cwd=folder, stdin=subprocess.DEVNULL, stdout=subprocess.PIPE, stderr=subprocess.STDOUT, check=False,
+        cwd=folder,
+        stdin=subprocess.DEVNULL,
+        stdout=subprocess.PIPE,
+        stderr=subprocess.STDOUT,
+        check=False,
     )
     return done.stdout.decode()
 
@@ -84,7 +88,13 @@ example:
 
 def main() -> None:
     parser = Parser(DESCRIPTION, EXAMPLE)
-    parser.add_argument("--program", type=Path, default=PROGRAM, metavar="FILE", help="the built program (default crates/twarp/out/twarp)")
+    parser.add_argument(
+        "--program",
+        type=Path,
+        default=PROGRAM,
+        metavar="FILE",
+        help="the built program (default crates/twarp/out/twarp)",
+    )
     line = parser.parse_args()
     page = PAGE.read_text()
     with tempfile.TemporaryDirectory() as name:
