@@ -89,8 +89,21 @@ class Machine:
     def key(self, event: Event) -> tuple[int, ...]:
         return event.key(self.path_numbers)
 
+    def can_do(self, step: Step) -> bool:
+        """Whether there is something to handle, undo or deliver, at a router that is there."""
+        match step:
+            case Step("handle", int(router)):
+                return router < len(self.routers) and bool(self.pending[router])
+            case Step("undo", int(router)):
+                return router < len(self.routers) and bool(self.handled[router])
+            case Step("deliver", int(place)):
+                return 1 <= place <= len(self.flight)
+            case Step("commit", int(router)):
+                return router < len(self.routers)
+        return True
+
     def do(self, step: Step) -> None:
-        """Does a step; an IndexError or a ValueError says that it can't be done."""
+        """Does a step that can be done."""
         match step:
             case Step("handle", int(router)):
                 self.handle(router)
@@ -131,8 +144,6 @@ class Machine:
         self.send(handling.sends, is_anti=True)
 
     def deliver(self, place: int) -> None:
-        if place < 1:
-            raise IndexError
         message = self.flight.pop(place - 1)
         message.delivered_at = self.number
         receive = self.receive_anti if message.is_anti else self.receive
@@ -174,11 +185,11 @@ def follow_replay(case: Case, steps: list[Step], replay: Replay) -> History:
     """What the steps did; refused at the first line that is not what they lead to."""
     machine = Machine(case, replay.bound.value)
     for machine.number, (step, answer) in enumerate(zip(steps, replay.answers), 1):
-        if answer.value is None:
-            try:
-                machine.do(step)
-            except (IndexError, ValueError):
-                raise Refused.at_line(answer.line, f"`{step}` can't be done here") from None
+        if answer.value is not None:
+            continue
+        if not machine.can_do(step):
+            raise Refused.at_line(answer.line, f"`{step}` can't be done here")
+        machine.do(step)
     compare(machine, replay)
     return machine.history
 

@@ -115,4 +115,4 @@ def compare_routers(lines: Iterable[Told[RouterLine]], routers: Iterable[Router]
     """Refuses the first router line that is not the router's."""
     for told, router in zip(lines, routers):
         if told.value != router.line():
-            raise Refused.at_line(told.line, f"the events above lead to `{router.line()}`")
+            raise Refused.at_line(told.line, f"what stands above leads to `{router.line()}`")
