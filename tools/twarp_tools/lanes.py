@@ -24,6 +24,11 @@ class View:
     routers: Sequence[int]
     names: Mapping[int, str]
 
+    @cached_property
+    def shown(self) -> frozenset[int]:
+        """The routers that have a lane."""
+        return frozenset(self.routers)
+
     def meets(self, start: int, end: int) -> bool:
         """Whether some of a stretch is in view."""
         return start <= self.last and end >= self.first

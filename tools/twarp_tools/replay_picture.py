@@ -30,7 +30,6 @@ class ReplayPicture:
     """What is in view, and where it stands. The view goes from one step to another, counted from 1."""
 
     def __init__(self, steps: list[Step], replay: Replay, history: History, view: View):
-        shown = set(view.routers)
         self.view = view
         self.steps = [
             (number, step, answer.value)
@@ -40,12 +39,12 @@ class ReplayPicture:
         self.handlings = [
             handling
             for handling in history.handlings
-            if handling.event.dst in shown and view.meets(handling.done_at, handling.done_at)
+            if handling.event.dst in view.shown and view.meets(handling.done_at, handling.undone_at or handling.done_at)
         ]
         self.messages = [
             message
             for message in history.messages
-            if {message.event.src, message.event.dst} <= shown
+            if {message.event.src, message.event.dst} <= view.shown
             and view.meets(message.sent_at, message.delivered_at or view.last)
         ]
         self.bounds = [(number, bound) for number, bound in history.bounds if view.meets(number, number)]

@@ -41,6 +41,11 @@ class Bar:
     end: int | None
     path: Nodes
 
+    def is_seen(self, view: View) -> bool:
+        """Whether the router uses the path at some time in view."""
+        last = view.last if self.end is None else max(self.start, self.end - 1)
+        return self.router in view.shown and view.meets(self.start, last)
+
     @property
     def tooltip(self) -> str:
         until = "on" if self.end is None else f"to {self.end}"
@@ -69,21 +74,16 @@ class RunPicture:
     """What is in view, and where it stands."""
 
     def __init__(self, case: Case, report: Report, run: Run, view: View):
-        shown = set(view.routers)
         self.view = view
         self.verdict = report.verdict
         self.places = {path: place_of(place) for order in case.orders() for place, path in enumerate(order)}
-        self.bars = [
-            bar
-            for bar in bars_of(run)
-            if bar.router in shown and view.meets(bar.start, view.last if bar.end is None else bar.end)
-        ]
+        self.bars = [bar for bar in bars_of(run) if bar.is_seen(view)]
         self.messages = [
             message
             for message in run.messages
-            if message.event.dst in shown and view.meets(message.sent, message.event.time)
+            if message.event.dst in view.shown and view.meets(message.sent, message.event.time)
         ]
-        self.scenes = [scene for scene in run.scenes if scene.dst in shown and view.meets(scene.time, scene.time)]
+        self.scenes = [scene for scene in run.scenes if scene.dst in view.shown and view.meets(scene.time, scene.time)]
         view.refuse_crowd(len(self.bars) + len(self.messages) + len(self.scenes))
         self.lanes = Lanes(view)
         self.axis = self.fit_axis()

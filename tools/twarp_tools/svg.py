@@ -33,7 +33,7 @@ text { font-family: Helvetica, Arial, sans-serif; font-size: 12px; fill: #222; }
 .swap { fill: #7b2cbf; }
 .start { fill: #222; }
 .period { fill: #f4d35e; fill-opacity: .4; }
-.again { stroke: #c79a00; stroke-dasharray: 6 4; }
+.again { stroke: #c79a00; stroke-width: 1.5; stroke-dasharray: 6 4; }
 .undone { fill: #fff; stroke: #c1121f; stroke-width: 1.3; }
 .undo { fill: none; stroke: #c1121f; stroke-width: 1.3; marker-end: url(#redhead); }
 .bound { stroke: #1a7f37; stroke-dasharray: 6 4; }
