@@ -196,10 +196,12 @@ class RunPicture:
         draw(group, x, here + toward * (self.lanes.bar / 2 + 7))
         if is_whole and scene.dst > peer:
             return
-        add(group, "line", class_=f"{look} link", x1=x, y1=here + toward * self.lanes.bar / 2, x2=x, y2=there)
+        # The words stand on the other side of the bar, since the messages of a repair go along the link.
+        beyond = here - toward * (self.lanes.bar / 2 + 12)
+        add(group, "line", class_=f"{look} link", x1=x, y1=beyond, x2=x, y2=there)
         if len(self.scenes) <= MOST_NOTES:
-            y = here + toward * self.lanes.height / 2 + 4
-            add(group, "text", f"{scene.dst}–{peer} {words}", class_=f"note {look}note", x=x + 8, y=y)
+            note = f"{scene.dst}–{peer} {words}"
+            add(group, "text", note, class_=f"note {look}note", x=x + 6, y=beyond + 4)
 
     def legend(self) -> list[tuple[str, Sample]]:
         """A sample of each mark that the picture has."""
