@@ -89,7 +89,8 @@ def draw_run(line: argparse.Namespace, case_text: Input, report_text: Input) -> 
     is_at_rest = isinstance(report.verdict, Quiet)
     whole = range((GREATEST_TIME if is_at_rest else report.bound.value) + 1)
     picture = RunPicture(case, report, run, view_of(line, case.nodes, whole, last_time(report)))
-    subtitle = f"{len(report.events):,} events below {report.stop.value:,}"
+    events = len(report.events)
+    subtitle = f"{events:,} event{'s' if events > 1 else ''} below {report.stop.value:,}"
     return picture.draw(f"{title_of(line)}: verdict {report.verdict}", subtitle)
 
 
