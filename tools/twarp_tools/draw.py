@@ -8,8 +8,9 @@ from dataclasses import dataclass
 from html import escape
 from pathlib import Path
 
-from twarp_tools.case import MOST_PATHS, MOST_ROUTERS, ORIGIN, Case, Link, LinkScene, read_case
+from twarp_tools.case import MOST_PATHS, MOST_ROUTERS, ORIGIN, Case, Link, read_case
 from twarp_tools.command import Input, Parser, Refused, number_between, write_output
+from twarp_tools.event import Fail, Restore, Swap, opening_events
 from twarp_tools.lines import Nodes, write_path
 from twarp_tools.names import add_names, names_of
 from twarp_tools.palette import place_of
@@ -52,17 +53,18 @@ def opening(case: Case) -> Standing:
 
 
 def reached(case: Case, report: Report) -> Standing:
-    """Where the run stands that was reported: after the scenario lines below its bound."""
+    """Where the run stands that was reported: after what the scenario has below its bound."""
     standing = opening(case)
-    for scene in sorted(case.scenes, key=lambda scene: scene.time):
-        if scene.time >= report.bound.value:
-            break
-        if isinstance(scene, LinkScene):
-            change = standing.down.add if scene.word == "fail" else standing.down.discard
-            change(frozenset((scene.a, scene.b)))
-        else:
-            order, i, j = standing.orders[scene.router], scene.first - 1, scene.second - 1
-            order[i], order[j] = order[j], order[i]
+    scenes = (event for event in opening_events(case) if event.time < report.bound.value)
+    for scene in sorted(scenes, key=lambda scene: scene.key({})):
+        match scene.body:
+            case Fail(peer):
+                standing.down.add(frozenset((scene.dst, peer)))
+            case Restore(peer):
+                standing.down.discard(frozenset((scene.dst, peer)))
+            case Swap(first, second):
+                order, i, j = standing.orders[scene.dst], first - 1, second - 1
+                order[i], order[j] = order[j], order[i]
     standing.ribs = [told.value.rib for told in report.routers]
     for told in report.routers:
         if told.value.rib and told.value.rib not in standing.orders[told.value.router]:
