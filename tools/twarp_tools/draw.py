@@ -155,7 +155,8 @@ class Drawing:
         """An arrow for each direction in which the link is used, or else a line.
 
         An edge goes from the end that is farther from the origin, so that the origin is at the bottom. Between ends at
-        the same distance it moves neither, and its label is placed afterwards, since dot fails on such labels otherwise.
+        the same distance it moves neither, and its label is placed afterwards, since dot fails on such labels
+        otherwise.
         """
         tail, head = sorted((link.a, link.b), key=lambda node: (-depth[node], node))
         is_level, is_down = depth[tail] == depth[head], frozenset((tail, head)) in self.standing.down
