@@ -1,0 +1,112 @@
+"""How every tool reads, writes and ends."""
+from __future__ import annotations
+
+import argparse
+import enum
+import sys
+from collections.abc import Callable
+from dataclasses import dataclass
+from pathlib import Path
+from typing import NoReturn, TypeVar
+
+Value = TypeVar("Value")
+
+# Descriptors, since Python's own streams are not there where one of these is closed.
+STANDARD_INPUT = 0
+STANDARD_OUTPUT = 1
+
+
+class Status(enum.IntEnum):
+    """Exit statuses, as those of twarp."""
+
+    DONE = 0
+    REFUSED = 1
+    STOPPED = 2
+    BAD_LINE = 3
+
+
+class Refused(Exception):
+    """Input that a tool does not take. Its text says why, and at which line."""
+
+    @classmethod
+    def at_line(cls, number: int, why: str) -> Refused:
+        return cls(f"refused line {number}: {why}")
+
+
+STATUSES = "statuses: 0 done, 1 the input is refused, 2 stopped, 3 the command line is not accepted"
+
+
+class Parser(argparse.ArgumentParser):
+    """Reads a command line; one that it does not take ends with the status that twarp has for it."""
+
+    def __init__(self, description: str, example: str):
+        super().__init__(
+            description=description,
+            epilog=f"{example}\n\n{STATUSES}",
+            formatter_class=argparse.RawDescriptionHelpFormatter,
+        )
+
+    def error(self, message: str) -> NoReturn:
+        self.print_usage(sys.stderr)
+        self.exit(Status.BAD_LINE, f"{self.prog}: {message}\n")
+
+
+def number_between(least: int, most: int) -> Callable[[str], int]:
+    """A type of arguments: a decimal number in a range."""
+
+    def read(word: str) -> int:
+        if not (word.isascii() and word.isdigit() and least <= int(word) <= most):
+            raise argparse.ArgumentTypeError(f"{word!r} is no number from {least} to {most}")
+        return int(word)
+
+    return read
+
+
+@dataclass(frozen=True)
+class Input:
+    """A text, with the name by which what is wrong with it is told."""
+
+    name: str
+    text: bytes
+
+    @classmethod
+    def of(cls, file: str) -> Input:
+        """The whole of a file, or of standard input where it is `-`."""
+        if file == "-":
+            with open(STANDARD_INPUT, "rb", closefd=False) as source:
+                return cls("standard input", source.read())
+        return cls(file, Path(file).read_bytes())
+
+    def read(self, reader: Callable[[bytes], Value]) -> Value:
+        """What a reader makes of the text."""
+        try:
+            return reader(self.text)
+        except Refused as fault:
+            raise Refused(f"{self.name}: {fault}") from None
+
+
+def tell(message: object) -> None:
+    """Says something on standard error, under the tool's name."""
+    print(f"{Path(sys.argv[0]).name}: {message}", file=sys.stderr)
+
+
+def write_output(text: str) -> None:
+    """Writes the whole text, also where Python's own standard output has no buffer and takes a part at a time."""
+    with open(STANDARD_OUTPUT, "wb", closefd=False) as output:
+        output.write(text.encode())
+
+
+def run(main: Callable[[], None]) -> Status:
+    """Runs a tool and gives its exit status."""
+    try:
+        main()
+    except Refused as fault:
+        tell(fault)
+        return Status.REFUSED
+    except MemoryError:
+        tell("stopped memory")
+        return Status.STOPPED
+    except OSError as error:
+        tell(f"stopped device: {error}")
+        return Status.STOPPED
+    return Status.DONE

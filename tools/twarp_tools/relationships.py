@@ -1,0 +1,161 @@
+"""The tool relationships: AS relationships become a case."""
+from __future__ import annotations
+
+import argparse
+import random
+from collections.abc import Callable, Iterable, Iterator
+from graphlib import CycleError, TopologicalSorter
+from pathlib import Path
+
+from twarp_tools.case import (
+    GREATEST_DELAY,
+    GREATEST_TIME,
+    MOST_LINKS,
+    MOST_NODES,
+    MOST_PATHS,
+    MOST_ROUTERS,
+    MOST_SCENES,
+    Case,
+    Link,
+    LinkScene,
+)
+from twarp_tools.command import Input, Parser, Refused, number_between, tell, write_output
+from twarp_tools.policy import Permitted
+from twarp_tools.topology import GREATEST_AS, Growth, Role, Topology, read_relationships
+
+DESCRIPTION = """\
+Makes a case of AS relationships, on standard output.
+
+The input has lines as provider|customer|-1 and peer|peer|0, as CAIDA publishes them; a fourth field is let pass, and so
+are lines that begin with #. The destination becomes router 0, and the ASes nearest to it the routers 1, 2, ..
+
+A path is permitted where it has no valley: it goes up to providers, then by at most one link between peers, then down
+to customers. Paths by way of customers are better than those by way of peers, and these better than those by way of
+providers (Gao and Rexford 2001); then the shorter path is better, then the one whose next AS has the lower number.
+
+What the program's limits, --routers and --paths cut off is told on standard error. The same input and options give the
+same bytes."""
+EXAMPLE = """\
+examples:
+  tools/relationships --destination 1653 tools/research-networks.txt > case.spp
+  bzcat 20260101.as-rel2.txt.bz2 | tools/relationships --destination 1653 --routers 200 --delays 1-50 --seed 7 \\
+      --failures 10 --until 5000 --map ases.txt > case.spp"""
+
+
+def read_range(word: str) -> tuple[int, int]:
+    """A range of delays as 1-20; one number stands for itself alone."""
+    number = number_between(1, GREATEST_DELAY)
+    first, dash, last = word.partition("-")
+    least, greatest = number(first), number(last if dash else first)
+    if least > greatest:
+        raise argparse.ArgumentTypeError(f"{least} is more than {greatest}")
+    return least, greatest
+
+
+def command_line() -> argparse.Namespace:
+    parser = Parser(DESCRIPTION, EXAMPLE)
+
+    def option(name: str, metavar: str, kind: Callable[[str], object], default: object, words: str) -> None:
+        words = f"{words} (default %(default)s)"
+        parser.add_argument(f"--{name}", metavar=metavar, type=kind, default=default, help=words)
+
+    parser.add_argument("input", metavar="FILE", nargs="?", default="-", help="the relationships; - is standard input")
+    parser.add_argument(
+        "--destination",
+        metavar="AS",
+        type=number_between(1, GREATEST_AS),
+        required=True,
+        help="where all paths lead to",
+    )
+    option("routers", "N", number_between(1, MOST_ROUTERS), MOST_ROUTERS, "take at most N ASes")
+    option("paths", "N", number_between(1, MOST_PATHS), 20, "permit at most N paths at a router")
+    option("delays", "LOW-HIGH", read_range, "1-10", "draw the delays of links from this range")
+    option("seed", "N", number_between(0, GREATEST_TIME), 1, "draw delays and failures by this number")
+    option("failures", "N", number_between(0, MOST_SCENES // 2), 0, "let N links fail and be repaired")
+    option("until", "TIME", number_between(2, GREATEST_TIME), 1000, "repair no link later than this")
+    parser.add_argument(
+        "--map", metavar="FILE", help="write the number and the AS number of each router into this file"
+    )
+    return parser.parse_args()
+
+
+def share(*what: object) -> float:
+    """A number from 0 to below 1, drawn for this purpose alone: it stays whatever else is drawn.
+
+    Of Python's generator only random() is promised to give the same numbers in each version.
+    """
+    return random.Random(" ".join(map(str, what))).random()
+
+
+def delay_of(link: tuple[int, int], numbers: list[int], line: argparse.Namespace) -> int:
+    least: int
+    greatest: int
+    least, greatest = line.delays
+    ends = sorted(numbers[end] for end in link)
+    return least + int(share(line.seed, "delay", *ends) * (greatest - least + 1))
+
+
+def failures(used: Iterable[tuple[int, int]], numbers: list[int], line: argparse.Namespace) -> Iterator[LinkScene]:
+    """Failures of some of the links used, each with its repair."""
+    ends = {link: sorted(numbers[end] for end in link) for link in used}
+    if line.failures > len(ends):
+        raise Refused(
+            f"refused option --failures: the permitted paths use {len(ends)} links, and each fails at most once"
+        )
+    for link in sorted(ends, key=lambda link: share(line.seed, "order", *ends[link]))[: line.failures]:
+        failed = 1 + int(share(line.seed, "failure", *ends[link]) * (line.until - 1))
+        repaired = failed + 1 + int(share(line.seed, "repair", *ends[link]) * (line.until - failed))
+        yield LinkScene("fail", failed, *link)
+        yield LinkScene("restore", repaired, *link)
+
+
+def case_of(topology: Topology, permitted: Permitted, line: argparse.Namespace) -> Case:
+    numbers = topology.numbers
+    links = [Link(*link, delay_of(link, numbers, line)) for link in topology.links()]
+    paths = [path for router in range(1, len(numbers)) for path in permitted.paths(router)]
+    used = {(min(hop), max(hop)) for path in paths for hop in zip(path, path[1:])}
+    scenes = sorted(failures(used, numbers, line), key=lambda scene: (scene.time, scene.a, scene.b))
+    return Case(len(numbers), links, paths, [*scenes])
+
+
+def tell_cuts(growth: Growth, permitted: Permitted, line: argparse.Namespace) -> None:
+    """Says on standard error what of the input is not in the case."""
+    ases, taken = len(growth.neighbours), len(growth.routers)
+    crowded = len(growth.crowded - growth.routers.keys())
+    unreached = ases - taken - crowded if taken < line.routers else 0
+    counts = {
+        f"ASes left out, {taken:,} nearer to AS {line.destination} being taken": ases - taken,
+        f"of these, ASes that no router with less than {MOST_LINKS} links could be linked to": crowded,
+        f"of these, ASes without a path that has no valley and at most {MOST_NODES} nodes": unreached,
+        f"links left out because a router has at most {MOST_LINKS}": growth.left_out_links(),
+        f"routers with paths left out because each has at most {line.paths}": len(permitted.crowded),
+        f"routers with paths left out because these have more than {MOST_NODES} nodes": len(permitted.too_long),
+    }
+    for what, count in counts.items():
+        if count:
+            tell(f"{what}: {count:,}")
+
+
+def tell_circle(topology: Topology) -> None:
+    """Says where ASes are providers of one another in a circle, which Gao and Rexford's conditions exclude."""
+    try:
+        TopologicalSorter(dict(enumerate(topology.neighbours(Role.PROVIDER)))).prepare()
+    except CycleError as error:
+        circle = ", ".join(f"AS {topology.numbers[router]}" for router in error.args[1])
+        tell(f"each of these is a provider of the next, so it is not sure that the case comes to rest: {circle}")
+
+
+def main() -> None:
+    line = command_line()
+    neighbours = Input.of(line.input).read(read_relationships)
+    if line.destination not in neighbours:
+        raise Refused(f"refused option --destination: the input has no AS {line.destination}")
+    growth = Growth(neighbours, line.destination, line.routers)
+    permitted = Permitted(growth.topology, line.paths)
+    case = case_of(growth.topology, permitted, line)
+    tell_cuts(growth, permitted, line)
+    tell_circle(growth.topology)
+    if line.map:
+        lines = (f"{router} {number}\n" for router, number in enumerate(growth.topology.numbers))
+        Path(line.map).write_text("".join(lines))
+    write_output(str(case))

@@ -1,0 +1,106 @@
+"""The tutorial's commands, run one after the other as a reader would; the tool pictures keeps what they draw."""
+from __future__ import annotations
+
+import re
+import shutil
+import subprocess
+import tempfile
+from collections.abc import Iterator
+from dataclasses import dataclass
+from pathlib import Path
+
+from twarp_tools.command import Parser, Refused
+
+ROOT = Path(__file__).resolve().parent.parent.parent
+PAGE = ROOT / "docs/TUTORIAL.md"
+PICTURES = ROOT / "docs/pictures"
+PROGRAM = ROOT / "crates/twarp/out/twarp"
+
+# What the commands name of the clone, and the folder into which they write.
+NAMED = ("cases", "docs", "tools")
+WRITTEN = "out"
+
+
+@dataclass
+class Command:
+    """A command of a console block, with the number of its line and the output that stands below it."""
+
+    line: int
+    text: str
+    output: str = ""
+
+
+def commands_of(page: str) -> list[Command]:
+    """The commands of a page's console blocks."""
+    commands: list[Command] = []
+    is_console = False
+    for number, line in enumerate(page.splitlines(), 1):
+        if line.startswith("```"):
+            is_console = line == "```console"
+        elif is_console and line.startswith("$ "):
+            commands.append(Command(number, line[2:]))
+        elif is_console:
+            commands[-1].output += f"{line}\n"
+    return commands
+
+
+def pictures_of(page: str) -> list[str]:
+    """The names of the pictures that a page shows."""
+    return re.findall(r"\]\(pictures/([^)]+)\)", page)
+
+
+def lay_out(folder: Path, program: Path) -> None:
+    """Makes a folder look like the root of a clone in which the program is built."""
+    for name in NAMED:
+        (folder / name).symlink_to(ROOT / name)
+    script = folder / "twarp"
+    script.write_text(f'#!/bin/sh\nexec "{program.resolve()}" "$@"\n')
+    script.chmod(0o755)
+
+
+def run(command: Command, folder: Path) -> str:
+    """What a terminal shows of a command that is run in the folder."""
+    done = subprocess.run(
+        ["sh", "-c", command.text],
+        cwd=folder,
+        stdin=subprocess.DEVNULL,
+        stdout=subprocess.PIPE,
+        stderr=subprocess.STDOUT,
+        check=False,
+    )
+    return done.stdout.decode()
+
+
+def follow(page: str, folder: Path, program: Path) -> Iterator[tuple[Command, str]]:
+    """Runs the page's commands in an empty folder, one after the other, and gives what each writes."""
+    lay_out(folder, program)
+    for command in commands_of(page):
+        yield command, run(command, folder)
+
+
+DESCRIPTION = """\
+Makes the pictures of docs/TUTORIAL.md again: runs the page's commands in a folder of their own, sees that each writes
+what the page says, and keeps the pictures that the page shows in docs/pictures."""
+EXAMPLE = """\
+example:
+  tools/pictures"""
+
+
+def main() -> None:
+    parser = Parser(DESCRIPTION, EXAMPLE)
+    parser.add_argument(
+        "--program",
+        type=Path,
+        default=PROGRAM,
+        metavar="FILE",
+        help="the built program (default crates/twarp/out/twarp)",
+    )
+    line = parser.parse_args()
+    page = PAGE.read_text()
+    with tempfile.TemporaryDirectory() as name:
+        folder = Path(name)
+        for command, output in follow(page, folder, line.program):
+            if output != command.output:
+                raise Refused(f"{PAGE.name}: line {command.line}: the command writes\n{output}")
+        for picture in pictures_of(page):
+            shutil.copyfile(folder / WRITTEN / picture, PICTURES / picture)
