@@ -1,0 +1,60 @@
+-- The fields of a shard once one of its routers has changed.
+use Rattle.std.proofs.Common.{◌≡◌, ℕ, ◌≤◌, ◌==◌, true, List, [], ◌∷◌, ◌++◌, length, set, take, refl, ap, sym, ◌∙◌, subst, nat_le}
+use Rattle.std.specs.List.{AllByRecursion}
+use Rattle.std.proofs.lemmas.Bool.{and_parts, eqb-true}
+use Rattle.tw_event.specs.declared.event.Event.{Event}
+use Rattle.tw_model.specs.declared.limits.TheConstants.{LATEST}
+use Rattle.tw_model.specs.Effect.{body_suits, fits, suits}
+use Rattle.tw_model.specs.Net.{Net}
+use Rattle.tw_shard.specs.declared.shard.Shard.TheInside.{Inside}
+use Rattle.tw_shard.specs.Inside.{IsShard, shard_of}
+use Rattle.tw_shard.specs.Shard.{IsWhole, owns, place}
+use Rattle.tw_shard.specs.Timeline.{Timeline}
+use Rattle.tw_shard.proofs.Shares.{whole_after}
+
+take_front : {A : Type 0} (ws ys : List A) → take (length ws) (ws ++ ys) ≡ ws
+take_front [] ys = refl
+take_front (w ∷ ws) ys = ap (λ l. w ∷ l) (take_front ws ys)
+
+-- a vector with as many other items has these
+pub other_items : {A : Type 0} (n : ℕ) (ws ys : List A) → length ws ≡ n → take n (ws ++ ys) ≡ ws
+other_items n ws ys h = subst (λ k. take k (ws ++ ys) ≡ ws) h (take_front ws ys)
+
+-- an event that fits a router suits its receiver, which is that router
+pub fits_home : (net : Net) (v : ℕ) (e : Event) → fits net v e ≡ true → e.dst ≡ v
+fits_home net v e h =
+    eqb-true e.dst v (and_parts (e.dst == v) (body_suits net v e e.body) (and_parts (nat_le e.time LATEST) (suits net v e) h).1).0
+
+pub fits_suits : (net : Net) (v : ℕ) (e : Event) → fits net v e ≡ true → suits net e.dst e ≡ true
+fits_suits net v e h =
+    subst (λ w. suits net w e ≡ true) (sym (fits_home net v e h)) (and_parts (nat_le e.time LATEST) (suits net v e) h).1
+
+-- b has another timeline of router r, and perhaps another list of what is pending and what is sent
+pub record IsChanged (a b : Inside) (r : ℕ) (t : Timeline) : Type 0 where
+  pub case : b.case.now ≡ a.case.now
+  pub worker : b.worker ≡ a.worker
+  pub workers : b.workers ≡ a.workers
+  pub timelines : b.timelines.items ≡ set a.timelines.items (place (shard_of a) r) t
+  pub kept : b.kept.events ≡ a.kept.events
+  pub bound : b.bound ≡ a.bound
+  pub pending_routers : b.pending.routers ≡ a.pending.routers
+  pub kept_routers : b.kept.routers ≡ a.kept.routers
+
+pub changed_shard : (a b : Inside) (r : ℕ) (t : Timeline) → IsShard a → owns (shard_of a) r ≡ true → IsChanged a b r t
+    → t.net ≡ (shard_of a).case.net → t.node ≡ r → t.done ≤ a.bound
+    → AllByRecursion (λ e. suits (shard_of a).case.net e.dst e ≡ true) b.pending.events → IsShard b
+changed_shard a b r t is mine h net node done suit = record {
+  whole =
+      subst IsWhole (λ i. record {
+        case = sym h.case i;
+        worker = sym h.worker i;
+        workers = sym h.workers i;
+        timelines = sym h.timelines i;
+        pending = b.pending.events;
+        kept = sym h.kept i;
+        outgoing = b.outgoing.items;
+        bound = sym h.bound i;
+      }) (whole_after (shard_of a) r t b.pending.events b.outgoing.items is.whole mine net node done suit);
+  pending = h.pending_routers ∙ (is.pending ∙ ap (λ c. c.net.nodes) (sym h.case));
+  kept = h.kept_routers ∙ (is.kept ∙ ap (λ c. c.net.nodes) (sym h.case));
+}

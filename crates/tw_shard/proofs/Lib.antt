@@ -1,0 +1,5 @@
+pub mod Histories
+pub mod Shares
+pub mod Fields
+pub mod Steps
+pub mod Queues

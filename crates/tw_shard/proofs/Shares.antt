@@ -1,0 +1,91 @@
+-- What a change at one router of a shard leaves.
+use Rattle.std.proofs.Common.{◌≡◌, ℕ, ◌+◌, ◌*◌, ◌%◌, ◌<◌, ◌≤◌, ◌==◌, true, List, [], ◌∷◌, set, refl, ap, sym, ◌∙◌, subst, inl, inr, arith, nat_lt, length-set, if◌then◌else◌}
+use Rattle.std.specs.List.{AllByRecursion}
+use Rattle.std.proofs.Math.Nat.{div-add-mod}
+use Rattle.std.proofs.Math.Path.{fun_ext}
+use Rattle.std.proofs.lemmas.Bool.{and_parts, cases_Bool, cases_eq, eq-eqb, eqb-true, ltb-true, ne_eqb}
+use Rattle.std.proofs.lemmas.List.{get_or-set_other, get_or-set_same}
+use Rattle.tw_core.specs.Steps.{put}
+use Rattle.tw_event.specs.declared.event.Event.{Event}
+use Rattle.tw_model.specs.Case.{Case, simulation}
+use Rattle.tw_model.specs.Effect.{effect, suits}
+use Rattle.tw_model.specs.State.{State}
+use Rattle.tw_shard.specs.Shard.{IsWhole, Shard, no_timeline, owns, place, timeline}
+use Rattle.tw_shard.specs.Timeline.{Timeline, known}
+use Rattle.tw_sim.specs.declared.machine.Signed.{Signed}
+use Rattle.tw_sim.specs.Simulation.{state}
+
+-- what a router knows, as the simulation has it
+pub known_state : (case : Case) (v : ℕ) (h : List Event) → known case.net v h ≡ state (simulation case) v h
+known_state case v [] = refl
+known_state case v (e ∷ older) = ap (λ (s : State). (effect case.net e.dst s e).state) (known_state case v older)
+
+-- one of the shard's routers is one of the case's, and the worker's
+pub owns_parts : (s : Shard) (r : ℕ) → owns s r ≡ true → (r < s.case.net.nodes) × (r % s.workers ≡ s.worker)
+owns_parts s r h =
+    let p = and_parts (nat_lt r s.case.net.nodes) (r % s.workers == s.worker) h in
+    (ltb-true r s.case.net.nodes p.0, eqb-true (r % s.workers) s.worker p.1)
+
+-- each of them has its own place
+pub own_place : (s : Shard) (q r : ℕ) → owns s q ≡ true → owns s r ≡ true → place s q ≡ place s r → q ≡ r
+own_place s q r mine ours same =
+    let one = (owns_parts s q mine).1 in
+    let two = (owns_parts s r ours).1 in
+    sym (div-add-mod q s.workers) ∙ ((λ i. s.workers * same i + (one ∙ sym two) i) ∙ div-add-mod r s.workers)
+
+-- the shard with another timeline of router r, and other lists
+abbrev pub changed : Shard → ℕ → Timeline → List Event → List (Signed Event) → Shard
+changed s r t pending outgoing = record s { timelines = set s.timelines (place s r) t; pending = pending; outgoing = outgoing }
+
+module _ (s : Shard) (r : ℕ) (t : Timeline) (pending : List Event) (outgoing : List (Signed Event)) (whole : IsWhole s) (mine : owns s r ≡ true) where
+  abbrev after : Shard
+  after = changed s r t pending outgoing
+
+  pub timeline_here : timeline after r ≡ t
+  timeline_here = get_or-set_same s.timelines (place s r) t no_timeline (whole.routers r mine).within
+
+  pub timeline_other : (q : ℕ) → owns s q ≡ true → (q ≡ r → ⊥) → timeline after q ≡ timeline s q
+  timeline_other q ours apart = get_or-set_other s.timelines (place s r) (place s q) t no_timeline (λ same. apart (own_place s q r ours mine same))
+
+  -- a fact of router r's new timeline and of the others' is one of each
+  pub each_timeline : (P : ℕ → Timeline → Type 0) → P r t → ((q : ℕ) → owns s q ≡ true → P q (timeline s q)) → (q : ℕ) → owns s q ≡ true → P q (timeline after q)
+  each_timeline P new old q ours =
+      elim (cases_eq q r) [
+        | inl is ↦ subst (λ p. P p (timeline after p)) (sym is) (subst (P r) (sym timeline_here) new)
+        | inr apart ↦ subst (P q) (sym (timeline_other q ours apart)) (old q ours)
+      ]
+
+  -- what is read of each router is put at this one
+  pub read_put : {A : Type 0} (read : Timeline → A) (none : A)
+      → (λ q. if owns after q then read (timeline after q) else none) ≡ put (λ q. if owns s q then read (timeline s q) else none) r (read t)
+  read_put read none =
+      fun_ext (λ q. elim (cases_eq q r) [
+        | inl is ↦ subst (λ p. (if owns s p then read (timeline after p) else none) ≡ put (λ q. if owns s q then read (timeline s q) else none) r (read t) p) (sym is)
+            (rw (mine, eq-eqb r r refl) (ap read timeline_here))
+        | inr apart ↦ rw (ne_eqb q r apart) (elim (cases_Bool (owns s q)) [
+          | inl ours ↦ rw ours (ap read (timeline_other q ours apart))
+          | inr not ↦ rw not refl
+        ])
+      ])
+
+  -- the shard stays whole
+  pub whole_after : t.net ≡ s.case.net → t.node ≡ r → t.done ≤ s.bound → AllByRecursion (λ e. suits s.case.net e.dst e ≡ true) pending → IsWhole after
+  whole_after net node done suit = record {
+    case = whole.case;
+    worker = whole.worker;
+    routers = λ q ours. record {
+      within = let k = (whole.routers q ours).within in let l = length-set s.timelines (place s r) t in omega arith;
+      net = each_timeline (λ p t. t.net ≡ s.case.net) net (λ p h. (whole.routers p h).net) q ours;
+      node = each_timeline (λ p t. t.node ≡ p) node (λ p h. (whole.routers p h).node) q ours;
+      done = each_timeline (λ p t. t.done ≤ s.bound) done (λ p h. (whole.routers p h).done) q ours;
+    };
+    pending = suit;
+  }
+
+-- putting what is there changes nothing
+pub put_same : {A : Type 0} (f : ℕ → A) (r : ℕ) (a : A) → f r ≡ a → put f r a ≡ f
+put_same f r a is =
+    fun_ext (λ q. elim (cases_eq q r) [
+      | inl same ↦ rw (eq-eqb q r same) (sym is ∙ ap f (sym same))
+      | inr apart ↦ rw (ne_eqb q r apart) refl
+    ])

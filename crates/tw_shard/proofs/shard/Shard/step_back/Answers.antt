@@ -1,0 +1,87 @@
+use Rattle.std.proofs.Common.{◌≡◌, refl, ap, sym, ◌∙◌, subst, true, false, set, get_or, map, ◌++◌}
+use Rattle.std.specs.Vec.{with_items}
+use Rattle.std.specs.List.{AllByRecursion}
+use Rattle.tw_event.specs.Order.{event_before}
+use Rattle.tw_sim.specs.Ordered.{insert}
+use Rattle.tw_sim.proofs.Ordered.{all-insert}
+use Rattle.tw_model.specs.Effect.{fits, suits}
+use Rattle.tw_shard.specs.Inside.{shard_of}
+use Rattle.tw_shard.specs.Shard.{IsUndone, no_timeline, owns, place, timeline}
+use Rattle.tw_shard.specs.Timeline.{Timeline, sends_after, signed}
+use Rattle.tw_shard.proofs.Fields.{changed_shard, fits_home, fits_suits, other_items}
+use Rattle.tw_shard.proofs.shard.Shard.step_back.Goals as goal
+
+pub invariant_of-self-3 : goal.invariant_of-self-3
+invariant_of-self-3 c =
+    let a = c.self.inside in
+    let s = shard_of a in
+    let r = c.args.router in
+    let e = c.in_ok-event.event in
+    let mine : owns s r ≡ true = subst (λ s. owns s r ≡ true) (sym c.self.view_is) c.requires.own in
+    let own = c.self.invariant.whole.routers r mine in
+    let at : c.place-place.result ≡ place s r = c.place-place.ensures.value in
+    let there : get_or c.deref_mut.result.now c.place-place.result no_timeline ≡ timeline s r = λ i. get_or (c.deref_mut.ensures.value i) (at i) no_timeline in
+    let undone = c.in_ok-event.ensures.ok in
+    let fit : fits (timeline s r).net (timeline s r).node e ≡ true = subst (λ (t : Timeline). fits t.net t.node e ≡ true) there c.in_ok-event.ensures.fits in
+    let suit : suits s.case.net e.dst e ≡ true = subst (λ net. suits net e.dst e ≡ true) own.net (fits_suits (timeline s r).net (timeline s r).node e fit) in
+    let inserted : c.insert.new.self.events ≡ insert event_before e c.reserve.new.self.events = rw c.unwrap.ensures at c.insert.ensures.ok in
+    let pending : c.insert.new.self.events ≡ insert event_before e a.pending.events = inserted ∙ ap (insert event_before e) c.reserve.ensures.events in
+    changed_shard a _ r (record (timeline s r) { ahead = undone.0 }) c.self.invariant mine (record {
+      case = refl;
+      worker = refl;
+      workers = refl;
+      timelines =
+          other_items a.timelines.len c.undo_at.new.timelines _ (c.undo_at.auto.timelines ∙ c.deref_mut.ensures.len)
+          ∙ (undone.2 ∙ λ i. set (c.deref_mut.ensures.value i) (at i) (record (there i) { ahead = undone.0 }));
+      kept = refl;
+      bound = refl;
+      pending_routers = c.insert.ensures.routers ∙ c.reserve.ensures.routers;
+      kept_routers = refl;
+    }) own.net own.node own.done
+    (subst (AllByRecursion (λ x. suits s.case.net x.dst x ≡ true)) (sym pending)
+    (all-insert event_before (λ x. suits s.case.net x.dst x ≡ true) e a.pending.events suit c.self.invariant.whole.pending))
+
+pub returns-clause-ok : goal.returns-clause-ok
+returns-clause-ok c =
+    let a = c.self.inside in
+    let s = shard_of a in
+    let r = c.args.router in
+    let e = c.in_ok-event.event in
+    let mine : owns s r ≡ true = subst (λ s. owns s r ≡ true) (sym c.self.view_is) c.requires.own in
+    let own = c.self.invariant.whole.routers r mine in
+    let at : c.place-place.result ≡ place s r = c.place-place.ensures.value in
+    let there : get_or c.deref_mut.result.now c.place-place.result no_timeline ≡ timeline s r = λ i. get_or (c.deref_mut.ensures.value i) (at i) no_timeline in
+    let fit : fits (timeline s r).net (timeline s r).node e ≡ true = subst (λ (t : Timeline). fits t.net t.node e ≡ true) there c.in_ok-event.ensures.fits in
+    let undone = c.in_ok-event.ensures.ok in
+    let inserted : c.insert.new.self.events ≡ insert event_before e c.reserve.new.self.events = rw c.unwrap.ensures at c.insert.ensures.ok in
+    let pending = inserted ∙ ap (insert event_before e) c.reserve.ensures.events in
+    let timelines =
+    other_items a.timelines.len c.undo_at.new.timelines _ (c.undo_at.auto.timelines ∙ c.deref_mut.ensures.len)
+    ∙ (undone.2 ∙ λ i. set (c.deref_mut.ensures.value i) (at i) (record (there i) { ahead = undone.0 })) in
+    let outgoing = undone.3 ∙ λ i. a.outgoing.items ++ map (signed false) (sends_after (there i) (undone.0 ++ (there i).past) e) in
+    subst (λ s. IsUndone r s (shard_of (record {
+      case = a.case;
+      worker = a.worker;
+      workers = a.workers;
+      timelines = with_items a.timelines c.undo_at.new.timelines;
+      pending = c.insert.new.self;
+      kept = a.kept;
+      outgoing = c.undo_at.new.outgoing;
+      sends = c.undo_at.new.sends;
+      bound = a.bound;
+    }))) c.self.view_is (
+      e,
+      undone.0,
+      ap (λ t. t.ahead) (sym there) ∙ undone.1,
+      fits_home (timeline s r).net (timeline s r).node e fit ∙ own.node,
+      λ i. record {
+        case = a.case.now;
+        worker = a.worker;
+        workers = a.workers;
+        timelines = timelines i;
+        pending = pending i;
+        kept = a.kept.events;
+        outgoing = outgoing i;
+        bound = a.bound;
+      },
+    )

@@ -1,0 +1,23 @@
+-- What the fields of a shard say, and what holds of them (own).
+use Rattle.std.specs.Prelude.{◌≡◌}
+use Rattle.tw_shard.specs.declared.shard.Shard.TheInside.{Inside}
+use Rattle.tw_shard.specs.Shard.{IsWhole, Shard}
+
+-- the shard that the fields stand for
+abbrev pub shard_of : Inside → Shard
+shard_of a = record {
+  case = a.case.now;
+  worker = a.worker;
+  workers = a.workers;
+  timelines = a.timelines.items;
+  pending = a.pending.events;
+  kept = a.kept.events;
+  outgoing = a.outgoing.items;
+  bound = a.bound;
+}
+
+-- it is whole, and what waits is for routers of the case
+pub record IsShard (a : Inside) : Type 0 where
+  pub whole : IsWhole (shard_of a)
+  pub pending : a.pending.routers ≡ a.case.now.net.nodes
+  pub kept : a.kept.routers ≡ a.case.now.net.nodes

@@ -1,0 +1,3 @@
+pub mod Timeline
+pub mod Shard
+pub mod Inside

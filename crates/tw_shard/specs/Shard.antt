@@ -1,0 +1,137 @@
+-- One worker's routers, seen as a machine of their own (after Jefferson, Virtual Time, 1985).
+use Rattle.std.specs.Prelude.{ℕ, ◌≡◌, ◌<◌, ◌≤◌, ◌/◌, ◌%◌, ◌==◌, Bool, true, false, ◌&&◌, List, [], ◌∷◌, ◌++◌, filter, length, map, nat_lt, slice_index_or, slice_set, Some, Result, Err, if◌then◌else◌}
+use Rattle.std.specs.List.{AllByRecursion}
+use Rattle.tw_core.specs.declared.refusal.Refusal.{Refusal}
+use Rattle.tw_core.specs.declared.refusal.Refusal.TheVariants.{NotMine}
+use Rattle.tw_core.specs.Machine.{Core}
+use Rattle.tw_core.specs.Steps.{first_pending, handle, is_newest, undo}
+use Rattle.tw_event.specs.declared.event.Event.{Event}
+use Rattle.tw_event.specs.Order.{event_before, event_same}
+use Rattle.tw_model.specs.Case.{Case, IsCase, opening_events, simulation}
+use Rattle.tw_model.specs.Effect.{suits}
+use Rattle.tw_shard.specs.Timeline.{Timeline, history, sends_after, signed}
+use Rattle.tw_sim.specs.declared.machine.Signed.{Signed}
+use Rattle.tw_sim.specs.Ordered.{insert, insert_all, take_out}
+
+-- the routers of one of so many workers, with what waits for them and what they have sent
+pub record Shard : Type 0 where
+  pub case : Case
+  pub worker : ℕ
+  pub workers : ℕ
+  -- its routers, by rising number
+  pub timelines : List Timeline
+  pub pending : List Event
+  -- the antimessages that came before their message
+  pub kept : List Event
+  -- what waits to be sent, in order
+  pub outgoing : List (Signed Event)
+  pub bound : ℕ
+
+-- whether r is one of its routers: routers are dealt out to workers in turn
+abbrev pub owns : Shard → ℕ → Bool
+owns s r = nat_lt r s.case.net.nodes && (r % s.workers == s.worker)
+
+-- where the timeline of router r stands
+abbrev pub place : Shard → ℕ → ℕ
+place s r = r / s.workers
+
+-- what stands where there is no router
+abbrev pub no_timeline : Timeline
+no_timeline = record { net = record { nodes = 0; links = []; lines = [] }; node = 0; ahead = []; past = []; done = 0 }
+
+-- router r, which is one of its own
+abbrev pub timeline : Shard → ℕ → Timeline
+timeline s r = slice_index_or s.timelines (place s r) no_timeline
+
+-- the shard as a machine of its own routers, to this stop: what it sends stays in flight
+abbrev pub core : ℕ → Shard → Core Event
+core stop s = record {
+  history = λ r. if owns s r then history (timeline s r) else [];
+  pending = s.pending;
+  kept = s.kept;
+  flight = s.outgoing;
+  done = λ r. if owns s r then (timeline s r).done else 0;
+  bound = s.bound;
+  stop = stop;
+}
+
+-- a machine of the routers of this worker of so many, which has handled nothing: the opening events for them are pending
+abbrev pub opening_core : Case → ℕ → ℕ → ℕ → Core Event
+opening_core case worker workers stop = record {
+  history = λ r. [];
+  pending = insert_all event_before (filter (λ e. e.dst % workers == worker) (opening_events case.scenes)) [];
+  kept = [];
+  flight = [];
+  done = λ r. 0;
+  bound = 0;
+  stop = stop;
+}
+
+-- a step at router r, refused where r is not one of its own
+abbrev pub at_own : Shard → ℕ → Result (Core Event) Refusal → Result (Core Event) Refusal
+at_own s r outcome = if owns s r then outcome else Err NotMine
+
+-- router r handles its first pending event
+abbrev pub handling : ℕ → Shard → ℕ → Result (Core Event) Refusal
+handling stop s r = let m = simulation s.case in at_own s r (handle m (core stop s) r (first_pending m (core stop s) r))
+
+-- router r undoes the newest event of its history
+abbrev pub undoing : ℕ → Shard → ℕ → Result (Core Event) Refusal
+undoing stop s r = let m = simulation s.case in at_own s r (undo m (core stop s) r ((core stop s).history r))
+
+-- the later shard has the same case, and is the same worker's
+pub record IsSameShare (s t : Shard) : Type 0 where
+  pub case : t.case ≡ s.case
+  pub worker : t.worker ≡ s.worker
+  pub workers : t.workers ≡ s.workers
+
+-- with another timeline of router r
+abbrev pub with_timeline : Shard → ℕ → Timeline → Shard
+with_timeline s r t = record s { timelines = slice_set s.timelines (place s r) t }
+
+-- router r has handled e, which was pending
+abbrev pub handled_at : Shard → ℕ → Event → Shard
+handled_at s r e = record s {
+  timelines = slice_set s.timelines (place s r) (record (timeline s r) { ahead = e ∷ (timeline s r).ahead });
+  pending = take_out event_same e s.pending;
+  outgoing = s.outgoing ++ map (signed true) (sends_after (timeline s r) (history (timeline s r)) e);
+}
+
+-- router r has undone e, its newest event, of which older are those that it can undo as well
+abbrev pub undone_at : Shard → ℕ → Event → List Event → Shard
+undone_at s r e older = record s {
+  timelines = slice_set s.timelines (place s r) (record (timeline s r) { ahead = older });
+  pending = insert event_before e s.pending;
+  outgoing = s.outgoing ++ map (signed false) (sends_after (timeline s r) (older ++ (timeline s r).past) e);
+}
+
+-- e is what router r is to handle next, to this stop, if no counter is full
+pub record IsNext (stop : ℕ) (s : Shard) (r : ℕ) (e : Event) : Type 0 where
+  -- r is one of its own
+  pub own : owns s r ≡ true
+  -- e is its first pending event
+  pub first : first_pending (simulation s.case) (core stop s) r ≡ Some e
+  -- before the stop
+  pub soon : e.time < stop
+  -- it is not the event that r handled last
+  pub new : is_newest (simulation s.case) e (history (timeline s r)) ≡ false
+  -- and suits it
+  pub suit : suits s.case.net r e ≡ true
+
+-- router r has undone its newest event
+abbrev pub IsUndone : ℕ → Shard → Shard → Type 0
+IsUndone r s t = (e : Event) × (older : List Event) × ((timeline s r).ahead ≡ e ∷ older) × (e.dst ≡ r) × (t ≡ undone_at s r e older)
+
+-- a router of the shard's: there is a timeline for it, whose latest commit was not beyond the bound
+pub record IsOwn (s : Shard) (r : ℕ) : Type 0 where
+  pub within : place s r < length s.timelines
+  pub net : (timeline s r).net ≡ s.case.net
+  pub node : (timeline s r).node ≡ r
+  pub done : (timeline s r).done ≤ s.bound
+
+-- each of its routers is there, and what is pending suits its receiver
+pub record IsWhole (s : Shard) : Type 0 where
+  pub case : IsCase s.case
+  pub worker : s.worker < s.workers
+  pub routers : (r : ℕ) → owns s r ≡ true → IsOwn s r
+  pub pending : AllByRecursion (λ e. suits s.case.net e.dst e ≡ true) s.pending

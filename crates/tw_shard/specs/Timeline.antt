@@ -1,0 +1,70 @@
+-- A router with the events that it has handled and not undone (after Jefferson, Virtual Time, 1985).
+use Rattle.std.specs.Prelude.{ℕ, ◌≡◌, ◌<◌, Bool, List, [], ◌∷◌, ◌++◌, map, reverse}
+use Rattle.std.specs.List.{AllByRecursion}
+use Rattle.tw_event.specs.declared.event.Event.{Event}
+use Rattle.tw_handlers.specs.Record.{IsHandled}
+use Rattle.tw_model.specs.Effect.{effect}
+use Rattle.tw_model.specs.Net.{Net}
+use Rattle.tw_model.specs.State.{Router, State, opening}
+use Rattle.tw_shard.specs.declared.timeline.HandledEvent.{HandledEvent}
+use Rattle.tw_shard.specs.declared.timeline.Timeline.TheInside.{Inside}
+use Rattle.tw_sim.specs.declared.machine.Signed.{Signed}
+
+-- the router of this number, the events that it can undo and those that are committed, the newest first, and the bound at its latest commit
+pub record Timeline : Type 0 where
+  pub net : Net
+  pub node : ℕ
+  pub ahead : List Event
+  pub past : List Event
+  pub done : ℕ
+
+-- all that the router has handled and not undone
+abbrev pub history : Timeline → List Event
+history t = t.ahead ++ t.past
+
+-- what a router knows after a history
+abbrev pub known : Net → ℕ → List Event → State
+known net v [] = opening net v
+known net v (e ∷ older) = (effect net e.dst (known net v older) e).state
+
+-- the router as its history leaves it
+abbrev pub router_of : Timeline → Router
+router_of t = record { net = t.net; node = t.node; state = known t.net t.node (history t) }
+
+-- nothing is handled
+abbrev pub opening_timeline : Net → ℕ → Timeline
+opening_timeline net v = record { net = net; node = v; ahead = []; past = []; done = 0 }
+
+-- what e sends, or sent, after this history
+abbrev pub sends_after : Timeline → List Event → Event → List Event
+sends_after t older e = (effect t.net t.node (known t.net t.node older) e).sends
+
+-- e as a message, or as its antimessage
+abbrev pub signed : Bool → Event → Signed Event
+signed plus e = record { plus = plus; event = e }
+
+-- the events of steps
+abbrev pub events_of : List HandledEvent → List Event
+events_of steps = map (λ d. d.event) steps
+
+-- each event, the newest first, was handled with its record after the older ones
+abbrev pub AreNoted : Net → ℕ → List Event → List HandledEvent → Type 0
+AreNoted net v past [] = Unit {0}
+AreNoted net v past (d ∷ older) =
+    IsHandled net v (known net v (events_of older ++ past)) d.event d.note (known net v (d.event ∷ events_of older ++ past)) × AreNoted net v past older
+
+-- the timeline that the fields stand for
+abbrev pub timeline_of : Inside → Timeline
+timeline_of a = record {
+  net = a.router.net;
+  node = a.router.node;
+  ahead = events_of (reverse a.ahead.items);
+  past = reverse a.past.items;
+  done = a.done;
+}
+
+-- the router and the records are those of the history, and committed events are before the bound at the latest commit
+pub record IsTimeline (a : Inside) : Type 0 where
+  pub state : a.router.state ≡ known a.router.net a.router.node (history (timeline_of a))
+  pub noted : AreNoted a.router.net a.router.node (reverse a.past.items) (reverse a.ahead.items)
+  pub past : AllByRecursion (λ e. e.time < a.done) (reverse a.past.items)

@@ -1,0 +1,318 @@
+ghost use Rattle.std.specs.Prelude.{◌≡◌, ◌≤◌, ◌<◌, ◌/◌, [], length, max, slice_get, slice_index_or, slice_set, true, false, ℕ, IfOk, IfNone, IfSome, IsErrOf, IsTrue, OnErr, OnOk, ◌↔◌, Err, Ok, ◌++◌, ◌∷◌, map, List};
+ghost use Rattle.tw_core.specs.declared.refusal.Refusal.{Refusal as ARefusal};
+ghost use Rattle.std.specs.Result.{result_and};
+ghost use Rattle.tw_core.specs.Steps.{first_pending, with_commit};
+ghost use Rattle.tw_handlers.specs.Calls.{counter_full, is_full_at};
+ghost use Rattle.tw_event.specs.declared.event.Event.{Event as AnEvent};
+ghost use Rattle.tw_model.specs.declared.limits.TheConstants.{LATEST};
+ghost use Rattle.tw_model.specs.declared.memory.OrMemory.TheVariants as or_memory;
+ghost use Rattle.tw_model.specs.Case.{simulation};
+ghost use Rattle.tw_model.specs.Effect.{fits, suits};
+ghost use Rattle.tw_model.specs.Rules.{IsNet};
+ghost use Rattle.tw_shard.specs.Shard.{IsSameShare, IsUndone, IsWhole, IsNext, core, handled_at, handling, no_timeline, owns, place, timeline, undoing};
+ghost use Rattle.tw_shard.specs.Timeline.{history, router_of, sends_after, signed};
+
+use crate::timeline::Timeline;
+use smallvec::SmallVec;
+use std::alloc::{AllocError, Global};
+use std::marker::Model;
+use std::mem;
+use tw_core::Refusal;
+use tw_event::Event;
+use tw_handlers::CounterFull;
+use tw_instance::Case;
+use tw_model::OrMemory;
+use tw_queue::Pending;
+use tw_router::Router;
+use tw_sim::Signed;
+
+/// One worker's routers, which run ahead of the others and are rolled back.
+#[derive(Drop)]
+pub struct Shard<'a> {
+    case: &'a Case,
+    worker: u32,
+    workers: u32,
+    timelines: Vec<Timeline<'a>>,
+    pending: Pending,
+    kept: Pending,
+    outgoing: Vec<Signed<Event>>,
+    sends: SmallVec<Event, 8>,
+    bound: u64,
+}
+
+impl<'a> Model for Shard<'a> {
+    ghost use Rattle.tw_shard.specs.Shard as spec;
+    ghost use Rattle.tw_shard.specs.Inside.{IsShard, shard_of};
+
+    ghost Value = { spec.Shard };
+
+    ghost view = { shard_of };
+
+    ghost invariant = { IsShard };
+}
+
+impl<'a> Shard<'a> {
+    /// What its routers have sent and taken back, in that order, which leaves the shard.
+    pub fn take_out(&mut self) -> Vec<Signed<Event>>
+        ensures value { result.items ≡ self.old.outgoing }
+        ensures rest { self.new ≡ record self.old { outgoing = [] } }
+    {
+        let alloc = *self.outgoing.allocator();
+        mem::replace(&mut self.outgoing, Vec::new(alloc))
+    }
+
+    /// Whether this router is one of the shard's.
+    fn owns(&self, router: u32) -> bool
+        ensures value { result ≡ owns self.now router }
+        ensures whole { IsWhole self.now }
+    {
+        router < self.case.instance().nodes() && router % self.workers == self.worker
+    }
+
+    /// Where the timeline of one of its routers stands.
+    fn place(&self, router: u32) -> usize
+        requires { owns self.now router ≡ true }
+        ensures value { result ≡ place self.now router }
+        ensures within { result < length self.now.timelines }
+        ensures whole { IsWhole self.now }
+    {
+        (router / self.workers) as usize
+    }
+
+    /// The timeline of one of its routers.
+    fn timeline(&self, router: u32) -> &Timeline<'a>
+        requires { owns self.now router ≡ true }
+        ensures value { result.now ≡ timeline self.now router }
+        ensures whole { IsWhole self.now }
+    {
+        &self.timelines[self.place(router)]
+    }
+
+    /// The events that wait for its routers.
+    pub fn pending(&self) -> &Pending
+        ensures { result.now.events ≡ self.now.pending }
+    {
+        &self.pending
+    }
+
+    /// The antimessages that came before their message.
+    pub fn kept(&self) -> &Pending
+        ensures { result.now.events ≡ self.now.kept }
+    {
+        &self.kept
+    }
+
+    /// What its routers have sent and taken back, in that order.
+    pub fn outgoing(&self) -> &[Signed<Event>]
+        ensures { result.now ≡ self.now.outgoing }
+    {
+        &self.outgoing
+    }
+
+    /// The time before which nothing arrives and nothing is undone, in ticks.
+    pub fn bound(&self) -> u64
+        ensures { result ≡ self.now.bound }
+    {
+        self.bound
+    }
+
+    /// One of its routers, as the events that it has handled left it.
+    pub fn router(&self, router: u32) -> &Router<'a>
+        requires { owns self.now router ≡ true }
+        ensures { result.now ≡ router_of (timeline self.now router) }
+    {
+        self.timeline(router).router()
+    }
+
+    /// The bound at the latest commit of one of its routers.
+    pub fn done(&self, router: u32) -> u64
+        requires { owns self.now router ≡ true }
+        ensures { result ≡ (timeline self.now router).done }
+    {
+        self.timeline(router).done()
+    }
+
+    /// The bound becomes the greater of itself and this one.
+    pub fn raise_bound(&mut self, bound: u64)
+        ensures { self.new ≡ record self.old { bound = max self.old.bound bound } }
+    {
+        self.bound = self.bound.max(bound);
+    }
+
+    /// A router undoes the event that it handled last: it becomes pending again, and antimessages of what
+    /// it had sent go out, in the order sent.
+    ///
+    /// It is refused as `NotMine` where the router is none of the shard's, as `Nothing` where it has
+    /// handled nothing, and as `Committed` where the event lies before the bound. After a refusal and for
+    /// want of memory nothing has changed.
+    pub fn undo_last(&mut self, router: u32) -> Result<(), OrMemory<Refusal>>
+        ensures ok { (stop : ℕ) → OnOk result (undoing stop self.old router ≡ Ok (core stop self.new)) }
+        ensures refused { (stop : ℕ) (f : ARefusal) → IsErrOf result (or_memory.Fault f) ↔ (undoing stop self.old router ≡ Err f) }
+        ensures err { OnErr result (self.new ≡ self.old) }
+        ensures same { IsSameShare self.old self.new }
+    {
+        if let Err(refusal) = self.may_undo(router) {
+            return Err(OrMemory::Fault(refusal));
+        }
+        self.step_back(router)?;
+        Ok(())
+    }
+
+    /// Whether a router has an event to undo.
+    fn may_undo(&self, router: u32) -> Result<(), Refusal>
+        ensures told { (stop : ℕ) → result ≡ result_and (undoing stop self.now router) (Ok tt) }
+        ensures own { OnOk result (owns self.now router ≡ true) }
+        ensures some { OnOk result (0 < length (timeline self.now router).ahead) }
+        ensures whole { IsWhole self.now }
+    {
+        if !self.owns(router) {
+            return Err(Refusal::NotMine);
+        }
+        match self.timeline(router).newest() {
+            None => Err(Refusal::Nothing),
+            Some(event) if event.time < self.bound => Err(Refusal::Committed),
+            Some(_) => Ok(()),
+        }
+    }
+
+    /// A router handles its first pending event: what it sends goes out, in the order sent. The stop is at
+    /// most 1,000,000,000.
+    ///
+    /// It is refused as `NotMine` where the router is none of the shard's, as `Nothing` where none of its
+    /// pending events is before the stop, as `Double` where the first of them equals the event that it
+    /// handled last, and as `CounterFull` where a counter of the router would pass its limit. After a
+    /// refusal and for want of memory nothing has changed.
+    pub fn handle_next(&mut self, router: u32, stop: u64) -> Result<(), OrMemory<Refusal>>
+        requires { stop ≤ LATEST }
+        ensures ok { OnOk result (handling stop self.old router ≡ Ok (core stop self.new)) }
+        ensures refused { (f : ARefusal) → IsErrOf result (or_memory.Fault f) ↔ (handling stop self.old router ≡ Err f) }
+        ensures err { OnErr result (self.new ≡ self.old) }
+        ensures same { IsSameShare self.old self.new }
+    {
+        let event = match self.next(router, stop) {
+            Ok(event) => event,
+            Err(refusal) => return Err(OrMemory::Fault(refusal)),
+        };
+        match self.step_on(router, &event) {
+            Ok(()) => Ok(()),
+            Err(OrMemory::Fault(_)) => Err(OrMemory::Fault(Refusal::CounterFull)),
+            Err(OrMemory::Memory) => Err(OrMemory::Memory),
+        }
+    }
+
+    /// The event that a router is to handle next, unless a counter is full.
+    fn next(&self, router: u32, stop: u64) -> Result<Event, Refusal>
+        ensures err { (f : ARefusal) → IsErrOf result f → handling stop self.now router ≡ Err f }
+        ensures ok { IfOk result (λ e. IsNext stop self.now router e) }
+        ensures whole { IsWhole self.now }
+    {
+        if !self.owns(router) {
+            return Err(Refusal::NotMine);
+        }
+        match self.first_pending(router) {
+            Some(event) if event.time < stop => {
+                if self.timeline(router).is_newest(&event) {
+                    Err(Refusal::Double)
+                } else {
+                    Ok(event)
+                }
+            }
+            _ => Err(Refusal::Nothing),
+        }
+    }
+
+    /// The first pending event of a router.
+    fn first_pending(&self, router: u32) -> Option<Event>
+        ensures value { result ≡ first_pending (simulation self.now.case) (core 0 self.now) router }
+        ensures suits { IfSome result (λ e. IsTrue (suits self.now.case.net router e)) }
+        ensures whole { IsWhole self.now }
+    {
+        // The events of a queue are in order, which this read tells.
+        if self.pending.len() == 0 {
+            return None;
+        }
+        self.pending.least_at(router)
+    }
+
+    /// One of its routers handles an event, which is pending.
+    fn step_on(&mut self, router: u32, event: &Event) -> Result<(), OrMemory<CounterFull>>
+        requires own { owns self.old router ≡ true }
+        requires fits { IsTrue (fits self.old.case.net router event.now) }
+        ensures ok { OnOk result (self.new ≡ handled_at self.old router event.now) }
+        ensures err { OnErr result (self.new ≡ self.old) }
+        ensures full { IsErrOf result (or_memory.Fault counter_full)
+            ↔ IsTrue (is_full_at (router_of (timeline self.old router)) event.now) }
+    {
+        let place = self.place(router);
+        handle_at(
+            &mut self.timelines,
+            place,
+            event,
+            &mut self.sends,
+            &mut self.outgoing,
+        )?;
+        self.pending.remove_one(event);
+        Ok(())
+    }
+
+    /// One of its routers undoes the newest event that it can undo.
+    fn step_back(&mut self, router: u32) -> Result<(), AllocError>
+        requires own { owns self.old router ≡ true }
+        requires some { 0 < length (timeline self.old router).ahead }
+        ensures ok { OnOk result (IsUndone router self.old self.new) }
+        ensures err { OnErr result (self.new ≡ self.old) }
+    {
+        self.pending.reserve(1)?;
+        let place = self.place(router);
+        let event = undo_at(
+            &mut self.timelines,
+            place,
+            &mut self.sends,
+            &mut self.outgoing,
+        )?;
+        self.pending.insert(event).unwrap();
+        Ok(())
+    }
+}
+
+/// The timeline at a place handles an event.
+fn handle_at(
+    timelines: &mut [Timeline<'_>],
+    place: usize,
+    event: &Event,
+    sends: &mut SmallVec<Event, 8>,
+    outgoing: &mut Vec<Signed<Event>>,
+) -> Result<(), OrMemory<CounterFull>>
+    requires within { place < length timelines.old }
+    requires fits { let t = slice_index_or timelines.old place no_timeline in IsTrue (fits t.net t.node event.now) }
+    ensures ok { let t = slice_index_or timelines.old place no_timeline in
+        OnOk result (timelines.new ≡ slice_set timelines.old place (record t { ahead = event.now ∷ t.ahead })) }
+    ensures sends { let t = slice_index_or timelines.old place no_timeline in
+        OnOk result (outgoing.new.items ≡ outgoing.old.items ++ map (signed true) (sends_after t (history t) event.now)) }
+    ensures err { OnErr result (timelines.new ≡ timelines.old) }
+    ensures unsent { OnErr result (outgoing.new.items ≡ outgoing.old.items) }
+    ensures full { IsErrOf result (or_memory.Fault counter_full)
+        ↔ IsTrue (is_full_at (router_of (slice_index_or timelines.old place no_timeline)) event.now) }
+{
+    timelines[place].handle(event, sends, outgoing)
+}
+
+/// The timeline at a place undoes its newest event, which is answered.
+fn undo_at(
+    timelines: &mut [Timeline<'_>],
+    place: usize,
+    sends: &mut SmallVec<Event, 8>,
+    outgoing: &mut Vec<Signed<Event>>,
+) -> Result<Event, AllocError>
+    requires within { place < length timelines.old }
+    requires some { 0 < length (slice_index_or timelines.old place no_timeline).ahead }
+    requires net { IsNet (slice_index_or timelines.old place no_timeline).net }
+    ensures ok { let t = slice_index_or timelines.old place no_timeline in IfOk result (λ e. (older : List AnEvent) × (t.ahead ≡ e ∷ older)
+        × (timelines.new ≡ slice_set timelines.old place (record t { ahead = older }))
+        × (outgoing.new.items ≡ outgoing.old.items ++ map (signed false) (sends_after t (older ++ t.past) e))) }
+    ensures fits { let t = slice_index_or timelines.old place no_timeline in IfOk result (λ e. IsTrue (fits t.net t.node e)) }
+    ensures err { OnErr result (timelines.new ≡ timelines.old) }
+    ensures unsent { OnErr result (outgoing.new.items ≡ outgoing.old.items) }
+{
+    timelines[place].undo(sends, outgoing)
+}

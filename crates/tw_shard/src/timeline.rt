@@ -1,0 +1,213 @@
+ghost use Rattle.std.specs.Prelude.{◌≡◌, ◌+◌, ◌≤◌, ◌<◌, ◌↔◌, ◌++◌, ◌∷◌, ℕ, List, false, true, length, map, slice_get, vec_capacity, vec_len, IfOk, IsErrOf, IsTrue, OnErr, OnOk};
+ghost use Rattle.std.specs.List.{AllByRecursion};
+ghost use Rattle.tw_event.specs.declared.event.Event.{Event as AnEvent};
+ghost use Rattle.tw_core.specs.Steps.{is_newest};
+ghost use Rattle.tw_model.specs.Case.{Case as ACase, simulation};
+ghost use Rattle.tw_handlers.specs.Calls.{counter_full, is_full_at};
+ghost use Rattle.tw_model.specs.declared.memory.OrMemory.TheVariants as or_memory;
+ghost use Rattle.tw_model.specs.Effect.{effect, fits};
+ghost use Rattle.tw_model.specs.Rules.{IsNet};
+ghost use Rattle.tw_model.specs.State.{State as AState};
+ghost use Rattle.tw_handlers.specs.Record.{CameFrom};
+ghost use Rattle.tw_shard.specs.Timeline.{history, opening_timeline, router_of as router_of_timeline, sends_after, signed};
+
+use smallvec::SmallVec;
+use std::alloc::{AllocError, Global};
+use std::marker::Model;
+use tw_event::Event;
+use tw_handlers::{CounterFull, UndoRecord, handle_fitting, undo};
+use tw_instance::Instance;
+use tw_model::OrMemory;
+use tw_model::limits::MOST_LINKS;
+use tw_router::Router;
+use tw_sim::Signed;
+
+/// An event that was handled, and what undoing it needs.
+#[derive(Clone, Copy)]
+pub(crate) struct HandledEvent {
+    event: Event,
+    note: UndoRecord,
+}
+
+/// A router with the events that it has handled and not undone. Committed ones cannot be undone, so
+/// that they keep no record.
+#[derive(Drop)]
+pub(crate) struct Timeline<'a> {
+    router: Router<'a>,
+    past: Vec<Event>,
+    ahead: Vec<HandledEvent>,
+    done: u64,
+}
+
+impl<'a> Model for Timeline<'a> {
+    ghost use Rattle.tw_shard.specs.Timeline as spec;
+
+    ghost Value = { spec.Timeline };
+
+    ghost view = { spec.timeline_of };
+
+    ghost invariant = { spec.IsTimeline };
+}
+
+impl<'a> Timeline<'a> {
+    /// The router of this number before it has handled anything.
+    pub(crate) fn open(
+        alloc: Global,
+        instance: &'a Instance,
+        node: u32,
+    ) -> Result<Timeline<'a>, AllocError>
+        requires { node < instance.now.nodes }
+        ensures { IfOk result (λ timeline. timeline ≡ opening_timeline instance.now node) }
+    {
+        Ok(Timeline {
+            router: Router::new(alloc, instance, node)?,
+            past: Vec::new(alloc),
+            ahead: Vec::new(alloc),
+            done: 0,
+        })
+    }
+
+    /// The router as its history leaves it.
+    pub(crate) fn router(&self) -> &Router<'a>
+        ensures { result.now ≡ router_of_timeline self.now }
+    {
+        &self.router
+    }
+
+    /// The bound at the latest commit.
+    pub(crate) fn done(&self) -> u64
+        ensures { result ≡ self.now.done }
+    {
+        self.done
+    }
+
+    /// The event that it handled last and has not undone, whether committed or not.
+    pub(crate) fn newest(&self) -> Option<Event>
+        ensures value { result ≡ slice_get (history self.now) 0 }
+        ensures past { AllByRecursion (λ e. e.time < self.now.done) self.now.past }
+    {
+        match self.ahead.last() {
+            Some(handled) => Some(handled.event),
+            None => self.past.last().copied(),
+        }
+    }
+
+    /// Whether this is the event that it handled last and has not undone.
+    pub(crate) fn is_newest(&self, event: &Event) -> bool
+        ensures { (case : ACase) → result ≡ is_newest (simulation case) event.now (history self.now) }
+    {
+        match self.newest() {
+            Some(newest) => *event == newest,
+            None => false,
+        }
+    }
+
+    /// Handles an event, and posts what it sends.
+    pub(crate) fn handle(
+        &mut self,
+        event: &Event,
+        sends: &mut SmallVec<Event, 8>,
+        outgoing: &mut Vec<Signed<Event>>,
+    ) -> Result<(), OrMemory<CounterFull>>
+        requires { IsTrue (fits self.old.net self.old.node event.now) }
+        ensures ok { OnOk result (self.new ≡ record self.old { ahead = event.now ∷ self.old.ahead }) }
+        ensures sends { OnOk result
+            (outgoing.new.items ≡ outgoing.old.items ++ map (signed true) (sends_after self.old (history self.old) event.now)) }
+        ensures err { OnErr result (self.new ≡ self.old) }
+        ensures unsent { OnErr result (outgoing.new.items ≡ outgoing.old.items) }
+        ensures full { IsErrOf result (or_memory.Fault counter_full) ↔ IsTrue (is_full_at (router_of_timeline self.old) event.now) }
+    {
+        let instance = self.router.instance();
+        sends.clear();
+        let note = handle_fitting(instance, &mut self.router, event, sends)?;
+        if let Err(error) = make_room(&mut self.ahead, outgoing, sends.len()) {
+            take_back(instance, &mut self.router, event, note, sends);
+            return Err(OrMemory::from(error));
+        }
+        self.ahead.push_reserved(HandledEvent {
+            event: *event,
+            note,
+        });
+        post(outgoing, sends, true);
+        Ok(())
+    }
+
+    /// Undoes the newest event, and posts the antimessages of what it had sent.
+    pub(crate) fn undo(
+        &mut self,
+        sends: &mut SmallVec<Event, 8>,
+        outgoing: &mut Vec<Signed<Event>>,
+    ) -> Result<Event, AllocError>
+        requires some { 0 < length self.old.ahead }
+        requires net { IsNet self.old.net }
+        ensures ok { IfOk result (λ e. (older : List AnEvent) × (self.old.ahead ≡ e ∷ older)
+            × (self.new ≡ record self.old { ahead = older })
+            × (outgoing.new.items ≡ outgoing.old.items ++ map (signed false) (sends_after self.old (older ++ self.old.past) e))) }
+        ensures fits { IfOk result (λ e. IsTrue (fits self.old.net self.old.node e)) }
+        ensures err { OnErr result (self.new ≡ self.old) }
+        ensures unsent { OnErr result (outgoing.new.items ≡ outgoing.old.items) }
+    {
+        let instance = self.router.instance();
+        let last = self.ahead.len() - 1;
+        let newest = self.ahead[last];
+        outgoing.reserve(MOST_LINKS)?;
+        sends.clear();
+        undo(
+            instance,
+            &mut self.router,
+            &newest.event,
+            newest.note,
+            sends,
+        )?;
+        self.ahead.truncate(last);
+        post(outgoing, sends, false);
+        Ok(newest.event)
+    }
+}
+
+/// Makes room for one more event handled and for `count` more messages.
+fn make_room(
+    ahead: &mut Vec<HandledEvent>,
+    outgoing: &mut Vec<Signed<Event>>,
+    count: usize,
+) -> Result<(), AllocError>
+    ensures events { ahead.new.items ≡ ahead.old.items }
+    ensures place { OnOk result (vec_len ahead.new < vec_capacity ahead.new) }
+    ensures messages { outgoing.new.items ≡ outgoing.old.items }
+    ensures room { OnOk result (vec_len outgoing.new + count ≤ vec_capacity outgoing.new) }
+{
+    ahead.reserve(1)?;
+    outgoing.reserve(count)?;
+    Ok(())
+}
+
+/// Takes back the event that the router handled last. This cannot fail: the list that held what the event
+/// sent has room for it again.
+fn take_back(
+    instance: &Instance,
+    router: &mut Router<'_>,
+    event: &Event,
+    note: UndoRecord,
+    sends: &mut SmallVec<Event, 8>,
+)
+    requires own { instance.now ≡ router.old.net }
+    requires handled { (s : AState) × CameFrom router.old event.now note s
+        × (length (effect router.old.net router.old.node s event.now).sends ≤ sends.old.capacity) }
+    ensures { (s : AState) → CameFrom router.old event.now note s → router.new ≡ record router.old { state = s } }
+{
+    sends.clear();
+    undo(instance, router, event, note, sends).unwrap();
+}
+
+/// Adds events as messages, or as their antimessages, for which there is room.
+fn post(outgoing: &mut Vec<Signed<Event>>, events: &[Event], plus: bool)
+    requires { vec_len outgoing.old + length events.now ≤ vec_capacity outgoing.old }
+    ensures { outgoing.new.items ≡ outgoing.old.items ++ map (signed plus) events.now }
+{
+    for event in events {
+        outgoing.push_reserved(Signed {
+            plus,
+            event: *event,
+        });
+    }
+}
