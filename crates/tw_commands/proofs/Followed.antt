@@ -1,21 +1,19 @@
 -- A router that handles its events of a run once more: each is for it, and no counter is full.
-use Rattle.std.proofs.Common.{◌≡◌, ℕ, ◌≤◌, ◌<◌, ◌==◌, Bool, true, List, [], ◌∷◌, ◌++◌, reverse, refl, sym, ap, subst, ◌∙◌, inl, inr, arith, append_assoc, append-nil, nat_le}
-use Rattle.std.specs.List.{All, filter}
-use Rattle.std.proofs.lemmas.Bool.{and_from, cases_Bool, eqb-true}
+use Rattle.std.proofs.Common.{◌≡◌, ℕ, ◌≤◌, ◌<◌, ◌==◌, true, List, subst, arith, nat_le}
+use Rattle.std.specs.List.{All}
+use Rattle.std.proofs.lemmas.Bool.{and_from, eqb-true}
 use Rattle.std.proofs.lemmas.Bool.Decides.{nat_tests}
-use Rattle.std.proofs.lemmas.List.{reverse-append}
-use Rattle.std.proofs.lemmas.List.Elements.{filter-append}
 use Rattle.tw_commands.proofs.RunPaths.{logged_suits}
 use Rattle.tw_commands.specs.Trail.{events_at}
 use Rattle.tw_event.specs.declared.event.Event.{Event}
 use Rattle.tw_event.proofs.Order.{same_self}
 use Rattle.tw_model.specs.declared.limits.TheConstants.{LATEST}
 use Rattle.tw_model.specs.Case.{Case, IsCase, simulation}
-use Rattle.tw_model.specs.Effect.{effect, fits, suits}
+use Rattle.tw_model.specs.Effect.{fits, suits}
 use Rattle.tw_model.specs.History.{state_after}
 use Rattle.tw_model.specs.Net.{Net}
 use Rattle.tw_sim.specs.Seq.{log}
-use Rattle.tw_sim.specs.Simulation.{only, state, times}
+use Rattle.tw_sim.specs.Simulation.{times}
 use Rattle.tw_model.specs.State.{IsCounted, IsState, Router, opening}
 use Rattle.tw_sim.proofs.Closed.{running_seq}
 use Rattle.tw_sim.proofs.Counts.{times-reverse}

@@ -1,5 +1,5 @@
 -- A program whose command never gets stuck never stops by a full counter.
-use Rattle.std.proofs.Common.{◌≡◌, ◌⊎◌, ℕ, Bool, false, List, Option, Result, Ok, Err, inl, inr}
+use Rattle.std.proofs.Common.{ℕ, Bool, List, Option, Result, Ok, Err, inl, inr}
 use Rattle.tw_commands.specs.declared.cause.Cause.{Cause}
 use Rattle.tw_commands.specs.declared.cause.Cause.TheVariants.{Memory, CounterFull, Device}
 use Rattle.tw_commands.specs.declared.cause.Status.{Status}

@@ -1,5 +1,5 @@
 -- What a program leaves whose run did not reach its stop.
-use Rattle.std.proofs.Common.{◌≡◌, ℕ, Bool, false, List, Option, Err, Result, refl}
+use Rattle.std.proofs.Common.{◌≡◌, ℕ, Bool, false, List, Option, Err, refl}
 use Rattle.std.proofs.KnownBytes.{Keeps-refl}
 use Rattle.tw_commands.specs.Cause.{run_cause}
 use Rattle.tw_commands.specs.Output.{Leaves, Output}

@@ -73,7 +73,8 @@ undone_step net v s events keep n d h k =
     let front = take n events in
     let long : keep ≤ length front = omega (arith, length-take-le n events (omega arith)) in
     let parts : drop keep (take (suc n) events) ≡ drop keep front ++ get_or events n d ∷ [] = ap (drop keep) (take-suc events n d k) ∙ drop-append-le keep front (get_or events n d ∷ []) long in
-    let after : state_after net v kept (drop keep front) ≡ state_after net v s front = sym (fold-append (λ s e. (effect net v s e).state) s (take keep events) (drop keep front)) ∙ ap (state_after net v s) (take_both events keep n h) in
+    let after : state_after net v kept (drop keep front) ≡ state_after net v s front = sym (fold-append (λ s e. (effect net v s e).state) s (take keep events) (drop keep front))
+    ∙ ap (state_after net v s) (take_both events keep n h) in
     rw (parts, undone_more net v kept (drop keep front) (get_or events n d), after) refl
 
 shorter : (events : List Event) (left : ℕ) → left ≤ length events → take (length (take left events) - 1) (take left events) ≡ take (left - 1) events
@@ -108,7 +109,8 @@ fits_now t from events i d is h all = rw is (all i d h)
 
 -- and no counter is full there
 pub not_full_now : (t : History) (from : Router) (events : List Event) (i : ℕ) (d : Event) → t ≡ record { opening = from; events = take i events } → i < length events
-    → IsCounted (state_after from.net from.node from.state events).counters → is_full t.opening.net t.opening.node (state_after t.opening.net t.opening.node t.opening.state t.events) (get_or events i d) ≡ false
+    → IsCounted (state_after from.net from.node from.state events).counters
+    → is_full t.opening.net t.opening.node (state_after t.opening.net t.opening.node t.opening.state t.events) (get_or events i d) ≡ false
 not_full_now t from events i d is h within = rw is (never_full from.net from.node from.state events i d within h)
 
 written_whole : (now : Option (List ℕ)) (text : List ℕ) → Appends (Some []) now text → now ≡ Some text

@@ -15,12 +15,12 @@ sizes_line nodes links paths scenario =
     ∷ codes "scenario" ∷ decimal scenario ∷ [])
 
 -- how large a case is
-abbrev pub accepted : Case → Output
-accepted case = record {
+abbrev pub sizes_of : Case → Output
+sizes_of case = record {
   status = Done;
-  text = sizes_line case.net.nodes (length case.net.links) (length case.net.lines) (length case.scenes);
+  text = sizes_line case.net.nodes (length case.net.links) (length case.net.permitted) (length case.scenes);
 }
 
 -- how large the case of a text is, or why it has none
 abbrev pub check_output : List ℕ → Output
-check_output input = for_case accepted (case_of input)
+check_output input = for_case sizes_of (case_of input)

@@ -7,13 +7,13 @@ use Rattle.tw_text.specs.declared.text_fault.TextFault.{TextFault}
 use Rattle.tw_text.specs.FaultNames.{refusal_text}
 
 -- a refusal, with its text
-abbrev pub refused : List ℕ → Output
-refused text = record { status = Refused; text = text }
+abbrev pub refusal_output : List ℕ → Output
+refusal_output text = record { status = Refused; text = text }
 
 -- the output for the case of a text; where the text has none, its first faulty line and that line's lowest fault
 abbrev pub for_case : (Case → Output) → Result Case TextFault → Output
 for_case output (Ok case) = output case
-for_case output (Err fault) = refused (refusal_text fault ++ 10 ∷ [])
+for_case output (Err fault) = refusal_output (refusal_text fault ++ 10 ∷ [])
 
 -- the run of the case of a text gets stuck
 abbrev pub StuckFor : (Case → Type 0) → Result Case TextFault → Type 0

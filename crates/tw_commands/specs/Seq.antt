@@ -18,12 +18,12 @@ found_to case stop None = None
 found_to case stop (Some every) = finding case every (stop / every)
 
 -- the report of a run, with the verdict on it
-abbrev pub reported : Case → Bool → Summary → Option Finding → Output
-reported case log o found = record { status = Done; text = report_text case.net o (verdict_of o found) log }
+abbrev pub report_of : Case → Bool → Summary → Option Finding → Output
+report_of case log o found = record { status = Done; text = report_text case.net o (verdict_of o found) log }
 
 -- the report of the sequential run of the case to the stop
 abbrev pub seq_report : ℕ → Option ℕ → Bool → Case → Output
-seq_report stop every log case = reported case log (outcome_of (complete_run case stop)) (found_to case stop every)
+seq_report stop every log case = report_of case log (outcome_of (complete_run case stop)) (found_to case stop every)
 
 -- the report of the run of the case of a text, or why it has none
 abbrev pub seq_output : ℕ → Option ℕ → Bool → List ℕ → Output

@@ -4,7 +4,8 @@ use Rattle.std.specs.List.{filter, flat_map}
 use Rattle.tw_event.specs.declared.event.Event.{Event}
 use Rattle.tw_commands.specs.declared.cause.Status.TheVariants.{Done}
 use Rattle.tw_commands.specs.Output.{Output}
-use Rattle.tw_commands.specs.ForCase.{StuckFor, for_case, refused}
+use Rattle.tw_commands.specs.ForCase.{StuckFor, for_case, refusal_output}
+use Rattle.tw_handlers.specs.Trail.{History}
 use Rattle.tw_model.specs.Case.{Case}
 use Rattle.tw_model.specs.Net.{Net}
 use Rattle.tw_model.specs.State.{State, opening}
@@ -14,6 +15,10 @@ use Rattle.tw_report.specs.Lines.{event_words, router_words}
 use Rattle.tw_report.specs.Words.{line}
 use Rattle.tw_seq.specs.Run.{GetsStuck, complete_run}
 use Rattle.tw_text.specs.Reading.{case_of}
+
+-- the state of the trail's router after the first n events
+abbrev pub state_with : Net → History → ℕ → State
+state_with net t n = state_after net t.opening.node t.opening.state (take n t.events)
 
 -- how a router stands
 abbrev pub router_line : Net → ℕ → State → List ℕ
@@ -48,15 +53,15 @@ abbrev pub events_at : ℕ → List Event → List Event
 events_at v events = filter (λ e. e.dst == v) events
 
 -- router v handles its events of the run of the case to the stop; refused where the case has no such router
-abbrev pub followed : ℕ → ℕ → ℕ → Case → Output
-followed v stop keep case =
+abbrev pub trail_of : ℕ → ℕ → ℕ → Case → Output
+trail_of v stop keep case =
     if nat_lt v case.net.nodes
     then record { status = Done; text = trail_text case.net v (events_at v (complete_run case stop).events) keep }
-    else refused (line (codes "refused" ∷ codes "option" ∷ codes "N1" ∷ codes "Router" ∷ []))
+    else refusal_output (line (codes "refused" ∷ codes "option" ∷ codes "N1" ∷ codes "Router" ∷ []))
 
 -- the same for the case of a text, or why it has none
 abbrev pub trail_output : ℕ → ℕ → ℕ → List ℕ → Output
-trail_output v stop keep input = for_case (followed v stop keep) (case_of input)
+trail_output v stop keep input = for_case (trail_of v stop keep) (case_of input)
 
 -- the case has the router, and its run gets stuck
 abbrev pub FollowGetsStuck : ℕ → ℕ → Case → Type 0

@@ -1,5 +1,5 @@
 ghost use Rattle.std.specs.Prelude.{◌≡◌, false, OnOk};
-ghost use Rattle.tw_commands.specs.Check.{accepted};
+ghost use Rattle.tw_commands.specs.Check.{sizes_of};
 ghost use Rattle.tw_commands.specs.ForCase.{for_case};
 ghost use Rattle.tw_commands.specs.Output.{Answers};
 ghost use Rattle.tw_device.specs.Source.{LosesInput, TakesInput};
@@ -20,7 +20,7 @@ struct Check;
 impl Command for Check {
     ghost ready = { λ _. Unit {0} };
 
-    ghost output = { λ _ case. accepted case };
+    ghost output = { λ _ case. sizes_of case };
 
     ghost stuck = { λ _ _. ⊥ };
 
@@ -52,7 +52,7 @@ pub fn check_io<R: Source, W: Sink>(
 ) -> Result<Status, Cause>
     requires source { R.failed source.old ≡ false }
     requires sink { W.failed sink.old ≡ false }
-    ensures answer { Answers result (λ input. for_case accepted (case_of input)) (λ _. ⊥)
+    ensures answer { Answers result (λ input. for_case sizes_of (case_of input)) (λ _. ⊥)
         (R.remaining source.old) (W.written sink.old) (W.written sink.new) (R.failed source.new) (W.failed sink.new) }
     ensures read { OnOk result (LosesInput (R.remaining source.old) (R.remaining source.new)) }
     ensures most { TakesInput (R.remaining source.old) (R.remaining source.new) }

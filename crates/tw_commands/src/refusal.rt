@@ -1,5 +1,5 @@
 ghost use Rattle.std.specs.Prelude.{◌≡◌, ◌++◌, ◌∷◌, [], false};
-ghost use Rattle.tw_commands.specs.ForCase.{refused};
+ghost use Rattle.tw_commands.specs.ForCase.{refusal_output};
 ghost use Rattle.tw_commands.specs.Output.{Leaves};
 ghost use Rattle.tw_text.specs.FaultNames.{refusal_text};
 
@@ -12,7 +12,7 @@ use tw_text::TextFault;
 /// Writes where and why a text is refused.
 pub(crate) fn refuse<W: Sink>(sink: &mut W, fault: TextFault) -> Result<Status, Cause>
     requires { W.failed sink.old ≡ false }
-    ensures { Leaves result (refused (refusal_text fault ++ 10 ∷ [])) ⊥ (W.written sink.old) (W.written sink.new) (W.failed sink.new) }
+    ensures { Leaves result (refusal_output (refusal_text fault ++ 10 ∷ [])) ⊥ (W.written sink.old) (W.written sink.new) (W.failed sink.new) }
 {
     let (code, name) = (Name(fault.fault.code()), Name(fault.fault.name()));
     let line = Number(fault.line as u64);

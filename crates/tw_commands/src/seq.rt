@@ -34,7 +34,7 @@ impl Command for Seq {
 
     fn answer<W: Sink>(&self, alloc: Global, case: &Case, sink: &mut W) -> Result<Status, Cause> {
         let mut run = OneThread::new(alloc, case)?;
-        let found = run_to_stop(alloc, &mut run, self.stop, self.every)?;
+        let found = run_to_stop(&mut run, self.stop, self.every)?;
         let outcome = run.into_outcome()?;
         let verdict = Verdict::of(&outcome, found);
         write_report(sink, case.instance(), &outcome, verdict, self.log)?;
@@ -44,7 +44,6 @@ impl Command for Seq {
 
 /// Runs to the stop, and answers what was found at the checkpoints, the multiples of `every`.
 fn run_to_stop(
-    alloc: Global,
     run: &mut OneThread<'_>,
     stop: u64,
     every: Option<u64>,
@@ -57,7 +56,7 @@ fn run_to_stop(
     ensures full { IsErrOf result (or_memory.Fault counter_full) → GetsStuck run.old.case stop }
 {
     match every {
-        Some(every) => Ok(run.run_watched(alloc, stop, every)?.finding()),
+        Some(every) => Ok(run.run_watched(stop, every)?.finding()),
         None => {
             run.run_to(stop)?;
             Ok(None)

@@ -1,6 +1,6 @@
 ghost use Rattle.std.specs.Prelude.{◌≡◌, ◌≤◌, ◌<◌, false, IfOk, OnOk, Some};
 ghost use Rattle.tw_commands.specs.Output.{Answers, Leaves};
-ghost use Rattle.tw_commands.specs.Trail.{FollowGetsStuck, TrailGetsStuck, events_at as events_at_of, followed, trail_output, trail_text};
+ghost use Rattle.tw_commands.specs.Trail.{FollowGetsStuck, TrailGetsStuck, events_at as events_at_of, trail_of, trail_output, trail_text};
 ghost use Rattle.tw_device.specs.Source.{LosesInput, TakesInput};
 ghost use Rattle.tw_model.specs.declared.limits.TheConstants.{LATEST};
 ghost use Rattle.tw_seq.specs.Run.{complete_run};
@@ -27,7 +27,7 @@ struct Trail {
 impl Command for Trail {
     ghost ready = { λ trail. trail.stop ≤ LATEST };
 
-    ghost output = { λ trail case. followed trail.router trail.stop trail.keep case };
+    ghost output = { λ trail case. trail_of trail.router trail.stop trail.keep case };
 
     ghost stuck = { λ trail case. FollowGetsStuck trail.router trail.stop case };
 

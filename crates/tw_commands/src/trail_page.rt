@@ -1,7 +1,7 @@
 ghost use Rattle.std.specs.Prelude.{◌≡◌, ◌-◌, ◌<◌, [], ◌∷◌, ◌++◌, drop, false, length, take, true, IfOk, OnOk, Some};
 ghost use Rattle.std.specs.Io.KnownBytes.{Appends};
 ghost use Rattle.std.specs.List.{All};
-ghost use Rattle.tw_commands.specs.Trail.{router_line, send_line, send_lines, trail_text, undo_lines, undone_lines};
+ghost use Rattle.tw_commands.specs.Trail.{router_line, send_line, send_lines, state_with, trail_text, undo_lines, undone_lines};
 ghost use Rattle.tw_device.specs.Sink.{Puts};
 ghost use Rattle.tw_model.specs.Effect.{effect, fits};
 ghost use Rattle.tw_model.specs.History.{state_after};
@@ -139,7 +139,7 @@ fn undo_last(
     requires last { trail.old.events ≡ take (length trail.old.events - 1) trail.old.events ++ event.now ∷ [] }
     requires fits { All (λ e. fits instance.now trail.old.opening.node e ≡ true) trail.old.events }
     ensures lines { OnOk result (Appends page.old.written page.new.written
-        (undo_lines instance.now event.now (effect instance.now trail.old.opening.node (state_after instance.now trail.old.opening.node trail.old.opening.state (take (length trail.old.events - 1) trail.old.events)) event.now).sends)) }
+        (undo_lines instance.now event.now (effect instance.now trail.old.opening.node (state_with instance.now trail.old (length trail.old.events - 1)) event.now).sends)) }
     ensures trail { OnOk result (trail.new ≡ record trail.old { events = take (length trail.old.events - 1) trail.old.events }) }
     ensures still { OnOk result (page.new.failed ≡ false) }
 {

@@ -46,7 +46,7 @@ module _ {S E : Type 0} (m : Simulation S E) (law : IsLawful m) (owns : ℕ → 
       let handled = own_handling C done.event own there.1 in
       subst (IsOwn m owns) done.made (subst (λ q. IsOwn m owns (after_handling m C q done.event)) (eqb-true (m.dst done.event) r there.0) handled)
 
-  own_undoing : (C : Core E) (r : ℕ) (e : E) (older : List E) → m.dst e ≡ r → C.history r ≡ e ∷ older → IsOwn m owns C → IsOwn m owns (after_undoing m C r e older)
+  pub own_undoing : (C : Core E) (r : ℕ) (e : E) (older : List E) → m.dst e ≡ r → C.history r ≡ e ∷ older → IsOwn m owns C → IsOwn m owns (after_undoing m C r e older)
   own_undoing C r e older home newest own =
       let mine : owns r ≡ true = own.history r e (subst (λ xs. 0 < times m e xs) (sym newest) (in_head m law e older)) in
       record {

@@ -4,6 +4,7 @@ use Rattle.std.specs.Prelude.{ℕ, ◌+◌, ◌≡◌, cond, List, [], ◌∷◌
 use Rattle.tw_sim.specs.declared.machine.Signed.{Signed}
 use Rattle.tw_sim.specs.Simulation.{Simulation, below, one, times}
 
+-- the whole machine between two steps
 pub record Core (E : Type 0) : Type 0 where
   -- what each router has handled and not undone, the newest event first
   pub history : ℕ → List E

@@ -54,7 +54,11 @@ then_nothing Less = refl
 then_nothing Equal = refl
 then_nothing Greater = refl
 
-body_numbers : (a b : Body) (s n : Ordering) → ordering_then (nat_cmp (place_of (class_of a)) (place_of (class_of b))) (ordering_then s (ordering_then n (ordering_then (nat_cmp (first a) (first b)) (nat_cmp (second a) (second b))))) ≡ ordering_then (nat_cmp (place_of (class_of a)) (place_of (class_of b))) (ordering_then s (ordering_then n (body_cmp a b)))
+-- by class, then as s, n and o say
+abbrev by_class : Body → Body → Ordering → Ordering → Ordering → Ordering
+by_class a b s n o = ordering_then (nat_cmp (place_of (class_of a)) (place_of (class_of b))) (ordering_then s (ordering_then n o))
+
+body_numbers : (a b : Body) (s n : Ordering) → by_class a b s n (ordering_then (nat_cmp (first a) (first b)) (nat_cmp (second a) (second b))) ≡ by_class a b s n (body_cmp a b)
 unfolding first second
 body_numbers body.Start body.Start s n = refl
 body_numbers (body.Swap i j) (body.Swap k l) s n = refl
@@ -113,7 +117,8 @@ event_exact d e h =
     let class = then_equal _ _ dst.1 in
     let src = then_equal _ _ class.1 in
     let seq = then_equal _ _ src.1 in
-    same_parts d.time e.time d.dst e.dst d.src e.src d.seq e.seq d.body e.body (exact_unsigned _ _ time.0) (exact_unsigned _ _ dst.0) (exact_unsigned _ _ src.0) (exact_unsigned _ _ seq.0) (body_exact d.body e.body class.0 seq.1)
+    same_parts d.time e.time d.dst e.dst d.src e.src d.seq e.seq d.body e.body (exact_unsigned _ _ time.0) (exact_unsigned _ _ dst.0)
+    (exact_unsigned _ _ src.0) (exact_unsigned _ _ seq.0) (body_exact d.body e.body class.0 seq.1)
 
 lt_less : (o : Ordering) → is_lt o ≡ true → o ≡ Less
 lt_less Less h = refl

@@ -8,7 +8,7 @@ ghost use Rattle.tw_event.specs.contracts.event.RankOrd.TheImpl.Laws as rank_ord
 
 use std::cmp::Ordering;
 
-/// The number of a path: 0 is the empty path, 1 is (0), and the path of the k-th path line of an
+/// The number of a path: 0 is the empty path, 1 is (0), and the path of the k-th permitted path of an
 /// instance, from 1, has number k + 1. Numbers stand for paths of one instance alone.
 #[derive(Clone, Copy, PartialEq, Eq, PartialOrd, Ord, Hash, Debug)]
 pub struct PathNo(pub u32);

@@ -35,7 +35,7 @@ all_from P h (suc n) a each =
     let rest = all_from P h n (a + 1) (λ w low high. each w (omega arith) (omega arith)) in
     all_cons_option P (h a) (hops_from h (a + 1) n) (each a (omega arith) (omega arith)) rest
 
--- ---- a hop among others in rising number
+-- ---- a hop among others in ascending order
 
 pub length-with_hop : (x : Hop) (ys : List Hop) → length (with_hop x ys) ≡ suc (length ys)
 length-with_hop x [] = refl

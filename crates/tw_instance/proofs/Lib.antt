@@ -4,7 +4,7 @@ pub mod Finding
 pub mod Hashes
 pub mod Hops
 pub mod Links
-pub mod Lines
+pub mod Permitted
 pub mod Rows
 pub mod Facts
 pub mod Sound

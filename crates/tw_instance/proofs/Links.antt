@@ -9,7 +9,7 @@ use Rattle.std.specs.List.Sorted.{IsStrictlyIncreasing}
 use Rattle.tw_model.specs.declared.net.Hop.{Hop}
 use Rattle.tw_model.specs.declared.net.Link.{Link}
 use Rattle.tw_model.specs.declared.rule.Rule.TheVariants.{TwiceLink}
-use Rattle.tw_model.specs.Line.{Line}
+use Rattle.tw_model.specs.PermittedPath.{PermittedPath}
 use Rattle.tw_model.specs.Net.{Net, hops_of}
 use Rattle.tw_model.specs.State.{hop}
 use Rattle.tw_model.specs.Rules.{IsNet, LinksFollow, degree, is_linked, link_breaks, link_fault}
@@ -31,8 +31,8 @@ pub next_link : (net : Net) (l : Link) → link_fault net l ≡ None → IsNextL
 next_link net l h = let no = none_broken (link_breaks net l) h in record { good = is_link net l no; new = no TwiceLink }
 
 -- what links that follow one another keep holds after each, so at the end
-links_hold : (P : List Link → Type 0) (nodes : ℕ) → ((before : List Link) (l : Link) → link_fault (record { nodes = nodes; links = before; lines = [] }) l ≡ None → P before → P (before ++ l ∷ []))
-    → (before links : List Link) → LinksFollow (record { nodes = nodes; links = before; lines = [] }) links → P before → P (before ++ links)
+links_hold : (P : List Link → Type 0) (nodes : ℕ) → ((before : List Link) (l : Link) → link_fault (record { nodes = nodes; links = before; permitted = [] }) l ≡ None → P before → P (before ++ l ∷ []))
+    → (before links : List Link) → LinksFollow (record { nodes = nodes; links = before; permitted = [] }) links → P before → P (before ++ links)
 links_hold P nodes step before [] h p = subst P (sym (append-nil before)) p
 links_hold P nodes step before (l ∷ links) h p =
     subst P (append_assoc before (l ∷ []) links) (links_hold P nodes step (before ++ l ∷ []) links h.1 (step before l h.0 p))
@@ -74,19 +74,19 @@ are_counted_more net l next are_counted v =
     ]
 
 -- the paths don't matter for the neighbours
-pub hops_alike : (net : Net) (lines : List Line) (v : ℕ) → hops_of (record net { lines = lines }) v ≡ hops_of net v
+pub hops_alike : (net : Net) (paths : List PermittedPath) (v : ℕ) → hops_of (record net { permitted = paths }) v ≡ hops_of net v
 unfolding hops_of
-hops_alike net lines v = refl
+hops_alike net paths v = refl
 
-pub no_links : (nodes v : ℕ) → hops_of (record { nodes = nodes; links = []; lines = [] }) v ≡ []
+pub no_links : (nodes v : ℕ) → hops_of (record { nodes = nodes; links = []; permitted = [] }) v ≡ []
 unfolding hops_of
 no_links nodes v = none_there nodes 0 v
 
 pub are_counted : (net : Net) → IsNet net → AreCounted net
 are_counted net h v =
-    let start : AreCounted (record { nodes = net.nodes; links = []; lines = [] }) = λ u. ap length (no_links net.nodes u) in
-    let all = links_hold (λ links. AreCounted (record { nodes = net.nodes; links = links; lines = [] })) net.nodes
-    (λ before l no_fault so. are_counted_more (record { nodes = net.nodes; links = before; lines = [] }) l (next_link _ l no_fault) so) [] net.links h.links start in
+    let start : AreCounted (record { nodes = net.nodes; links = []; permitted = [] }) = λ u. ap length (no_links net.nodes u) in
+    let all = links_hold (λ links. AreCounted (record { nodes = net.nodes; links = links; permitted = [] })) net.nodes
+    (λ before l no_fault so. are_counted_more (record { nodes = net.nodes; links = before; permitted = [] }) l (next_link _ l no_fault) so) [] net.links h.links start in
     ap length (sym (hops_alike net [] v)) ∙ all v
 
 -- ---- what holds of each neighbour
@@ -102,7 +102,7 @@ rising_peers (h ∷ []) r k within = absurd (omega arith)
 rising_peers (h ∷ g ∷ hops) r zero within = r.0 g (inl refl)
 rising_peers (h ∷ g ∷ hops) r (suc k) within = let later = simp unary_clauses at (rising_peers (g ∷ hops) r.1 k (omega arith)) in simp unary_clauses later
 
--- the neighbours stand in rising number
+-- the neighbours stand in ascending order
 pub rising_hops : (net : Net) (v : ℕ) → IsStrictlyIncreasing (map (λ h. h.peer) (hops_of net v))
 rising_hops net v = rising_peers (hops_of net v) (hops_rises net v)
 

@@ -10,7 +10,7 @@ use Rattle.tw_model.proofs.Nets.{hops_few, nodes_within}
 use Rattle.tw_model.proofs.Paths.{own_is_path, path_exact, paths_own}
 use Rattle.tw_instance.specs.Hops.{AreDistinct, IsGoodHop}
 use Rattle.tw_instance.proofs.Links.{good_hops, rising_hops}
-use Rattle.tw_instance.proofs.Lines.{few_lines, length-paths, are_listed}
+use Rattle.tw_instance.proofs.Permitted.{few_permitted, length-paths, are_listed}
 
 -- what is known of router v
 pub record IsRouter (net : Net) (v : ℕ) : Type 0 where
@@ -48,6 +48,6 @@ is_whole net h = record {
   kept = h;
   some = (nodes_within net.nodes h.nodes).0;
   most = (nodes_within net.nodes h.nodes).1;
-  few_paths = (let few = few_lines net h in let n = length-paths net in omega arith);
+  few_paths = (let few = few_permitted net h in let n = length-paths net in omega arith);
   distinct = path_exact net h;
 }

@@ -1,20 +1,28 @@
 -- The items of an instance or of a case in the order in which they are judged, and what a build of them may answer (own).
-use Rattle.std.specs.Prelude.{ℕ, ◌+◌, ◌≡◌, List, [], ◌∷◌, ◌++◌, Option, Some, None, Result, Ok, Err, ◌⊎◌}
+use Rattle.std.specs.Prelude.{ℕ, ◌+◌, ◌≡◌, List, [], ◌∷◌, ◌++◌, Option, Some, None, Result, Ok, Err, ◌⊎◌, codes, decimal}
 use Rattle.std.specs.List.{All}
 use Rattle.tw_model.specs.declared.case.Scene.{Scene as AScene}
 use Rattle.tw_model.specs.declared.memory.OrMemory.TheVariants.{Fault, Memory}
 use Rattle.tw_model.specs.declared.net.Link.{Link as ALink}
 use Rattle.tw_model.specs.declared.rule.Rule.{Rule}
-use Rattle.tw_model.specs.Line.{Line}
+use Rattle.tw_model.specs.PermittedPath.{PermittedPath}
 use Rattle.tw_model.specs.Net.{Net}
-use Rattle.tw_model.specs.Rules.{line_fault, link_fault, nodes_fault, scene_fault}
+use Rattle.tw_model.specs.Rules.{link_fault, nodes_fault, path_fault, scene_fault}
 use Rattle.tw_instance.specs.declared.refusal.At.{At}
-use Rattle.tw_instance.specs.declared.refusal.Place.{Place}
-use Rattle.tw_instance.specs.declared.refusal.Place.TheVariants.{Nodes, Link, Path, Start, Scene}
+use Rattle.tw_instance.specs.declared.refusal.Item.{Item}
+use Rattle.tw_instance.specs.declared.refusal.Item.TheVariants.{Nodes, Link, Path, Start, Scene}
+
+-- the words of an item
+abbrev pub item_text : Item → List ℕ
+item_text Nodes = codes "nodes"
+item_text (Link n) = codes "link " ++ decimal n
+item_text (Path n) = codes "path " ++ decimal n
+item_text Start = codes "start"
+item_text (Scene n) = codes "scene " ++ decimal n
 
 -- an item, and the first rule that it breaks after the items before it
 abbrev pub JudgedItem : Type 0
-JudgedItem = Place × Option Rule
+JudgedItem = Item × Option Rule
 
 -- links that follow those of the net; the first of them is number k
 abbrev pub judged_links : Net → ℕ → List ALink → List JudgedItem
@@ -22,9 +30,9 @@ judged_links net k [] = []
 judged_links net k (l ∷ links) = (Link k, link_fault net l) ∷ judged_links (record net { links = net.links ++ l ∷ [] }) (k + 1) links
 
 -- permitted paths that follow those of the net; the first of them is number k
-abbrev pub judged_lines : Net → ℕ → List Line → List JudgedItem
-judged_lines net k [] = []
-judged_lines net k (p ∷ lines) = (Path k, line_fault net p) ∷ judged_lines (record net { lines = net.lines ++ p ∷ [] }) (k + 1) lines
+abbrev pub judged_paths : Net → ℕ → List PermittedPath → List JudgedItem
+judged_paths net k [] = []
+judged_paths net k (p ∷ paths) = (Path k, path_fault net p) ∷ judged_paths (record net { permitted = net.permitted ++ p ∷ [] }) (k + 1) paths
 
 -- scenes that follow so many others
 abbrev pub judged_scenes : Net → ℕ → List AScene → List JudgedItem
@@ -32,11 +40,11 @@ judged_scenes net count [] = []
 judged_scenes net count (s ∷ scenes) = (Scene (count + 1), scene_fault net count s) ∷ judged_scenes net (count + 1) scenes
 
 -- the items of a whole instance: the number of routers, the links, the permitted paths
-abbrev pub judged_instance : ℕ → List ALink → List Line → List JudgedItem
-judged_instance nodes links lines =
-    let of_links = judged_links (record { nodes = nodes; links = []; lines = [] }) 1 links in
-    let of_lines = judged_lines (record { nodes = nodes; links = links; lines = [] }) 1 lines in
-    (Nodes, nodes_fault nodes) ∷ of_links ++ of_lines
+abbrev pub judged_instance : ℕ → List ALink → List PermittedPath → List JudgedItem
+judged_instance nodes links paths =
+    let of_links = judged_links (record { nodes = nodes; links = []; permitted = [] }) 1 links in
+    let of_paths = judged_paths (record { nodes = nodes; links = links; permitted = [] }) 1 paths in
+    (Nodes, nodes_fault nodes) ∷ of_links ++ of_paths
 
 -- the items of a whole case: the start of the origin, which breaks no rule, and the scenes
 abbrev pub judged_case : Net → List AScene → List JudgedItem
@@ -49,8 +57,8 @@ NoneBreaks items = All (λ item. item.1 ≡ None) items
 -- a build was refused at the first item that breaks a rule, or at one before it, for which memory was refused
 abbrev pub IsRefusedAt : List JudgedItem → At → Type 0
 IsRefusedAt [] at = ⊥
-IsRefusedAt ((place, Some rule) ∷ items) at = at ≡ record { place = place; fault = Fault rule }
-IsRefusedAt ((place, None) ∷ items) at = (at ≡ record { place = place; fault = Memory }) ⊎ IsRefusedAt items at
+IsRefusedAt ((item, Some rule) ∷ items) at = at ≡ record { item = item; fault = Fault rule }
+IsRefusedAt ((item, None) ∷ items) at = (at ≡ record { item = item; fault = Memory }) ⊎ IsRefusedAt items at
 
 -- what was returned tells of these items: none breaks a rule, or where and why the build was refused
 abbrev pub TellsOf : {T : Type 0} → Result T At → List JudgedItem → Type 0

@@ -6,7 +6,7 @@ use Rattle.tw_instance.specs.Tables.{IsTable, tail_hashes_of}
 
 -- the net that an instance is: its routers, links and permitted paths
 abbrev pub net_of : Inside → Net
-net_of a = record { nodes = a.nodes; links = a.links.items; lines = a.paths.items }
+net_of a = record { nodes = a.nodes; links = a.links.items; permitted = a.paths.items }
 
 -- the net keeps the rules, and the tables are those of the net
 pub record IsInstance (a : Inside) : Type 0 where

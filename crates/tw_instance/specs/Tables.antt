@@ -37,7 +37,7 @@ tail_hashes_of net v = map (tail_hash net) (paths_of net v)
 abbrev pub push_at : {X : Type 0} → List (List X) → ℕ → X → List (List X)
 push_at rows v x = slice_set rows v (slice_index_or rows v [] ++ x ∷ [])
 
--- a hop among others in rising number
+-- a hop among others in ascending order
 abbrev pub with_hop : Hop → List Hop → List Hop
 with_hop = insert (λ h k. nat_lt h.peer k.peer)
 

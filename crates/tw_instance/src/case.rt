@@ -5,7 +5,7 @@ ghost use Rattle.tw_model.specs.Rules.{scene_fault};
 ghost use Rattle.tw_instance.specs.Build.{TellsOf, judged_case, judged_scenes};
 
 use crate::instance::Instance;
-use crate::refusal::{At, Place};
+use crate::refusal::{At, Item};
 use crate::{opening, rules};
 use std::alloc::{AllocError, Global};
 use std::marker::Model;
@@ -73,7 +73,7 @@ impl Case {
         ensures told { TellsOf result (judged_case instance scenes.items) }
     {
         let mut case = Case::new(alloc, instance).map_err(|error| At {
-            place: Place::Start,
+            item: Item::Start,
             fault: error.into(),
         })?;
         case.add_all(&scenes)?;
@@ -87,8 +87,8 @@ impl Case {
     {
         for (i, scene) in scenes.iter().enumerate() {
             if let Err(fault) = self.add(*scene) {
-                let place = Place::Scene(i + 1);
-                return Err(At { place, fault });
+                let item = Item::Scene(i + 1);
+                return Err(At { item, fault });
             }
         }
         Ok(())

@@ -5,19 +5,19 @@ ghost use Rattle.tw_event.specs.declared.event.PathNo.{PathNo as APathNo};
 ghost use Rattle.tw_model.specs.declared.limits.TheConstants.{LONGEST_DELAY, MOST_LINKS, MOST_PATHS, MOST_ROUTERS};
 ghost use Rattle.tw_model.specs.declared.rule.Rule.{Rule as ARule};
 ghost use Rattle.tw_model.specs.Net.{IsPath, empty_path, hops_of, is_own, origin_path, path, paths, paths_of, same_path};
-ghost use Rattle.tw_model.specs.Rules.{IsNet, line_fault, link_fault, nodes_fault};
+ghost use Rattle.tw_model.specs.Rules.{IsNet, link_fault, nodes_fault, path_fault};
 ghost use Rattle.tw_model.specs.State.{has_peer, hop, slot as slot_of};
-ghost use Rattle.tw_instance.specs.Build.{TellsOf, judged_instance, judged_lines, judged_links};
+ghost use Rattle.tw_instance.specs.Build.{TellsOf, judged_instance, judged_links, judged_paths};
 ghost use Rattle.tw_instance.specs.Hops.{AreDistinct, IsGoodHop};
 ghost use Rattle.tw_instance.specs.Tables.{hash, tail_hash, tail_hashes_of};
 
-use crate::refusal::{At, Place};
+use crate::refusal::{At, Item};
 use crate::{rules, tables};
 use std::alloc::Global;
 use std::marker::Model;
 use tw_event::PathNo;
 use tw_lanes::first_equal;
-use tw_model::{Hop, Link, OrMemory, PathLine, Rule};
+use tw_model::{Hop, Link, OrMemory, PermittedPath, Rule};
 
 /// An instance of the stable paths problem: routers, links with delays, and permitted paths.
 ///
@@ -26,8 +26,8 @@ use tw_model::{Hop, Link, OrMemory, PathLine, Rule};
 pub struct Instance {
     nodes: u32,
     links: Vec<Link>,
-    paths: Vec<PathLine>,
-    /// Of each router its neighbours, in rising number.
+    paths: Vec<PermittedPath>,
+    /// Of each router its neighbours, in ascending order.
     hops: Vec<Vec<Hop>>,
     /// Of each router its permitted paths, best first.
     permitted: Vec<Vec<PathNo>>,
@@ -50,7 +50,7 @@ impl Model for Instance {
 impl Instance {
     /// An instance of so many routers, 1 to 1,024, with no link and no permitted path.
     pub fn new(alloc: Global, nodes: u32) -> Result<Instance, OrMemory<Rule>>
-        ensures ok { IfOk result (λ i. i ≡ record { nodes = nodes; links = []; lines = [] }) }
+        ensures ok { IfOk result (λ i. i ≡ record { nodes = nodes; links = []; permitted = [] }) }
         ensures rule { (r : ARule) → (result ≡ Err (OrMemory.Fault r)) ↔ (nodes_fault nodes ≡ Some r) }
         ensures kept { OnOk result (nodes_fault nodes ≡ None) }
     {
@@ -88,13 +88,13 @@ impl Instance {
 
     /// Adds a permitted path, worse than those of its owner before it, or tells the first rule that it
     /// breaks. An error leaves the instance as it was.
-    pub fn add_path(&mut self, path: PathLine) -> Result<(), OrMemory<Rule>>
-        ensures ok { OnOk result (self.new ≡ record self.old { lines = self.old.lines ++ path ∷ [] }) }
-        ensures rule { (r : ARule) → (result ≡ Err (OrMemory.Fault r)) ↔ (line_fault self.old path ≡ Some r) }
-        ensures kept { OnOk result (line_fault self.old path ≡ None) }
+    pub fn add_path(&mut self, path: PermittedPath) -> Result<(), OrMemory<Rule>>
+        ensures ok { OnOk result (self.new ≡ record self.old { permitted = self.old.permitted ++ path ∷ [] }) }
+        ensures rule { (r : ARule) → (result ≡ Err (OrMemory.Fault r)) ↔ (path_fault self.old path ≡ Some r) }
+        ensures kept { OnOk result (path_fault self.old path ≡ None) }
         ensures err { OnErr result (self.new ≡ self.old) }
     {
-        if let Some(rule) = rules::line_fault(self, &path) {
+        if let Some(rule) = rules::path_fault(self, &path) {
             return Err(OrMemory::Fault(rule));
         }
         let number = PathNo(self.paths.len() as u32 + 2);
@@ -118,16 +118,16 @@ impl Instance {
         alloc: Global,
         nodes: u32,
         links: Vec<Link>,
-        paths: Vec<PathLine>,
+        paths: Vec<PermittedPath>,
     ) -> Result<Instance, At>
-        ensures ok { IfOk result (λ i. i ≡ record { nodes = nodes; links = links.items; lines = paths.items }) }
+        ensures ok { IfOk result (λ i. i ≡ record { nodes = nodes; links = links.items; permitted = paths.items }) }
         ensures told { TellsOf result (judged_instance nodes links.items paths.items) }
     {
         let mut instance = match Instance::new(alloc, nodes) {
             Ok(instance) => instance,
             Err(fault) => {
-                let place = Place::Nodes;
-                return Err(At { place, fault });
+                let item = Item::Nodes;
+                return Err(At { item, fault });
             }
         };
         instance.add_links(&links)?;
@@ -141,21 +141,21 @@ impl Instance {
     {
         for (i, link) in links.iter().enumerate() {
             if let Err(fault) = self.add_link(*link) {
-                let place = Place::Link(i + 1);
-                return Err(At { place, fault });
+                let item = Item::Link(i + 1);
+                return Err(At { item, fault });
             }
         }
         Ok(())
     }
 
-    fn add_paths(&mut self, paths: Vec<PathLine>) -> Result<(), At>
-        ensures ok { OnOk result (self.new ≡ record self.old { lines = self.old.lines ++ paths.items }) }
-        ensures told { TellsOf result (judged_lines self.old 1 paths.items) }
+    fn add_paths(&mut self, paths: Vec<PermittedPath>) -> Result<(), At>
+        ensures ok { OnOk result (self.new ≡ record self.old { permitted = self.old.permitted ++ paths.items }) }
+        ensures told { TellsOf result (judged_paths self.old 1 paths.items) }
     {
         for (i, path) in paths.into_iter().enumerate() {
             if let Err(fault) = self.add_path(path) {
-                let place = Place::Path(i + 1);
-                return Err(At { place, fault });
+                let item = Item::Path(i + 1);
+                return Err(At { item, fault });
             }
         }
         Ok(())
@@ -182,14 +182,14 @@ impl Instance {
     }
 
     /// The permitted paths, as they were given.
-    pub fn paths(&self) -> &[PathLine]
-        ensures value { result.now ≡ self.now.lines }
+    pub fn paths(&self) -> &[PermittedPath]
+        ensures value { result.now ≡ self.now.permitted }
         ensures net { IsNet self.now }
     {
         self.paths.as_slice()
     }
 
-    /// The neighbours of a router in rising number; none where there is no such router.
+    /// The neighbours of a router in ascending order; none where there is no such router.
     pub fn hops(&self, node: u32) -> &[Hop]
         ensures value { result.now ≡ hops_of self.now node }
         ensures net { IsNet self.now }

@@ -19,5 +19,5 @@ mod tables;
 
 pub use case::Case;
 pub use instance::Instance;
-pub use refusal::{At, Place};
-pub use tw_model::{Hop, Link, OrMemory, PathLine, Rule, Scene};
+pub use refusal::{At, Item};
+pub use tw_model::{Hop, Link, OrMemory, PermittedPath, Rule, Scene};

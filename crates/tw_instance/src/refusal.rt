@@ -1,10 +1,13 @@
+ghost use Rattle.std.specs.Prelude.{Some};
+ghost use Rattle.tw_instance.specs.Build.{item_text};
+
 use std::fmt::{self, Display, Formatter};
 use thiserror::Error;
 use tw_model::{OrMemory, Rule};
 
 /// An item of an instance or of a case.
 #[derive(Clone, Copy, PartialEq, Eq, Debug)]
-pub enum Place {
+pub enum Item {
     /// The number of routers.
     Nodes,
     /// A link, from 1.
@@ -17,14 +20,16 @@ pub enum Place {
     Scene(usize),
 }
 
-impl Display for Place {
+impl Display for Item {
+    ghost output = { λ item. Some (item_text item) };
+
     fn fmt<W: fmt::Write>(&self, f: &mut Formatter<W>) -> fmt::Result {
         match self {
-            Place::Nodes => write!(f, "nodes"),
-            Place::Link(number) => write!(f, "link {number}"),
-            Place::Path(number) => write!(f, "path {number}"),
-            Place::Start => write!(f, "start"),
-            Place::Scene(number) => write!(f, "scene {number}"),
+            Item::Nodes => write!(f, "nodes"),
+            Item::Link(number) => write!(f, "link {number}"),
+            Item::Path(number) => write!(f, "path {number}"),
+            Item::Start => write!(f, "start"),
+            Item::Scene(number) => write!(f, "scene {number}"),
         }
     }
 }
@@ -32,10 +37,10 @@ impl Display for Place {
 /// Where and why an instance or a case was not built: at the first item that was not taken. The
 /// items before it keep the rules.
 #[derive(Clone, Copy, PartialEq, Eq, Debug, Error)]
-#[error("{place}: {fault}")]
+#[error("{item}: {fault}")]
 pub struct At {
     /// The item.
-    pub place: Place,
+    pub item: Item,
     /// The first rule that the item breaks, or `Memory`, where it breaks none.
     pub fault: OrMemory<Rule>,
 }

@@ -7,9 +7,9 @@ ghost use Rattle.tw_model.specs.Net as net;
 ghost use Rattle.tw_model.specs.Rules as defined;
 
 use crate::instance::Instance;
-use tw_model::{Hop, Link, PathLine, Rule, Scene, limits};
+use tw_model::{Hop, Link, PermittedPath, Rule, Scene, limits};
 
-/// The rules in rising order of their codes. Of those that an item breaks the first decides.
+/// The rules in ascending order of their codes. Of those that an item breaks the first decides.
 const RULES: [Rule; 13] = [
     Rule::Range,
     Rule::SelfLink,
@@ -47,13 +47,13 @@ pub fn link_fault(instance: &Instance, link: &Link) -> Option<Rule>
 }
 
 /// The first rule that a permitted path breaks after those of the instance.
-pub fn line_fault(instance: &Instance, path: &PathLine) -> Option<Rule>
-    ensures { result ≡ defined.line_fault instance.now path.now }
+pub fn path_fault(instance: &Instance, path: &PermittedPath) -> Option<Rule>
+    ensures { result ≡ defined.path_fault instance.now path.now }
 {
     RULES
         .iter()
         .copied()
-        .find(|rule| line_breaks(instance, path, *rule))
+        .find(|rule| path_breaks(instance, path, *rule))
 }
 
 /// The first rule that a scene breaks after so many others.
@@ -80,8 +80,8 @@ fn link_breaks(instance: &Instance, link: &Link, rule: Rule) -> bool
     }
 }
 
-fn line_breaks(instance: &Instance, path: &PathLine, rule: Rule) -> bool
-    ensures { result ≡ defined.line_breaks instance.now path.now rule }
+fn path_breaks(instance: &Instance, path: &PermittedPath, rule: Rule) -> bool
+    ensures { result ≡ defined.path_breaks instance.now path.now rule }
 {
     let owner = path.owner;
     let nodes = path.nodes.as_slice();
@@ -176,14 +176,14 @@ fn has_all_links(instance: &Instance, node: u32) -> bool
 
 /// Whether a router has as many permitted paths as it may.
 fn has_all_paths(instance: &Instance, node: u32) -> bool
-    ensures { result ≡ nat_le MOST_PATHS (defined.path_count instance.now.lines node) }
+    ensures { result ≡ nat_le MOST_PATHS (defined.path_count instance.now.permitted node) }
 {
     instance.permitted(node).len() >= limits::MOST_PATHS
 }
 
 /// Whether these nodes were given for the router.
 fn is_given(instance: &Instance, owner: u32, nodes: &[u32]) -> bool
-    ensures { result ≡ list_any (λ q. q.owner == owner && net.same_path q.nodes nodes.now) instance.now.lines }
+    ensures { result ≡ list_any (λ q. q.owner == owner && net.same_path q.nodes nodes.now) instance.now.permitted }
 {
     instance.number(nodes).is_some() && !is_misowned(owner, nodes)
 }

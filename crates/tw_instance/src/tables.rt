@@ -70,7 +70,7 @@ pub fn join(rows: &mut [Vec<Hop>], link: &Link) -> Result<(), AllocError>
     Ok(())
 }
 
-/// Puts a neighbour among others in rising number, where there is room.
+/// Puts a neighbour among others in ascending order, where there is room.
 fn insert_reserved(row: &mut Vec<Hop>, hop: Hop)
     requires { vec_len row.old < vec_capacity row.old }
     ensures { row.new.items ≡ with_hop hop row.old.items }

@@ -81,7 +81,8 @@ moved s q l true e = let f : ltb (s + q) (s + l) ≡ true = grind (arith, nat_te
 moved s q l false e = let f : ltb (s + q) (s + l) ≡ false = grind (arith, nat_tests) in rw f
 
 -- the first place, looked for from the end of the skipped chunks on
-pub position-skips : (p : ℕ → Bool) (xs : List ℕ) (start : ℕ) → IsSkip p xs start → (found : Option ℕ) → found ≡ position p (take (length xs - start) (drop start xs)) → option_map (λ place. start + place) found ≡ position p xs
+pub position-skips : (p : ℕ → Bool) (xs : List ℕ) (start : ℕ) → IsSkip p xs start → (found : Option ℕ)
+    → found ≡ position p (take (length xs - start) (drop start xs)) → option_map (λ place. start + place) found ≡ position p xs
 position-skips p xs start h found e =
     let q : ℕ = position_or_len p (drop start xs) in
     let rest : length (drop start xs) ≡ length xs - start = length-drop start xs in

@@ -39,7 +39,8 @@ fold-replicate f j a zero = refl
 fold-replicate f j a (suc n) = ap (λ b. fold f b (replicate n a)) (j.same a) ∙ fold-replicate f j a n
 
 -- the fold over the lanes, of which each is a fold over one place of the chunks
-fold-lanes : (f : ℕ → ℕ → ℕ) → Joins f → (a n k : ℕ) (lanes xs : List ℕ) → length lanes ≡ n → k * n ≤ length xs → fold f a (fold (zip2 f) lanes (first_chunks n k xs)) ≡ fold f (fold f a lanes) (joined (first_chunks n k xs))
+fold-lanes : (f : ℕ → ℕ → ℕ) → Joins f → (a n k : ℕ) (lanes xs : List ℕ) → length lanes ≡ n → k * n ≤ length xs
+    → fold f a (fold (zip2 f) lanes (first_chunks n k xs)) ≡ fold f (fold f a lanes) (joined (first_chunks n k xs))
 fold-lanes f j a n zero lanes xs e h = refl
 fold-lanes f j a n (suc k) lanes xs e h =
     let long : length (take n xs) ≡ n = length-chunk 0 n xs (omega arith) in

@@ -41,13 +41,13 @@ fn greatest(first: u32, ranks: &[u32]) -> u32
 pub fn first_equal(ranks: &[u32], rank: u32) -> Option<usize>
     ensures { result ≡ position (λ other. other == rank) ranks.now }
 {
-    let start = skipped(ranks, rank);
+    let start = skip_len(ranks, rank);
     let place = first_one_by_one(&ranks[start..], rank)?;
     Some(start + place)
 }
 
 // How many ranks stand in the chunks before the first that holds the rank.
-fn skipped(ranks: &[u32], rank: u32) -> usize
+fn skip_len(ranks: &[u32], rank: u32) -> usize
     ensures within { result ≤ length ranks.now }
     ensures past { position_or_len (λ other. other == rank) ranks.now ≡ result + position_or_len (λ other. other == rank) (drop result ranks.now) }
 {

@@ -17,7 +17,7 @@ use Rattle.tw_sim.proofs.Members.{In, in_filter, in_filtered, in_flat_mapped, in
 use Rattle.tw_model.proofs.Openings.{opening_of}
 use Rattle.tw_sim.proofs.Unique.{same_falling}
 use Rattle.tw_model.proofs.Lawful.{lawful}
-use Rattle.tw_model.proofs.LinkHeard.{Falls, Line, line_after, line_along}
+use Rattle.tw_model.proofs.LinkHeard.{Falls, LinkState, link_after, link_along}
 use Rattle.tw_model.proofs.LinkLast.{same_cmp}
 
 -- whether the body is a failure or a repair of the link to w
@@ -44,32 +44,32 @@ abbrev pub marks : ℕ → List Event → List Event
 marks w h = filter (λ e. about w e.body) h
 
 -- other events leave the link alone
-other_after : (w t : ℕ) (b : Body) (l : Line) → about w b ≡ false → line_after w t b l ≡ l
+other_after : (w t : ℕ) (b : Body) (l : LinkState) → about w b ≡ false → link_after w t b l ≡ l
 other_after w t Start l h = refl
 other_after w t (Fail x) l h = rw h refl
 other_after w t (Restore x) l h = rw h refl
 other_after w t (Swap i j) l h = refl
 other_after w t (Update q n) l h = refl
 
-line_marks : (w : ℕ) (h : List Event) → line_along w h ≡ line_along w (marks w h)
-line_marks w [] = refl
-line_marks w (e ∷ h) =
+link_marks : (w : ℕ) (h : List Event) → link_along w h ≡ link_along w (marks w h)
+link_marks w [] = refl
+link_marks w (e ∷ h) =
     elim (cases_Bool (about w e.body)) [
-      | inl b ↦ rw b (ap (line_after w e.time e.body) (line_marks w h))
-      | inr b ↦ rw b (other_after w e.time e.body (line_along w h) b ∙ line_marks w h)
+      | inl b ↦ rw b (ap (link_after w e.time e.body) (link_marks w h))
+      | inr b ↦ rw b (other_after w e.time e.body (link_along w h) b ∙ link_marks w h)
     ]
 
-turned_after : (v w t : ℕ) (b : Body) (l : Line) → about v b ≡ true → line_after v t b l ≡ line_after w t (turn_to w b) l
+turned_after : (v w t : ℕ) (b : Body) (l : LinkState) → about v b ≡ true → link_after v t b l ≡ link_after w t (turn_to w b) l
 turned_after v w t Start l h = cc
 turned_after v w t (Fail x) l h = rw (h, eq-eqb w w refl) refl
 turned_after v w t (Restore x) l h = rw (h, eq-eqb w w refl) refl
 turned_after v w t (Swap i j) l h = cc
 turned_after v w t (Update q n) l h = cc
 
-line_mirror : (v w : ℕ) (xs : List Event) → ((e : Event) → In e xs → about v e.body ≡ true) → line_along v xs ≡ line_along w (map (mirror v w) xs)
-line_mirror v w [] all = refl
-line_mirror v w (e ∷ xs) all =
-    ap (line_after v e.time e.body) (line_mirror v w xs (λ x k. all x (inr k))) ∙ turned_after v w e.time e.body (line_along w (map (mirror v w) xs)) (all e (inl refl))
+link_mirror : (v w : ℕ) (xs : List Event) → ((e : Event) → In e xs → about v e.body ≡ true) → link_along v xs ≡ link_along w (map (mirror v w) xs)
+link_mirror v w [] all = refl
+link_mirror v w (e ∷ xs) all =
+    ap (link_after v e.time e.body) (link_mirror v w xs (λ x k. all x (inr k))) ∙ turned_after v w e.time e.body (link_along w (map (mirror v w) xs)) (all e (inl refl))
 
 -- an event of router w about its link to v
 pub record IsMark (w v : ℕ) (e : Event) : Type 0 where
@@ -211,7 +211,7 @@ module _ (case : Case) (is : IsCase case) where
       in_filtered (λ z. about w z.body) (mirror v w e) here (turned_about v w e.body m.0.about) (has_here.opened (mirror v w e) (mirror_opening v w e m.1 m.0) refl)
 
   -- both ends of a link know it alike
-  pub ends_agree : (v w : ℕ) (here there : List Event) → HasOpened v here → HasOpened w there → line_along w here ≡ line_along v there
+  pub ends_agree : (v w : ℕ) (here there : List Event) → HasOpened v here → HasOpened w there → link_along w here ≡ link_along v there
   ends_agree v w here there has_here has_there =
       let same : map (mirror v w) (marks v there) ≡ marks w here = same_falls (map (mirror v w) (marks v there)) (marks w here)
       (falls-mirror v w (marks v there) (λ e k. (mark_of w v there has_there e k).0) (falls-filter (λ e. about v e.body) there has_there.falls))
@@ -221,4 +221,4 @@ module _ (case : Case) (is : IsCase case) where
       let m = mark_of v w here has_here e k in
       subst (λ z. In z (map (mirror v w) (marks v there))) (mirror_back w v e m.0)
       (in_mapped (mirror v w) (mirror w v e) (marks v there) (mirrored w v there here has_there has_here e k))) in
-      line_marks w here ∙ (ap (line_along w) (sym same) ∙ (sym (line_mirror v w (marks v there) (λ e k. (mark_of w v there has_there e k).0.about)) ∙ sym (line_marks v there)))
+      link_marks w here ∙ (ap (link_along w) (sym same) ∙ (sym (link_mirror v w (marks v there) (λ e k. (mark_of w v there has_there e k).0.about)) ∙ sym (link_marks v there)))

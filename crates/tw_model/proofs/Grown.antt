@@ -6,19 +6,19 @@ use Rattle.tw_model.specs.declared.case.Scene.{Scene}
 use Rattle.tw_model.specs.declared.net.Link.{Link}
 use Rattle.tw_model.specs.declared.rule.Rule.TheVariants.{PathNoLink}
 use Rattle.tw_model.specs.Case.{IsCase}
-use Rattle.tw_model.specs.Line.{Line}
+use Rattle.tw_model.specs.PermittedPath.{PermittedPath}
 use Rattle.tw_model.specs.Net.{Net, joins}
-use Rattle.tw_model.specs.Rules.{IsNet, LinksFollow, LinesFollow, ScenesFollow, is_linked, leaves_links, line_breaks, line_fault, link_fault, nodes_fault, scene_fault}
+use Rattle.tw_model.specs.Rules.{IsNet, LinksFollow, PathsFollow, ScenesFollow, is_linked, leaves_links, path_breaks, path_fault, link_fault, nodes_fault, scene_fault}
 use Rattle.tw_model.proofs.Unbroken.{none_broken}
 
 -- a net without links and paths keeps the rules where its number of routers does
-pub net_alone : (nodes : ℕ) → nodes_fault nodes ≡ None → IsNet (record { nodes = nodes; links = []; lines = [] })
-net_alone nodes h = record { nodes = h; links = tt; lines = tt }
+pub net_alone : (nodes : ℕ) → nodes_fault nodes ≡ None → IsNet (record { nodes = nodes; links = []; permitted = [] })
+net_alone nodes h = record { nodes = h; links = tt; permitted = tt }
 
 -- ---- one more link
 
-links_follow_more : (nodes : ℕ) (before links : List Link) (l : Link) → LinksFollow (record { nodes = nodes; links = before; lines = [] }) links
-    → link_fault (record { nodes = nodes; links = before ++ links; lines = [] }) l ≡ None → LinksFollow (record { nodes = nodes; links = before; lines = [] }) (links ++ l ∷ [])
+links_follow_more : (nodes : ℕ) (before links : List Link) (l : Link) → LinksFollow (record { nodes = nodes; links = before; permitted = [] }) links
+    → link_fault (record { nodes = nodes; links = before ++ links; permitted = [] }) l ≡ None → LinksFollow (record { nodes = nodes; links = before; permitted = [] }) (links ++ l ∷ [])
 links_follow_more nodes before [] l h next = (rw append-nil at next, tt)
 links_follow_more nodes before (k ∷ links) l h next = (h.0, links_follow_more nodes (before ++ k ∷ []) links l h.1 (rw (append_assoc before (k ∷ []) links) next))
 
@@ -33,36 +33,36 @@ leaves_less links l (v ∷ w ∷ p) h =
     let linked : is_linked (links ++ l ∷ []) v w ≡ true = linked_more links l v w (not-false (is_linked links v w) parts.0) in
     rw linked (leaves_less links l (w ∷ p) parts.1)
 
-line_fault_more : (net : Net) (l : Link) (p : Line) → line_fault net p ≡ None → line_fault (record net { links = net.links ++ l ∷ [] }) p ≡ None
-line_fault_more net l p h =
-    let e : leaves_links net.links p.nodes ≡ false = none_broken (line_breaks net p) h PathNoLink in
+path_fault_more : (net : Net) (l : Link) (p : PermittedPath) → path_fault net p ≡ None → path_fault (record net { links = net.links ++ l ∷ [] }) p ≡ None
+path_fault_more net l p h =
+    let e : leaves_links net.links p.nodes ≡ false = none_broken (path_breaks net p) h PathNoLink in
     rw (leaves_less net.links l p.nodes e) (rw e at h)
 
-lines_follow_more : (nodes : ℕ) (links : List Link) (before lines : List Line) (l : Link) → LinesFollow (record { nodes = nodes; links = links; lines = before }) lines
-    → LinesFollow (record { nodes = nodes; links = links ++ l ∷ []; lines = before }) lines
-lines_follow_more nodes links before [] l h = tt
-lines_follow_more nodes links before (p ∷ lines) l h =
-    (line_fault_more (record { nodes = nodes; links = links; lines = before }) l p h.0, lines_follow_more nodes links (before ++ p ∷ []) lines l h.1)
+paths_follow_more : (nodes : ℕ) (links : List Link) (before paths : List PermittedPath) (l : Link) → PathsFollow (record { nodes = nodes; links = links; permitted = before }) paths
+    → PathsFollow (record { nodes = nodes; links = links ++ l ∷ []; permitted = before }) paths
+paths_follow_more nodes links before [] l h = tt
+paths_follow_more nodes links before (p ∷ paths) l h =
+    (path_fault_more (record { nodes = nodes; links = links; permitted = before }) l p h.0, paths_follow_more nodes links (before ++ p ∷ []) paths l h.1)
 
 pub net_with_link : (net : Net) (l : Link) → IsNet net → link_fault net l ≡ None → IsNet (record net { links = net.links ++ l ∷ [] })
 net_with_link net l h next = record {
   nodes = h.nodes;
   links = links_follow_more net.nodes [] net.links l h.links next;
-  lines = lines_follow_more net.nodes net.links [] net.lines l h.lines;
+  permitted = paths_follow_more net.nodes net.links [] net.permitted l h.permitted;
 }
 
 -- ---- one more path
 
-lines_follow_push : (net : Net) (before lines : List Line) (p : Line) → LinesFollow (record net { lines = before }) lines
-    → line_fault (record net { lines = before ++ lines }) p ≡ None → LinesFollow (record net { lines = before }) (lines ++ p ∷ [])
-lines_follow_push net before [] p h next = (rw append-nil at next, tt)
-lines_follow_push net before (q ∷ lines) p h next = (h.0, lines_follow_push net (before ++ q ∷ []) lines p h.1 (rw (append_assoc before (q ∷ []) lines) next))
+paths_follow_push : (net : Net) (before paths : List PermittedPath) (p : PermittedPath) → PathsFollow (record net { permitted = before }) paths
+    → path_fault (record net { permitted = before ++ paths }) p ≡ None → PathsFollow (record net { permitted = before }) (paths ++ p ∷ [])
+paths_follow_push net before [] p h next = (rw append-nil at next, tt)
+paths_follow_push net before (q ∷ paths) p h next = (h.0, paths_follow_push net (before ++ q ∷ []) paths p h.1 (rw (append_assoc before (q ∷ []) paths) next))
 
-pub net_with_line : (net : Net) (p : Line) → IsNet net → line_fault net p ≡ None → IsNet (record net { lines = net.lines ++ p ∷ [] })
-net_with_line net p h next = record {
+pub net_with_path : (net : Net) (p : PermittedPath) → IsNet net → path_fault net p ≡ None → IsNet (record net { permitted = net.permitted ++ p ∷ [] })
+net_with_path net p h next = record {
   nodes = h.nodes;
   links = h.links;
-  lines = lines_follow_push net [] net.lines p h.lines next;
+  permitted = paths_follow_push net [] net.permitted p h.permitted next;
 }
 
 -- ---- one more scenario line

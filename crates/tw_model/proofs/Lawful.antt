@@ -60,7 +60,8 @@ module _ (case : Case) (is : IsCase case) where
   numbered = record {
     numbered = λ s e x h. ((one_sent s e x h).least, (one_sent s e x h).most);
     rising = λ s e. (tells s e).rising;
-    within = λ s e h. ltb-false MOST_COUNTED (effect case.net e.dst s e).state.counters.sent (or_parts (nat_le MOST_COUNTED s.counters.handled) (nat_lt MOST_COUNTED (effect case.net e.dst s e).state.counters.sent) h).1;
+    within = λ s e h. ltb-false MOST_COUNTED (effect case.net e.dst s e).state.counters.sent
+        (or_parts (nat_le MOST_COUNTED s.counters.handled) (nat_lt MOST_COUNTED (effect case.net e.dst s e).state.counters.sent) h).1;
     once = λ s e x. (tells s e).once x;
     opening_once = openings_once case is;
     strange = λ s e x h. none (times (simulation case) x (opening_events case.scenes)) (λ k.

@@ -24,35 +24,35 @@ Falls [] = Unit {0}
 Falls (x ∷ xs) = ((e : Event) → In e xs → event_before e x ≡ true) × Falls xs
 
 -- a link as its end knows it: up or not, how often repaired, and when last
-pub record Line : Type 0 where
+pub record LinkState : Type 0 where
   pub up : Bool
   pub session : ℕ
   pub since : ℕ
 
 -- what an event makes of the link to w
-abbrev pub line_after : ℕ → ℕ → Body → Line → Line
-line_after w t Start l = l
-line_after w t (Fail x) l = if x == w then (if l.up then record l { up = false } else l) else l
-line_after w t (Restore x) l = if x == w then (if l.up then l else record { up = true; session = l.session + 1; since = t }) else l
-line_after w t (Swap i j) l = l
-line_after w t (Update q n) l = l
+abbrev pub link_after : ℕ → ℕ → Body → LinkState → LinkState
+link_after w t Start l = l
+link_after w t (Fail x) l = if x == w then (if l.up then record l { up = false } else l) else l
+link_after w t (Restore x) l = if x == w then (if l.up then l else record { up = true; session = l.session + 1; since = t }) else l
+link_after w t (Swap i j) l = l
+link_after w t (Update q n) l = l
 
-abbrev pub line_along : ℕ → List Event → Line
-line_along w [] = record { up = true; session = 0; since = 0 }
-line_along w (e ∷ h) = line_after w e.time e.body (line_along w h)
+abbrev pub link_along : ℕ → List Event → LinkState
+link_along w [] = record { up = true; session = 0; since = 0 }
+link_along w (e ∷ h) = link_after w e.time e.body (link_along w h)
 
 abbrev pub row_along : ℕ → List Event → Row
 row_along w [] = no_row
 row_along w (e ∷ h) = row_after w e.src e.body (row_along w h)
 
 -- how an event changes the row for w, and the link
-pub data Change (w : ℕ) (e : Event) (r : Row) (l : Line) : Row → Line → Type 0 where
+pub data Change (w : ℕ) (e : Event) (r : Row) (l : LinkState) : Row → LinkState → Type 0 where
   taken : (q : PathNo) → e.src ≡ w → e.body ≡ Update q r.session → r.up ≡ true → Change w e r l (record r { heard = q }) l
   raised : e.body ≡ Restore w → r.up ≡ false → Change w e r l (record r { up = true; session = r.session + 1 }) (record { up = true; session = l.session + 1; since = e.time })
   lowered : e.body ≡ Fail w → r.up ≡ true → Change w e r l (record r { up = false; heard = empty_path }) (record l { up = false })
   nothing : ((q : PathNo) → e.src ≡ w → e.body ≡ Update q r.session → r.up ≡ true → ⊥) → Change w e r l r l
 
-module _ (w : ℕ) (e : Event) (r : Row) (l : Line) where
+module _ (w : ℕ) (e : Event) (r : Row) (l : LinkState) where
   not_update : (b : Body) → e.body ≡ b → ((q : PathNo) (n : ℕ) → b ≡ Update q n → ⊥) → Change w e r l r l
   not_update b is other = nothing (λ q s d u. other q r.session (sym is ∙ d))
 
@@ -81,7 +81,7 @@ module _ (w : ℕ) (e : Event) (r : Row) (l : Line) where
       both_ways (r.up && r.session == n) k (and_from r.up (r.session == n) u (eq-eqb r.session n (sym sessions))))
   change_update q n is false now h k = nothing (λ p s b u. eqb-false e.src w h s)
 
-  change_body : l.up ≡ r.up → (b : Body) → e.body ≡ b → Change w e r l (row_after w e.src b r) (line_after w e.time b l)
+  change_body : l.up ≡ r.up → (b : Body) → e.body ≡ b → Change w e r l (row_after w e.src b r) (link_after w e.time b l)
   change_body same Start is = not_update Start is (λ q n d. cc)
   change_body same (Swap i j) is = not_update (Swap i j) is (λ q n d. cc)
   change_body same (Fail x) is =
@@ -92,41 +92,41 @@ module _ (w : ℕ) (e : Event) (r : Row) (l : Line) where
       (change_restore x is (x == w) r.up refl refl)
   change_body same (Update q n) is = change_update q n is (e.src == w) (r.up && r.session == n) refl refl
 
-pub change : (w : ℕ) (e : Event) (r : Row) (l : Line) → l.up ≡ r.up → Change w e r l (row_after w e.src e.body r) (line_after w e.time e.body l)
+pub change : (w : ℕ) (e : Event) (r : Row) (l : LinkState) → l.up ≡ r.up → Change w e r l (row_after w e.src e.body r) (link_after w e.time e.body l)
 change w e r l same = change_body w e r l same e.body refl
 
 -- the row and the link agree
-pub record Agree (r : Row) (l : Line) : Type 0 where
+pub record Agree (r : Row) (l : LinkState) : Type 0 where
   pub up : l.up ≡ r.up
   pub session : l.session ≡ r.session
   pub heard : r.up ≡ false → r.heard ≡ empty_path
 
-agree_after : (w : ℕ) (e : Event) (r : Row) (l : Line) (r2 : Row) (l2 : Line) → Change w e r l r2 l2 → Agree r l → Agree r2 l2
+agree_after : (w : ℕ) (e : Event) (r : Row) (l : LinkState) (r2 : Row) (l2 : LinkState) → Change w e r l r2 l2 → Agree r l → Agree r2 l2
 agree_after w e r l r2 l2 (taken q s b u) a = record { up = a.up; session = a.session; heard = λ d. absurd (both_ways r.up d u) }
 agree_after w e r l r2 l2 (raised b d) a = record { up = refl; session = ap (λ n. n + 1) a.session; heard = λ c. absurd (false≢true (sym c)) }
 agree_after w e r l r2 l2 (lowered b u) a = record { up = refl; session = a.session; heard = λ c. refl }
 agree_after w e r l r2 l2 (nothing no_taken) a = a
 
-pub agree_along : (w : ℕ) (h : List Event) → Agree (row_along w h) (line_along w h)
+pub agree_along : (w : ℕ) (h : List Event) → Agree (row_along w h) (link_along w h)
 agree_along w [] = record { up = refl; session = refl; heard = λ c. refl }
 agree_along w (e ∷ h) =
     let a = agree_along w h in
-    agree_after w e (row_along w h) (line_along w h) (row_along w (e ∷ h)) (line_along w (e ∷ h)) (change w e (row_along w h) (line_along w h) a.up) a
+    agree_after w e (row_along w h) (link_along w h) (row_along w (e ∷ h)) (link_along w (e ∷ h)) (change w e (row_along w h) (link_along w h) a.up) a
 
-pub change_along : (w : ℕ) (e : Event) (h : List Event) → Change w e (row_along w h) (line_along w h) (row_along w (e ∷ h)) (line_along w (e ∷ h))
-change_along w e h = change w e (row_along w h) (line_along w h) (agree_along w h).up
+pub change_along : (w : ℕ) (e : Event) (h : List Event) → Change w e (row_along w h) (link_along w h) (row_along w (e ∷ h)) (link_along w (e ∷ h))
+change_along w e h = change w e (row_along w h) (link_along w h) (agree_along w h).up
 
 -- a link was repaired no later than its last event
-since_after : (w t : ℕ) (e : Event) (r : Row) (l : Line) (r2 : Row) (l2 : Line) → Change w e r l r2 l2 → e.time ≤ t → l.since ≤ t → l2.since ≤ t
+since_after : (w t : ℕ) (e : Event) (r : Row) (l : LinkState) (r2 : Row) (l2 : LinkState) → Change w e r l r2 l2 → e.time ≤ t → l.since ≤ t → l2.since ≤ t
 since_after w t e r l r2 l2 (taken q s b u) h k = k
 since_after w t e r l r2 l2 (raised b d) h k = h
 since_after w t e r l r2 l2 (lowered b u) h k = k
 since_after w t e r l r2 l2 (nothing no_taken) h k = k
 
-pub since_soon : (w t : ℕ) (h : List Event) → ((e : Event) → In e h → e.time ≤ t) → (line_along w h).since ≤ t
+pub since_soon : (w t : ℕ) (h : List Event) → ((e : Event) → In e h → e.time ≤ t) → (link_along w h).since ≤ t
 since_soon w t [] all = omega arith
 since_soon w t (e ∷ h) all =
-    since_after w t e (row_along w h) (line_along w h) (row_along w (e ∷ h)) (line_along w (e ∷ h)) (change_along w e h) (all e (inl refl)) (since_soon w t h (λ y k. all y (inr k)))
+    since_after w t e (row_along w h) (link_along w h) (row_along w (e ∷ h)) (link_along w (e ∷ h)) (change_along w e h) (all e (inl refl)) (since_soon w t h (λ y k. all y (inr k)))
 
 -- an update from w of this session, later than this time
 pub record IsFrom (w session since : ℕ) (x : Event) : Type 0 where
@@ -136,18 +136,18 @@ pub record IsFrom (w session since : ℕ) (x : Event) : Type 0 where
   pub later : since < x.time
 
 -- what is heard is the newest update of the session since the last repair, or nothing where there is none
-pub data IsHeard (w : ℕ) (h : List Event) (r : Row) (l : Line) : Type 0 where
+pub data IsHeard (w : ℕ) (h : List Event) (r : Row) (l : LinkState) : Type 0 where
   some : (u : Event) → In u h → u.src ≡ w → u.body ≡ Update r.heard r.session
       → ((x : Event) → In x h → IsFrom w r.session l.since x → (x ≡ u) ⊎ (event_before x u ≡ true)) → IsHeard w h r l
   silent : ((x : Event) → In x h → IsFrom w r.session l.since x → ⊥) → r.heard ≡ empty_path → IsHeard w h r l
 
-heard_more : (w : ℕ) (e : Event) (h : List Event) (r : Row) (l : Line) → (IsFrom w r.session l.since e → ⊥) → IsHeard w h r l → IsHeard w (e ∷ h) r l
+heard_more : (w : ℕ) (e : Event) (h : List Event) (r : Row) (l : LinkState) → (IsFrom w r.session l.since e → ⊥) → IsHeard w h r l → IsHeard w (e ∷ h) r l
 heard_more w e h r l other (some u k s b top) =
     some u (inr k) s b (λ x i f. elim i [ inl is ↦ absurd (other (subst (IsFrom w r.session l.since) is f)) | inr i ↦ top x i f ])
 heard_more w e h r l other (silent never n) =
     silent (λ x i f. elim i [ inl is ↦ other (subst (IsFrom w r.session l.since) is f) | inr i ↦ never x i f ]) n
 
-heard_after : (w : ℕ) (e : Event) (h : List Event) → ((x : Event) → In x h → event_before x e ≡ true) → (r : Row) (l : Line) (r2 : Row) (l2 : Line)
+heard_after : (w : ℕ) (e : Event) (h : List Event) → ((x : Event) → In x h → event_before x e ≡ true) → (r : Row) (l : LinkState) (r2 : Row) (l2 : LinkState)
     → Change w e r l r2 l2 → (r.up ≡ false → r.heard ≡ empty_path) → (r.up ≡ true → IsHeard w h r l) → r2.up ≡ true → IsHeard w (e ∷ h) r2 l2
 heard_after w e h first r l r2 l2 (taken q s b u) empty old up =
     some e (inl refl) s b (λ x i f. elim i [ inl is ↦ inl is | inr i ↦ inr (first x i) ])
@@ -162,10 +162,10 @@ heard_after w e h first r l r2 l2 (lowered b u) empty old up = absurd (false≢t
 heard_after w e h first r l r2 l2 (nothing no_taken) empty old up =
     heard_more w e h r l (λ f. no_taken f.path f.src f.body up) (old up)
 
-pub heard_along : (w : ℕ) (h : List Event) → Falls h → (row_along w h).up ≡ true → IsHeard w h (row_along w h) (line_along w h)
+pub heard_along : (w : ℕ) (h : List Event) → Falls h → (row_along w h).up ≡ true → IsHeard w h (row_along w h) (link_along w h)
 heard_along w [] f up = silent (λ x i g. i) refl
 heard_along w (e ∷ h) f up =
-    heard_after w e h f.0 (row_along w h) (line_along w h) (row_along w (e ∷ h)) (line_along w (e ∷ h)) (change_along w e h) (agree_along w h).heard (λ u. heard_along w h f.1 u) up
+    heard_after w e h f.0 (row_along w h) (link_along w h) (row_along w (e ∷ h)) (link_along w (e ∷ h)) (change_along w e h) (agree_along w h).heard (λ u. heard_along w h f.1 u) up
 
 -- ---- these rows are those of the router's states
 

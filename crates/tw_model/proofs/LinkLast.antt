@@ -17,7 +17,7 @@ use Rattle.tw_model.specs.Case.{Case, IsCase, simulation}
 use Rattle.tw_sim.proofs.Members.{In, in_append, in_left, in_right}
 use Rattle.tw_model.proofs.Nets.{hop_in_hops, neighbour}
 use Rattle.tw_model.proofs.Sends.{tells_effect}
-use Rattle.tw_model.proofs.LinkHeard.{Change, Falls, Line, agree_along, change_along, line_along, row_along, row_state, rows_full, since_soon, taken, raised, lowered, nothing}
+use Rattle.tw_model.proofs.LinkHeard.{Change, Falls, LinkState, agree_along, change_along, link_along, row_along, row_state, rows_full, since_soon, taken, raised, lowered, nothing}
 use Rattle.tw_model.proofs.LinkTold.{IsTold, Tell, tell_effect, told, untold}
 
 pub same_cmp : (m n : ℕ) → m ≡ n → nat_cmp m n ≡ Equal
@@ -34,7 +34,13 @@ before_update x y q p n m xb yb time dst src seq =
       | inl l ↦ rw (less_cmp x.time y.time l) refl
       | inr l ↦ (
           let classes : place_of (class_of x.body) ≡ place_of (class_of y.body) = ap (λ b. place_of (class_of b)) xb ∙ sym (ap (λ b. place_of (class_of b)) yb) in
-          rw (same_cmp x.time y.time (omega arith), same_cmp x.dst y.dst dst, same_cmp (place_of (class_of x.body)) (place_of (class_of y.body)) classes, same_cmp x.src y.src src, less_cmp x.seq y.seq seq) refl)
+          rw (
+            same_cmp x.time y.time (omega arith),
+            same_cmp x.dst y.dst dst,
+            same_cmp (place_of (class_of x.body)) (place_of (class_of y.body)) classes,
+            same_cmp x.src y.src src,
+            less_cmp x.seq y.seq seq,
+          ) refl)
     ]
 
 -- the events of one router, newest first, each suits it
@@ -97,7 +103,7 @@ module _ (case : Case) (is : IsCase case) (a b : ℕ) (there : has_peer case.net
       ]
 
   -- the newest update to b has what a uses now, or there is none and a has no path
-  pub data IsLast (h : List Event) (rib : PathNo) (l : Line) : Type 0 where
+  pub data IsLast (h : List Event) (rib : PathNo) (l : LinkState) : Type 0 where
     last : (u : Event) → In u (sent (simulation case) a h) → u.dst ≡ b → u.body ≡ Update rib l.session → l.since < u.time
         → ((x : Event) → In x (sent (simulation case) a h) → x.dst ≡ b → (x ≡ u) ⊎ (event_before x u ≡ true)) → IsLast h rib l
     mute : ((x : Event) → In x (sent (simulation case) a h) → x.dst ≡ b → ⊥) → rib ≡ empty_path → IsLast h rib l
@@ -107,24 +113,24 @@ module _ (case : Case) (is : IsCase case) (a b : ℕ) (there : has_peer case.net
   all_soon e h f x (inr i) = before_time x e (f.0 x i)
 
   -- where the link stays up with nothing told, it is as it was
-  line_kept : (e : Event) (h : List Event) (r : Row) (l : Line) (r2 : Row) (l2 : Line) → Change b e r l r2 l2 → r.up ≡ true → r2.up ≡ true → l2 ≡ l
-  line_kept e h r l r2 l2 (taken q s c u) up up2 = refl
-  line_kept e h r l r2 l2 (raised c d) up up2 = absurd (both_ways r.up d up)
-  line_kept e h r l r2 l2 (lowered c u) up up2 = absurd (false≢true up2)
-  line_kept e h r l r2 l2 (nothing none) up up2 = refl
+  link_kept : (e : Event) (h : List Event) (r : Row) (l : LinkState) (r2 : Row) (l2 : LinkState) → Change b e r l r2 l2 → r.up ≡ true → r2.up ≡ true → l2 ≡ l
+  link_kept e h r l r2 l2 (taken q s c u) up up2 = refl
+  link_kept e h r l r2 l2 (raised c d) up up2 = absurd (both_ways r.up d up)
+  link_kept e h r l r2 l2 (lowered c u) up up2 = absurd (false≢true up2)
+  link_kept e h r l r2 l2 (nothing none) up up2 = refl
 
   last_new : (e : Event) (h : List Event) → IsHistory case.net a (e ∷ h) → (u : Event) → In u ((simulation case).sends (state (simulation case) a h) e)
       → IsTold case.net a b there e.time (state (simulation case) a h) (state (simulation case) a (e ∷ h)) u
       → ((y : Event) → In y ((simulation case).sends (state (simulation case) a h) e) → y.dst ≡ b → y ≡ u)
-      → IsLast (e ∷ h) (state (simulation case) a (e ∷ h)).rib (line_along b (e ∷ h))
+      → IsLast (e ∷ h) (state (simulation case) a (e ∷ h)).rib (link_along b (e ∷ h))
   last_new e h his u i tells only =
       let rows = row_state case a b there (e ∷ h) his.home in
-      let session : (row (state (simulation case) a (e ∷ h)) (slot case.net a b)).session ≡ (line_along b (e ∷ h)).session
+      let session : (row (state (simulation case) a (e ∷ h)) (slot case.net a b)).session ≡ (link_along b (e ∷ h)).session
       = ap (λ r. r.session) rows ∙ sym (agree_along b (e ∷ h)).session in
       let since = since_soon b e.time (e ∷ h) (all_soon e h his.falls) in
       let time = tells.time in
       let least = delay_least in
-      let body : u.body ≡ Update (state (simulation case) a (e ∷ h)).rib (line_along b (e ∷ h)).session
+      let body : u.body ≡ Update (state (simulation case) a (e ∷ h)).rib (link_along b (e ∷ h)).session
       = tells.body ∙ ap (Update (state (simulation case) a (e ∷ h)).rib) session in
       last u (in_left u ((simulation case).sends (state (simulation case) a h) e) (sent (simulation case) a h) i) tells.dst body (omega arith)
       (λ x k d. elim (in_append x ((simulation case).sends (state (simulation case) a h) e) (sent (simulation case) a h) k) [
@@ -138,7 +144,7 @@ module _ (case : Case) (is : IsCase case) (a b : ℕ) (there : has_peer case.net
       ])
 
   last_kept : (e : Event) (h : List Event) → ((y : Event) → In y ((simulation case).sends (state (simulation case) a h) e) → y.dst ≡ b → ⊥)
-      → (rib rib2 : PathNo) (l l2 : Line) → rib2 ≡ rib → l2 ≡ l → IsLast h rib l → IsLast (e ∷ h) rib2 l2
+      → (rib rib2 : PathNo) (l l2 : LinkState) → rib2 ≡ rib → l2 ≡ l → IsLast h rib l → IsLast (e ∷ h) rib2 l2
   last_kept e h none rib rib2 l l2 same kept (last u i d body since top) =
       last u (in_right u ((simulation case).sends (state (simulation case) a h) e) (sent (simulation case) a h) i) d
       (subst (λ k. u.body ≡ Update rib2 k.session) (sym kept) (subst (λ q. u.body ≡ Update q l.session) (sym same) body))
@@ -157,16 +163,16 @@ module _ (case : Case) (is : IsCase case) (a b : ℕ) (there : has_peer case.net
 
   last_step : (e : Event) (h : List Event) → IsHistory case.net a (e ∷ h) → (row_along b (e ∷ h)).up ≡ true
       → Tell case.net a b there e.time (state (simulation case) a h) (state (simulation case) a (e ∷ h)) ((simulation case).sends (state (simulation case) a h) e)
-      → ((row_along b h).up ≡ true → IsLast h (state (simulation case) a h).rib (line_along b h)) → IsLast (e ∷ h) (state (simulation case) a (e ∷ h)).rib (line_along b (e ∷ h))
+      → ((row_along b h).up ≡ true → IsLast h (state (simulation case) a h).rib (link_along b h)) → IsLast (e ∷ h) (state (simulation case) a (e ∷ h)).rib (link_along b (e ∷ h))
   last_step e h his up (told u i is_told only) old = last_new e h his u i is_told only
   last_step e h his up (untold none kept) old =
       let now = row_state case a b there (e ∷ h) his.home in
       let then = row_state case a b there h (λ x k. his.home x (inr k)) in
       let k = kept (ap (λ r. r.up) now ∙ up) in
       let was_up : (row_along b h).up ≡ true = sym (ap (λ r. r.up) then) ∙ k.1 in
-      last_kept e h none (state (simulation case) a h).rib (state (simulation case) a (e ∷ h)).rib (line_along b h) (line_along b (e ∷ h)) k.0
-      (line_kept e h (row_along b h) (line_along b h) (row_along b (e ∷ h)) (line_along b (e ∷ h)) (change_along b e h) was_up up) (old was_up)
+      last_kept e h none (state (simulation case) a h).rib (state (simulation case) a (e ∷ h)).rib (link_along b h) (link_along b (e ∷ h)) k.0
+      (link_kept e h (row_along b h) (link_along b h) (row_along b (e ∷ h)) (link_along b (e ∷ h)) (change_along b e h) was_up up) (old was_up)
 
-  pub last_along : (h : List Event) → IsHistory case.net a h → (row_along b h).up ≡ true → IsLast h (state (simulation case) a h).rib (line_along b h)
+  pub last_along : (h : List Event) → IsHistory case.net a h → (row_along b h).up ≡ true → IsLast h (state (simulation case) a h).rib (link_along b h)
   last_along [] his up = mute (λ x i d. i) refl
   last_along (e ∷ h) his up = last_step e h his up (newest e h his) (λ u. last_along h (older_history case.net a e h his) u)

@@ -114,7 +114,8 @@ module _ (net : Net) (a b : ℕ) (there : has_peer net a b ≡ true) where
       elim (cases_Bool (s.rib.0 == (best net a s).0)) [
         | inl e ↦ rw e (untold (λ y i d. i) (λ u. (refl, u)))
         | inr e ↦ rw e (elim (cases_Bool (row s (slot net a b)).up) [
-          | inr c ↦ untold (λ y i d. let k = update_is t (best net a s) s y i d in both_ways (row s (slot net a b)).up c (subst (λ r. r.up ≡ true) k.5 k.6)) (λ u. absurd (both_ways (row s (slot net a b)).up c u))
+          | inr c ↦ untold (λ y i d. let k = update_is t (best net a s) s y i d in both_ways (row s (slot net a b)).up c (subst (λ r. r.up ≡ true) k.5 k.6))
+              (λ u. absurd (both_ways (row s (slot net a b)).up c u))
           | inl c ↦ (
               let pair : Hop × Row = (hop net a (slot net a b), row s (slot net a b)) in
               let in_ups = in_filtered (λ p. p.1.up) pair (zip (hops_of net a) s.rows) c (zip_has (hops_of net a) s.rows (slot net a b) full below) in
@@ -125,7 +126,8 @@ module _ (net : Net) (a b : ℕ) (there : has_peer net a b ≡ true) where
               (record { src = refl; dst = peer; time = refl; seq = (in_enumerate (n.0, pair) s.counters.sent (ups net a s) n.1).0; body = refl })
               (λ y i d.
               let k = update_is t (best net a s) s y i d in
-              let place = one_place s.counters.sent (ups net a s) (rise-filter (λ p. p.1.up) (zip (hops_of net a) s.rows) (rise_zip (hops_of net a) s.rows (hops_rises net a))) k.0 (n.0, pair) k.2 n.1 (k.3 ∙ sym peer) in
+              let place = one_place s.counters.sent (ups net a s) (rise-filter (λ p. p.1.up) (zip (hops_of net a) s.rows) (rise_zip (hops_of net a) s.rows (hops_rises net a)))
+              k.0 (n.0, pair) k.2 n.1 (k.3 ∙ sym peer) in
               k.1 ∙ ap (λ e. update_to a t (best net a s) e.0 e.1.0 e.1.1) place))
         ])
       ]

@@ -50,7 +50,7 @@ links_kept net [] h l k = absurd k
 
 -- links are between two different routers and take 1 to 1,000,000 ticks
 pub is_link_of : (net : Net) → IsNet net → (l : Link) → In l net.links → IsLink net.nodes l
-is_link_of net is l h = links_kept (record { nodes = net.nodes; links = []; lines = [] }) net.links is.links l h
+is_link_of net is l h = links_kept (record { nodes = net.nodes; links = []; permitted = [] }) net.links is.links l h
 
 -- what joins two routers, joins them the other way round
 pub joins_back : (v w : ℕ) (l : Link) → joins v w l ≡ joins w v l
@@ -319,6 +319,6 @@ degree_few net (x ∷ links) h f v =
 pub hops_few : (net : Net) → IsNet net → (v : ℕ) → length (hops_of net v) ≤ 64
 unfolding hops_of
 hops_few net is v =
-    let a = degree_few (record { nodes = net.nodes; links = []; lines = [] }) net.links (λ w. omega arith) is.links v in
+    let a = degree_few (record { nodes = net.nodes; links = []; permitted = [] }) net.links (λ w. omega arith) is.links v in
     let b = degree_hops net.links v net.nodes in
     omega arith

@@ -92,7 +92,8 @@ is_opening net n (scene.Swap t v i j) f x (inr z) = absurd z
 
 module _ (case : Case) (is : IsCase case) where
   -- an opening event of the case: the origin's start, numbered 0, or one of a line, numbered from 1
-  pub opening_of : (x : Event) → In x (opening_events case.scenes) → (x ≡ opening_event 0 0 0 body.Start) ⊎ ((l : ℕ × Scene) × In l (enumerate_from 1 case.scenes) × In x (scene_events l.0 l.1) × IsOpening case.net l.0 x)
+  pub opening_of : (x : Event) → In x (opening_events case.scenes)
+      → (x ≡ opening_event 0 0 0 body.Start) ⊎ ((l : ℕ × Scene) × In l (enumerate_from 1 case.scenes) × In x (scene_events l.0 l.1) × IsOpening case.net l.0 x)
   opening_of x (inl e) = inl e
   opening_of x (inr h) =
       let l = in_flat_map (λ l. scene_events l.0 l.1) x (enumerate_from 1 case.scenes) h in
@@ -131,9 +132,9 @@ module _ (case : Case) (is : IsCase case) where
   scene_once n (scene.Swap t v i j) f x = let first = one_le case x (opening_event n t v (body.Swap i j)) in omega arith
 
   -- events of lines from n on have numbers from n on, and stand once
-  lines_number : (n : ℕ) (scenes : List Scene) → ((s : Scene) → In s scenes → SceneFits case.net s) → (x : Event)
+  scenes_number : (n : ℕ) (scenes : List Scene) → ((s : Scene) → In s scenes → SceneFits case.net s) → (x : Event)
       → In x (flat_map (λ l. scene_events l.0 l.1) (enumerate_from n scenes)) → n ≤ x.seq
-  lines_number n scenes fit x h =
+  scenes_number n scenes fit x h =
       let l = in_flat_map (λ l. scene_events l.0 l.1) x (enumerate_from n scenes) h in
       let k = in_enumerate l.0 n scenes l.2 in
       let o = is_opening case.net l.0.0 l.0.1 (fit l.0.1 k.2) x l.1 in
@@ -143,20 +144,20 @@ module _ (case : Case) (is : IsCase case) where
   never : (x : Event) (xs : List Event) → (In x xs → ⊥) → times (simulation case) x xs ≡ 0
   never x xs h = none (times (simulation case) x xs) (λ k. h (in_times (simulation case) same_is x xs k))
 
-  lines_once : (n : ℕ) (scenes : List Scene) → ((s : Scene) → In s scenes → SceneFits case.net s) → (x : Event)
+  scenes_once : (n : ℕ) (scenes : List Scene) → ((s : Scene) → In s scenes → SceneFits case.net s) → (x : Event)
       → times (simulation case) x (flat_map (λ l. scene_events l.0 l.1) (enumerate_from n scenes)) ≤ 1
-  lines_once n [] fit x = omega arith
-  lines_once n (s ∷ scenes) fit x =
+  scenes_once n [] fit x = omega arith
+  scenes_once n (s ∷ scenes) fit x =
       let others = flat_map (λ l. scene_events l.0 l.1) (enumerate_from (n + 1) scenes) in
       let both = times-append (simulation case) x (scene_events n s) others in
       let first = scene_once n s (fit s (inl refl)) x in
-      let more = lines_once (n + 1) scenes (λ z k. fit z (inr k)) x in
+      let more = scenes_once (n + 1) scenes (λ z k. fit z (inr k)) x in
       elim (cases_Bool (nat_lt 0 (times (simulation case) x (scene_events n s)))) [
         | inr b ↦ (let no_first = ltb-false 0 (times (simulation case) x (scene_events n s)) b in omega arith)
         | inl b ↦ (
             let here = in_times (simulation case) same_is x (scene_events n s) (ltb-true 0 (times (simulation case) x (scene_events n s)) b) in
             let number = (is_opening case.net n s (fit s (inl refl)) x here).seq in
-            let no_more = never x others (λ k. let later = lines_number (n + 1) scenes (λ z q. fit z (inr q)) x k in absurd (omega arith)) in
+            let no_more = never x others (λ k. let later = scenes_number (n + 1) scenes (λ z q. fit z (inr q)) x k in absurd (omega arith)) in
             omega arith)
       ]
 
@@ -164,11 +165,11 @@ module _ (case : Case) (is : IsCase case) where
   pub openings_once : (x : Event) → times (simulation case) x (opening_events case.scenes) ≤ 1
   openings_once x =
       let others = flat_map (λ l. scene_events l.0 l.1) (enumerate_from 1 case.scenes) in
-      let more = lines_once 1 case.scenes (scene_of case is) x in
+      let more = scenes_once 1 case.scenes (scene_of case is) x in
       elim (cases_Bool ((simulation case).same x (opening_event 0 0 0 body.Start))) [
         | inr b ↦ rw b (omega arith)
         | inl b ↦ rw b (
             let number : x.seq ≡ 0 = ap (λ e. e.seq) (same_is x (opening_event 0 0 0 body.Start) b) in
-            let no_more = never x others (λ k. let later = lines_number 1 case.scenes (scene_of case is) x k in absurd (omega arith)) in
+            let no_more = never x others (λ k. let later = scenes_number 1 case.scenes (scene_of case is) x k in absurd (omega arith)) in
             omega arith)
       ]

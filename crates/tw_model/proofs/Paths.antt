@@ -15,9 +15,9 @@ use Rattle.std.proofs.lemmas.Map.Made.{AllPairs-from_IsDistinct, IsDistinct-from
 use Rattle.std.specs.List.Sorted.{IsStrictlyIncreasing}
 use Rattle.tw_event.specs.declared.event.PathNo.{PathNo}
 use Rattle.tw_model.specs.declared.rule.Rule.TheVariants.{PathOwner, TwicePath}
-use Rattle.tw_model.specs.Line.{Line}
+use Rattle.tw_model.specs.PermittedPath.{PermittedPath}
 use Rattle.tw_model.specs.Net.{Net, paths, path, IsPath, empty_path, origin_path, same_path, begins_at, paths_of, is_own, is_permitted}
-use Rattle.tw_model.specs.Rules.{IsNet, LinesFollow, line_breaks, line_fault}
+use Rattle.tw_model.specs.Rules.{IsNet, PathsFollow, path_breaks, path_fault}
 use Rattle.tw_sim.proofs.Members.{In, in_left, in_right, in_map, in_mapped, in_filter, in_filtered, in_get_or, in_range, range_has, any_from_in, all_from_in}
 use Rattle.tw_model.proofs.Unbroken.{none_broken}
 
@@ -40,51 +40,51 @@ begins_once : (p : List ℕ) (v w : ℕ) → begins_at p v ≡ true → begins_a
 begins_once [] v w h k = cc
 begins_once (x ∷ p) v w h k = sym (eqb-true x v h) ∙ eqb-true x w k
 
--- ---- path lines
+-- ---- the permitted paths as given
 
--- a path line that keeps the rules begins at its owner, who is not the origin
-pub record IsLine (p : Line) : Type 0 where
+-- a permitted path that keeps the rules begins at its owner, who is not the origin
+pub record HasOwner (p : PermittedPath) : Type 0 where
   pub owner : p.owner ≡ 0 → ⊥
   pub begins : begins_at p.nodes p.owner ≡ true
 
-is_line : (net : Net) (p : Line) → line_fault net p ≡ None → IsLine p
-is_line net p fault =
-    let k = or_parts (p.owner == 0) (not (begins_at p.nodes p.owner)) (none_broken (line_breaks net p) fault PathOwner) in
+has_owner : (net : Net) (p : PermittedPath) → path_fault net p ≡ None → HasOwner p
+has_owner net p fault =
+    let k = or_parts (p.owner == 0) (not (begins_at p.nodes p.owner)) (none_broken (path_breaks net p) fault PathOwner) in
     record { owner = eqb-false p.owner 0 k.0; begins = not-false (begins_at p.nodes p.owner) k.1 }
 
-lines_kept : (net : Net) (lines : List Line) → LinesFollow net lines → (p : Line) → In p lines → IsLine p
-lines_kept net (x ∷ lines) h p (inl e) = subst IsLine (sym e) (is_line net x h.0)
-lines_kept net (x ∷ lines) h p (inr k) = lines_kept (record net { lines = net.lines ++ x ∷ [] }) lines h.1 p k
-lines_kept net [] h p k = absurd k
+have_owners : (net : Net) (paths : List PermittedPath) → PathsFollow net paths → (p : PermittedPath) → In p paths → HasOwner p
+have_owners net (x ∷ paths) h p (inl e) = subst HasOwner (sym e) (has_owner net x h.0)
+have_owners net (x ∷ paths) h p (inr k) = have_owners (record net { permitted = net.permitted ++ x ∷ [] }) paths h.1 p k
+have_owners net [] h p k = absurd k
 
-pub is_line_of : (net : Net) → IsNet net → (p : Line) → In p net.lines → IsLine p
-is_line_of net is p k = lines_kept (record { nodes = net.nodes; links = net.links; lines = [] }) net.lines is.lines p k
+pub has_owner_of : (net : Net) → IsNet net → (p : PermittedPath) → In p net.permitted → HasOwner p
+has_owner_of net is p k = have_owners (record { nodes = net.nodes; links = net.links; permitted = [] }) net.permitted is.permitted p k
 
 -- no list of nodes stands twice
 abbrev pub AreApart : List (List ℕ) → Type 0
 AreApart [] = Unit {0}
 AreApart (p ∷ ps) = ((q : List ℕ) → In q ps → p ≡ q → ⊥) × AreApart ps
 
-lines_new : (net : Net) (lines : List Line) → LinesFollow net lines → (q : Line) → IsLine q → In q net.lines → (p : Line) → In p lines → q.nodes ≡ p.nodes → ⊥
-lines_new net (x ∷ lines) h q is k p (inl e) same =
-    let fresh = none_broken (line_breaks net x) h.0 TwicePath in
-    let line = is_line net x h.0 in
+paths_new : (net : Net) (paths : List PermittedPath) → PathsFollow net paths → (q : PermittedPath) → HasOwner q → In q net.permitted → (p : PermittedPath) → In p paths → q.nodes ≡ p.nodes → ⊥
+paths_new net (x ∷ paths) h q is k p (inl e) same =
+    let fresh = none_broken (path_breaks net x) h.0 TwicePath in
+    let owned = has_owner net x h.0 in
     let nodes : q.nodes ≡ x.nodes = same ∙ ap (λ l. l.nodes) e in
-    let owners = begins_once q.nodes q.owner x.owner is.begins (subst (λ n. begins_at n x.owner ≡ true) (sym nodes) line.begins) in
-    let twice = any_from_in (λ l. l.owner == x.owner && same_path l.nodes x.nodes) q net.lines
+    let owners = begins_once q.nodes q.owner x.owner is.begins (subst (λ n. begins_at n x.owner ≡ true) (sym nodes) owned.begins) in
+    let twice = any_from_in (λ l. l.owner == x.owner && same_path l.nodes x.nodes) q net.permitted
     (and_from (q.owner == x.owner) (same_path q.nodes x.nodes) (eq-eqb q.owner x.owner owners) (subst (λ n. same_path q.nodes n ≡ true) nodes (same_path_self q.nodes))) k in
-    both_ways (list_any (λ l. l.owner == x.owner && same_path l.nodes x.nodes) net.lines) fresh twice
-lines_new net (x ∷ lines) h q is k p (inr more) same =
-    lines_new (record net { lines = net.lines ++ x ∷ [] }) lines h.1 q is (in_left q net.lines (x ∷ []) k) p more same
-lines_new net [] h q is k p more same = absurd more
+    both_ways (list_any (λ l. l.owner == x.owner && same_path l.nodes x.nodes) net.permitted) fresh twice
+paths_new net (x ∷ paths) h q is k p (inr more) same =
+    paths_new (record net { permitted = net.permitted ++ x ∷ [] }) paths h.1 q is (in_left q net.permitted (x ∷ []) k) p more same
+paths_new net [] h q is k p more same = absurd more
 
-lines_apart : (net : Net) (lines : List Line) → LinesFollow net lines → AreApart (map (λ l. l.nodes) lines)
-lines_apart net [] h = tt
-lines_apart net (x ∷ lines) h = (
+permitted_apart : (net : Net) (paths : List PermittedPath) → PathsFollow net paths → AreApart (map (λ l. l.nodes) paths)
+permitted_apart net [] h = tt
+permitted_apart net (x ∷ paths) h = (
   (λ q k same.
-      let p = in_map (λ l. l.nodes) q lines k in
-      lines_new (record net { lines = net.lines ++ x ∷ [] }) lines h.1 x (is_line net x h.0) (in_right x net.lines (x ∷ []) (inl refl)) p.0 p.2 (same ∙ p.1)),
-  lines_apart (record net { lines = net.lines ++ x ∷ [] }) lines h.1,
+      let p = in_map (λ l. l.nodes) q paths k in
+      paths_new (record net { permitted = net.permitted ++ x ∷ [] }) paths h.1 x (has_owner net x h.0) (in_right x net.permitted (x ∷ []) (inl refl)) p.0 p.2 (same ∙ p.1)),
+  permitted_apart (record net { permitted = net.permitted ++ x ∷ [] }) paths h.1,
 )
 
 paths_apart : (net : Net) → IsNet net → AreApart (paths net)
@@ -92,18 +92,18 @@ paths_apart net is = (
   (λ q k same. elim k [
     | inl e ↦ (let no : [] ≡ 0 ∷ [] = same ∙ e in cc)
     | inr more ↦ (
-        let p = in_map (λ l. l.nodes) q net.lines more in
-        let l = is_line_of net is p.0 p.2 in
+        let p = in_map (λ l. l.nodes) q net.permitted more in
+        let l = has_owner_of net is p.0 p.2 in
         let b : begins_at [] p.0.owner ≡ true = subst (λ n. begins_at n p.0.owner ≡ true) (sym (same ∙ p.1)) l.begins in
         cc)
   ]),
   (
     (λ q more same.
-        let p = in_map (λ l. l.nodes) q net.lines more in
-        let l = is_line_of net is p.0 p.2 in
+        let p = in_map (λ l. l.nodes) q net.permitted more in
+        let l = has_owner_of net is p.0 p.2 in
         let b : begins_at (0 ∷ []) p.0.owner ≡ true = subst (λ n. begins_at n p.0.owner ≡ true) (sym (same ∙ p.1)) l.begins in
         l.owner (sym (eqb-true 0 p.0.owner b))),
-    lines_apart (record { nodes = net.nodes; links = net.links; lines = [] }) net.lines is.lines,
+    permitted_apart (record { nodes = net.nodes; links = net.links; permitted = [] }) net.permitted is.permitted,
   ),
 )
 
@@ -200,7 +200,7 @@ distinct-numbers numbers rising i j d before within same =
     let equal = ap (λ p. p.0) same in
     omega arith
 
--- the permitted paths of v stand in rising number, and so each once
+-- the permitted paths of v stand in ascending order, and so each once
 pub paths_of-distinct : (net : Net) (v : ℕ) → AllPairs (λ p q. p ≢ q) (paths_of net v)
 unfolding paths_of
 paths_of-distinct net v =

@@ -2,13 +2,12 @@
 use Rattle.std.proofs.Common.{◌≡◌, ℕ, ◌+◌, ◌<◌, ◌==◌, Bool, true, ◌||◌, List, [], ◌∷◌, length, refl, ap, sym, ◌∙◌, subst, ◌⊎◌, inl, inr, arith, nat_lt, if◌then◌else◌}
 use Rattle.std.specs.List.{list_any, zip}
 use Rattle.std.specs.Option.{unwrap_or}
-use Rattle.std.proofs.lemmas.Bool.{cases_Bool, false≢true, both_ways, and_parts, eqb-true, eq-eqb, ltb-true, ltb-false}
+use Rattle.std.proofs.lemmas.Bool.{cases_Bool, false≢true, and_parts, eqb-true, eq-eqb, ltb-true, ltb-false}
 use Rattle.tw_event.specs.declared.event.Body.{Body}
 use Rattle.tw_event.specs.declared.event.Body.TheVariants.{Update}
 use Rattle.tw_event.specs.declared.event.Event.{Event}
 use Rattle.tw_event.specs.declared.event.PathNo.{PathNo}
-use Rattle.tw_event.specs.Order.{event_before}
-use Rattle.tw_event.proofs.Order.{before_not_self, before_trans, same_is, same_self}
+use Rattle.tw_event.proofs.Order.{same_is, same_self}
 use Rattle.tw_model.specs.declared.net.Hop.{Hop}
 use Rattle.tw_model.specs.declared.state.Row.{Row}
 use Rattle.tw_model.specs.Net.{empty_path, hops_of, origin_path}
@@ -26,7 +25,7 @@ use Rattle.tw_sim.proofs.Rising.{AllSuit, suit-begin, suit-turns}
 use Rattle.tw_sim.proofs.Unique.{falling-filter, sent_by_source, never_both}
 use Rattle.tw_sim.proofs.Closed.{running_seq}
 use Rattle.tw_model.proofs.Lawful.{lawful, numbered}
-use Rattle.tw_model.proofs.LinkHeard.{IsFrom, IsHeard, Line, agree_along, heard_along, line_along, row_along, row_state, rows_full, silent, some}
+use Rattle.tw_model.proofs.LinkHeard.{IsFrom, IsHeard, LinkState, agree_along, heard_along, link_along, row_along, row_state, rows_full, silent, some}
 use Rattle.tw_model.proofs.LinkTold.{zip_row}
 use Rattle.tw_model.proofs.LinkLast.{IsHistory, IsLast, last, last_along, mute}
 use Rattle.tw_model.proofs.Settled.{best_along, start}
@@ -144,7 +143,7 @@ module _ (case : Case) (is : IsCase case) (t : ℕ) (quiet : IsQuiet case t) whe
       let src = (sent_update case is w (history w) (is_history w).home u j).0 in
       in_history v u (sent_handled u (subst (λ r. In u (sent (simulation case) r (history r))) (sym src) j)) dst
 
-  is_from : (w : ℕ) (u : Event) (rib : PathNo) (r : Row) (l m : Line) → l ≡ m → l.session ≡ r.session → u.src ≡ w → u.body ≡ Update rib m.session → m.since < u.time → IsFrom w r.session l.since u
+  is_from : (w : ℕ) (u : Event) (rib : PathNo) (r : Row) (l m : LinkState) → l ≡ m → l.session ≡ r.session → u.src ≡ w → u.body ≡ Update rib m.session → m.since < u.time → IsFrom w r.session l.since u
   is_from w u rib r l m same session src told since = record {
     src = src;
     path = rib;
@@ -159,7 +158,7 @@ module _ (case : Case) (is : IsCase case) (t : ℕ) (quiet : IsQuiet case t) whe
       ap path_of bodies
 
   -- what v heard from w, over a link that both know alike, is what w uses
-  heard_is : (v w : ℕ) → (back : has_peer case.net w v ≡ true) → (r : Row) (l m : Line) → l ≡ m → l.session ≡ r.session
+  heard_is : (v w : ℕ) → (back : has_peer case.net w v ≡ true) → (r : Row) (l m : LinkState) → l ≡ m → l.session ≡ r.session
       → IsHeard w (history v) r l → (rib : PathNo) → IsLast case is w v back (history w) rib m → r.heard ≡ rib
   heard_is v w back r l m same session (some x i src body top) rib (last u j dst told since newest) =
       let u_src = (sent_update case is w (history w) (is_history w).home u j).0 in
@@ -192,7 +191,7 @@ module _ (case : Case) (is : IsCase case) (t : ℕ) (quiet : IsQuiet case t) whe
       let others = agree_along v (history w) in
       let other_up : (row_along v (history w)).up ≡ true = sym others.up ∙ (sym (ap (λ l. l.up) same) ∙ (mine.up ∙ row_up)) in
       ap (λ r. r.heard) here
-      ∙ heard_is v w back (row_along w (history v)) (line_along w (history v)) (line_along v (history w)) same mine.session
+      ∙ heard_is v w back (row_along w (history v)) (link_along w (history v)) (link_along v (history w)) same mine.session
       (heard_along w (history v) (is_history v).falls row_up) (at (simulation case) t w).rib (last_along case is w v back (history w) (is_history w) other_up)
 
   offers_reaches : (v : ℕ) (q : PathNo) (p : Hop × Row) → In p (zip (hops_of case.net v) (at (simulation case) t v).rows)

@@ -7,9 +7,9 @@ use Rattle.tw_event.specs.declared.event.Body.TheVariants.{Start, Fail, Restore,
 use Rattle.tw_event.specs.declared.event.Event.{Event}
 use Rattle.tw_model.specs.declared.net.Link.{Link}
 use Rattle.tw_model.specs.declared.rule.Rule.TheVariants.{Range, PathOwner}
-use Rattle.tw_model.specs.Line.{Line}
+use Rattle.tw_model.specs.PermittedPath.{PermittedPath}
 use Rattle.tw_model.specs.Net.{Net, begins_at, hops_of, is_permitted, paths, paths_of}
-use Rattle.tw_model.specs.Rules.{IsNet, LinesFollow, has_place, line_breaks}
+use Rattle.tw_model.specs.Rules.{IsNet, PathsFollow, has_place, path_breaks}
 use Rattle.tw_model.specs.State.{has_peer, hop, slot}
 use Rattle.tw_model.specs.Effect.{body_suits, suits}
 use Rattle.tw_model.proofs.Nets.{hop_in_hops, neighbour, nodes_within}
@@ -23,21 +23,23 @@ begins_only : (p : List ℕ) (u v : ℕ) → begins_at p u ≡ true → u < v �
 begins_only [] u v h lt = refl
 begins_only (x ∷ p) u v h lt = ne_eqb x v (λ e. let k = eqb-true x u h in omega arith)
 
-no_line : (nodes : ℕ) (links : List Link) (before lines : List Line) (k v : ℕ) → nodes ≤ v → LinesFollow (record { nodes = nodes; links = links; lines = before }) lines → begins_at (get_or (map (λ l. l.nodes) lines) k []) v ≡ false
-no_line nodes links before [] k v out h = refl
-no_line nodes links before (p ∷ lines) zero v out h =
-    let net : Net = record { nodes = nodes; links = links; lines = before } in
-    let range : not (nat_lt p.owner nodes && list_all (λ x. nat_lt x nodes) p.nodes) ≡ false = none_broken (line_breaks net p) h.0 Range in
-    let owned : (p.owner == 0 || not (begins_at p.nodes p.owner)) ≡ false = none_broken (line_breaks net p) h.0 PathOwner in
-    let below = ltb-true p.owner nodes (and_parts (nat_lt p.owner nodes) (list_all (λ x. nat_lt x nodes) p.nodes) (not-false (nat_lt p.owner nodes && list_all (λ x. nat_lt x nodes) p.nodes) range)).0 in
+none_begins : (nodes : ℕ) (links : List Link) (before paths : List PermittedPath) (k v : ℕ) → nodes ≤ v
+    → PathsFollow (record { nodes = nodes; links = links; permitted = before }) paths → begins_at (get_or (map (λ l. l.nodes) paths) k []) v ≡ false
+none_begins nodes links before [] k v out h = refl
+none_begins nodes links before (p ∷ paths) zero v out h =
+    let net : Net = record { nodes = nodes; links = links; permitted = before } in
+    let range : not (nat_lt p.owner nodes && list_all (λ x. nat_lt x nodes) p.nodes) ≡ false = none_broken (path_breaks net p) h.0 Range in
+    let owned : (p.owner == 0 || not (begins_at p.nodes p.owner)) ≡ false = none_broken (path_breaks net p) h.0 PathOwner in
+    let below = ltb-true p.owner nodes (and_parts (nat_lt p.owner nodes) (list_all (λ x. nat_lt x nodes) p.nodes)
+    (not-false (nat_lt p.owner nodes && list_all (λ x. nat_lt x nodes) p.nodes) range)).0 in
     let begins = not-false (begins_at p.nodes p.owner) (or_parts (p.owner == 0) (not (begins_at p.nodes p.owner)) owned).1 in
     begins_only p.nodes p.owner v begins (omega arith)
-no_line nodes links before (p ∷ lines) (suc k) v out h = no_line nodes links (before ++ p ∷ []) lines k v out h.1
+none_begins nodes links before (p ∷ paths) (suc k) v out h = none_begins nodes links (before ++ p ∷ []) paths k v out h.1
 
 no_path : (net : Net) (k v : ℕ) → IsNet net → net.nodes ≤ v → begins_at (get_or (paths net) k []) v ≡ false
 no_path net zero v h out = refl
 no_path net (suc zero) v h out = let some = (nodes_within net.nodes h.nodes).0 in ne_eqb 0 v (λ e. omega arith)
-no_path net (suc (suc k)) v h out = no_line net.nodes net.links [] net.lines k v out h.lines
+no_path net (suc (suc k)) v h out = none_begins net.nodes net.links [] net.permitted k v out h.permitted
 
 no_paths : (net : Net) (v : ℕ) → IsNet net → net.nodes ≤ v → paths_of net v ≡ []
 unfolding paths_of

@@ -1,4 +1,4 @@
--- A case: an instance with a scenario, its opening events and its simulation.
+-- A case: an instance with a scenario, its opening events and its simulation (own).
 use Rattle.std.specs.Prelude.{ℕ, List, [], ◌∷◌}
 use Rattle.std.specs.List.{enumerate_from, flat_map}
 use Rattle.std.specs.Ordering.{is_eq, is_lt}
@@ -15,6 +15,7 @@ use Rattle.tw_model.specs.State.{State, opening}
 use Rattle.tw_model.specs.Effect.{effect, is_full, suits}
 use Rattle.tw_sim.specs.Simulation.{Simulation}
 
+-- an instance, and what happens to it
 pub record Case : Type 0 where
   pub net : Net
   pub scenes : List Scene

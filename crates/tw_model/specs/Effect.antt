@@ -22,7 +22,7 @@ pub record Reaction : Type 0 where
 abbrev pub update_to : ℕ → ℕ → PathNo → ℕ → Hop → Row → Event
 update_to v t q n h r = record { time = t + h.delay; dst = h.peer; src = v; seq = n; body = Update q r.session }
 
--- the neighbours of v whose link is up, in rising number
+-- the neighbours of v whose link is up, in ascending order
 abbrev pub ups : Net → ℕ → State → List (Hop × Row)
 ups net v s = filter (λ p. p.1.up) (zip (hops_of net v) s.rows)
 
@@ -30,6 +30,7 @@ ups net v s = filter (λ p. p.1.up) (zip (hops_of net v) s.rows)
 abbrev pub updates : Net → ℕ → ℕ → PathNo → ℕ → State → List Event
 updates net v t q n s = map (λ e. update_to v t q e.0 e.1.0 e.1.1) (enumerate_from n (ups net v s))
 
+-- q is the path in use, and every neighbour whose link is up is sent it
 abbrev pub with_rib : Net → ℕ → State → PathNo → State
 with_rib net v s q = record s { rib = q; counters = record s.counters { sent = s.counters.sent + length (ups net v s); changed = s.counters.changed + 1 } }
 
@@ -41,21 +42,27 @@ settle net v t s =
       sends = updates net v t (best net v s) s.counters.sent s;
     }
 
+-- one event more is handled
 abbrev pub with_handled : State → State
 with_handled s = record s { counters = record s.counters { handled = s.counters.handled + 1 } }
 
+-- one update more is dropped
 abbrev pub with_dropped : State → State
 with_dropped s = record s { counters = record s.counters { dropped = s.counters.dropped + 1 } }
 
+-- r is the row of slot k
 abbrev pub with_row : State → ℕ → Row → State
 with_row s k r = record s { rows = slice_set s.rows k r }
 
+-- q is the path heard in slot k
 abbrev pub with_heard : State → ℕ → PathNo → State
 with_heard s k q = with_row s k (record (row s k) { heard = q })
 
+-- the link of slot k is down, and nothing is heard there
 abbrev pub with_failed_link : State → ℕ → State
 with_failed_link s k = with_row s k (record (row s k) { up = false; heard = empty_path })
 
+-- the link of slot k is up, in its next session
 abbrev pub with_repaired_link : State → ℕ → State
 with_repaired_link s k = with_row s k (record (row s k) { up = true; session = (row s k).session + 1 })
 
@@ -70,6 +77,7 @@ tell net v t s k = record {
   sends = update_to v t s.rib s.counters.sent (hop net v k) (row s k) ∷ [];
 }
 
+-- the state, with nothing sent
 abbrev pub without_sends : State → Reaction
 without_sends s = record { state = s; sends = [] }
 

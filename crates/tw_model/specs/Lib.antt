@@ -1,4 +1,4 @@
-pub mod Line
+pub mod PermittedPath
 pub mod Memory
 pub mod Net
 pub mod Rules

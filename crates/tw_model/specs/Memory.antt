@@ -1,5 +1,5 @@
 -- What is promised of a call that memory may be refused to (own).
-use Rattle.std.specs.Prelude.{◌≡◌, Result, Ok, Err}
+use Rattle.std.specs.Prelude.{ℕ, ◌≡◌, List, Option, Some, codes, Result, Ok, Err}
 use Rattle.tw_model.specs.declared.memory.OrMemory.{OrMemory}
 use Rattle.tw_model.specs.declared.memory.OrMemory.TheVariants.{Fault, Memory}
 
@@ -7,6 +7,11 @@ use Rattle.tw_model.specs.declared.memory.OrMemory.TheVariants.{Fault, Memory}
 abbrev pub map_fault : {E F : Type 0} → (E → F) → OrMemory E → OrMemory F
 map_fault f (Fault e) = Fault (f e)
 map_fault f Memory = Memory
+
+-- the words of the fault, where they are known, or that memory was refused
+abbrev pub fault_words : {E : Type 0} → (E → Option (List ℕ)) → OrMemory E → Option (List ℕ)
+fault_words words (Fault e) = words e
+fault_words words Memory = Some (codes "memory was refused")
 
 -- the call answered what is due, unless memory was refused
 abbrev pub IsUnlessMemory : {T E : Type 0} → Result T (OrMemory E) → Result T E → Type 0

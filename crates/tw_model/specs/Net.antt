@@ -6,13 +6,13 @@ use Rattle.std.specs.Option.{option_map}
 use Rattle.tw_event.specs.declared.event.PathNo.{PathNo}
 use Rattle.tw_model.specs.declared.net.Hop.{Hop}
 use Rattle.tw_model.specs.declared.net.Link.{Link}
-use Rattle.tw_model.specs.Line.{Line}
+use Rattle.tw_model.specs.PermittedPath.{PermittedPath}
 
 -- routers 0 to nodes - 1, links and permitted paths in the order given
 pub record Net : Type 0 where
   pub nodes : ℕ
   pub links : List Link
-  pub lines : List Line
+  pub permitted : List PermittedPath
 
 -- whether the link is between v and w, in either order
 abbrev pub joins : ℕ → ℕ → Link → Bool
@@ -22,13 +22,13 @@ joins v w l = (l.first == v && l.second == w) || (l.first == w && l.second == v)
 abbrev pub hop_to : List Link → ℕ → ℕ → Option Hop
 hop_to links v w = option_map (λ l. record { peer = w; delay = l.delay }) (find (joins v w) links)
 
--- the neighbours of v in rising number, each with the delay of its link
+-- the neighbours of v in ascending order, each with the delay of its link
 unfoldable pub hops_of : Net → ℕ → List Hop
 hops_of net v = filter_map (hop_to net.links v) (range_with_len 0 net.nodes)
 
 -- every path by its number: 0 is the empty path, 1 is (0), then the permitted paths as given
 abbrev pub paths : Net → List (List ℕ)
-paths net = [] ∷ (0 ∷ []) ∷ map (λ l. l.nodes) net.lines
+paths net = [] ∷ (0 ∷ []) ∷ map (λ p. p.nodes) net.permitted
 
 -- the nodes of a path number
 unfoldable pub path : Net → PathNo → List ℕ
@@ -38,9 +38,11 @@ path net p = slice_index_or (paths net) p.0 []
 abbrev pub IsPath : Net → PathNo → Type 0
 IsPath net p = p.0 < length (paths net)
 
+-- the number of the path with no node
 abbrev pub empty_path : PathNo
 empty_path = record { 0 = 0 }
 
+-- the number of the path (0)
 abbrev pub origin_path : PathNo
 origin_path = record { 0 = 1 }
 
@@ -48,6 +50,7 @@ origin_path = record { 0 = 1 }
 abbrev pub same_path : List ℕ → List ℕ → Bool
 same_path = pointwise nat_eq
 
+-- whether the first node is v
 abbrev pub begins_at : List ℕ → ℕ → Bool
 begins_at [] v = false
 begins_at (x ∷ p) v = x == v

@@ -7,7 +7,7 @@ use Rattle.tw_model.specs.declared.limits.TheConstants.{LATEST, LONGEST_DELAY, M
 use Rattle.tw_model.specs.declared.net.Link.{Link}
 use Rattle.tw_model.specs.declared.rule.Rule.{Rule}
 use Rattle.tw_model.specs.declared.rule.Rule.TheVariants.{Range, SelfLink, TwiceLink, Delay, PathOwner, PathEnd, PathRepeats, PathNoLink, TwicePath, TooMany, NoSuchLink, NoSuchPlace, Time}
-use Rattle.tw_model.specs.Line.{Line}
+use Rattle.tw_model.specs.PermittedPath.{PermittedPath}
 use Rattle.tw_model.specs.Net.{Net, joins, same_path, begins_at, paths_of}
 
 -- whether the number is in low to high
@@ -23,9 +23,10 @@ abbrev pub degree : List Link → ℕ → ℕ
 degree links v = length (filter (λ l. l.first == v || l.second == v) links)
 
 -- how many permitted paths were given for v
-abbrev pub path_count : List Line → ℕ → ℕ
-path_count lines v = length (filter (λ l. l.owner == v) lines)
+abbrev pub path_count : List PermittedPath → ℕ → ℕ
+path_count paths v = length (filter (λ p. p.owner == v) paths)
 
+-- whether the last node is v
 abbrev pub ends_at : List ℕ → ℕ → Bool
 ends_at p v = begins_at (reverse p) v
 
@@ -55,15 +56,15 @@ link_breaks net l TooMany = nat_le MOST_LINKS (degree net.links l.first) || nat_
 link_breaks net l r = false
 
 -- the rules that a permitted path breaks after those of the net
-abbrev pub line_breaks : Net → Line → Rule → Bool
-line_breaks net p Range = not (nat_lt p.owner net.nodes && list_all (λ v. nat_lt v net.nodes) p.nodes)
-line_breaks net p PathOwner = p.owner == 0 || not (begins_at p.nodes p.owner)
-line_breaks net p PathEnd = not (ends_at p.nodes 0)
-line_breaks net p PathRepeats = repeats p.nodes
-line_breaks net p PathNoLink = leaves_links net.links p.nodes
-line_breaks net p TwicePath = list_any (λ q. q.owner == p.owner && same_path q.nodes p.nodes) net.lines
-line_breaks net p TooMany = nat_le MOST_PATHS (path_count net.lines p.owner) || nat_lt MOST_NODES (length p.nodes)
-line_breaks net p r = false
+abbrev pub path_breaks : Net → PermittedPath → Rule → Bool
+path_breaks net p Range = not (nat_lt p.owner net.nodes && list_all (λ v. nat_lt v net.nodes) p.nodes)
+path_breaks net p PathOwner = p.owner == 0 || not (begins_at p.nodes p.owner)
+path_breaks net p PathEnd = not (ends_at p.nodes 0)
+path_breaks net p PathRepeats = repeats p.nodes
+path_breaks net p PathNoLink = leaves_links net.links p.nodes
+path_breaks net p TwicePath = list_any (λ q. q.owner == p.owner && same_path q.nodes p.nodes) net.permitted
+path_breaks net p TooMany = nat_le MOST_PATHS (path_count net.permitted p.owner) || nat_lt MOST_NODES (length p.nodes)
+path_breaks net p r = false
 
 -- whether v's order has the place, from 1
 abbrev pub has_place : Net → ℕ → ℕ → Bool
@@ -83,20 +84,24 @@ scene_breaks net count (Swap t v i j) Time = nat_lt LATEST t
 scene_breaks net count s TooMany = nat_le MOST_SCENES count
 scene_breaks net count s r = false
 
--- every rule, in rising order of the codes; of those that an item breaks the first decides
+-- every rule, in ascending order of the codes; of those that an item breaks the first decides
 abbrev pub rules_in_order : List Rule
 rules_in_order =
     Range ∷ SelfLink ∷ TwiceLink ∷ Delay ∷ PathOwner ∷ PathEnd ∷ PathRepeats ∷ PathNoLink ∷ TwicePath ∷ TooMany ∷ NoSuchLink ∷ NoSuchPlace ∷ Time ∷ []
 
+-- the first rule that a number of routers breaks
 abbrev pub nodes_fault : ℕ → Option Rule
 nodes_fault n = find (nodes_break n) rules_in_order
 
+-- the first rule that a link breaks after those of the net
 abbrev pub link_fault : Net → Link → Option Rule
 link_fault net l = find (link_breaks net l) rules_in_order
 
-abbrev pub line_fault : Net → Line → Option Rule
-line_fault net p = find (line_breaks net p) rules_in_order
+-- the first rule that a permitted path breaks after those of the net
+abbrev pub path_fault : Net → PermittedPath → Option Rule
+path_fault net p = find (path_breaks net p) rules_in_order
 
+-- the first rule that a scenario line breaks after count others
 abbrev pub scene_fault : Net → ℕ → Scene → Option Rule
 scene_fault net count s = find (scene_breaks net count s) rules_in_order
 
@@ -106,9 +111,9 @@ LinksFollow net [] = Unit {0}
 LinksFollow net (l ∷ links) = (link_fault net l ≡ None) × LinksFollow (record net { links = net.links ++ l ∷ [] }) links
 
 -- each permitted path keeps the rules after those before it
-abbrev pub LinesFollow : Net → List Line → Type 0
-LinesFollow net [] = Unit {0}
-LinesFollow net (p ∷ lines) = (line_fault net p ≡ None) × LinesFollow (record net { lines = net.lines ++ p ∷ [] }) lines
+abbrev pub PathsFollow : Net → List PermittedPath → Type 0
+PathsFollow net [] = Unit {0}
+PathsFollow net (p ∷ paths) = (path_fault net p ≡ None) × PathsFollow (record net { permitted = net.permitted ++ p ∷ [] }) paths
 
 -- each scenario line keeps the rules after count others
 abbrev pub ScenesFollow : Net → ℕ → List Scene → Type 0
@@ -118,5 +123,5 @@ ScenesFollow net count (s ∷ scenes) = (scene_fault net count s ≡ None) × Sc
 -- a net that keeps the rules of an instance
 pub record IsNet (net : Net) : Type 0 where
   pub nodes : nodes_fault net.nodes ≡ None
-  pub links : LinksFollow (record { nodes = net.nodes; links = []; lines = [] }) net.links
-  pub lines : LinesFollow (record { nodes = net.nodes; links = net.links; lines = [] }) net.lines
+  pub links : LinksFollow (record { nodes = net.nodes; links = []; permitted = [] }) net.links
+  pub permitted : PathsFollow (record { nodes = net.nodes; links = net.links; permitted = [] }) net.permitted

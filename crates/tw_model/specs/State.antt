@@ -9,7 +9,7 @@ use Rattle.tw_model.specs.declared.state.Counters.{Counters}
 use Rattle.tw_model.specs.declared.state.Row.{Row}
 use Rattle.tw_model.specs.Net.{Net, IsPath, empty_path, origin_path, path, same_path, is_own, hops_of, paths_of}
 
--- one row for each neighbour in rising number; the permitted paths best first
+-- one row for each neighbour in ascending order; the permitted paths best first
 pub record State : Type 0 where
   pub rib : PathNo
   pub rows : List Row
@@ -56,23 +56,27 @@ slot net v w = position_or_len (λ h. h.peer == w) (hops_of net v)
 abbrev pub has_peer : Net → ℕ → ℕ → Bool
 has_peer net v w = nat_lt (slot net v w) (length (hops_of net v))
 
--- what stands where there is no neighbour
+-- the neighbour that stands where there is none
 abbrev pub no_hop : Hop
 no_hop = record { peer = 0; delay = 1 }
 
+-- the row that stands where there is none
 abbrev pub no_row : Row
 no_row = record { heard = empty_path; up = true; session = 0 }
 
--- the neighbour of this slot, and what v keeps of it
+-- the neighbour of slot k
 abbrev pub hop : Net → ℕ → ℕ → Hop
 hop net v k = slice_index_or (hops_of net v) k no_hop
 
+-- what is kept of the neighbour of slot k
 abbrev pub row : State → ℕ → Row
 row s k = slice_index_or s.rows k no_row
 
+-- nothing is counted yet
 abbrev pub no_counts : Counters
 no_counts = record { sent = 0; handled = 0; dropped = 0; changed = 0 }
 
+-- the row with which a link begins: up, in its first session, with nothing heard
 abbrev pub fresh_row : Hop → Row
 fresh_row h = record { heard = empty_path; up = true; session = 0 }
 

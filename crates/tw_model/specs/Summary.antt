@@ -1,9 +1,10 @@
--- What a run left, as lists.
+-- What a run left, as lists (own).
 use Rattle.std.specs.Prelude.{ℕ, List}
 use Rattle.tw_event.specs.declared.event.Event.{Event}
 use Rattle.tw_model.specs.declared.outcome.Outcome.{Outcome}
 use Rattle.tw_model.specs.declared.outcome.RouterEnd.{RouterEnd}
 
+-- the stop asked for, the time before which all is handled, and what there is at it
 pub record Summary : Type 0 where
   pub stop : ℕ
   pub bound : ℕ
@@ -12,6 +13,7 @@ pub record Summary : Type 0 where
   pub pending : List Event
   pub last_change : ℕ
 
+-- the lists of an outcome
 abbrev pub summary_of : Outcome → Summary
 summary_of o = record {
   stop = o.stop;

@@ -24,5 +24,11 @@ pub const LATEST: u64 = 1_000_000_000;
 /// What a counter of messages sent or of events handled reaches at most.
 pub const MOST_COUNTED: u64 = 1 << 48;
 
+/// How many checkpoints before a checkpoint its shape is looked for among.
+pub const WINDOW: usize = 64;
+
+/// How many digits a number of a text has at most.
+pub const MOST_DIGITS: usize = 10;
+
 /// How many bytes of its input a program reads at most.
 pub const MOST_INPUT: usize = 67_108_864;

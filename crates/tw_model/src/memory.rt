@@ -1,5 +1,6 @@
 ghost use Rattle.std.specs.Prelude.{◌≡◌};
 ghost use Rattle.tw_model.specs.declared.memory.OrMemory.TheVariants.{Memory};
+ghost use Rattle.tw_model.specs.Memory.{fault_words};
 
 use std::alloc::AllocError;
 use std::fmt::{self, Display, Formatter};
@@ -23,6 +24,8 @@ impl<E> From<AllocError> for OrMemory<E> {
 }
 
 impl<E: Display> Display for OrMemory<E> {
+    ghost output = { fault_words E.output };
+
     fn fmt<W: fmt::Write>(&self, f: &mut Formatter<W>) -> fmt::Result {
         match self {
             OrMemory::Fault(fault) => write!(f, "{fault}"),

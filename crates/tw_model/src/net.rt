@@ -22,17 +22,17 @@ pub struct Hop {
 
 /// A permitted path, as it was given. Of two of one owner the earlier is the better.
 #[derive(Drop, Debug)]
-pub struct PathLine {
+pub struct PermittedPath {
     /// The router at which it is permitted.
     pub owner: u32,
     /// Its nodes, from the owner to 0.
     pub nodes: Vec<u32>,
 }
 
-impl Model for PathLine {
-    ghost use Rattle.tw_model.specs.Line.{Line};
+impl Model for PermittedPath {
+    ghost use Rattle.tw_model.specs.PermittedPath.{PermittedPath as APermittedPath};
 
-    ghost Value = { Line };
+    ghost Value = { APermittedPath };
 
     ghost view = { λ a. record { owner = a.owner; nodes = a.nodes.items } };
 }

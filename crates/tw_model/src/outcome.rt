@@ -10,7 +10,7 @@ pub struct Outcome {
     pub bound: u64,
     /// The events handled, in their order.
     pub events: Vec<Event>,
-    /// How each router stands, in rising number.
+    /// How each router stands, in ascending order.
     pub routers: Vec<RouterEnd>,
     /// The events pending, those at or past the stop included, in their order.
     pub pending: Vec<Event>,

@@ -1,6 +1,6 @@
 use thiserror::Error;
 
-/// A rule that an instance or a scenario keeps. They stand in rising order of their codes, which
+/// A rule that an instance or a scenario keeps. They stand in ascending order of their codes, which
 /// `docs/FORMATS.md` lists.
 #[derive(Clone, Copy, PartialEq, Eq, Debug, Error)]
 pub enum Rule {

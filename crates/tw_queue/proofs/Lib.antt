@@ -1,3 +1,9 @@
 pub mod Ordered
-pub mod Once
 pub mod Events
+pub mod Places
+pub mod Lists
+pub mod Earliest
+pub mod Buckets
+pub mod Groups
+pub mod Tables
+pub mod Spares

@@ -1,13 +1,14 @@
 -- Lists that are kept in order: an element goes in and comes out again, and what order they came in does not count.
-use Rattle.std.proofs.Common.{◌≤◌, ◌+◌, ◌⊎◌, filter, ◌≡◌, ℕ, suc, zero, ◌<◌, Bool, true, false, cond, List, [], ◌∷◌, length, get_or, set, refl, ap, sym, ◌∙◌, subst, inl, inr, arith, get_or-set_same, get_or-set_other, length-set, add-one}
+use Rattle.std.proofs.Common.{◌≤◌, ◌+◌, ◌⊎◌, filter, ◌≡◌, ℕ, suc, zero, ◌<◌, Bool, true, false, cond, List, []}
+use Rattle.std.proofs.Common.{◌∷◌, length, get_or, set, refl, ap, sym, ◌∙◌, subst, inl, inr, arith, get_or-set_same, get_or-set_other, length-set, add-one}
 use Rattle.std.specs.List.{AllByRecursion, swap}
 use Rattle.std.specs.List.Sorted.{IsPermutation, IsSortedBy}
 use Rattle.std.proofs.lemmas.Bool.{cases_Bool, cases_eq, false≢true}
 use Rattle.std.proofs.lemmas.List.Sorted.{IsPermutation-keeps}
 use Rattle.tw_sim.specs.Ordered.{insert, insert_all, one, take_out, times}
 use Rattle.tw_sim.specs.Rising.{IsRising}
-use Rattle.tw_sim.proofs.Ordered.{IsOrder, all-insert, before_from, length-insert, not_back, rising-insert, times-insert}
-use Rattle.tw_queue.specs.Heap.{in_order}
+use Rattle.tw_sim.proofs.Ordered.{IsOrder, all-insert, before_from, length-insert, not_back, one_self, rising-insert, times-insert}
+use Rattle.tw_queue.specs.InOrder.{in_order}
 
 pub cases_zero : (n : ℕ) → (n ≡ 0) ⊎ (0 < n)
 cases_zero zero = inl refl
@@ -78,7 +79,8 @@ module _ {E : Type 0} (before same : E → E → Bool) where
 
     round : (e f x : E) (xs : List E) → before x f ≡ true → before x e ≡ false → insert before e (insert before f (x ∷ xs)) ≡ insert before f (insert before e (x ∷ xs))
     round e f x xs b c =
-        (ap (insert before e) (behind x f xs b) ∙ ahead x e (insert before f xs) c) ∙ sym (ap (insert before f) (ahead x e xs c) ∙ behind e f (x ∷ xs) (before_from before same law x e f c b) ∙ ap (λ r. e ∷ r) (behind x f xs b))
+        (ap (insert before e) (behind x f xs b) ∙ ahead x e (insert before f xs) c)
+        ∙ sym (ap (insert before f) (ahead x e xs c) ∙ behind e f (x ∷ xs) (before_from before same law x e f c b) ∙ ap (λ r. e ∷ r) (behind x f xs b))
 
     -- the order in which two go in does not count
     pub insert-insert : (e f : E) (xs : List E) → insert before e (insert before f xs) ≡ insert before f (insert before e xs)
@@ -88,14 +90,16 @@ module _ {E : Type 0} (before same : E → E → Bool) where
           | inl b ↦
               elim (cases_Bool (before x e)) [
                 | inl c ↦
-                    (ap (insert before e) (behind x f xs b) ∙ behind x e (insert before f xs) c) ∙ ap (λ r. x ∷ r) (insert-insert e f xs) ∙ sym (ap (insert before f) (behind x e xs c) ∙ behind x f (insert before e xs) b)
+                    (ap (insert before e) (behind x f xs b) ∙ behind x e (insert before f xs) c) ∙ ap (λ r. x ∷ r) (insert-insert e f xs)
+                    ∙ sym (ap (insert before f) (behind x e xs c) ∙ behind x f (insert before e xs) b)
                 | inr c ↦ round e f x xs b c
               ]
           | inr b ↦
               elim (cases_Bool (before x e)) [
                 | inl c ↦ sym (round f e x xs c b)
                 | inr c ↦
-                    (ap (insert before e) (ahead x f xs b) ∙ ap (λ r. cond (before f e) (f ∷ r) (e ∷ f ∷ x ∷ xs)) (ahead x e xs c)) ∙ pair e f (x ∷ xs) ∙ sym (ap (insert before f) (ahead x e xs c) ∙ ap (λ r. cond (before e f) (e ∷ r) (f ∷ e ∷ x ∷ xs)) (ahead x f xs b))
+                    (ap (insert before e) (ahead x f xs b) ∙ ap (λ r. cond (before f e) (f ∷ r) (e ∷ f ∷ x ∷ xs)) (ahead x e xs c)) ∙ pair e f (x ∷ xs)
+                    ∙ sym (ap (insert before f) (ahead x e xs c) ∙ ap (λ r. cond (before e f) (e ∷ r) (f ∷ e ∷ x ∷ xs)) (ahead x f xs b))
               ]
         ]
 
@@ -138,8 +142,10 @@ module _ {E : Type 0} (before same : E → E → Bool) where
         let a = get_or xs i d in
         let b = get_or xs j d in
         let first : insert before a (in_order before (set xs i b)) ≡ insert before b (in_order before xs) = in_order-set xs i b d h in
-        let second : insert before (get_or (set xs i b) j d) (in_order before (set (set xs i b) j a)) ≡ insert before a (in_order before (set xs i b)) = in_order-set (set xs i b) j a d (rw length-set k) in
-        insert_injective b (in_order before (set (set xs i b) j a)) (in_order before xs) (subst (λ v. insert before v (in_order before (set (set xs i b) j a)) ≡ insert before b (in_order before xs)) (still xs i j d h) (second ∙ first))
+        let second : insert before (get_or (set xs i b) j d) (in_order before (set (set xs i b) j a)) ≡ insert before a (in_order before (set xs i b)) = in_order-set
+        (set xs i b) j a d (rw length-set k) in
+        insert_injective b (in_order before (set (set xs i b) j a)) (in_order before xs)
+        (subst (λ v. insert before v (in_order before (set (set xs i b) j a)) ≡ insert before b (in_order before xs)) (still xs i j d h) (second ∙ first))
 
     in_order-swap : (xs : List E) (i j : ℕ) → i < length xs → j < length xs → in_order before (swap xs i j) ≡ in_order before xs
     in_order-swap [] i j h k = refl
@@ -156,7 +162,7 @@ module _ {E : Type 0} (before same : E → E → Bool) where
         all-from_in_order P ys (rw (in_order-permutation xs ys p) (all-in_order P xs h))
 
     -- each in its turn, or one after the other
-    insert_all-insert : (e : E) (xs ys : List E) → insert_all before xs (insert before e ys) ≡ insert before e (insert_all before xs ys)
+    pub insert_all-insert : (e : E) (xs ys : List E) → insert_all before xs (insert before e ys) ≡ insert before e (insert_all before xs ys)
     insert_all-insert e [] ys = refl
     insert_all-insert e (x ∷ xs) ys =
         ap (insert_all before xs) (insert-insert x e ys) ∙ insert_all-insert e xs (insert before x ys)
@@ -197,6 +203,74 @@ module _ {E : Type 0} (before same : E → E → Bool) where
               rw b (insert-insert e x (in_order before (take_out same e xs)) ∙ ap (insert before x) (insert-take_out e xs (omega arith)))
         ]
 
+    pub times-take_out : (d e : E) (xs : List E) → 0 < times same e xs → one same d e + times same d (take_out same e xs) ≡ times same d xs
+    times-take_out d e xs h =
+        let a = times-insert before same d e (in_order before (take_out same e xs)) in
+        let b = times-in_order d (take_out same e xs) in
+        let c = ap (times same d) (insert-take_out e xs h) in
+        let f = times-in_order d xs in
+        omega arith
+
+    -- the same counts come into the same order
+    pub in_order-times : (xs ys : List E) → ((e : E) → times same e xs ≡ times same e ys) → in_order before xs ≡ in_order before ys
+    unfolding in_order
+    in_order-times [] [] h = refl
+    in_order-times [] (y ∷ ys) h =
+        let k = h y in
+        let s = one_self before same law y in
+        absurd (omega arith)
+    in_order-times (x ∷ xs) ys h =
+        let s = one_self before same law x in
+        let k = h x in
+        let there : 0 < times same x ys = omega arith in
+        let rest : (e : E) → times same e xs ≡ times same e (take_out same x ys) =
+        λ e.
+        let a = h e in
+        let t = times-take_out e x ys there in
+        omega arith in
+        ap (insert before x) (in_order-times xs (take_out same x ys) rest) ∙ insert-take_out x ys there
+
+    in_order_inserted : (e : E) (xs ys : List E) → ((d : E) → times same d ys ≡ one same d e + times same d xs) → in_order before ys ≡ insert before e (in_order before xs)
+    unfolding in_order
+    in_order_inserted e xs ys h = in_order-times ys (e ∷ xs) h
+
+    pub in_order_removed : (e : E) (xs ys : List E) → ((d : E) → one same d e + times same d ys ≡ times same d xs) → in_order before ys ≡ take_out same e (in_order before xs)
+    in_order_removed e xs ys h =
+        sym (take_out-insert e (in_order before ys)) ∙ ap (take_out same e) (sym (in_order_inserted e ys xs (λ d. sym (h d))))
+
+    -- xs becomes ys where ps in it becomes qs
+    module _ (xs ys ps qs : List E) (changed : (d : E) → times same d ys + times same d ps ≡ times same d xs + times same d qs) where
+      pub in_order-inserted : (e : E) → ((d : E) → times same d qs ≡ one same d e + times same d ps) → in_order before ys ≡ insert before e (in_order before xs)
+      in_order-inserted e h =
+          let more : (d : E) → times same d ys ≡ one same d e + times same d xs =
+          λ d.
+          let a = changed d in
+          let b = h d in
+          omega arith in
+          in_order_inserted e xs ys more
+
+      pub in_order-taken : (e : E) → times same e xs ≡ times same e ps → qs ≡ take_out same e ps → in_order before ys ≡ take_out same e (in_order before xs)
+      in_order-taken e h k =
+          elim (cases_zero (times same e ps)) [
+            | inl z ↦
+                let none : times same e (in_order before xs) ≡ 0 = times-in_order e xs ∙ h ∙ z in
+                let same_parts : qs ≡ ps = k ∙ take_out_none e ps z in
+                let equal : (d : E) → times same d ys ≡ times same d xs =
+                λ d.
+                let a = changed d in
+                let b = ap (times same d) same_parts in
+                omega arith in
+                in_order-times ys xs equal ∙ sym (take_out_none e (in_order before xs) none)
+            | inr there ↦
+                let less : (d : E) → one same d e + times same d ys ≡ times same d xs =
+                λ d.
+                let a = changed d in
+                let b = times-take_out d e ps there in
+                let c = ap (times same d) k in
+                omega arith in
+                in_order_removed e xs ys less
+          ]
+
     pub length-take_out : (e : E) (xs : List E) → 0 < times same e xs → suc (length (take_out same e xs)) ≡ length xs
     length-take_out e [] h = absurd (omega arith)
     length-take_out e (x ∷ xs) h =
@@ -205,15 +279,6 @@ module _ {E : Type 0} (before same : E → E → Bool) where
           | inr b ↦
               let k : 0 < 0 + times same e xs = rw b at h in
               rw b (ap suc (length-take_out e xs (omega arith)))
-        ]
-
-    pub take_out-in_order : (e : E) (xs : List E) → take_out same e (in_order before xs) ≡ in_order before (take_out same e xs)
-    take_out-in_order e xs =
-        elim (cases_zero (times same e xs)) [
-          | inl z ↦
-              take_out_none e (in_order before xs) (times-in_order e xs ∙ z) ∙ ap (in_order before) (sym (take_out_none e xs z))
-          | inr h ↦
-              ap (take_out same e) (sym (insert-take_out e xs h)) ∙ take_out-insert e (in_order before (take_out same e xs))
         ]
 
   pub length-take_out-le : (e : E) (xs : List E) → length (take_out same e xs) ≤ length xs

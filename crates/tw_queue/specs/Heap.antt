@@ -1,25 +1,8 @@
--- The heap that holds the pending events (own).
-use Rattle.std.specs.Prelude.{Bool, cond, Option, Some, None, List, [], ◌∷◌, map}
+-- The heap that holds the events of an event list (own).
+use Rattle.std.specs.Prelude.{List, map}
 use Rattle.std.specs.declared.cmp.Reverse.{Reverse}
 use Rattle.tw_event.specs.declared.event.Event.{Event}
-use Rattle.tw_event.specs.Order.{event_before}
-use Rattle.tw_sim.specs.Ordered.{insert}
 
 -- the events of a heap's items
 abbrev pub heap_events : List (Reverse Event) → List Event
 heap_events items = map (λ x. x.0) items
-
--- the elements of a list in order
-unfoldable pub in_order : {E : Type 0} → (E → E → Bool) → List E → List E
-in_order before [] = []
-in_order before (x ∷ xs) = insert before x (in_order before xs)
-
--- the one of two events that comes first
-abbrev pub earlier : Event → Option Event → Event
-earlier e None = e
-earlier e (Some d) = cond (event_before d e) d e
-
--- the least of one event and of a list
-abbrev pub least_with : Option Event → List Event → Option Event
-least_with least [] = least
-least_with least (x ∷ xs) = least_with (Some (earlier x least)) xs

@@ -13,9 +13,19 @@ pub record Queue : Type 0 where
   -- how many more there is memory for
   pub room : ℕ
 
+-- the events of a table of queues, in rising order, and for how many routers it has a queue
+pub record Table : Type 0 where
+  pub routers : ℕ
+  pub events : List Event
+
 -- each is for one of the routers
 abbrev pub AreFor : ℕ → List Event → Type 0
 AreFor routers events = AllByRecursion (λ e. e.dst < routers) events
+
+-- the events of a table are in order, and for its routers
+pub record IsInOrder (t : Table) : Type 0 where
+  pub rising : IsRising event_before event_same t.events
+  pub homes : AreFor t.routers t.events
 
 -- its events are in order, and for its routers
 pub record IsQueue (q : Queue) : Type 0 where

@@ -1,6 +1,17 @@
 //! The events that are pending, of which the least is always at hand.
+//!
+//! [`Pending`] keeps them by router, for a shard: its calls ask for the events of one router, and take an
+//! event out wherever it stands. [`EventList`] keeps them in a heap, for a run that takes the least of all
+//! again and again.
 #![tactic(auto)]
 
+mod bucket;
+mod event_list;
+mod least_times;
 mod pending;
+mod queue_table;
+mod router_queue;
+mod search;
 
+pub use event_list::EventList;
 pub use pending::Pending;

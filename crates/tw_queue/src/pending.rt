@@ -1,37 +1,41 @@
-ghost use Rattle.std.specs.Prelude.{◌≡◌, ◌↔◌, ◌+◌, ◌<◌, ◌≤◌, ◌==◌, IfNone, IfOk, IfSome, IsOk, IsTrue, OnErr, OnOk, OnSome, List, [], ◌∷◌, drop, filter, length, option_map, slice_get, count_by};
+ghost use Rattle.std.specs.Prelude.{◌≡◌, ◌↔◌, ◌+◌, ◌-◌, ◌<◌, ◌≤◌, ◌==◌, IfNone, IfOk, IfSome, IsOk, IsTrue, OnErr, OnOk};
+ghost use Rattle.std.specs.Prelude.{[], if◌then◌else◌, drop, filter, length, option_map, slice_get, vec_capacity, vec_len};
 ghost use Rattle.tw_event.specs.Order.{event_before, event_same};
-ghost use Rattle.tw_sim.specs.Ordered.{insert, take_out, times};
-ghost use Rattle.std.specs.BinaryHeap.{heap_capacity, heap_items, IsHeap};
-ghost use Rattle.std.specs.List.Sorted.{IsPermutation};
-ghost use Rattle.tw_queue.specs.Heap.{earlier, heap_events, least_with};
-ghost use Rattle.tw_queue.specs.Queue.{IsQueue};
+ghost use Rattle.tw_queue.specs.InOrder.{least_with};
+ghost use Rattle.tw_queue.specs.Queue.{AreFor, IsInOrder, IsQueue};
+ghost use Rattle.tw_sim.specs.Ordered.{insert, insert_all, take_out, times};
 
+use crate::queue_table::QueueTable;
+use crate::search::{count_of, earlier, least_of, remove_from};
 use std::alloc::{AllocError, Global};
-use std::cmp::Reverse;
-use std::collections::BinaryHeap;
 use std::marker::Model;
 use tw_event::Event;
 
-/// Events that wait to be handled, each as often as it was inserted.
+/// Events that wait to be handled, each as often as it was inserted, by router.
+///
+/// The least event of all, that of one router, and the place of an event are found without going over all
+/// events.
 #[derive(Drop)]
 pub struct Pending {
     alloc: Global,
     routers: u32,
-    heap: BinaryHeap<Reverse<Event>>,
+    table: QueueTable,
+    // Where an event goes that its queue has no memory for: room is reserved here alone.
+    spare: Vec<Event>,
+    len: usize,
 }
 
 impl Model for Pending {
-    ghost use Rattle.std.specs.Prelude.{◌-◌};
     ghost use Rattle.tw_event.specs.Order.{event_before};
-    ghost use Rattle.std.specs.BinaryHeap.{heap_capacity, heap_items, heap_len, IsHeap};
-    ghost use Rattle.tw_queue.specs.Queue.{Queue, AreFor};
-    ghost use Rattle.tw_queue.specs.Heap.{heap_events, in_order};
+    ghost use Rattle.tw_sim.specs.Ordered.{insert_all};
+    ghost use Rattle.tw_queue.specs.Queue.{Queue};
+    ghost use Rattle.tw_queue.specs.Pending.{IsPending, room_of};
 
     ghost Value = { Queue };
 
-    ghost view = { λ a. record { routers = a.routers; events = in_order event_before (heap_events (heap_items a.heap)); room = heap_capacity a.heap - heap_len a.heap } };
+    ghost view = { λ a. record { routers = a.routers; events = insert_all event_before a.spare.items a.table.events; room = room_of a } };
 
-    ghost invariant = { λ a. IsHeap ⟦<Reverse<Event> as Ord>⟧.cmp (heap_items a.heap) × AreFor a.routers (heap_events (heap_items a.heap)) };
+    ghost invariant = { IsPending };
 }
 
 impl Pending {
@@ -40,10 +44,13 @@ impl Pending {
         ensures routers { IfOk result (λ q. q.routers ≡ routers) }
         ensures empty { IfOk result (λ q. q.events ≡ []) }
     {
+        let table = QueueTable::new(alloc, routers)?;
         Ok(Pending {
             alloc,
             routers,
-            heap: BinaryHeap::new(alloc),
+            table,
+            spare: Vec::new(alloc),
+            len: 0,
         })
     }
 
@@ -52,14 +59,14 @@ impl Pending {
         ensures len { result ≡ length self.now.events }
         ensures queue { IsQueue self.now }
     {
-        self.heap.len()
+        self.len
     }
 
     /// Whether no event is pending.
     pub fn is_empty(&self) -> bool
         ensures { result ≡ (length self.now.events == 0) }
     {
-        self.heap.is_empty()
+        self.len == 0
     }
 
     /// Makes room for `additional` more events, so that inserting them cannot fail.
@@ -70,7 +77,10 @@ impl Pending {
         ensures events { self.new.events ≡ self.old.events }
         ensures room { self.old.room ≤ self.new.room }
     {
-        self.heap.reserve(additional)
+        if usize::MAX - self.len < additional {
+            return Err(AllocError);
+        }
+        self.spare.reserve(additional)
     }
 
     /// Adds an event, in its place in the order. It cannot fail where there is room.
@@ -82,7 +92,11 @@ impl Pending {
         ensures routers { self.new.routers ≡ self.old.routers }
         ensures room { self.old.room ≤ self.new.room + 1 }
     {
-        self.heap.push(Reverse(event))?;
+        if self.len == usize::MAX {
+            return Err(AllocError);
+        }
+        place(&mut self.table, &mut self.spare, event)?;
+        self.len += 1;
         Ok(())
     }
 
@@ -92,8 +106,7 @@ impl Pending {
         ensures home { IfSome result (λ e. e.dst < self.now.routers) }
         ensures queue { IsQueue self.now }
     {
-        let event = self.heap.peek()?;
-        Some(event.0)
+        least_of(self.table.least(), &self.spare)
     }
 
     /// The time of the least event, in ticks.
@@ -112,15 +125,16 @@ impl Pending {
         ensures room { self.old.room ≤ self.new.room }
         ensures none { IfNone result (self.new ≡ self.old) }
     {
-        let event = self.heap.pop()?;
-        Some(event.0)
+        let event = self.least()?;
+        self.remove_one(&event);
+        Some(event)
     }
 
     /// How often this event is pending.
     pub fn count(&self, event: &Event) -> usize
         ensures { result ≡ times event_same event.now self.now.events }
     {
-        count_of(self.heap.as_slice(), event)
+        count_of(&self.spare, event) + self.table.count(event)
     }
 
     /// Takes out one event that equals `event`, and tells whether there was one. It takes no memory.
@@ -130,17 +144,20 @@ impl Pending {
         ensures routers { self.new.routers ≡ self.old.routers }
         ensures room { self.old.room ≤ self.new.room }
     {
-        let before = self.len();
-        remove_from(&mut self.heap, *event);
-        self.len() < before
+        let removed = take_from(&mut self.table, &mut self.spare, event);
+        if removed {
+            self.len -= 1;
+        }
+        removed
     }
 
     /// The least event for this router.
     pub fn least_at(&self, router: u32) -> Option<Event>
         ensures first { result ≡ slice_get (filter (λ e. e.dst == router) self.now.events) 0 }
         ensures home { IfSome result (λ e. e.dst ≡ router) }
+        ensures queue { IsQueue self.now }
     {
-        least_of(self.heap.as_slice(), router)
+        least_for(router, self.table.least_at(router), &self.spare)
     }
 
     /// All events, in rising order.
@@ -148,58 +165,60 @@ impl Pending {
         ensures events { IfOk result (λ v. v.items ≡ self.now.events) }
         ensures queue { IsQueue self.now }
     {
-        let mut events = collect_events(self.alloc, self.heap.as_slice())?;
+        let mut events = Vec::from_slice(self.alloc, &self.spare)?;
+        self.table.append_to(&mut events)?;
         events.sort_unstable();
         Ok(events)
     }
 }
 
-// The events of a heap's items.
-fn collect_events(alloc: Global, items: &[Reverse<Event>]) -> Result<Vec<Event>, AllocError>
-    ensures { IfOk result (λ v. v.items ≡ heap_events items.now) }
+// Puts an event into its router's queue, or else into the spare list.
+fn place(table: &mut QueueTable, spare: &mut Vec<Event>, event: Event) -> Result<(), AllocError>
+    requires home { event.dst < table.old.routers }
+    requires order { IsInOrder table.old }
+    ensures ok { OnOk result (insert_all event_before spare.new.items table.new.events ≡ insert event_before event (insert_all event_before spare.old.items table.old.events)) }
+    ensures err { OnErr result (insert_all event_before spare.new.items table.new.events ≡ insert_all event_before spare.old.items table.old.events) }
+    ensures len { OnOk result (length spare.new.items + length table.new.events ≡ 1 + (length spare.old.items + length table.old.events)) }
+    ensures len_stays { OnErr result (length spare.new.items + length table.new.events ≡ length spare.old.items + length table.old.events) }
+    ensures homes { AreFor table.old.routers spare.old.items → AreFor table.new.routers spare.new.items }
+    ensures routers { table.new.routers ≡ table.old.routers }
+    ensures order { IsInOrder table.new }
+    ensures room { vec_capacity spare.old - vec_len spare.old ≤ (vec_capacity spare.new - vec_len spare.new) + 1 }
+    ensures full { OnErr result (vec_capacity spare.old ≤ vec_len spare.old) }
 {
-    items.iter().map(|item| item.0).collect(alloc)
+    if table.insert(event) {
+        return Ok(());
+    }
+    spare.push(event)?;
+    Ok(())
 }
 
-fn count_of(items: &[Reverse<Event>], event: &Event) -> usize
-    ensures { result ≡ count_by (λ x. ⟦<Event as PartialEq>⟧.eq event.now x.0) items.now }
+// Takes an event out of its router's queue, or else out of the spare list.
+fn take_from(table: &mut QueueTable, spare: &mut Vec<Event>, event: &Event) -> bool
+    requires order { IsInOrder table.old }
+    ensures found { IsTrue result ↔ (0 < times event_same event.now (insert_all event_before spare.old.items table.old.events)) }
+    ensures events { insert_all event_before spare.new.items table.new.events ≡ take_out event_same event.now (insert_all event_before spare.old.items table.old.events) }
+    ensures len { length spare.new.items + length table.new.events + (if result then 1 else 0) ≡ length spare.old.items + length table.old.events }
+    ensures homes { AreFor table.old.routers spare.old.items → AreFor table.new.routers spare.new.items }
+    ensures routers { table.new.routers ≡ table.old.routers }
+    ensures order { IsInOrder table.new }
+    ensures room { vec_capacity spare.old - vec_len spare.old ≤ vec_capacity spare.new - vec_len spare.new }
 {
-    items.iter().filter(|item| *event == item.0).count()
+    if table.remove(event) {
+        return true;
+    }
+    remove_from(spare, event)
 }
 
-// Removes one item with this event, if there is one.
-fn remove_from(heap: &mut BinaryHeap<Reverse<Event>>, event: Event)
-    ensures items { IsPermutation (take_out (λ x y. ⟦<Event as PartialEq>⟧.eq x.0 y.0) (record { 0 = event }) (heap_items heap.old)) (heap_items heap.new) }
-    ensures capacity { heap_capacity heap.new ≡ heap_capacity heap.old }
-    ensures heap_order { IsHeap ⟦<Reverse<Event> as Ord>⟧.cmp (heap_items heap.new) }
+// The least of an event, if there is one, and of those of these that are for the router.
+fn least_for(router: u32, first: Option<Event>, events: &[Event]) -> Option<Event>
+    ensures { result ≡ least_with first (filter (λ e. e.dst == router) events.now) }
 {
-    let mut removed = false;
-    heap.retain(move |item| {
-        let removes = !removed && event == item.0;
-        removed |= removes;
-        !removes
-    });
-}
-
-// The least of the events for this router.
-fn least_of(items: &[Reverse<Event>], router: u32) -> Option<Event>
-    ensures { result ≡ least_with None (filter (λ e. e.dst == router) (heap_events items.now)) }
-{
-    let mut least = None;
-    for item in items {
-        if item.0.dst == router {
-            least = Some(earlier(item.0, least));
+    let mut least = first;
+    for event in events {
+        if event.dst == router {
+            least = Some(earlier(*event, least));
         }
     }
     least
-}
-
-// The one of the two events that comes first.
-fn earlier(event: Event, least: Option<Event>) -> Event
-    ensures { result ≡ earlier event least }
-{
-    match least {
-        Some(other) if other < event => other,
-        _ => event,
-    }
 }

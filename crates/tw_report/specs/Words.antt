@@ -6,16 +6,16 @@ use Rattle.tw_report.specs.declared.words.Word.{Word}
 use Rattle.tw_report.specs.declared.words.Word.TheVariants.{Name, Number, Path}
 
 -- words with a space between each two
-abbrev pub spaced : List (List ℕ) → List ℕ
-spaced words = join_with_byte 32 words
+abbrev pub with_spaces : List (List ℕ) → List ℕ
+with_spaces words = join_with_byte 32 words
 
 -- a line of these words, with its end
 abbrev pub line : List (List ℕ) → List ℕ
-line words = spaced words ++ 10 ∷ []
+line words = with_spaces words ++ 10 ∷ []
 
 -- a path in parentheses
 abbrev pub path_text : List ℕ → List ℕ
-path_text nodes = 40 ∷ (spaced (map decimal nodes) ++ 41 ∷ [])
+path_text nodes = 40 ∷ (with_spaces (map decimal nodes) ++ 41 ∷ [])
 
 -- the bytes of a word
 abbrev pub word_text : Word → List ℕ
@@ -23,9 +23,10 @@ word_text (Name letters) = letters.now
 word_text (Number n) = decimal n
 word_text (Path nodes) = path_text nodes.now
 
--- a word, or a number, with a space before it
+-- a word with a space before it
 abbrev pub spaced_word : Word → List ℕ
 spaced_word word = 32 ∷ word_text word
 
+-- a number with a space before it
 abbrev pub spaced_number : ℕ → List ℕ
 spaced_number n = 32 ∷ decimal n

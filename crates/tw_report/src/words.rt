@@ -2,7 +2,7 @@ ghost use Rattle.std.specs.Prelude.{◌≡◌, false, map};
 ghost use Rattle.std.specs.Fmt.{decimal};
 ghost use Rattle.std.specs.List.{flat_map};
 ghost use Rattle.tw_device.specs.Sink.{Puts};
-ghost use Rattle.tw_report.specs.Words.{line, path_text, spaced, spaced_number, spaced_word, word_text};
+ghost use Rattle.tw_report.specs.Words.{line, path_text, with_spaces, spaced_number, spaced_word, word_text};
 
 use itoa::Buffer;
 use tw_device::{Failed, Sink, put_all};
@@ -30,7 +30,7 @@ pub fn put_line<S: Sink>(sink: &mut S, words: &[Word<'_>]) -> Result<(), Failed>
 /// Puts words with a space between each two.
 fn put_words<S: Sink>(sink: &mut S, words: &[Word<'_>]) -> Result<(), Failed>
     requires open { S.failed sink.old ≡ false }
-    ensures { Puts result (S.written sink.old) (S.written sink.new) (S.failed sink.new) (spaced (map word_text words.now)) }
+    ensures { Puts result (S.written sink.old) (S.written sink.new) (S.failed sink.new) (with_spaces (map word_text words.now)) }
 {
     let [first, more @ ..] = words else {
         return Ok(());
@@ -90,7 +90,7 @@ fn put_path<S: Sink>(sink: &mut S, nodes: &[u32]) -> Result<(), Failed>
 /// Puts numbers with a space between each two.
 fn put_nodes<S: Sink>(sink: &mut S, nodes: &[u32]) -> Result<(), Failed>
     requires open { S.failed sink.old ≡ false }
-    ensures { Puts result (S.written sink.old) (S.written sink.new) (S.failed sink.new) (spaced (map decimal nodes.now)) }
+    ensures { Puts result (S.written sink.old) (S.written sink.new) (S.failed sink.new) (with_spaces (map decimal nodes.now)) }
 {
     let [first, more @ ..] = nodes else {
         return Ok(());

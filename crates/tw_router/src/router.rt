@@ -28,7 +28,7 @@ pub enum OpenFault {
 
 /// A router of an instance, with what it knows.
 ///
-/// It has a row for each neighbour, in rising number; a slot is the place of a row, from 0. Its order has
+/// It has a row for each neighbour, in ascending order; a slot is the place of a row, from 0. Its order has
 /// its permitted paths, the best first. A neighbour whose link is up offers the router's number followed by
 /// the path that it told. Each slot has a rank: how many paths of the order stand from the offered one on,
 /// and 0 where none of them is offered. So the path of the greatest rank is the best.
@@ -138,7 +138,7 @@ impl<'a> Router<'a> {
         self.rib
     }
 
-    /// What it keeps of each neighbour, in rising number.
+    /// What it keeps of each neighbour, in ascending order.
     pub fn rows(&self) -> &[Row]
         ensures value { result.now ≡ self.now.state.rows }
         ensures state { IsState self.now.net self.now.node self.now.state }

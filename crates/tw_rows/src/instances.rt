@@ -3,7 +3,7 @@
 use crate::texts::DISAGREE;
 use std::alloc::{AllocError, Global};
 use tw_event::{Body, Event, PathNo};
-use tw_instance::{At, Case, Instance, Link, OrMemory, PathLine, Place, Rule, Scene};
+use tw_instance::{At, Case, Instance, Item, Link, OrMemory, PermittedPath, Rule, Scene};
 use tw_text::write_case;
 
 /// A link between two routers, with its delay.
@@ -16,11 +16,11 @@ fn link(first: u32, second: u32, delay: u64) -> Link {
 }
 
 /// The permitted paths of DISAGREE.
-fn paths(alloc: Global) -> Result<Vec<PathLine>, AllocError> {
+fn paths(alloc: Global) -> Result<Vec<PermittedPath>, AllocError> {
     let nodes: [&[u32]; 4] = [&[1, 2, 0], &[1, 0], &[2, 1, 0], &[2, 0]];
     let mut paths = Vec::new(alloc);
     for nodes in nodes {
-        paths.push(PathLine {
+        paths.push(PermittedPath {
             owner: nodes[0],
             nodes: Vec::from_slice(alloc, nodes)?,
         })?;
@@ -109,10 +109,10 @@ fn refused(alloc: Global, links: &[Link], scenes: &[Scene]) -> Option<At> {
     }
 }
 
-/// A rule that is broken at a place.
-fn broken(place: Place, rule: Rule) -> Option<At> {
+/// A rule that an item breaks.
+fn broken(item: Item, rule: Rule) -> Option<At> {
     Some(At {
-        place,
+        item,
         fault: OrMemory::Fault(rule),
     })
 }
@@ -121,9 +121,9 @@ fn broken(place: Place, rule: Rule) -> Option<At> {
 fn the_first_bad_item_is_named(rt: HostRuntime) {
     let alloc = rt.alloc();
     let looped = [link(0, 1, 1), link(1, 1, 0)];
-    assert!(rt; refused(alloc, &looped, &[]) == broken(Place::Link(2), Rule::SelfLink));
+    assert!(rt; refused(alloc, &looped, &[]) == broken(Item::Link(2), Rule::SelfLink));
     let two = [link(0, 1, 1), link(1, 2, 1)];
-    assert!(rt; refused(alloc, &two, &[]) == broken(Place::Path(1), Rule::PathNoLink));
+    assert!(rt; refused(alloc, &two, &[]) == broken(Item::Path(1), Rule::PathNoLink));
     let failure = Scene::Fail {
         time: 4,
         first: 0,
@@ -136,14 +136,14 @@ fn the_first_bad_item_is_named(rt: HostRuntime) {
         second: 3,
     };
     let scenes = [failure, exchange];
-    assert!(rt; refused(alloc, &links(), &scenes) == broken(Place::Scene(2), Rule::NoSuchPlace));
+    assert!(rt; refused(alloc, &links(), &scenes) == broken(Item::Scene(2), Rule::NoSuchPlace));
 }
 
 #[test]
-fn a_refusal_is_shown_with_its_place(rt: HostRuntime) {
+fn a_refusal_is_shown_with_its_item(rt: HostRuntime) {
     let alloc = rt.alloc();
     let at = At {
-        place: Place::Link(2),
+        item: Item::Link(2),
         fault: OrMemory::Fault(Rule::SelfLink),
     };
     let Ok(text) = format!(in alloc; "{at}").or_else(|_| format!(in alloc; "{at}")) else {

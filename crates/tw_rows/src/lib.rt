@@ -10,9 +10,15 @@ mod command_lines;
 #[cfg(test)]
 mod devices;
 #[cfg(test)]
+mod exchange;
+#[cfg(test)]
 mod handlers;
 #[cfg(test)]
 mod instances;
+#[cfg(test)]
+mod machine;
+#[cfg(test)]
+mod messages;
 #[cfg(test)]
 mod pending;
 #[cfg(test)]
@@ -21,6 +27,10 @@ mod programs;
 mod refusals;
 #[cfg(test)]
 mod runs;
+#[cfg(test)]
+mod shards;
+#[cfg(test)]
+mod steps;
 #[cfg(test)]
 mod texts;
 #[cfg(test)]

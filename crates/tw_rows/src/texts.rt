@@ -14,7 +14,21 @@ path 2 2 0
 end
 ";
 
-/// Its report to stop 20, with the events.
+/// DISAGREE with delays 1, 2 and 1: what the origin and router 1 offer comes to router 2 at one time.
+pub(crate) const DISAGREE_WITH_EQUAL_TIMES: &str = "\
+spp 1
+nodes 3
+link 0 1 1
+link 0 2 2
+link 1 2 1
+path 1 1 2 0
+path 1 1 0
+path 2 2 1 0
+path 2 2 0
+end
+";
+
+/// The report of DISAGREE to stop 20, with the events.
 pub(crate) const DISAGREE_LOG: &str = "\
 spp-report 1
 stop 20

@@ -1,12 +1,11 @@
 -- A run with a watch, checkpoint by checkpoint.
-use Rattle.std.proofs.Common.{◌≡◌, ℕ, ◌+◌, ◌-◌, ◌*◌, ◌/◌, ◌<◌, ◌≤◌, max, List, refl, sym, ap, subst, ◌∙◌, arith}
+use Rattle.std.proofs.Common.{◌≡◌, ℕ, ◌+◌, ◌-◌, ◌*◌, ◌/◌, ◌<◌, ◌≤◌, max, refl, sym, ap, subst, ◌∙◌, arith}
 use Rattle.std.proofs.Math.Nat.{div-mul-le_self, mul-le-mul_right}
 use Rattle.tw_model.specs.Case.{Case, simulation}
 use Rattle.tw_sim.specs.Seq.{begin}
 use Rattle.tw_sim.proofs.Seq.{turns_later}
 use Rattle.tw_shape.specs.Shape.{Shape, shape}
-use Rattle.tw_shape.specs.Watch.{HasSeen, IsGap, Watch, case_gap, fresh, gap, nothing, watched}
-use Rattle.tw_shape.specs.Watch as watching
+use Rattle.tw_shape.specs.Watch.{HasSeen, IsGap, Watch, case_gap, fresh, gap, nothing, with_gap}
 use Rattle.tw_seq.specs.Run.{GetsStuck, IsBegun, IsStuck, Run, complete_run, opening_run}
 
 -- the watch has seen so many checkpoints of the run's case, and the run is not past the last of them
@@ -39,7 +38,7 @@ left_within seen stop every some =
 pub on_the_way_next : (every seen count : ℕ) (first before now : Run) (watch new : Watch) (s : Shape) → IsOnTheWay every seen first before watch
     → now ≡ complete_run before.case (max before.stop ((seen + 1) * every)) → s ≡ shape now.case now.stop
     → IsGap watch.every (record { time = (seen + 1) * every; count = count; shape = s })
-    → new ≡ watched watch (record { time = (seen + 1) * every; count = count; shape = s })
+    → new ≡ with_gap watch (record { time = (seen + 1) * every; count = count; shape = s })
     → IsOnTheWay every (seen + count) first now new
 on_the_way_next every seen count first before now watch new s way run made is_gap step =
     let time = (seen + 1) * every in
@@ -50,8 +49,8 @@ on_the_way_next every seen count first before now watch new s way run made is_ga
     let every_is = seen_every way.shown in
     let shown : IsGap every (case_gap first.case every (seen + 1) count)
     = subst (λ z. IsGap every (record { time = time; count = count; shape = z })) as_made (subst (λ k. IsGap k (record { time = time; count = count; shape = s })) every_is is_gap) in
-    let stepped : new ≡ watched watch (case_gap first.case every (seen + 1) count)
-    = step ∙ ap (λ z. watched watch (record { time = time; count = count; shape = z })) as_made in
+    let stepped : new ≡ with_gap watch (case_gap first.case every (seen + 1) count)
+    = step ∙ ap (λ z. with_gap watch (record { time = time; count = count; shape = z })) as_made in
     record {
       case = ap (λ r. r.case) here;
       stop = (let e : now.stop ≡ time = ap (λ r. r.stop) here in let some = is_gap.some in

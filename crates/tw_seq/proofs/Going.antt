@@ -20,7 +20,7 @@ use Rattle.tw_seq.specs.Run.{Continues, IsBegun, IsNext, IsNextRun, NoneBefore, 
 use Rattle.tw_seq.proofs.Handled.{get_or-routers}
 use Rattle.tw_seq.proofs.Steps.{is_whole}
 
--- a run is a beginning of the run to each later stop
+-- a run is a prefix of the run to each later stop
 pub begun_later : (run : Run) (stop : ℕ) → run.stop ≤ stop → IsBegun run → IsBegun (record run { stop = stop })
 begun_later run stop le h =
     let m = simulation run.case in

@@ -14,7 +14,7 @@ use Rattle.tw_seq.specs.Run.{IsBegun, Run, router_after, world}
 use Rattle.tw_handlers.specs.Calls.{effect_at}
 use Rattle.tw_seq.proofs.Steps.{goes_on, pushed}
 
--- the events of a beginning of a run suit their routers
+-- the events of a prefix of a run suit their routers
 pub all_suit : (run : Run) → IsLawful (simulation run.case) → IsBegun run → AllSuit (simulation run.case) (world run)
 all_suit run law h =
     let m = simulation run.case in

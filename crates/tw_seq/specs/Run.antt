@@ -54,7 +54,7 @@ IsNext run e = (later : List Event) × (run.pending ≡ e ∷ later) × (e.time 
 abbrev pub IsStuck : Run → Type 0
 IsStuck run = (e : Event) × IsNext run e × (is_full_at (router_after run.case run.events e.dst) e ≡ true)
 
--- no event of a list in rising order is before t: the first isn't
+-- no event of a list in ascending order is before t: the first isn't
 abbrev pub NoneBefore : ℕ → List Event → Type 0
 NoneBefore t [] = Unit {0}
 NoneBefore t (e ∷ later) = t ≤ e.time

@@ -6,7 +6,7 @@ use Rattle.tw_model.specs.Net.{empty_path}
 
 -- what stands where there is no router
 abbrev pub no_router : Router
-no_router = record { net = record { nodes = 0; links = []; lines = [] }; node = 0; state = record { rib = empty_path; rows = []; order = []; counters = no_counts } }
+no_router = record { net = record { nodes = 0; links = []; permitted = [] }; node = 0; state = record { rib = empty_path; rows = []; order = []; counters = no_counts } }
 
 -- the router that handles the event
 abbrev pub receiver : List Router → Event → Router

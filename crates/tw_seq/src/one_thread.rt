@@ -16,7 +16,7 @@ use tw_event::Event;
 use tw_handlers::CounterFull;
 use tw_instance::Case;
 use tw_model::{OrMemory, Outcome};
-use tw_queue::Pending;
+use tw_queue::EventList;
 use tw_router::Router;
 use tw_shape::{Shape, ShapeBuilder};
 
@@ -27,7 +27,7 @@ pub struct OneThread<'a> {
     case: &'a Case,
     stop: u64,
     routers: Vec<Router<'a>>,
-    pending: Pending,
+    pending: EventList,
     events: Vec<Event>,
     last_change: u64,
 }
@@ -166,6 +166,11 @@ impl<'a> OneThread<'a> {
             pending,
             last_change: self.last_change,
         })
+    }
+
+    /// What its lists take memory from.
+    pub(crate) fn allocator(&self) -> Global {
+        *self.events.allocator()
     }
 
     /// The stop becomes the greater of itself and `stop`.

@@ -10,7 +10,7 @@ use tw_model::RouterEnd;
 use tw_router::Router;
 use tw_shape::ShapeBuilder;
 
-/// Every router of the instance as it begins, in rising number.
+/// Every router of the instance as it begins, in ascending order.
 pub(crate) fn opening_routers<'a>(
     alloc: Global,
     instance: &'a Instance,

@@ -16,7 +16,7 @@ use tw_event::Event;
 use tw_handlers::{CounterFull, UndoRecord, handle_fitting, undo};
 use tw_instance::{Case, Instance};
 use tw_model::OrMemory;
-use tw_queue::Pending;
+use tw_queue::EventList;
 use tw_router::Router;
 
 /// Handles an event at its router, puts what it sends at the end of `sends`, and answers what undoing it
@@ -71,7 +71,7 @@ pub(crate) fn undo_at(
 /// Makes room for one more event handled and for `count` more pending.
 pub(crate) fn make_room(
     events: &mut Vec<Event>,
-    pending: &mut Pending,
+    pending: &mut EventList,
     count: usize,
 ) -> Result<(), AllocError>
     ensures events { events.new.items ≡ events.old.items }
@@ -85,7 +85,7 @@ pub(crate) fn make_room(
 }
 
 /// Adds events for which there is room, each in its place.
-pub(crate) fn insert_each(pending: &mut Pending, events: &[Event])
+pub(crate) fn insert_each(pending: &mut EventList, events: &[Event])
     requires homes { AreFor pending.old.routers events.now }
     requires room { length events.now ≤ pending.old.room }
     ensures events { pending.new.events ≡ insert_all event_before events.now pending.old.events }
@@ -97,13 +97,13 @@ pub(crate) fn insert_each(pending: &mut Pending, events: &[Event])
 }
 
 /// The opening events of a case.
-pub(crate) fn opening_queue(alloc: Global, case: &Case) -> Result<Pending, AllocError>
+pub(crate) fn opening_queue(alloc: Global, case: &Case) -> Result<EventList, AllocError>
     ensures events { IfOk result
         (λ pending. pending.events ≡ insert_all event_before (opening_events case.now.scenes) []) }
     ensures routers { IfOk result (λ pending. pending.routers ≡ case.now.net.nodes) }
 {
     let events = case.openings();
-    let mut pending = Pending::new(alloc, case.instance().nodes())?;
+    let mut pending = EventList::new(alloc, case.instance().nodes())?;
     pending.reserve(events.len())?;
     insert_each(&mut pending, events);
     Ok(pending)

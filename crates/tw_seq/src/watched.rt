@@ -6,7 +6,6 @@ ghost use Rattle.tw_seq.specs.Run.{GetsStuck, complete_run, opening_run};
 ghost use Rattle.tw_shape.specs.Verdict.{finding};
 
 use crate::one_thread::OneThread;
-use std::alloc::Global;
 use tw_handlers::CounterFull;
 use tw_model::OrMemory;
 use tw_shape::Watch;
@@ -16,12 +15,7 @@ impl OneThread<'_> {
     /// `every` up to the stop. The run is at its beginning.
     ///
     /// Where nothing is handled between checkpoints, they are shown at once.
-    pub fn run_watched(
-        &mut self,
-        alloc: Global,
-        stop: u64,
-        every: u64,
-    ) -> Result<Watch, OrMemory<CounterFull>>
+    pub fn run_watched(&mut self, stop: u64, every: u64) -> Result<Watch, OrMemory<CounterFull>>
         requires opening { self.old ≡ opening_run self.old.case }
         requires stop { stop ≤ LATEST }
         requires some { 0 < every }
@@ -31,7 +25,7 @@ impl OneThread<'_> {
         ensures case { self.new.case ≡ self.old.case }
         ensures full { IsErrOf result (or_memory.Fault counter_full) → GetsStuck self.old.case stop }
     {
-        let mut watch = Watch::new(alloc, every)?;
+        let mut watch = Watch::new(self.allocator(), every)?;
         let last = stop / every;
         let mut seen = 0;
         while seen < last {

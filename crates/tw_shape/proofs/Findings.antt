@@ -18,7 +18,8 @@ pub first_found-append : (every : ℕ) (before xs ys : List Checkpoint)
     → first_found every before (xs ++ ys) ≡ option_or (first_found every before xs) (first_found every (before ++ xs) ys)
 first_found-append every before [] ys = ap (λ l. first_found every l ys) (sym (append-nil before))
 first_found-append every before (x ∷ xs) ys =
-    ap (option_or (found_at every before x)) (first_found-append every (before ++ x ∷ []) xs ys ∙ ap (λ l. option_or (first_found every (before ++ x ∷ []) xs) (first_found every l ys)) (append_assoc before (x ∷ []) xs))
+    ap (option_or (found_at every before x)) (first_found-append every (before ++ x ∷ []) xs ys
+    ∙ ap (λ l. option_or (first_found every (before ++ x ∷ []) xs) (first_found every l ys)) (append_assoc before (x ∷ []) xs))
     ∙ sym (option_or_assoc (found_at every before x) (first_found every (before ++ x ∷ []) xs) (first_found every (before ++ x ∷ xs) ys)) where
       option_or_assoc : (a b c : Option Finding) → option_or (option_or a b) c ≡ option_or a (option_or b c)
       option_or_assoc None b c = refl
@@ -84,14 +85,17 @@ module _ (case : Case) (every : ℕ) (some : 0 < every) where
 
     can : (b : Bool) → can_repeat (nth j).shape ≡ b → (i : ℕ) × ComesAgain case every i j × (f ≡ since (nth j) (nth i))
     can false e = let none : found j ≡ None = rw e refl in cc
-    can true e = at e (find (is_again every (nth j)) (map nth (range_with_len 1 (j - 1)))) refl (let k : found j ≡ option_map (since (nth j)) (find (is_again every (nth j)) (map nth (range_with_len 1 (j - 1)))) = rw e refl in sym k ∙ h)
+    can true e =
+        at e (find (is_again every (nth j)) (map nth (range_with_len 1 (j - 1)))) refl
+        (let k : found j ≡ option_map (since (nth j)) (find (is_again every (nth j)) (map nth (range_with_len 1 (j - 1)))) = rw e refl in sym k ∙ h)
 
   found_none : (j : ℕ) → found j ≡ None → (i : ℕ) → ComesAgain case every i j → ⊥
   found_none j h i again = at (find (is_again every (nth j)) (map nth (range_with_len 1 (j - 1)))) refl where
     test : is_again every (nth j) (nth i) ≡ true
     test =
         let near : j * every ≤ i * every + 64 * every = (let n = mul-le-mul_right every again.near in omega arith) in
-        and_from (nat_le (j * every) (i * every + 64 * every)) (same_shape (nth i).shape (nth j).shape) (le-leb (j * every) (i * every + 64 * every) near) ((shape_decides (nth i).shape (nth j).shape).1 again.same)
+        and_from (nat_le (j * every) (i * every + 64 * every)) (same_shape (nth i).shape (nth j).shape)
+        (le-leb (j * every) (i * every + 64 * every) near) ((shape_decides (nth i).shape (nth j).shape).1 again.same)
 
     there : In (nth i) (map nth (range_with_len 1 (j - 1)))
     there = in_mapped nth i (range_with_len 1 (j - 1)) (let a = again.some in let b = again.later in range_has i 1 (j - 1) (omega arith) (omega arith))

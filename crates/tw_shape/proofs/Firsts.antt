@@ -12,7 +12,7 @@ use Rattle.tw_shape.specs.declared.verdict.Finding.{Finding}
 use Rattle.tw_shape.specs.declared.watch.Gap.{Gap}
 use Rattle.tw_shape.specs.Shape.{IsStill, Shape, can_repeat, later, sooner}
 use Rattle.tw_shape.specs.Verdict.{Checkpoint, first_found, found_at, is_again, since}
-use Rattle.tw_shape.specs.Watch.{IsGap, Watch, after_first, gap_checkpoints, shown}
+use Rattle.tw_shape.specs.Watch.{IsGap, Watch, after_first, gap_checkpoints, checkpoints_in}
 use Rattle.tw_shape.specs.Same.{NeverMeet}
 use Rattle.tw_shape.specs.Windows.{IsTimely}
 use Rattle.tw_shape.proofs.Looking.{can_repeat-later, find_none, no_repeat}
@@ -98,13 +98,15 @@ module _ (every : ℕ) (some : 0 < every) (w : List Checkpoint) (gap : Gap) (is 
     first_step : (k n : ℕ) → first_found every (w ++ own k) (map nth (range_with_len k (suc n)))
         ≡ option_or (found_at every (w ++ own k) (nth k)) (first_found every (w ++ own (k + 1)) (map nth (range_with_len (k + 1) n)))
     first_step k n =
-        ap (λ l. option_or (found_at every (w ++ own k) (nth k)) (first_found every l (map nth (range_with_len (k + 1) n)))) (append_assoc w (own k) (nth k ∷ []) ∙ ap (λ l. w ++ l) (range_push nth 0 k k (omega arith)) ∙ ap (λ n. w ++ own n) (let e : suc k ≡ k + 1 = omega arith in e))
+        ap (λ l. option_or (found_at every (w ++ own k) (nth k)) (first_found every l (map nth (range_with_len (k + 1) n))))
+        (append_assoc w (own k) (nth k ∷ []) ∙ ap (λ l. w ++ l) (range_push nth 0 k k (omega arith)) ∙ ap (λ n. w ++ own n) (let e : suc k ≡ k + 1 = omega arith in e))
 
     -- nothing is found where none of its checkpoints shows a shape from before
     find_nothing : (k n : ℕ) → k + n ≤ gap.count → ((i : ℕ) → k ≤ i → i < k + n → has_none i) → first_found every (w ++ own k) (map nth (range_with_len k n)) ≡ None
     find_nothing k zero le none = refl
     find_nothing k (suc n) le none =
-        first_step k n ∙ ap (λ o. option_or o (first_found every (w ++ own (k + 1)) (map nth (range_with_len (k + 1) n)))) (found_nth k (omega arith) ∙ ap (option_map (finding_from (nth k))) (none k (omega arith) (omega arith)))
+        first_step k n ∙ ap (λ o. option_or o (first_found every (w ++ own (k + 1)) (map nth (range_with_len (k + 1) n))))
+        (found_nth k (omega arith) ∙ ap (option_map (finding_from (nth k))) (none k (omega arith) (omega arith)))
         ∙ find_nothing (k + 1) n (omega arith) (λ i low up. none i (omega arith) (omega arith))
 
     -- else it is what is found at the first that does
@@ -117,7 +119,8 @@ module _ (every : ℕ) (some : 0 < every) (w : List Checkpoint) (gap : Gap) (is 
               (found_nth k (omega arith) ∙ subst (λ z. option_map (finding_from (nth k)) (time_first (is_again every (nth k)) w) ≡ Some (finding_from (nth z) t)) is_k
               (ap (option_map (finding_from (nth k))) (subst (λ z. time_first (is_again every (nth z)) w ≡ Some t) (sym is_k) found)))
           | inr not_k ↦ first_step k n
-              ∙ ap (λ o. option_or o (first_found every (w ++ own (k + 1)) (map nth (range_with_len (k + 1) n)))) (found_nth k (omega arith) ∙ ap (option_map (finding_from (nth k))) (none k (omega arith) (omega arith)))
+              ∙ ap (λ o. option_or o (first_found every (w ++ own (k + 1)) (map nth (range_with_len (k + 1) n))))
+              (found_nth k (omega arith) ∙ ap (option_map (finding_from (nth k))) (none k (omega arith) (omega arith)))
               ∙ find_at (k + 1) n j t (omega arith) (omega arith) (omega arith) (λ i a b. none i (omega arith) (omega arith)) found
         ]
 
@@ -161,10 +164,10 @@ module _ (every : ℕ) (some : 0 < every) (w : List Checkpoint) (gap : Gap) (is 
 
 -- where no gap from before has a shape that this one shows later, nothing is found
 pub found_unlike : (w : Watch) (gap : Gap) → 0 < w.every → IsTimely w.every gap → All (IsTimely w.every) w.window → All (λ old. NeverMeet old.shape gap.shape) w.window
-    → All (λ c. c.time < gap.time) (shown w) → can_repeat gap.shape ≡ true → first_found w.every (shown w) (gap_checkpoints w.every gap) ≡ None
+    → All (λ c. c.time < gap.time) (checkpoints_in w) → can_repeat gap.shape ≡ true → first_found w.every (checkpoints_in w) (gap_checkpoints w.every gap) ≡ None
 found_unlike w gap some is timely apart before can =
-    found_nothing w.every some (shown w) gap is.is can before (min gap.count 64) refl (λ i l. ap (option_map (λ c. c.time)) (none i (omega arith) (shown w) (λ c h. h))) where
-      differs : (i : ℕ) → i < gap.count → (c : Checkpoint) → In c (shown w) → is_again w.every (after_first gap (i * w.every)) c ≡ false
+    found_nothing w.every some (checkpoints_in w) gap is.is can before (min gap.count 64) refl (λ i l. ap (option_map (λ c. c.time)) (none i (omega arith) (checkpoints_in w) (λ c h. h))) where
+      differs : (i : ℕ) → i < gap.count → (c : Checkpoint) → In c (checkpoints_in w) → is_again w.every (after_first gap (i * w.every)) c ≡ false
       differs i l c h =
           let old = in_flat_map (gap_checkpoints w.every) c w.window h in
           let place = in_map (λ k. after_first old.0 (k * w.every)) c (range_with_len 0 old.0.count) old.1 in
@@ -174,7 +177,8 @@ found_unlike w gap some is timely apart before can =
           let still_old = sooner_still old.0 a place.0 (omega arith) in
           let still_new = sooner_still gap is i l in
           let no = never (place.0 * w.every) (i * w.every) still_old still_new in
-          ap (is_again w.every (after_first gap (i * w.every))) place.1 ∙ ap (λ b. nat_le (gap.time + i * w.every) (old.0.time + place.0 * w.every + 64 * w.every) && b) no ∙ never_both (nat_le (gap.time + i * w.every) (old.0.time + place.0 * w.every + 64 * w.every)) where
+          let near = nat_le (gap.time + i * w.every) (old.0.time + place.0 * w.every + 64 * w.every) in
+          ap (is_again w.every (after_first gap (i * w.every))) place.1 ∙ ap (λ b. near && b) no ∙ never_both near where
             never_both : (b : Bool) → (b && false) ≡ false
             never_both true = refl
             never_both false = refl
@@ -182,6 +186,6 @@ found_unlike w gap some is timely apart before can =
             sooner_still : (g : Gap) → IsTimely w.every g → (k : ℕ) → k < g.count → IsStill (k * w.every) g.shape
             sooner_still g t k less = λ n d m. (let le : k ≤ g.count - 1 = omega arith in let far = mul-le-mul_right w.every le in let e = t.is.still n d m in omega arith)
 
-      none : (i : ℕ) → i < gap.count → (cs : List Checkpoint) → ((c : Checkpoint) → In c cs → In c (shown w)) → find (is_again w.every (after_first gap (i * w.every))) cs ≡ None
+      none : (i : ℕ) → i < gap.count → (cs : List Checkpoint) → ((c : Checkpoint) → In c cs → In c (checkpoints_in w)) → find (is_again w.every (after_first gap (i * w.every))) cs ≡ None
       none i l [] h = refl
       none i l (c ∷ cs) h = rw (differs i l c (h c (inl refl))) (none i l cs (λ d k. h d (inr k)))

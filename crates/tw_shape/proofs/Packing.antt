@@ -22,8 +22,8 @@ use Rattle.tw_shape.specs.declared.shape.Parts.{Parts}
 use Rattle.tw_shape.specs.declared.shape.Span.{Span}
 use Rattle.tw_shape.specs.Shape.{IsStill, RouterShape, Shape, can_repeat, is_update, later, sooner}
 use Rattle.tw_shape.specs.Same.{same_path, same_row, same_shape}
-use Rattle.tw_shape.specs.Packed.{Covers, delayed, hash_by, least_time, routers_of}
-use Rattle.tw_shape.specs.Storage.{IsPacked, unpacked}
+use Rattle.tw_shape.specs.Packed.{Covers, later_by, hash_by, least_time, routers_of}
+use Rattle.tw_shape.specs.Storage.{IsPacked, unpack}
 use Rattle.tw_shape.proofs.Sameness.{both_decide, event_decides, path_decides, row_decides, shape_decides}
 
 -- ---- the code's equality of parts
@@ -35,7 +35,8 @@ span_decides : (r s : Span) → Decides (span_eqs.ghosts.eq r s) (r ≡ s)
 unfolding span_of
 span_decides r s =
     both_decide (same_path r.rib s.rib) ((r.rows == s.rows) && (r.order == s.order)) (path_decides r.rib s.rib)
-    (both_decide {R = (r.rows ≡ s.rows) × (r.order ≡ s.order)} (r.rows == s.rows) (r.order == s.order) (unsigned_Decides r.rows s.rows) (unsigned_Decides r.order s.order) (λ p q. (p, q)) (λ p. (p.0, p.1)))
+    (both_decide {R = (r.rows ≡ s.rows) × (r.order ≡ s.order)} (r.rows == s.rows) (r.order == s.order)
+    (unsigned_Decides r.rows s.rows) (unsigned_Decides r.order s.order) (λ p q. (p, q)) (λ p. (p.0, p.1)))
     (λ p q. let all : span_of r.rib r.rows r.order ≡ span_of s.rib s.rows s.order = (let a = q.0 in let b = q.1 in cc) in all)
     (λ e. (ap (λ x. x.rib) e, (ap (λ x. x.rows) e, ap (λ x. x.order) e)))
 
@@ -134,74 +135,74 @@ least_below a (x ∷ xs) =
       ]),
     )
 
-least_from-delayed : (d a : ℕ) (xs : List Event) → least_from (a + d) (map (delayed d) xs) ≡ least_from a xs + d
-least_from-delayed d a [] = refl
-least_from-delayed d a (x ∷ xs) =
+least_from-later_by : (d a : ℕ) (xs : List Event) → least_from (a + d) (map (later_by d) xs) ≡ least_from a xs + d
+least_from-later_by d a [] = refl
+least_from-later_by d a (x ∷ xs) =
     let head : min (a + d) (x.time + d) ≡ min a x.time + d = omega arith in
-    ap (λ t. least_from t (map (delayed d) xs)) head ∙ least_from-delayed d (min a x.time) xs
+    ap (λ t. least_from t (map (later_by d) xs)) head ∙ least_from-later_by d (min a x.time) xs
 
-least-delayed : (d : ℕ) (x : Event) (xs : List Event) → least_time (map (delayed d) (x ∷ xs)) ≡ least_time (x ∷ xs) + d
-least-delayed d x xs = least_from-delayed d x.time xs
+least-later_by : (d : ℕ) (x : Event) (xs : List Event) → least_time (map (later_by d) (x ∷ xs)) ≡ least_time (x ∷ xs) + d
+least-later_by d x xs = least_from-later_by d x.time xs
 
-undelayed : (d : ℕ) (xs ys : List Event) → map (delayed d) xs ≡ map (delayed d) ys → xs ≡ ys
+undelayed : (d : ℕ) (xs ys : List Event) → map (later_by d) xs ≡ map (later_by d) ys → xs ≡ ys
 undelayed d [] [] h = refl
 undelayed d [] (y ∷ ys) h = cc
 undelayed d (x ∷ xs) [] h = cc
 undelayed d (x ∷ xs) (y ∷ ys) h =
-    let head : delayed d x ≡ delayed d y = cc in
+    let head : later_by d x ≡ later_by d y = cc in
     let time : x.time + d ≡ y.time + d = ap (λ e. e.time) head in
     let first = same x y (omega arith) (ap (λ e. e.dst) head) (ap (λ e. e.src) head) (ap (λ e. e.seq) head) (ap (λ e. e.body) head) in
-    let others = undelayed d xs ys (let k : map (delayed d) xs ≡ map (delayed d) ys = cc in k) in
+    let others = undelayed d xs ys (let k : map (later_by d) xs ≡ map (later_by d) ys = cc in k) in
     cc where
       same : (a b : Event) → a.time ≡ b.time → a.dst ≡ b.dst → a.src ≡ b.src → a.seq ≡ b.seq → a.body ≡ b.body → a ≡ b
       same a b t r s n o = λ i. record { time = t i; dst = r i; src = s i; seq = n i; body = o i }
 
-sooner_delayed : (t d : ℕ) (xs : List Event) → t ≤ d → map (sooner t) (map (delayed d) xs) ≡ map (delayed (d - t)) xs
+sooner_delayed : (t d : ℕ) (xs : List Event) → t ≤ d → map (sooner t) (map (later_by d) xs) ≡ map (later_by (d - t)) xs
 sooner_delayed t d [] le = refl
 sooner_delayed t d (x ∷ xs) le =
     let time : x.time + d - t ≡ x.time + (d - t) = omega arith in
     rw time (ap (λ l. record x { time = x.time + (d - t) } ∷ l) (sooner_delayed t d xs le))
 
 -- where nothing is due for so many ticks, the first pending event isn't
-still_due : (t d : ℕ) (x : Event) (xs : List Event) → least_time (x ∷ xs) ≡ 0 → All (λ e. t ≤ e.time) (map (delayed d) (x ∷ xs)) → t ≤ d
+still_due : (t d : ℕ) (x : Event) (xs : List Event) → least_time (x ∷ xs) ≡ 0 → All (λ e. t ≤ e.time) (map (later_by d) (x ∷ xs)) → t ≤ d
 still_due t d x xs least still =
     let e = least_stands x xs in
     let time = e.2 in
-    let here : t ≤ e.0.time + d = in_from_all (λ y. t ≤ y.time) (map (delayed d) (x ∷ xs)) still (delayed d e.0) (in_mapped (delayed d) e.0 (x ∷ xs) e.1) in
+    let here : t ≤ e.0.time + d = in_from_all (λ y. t ≤ y.time) (map (later_by d) (x ∷ xs)) still (later_by d e.0) (in_mapped (later_by d) e.0 (x ∷ xs) e.1) in
     omega arith
 
-later_pending : (t d : ℕ) (xs : List Event) → least_time xs ≡ 0 → All (λ e. t ≤ e.time) (map (delayed d) xs) → map (sooner t) (map (delayed d) xs) ≡ map (delayed (d - t)) xs
+later_pending : (t d : ℕ) (xs : List Event) → least_time xs ≡ 0 → All (λ e. t ≤ e.time) (map (later_by d) xs) → map (sooner t) (map (later_by d) xs) ≡ map (later_by (d - t)) xs
 later_pending t d [] least still = refl
 later_pending t d (x ∷ xs) least still = sooner_delayed t d (x ∷ xs) (still_due t d x xs least still)
 
 -- a shape so many ticks later has the same parts, that much less due
-pub later_unpacked : (t d : ℕ) (p : Parts) → IsPacked p d → IsStill t (unpacked p d) → later t (unpacked p d) ≡ unpacked p (d - t)
+pub later_unpacked : (t d : ℕ) (p : Parts) → IsPacked p d → IsStill t (unpack p d) → later t (unpack p d) ≡ unpack p (d - t)
 later_unpacked t d p is still =
     let pending = later_pending t d p.pending.items is.least still in
     λ i. record { routers = routers_of p.spans.items p.rows.items p.order.items; pending = pending i }
 
 pending_back : (d e : ℕ) (xs ys : List Event) → least_time xs ≡ 0 → least_time ys ≡ 0 → (xs ≡ [] → d ≡ 0) → (ys ≡ [] → e ≡ 0)
-    → map (delayed d) xs ≡ map (delayed e) ys → (d ≡ e) × (xs ≡ ys)
+    → map (later_by d) xs ≡ map (later_by e) ys → (d ≡ e) × (xs ≡ ys)
 pending_back d e [] [] a b f g h = (f refl ∙ sym (g refl), refl)
 pending_back d e [] (y ∷ ys) a b f g h = cc
 pending_back d e (x ∷ xs) [] a b f g h = cc
 pending_back d e (x ∷ xs) (y ∷ ys) a b f g h =
-    let one = least-delayed d x xs in
-    let two = least-delayed e y ys in
+    let one = least-later_by d x xs in
+    let two = least-later_by e y ys in
     let same : d ≡ e = (let k = ap least_time h in omega arith) in
-    (same, undelayed d (x ∷ xs) (y ∷ ys) (h ∙ ap (λ k. map (delayed k) (y ∷ ys)) (sym same)))
+    (same, undelayed d (x ∷ xs) (y ∷ ys) (h ∙ ap (λ k. map (later_by k) (y ∷ ys)) (sym same)))
 
 -- ---- shapes
 
-pub unpacked_back : (d e : ℕ) (p q : Parts) → IsPacked p d → IsPacked q e → unpacked p d ≡ unpacked q e → (d ≡ e) × AreStoredAlike p q
+pub unpacked_back : (d e : ℕ) (p q : Parts) → IsPacked p d → IsPacked q e → unpack p d ≡ unpack q e → (d ≡ e) × AreStoredAlike p q
 unpacked_back d e p q a b h =
     let r = routers_back p.spans.items q.spans.items p.rows.items q.rows.items p.order.items q.order.items a.covers b.covers (ap (λ s. s.routers) h) in
     let w = pending_back d e p.pending.items q.pending.items a.least b.least a.none b.none (ap (λ s. s.pending) h) in
     (w.0, record { spans = r.0; rows = r.1; order = r.2; pending = w.1 })
 
-unpacked_along : (d e : ℕ) (p q : Parts) → d ≡ e → AreStoredAlike p q → unpacked p d ≡ unpacked q e
+unpacked_along : (d e : ℕ) (p q : Parts) → d ≡ e → AreStoredAlike p q → unpack p d ≡ unpack q e
 unpacked_along d e p q k h =
-    λ i. record { routers = routers_of (h.spans i) (h.rows i) (h.order i); pending = map (delayed (k i)) (h.pending i) }
+    λ i. record { routers = routers_of (h.spans i) (h.rows i) (h.order i); pending = map (later_by (k i)) (h.pending i) }
 
 less_packed : (t d : ℕ) (p : Parts) → IsPacked p d → IsPacked p (d - t)
 less_packed t d p is = record { covers = is.covers; least = is.least; none = λ h. let k = is.none h in omega arith }
@@ -213,20 +214,20 @@ same_hash f g p q h k a b alike = a ∙ (λ i. hash_by f g (alike.spans i) (alik
 
 -- two shapes by their parts, so many ticks later
 module _ (t u d e : ℕ) (p q : Parts) (a : IsPacked p d) (b : IsPacked q e) where
-  unpacked_meet : IsStill t (unpacked p d) → IsStill u (unpacked q e) → (r : Bool) → Decides r ((d - t ≡ e - u) × AreStoredAlike p q) → r ≡ same_shape (later t (unpacked p d)) (later u (unpacked q e))
+  unpacked_meet : IsStill t (unpack p d) → IsStill u (unpack q e) → (r : Bool) → Decides r ((d - t ≡ e - u) × AreStoredAlike p q) → r ≡ same_shape (later t (unpack p d)) (later u (unpack q e))
   unpacked_meet still too r is =
       let one = later_unpacked t d p a still in
       let two = later_unpacked u e q b too in
-      let both = one_answer r (same_shape (unpacked p (d - t)) (unpacked q (e - u))) is
-      (let s = shape_decides (unpacked p (d - t)) (unpacked q (e - u)) in
+      let both = one_answer r (same_shape (unpack p (d - t)) (unpack q (e - u))) is
+      (let s = shape_decides (unpack p (d - t)) (unpack q (e - u)) in
       ((λ h. unpacked_back (d - t) (e - u) p q (less_packed t d p a) (less_packed u e q b) (s.0 h)), (λ h. s.1 (unpacked_along (d - t) (e - u) p q h.0 h.1)))) in
-      both ∙ ap (λ s. same_shape s (unpacked q (e - u))) (sym one) ∙ ap (same_shape (later t (unpacked p d))) (sym two)
+      both ∙ ap (λ s. same_shape s (unpack q (e - u))) (sym one) ∙ ap (same_shape (later t (unpack p d))) (sym two)
 
-  module _ (s w : Shape) (first : unpacked p d ≡ s) (second : unpacked q e ≡ w) (still : IsStill t s) (too : IsStill u w) where
+  module _ (s w : Shape) (first : unpack p d ≡ s) (second : unpack q e ≡ w) (still : IsStill t s) (too : IsStill u w) where
     meet : (r : Bool) → Decides r ((d - t ≡ e - u) × AreStoredAlike p q) → r ≡ same_shape (later t s) (later u w)
     meet r is =
         unpacked_meet (subst (IsStill t) (sym first) still) (subst (IsStill u) (sym second) too) r is
-        ∙ ap (λ x. same_shape (later t x) (later u (unpacked q e))) first ∙ ap (λ x. same_shape (later t s) (later u x)) second
+        ∙ ap (λ x. same_shape (later t x) (later u (unpack q e))) first ∙ ap (λ x. same_shape (later t s) (later u x)) second
 
     -- what is to be answered where the times are alike
     pub meets_alike : (r : Bool) → d - t ≡ e - u → r ≡ parts_eqs.ghosts.eq p q → r ≡ same_shape (later t s) (later u w)
@@ -237,24 +238,24 @@ module _ (t u d e : ℕ) (p q : Parts) (a : IsPacked p d) (b : IsPacked q e) whe
     meets_apart apart = meet false ((λ h. cc), (λ h. absurd (apart h.0 h.1)))
 
 -- whether a shape can repeat, by its parts
-pub can_repeat_unpacked : (p : Parts) (d : ℕ) (s : Shape) → unpacked p d ≡ s → (not (length p.pending.items == 0) && list_all (λ e. is_update e.body) p.pending.items) ≡ can_repeat s
+pub can_repeat_unpacked : (p : Parts) (d : ℕ) (s : Shape) → unpack p d ≡ s → (not (length p.pending.items == 0) && list_all (λ e. is_update e.body) p.pending.items) ≡ can_repeat s
 can_repeat_unpacked p d s view =
-    ap (λ b. not (length p.pending.items == 0) && b) (sym (list_all-map (λ e. is_update e.body) (delayed d) p.pending.items))
-    ∙ ap (λ n. not (n == 0) && list_all (λ e. is_update e.body) (map (delayed d) p.pending.items)) (sym (length-map p.pending.items (delayed d)))
+    ap (λ b. not (length p.pending.items == 0) && b) (sym (list_all-map (λ e. is_update e.body) (later_by d) p.pending.items))
+    ∙ ap (λ n. not (n == 0) && list_all (λ e. is_update e.body) (map (later_by d) p.pending.items)) (sym (length-map p.pending.items (later_by d)))
     ∙ ap can_repeat view
 
 -- nothing pending is due before the first
-pub still_first : (p : Parts) (d : ℕ) (s : Shape) → unpacked p d ≡ s → IsStill d s
+pub still_first : (p : Parts) (d : ℕ) (s : Shape) → unpack p d ≡ s → IsStill d s
 still_first p d s view =
-    subst (IsStill d) view (all_from_in (λ e. d ≤ e.time) (map (delayed d) p.pending.items) (λ e h.
-    let r = in_map (delayed d) e p.pending.items h in
+    subst (IsStill d) view (all_from_in (λ e. d ≤ e.time) (map (later_by d) p.pending.items) (λ e h.
+    let r = in_map (later_by d) e p.pending.items h in
     let time : e.time ≡ r.0.time + d = ap (λ x. x.time) r.1 in
     omega arith))
 
 -- and where something is pending, the first is due then
-pub still_longest : (p : Parts) (d : ℕ) (s : Shape) → unpacked p d ≡ s → IsPacked p d → (length p.pending.items ≡ 0 → ⊥) → (k : ℕ) → IsStill k s → k ≤ d
+pub still_longest : (p : Parts) (d : ℕ) (s : Shape) → unpack p d ≡ s → IsPacked p d → (length p.pending.items ≡ 0 → ⊥) → (k : ℕ) → IsStill k s → k ≤ d
 still_longest p d s view is some k still = go p.pending.items is.least some (subst (IsStill k) (sym view) still) where
-  go : (xs : List Event) → least_time xs ≡ 0 → (length xs ≡ 0 → ⊥) → All (λ e. k ≤ e.time) (map (delayed d) xs) → k ≤ d
+  go : (xs : List Event) → least_time xs ≡ 0 → (length xs ≡ 0 → ⊥) → All (λ e. k ≤ e.time) (map (later_by d) xs) → k ≤ d
   go [] least some all = absurd (some refl)
   go (x ∷ xs) least some all = still_due k d x xs least all
 
@@ -307,7 +308,8 @@ routers-push (t ∷ ss) rows rs order os s a b c =
     let r = next_rows t.rows rows rs c.0 in
     let o = next_rows t.order order os c.1 in
     let more = routers-push ss (drop t.rows rows) rs (drop t.order order) os s a b c.2 in
-    let rest : routers_of (ss ++ s ∷ []) (drop t.rows (rows ++ rs)) (drop t.order (order ++ os)) ≡ routers_of ss (drop t.rows rows) (drop t.order order) ++ record { rib = s.rib; rows = rs; order = os } ∷ []
+    let rest : routers_of (ss ++ s ∷ []) (drop t.rows (rows ++ rs)) (drop t.order (order ++ os))
+    ≡ routers_of ss (drop t.rows rows) (drop t.order order) ++ record { rib = s.rib; rows = rs; order = os } ∷ []
     = (λ i. routers_of (ss ++ s ∷ []) (r.1 i) (o.1 i)) ∙ more in
     λ i. record { rib = t.rib; rows = r.0 i; order = o.0 i } ∷ rest i
 
@@ -323,12 +325,12 @@ least-sooner : (d : ℕ) (xs : List Event) → least_time (map (sooner d) xs) �
 least-sooner d [] = omega arith
 least-sooner d (x ∷ xs) = least_from-sooner d x.time xs
 
-delayed_sooner : (d : ℕ) (xs : List Event) → ((e : Event) → In e xs → d ≤ e.time) → map (delayed d) (map (sooner d) xs) ≡ map (delayed 0) xs
+delayed_sooner : (d : ℕ) (xs : List Event) → ((e : Event) → In e xs → d ≤ e.time) → map (later_by d) (map (sooner d) xs) ≡ map (later_by 0) xs
 delayed_sooner d [] h = refl
 delayed_sooner d (x ∷ xs) h =
     let le = h x (inl refl) in
     let time : x.time - d + d ≡ x.time + 0 = omega arith in
-    rw time (ap (λ l. delayed 0 x ∷ l) (delayed_sooner d xs (λ e k. h e (inr k))))
+    rw time (ap (λ l. later_by 0 x ∷ l) (delayed_sooner d xs (λ e k. h e (inr k))))
 
 least_all : (xs : List Event) (e : Event) → In e xs → least_time xs ≤ e.time
 least_all [] e h = absurd h
@@ -337,14 +339,14 @@ least_all (x ∷ xs) e (inr k) = (least_below x.time xs).1 e k
 
 -- events that are counted from their least time on
 pub record AreCounted (xs ys : List Event) (due : ℕ) : Type 0 where
-  pub view : map (delayed due) ys ≡ map (delayed 0) xs
+  pub view : map (later_by due) ys ≡ map (later_by 0) xs
   pub least : least_time ys ≡ 0
   pub none : ys ≡ [] → due ≡ 0
 
 pub are_counted : (xs ys : List Event) (due : ℕ) → due ≡ least_time xs → ys ≡ map (sooner due) xs → AreCounted xs ys due
 are_counted xs ys due d y =
     record {
-      view = ap (map (delayed due)) y ∙ delayed_sooner due xs (λ e h. let k = least_all xs e h in omega arith);
+      view = ap (map (later_by due)) y ∙ delayed_sooner due xs (λ e h. let k = least_all xs e h in omega arith);
       least = ap least_time y ∙ least-sooner due xs ∙ (let k : least_time xs - due ≡ 0 = omega arith in k);
       none = λ e. none xs d (sym y ∙ e);
     } where
@@ -352,7 +354,7 @@ are_counted xs ys due d y =
       none [] e h = e
       none (z ∷ zs) e h = cc
 
-pub undelayed_none : (xs : List Event) → map (delayed 0) xs ≡ xs
+pub undelayed_none : (xs : List Event) → map (later_by 0) xs ≡ xs
 undelayed_none [] = refl
 undelayed_none (x ∷ xs) = let time : x.time + 0 ≡ x.time = omega arith in rw time (ap (λ l. x ∷ l) (undelayed_none xs))
 

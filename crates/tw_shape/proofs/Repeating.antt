@@ -168,13 +168,15 @@ module _ (case : Case) (is : IsCase case) where
 
     updates_pending : Each IsUpdate (rest m a)
     updates_pending =
-        each_from_all (λ e. seen_from a (sent_at a e.src) e) (rest m a) (λ e. refl) (and_parts (not (length (shape case a).pending == 0)) (list_all (λ e. is_update e.body) (shape case a).pending) can).1
+        each_from_all (λ e. seen_from a (sent_at a e.src) e) (rest m a) (λ e. refl)
+        (and_parts (not (length (shape case a).pending == 0)) (list_all (λ e. is_update e.body) (shape case a).pending) can).1
 
     states_alike : (r : ℕ) → AreAlike (gain r) (at m a r) (at m (a + p) r)
     states_alike r = record {
       counters = (at m (a + p) r).counters;
       same = same_but_counters (at m a r) (at m (a + p) r) (elim (cases_lt r case.net.nodes) [
-        | inl l ↦ map_back (λ q. bare (at m (a + p) q)) (λ q. bare (at m a q)) (range_with_len 0 case.net.nodes) (ap (λ s. s.routers) again) r (range_has r 0 case.net.nodes (omega arith) (omega arith))
+        | inl l ↦ map_back (λ q. bare (at m (a + p) q)) (λ q. bare (at m a q)) (range_with_len 0 case.net.nodes)
+            (ap (λ s. s.routers) again) r (range_has r 0 case.net.nodes (omega arith) (omega arith))
         | inr out ↦ ap bare (idle case is (a + p) r out ∙ sym (idle case is a r out))
       ]);
       sent = gains r;

@@ -32,14 +32,16 @@ pub row_decides : (r s : Row) → Decides (same_row r s) (r ≡ s)
 unfolding row_of
 row_decides r s =
     both_decide (same_path r.heard s.heard) (beq r.up s.up && (r.session == s.session)) (path_decides r.heard s.heard)
-    (both_decide {R = (r.up ≡ s.up) × (r.session ≡ s.session)} (beq r.up s.up) (r.session == s.session) (booleans_Decides r.up s.up) (unsigned_Decides r.session s.session) (λ p q. (p, q)) (λ p. (p.0, p.1)))
+    (both_decide {R = (r.up ≡ s.up) × (r.session ≡ s.session)} (beq r.up s.up) (r.session == s.session)
+    (booleans_Decides r.up s.up) (unsigned_Decides r.session s.session) (λ p q. (p, q)) (λ p. (p.0, p.1)))
     (λ p q. let all : row_of r.heard r.up r.session ≡ row_of s.heard s.up s.session = (let a = q.0 in let b = q.1 in cc) in all)
     (λ e. (ap (λ x. x.heard) e, (ap (λ x. x.up) e, ap (λ x. x.session) e)))
 
 pub router_decides : (r s : RouterShape) → Decides (same_router r s) (r ≡ s)
 router_decides r s =
     both_decide (same_path r.rib s.rib) (pointwise same_row r.rows s.rows && pointwise same_path r.order s.order) (path_decides r.rib s.rib)
-    (both_decide {R = (r.rows ≡ s.rows) × (r.order ≡ s.order)} (pointwise same_row r.rows s.rows) (pointwise same_path r.order s.order) (pointwise_decides row_decides r.rows s.rows) (pointwise_decides path_decides r.order s.order) (λ p q. (p, q)) (λ p. (p.0, p.1)))
+    (both_decide {R = (r.rows ≡ s.rows) × (r.order ≡ s.order)} (pointwise same_row r.rows s.rows) (pointwise same_path r.order s.order)
+    (pointwise_decides row_decides r.rows s.rows) (pointwise_decides path_decides r.order s.order) (λ p q. (p, q)) (λ p. (p.0, p.1)))
     (λ p q. λ i. record { rib = p i; rows = q.0 i; order = q.1 i })
     (λ e. (ap (λ x. x.rib) e, (ap (λ x. x.rows) e, ap (λ x. x.order) e)))
 

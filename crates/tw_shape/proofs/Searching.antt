@@ -9,7 +9,7 @@ use Rattle.tw_shape.specs.declared.watch.Gap.{Gap}
 use Rattle.tw_shape.specs.Shape.{Shape}
 use Rattle.tw_shape.specs.Same.{NeverMeet}
 use Rattle.tw_shape.specs.Verdict.{Checkpoint, is_again}
-use Rattle.tw_shape.specs.Watch.{Watch, after_first, gap_checkpoints, shown}
+use Rattle.tw_shape.specs.Watch.{Watch, after_first, gap_checkpoints, checkpoints_in}
 use Rattle.tw_shape.specs.Windows.{IsTimely}
 
 abbrev time_in : Option Checkpoint → Option ℕ
@@ -21,7 +21,7 @@ time_first p cs = time_in (find p cs)
 
 -- the gaps that are left decide, and are timely
 pub record IsLeft (ticks : ℕ) (gap : Gap) (w : Watch) (left : List Gap) : Type 0 where
-  pub same : time_first (is_again w.every (after_first gap ticks)) (flat_map (gap_checkpoints w.every) left) ≡ time_first (is_again w.every (after_first gap ticks)) (shown w)
+  pub same : time_first (is_again w.every (after_first gap ticks)) (flat_map (gap_checkpoints w.every) left) ≡ time_first (is_again w.every (after_first gap ticks)) (checkpoints_in w)
   pub timely : All (IsTimely w.every) left
 
 time_or : (a b : Option Checkpoint) → time_in (option_or a b) ≡ option_or (time_in a) (time_in b)
@@ -36,7 +36,7 @@ module _ (ticks : ℕ) (gap : Gap) (w : Watch) (x : Gap) (all left : List Gap) (
   now : IsLeft ticks gap w (x ∷ left)
   now = subst (IsLeft ticks gap w) step is
 
-  both : option_or (time_first test (gap_checkpoints w.every x)) (time_first test (flat_map (gap_checkpoints w.every) left)) ≡ time_first test (shown w)
+  both : option_or (time_first test (gap_checkpoints w.every x)) (time_first test (flat_map (gap_checkpoints w.every) left)) ≡ time_first test (checkpoints_in w)
   both =
       sym (time_or (find test (gap_checkpoints w.every x)) (find test (flat_map (gap_checkpoints w.every) left)))
       ∙ ap time_in (sym (find-append test (gap_checkpoints w.every x) (flat_map (gap_checkpoints w.every) left))) ∙ now.same
@@ -61,13 +61,13 @@ module _ (ticks : ℕ) (gap : Gap) (w : Watch) (x : Gap) (all left : List Gap) (
           is_none (Some t) h = cc
 
     -- it has one
-    pub left_some : is_some r ≡ true → r ≡ time_first test (shown w)
+    pub left_some : is_some r ≡ true → r ≡ time_first test (checkpoints_in w)
     left_some some = stays r some ∙ ap (λ o. option_or o (time_first test (flat_map (gap_checkpoints w.every) left))) own_first ∙ both where
       stays : (o : Option ℕ) → is_some o ≡ true → o ≡ option_or o (time_first test (flat_map (gap_checkpoints w.every) left))
       stays None h = cc
       stays (Some t) h = refl
 
-pub left_all : (ticks : ℕ) (gap : Gap) (w : Watch) → IsLeft ticks gap w [] → None ≡ time_first (is_again w.every (after_first gap ticks)) (shown w)
+pub left_all : (ticks : ℕ) (gap : Gap) (w : Watch) → IsLeft ticks gap w [] → None ≡ time_first (is_again w.every (after_first gap ticks)) (checkpoints_in w)
 left_all ticks gap w is = is.same
 
 pub in_drop : {X : Type 0} (x : X) (n : ℕ) (xs : List X) → In x (drop n xs) → In x xs

@@ -12,7 +12,7 @@ use Rattle.tw_sim.proofs.Members.{In, all_from_in, in_append, in_from_all, in_ma
 use Rattle.tw_shape.specs.declared.watch.Gap.{Gap}
 use Rattle.tw_shape.specs.Shape.{IsStill, can_repeat, shape}
 use Rattle.tw_shape.specs.Verdict.{Checkpoint, checkpoint, finding, first_found, found_at, is_again, since}
-use Rattle.tw_shape.specs.Watch.{HasSeen, IsGap, Watch, after_first, case_gap, fresh, gap, gap_checkpoints, nothing, shown, watched}
+use Rattle.tw_shape.specs.Watch.{HasSeen, IsGap, Watch, after_first, case_gap, fresh, gap, gap_checkpoints, nothing, checkpoints_in, with_gap}
 use Rattle.tw_shape.proofs.Findings.{first_found-append, range_append}
 use Rattle.tw_shape.proofs.Searching.{in_drop}
 use Rattle.tw_shape.proofs.Stillness.{still_shape}
@@ -210,7 +210,7 @@ module _ (case : Case) (is : IsCase case) (every : ℕ) (some : 0 < every) where
               (λ z. is_again every (j.1 z) (i.1 z)) ∙ apart
         ]
 
-    found_more : (watched w new).found ≡ finding case every (n + count)
+    found_more : (with_gap w new).found ≡ finding case every (n + count)
     found_more =
         let start = k.start in
         let ends = k.ends in
@@ -224,7 +224,7 @@ module _ (case : Case) (is : IsCase case) (every : ℕ) (some : 0 < every) where
         ∙ (λ i. option_or (k.found i) (first_found every (k.range i) (gap_range (n + 1) count a i)))
         ∙ ap (option_or (finding case every n)) all ∙ sym joined ∙ ap (first_found every []) range
 
-    keeps_gap : Keeps (n + count) (watched w new)
+    keeps_gap : Keeps (n + count) (with_gap w new)
     keeps_gap =
         let ends = k.ends in
         let all : flat_map (gap_checkpoints every) (w.window ++ new ∷ []) ≡ map nth (range_with_len k.first (k.count + count))
@@ -265,10 +265,10 @@ module _ (case : Case) (is : IsCase case) (every : ℕ) (some : 0 < every) where
   seen_found n w seen = (keeps seen).found
 
   -- and what it keeps is before the next checkpoint
-  pub seen_early : (n : ℕ) (w : Watch) → HasSeen case every n w → All (λ c. c.time < (n + 1) * every) (shown w)
+  pub seen_early : (n : ℕ) (w : Watch) → HasSeen case every n w → All (λ c. c.time < (n + 1) * every) (checkpoints_in w)
   seen_early n w seen =
       let k = keeps seen in
-      let range : shown w ≡ map nth (range_with_len k.first k.count) = (λ i. flat_map (gap_checkpoints (k.every_is i)) w.window) ∙ k.range in
+      let range : checkpoints_in w ≡ map nth (range_with_len k.first k.count) = (λ i. flat_map (gap_checkpoints (k.every_is i)) w.window) ∙ k.range in
       subst (λ (l : List Checkpoint). All (λ c. c.time < (n + 1) * every) l) (sym range) (all_from_in (λ c. c.time < (n + 1) * every) (map nth (range_with_len k.first k.count)) (λ c h.
       let i = in_map nth c (range_with_len k.first k.count) h in
       let number = in_range i.0 k.first k.count i.2 in

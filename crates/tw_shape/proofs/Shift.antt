@@ -84,7 +84,8 @@ module _ {S E : Type 0} (m : Simulation S E) where
         = rw (is.dst x) (ap (λ l. insert_all m l (map shift rest)) (is.sends (state m (m.dst x) (only m (m.dst x) log)) (state m (m.dst x) (only m (m.dst x) v.log)) x w.good.0 (w.states (m.dst x)))
         ∙ insert_all-shift (m.sends (state m (m.dst x) (only m (m.dst x) log)) x) rest) in
         subst (λ z. Shifted (turn m t log (x ∷ rest)) z) (sym (first ∙ second))
-        (subst (λ z. Shifted z (record { log = shift x ∷ v.log; rest = insert_all m (m.sends (state m (m.dst (shift x)) (only m (m.dst (shift x)) v.log)) (shift x)) (map shift rest) })) (sym (turn_soon m t log x rest h)) (record {
+        (subst (λ z. Shifted z (record { log = shift x ∷ v.log; rest = insert_all m (m.sends (state m (m.dst (shift x)) (only m (m.dst (shift x)) v.log)) (shift x)) (map shift rest) }))
+        (sym (turn_soon m t log x rest h)) (record {
           states = states_after x log v.log w.good.0 w.states;
           rest = sends;
           good = good-insert_all Good (m.sends (state m (m.dst x) (only m (m.dst x) log)) x) rest (is.good (state m (m.dst x) (only m (m.dst x) log)) x w.good.0) w.good.1;

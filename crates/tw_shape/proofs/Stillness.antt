@@ -69,7 +69,8 @@ module _ (case : Case) (is : IsCase case) where
   gathered t =
       let sent : ℕ → ℕ = λ r. slice_index (map (λ s. s.counters.sent) (map (at m t) (range_with_len 0 case.net.nodes))) r in
       let routers = map_map bare (at m t) (range_with_len 0 case.net.nodes) in
-      let pending = seen_same t (sent_at t) sent (rest m t) (λ e h. sym (get_map (λ s. s.counters.sent) (at m t) 0 case.net.nodes e.src (pending_sender case is t e h) ∙ ap (sent_at t) (let k : 0 + e.src ≡ e.src = omega arith in k))) in
+      let pending = seen_same t (sent_at t) sent (rest m t)
+      (λ e h. sym (get_map (λ s. s.counters.sent) (at m t) 0 case.net.nodes e.src (pending_sender case is t e h) ∙ ap (sent_at t) (let k : 0 + e.src ≡ e.src = omega arith in k))) in
       λ i. record { routers = routers i; pending = pending i } where
         map_map : {X Y Z : Type 0} (f : Y → Z) (g : X → Y) (xs : List X) → map (λ x. f (g x)) xs ≡ map f (map g xs)
         map_map f g [] = refl

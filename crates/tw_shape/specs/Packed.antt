@@ -21,8 +21,8 @@ Covers [] rows order = (rows ≡ []) × (order ≡ [])
 Covers (s ∷ spans) rows order = (s.rows ≤ length rows) × (s.order ≤ length order) × Covers spans (drop s.rows rows) (drop s.order order)
 
 -- an event so many ticks later
-abbrev pub delayed : ℕ → Event → Event
-delayed d e = record e { time = e.time + d }
+abbrev pub later_by : ℕ → Event → Event
+later_by d e = record e { time = e.time + d }
 
 -- the least time of events, or 0
 abbrev pub least_time : List Event → ℕ

@@ -10,16 +10,19 @@ use Rattle.tw_event.proofs.Order.{event_total}
 use Rattle.tw_model.specs.declared.state.Row.{Row}
 use Rattle.tw_shape.specs.Shape.{IsStill, RouterShape, Shape, later}
 
--- whether two paths, rows, routers or shapes are the same in every part
+-- whether two path numbers are the same
 abbrev pub same_path : PathNo → PathNo → Bool
 same_path p q = p.0 == q.0
 
+-- whether two rows are the same in every part
 abbrev pub same_row : Row → Row → Bool
 same_row r s = same_path r.heard s.heard && (beq r.up s.up && (r.session == s.session))
 
+-- whether two routers are the same in every part
 abbrev pub same_router : RouterShape → RouterShape → Bool
 same_router r s = same_path r.rib s.rib && (pointwise same_row r.rows s.rows && pointwise same_path r.order s.order)
 
+-- whether two shapes are the same in every part
 abbrev pub same_shape : Shape → Shape → Bool
 same_shape s t = pointwise same_router s.routers t.routers && pointwise event_same s.pending t.pending
 

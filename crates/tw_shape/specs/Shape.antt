@@ -16,11 +16,12 @@ pub record RouterShape : Type 0 where
   pub rows : List Row
   pub order : List PathNo
 
--- the routers in rising number, and the pending events in their order, each as it is seen from that time
+-- the routers in ascending order, and the pending events in their order, each as it is seen from that time
 pub record Shape : Type 0 where
   pub routers : List RouterShape
   pub pending : List Event
 
+-- a state without its counters
 abbrev pub bare : State → RouterShape
 bare s = record { rib = s.rib; rows = s.rows; order = s.order }
 

@@ -8,7 +8,7 @@ use Rattle.tw_model.specs.Summary.{Summary}
 use Rattle.tw_shape.specs.declared.verdict.Finding.{Finding}
 use Rattle.tw_shape.specs.declared.verdict.Verdict.{Verdict}
 use Rattle.tw_shape.specs.declared.verdict.Verdict.TheVariants.{Quiet, Oscillates, Undecided}
-use Rattle.tw_shape.specs.declared.verdict.TheConstants.{WINDOW}
+use Rattle.tw_model.specs.declared.limits.TheConstants.{WINDOW}
 use Rattle.tw_shape.specs.Shape.{Shape, can_repeat, shape}
 use Rattle.tw_shape.specs.Same.{same_shape}
 
@@ -70,5 +70,6 @@ verdict_over c [] found = Quiet c
 verdict_over c (e ∷ es) None = Undecided
 verdict_over c (e ∷ es) (Some f) = Oscillates f.from f.period
 
+-- the verdict on what a run left
 abbrev pub verdict_of : Summary → Option Finding → Verdict
 verdict_of o found = verdict_over o.last_change o.pending found

@@ -5,7 +5,7 @@ use Rattle.std.specs.Option.{option_or}
 use Rattle.circular_buffer.specs.Buffer.{keep_last}
 use Rattle.tw_model.specs.Case.{Case}
 use Rattle.tw_shape.specs.declared.verdict.Finding.{Finding}
-use Rattle.tw_shape.specs.declared.verdict.TheConstants.{WINDOW}
+use Rattle.tw_model.specs.declared.limits.TheConstants.{WINDOW}
 use Rattle.tw_shape.specs.declared.watch.Gap.{Gap}
 use Rattle.tw_shape.specs.Shape.{IsStill, later, shape}
 use Rattle.tw_shape.specs.Verdict.{Checkpoint, first_found}
@@ -29,18 +29,19 @@ pub record Watch : Type 0 where
   pub window : List Gap
   pub found : Option Finding
 
+-- a watch that has seen nothing
 abbrev pub fresh : ℕ → Watch
 fresh every = record { every = every; window = []; found = None }
 
 -- the checkpoints of the gaps that the watch keeps
-abbrev pub shown : Watch → List Checkpoint
-shown w = flat_map (gap_checkpoints w.every) w.window
+abbrev pub checkpoints_in : Watch → List Checkpoint
+checkpoints_in w = flat_map (gap_checkpoints w.every) w.window
 
 -- the watch when it has seen the checkpoints of one more gap
-abbrev pub watched : Watch → Gap → Watch
-watched w gap = record w {
+abbrev pub with_gap : Watch → Gap → Watch
+with_gap w gap = record w {
   window = keep_last WINDOW (w.window ++ gap ∷ []);
-  found = option_or w.found (first_found w.every (shown w) (gap_checkpoints w.every gap));
+  found = option_or w.found (first_found w.every (checkpoints_in w) (gap_checkpoints w.every gap));
 }
 
 -- so many checkpoints of a case, from number k on
@@ -51,4 +52,4 @@ case_gap case every k n = record { time = k * every; count = n; shape = shape ca
 pub data HasSeen (case : Case) (every : ℕ) : ℕ → Watch → Type 0 where
   nothing : HasSeen case every 0 (fresh every)
   gap : {n count : ℕ} {w : Watch} → HasSeen case every n w → IsGap every (case_gap case every (n + 1) count)
-      → HasSeen case every (n + count) (watched w (case_gap case every (n + 1) count))
+      → HasSeen case every (n + count) (with_gap w (case_gap case every (n + 1) count))

@@ -1,12 +1,12 @@
--- What the fields of a watch say, and what holds of them.
+-- What the fields of a watch say, and what holds of them (own).
 use Rattle.std.specs.Prelude.{ℕ, ◌≡◌, ◌<◌, ◌≤◌, ◌+◌, ◌-◌, ◌*◌}
 use Rattle.std.specs.List.{All}
-use Rattle.tw_model.specs.declared.limits.TheConstants.{LATEST}
-use Rattle.tw_shape.specs.declared.verdict.TheConstants.{WINDOW}
+use Rattle.tw_model.specs.declared.limits.TheConstants.{LATEST, WINDOW}
 use Rattle.tw_shape.specs.declared.watch.Gap.{Gap}
 use Rattle.tw_shape.specs.declared.watch.Watch.TheInside.{Inside}
 use Rattle.tw_shape.specs.Watch.{IsGap, Watch}
 
+-- the watch that the fields say
 abbrev pub watch_of : Inside → Watch
 watch_of a = record { every = a.every; window = a.window.items; found = a.found }
 

@@ -7,7 +7,7 @@ use std::marker::Model;
 use tw_event::{Body, Event, PathNo};
 use tw_model::Row;
 
-/// Gathers a run's routers, in rising number, and then its pending events, into the shape at a time.
+/// Gathers a run's routers, in ascending order, and then its pending events, into the shape at a time.
 #[derive(Drop, Debug)]
 pub struct ShapeBuilder {
     time: u64,

@@ -9,7 +9,7 @@ ghost use Rattle.tw_sim.specs.Seq.{at, rest};
 ghost use Rattle.tw_shape.specs.declared.verdict.Finding.{Finding as AFinding};
 ghost use Rattle.tw_shape.specs.Shape.{IsStill, Repeats, bare, can_repeat, later, seen_from, shape};
 ghost use Rattle.tw_shape.specs.Verdict.{ComesAgain, IsFirst, finding};
-ghost use Rattle.tw_shape.specs.Watch.{HasSeen, Watch as AWatch, shown};
+ghost use Rattle.tw_shape.specs.Watch.{HasSeen, Watch as AWatch, checkpoints_in};
 
 /// A shape with events pending, none of them an opening event, that comes again `p` ticks later comes
 /// again every `p` ticks for ever, whatever the stop of a run was.
@@ -63,5 +63,5 @@ pub fn finding_repeats()
 pub fn watch_finds()
     ensures found { (case : Case) → IsCase case → (every n : ℕ) (w : AWatch) → 0 < every → HasSeen case every n w → w.found ≡ finding case every n }
     ensures early { (case : Case) → IsCase case → (every n : ℕ) (w : AWatch) → 0 < every → HasSeen case every n w
-        → All (λ c. c.time < (n + 1) * every) (shown w) }
+        → All (λ c. c.time < (n + 1) * every) (checkpoints_in w) }
 {}

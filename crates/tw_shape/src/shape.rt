@@ -1,7 +1,7 @@
 ghost use Rattle.std.specs.Prelude.{◌≡◌, ◌≤◌, ◌<◌, ◌-◌, ◌*◌, ℕ, false, [], IfNone, IfSome, map};
 ghost use Rattle.std.specs.List.{list_all};
 ghost use Rattle.tw_shape.specs.Packed.{Covers, hash_by, least_time};
-ghost use Rattle.tw_shape.specs.Storage.{unpacked};
+ghost use Rattle.tw_shape.specs.Storage.{unpack};
 ghost use Rattle.tw_shape.specs.Shape.{IsStill, can_repeat, is_update, later, sooner};
 ghost use Rattle.tw_shape.specs.Same.{NeverMeet, same_shape};
 
@@ -66,7 +66,7 @@ impl Shape {
     /// The shape of these parts, whose pending times are ticks from then on.
     pub(crate) fn of_parts(mut parts: Parts) -> Shape
         requires { Covers parts.spans.items parts.rows.items parts.order.items }
-        ensures { result ≡ unpacked parts 0 }
+        ensures { result ≡ unpack parts 0 }
     {
         let due = least_time(&parts.pending);
         bring_forward(&mut parts.pending, due);

@@ -4,9 +4,6 @@ ghost use Rattle.tw_shape.specs.Verdict.{verdict_of};
 
 use tw_model::Outcome;
 
-/// How many checkpoints before a checkpoint its shape is looked for among.
-pub const WINDOW: usize = 64;
-
 /// A shape that was seen before, with events pending and none of them an opening event: from a time
 /// on the run repeats, so it never comes to rest.
 #[derive(Clone, Copy, PartialEq, Eq, Debug)]

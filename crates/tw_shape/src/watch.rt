@@ -8,11 +8,12 @@ ghost use Rattle.tw_shape.specs.Shape.{IsStill, can_repeat};
 ghost use Rattle.tw_shape.specs.Verdict.{first_found, is_again, verdict_of};
 
 use crate::shape::Shape;
-use crate::verdict::{Finding, Verdict, WINDOW};
+use crate::verdict::{Finding, Verdict};
 use circular_buffer::HeapCircularBuffer;
 use std::alloc::{AllocError, Global};
 use std::marker::Model;
 use tw_model::Outcome;
+use tw_model::limits::WINDOW;
 
 /// Checkpoints between which nothing is handled, so that each has the shape of the first, later.
 #[derive(Drop, Debug)]
@@ -55,7 +56,7 @@ impl Gap {
 /// A watch over the checkpoints of a run: times with the same number of ticks between each two. It
 /// keeps the shapes of the last ones, and the first finding.
 ///
-/// Checkpoints are shown in rising order. Those between which nothing is handled are shown at once, by
+/// Checkpoints are shown in ascending order. Those between which nothing is handled are shown at once, by
 /// the shape of the first of them.
 #[derive(Drop, Debug)]
 pub struct Watch {
@@ -77,7 +78,7 @@ impl Model for Watch {
 }
 
 impl Watch {
-    ghost use Rattle.tw_shape.specs.Watch.{IsGap, after_first, fresh, gap_checkpoints, shown, watched};
+    ghost use Rattle.tw_shape.specs.Watch.{IsGap, after_first, fresh, gap_checkpoints, checkpoints_in, with_gap};
     ghost use Rattle.tw_shape.specs.Windows.{IsTimely};
 
     /// A watch that has seen no checkpoint, with a checkpoint every so many ticks, 1 to 1,000,000,000.
@@ -99,13 +100,13 @@ impl Watch {
     /// `time` is after all checkpoints shown before, and the last of `most` is at 1,000,000,000 at the
     /// latest.
     pub fn push(&mut self, time: u64, shape: Shape, most: u64) -> u64
-        requires later { All (λ c. c.time < time) (shown self.old) }
+        requires later { All (λ c. c.time < time) (checkpoints_in self.old) }
         requires some { 0 < most }
         requires latest { time + (most - 1) * self.old.every ≤ LATEST }
         ensures within { result ≤ most }
         ensures gap { IsGap self.old.every (record { time = time; count = result; shape = shape }) }
         ensures longest { IsStill (result * self.old.every) shape → result ≡ most }
-        ensures step { self.new ≡ watched self.old (record { time = time; count = result; shape = shape }) }
+        ensures step { self.new ≡ with_gap self.old (record { time = time; count = result; shape = shape }) }
     {
         let count = shape.still_times(self.every, most);
         let gap = Gap { time, count, shape };
@@ -131,8 +132,8 @@ impl Watch {
     /// What is found first, with the checkpoints of one more gap.
     fn found_with(&self, gap: &Gap) -> Option<Finding>
         requires timely { IsTimely self.now.every gap.now }
-        requires later { All (λ c. c.time < gap.now.time) (shown self.now) }
-        ensures { result ≡ option_or self.now.found (first_found self.now.every (shown self.now) (gap_checkpoints self.now.every gap.now)) }
+        requires later { All (λ c. c.time < gap.now.time) (checkpoints_in self.now) }
+        ensures { result ≡ option_or self.now.found (first_found self.now.every (checkpoints_in self.now) (gap_checkpoints self.now.every gap.now)) }
     {
         match self.found {
             Some(finding) => Some(finding),
@@ -143,8 +144,8 @@ impl Watch {
     /// What is found first at the checkpoints of the gap.
     fn find(&self, gap: &Gap) -> Option<Finding>
         requires timely { IsTimely self.now.every gap.now }
-        requires later { All (λ c. c.time < gap.now.time) (shown self.now) }
-        ensures { result ≡ first_found self.now.every (shown self.now) (gap_checkpoints self.now.every gap.now) }
+        requires later { All (λ c. c.time < gap.now.time) (checkpoints_in self.now) }
+        ensures { result ≡ first_found self.now.every (checkpoints_in self.now) (gap_checkpoints self.now.every gap.now) }
     {
         if !gap.shape.can_repeat() {
             return None;
@@ -182,7 +183,7 @@ impl Watch {
         requires timely { IsTimely self.now.every gap.now }
         requires ticks { ticks ≤ (gap.now.count - 1) * self.now.every }
         requires can { can_repeat gap.now.shape ≡ true }
-        ensures { result ≡ option_map (λ c. c.time) (find (is_again self.now.every (after_first gap.now ticks)) (shown self.now)) }
+        ensures { result ≡ option_map (λ c. c.time) (find (is_again self.now.every (after_first gap.now ticks)) (checkpoints_in self.now)) }
     {
         let every = self.every;
         for old in &self.window {

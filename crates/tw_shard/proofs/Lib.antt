@@ -1,5 +1,11 @@
-pub mod Histories
-pub mod Shares
+pub mod Arrivals
+pub mod Comings
+pub mod Commits
 pub mod Fields
-pub mod Steps
+pub mod Histories
+pub mod Openings
 pub mod Queues
+pub mod Reports
+pub mod RollBack
+pub mod Shares
+pub mod Steps

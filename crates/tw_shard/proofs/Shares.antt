@@ -10,8 +10,8 @@ use Rattle.tw_event.specs.declared.event.Event.{Event}
 use Rattle.tw_model.specs.Case.{Case, simulation}
 use Rattle.tw_model.specs.Effect.{effect, suits}
 use Rattle.tw_model.specs.State.{State}
-use Rattle.tw_shard.specs.Shard.{IsWhole, Shard, no_timeline, owns, place, timeline}
-use Rattle.tw_shard.specs.Timeline.{Timeline, known}
+use Rattle.tw_shard.specs.Shard.{IsWhole, Shard, core, no_timeline, owns, place, timeline}
+use Rattle.tw_shard.specs.Timeline.{Timeline, history, known, router_of}
 use Rattle.tw_sim.specs.declared.machine.Signed.{Signed}
 use Rattle.tw_sim.specs.Simulation.{state}
 
@@ -89,3 +89,15 @@ put_same f r a is =
       | inl same ↦ rw (eq-eqb q r same) (sym is ∙ ap f (sym same))
       | inr apart ↦ rw (ne_eqb q r apart) refl
     ])
+
+-- one of its routers, as its history leaves it
+pub router_known : (s : Shard) (r : ℕ) → IsWhole s → owns s r ≡ true
+    → router_of (timeline s r) ≡ record { net = s.case.net; node = r; state = state (simulation s.case) r ((core 0 s).history r) }
+router_known s r whole mine =
+    let at = whole.routers r mine in
+    let here : (core 0 s).history r ≡ history (timeline s r) = rw mine refl in
+    λ i. record {
+      net = at.net i;
+      node = at.node i;
+      state = ((λ j. known (at.net j) (at.node j) (history (timeline s r))) ∙ (known_state s.case r (history (timeline s r)) ∙ ap (state (simulation s.case) r) (sym here))) i;
+    }

@@ -1,3 +1,5 @@
-pub mod Timeline
-pub mod Shard
+pub mod Arrival
+pub mod Commit
 pub mod Inside
+pub mod Shard
+pub mod Timeline

@@ -37,7 +37,7 @@ place s r = r / s.workers
 
 -- what stands where there is no router
 abbrev pub no_timeline : Timeline
-no_timeline = record { net = record { nodes = 0; links = []; lines = [] }; node = 0; ahead = []; past = []; done = 0 }
+no_timeline = record { net = record { nodes = 0; links = []; permitted = [] }; node = 0; ahead = []; past = []; done = 0 }
 
 -- router r, which is one of its own
 abbrev pub timeline : Shard → ℕ → Timeline

@@ -3,13 +3,18 @@
 //!
 //! Contracts see a `Shard` as the record of its timelines, of what waits for its routers and of what they
 //! have sent (`specs/Shard`); `core` of that record is a Time Warp machine (`tw_core`) of these routers.
-//! Proved: `handle_next` and `undo_last` are that machine's steps, refusals among them, and change nothing
-//! where they are refused or want memory. Not there yet: opening a shard, receiving a message, committing.
+//! Proved: a shard opens as that machine does; `handle_next`, `undo_last`, `receive` and `commit` are its
+//! steps, refusals among them; a refusal changes nothing, nor does want of memory, but that a `receive`
+//! may have undone some of what it has to undo. `laws` tells what good states are for every case.
 #![tactic(auto)]
 
+pub mod laws;
+mod receiving;
+mod rejection;
 mod shard;
 mod timeline;
 
+pub use rejection::{Rejection, Returned};
 pub use shard::Shard;
 pub use tw_core::Refusal;
 pub use tw_model::OrMemory;

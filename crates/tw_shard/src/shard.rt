@@ -4,6 +4,9 @@ ghost use Rattle.std.specs.Result.{result_and};
 ghost use Rattle.tw_core.specs.Steps.{first_pending, with_commit};
 ghost use Rattle.tw_handlers.specs.Calls.{counter_full, is_full_at};
 ghost use Rattle.tw_event.specs.declared.event.Event.{Event as AnEvent};
+ghost use Rattle.tw_event.specs.Order.{event_before, event_same};
+ghost use Rattle.tw_sim.specs.Simulation.{state};
+ghost use Rattle.tw_sim.specs.Ordered.{insert, take_out, times};
 ghost use Rattle.tw_model.specs.declared.limits.TheConstants.{LATEST};
 ghost use Rattle.tw_model.specs.declared.memory.OrMemory.TheVariants as or_memory;
 ghost use Rattle.tw_model.specs.Case.{simulation};
@@ -11,6 +14,9 @@ ghost use Rattle.tw_model.specs.Effect.{fits, suits};
 ghost use Rattle.tw_model.specs.Rules.{IsNet};
 ghost use Rattle.tw_shard.specs.Shard.{IsSameShare, IsUndone, IsWhole, IsNext, core, handled_at, handling, no_timeline, owns, place, timeline, undoing};
 ghost use Rattle.tw_shard.specs.Timeline.{history, router_of, sends_after, signed};
+
+mod committing;
+mod opening;
 
 use crate::timeline::Timeline;
 use smallvec::SmallVec;
@@ -20,7 +26,7 @@ use std::mem;
 use tw_core::Refusal;
 use tw_event::Event;
 use tw_handlers::CounterFull;
-use tw_instance::Case;
+use tw_instance::{Case, Instance};
 use tw_model::OrMemory;
 use tw_queue::Pending;
 use tw_router::Router;
@@ -61,8 +67,16 @@ impl<'a> Shard<'a> {
         mem::replace(&mut self.outgoing, Vec::new(alloc))
     }
 
+    /// Exchanges what waits to be sent for another list, behind whose messages its routers then send.
+    pub fn swap_outgoing(&mut self, messages: &mut Vec<Signed<Event>>)
+        ensures taken { messages.new.items ≡ self.old.outgoing }
+        ensures put { self.new ≡ record self.old { outgoing = messages.old.items } }
+    {
+        mem::swap(&mut self.outgoing, messages);
+    }
+
     /// Whether this router is one of the shard's.
-    fn owns(&self, router: u32) -> bool
+    pub fn owns(&self, router: u32) -> bool
         ensures value { result ≡ owns self.now router }
         ensures whole { IsWhole self.now }
     {
@@ -80,7 +94,7 @@ impl<'a> Shard<'a> {
     }
 
     /// The timeline of one of its routers.
-    fn timeline(&self, router: u32) -> &Timeline<'a>
+    pub(crate) fn timeline(&self, router: u32) -> &Timeline<'a>
         requires { owns self.now router ≡ true }
         ensures value { result.now ≡ timeline self.now router }
         ensures whole { IsWhole self.now }
@@ -119,7 +133,9 @@ impl<'a> Shard<'a> {
     /// One of its routers, as the events that it has handled left it.
     pub fn router(&self, router: u32) -> &Router<'a>
         requires { owns self.now router ≡ true }
-        ensures { result.now ≡ router_of (timeline self.now router) }
+        ensures value { result.now ≡ router_of (timeline self.now router) }
+        ensures known { result.now
+            ≡ record { net = self.now.case.net; node = router; state = state (simulation self.now.case) router ((core 0 self.now).history router) } }
     {
         self.timeline(router).router()
     }
@@ -234,6 +250,52 @@ impl<'a> Shard<'a> {
         self.pending.least_at(router)
     }
 
+    /// An event becomes pending.
+    pub(crate) fn add_pending(&mut self, event: &Event) -> Result<(), AllocError>
+        requires own { owns self.old event.now.dst ≡ true }
+        requires suit { suits self.old.case.net event.now.dst event.now ≡ true }
+        ensures ok { OnOk result (self.new ≡ record self.old { pending = insert event_before event.now self.old.pending }) }
+        ensures err { OnErr result (self.new ≡ self.old) }
+    {
+        self.pending.insert(*event)?;
+        Ok(())
+    }
+
+    /// An event is pending once less, if it is pending.
+    pub(crate) fn take_pending(&mut self, event: &Event) -> bool
+        ensures value { IsTrue result ↔ (0 < times event_same event.now self.old.pending) }
+        ensures without { self.new ≡ record self.old { pending = take_out event_same event.now self.old.pending } }
+        ensures none { result ≡ false → self.new ≡ self.old }
+    {
+        self.pending.remove_one(event)
+    }
+
+    /// An antimessage is kept.
+    pub(crate) fn add_kept(&mut self, event: &Event) -> Result<(), AllocError>
+        requires own { owns self.old event.now.dst ≡ true }
+        ensures ok { OnOk result (self.new ≡ record self.old { kept = insert event_before event.now self.old.kept }) }
+        ensures err { OnErr result (self.new ≡ self.old) }
+    {
+        self.kept.insert(*event)?;
+        Ok(())
+    }
+
+    /// An antimessage is kept once less, if it is kept.
+    pub(crate) fn take_kept(&mut self, event: &Event) -> bool
+        ensures value { IsTrue result ↔ (0 < times event_same event.now self.old.kept) }
+        ensures without { self.new ≡ record self.old { kept = take_out event_same event.now self.old.kept } }
+        ensures none { result ≡ false → self.new ≡ self.old }
+    {
+        self.kept.remove_one(event)
+    }
+
+    /// The instance whose routers these are.
+    pub(crate) fn instance(&self) -> &Instance
+        ensures { result.now ≡ self.now.case.net }
+    {
+        self.case.instance()
+    }
+
     /// One of its routers handles an event, which is pending.
     fn step_on(&mut self, router: u32, event: &Event) -> Result<(), OrMemory<CounterFull>>
         requires own { owns self.old router ≡ true }
@@ -256,7 +318,7 @@ impl<'a> Shard<'a> {
     }
 
     /// One of its routers undoes the newest event that it can undo.
-    fn step_back(&mut self, router: u32) -> Result<(), AllocError>
+    pub(crate) fn step_back(&mut self, router: u32) -> Result<(), AllocError>
         requires own { owns self.old router ≡ true }
         requires some { 0 < length (timeline self.old router).ahead }
         ensures ok { OnOk result (IsUndone router self.old self.new) }

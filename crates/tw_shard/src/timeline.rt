@@ -1,5 +1,5 @@
 ghost use Rattle.std.specs.Prelude.{◌≡◌, ◌+◌, ◌≤◌, ◌<◌, ◌↔◌, ◌++◌, ◌∷◌, ℕ, List, false, true, length, map, slice_get, vec_capacity, vec_len, IfOk, IsErrOf, IsTrue, OnErr, OnOk};
-ghost use Rattle.std.specs.List.{AllByRecursion};
+ghost use Rattle.std.specs.List.{AllByRecursion, list_any};
 ghost use Rattle.tw_event.specs.declared.event.Event.{Event as AnEvent};
 ghost use Rattle.tw_core.specs.Steps.{is_newest};
 ghost use Rattle.tw_model.specs.Case.{Case as ACase, simulation};
@@ -9,7 +9,11 @@ ghost use Rattle.tw_model.specs.Effect.{effect, fits};
 ghost use Rattle.tw_model.specs.Rules.{IsNet};
 ghost use Rattle.tw_model.specs.State.{State as AState};
 ghost use Rattle.tw_handlers.specs.Record.{CameFrom};
+ghost use Rattle.tw_event.specs.Order.{event_same};
+ghost use Rattle.tw_sim.specs.Ordered.{times};
 ghost use Rattle.tw_shard.specs.Timeline.{history, opening_timeline, router_of as router_of_timeline, sends_after, signed};
+
+mod committing;
 
 use smallvec::SmallVec;
 use std::alloc::{AllocError, Global};
@@ -92,6 +96,23 @@ impl<'a> Timeline<'a> {
         }
     }
 
+    /// The event that it handled last, where it can undo it.
+    pub(crate) fn newest_ahead(&self) -> Option<Event>
+        ensures value { result ≡ slice_get self.now.ahead 0 }
+        ensures past { AllByRecursion (λ e. e.time < self.now.done) self.now.past }
+    {
+        let newest = self.ahead.last()?;
+        Some(newest.event)
+    }
+
+    /// Whether it has handled this event and can undo it.
+    pub(crate) fn has_ahead(&self, event: &Event) -> bool
+        ensures value { IsTrue result ↔ (0 < times event_same event.now self.now.ahead) }
+        ensures past { AllByRecursion (λ e. e.time < self.now.done) self.now.past }
+    {
+        is_among(&self.ahead, event)
+    }
+
     /// Whether this is the event that it handled last and has not undone.
     pub(crate) fn is_newest(&self, event: &Event) -> bool
         ensures { (case : ACase) → result ≡ is_newest (simulation case) event.now (history self.now) }
@@ -163,6 +184,13 @@ impl<'a> Timeline<'a> {
         post(outgoing, sends, false);
         Ok(newest.event)
     }
+}
+
+/// Whether an event is one of those handled.
+fn is_among(handled: &[HandledEvent], event: &Event) -> bool
+    ensures { result ≡ list_any (λ d. ⟦<Event as PartialEq>⟧.eq event.now d.event) handled.now }
+{
+    handled.iter().any(|handled| *event == handled.event)
 }
 
 /// Makes room for one more event handled and for `count` more messages.

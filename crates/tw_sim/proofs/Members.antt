@@ -2,7 +2,6 @@
 use Rattle.std.proofs.Common.{◌≡◌, ℕ, suc, zero, ◌+◌, ◌<◌, ◌≤◌, Bool, true, cond, List, [], ◌∷◌, ◌++◌, length, map, filter, get_or, set, Option, Some, None, refl, ap, sym, ◌∙◌, subst, ◌⊎◌, inl, inr, arith}
 use Rattle.std.specs.List.{All, cons_option, enumerate_from, filter_map, find, flat_map, list_any, range_with_len, swap, zip, position_or_len}
 use Rattle.std.proofs.lemmas.Bool.{cases_Bool, cases_eq, or_left, or_right}
-use Rattle.std.proofs.Math.Numerals.{one-add}
 use Rattle.tw_sim.specs.Simulation.{Simulation, one, times}
 
 -- x stands in the list

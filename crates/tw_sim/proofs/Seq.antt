@@ -162,7 +162,7 @@ module _ {S E : Type 0} (m : Simulation S E) where
     unfolding finished
     over_finished t w = over_after (weight m t w.rest) t w (omega arith) (ends t w)
 
-  -- every beginning of a run is one of each run to a later time
+  -- every prefix of a run is one of each run to a later time
   turns_later_at : (t later : ℕ) (w : World E) → t ≤ later → Ends t w → (k : ℕ) × (turns m k later w ≡ turn m t w.log w.rest)
   turns_later_at t later w le (over h) = (0, sym (turn_over t w h))
   turns_later_at t later w le (soon {log} {x} {rest} h) =

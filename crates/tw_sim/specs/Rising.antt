@@ -1,4 +1,4 @@
--- Lists in rising order, by a test of whether one element comes before another and one of whether two are the same (own).
+-- Lists in ascending order, by a test of whether one element comes before another and one of whether two are the same (own).
 use Rattle.std.specs.Prelude.{◌≡◌, ◌<◌, Bool, false, List, [], ◌∷◌}
 use Rattle.tw_sim.specs.Ordered.{times}
 

@@ -34,6 +34,7 @@ pub record Simulation (S E : Type 0) : Type 0 where
   pub full : S → E → Bool
 
 module _ {S E : Type 0} (m : Simulation S E) where
+  -- 1 where the events are the same, else 0
   abbrev pub one : E → E → ℕ
   one e x = ordered.one m.same e x
 
@@ -56,6 +57,7 @@ module _ {S E : Type 0} (m : Simulation S E) where
   IsFalling [] = Unit {0}
   IsFalling (x ∷ xs) = ((e : E) → 0 < times e xs → m.before e x ≡ true) × IsFalling xs
 
+  -- the events before time t
   abbrev pub below : ℕ → List E → List E
   below t xs = filter (λ x. nat_lt (m.time x) t) xs
 
@@ -92,17 +94,23 @@ module _ {S E : Type 0} (m : Simulation S E) where
 
 -- an order of events, and what every protocol keeps
 pub record IsLawful {S E : Type 0} (m : Simulation S E) : Type 0 where
-  -- what is the same is equal, and each event is the same as itself
+  -- what is the same is equal
   pub same_is : (x y : E) → m.same x y ≡ true → x ≡ y
+  -- each event is the same as itself
   pub same_self : (x : E) → m.same x x ≡ true
-  -- the order is strict and total, and by time first
+  -- no event is before itself
   pub not_self : (x : E) → m.before x x ≡ false
+  -- what is before an event is before all that come after that one
   pub trans : (x y z : E) → m.before x y ≡ true → m.before y z ≡ true → m.before x z ≡ true
+  -- of two events one is before the other, or they are equal
   pub total : (x y : E) → m.before x y ≡ false → m.before y x ≡ false → x ≡ y
+  -- an event is no later than those that it is before
   pub timely : (x y : E) → m.before x y ≡ true → m.time x ≤ m.time y
-  -- what an event sends is later than it, comes from its router, and is at most so many
+  -- what an event sends is later than it
   pub later : (s : S) (e x : E) → 0 < times m x (m.sends s e) → m.time e < m.time x
+  -- and comes from the router that handled it
   pub sender : (s : S) (e x : E) → 0 < times m x (m.sends s e) → m.src x ≡ m.dst e
+  -- an event sends at most so many
   pub few : (s : S) (e : E) → length (m.sends s e) ≤ m.most
   -- an opening event suits its receiver
   pub suit_opening : (e : E) → 0 < times m e m.opening → m.suits e ≡ true
@@ -122,7 +130,9 @@ pub record IsNumbered {S E : Type 0} (m : Simulation S E) : Type 0 where
   pub rising : (s : S) (e : E) → m.number s ≤ m.number (m.after s e)
   -- and stays within its limit where the event is not full
   pub within : (s : S) (e : E) → m.full s e ≡ false → m.number (m.after s e) ≤ m.limit
-  -- no event is sent twice at once, opens twice, or is both sent and an opening one
+  -- no event is sent twice by one event
   pub once : (s : S) (e x : E) → times m x (m.sends s e) ≤ 1
+  -- no event opens twice
   pub opening_once : (x : E) → times m x m.opening ≤ 1
+  -- nothing that is sent is an opening event
   pub strange : (s : S) (e x : E) → 0 < times m x (m.sends s e) → times m x m.opening ≡ 0

@@ -1,5 +1,5 @@
 -- The lowest fault of a line, test by test.
-use Rattle.std.proofs.Common.{◌≡◌, ℕ, Bool, true, false, not, ◌&&◌, ◌||◌, cond, List, [], ◌∷◌, map, if◌then◌else◌, Option, Some, None, Result, Ok, Err, refl, ap, sym, ◌∙◌, inl, inr, bytes_eq, codes}
+use Rattle.std.proofs.Common.{◌≡◌, ℕ, Bool, true, false, not, ◌&&◌, ◌||◌, cond, List, [], ◌∷◌, map, Option, Some, None, Result, Ok, Err, refl, ap, sym, ◌∙◌, inl, inr, bytes_eq, codes}
 use Rattle.std.proofs.lemmas.Bool.{cases_Bool}
 use Rattle.std.specs.List.{find, list_all}
 use Rattle.std.specs.Str.Parse.{digits_value}
@@ -12,9 +12,11 @@ use Rattle.tw_text.specs.declared.keyword.Keyword.TheVariants as keyword
 use Rattle.tw_text.specs.declared.text_fault.LineFault.{LineFault}
 use Rattle.tw_text.specs.declared.text_fault.LineFault.TheVariants as x
 use Rattle.tw_text.specs.Drafts.{of_rule, step_said}
-use Rattle.tw_text.specs.FaultTable.{breaks, fault_of, from_second, has_no_number, holds, if_said, is_done, is_misplaced, is_no_statement, is_start, step, unless_fault, with_line, with_said}
-use Rattle.tw_text.specs.Statements.{◌>>=◌, Statement, takes_words, keyword_before, keyword_of, numbers_of, statement_with, statement_of}
+use Rattle.tw_text.specs.FaultTable.{breaks, fault_of, from_second, has_no_number, holds, if_said, is_done, is_misplaced, is_no_statement, is_start, step}
+use Rattle.tw_text.specs.FaultTable.{unless_fault, with_line, with_said, with_statement}
+use Rattle.tw_text.specs.Statements.{Statement, takes_words, keyword_before, keyword_of, numbers_of, statement_with, statement_of}
 use Rattle.tw_text.specs.Words.{is_number, is_plain, words}
+use Rattle.tw_text.proofs.Early.{IsToldEarly, early_if, early_on}
 
 -- the lowest rule, among the faults
 find_rules : (test : LineFault → Bool) (broken : Rule → Bool) → ((r : Rule) → test (x.Rule r) ≡ broken r) → (rs : List Rule)
@@ -58,6 +60,14 @@ plain_fault d line ended h = fault_of-form d line ended ∙ rw h refl
 pub plain_step : (d : Draft) (line : List ℕ) (ended : Bool) → list_all is_plain line ≡ false → step d line ended ≡ Err x.Byte
 plain_step d line ended h = ap (λ fault. unless_fault fault (with_line d line)) (plain_fault d line ended h)
 
+-- a line that was read is plain
+pub plain-from_step : (d after : Draft) (line : List ℕ) (ended : Bool) → step d line ended ≡ Ok after → list_all is_plain line ≡ true
+plain-from_step d after line ended h =
+    elim (cases_Bool (list_all is_plain line)) [
+      | inl t ↦ t
+      | inr f ↦ absurd (let e = sym (plain_step d line ended f) ∙ h in cc)
+    ]
+
 -- ---- line 1
 
 form-start : (ended header : Bool) (said : Result Statement LineFault) → form Start ended true header said ≡ cond header (cond ended None (Some x.End)) (Some x.Header)
@@ -84,13 +94,6 @@ start_step line ended header plain is =
 
 -- ---- the lines behind it
 
--- words say something, or are none of a line, or have a word that is no number
-abbrev IsToldEarly : Result Statement LineFault → Type 0
-IsToldEarly (Ok s) = Unit {0}
-IsToldEarly (Err x.Word) = Unit {0}
-IsToldEarly (Err x.Number) = Unit {0}
-IsToldEarly (Err fault) = ⊥
-
 said_early : (k : Keyword) (ns : List ℕ) → IsToldEarly (statement_with k ns)
 said_early keyword.Nodes (n ∷ []) = tt
 said_early keyword.Link (a ∷ b ∷ delay ∷ []) = tt
@@ -101,28 +104,25 @@ said_early keyword.Swap (t ∷ v ∷ i ∷ j ∷ []) = tt
 said_early keyword.End [] = tt
 said_early k ns = tt
 
-early_if : (k : Keyword) (fit all : Bool) (ns : List ℕ) → IsToldEarly ((if fit then Ok k else Err x.Word) >>= λ k. (if all then Ok ns else Err x.Number) >>= λ ns. statement_with k ns)
-early_if k false all ns = tt
-early_if k true false ns = tt
-early_if k true true ns = said_early k ns
-
-early_by : (found : Option Keyword) (ws : List (List ℕ)) → IsToldEarly (keyword_before found ws >>= λ k. numbers_of ws >>= λ ns. statement_with k ns)
-early_by None ws = tt
-early_by (Some k) ws = early_if k (takes_words k ws) (list_all is_number ws) (map (digits_value 10) ws)
+early_before : (found : Option Keyword) (ws : List (List ℕ)) → IsToldEarly (keyword_before found ws)
+early_before None ws = tt
+early_before (Some k) ws = early_if (takes_words k ws) (Ok k) (Err x.Word) tt tt
 
 early : (ws : List (List ℕ)) → IsToldEarly (statement_of ws)
 unfolding statement_of
 early [] = tt
-early (word ∷ ws) = early_by (keyword_of word) ws
+early (word ∷ ws) =
+    early_on (keyword_before (keyword_of word) ws) _ (early_before (keyword_of word) ws) (λ k.
+    early_on (numbers_of ws) _ (early_if (list_all is_number ws) (Ok (map (digits_value 10) ws)) (Err x.Number) tt tt) (λ ns. said_early k ns))
 
 form-later : (d : Draft) (ended header : Bool) (said : Result Statement LineFault) → IsToldEarly said → is_start d ≡ false
-    → unless_fault (form d ended true header said) (with_said d said) ≡ step_said d said ended
+    → unless_fault (form d ended true header said) (with_said with_statement d said) ≡ step_said d said ended
 form-later d ended header (Ok s) early h = rw h refl
 form-later d ended header (Err x.Word) early h = rw h refl
 form-later d ended header (Err x.Number) early h = rw h refl
 form-later d ended header (Err fault) early h = absurd early
 
-with_line-later : (d : Draft) (line : List ℕ) → is_start d ≡ false → with_line d line ≡ with_said d (statement_of (words line))
+with_line-later : (d : Draft) (line : List ℕ) → is_start d ≡ false → with_line d line ≡ with_said with_statement d (statement_of (words line))
 unfolding with_line
 with_line-later Start line h = absurd (cc)
 with_line-later d line h = refl

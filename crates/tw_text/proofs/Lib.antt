@@ -4,6 +4,7 @@ pub mod Numerals
 pub mod Splits
 pub mod Shapes
 pub mod Said
+pub mod Early
 pub mod Faults
 pub mod Adding
 pub mod Reading
@@ -13,4 +14,8 @@ pub mod Short
 pub mod Only
 pub mod Found
 pub mod Writing
+pub mod StepSaid
+pub mod StepLines
+pub mod StepTold
 pub mod Told
+pub mod ReplayTold

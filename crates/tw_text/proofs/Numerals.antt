@@ -7,7 +7,7 @@ use Rattle.std.proofs.lemmas.Str.Parse.{IsNumeralModel, digits_value_short, nume
 use Rattle.std.specs.Char.{is_ascii_digit}
 use Rattle.std.specs.List.{list_all}
 use Rattle.std.specs.Str.Parse.{digits_value}
-use Rattle.tw_text.specs.declared.words.TheConstants.{MOST_DIGITS}
+use Rattle.tw_model.specs.declared.limits.TheConstants.{MOST_DIGITS}
 use Rattle.tw_text.specs.Words.{is_number}
 
 own : IsNumeralModel (λ ds. list_all is_ascii_digit ds ≡ true) (digits_value 10)
@@ -45,6 +45,9 @@ number_is w h =
     let small = digits_value_short own w MOST_DIGITS form.digits form.most in
     let lt : digits_value 10 w < 2 ^ 64 = omega (arith, small) in
     sym (decimal-digits_value own w form.digits form.some form.first lt)
+
+pub number_short : (w : List ℕ) → is_number w ≡ true → digits_value 10 w < 10 ^ MOST_DIGITS
+number_short w h = let form = form_of w h in digits_value_short own w MOST_DIGITS form.digits form.most
 
 pub decimal-form : (n : ℕ) → n < 10 ^ MOST_DIGITS → is_number (decimal n) ≡ true
 decimal-form n h =

@@ -14,7 +14,7 @@ use Rattle.tw_text.specs.declared.text_fault.LineFault.TheVariants as x
 use Rattle.tw_text.specs.Statements.{◌>>=◌, Statement, nodes_line, link_line, path_line, scene_line}
 use Rattle.tw_text.specs.Statements.{end_line, takes_words, keyword_before, keyword_of, keywords, numbers_of, statement_with, statement_of, takes, word_of}
 use Rattle.tw_text.specs.Text.{keyword_in, numbers_in, words_of}
-use Rattle.tw_text.specs.declared.words.TheConstants.{MOST_DIGITS}
+use Rattle.tw_model.specs.declared.limits.TheConstants.{MOST_DIGITS}
 use Rattle.tw_text.specs.Words.{is_number}
 use Rattle.tw_text.proofs.Numerals.{decimal-digits, decimal-form, decimal-some, number_is, value-decimal}
 use Rattle.tw_text.proofs.Splits.{IsWord, digits_are_signs, none_empty}
@@ -40,7 +40,7 @@ keyword-word keyword.Restore = record { some = refl; signs = refl }
 keyword-word keyword.Swap = record { some = refl; signs = refl }
 keyword-word keyword.End = record { some = refl; signs = refl }
 
-numbers-words : (ns : List ℕ) → AllByRecursion IsShort ns → AllByRecursion IsWord (map decimal ns)
+pub numbers-words : (ns : List ℕ) → AllByRecursion IsShort ns → AllByRecursion IsWord (map decimal ns)
 numbers-words [] h = tt
 numbers-words (n ∷ ns) h = (record { some = decimal-some n h.0; signs = digits_are_signs (decimal n) (decimal-digits n h.0) }, numbers-words ns h.1)
 

@@ -6,9 +6,9 @@ use Rattle.std.specs.List.{AllByRecursion, list_all}
 use Rattle.tw_instance.proofs.Sound.{is_router}
 use Rattle.tw_model.proofs.Nets.{nodes_within}
 use Rattle.tw_model.proofs.Unbroken.{none_broken}
-use Rattle.tw_model.specs.Line.{Line}
+use Rattle.tw_model.specs.PermittedPath.{PermittedPath}
 use Rattle.tw_model.specs.Net.{Net, begins_at, paths_of}
-use Rattle.tw_model.specs.Rules.{IsNet, has_place, is_within, line_breaks, line_fault, link_breaks, link_fault, nodes_fault, scene_breaks, scene_fault}
+use Rattle.tw_model.specs.Rules.{IsNet, has_place, is_within, link_breaks, link_fault, nodes_fault, path_breaks, path_fault, scene_breaks, scene_fault}
 use Rattle.tw_model.specs.declared.case.Scene.{Scene}
 use Rattle.tw_model.specs.declared.case.Scene.TheVariants.{Fail, Restore, Swap}
 use Rattle.tw_model.specs.declared.limits.TheConstants.{LATEST, LONGEST_DELAY, MOST_ROUTERS}
@@ -45,11 +45,11 @@ two_or_more : (v w : ℕ) (ns : List ℕ) → begins_at ns v ≡ true → nat_le
 two_or_more v w [] h = absurd (cc)
 two_or_more v w (n ∷ ns) h = grind (arith, nat_tests)
 
-pub path_short : (net : Net) (p : Line) → net.nodes ≤ MOST_ROUTERS → line_fault net p ≡ None → IsSayable (path_line p)
+pub path_short : (net : Net) (p : PermittedPath) → net.nodes ≤ MOST_ROUTERS → path_fault net p ≡ None → IsSayable (path_line p)
 path_short net p small h =
-    let below = not-false (nat_lt p.owner net.nodes && list_all (λ v. nat_lt v net.nodes) p.nodes) (none_broken (line_breaks net p) h Range) in
+    let below = not-false (nat_lt p.owner net.nodes && list_all (λ v. nat_lt v net.nodes) p.nodes) (none_broken (path_breaks net p) h Range) in
     let w = and_parts (nat_lt p.owner net.nodes) (list_all (λ v. nat_lt v net.nodes) p.nodes) below in
-    let b = or_parts (p.owner == 0) (not (begins_at p.nodes p.owner)) (none_broken (line_breaks net p) h PathOwner) in
+    let b = or_parts (p.owner == 0) (not (begins_at p.nodes p.owner)) (none_broken (path_breaks net p) h PathOwner) in
     let o = w.0 in
     record { short = (grind (arith, nat_tests), all_short net.nodes p.nodes small w.1); count = two_or_more p.owner p.owner p.nodes (not-false (begins_at p.nodes p.owner) b.1) }
 

@@ -5,7 +5,7 @@ use Rattle.std.proofs.lemmas.List.Concat.{flat_map-append}
 use Rattle.std.proofs.lemmas.List.Folds.{flat_map-map}
 use Rattle.std.specs.List.{flat_map, join_with_byte}
 use Rattle.tw_model.specs.Case.{Case}
-use Rattle.tw_model.specs.Line.{Line}
+use Rattle.tw_model.specs.PermittedPath.{PermittedPath}
 use Rattle.tw_model.specs.Net.{Net}
 use Rattle.tw_model.specs.declared.case.Scene.{Scene}
 use Rattle.tw_model.specs.declared.net.Link.{Link}
@@ -39,17 +39,17 @@ mapped : {X : Type 0} (f : X → Statement) (xs : List X) → lines_text (map f 
 mapped f xs = flat_map-map (λ s. ended_line (line_of s)) f xs
 
 text-parts : (case : Case) → text_of_case case ≡ ended_line (codes "spp 1") ++ (ended_line (line_of (nodes_line case.net.nodes))
-    ++ (flat_map (λ l. ended_line (line_of (link_line l))) case.net.links ++ (flat_map (λ p. ended_line (line_of (path_line p))) case.net.lines
+    ++ (flat_map (λ l. ended_line (line_of (link_line l))) case.net.links ++ (flat_map (λ p. ended_line (line_of (path_line p))) case.net.permitted
     ++ (flat_map (λ s. ended_line (line_of (scene_line s))) case.scenes ++ (ended_line (line_of end_line) ++ [])))))
 unfolding text_of_case
 text-parts case =
     let f = λ (s : Statement). ended_line (line_of s) in
     let scene_lines = map (λ s. scene_line s) case.scenes in
-    let path_lines = map (λ p. path_line p) case.net.lines in
+    let path_lines = map (λ p. path_line p) case.net.permitted in
     let link_lines = map (λ l. link_line l) case.net.links in
     let last = end_line ∷ [] in
     let scenes = flat_map-append f scene_lines last ∙ ap (λ t. t ++ lines_text last) (mapped (λ s. scene_line s) case.scenes) in
-    let paths = flat_map-append f path_lines (scene_lines ++ last) ∙ ap₂ (λ xs ys. xs ++ ys) (mapped (λ p. path_line p) case.net.lines) scenes in
+    let paths = flat_map-append f path_lines (scene_lines ++ last) ∙ ap₂ (λ xs ys. xs ++ ys) (mapped (λ p. path_line p) case.net.permitted) scenes in
     let links = flat_map-append f link_lines (path_lines ++ (scene_lines ++ last)) ∙ ap₂ (λ xs ys. xs ++ ys) (mapped (λ l. link_line l) case.net.links) paths in
     ap (λ t. ended_line (codes "spp 1") ++ t) (flat_map-map ended_line line_of (statements_of case) ∙ ap (λ t. ended_line (line_of (nodes_line case.net.nodes)) ++ t) links)
 
@@ -57,14 +57,14 @@ six : (h n l p s e : List ℕ) → ((((h ++ n) ++ l) ++ p) ++ s) ++ e ≡ h ++ (
 six h n l p s e = simp (append_assoc, append-nil)
 
 -- the parts of a case, pushed one after another
-pub case-pushed : (case : Case) (net : Net) (n : ℕ) (links : List Link) (paths : List Line) (scenes : List Scene) (a b c d e : List ℕ)
-    → net ≡ case.net → n ≡ net.nodes → links ≡ net.links → paths ≡ net.lines → scenes ≡ case.scenes
+pub case-pushed : (case : Case) (net : Net) (n : ℕ) (links : List Link) (paths : List PermittedPath) (scenes : List Scene) (a b c d e : List ℕ)
+    → net ≡ case.net → n ≡ net.nodes → links ≡ net.links → paths ≡ net.permitted → scenes ≡ case.scenes
     → a ≡ ended_line (codes "spp 1") ++ ended_line (line_of (nodes_line n)) → b ≡ a ++ flat_map (λ l. ended_line (line_of (link_line l))) links
     → c ≡ b ++ flat_map (λ p. ended_line (line_of (path_line p))) paths → d ≡ c ++ flat_map (λ s. ended_line (line_of (scene_line s))) scenes
     → e ≡ d ++ ended_line (line_of end_line) → e ≡ text_of_case case
 case-pushed case net n links paths scenes a b c d e hn h1 h2 h3 h4 p q r s t =
     let link_text = flat_map (λ l. ended_line (line_of (link_line l))) case.net.links in
-    let path_text = flat_map (λ p. ended_line (line_of (path_line p))) case.net.lines in
+    let path_text = flat_map (λ p. ended_line (line_of (path_line p))) case.net.permitted in
     let scene_text = flat_map (λ s. ended_line (line_of (scene_line s))) case.scenes in
     t ∙ rw (s, r, q, p, h1, h2, h3, h4, hn) (six (ended_line (codes "spp 1")) (ended_line (line_of (nodes_line case.net.nodes))) link_text path_text scene_text (ended_line (line_of end_line)))
     ∙ sym (text-parts case)

@@ -6,8 +6,8 @@ use Rattle.std.specs.declared.alloc.Global.{Global}
 use Rattle.std.specs.declared.vec.Vec.{Vec}
 use Rattle.tw_model.specs.Case.{Case}
 use Rattle.tw_model.specs.Net.{Net}
-use Rattle.tw_model.specs.Line.{Line}
-use Rattle.tw_model.specs.Rules.{line_fault, link_fault, nodes_fault, rules_in_order, scene_fault}
+use Rattle.tw_model.specs.PermittedPath.{PermittedPath}
+use Rattle.tw_model.specs.Rules.{link_fault, nodes_fault, path_fault, rules_in_order, scene_fault}
 use Rattle.tw_model.specs.declared.case.Scene.{Scene}
 use Rattle.tw_model.specs.declared.net.Link.{Link}
 use Rattle.tw_model.specs.declared.rule.Rule.{Rule}
@@ -20,7 +20,7 @@ use Rattle.tw_text.specs.FaultTable.{breaks, is_done, is_misplaced, unless_fault
 use Rattle.tw_text.specs.Statements.{◌>>=◌, Statement}
 
 -- the items of the vector that was returned
-abbrev pub result_items : {E : Type 0} → Result (Vec ℕ Global) E → Result (List ℕ) E
+abbrev pub result_items : {A E : Type 0} → Result (Vec A Global) E → Result (List A) E
 result_items result = result_map_both (λ v. v.items) (λ e. e) result
 
 -- the rule, as a fault of a line
@@ -84,15 +84,15 @@ before_scenes d ended = Err x.Order
 
 -- a number of routers that keeps the rules, as an instance
 abbrev pub with_nodes : ℕ → Result Draft LineFault
-with_nodes n = unless_fault (of_rule (nodes_fault n)) (Links (record { nodes = n; links = []; lines = [] }))
+with_nodes n = unless_fault (of_rule (nodes_fault n)) (Links (record { nodes = n; links = []; permitted = [] }))
 
 -- the instance with one more link that keeps the rules
 abbrev pub with_link : Net → Link → Result Draft LineFault
 with_link net l = unless_fault (of_rule (link_fault net l)) (Links (record net { links = net.links ++ l ∷ [] }))
 
 -- the instance with one more path that keeps the rules
-abbrev pub with_path : Net → Line → Result Draft LineFault
-with_path net p = unless_fault (of_rule (line_fault net p)) (Paths (record net { lines = net.lines ++ p ∷ [] }))
+abbrev pub with_path : Net → PermittedPath → Result Draft LineFault
+with_path net p = unless_fault (of_rule (path_fault net p)) (Paths (record net { permitted = net.permitted ++ p ∷ [] }))
 
 -- the case with one more scene that keeps the rules
 abbrev pub with_scene : Case → Scene → Result Draft LineFault

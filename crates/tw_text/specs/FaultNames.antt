@@ -7,34 +7,34 @@ use Rattle.tw_text.specs.declared.text_fault.LineFault.TheVariants as x
 use Rattle.tw_text.specs.declared.text_fault.TextFault.{TextFault}
 
 -- the code and the name of a rule
-abbrev pub rule_row : Rule → List ℕ × List ℕ
-rule_row rule.Range = (codes "I1", codes "Range")
-rule_row rule.SelfLink = (codes "I2", codes "SelfLink")
-rule_row rule.TwiceLink = (codes "I3", codes "TwiceLink")
-rule_row rule.Delay = (codes "I4", codes "Delay")
-rule_row rule.PathOwner = (codes "I5", codes "PathOwner")
-rule_row rule.PathEnd = (codes "I6", codes "PathEnd")
-rule_row rule.PathRepeats = (codes "I7", codes "PathRepeats")
-rule_row rule.PathNoLink = (codes "I8", codes "PathNoLink")
-rule_row rule.TwicePath = (codes "I9", codes "TwicePath")
-rule_row rule.TooMany = (codes "I10", codes "TooMany")
-rule_row rule.NoSuchLink = (codes "I11", codes "NoSuchLink")
-rule_row rule.NoSuchPlace = (codes "I12", codes "NoSuchPlace")
-rule_row rule.Time = (codes "I13", codes "Time")
+abbrev pub rule_label : Rule → List ℕ × List ℕ
+rule_label rule.Range = (codes "I1", codes "Range")
+rule_label rule.SelfLink = (codes "I2", codes "SelfLink")
+rule_label rule.TwiceLink = (codes "I3", codes "TwiceLink")
+rule_label rule.Delay = (codes "I4", codes "Delay")
+rule_label rule.PathOwner = (codes "I5", codes "PathOwner")
+rule_label rule.PathEnd = (codes "I6", codes "PathEnd")
+rule_label rule.PathRepeats = (codes "I7", codes "PathRepeats")
+rule_label rule.PathNoLink = (codes "I8", codes "PathNoLink")
+rule_label rule.TwicePath = (codes "I9", codes "TwicePath")
+rule_label rule.TooMany = (codes "I10", codes "TooMany")
+rule_label rule.NoSuchLink = (codes "I11", codes "NoSuchLink")
+rule_label rule.NoSuchPlace = (codes "I12", codes "NoSuchPlace")
+rule_label rule.Time = (codes "I13", codes "Time")
 
 -- the code and the name of a fault of a line
-abbrev pub fault_row : LineFault → List ℕ × List ℕ
-fault_row x.Byte = (codes "X1", codes "Byte")
-fault_row x.Header = (codes "X2", codes "Header")
-fault_row x.Word = (codes "X3", codes "Word")
-fault_row x.Number = (codes "X4", codes "Number")
-fault_row x.Order = (codes "X5", codes "Order")
-fault_row x.End = (codes "X6", codes "End")
-fault_row (x.Rule r) = rule_row r
+abbrev pub fault_label : LineFault → List ℕ × List ℕ
+fault_label x.Byte = (codes "X1", codes "Byte")
+fault_label x.Header = (codes "X2", codes "Header")
+fault_label x.Word = (codes "X3", codes "Word")
+fault_label x.Number = (codes "X4", codes "Number")
+fault_label x.Order = (codes "X5", codes "Order")
+fault_label x.End = (codes "X6", codes "End")
+fault_label (x.Rule r) = rule_label r
 
 -- the code and the name, as they are written
 abbrev pub fault_text : LineFault → List ℕ
-fault_text fault = (fault_row fault).0 ++ (codes " " ++ (fault_row fault).1)
+fault_text fault = (fault_label fault).0 ++ (codes " " ++ (fault_label fault).1)
 
 -- where and why a text is refused
 abbrev pub refusal_text : TextFault → List ℕ

@@ -2,7 +2,7 @@
 use Rattle.std.specs.Prelude.{ℕ, Bool, true, false, not, ◌||◌, ◌&&◌, List, [], ◌∷◌, ◌++◌, length, map, Option, Some, None, Result, Ok, Err, bytes_eq, codes}
 use Rattle.std.specs.List.{find, list_all}
 use Rattle.tw_model.specs.Net.{Net}
-use Rattle.tw_model.specs.Rules.{nodes_break, link_breaks, line_breaks, scene_breaks, rules_in_order}
+use Rattle.tw_model.specs.Rules.{nodes_break, link_breaks, path_breaks, scene_breaks, rules_in_order}
 use Rattle.tw_model.specs.declared.case.Scene.{Scene}
 use Rattle.tw_model.specs.declared.rule.Rule.{Rule}
 use Rattle.tw_text.specs.declared.draft.Draft.{Draft}
@@ -14,7 +14,7 @@ use Rattle.tw_text.specs.Words.{is_plain, words}
 
 -- the instance before line 2
 abbrev pub no_net : Net
-no_net = record { nodes = 0; links = []; lines = [] }
+no_net = record { nodes = 0; links = []; permitted = [] }
 
 -- the instance that the lines before have given
 abbrev pub net_of : Draft → Net
@@ -61,7 +61,7 @@ is_misplaced d s = false
 abbrev pub breaks : Draft → Statement → Rule → Bool
 breaks d (nodes_line n) r = nodes_break n r
 breaks d (link_line l) r = link_breaks (net_of d) l r
-breaks d (path_line p) r = line_breaks (net_of d) p r
+breaks d (path_line p) r = path_breaks (net_of d) p r
 breaks d (scene_line s) r = scene_breaks (net_of d) (length (scenes_of d)) s r
 breaks d end_line r = false
 
@@ -70,17 +70,17 @@ abbrev pub from_second : Draft → Bool → Bool
 from_second d holds = not (is_start d) && holds
 
 -- whether the words are none of a line
-abbrev pub is_no_statement : Result Statement LineFault → Bool
+abbrev pub is_no_statement : {S : Type 0} → Result S LineFault → Bool
 is_no_statement (Err x.Word) = true
 is_no_statement said = false
 
 -- whether a word is no number where one stands
-abbrev pub has_no_number : Result Statement LineFault → Bool
+abbrev pub has_no_number : {S : Type 0} → Result S LineFault → Bool
 has_no_number (Err x.Number) = true
 has_no_number said = false
 
 -- the test of what the line says
-abbrev pub if_said : Result Statement LineFault → (Statement → Bool) → Bool
+abbrev pub if_said : {S : Type 0} → Result S LineFault → (S → Bool) → Bool
 if_said (Ok s) test = test s
 if_said (Err fault) test = false
 
@@ -104,21 +104,21 @@ fault_of d line ended = find (holds d line ended) faults_in_order
 
 -- what a statement without a fault adds
 abbrev pub with_statement : Draft → Statement → Draft
-with_statement d (nodes_line n) = Links (record { nodes = n; links = []; lines = [] })
+with_statement d (nodes_line n) = Links (record { nodes = n; links = []; permitted = [] })
 with_statement d (link_line l) = Links (let net = net_of d in record net { links = net.links ++ l ∷ [] })
-with_statement d (path_line p) = Paths (let net = net_of d in record net { lines = net.lines ++ p ∷ [] })
+with_statement d (path_line p) = Paths (let net = net_of d in record net { permitted = net.permitted ++ p ∷ [] })
 with_statement d (scene_line s) = Scenes (record { net = net_of d; scenes = scenes_of d ++ s ∷ [] })
 with_statement d end_line = Done (record { net = net_of d; scenes = scenes_of d })
 
 -- what words without a fault add
-abbrev pub with_said : Draft → Result Statement LineFault → Draft
-with_said d (Ok s) = with_statement d s
-with_said d (Err fault) = d
+abbrev pub with_said : {D S : Type 0} → (D → S → D) → D → Result S LineFault → D
+with_said add d (Ok s) = add d s
+with_said add d (Err fault) = d
 
 -- what a line without a fault adds
 unfoldable pub with_line : Draft → List ℕ → Draft
 with_line Start line = Header
-with_line d line = with_said d (statement_of (words line))
+with_line d line = with_said with_statement d (statement_of (words line))
 
 -- the fault, or what comes next where there is none
 abbrev pub unless_fault : {A : Type 0} → Option LineFault → A → Result A LineFault

@@ -3,5 +3,8 @@ pub mod Statements
 pub mod FaultNames
 pub mod FaultTable
 pub mod Drafts
+pub mod LineReader
 pub mod Reading
 pub mod Text
+pub mod StepText
+pub mod ReplayText

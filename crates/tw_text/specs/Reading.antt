@@ -1,5 +1,5 @@
 -- Reading a whole text, line by line (own).
-use Rattle.std.specs.Prelude.{ℕ, suc, ◌==◌, true, false, List, [], ◌∷◌, length, if◌then◌else◌, Result, Ok, Err}
+use Rattle.std.specs.Prelude.{ℕ, suc, ◌==◌, true, false, List, [], ◌∷◌, length, if◌then◌else◌, Option, Some, None, Result, Ok, Err}
 use Rattle.std.specs.Result.{result_map_both}
 use Rattle.tw_model.specs.Case.{Case}
 use Rattle.tw_text.specs.declared.draft.Draft.{Draft}
@@ -8,6 +8,7 @@ use Rattle.tw_text.specs.declared.text_fault.LineFault.{LineFault}
 use Rattle.tw_text.specs.declared.text_fault.LineFault.TheVariants.{End}
 use Rattle.tw_text.specs.declared.text_fault.TextFault.{TextFault}
 use Rattle.tw_text.specs.FaultTable.{step}
+use Rattle.tw_text.specs.LineReader.{Reader}
 use Rattle.tw_text.specs.Statements.{◌>>=◌}
 use Rattle.tw_text.specs.Words.{parts_of}
 
@@ -19,21 +20,34 @@ fault_at k fault = record { line = k; fault = fault }
 abbrev pub at_line : {A : Type 0} → ℕ → Result A LineFault → Result A TextFault
 at_line k given = result_map_both (λ a. a) (fault_at k) given
 
--- the case, where the last line was read; else line k is missing
-abbrev pub case_at : ℕ → Draft → Result Case TextFault
-case_at k (Done case) = Ok case
-case_at k d = Err (fault_at k End)
+-- what the lines have given, where they are whole; else line k is missing
+abbrev pub whole_at : {A : Type 0} → ℕ → Option A → Result A TextFault
+whole_at k (Some a) = Ok a
+whole_at k None = Err (fault_at k End)
 
 -- what follows the last line end, as line k: nothing, or a line with a fault
-abbrev pub finishes : Draft → ℕ → List ℕ → Result Case TextFault
-finishes d k rest = if length rest == 0 then case_at k d else at_line k (step d rest false) >>= λ _. Err (fault_at k End)
+abbrev pub finishes : {D A : Type 0} → Reader D A → D → ℕ → List ℕ → Result A TextFault
+finishes r d k rest = if length rest == 0 then whole_at k (r.whole d) else at_line k (r.step d rest false) >>= λ _. Err (fault_at k End)
 
 -- the parts of a text, one at least, of which the first is line k: ended lines, and what follows the last line end
-unfoldable pub reads : Draft → ℕ → List (List ℕ) → Result Case TextFault
-reads d k [] = Err (fault_at k End)
-reads d k (rest ∷ []) = finishes d k rest
-reads d k (line ∷ next ∷ parts) = at_line k (step d line true) >>= λ after. reads after (suc k) (next ∷ parts)
+unfoldable pub reads : {D A : Type 0} → Reader D A → D → ℕ → List (List ℕ) → Result A TextFault
+reads r d k [] = Err (fault_at k End)
+reads r d k (rest ∷ []) = finishes r d k rest
+reads r d k (line ∷ next ∷ parts) = at_line k (r.step d line true) >>= λ after. reads r after (suc k) (next ∷ parts)
+
+-- what a text gives that begins with d, or its first line with a fault, and the lowest fault of that line
+abbrev pub read_from : {D A : Type 0} → Reader D A → D → List ℕ → Result A TextFault
+read_from r d text = reads r d 1 (parts_of text)
+
+-- the case, where the last line was read
+abbrev pub whole_case : Draft → Option Case
+whole_case (Done case) = Some case
+whole_case d = None
+
+-- how a case text is read
+abbrev pub case_reader : Reader Draft Case
+case_reader = record { step = step; whole = whole_case }
 
 -- the case of a text, or its first line with a fault, and the lowest fault of that line
 unfoldable pub case_of : List ℕ → Result Case TextFault
-case_of text = reads Start 1 (parts_of text)
+case_of text = read_from case_reader Start text

@@ -5,7 +5,7 @@ use Rattle.std.specs.Str.Parse.{digits_value}
 use Rattle.tw_model.specs.declared.case.Scene.{Scene}
 use Rattle.tw_model.specs.declared.case.Scene.TheVariants.{Fail, Restore, Swap}
 use Rattle.tw_model.specs.declared.net.Link.{Link}
-use Rattle.tw_model.specs.Line.{Line}
+use Rattle.tw_model.specs.PermittedPath.{PermittedPath}
 use Rattle.tw_text.specs.declared.keyword.Keyword.{Keyword}
 use Rattle.tw_text.specs.declared.keyword.Keyword.TheVariants as keyword
 use Rattle.tw_text.specs.declared.text_fault.LineFault.{LineFault}
@@ -16,7 +16,7 @@ use Rattle.tw_text.specs.Words.{is_number}
 pub data Statement : Type 0 where
   nodes_line : ℕ → Statement
   link_line : Link → Statement
-  path_line : Line → Statement
+  path_line : PermittedPath → Statement
   scene_line : Scene → Statement
   end_line : Statement
 

@@ -12,7 +12,7 @@ use Rattle.tw_text.specs.Words.{line_feed, space}
 abbrev pub statements_of : Case → List Statement
 statements_of case =
     nodes_line case.net.nodes
-    ∷ (map (λ l. link_line l) case.net.links ++ (map (λ p. path_line p) case.net.lines ++ (map (λ s. scene_line s) case.scenes ++ end_line ∷ [])))
+    ∷ (map (λ l. link_line l) case.net.links ++ (map (λ p. path_line p) case.net.permitted ++ (map (λ s. scene_line s) case.scenes ++ end_line ∷ [])))
 
 -- the keyword of a line
 abbrev pub keyword_in : Statement → Keyword

@@ -2,7 +2,7 @@
 use Rattle.std.specs.Prelude.{ℕ, ◌==◌, nat_lt, nat_le, Bool, not, ◌||◌, ◌&&◌, List, length, slice_index}
 use Rattle.std.specs.Char.{is_ascii_digit}
 use Rattle.std.specs.List.{list_all, slice_split}
-use Rattle.tw_text.specs.declared.words.TheConstants.{MOST_DIGITS}
+use Rattle.tw_model.specs.declared.limits.TheConstants.{MOST_DIGITS}
 
 -- the byte between two words
 abbrev pub space : ℕ

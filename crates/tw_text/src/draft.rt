@@ -9,7 +9,7 @@ use crate::keyword::Keyword;
 use crate::text_fault::LineFault;
 use std::alloc::Global;
 use tw_instance::{Case, Instance};
-use tw_model::{Link, OrMemory, PathLine, Rule, Scene};
+use tw_model::{Link, OrMemory, PermittedPath, Rule, Scene};
 
 /// What the lines so far have given, by what may follow.
 #[derive(Drop)]
@@ -113,7 +113,7 @@ fn with_path(
 {
     let owner = node_in(&instance, owner)?;
     let nodes = nodes_in(alloc, &instance, nodes)?;
-    match instance.add_path(PathLine { owner, nodes }) {
+    match instance.add_path(PermittedPath { owner, nodes }) {
         Ok(()) => Ok(Draft::Paths(instance)),
         Err(refusal) => Err(rule_fault(refusal)),
     }

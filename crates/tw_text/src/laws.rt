@@ -2,7 +2,10 @@
 
 ghost use Rattle.std.specs.Prelude.{◌≡◌, ◌↔◌, ℕ, List, Ok};
 ghost use Rattle.tw_model.specs.Case.{Case, IsCase};
+ghost use Rattle.tw_sim.specs.declared.machine.Step.{Step};
 ghost use Rattle.tw_text.specs.Reading.{case_of};
+ghost use Rattle.tw_text.specs.ReplayText.{replay_of, text_of_replay};
+ghost use Rattle.tw_text.specs.StepText.{HasText, steps_of, text_of_steps};
 ghost use Rattle.tw_text.specs.Text.{text_of_case};
 
 /// A text is read as a case exactly where the case keeps the rules and this is its text.
@@ -13,4 +16,20 @@ pub fn case_of_text()
 /// Two cases with the same text are one.
 pub fn one_text()
     ensures { (c d : Case) → IsCase c → IsCase d → text_of_case c ≡ text_of_case d → c ≡ d }
+{}
+
+/// A text is read as steps exactly where a text can say these and this is theirs.
+pub fn steps_of_text()
+    ensures { (text : List ℕ) (steps : List Step) → (steps_of text ≡ Ok steps) ↔ (HasText steps × (text ≡ text_of_steps steps)) }
+{}
+
+/// Two lists of steps with the same text are one.
+pub fn one_text_of_steps()
+    ensures { (steps others : List Step) → HasText steps → HasText others → text_of_steps steps ≡ text_of_steps others → steps ≡ others }
+{}
+
+/// A text is read as a case and steps exactly where it is the text of the case, followed by that of
+/// the steps.
+pub fn replay_of_text()
+    ensures { (text : List ℕ) (c : Case) (steps : List Step) → (replay_of text ≡ Ok (c, steps)) ↔ (IsCase c × HasText steps × (text ≡ text_of_replay c steps)) }
 {}

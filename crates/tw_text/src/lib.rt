@@ -1,4 +1,5 @@
-//! Case texts: reading one, writing one, and the first fault of a text that is none.
+//! Case texts, step texts and replay texts: reading one, writing a case, and the first fault of a text
+//! that is none.
 //!
 //! A text is bytes in lines. Contracts see a `Case` as the instance and the scenes that it holds,
 //! and a text as its bytes. `text_of_case` (`specs/Text.antt`) is the one text of a case, and
@@ -6,17 +7,27 @@
 //! (`specs/FaultTable.antt`). Proved is that `read_case` answers `case_of` and `write_case` writes
 //! `text_of_case`, unless memory is refused, and that each undoes the other (`laws`). That memory
 //! suffices is not proved.
+//!
+//! `read_steps` and `read_replay` likewise, with `text_of_steps` and `steps_of`
+//! (`specs/StepText.antt`) and `text_of_replay` and `replay_of` (`specs/ReplayText.antt`). The three
+//! kinds of text are read line by line by one function, `read_text`, of which each is a `LineReader`.
 #![tactic(auto)]
 
 mod draft;
 mod keyword;
 pub mod laws;
 mod line;
+mod line_reader;
 mod read;
+mod replay_text;
+mod step_list;
+mod step_text;
 mod text_fault;
 mod words;
 mod write;
 
 pub use read::read_case;
+pub use replay_text::read_replay;
+pub use step_text::{MOST_STEPS, read_steps};
 pub use text_fault::{LineFault, TextFault};
 pub use write::write_case;

@@ -1,6 +1,6 @@
 ghost use Rattle.std.specs.Prelude.{◌≡◌, Some};
 ghost use Rattle.tw_model.specs.declared.memory.OrMemory.TheVariants.{Fault};
-ghost use Rattle.tw_text.specs.FaultNames.{fault_row, fault_text, refusal_text, rule_row};
+ghost use Rattle.tw_text.specs.FaultNames.{fault_label, fault_text, refusal_text, rule_label};
 
 use std::fmt::{self, Display, Formatter};
 use thiserror::Error;
@@ -17,13 +17,14 @@ pub enum LineFault {
     /// The line has no word, or an empty one, or begins with no known word, or has too few or too
     /// many words.
     Word,
-    /// A word after the first is not a number of at most ten digits.
+    /// A word after the first is not a number of at most ten digits, or is too great for a router of a
+    /// step.
     Number,
     /// The line stands where a line of its kind may not stand.
     Order,
     /// The line has no line end, or follows the last line, or a line is missing.
     End,
-    /// The line breaks a rule of instances or scenarios.
+    /// The line breaks a rule of instances or scenarios, or is one step too many: `TooMany`.
     Rule(Rule),
 }
 
@@ -39,22 +40,22 @@ pub struct TextFault {
 impl LineFault {
     /// The code: `X1` to `X6`, and `I1` to `I13` of the rules.
     pub fn code(&self) -> &'static str
-        ensures { result.now ≡ (fault_row self.now).0 }
+        ensures { result.now ≡ (fault_label self.now).0 }
     {
-        self.row().0
+        self.label().0
     }
 
     /// The name, as `Header` or `SelfLink`.
     pub fn name(&self) -> &'static str
-        ensures { result.now ≡ (fault_row self.now).1 }
+        ensures { result.now ≡ (fault_label self.now).1 }
     {
-        self.row().1
+        self.label().1
     }
 
     /// The code and the name.
-    fn row(&self) -> (&'static str, &'static str)
-        ensures code { result.0.now ≡ (fault_row self.now).0 }
-        ensures name { result.1.now ≡ (fault_row self.now).1 }
+    fn label(&self) -> (&'static str, &'static str)
+        ensures code { result.0.now ≡ (fault_label self.now).0 }
+        ensures name { result.1.now ≡ (fault_label self.now).1 }
     {
         match self {
             LineFault::Byte => ("X1", "Byte"),
@@ -63,7 +64,7 @@ impl LineFault {
             LineFault::Number => ("X4", "Number"),
             LineFault::Order => ("X5", "Order"),
             LineFault::End => ("X6", "End"),
-            LineFault::Rule(rule) => rule_row(*rule),
+            LineFault::Rule(rule) => rule_label(*rule),
         }
     }
 }
@@ -72,7 +73,7 @@ impl Display for LineFault {
     ghost output = { λ fault. Some (fault_text fault) };
 
     fn fmt<W: fmt::Write>(&self, f: &mut Formatter<W>) -> fmt::Result {
-        let (code, name) = self.row();
+        let (code, name) = self.label();
         write!(f, "{code} {name}")
     }
 }
@@ -102,9 +103,9 @@ impl From<TextFault> for OrMemory<TextFault> {
     }
 }
 
-fn rule_row(rule: Rule) -> (&'static str, &'static str)
-    ensures code { result.0.now ≡ (rule_row rule).0 }
-    ensures name { result.1.now ≡ (rule_row rule).1 }
+fn rule_label(rule: Rule) -> (&'static str, &'static str)
+    ensures code { result.0.now ≡ (rule_label rule).0 }
+    ensures name { result.1.now ≡ (rule_label rule).1 }
 {
     match rule {
         Rule::Range => ("I1", "Range"),

@@ -7,9 +7,7 @@ ghost use Rattle.tw_text.specs.Words.{is_plain, line_feed, words};
 
 use crate::text_fault::LineFault;
 use std::alloc::{AllocError, Global};
-
-/// How many digits a number has at most.
-pub(crate) const MOST_DIGITS: usize = 10;
+use tw_model::limits::MOST_DIGITS;
 
 /// Whether each byte of the line is a space, a letter a to z, or a digit.
 pub(crate) fn is_plain_line(line: &[u8]) -> bool

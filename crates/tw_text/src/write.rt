@@ -6,7 +6,7 @@ ghost use Rattle.tw_text.specs.Text.{ended_line, line_of, text_of_case};
 
 use std::alloc::{AllocError, Global};
 use tw_instance::Case;
-use tw_model::{Link, PathLine, Scene};
+use tw_model::{Link, PermittedPath, Scene};
 
 /// The text of a case, which `read_case` reads as that case.
 pub fn write_case(alloc: Global, case: &Case) -> Result<Vec<u8>, AllocError>
@@ -42,7 +42,7 @@ fn push_link(text: &mut String, link: &Link) -> Result<(), AllocError>
     writeln!(text, "link {first} {second} {delay}")
 }
 
-fn push_paths(text: &mut String, paths: &[PathLine]) -> Result<(), AllocError>
+fn push_paths(text: &mut String, paths: &[PermittedPath]) -> Result<(), AllocError>
     ensures { OnOk result (string_bytes text.new ≡ string_bytes text.old ++ flat_map (λ p. ended_line (line_of (path_line p))) paths.now) }
 {
     for path in paths {

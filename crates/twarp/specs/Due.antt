@@ -1,5 +1,8 @@
 -- What is due for a command line (own).
-use Rattle.std.specs.Prelude.{ℕ, ◌<◌, ◌≤◌, IfSome, List}
+use Rattle.std.specs.Prelude.{ℕ, ◌<◌, ◌≤◌, IfSome, List, Result, Ok, Err}
+use Rattle.tw_commands.specs.declared.cause.Cause.{Cause}
+use Rattle.tw_commands.specs.declared.cause.Status.{Status}
+use Rattle.tw_commands.specs.declared.cause.Status.TheVariants.{Done, Refused}
 use Rattle.tw_commands.specs.Check.{check_output}
 use Rattle.tw_commands.specs.Output.{Output}
 use Rattle.tw_commands.specs.Seq.{GetsStuckFor, seq_output}
@@ -19,6 +22,12 @@ abbrev pub due : CommandLine → List ℕ → Output
 due Check = check_output
 due (Seq stop every log) = seq_output stop every log
 due (Trail router stop keep) = trail_output router stop keep
+
+-- the exit status of a program that ended so
+abbrev pub status_number : Result Status Cause → ℕ
+status_number (Ok Done) = 0
+status_number (Ok Refused) = 1
+status_number (Err cause) = 2
 
 -- for this input a router's counter would pass its limit
 abbrev pub StopsFull : CommandLine → List ℕ → Type 0

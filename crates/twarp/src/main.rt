@@ -1,9 +1,17 @@
 //! The program `twarp`: simulates path-vector routing, event by event.
+//!
+//! `main` reads the command line, opens standard input and output, and ends with an exit status: 0
+//! where it is done, 1 where it refused its input, 2 where it stopped, 3 where the line is no command
+//! line. Proved: what `perform` writes is what is due for the command line, for any source and sink,
+//! and each way in which a command ends has its exit status. Not proved: where status 3 comes, and
+//! what stands on standard error; `checks/programs.py` tests both.
 #![tactic(auto)]
 
 mod perform;
 
-ghost use Rattle.twarp.specs.Due.{IsRunnable};
+ghost use Rattle.std.specs.Prelude.{◌≡◌, ◌≤◌};
+ghost use Rattle.std.specs.Process.{exit_status};
+ghost use Rattle.twarp.specs.Due.{IsRunnable, status_number};
 
 use perform::perform;
 use std::env;
@@ -20,10 +28,10 @@ fn main(rt: HostRuntime) -> ExitCode {
     let words: Vec<String> = match env::args(&rt) {
         Ok(words) => match words.collect(rt.alloc()) {
             Ok(words) => words,
-            Err(_) => return stopped(&rt, Cause::Memory),
+            Err(_) => return stop_with(&rt, Cause::Memory),
         },
         Err(error) if error.kind() == io::ErrorKind::OutOfMemory => {
-            return stopped(&rt, Cause::Memory);
+            return stop_with(&rt, Cause::Memory);
         }
         Err(_) => {
             let _ = eprintln!(rt; "error: a word of the command line is no text in UTF-8");
@@ -34,24 +42,33 @@ fn main(rt: HostRuntime) -> ExitCode {
         Ok(line) => run(&rt, line),
         Err(CommandLineFault::Help(text)) => match text.print(&rt) {
             Ok(()) => ExitCode::SUCCESS,
-            Err(_) => stopped(&rt, Cause::Device),
+            Err(_) => stop_with(&rt, Cause::Device),
         },
         Err(CommandLineFault::Bad(text)) => {
             let _ = text.print(&rt);
             ExitCode::from(BAD_LINE)
         }
-        Err(CommandLineFault::Memory) => stopped(&rt, Cause::Memory),
+        Err(CommandLineFault::Memory) => stop_with(&rt, Cause::Memory),
     }
 }
 
 /// Does what the line asks, from standard input to standard output.
 fn run<R: Input + Print + Eprint + AllocGlobal>(rt: &R, line: CommandLine) -> ExitCode
     requires { IsRunnable line }
+    ensures { exit_status result ≤ 2 }
 {
-    match answer(rt, line) {
+    let ended = answer(rt, line);
+    exit_with(rt, ended)
+}
+
+/// The exit status for how a command ended; where it stopped, says the cause on standard error.
+fn exit_with(rt: &impl Eprint, ended: Result<Status, Cause>) -> ExitCode
+    ensures { exit_status result ≡ status_number ended }
+{
+    match ended {
         Ok(Status::Done) => ExitCode::SUCCESS,
         Ok(Status::Refused) => ExitCode::from(1),
-        Err(cause) => stopped(rt, cause),
+        Err(cause) => stop_with(rt, cause),
     }
 }
 
@@ -72,7 +89,9 @@ fn answer<R: Input + Print + AllocGlobal>(rt: &R, line: CommandLine) -> Result<S
 }
 
 /// Says the cause on standard error.
-fn stopped(rt: &impl Eprint, cause: Cause) -> ExitCode {
+fn stop_with(rt: &impl Eprint, cause: Cause) -> ExitCode
+    ensures { exit_status result ≡ 2 }
+{
     let _ = rt.eprintln(cause);
     ExitCode::from(2)
 }

@@ -1,4 +1,4 @@
-use Rattle.std.proofs.Common.{inl, inr}
+use Rattle.std.proofs.Common.{inr}
 use Rattle.std.proofs.lemmas.Result.{err_from_is_err_and}
 use Rattle.tw_commands.proofs.Unread.{some_input, unread}
 use Rattle.tw_commands.proofs.command.answer_io.Goals as goal

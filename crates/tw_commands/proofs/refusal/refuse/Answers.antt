@@ -1,4 +1,4 @@
-use Rattle.std.proofs.Common.{◌≡◌, [], ◌∷◌, ◌++◌, codes, refl, subst}
+use Rattle.std.proofs.Common.{refl, subst}
 use Rattle.std.specs.Io.KnownBytes.{Appends}
 use Rattle.tw_commands.proofs.Refusals.{refusal_line}
 use Rattle.tw_commands.proofs.refusal.refuse.Goals as goal
@@ -7,6 +7,7 @@ pub returns : goal.returns
 returns g c =
     record {
       as_told = refl;
-      whole = subst (λ text. Appends (g.W.Sink.written c.args.sink.now) (g.W.Sink.written c.put_line.new.sink) text) (refusal_line c.args.fault _ _ c.code.ensures c.name.ensures) c.in_ok-put_line.ensures.0;
+      whole = subst (λ text. Appends (g.W.Sink.written c.args.sink.now) (g.W.Sink.written c.put_line.new.sink) text)
+          (refusal_line c.args.fault _ _ c.code.ensures c.name.ensures) c.in_ok-put_line.ensures.0;
       still = c.in_ok-put_line.ensures.1;
     }

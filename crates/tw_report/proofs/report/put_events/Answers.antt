@@ -9,5 +9,8 @@ returns-in_err-put_event g c =
     c.from_residual.ensures.0 c.in_err-put_event.ensures
 
 pub loop-event-preserved : goal.loop-event-preserved
-loop-event-preserved g c =
-    (c.in_ok-put_event.ensures.1, each_more (λ e. line (event_words c.args.instance.now e)) c.args.events.now c.loop-event.event-index _ _ _ _ c.loop-event-test.true c.loop-event.invariant.1 c.in_ok-put_event.ensures.0)
+loop-event-preserved g c = (
+  c.in_ok-put_event.ensures.1,
+  each_more (λ e. line (event_words c.args.instance.now e)) c.args.events.now
+      c.loop-event.event-index _ _ _ _ c.loop-event-test.true c.loop-event.invariant.1 c.in_ok-put_event.ensures.0,
+)

@@ -1,9 +1,7 @@
-use Rattle.std.proofs.Common.{◌+◌, ap, drop, get_or, Err}
+use Rattle.std.proofs.Common.{◌+◌, ap, drop}
 use Rattle.std.proofs.lemmas.List.{drop_more}
 use Rattle.tw_device.proofs.Puts.{partway_more, puts_partway}
-use Rattle.tw_report.specs.Lines.{router_words}
 use Rattle.tw_report.specs.Report.{router_lines}
-use Rattle.tw_report.specs.Words.{line}
 use Rattle.tw_report.proofs.report.put_routers.Goals as goal
 
 pub returns-in_err-put_router : goal.returns-in_err-put_router

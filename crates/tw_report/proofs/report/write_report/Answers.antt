@@ -1,4 +1,3 @@
-use Rattle.std.proofs.Common.{◌++◌}
 use Rattle.tw_device.proofs.Puts.{puts_failed, puts_then}
 use Rattle.tw_model.specs.Summary.{summary_of}
 use Rattle.tw_report.specs.Report.{head_lines, logged_lines, report_text, router_lines, verdict_words}

@@ -1,4 +1,4 @@
-use Rattle.std.proofs.Common.{◌≡◌, length, refl, subst, ap, ◌∙◌}
+use Rattle.std.proofs.Common.{length, refl, subst, ap, ◌∙◌}
 use Rattle.std.specs.Io.KnownBytes.{Appends}
 use Rattle.tw_commands.proofs.Sizes.{same_sizes}
 use Rattle.tw_commands.proofs.check.CheckCommand.answer.Goals as goal
@@ -8,7 +8,7 @@ returns g c =
     let net = c.instance-instance.ensures.value in
     let nodes = c.from.ensures ∙ (c.nodes.ensures.value ∙ ap (λ n. n.nodes) net) in
     let links = ap length (c.links.ensures.value ∙ ap (λ n. n.links) net) in
-    let paths = ap length (c.paths.ensures.value ∙ ap (λ n. n.lines) net) in
+    let paths = ap length (c.paths.ensures.value ∙ ap (λ n. n.permitted) net) in
     let scenes = ap length c.scenario.ensures.value in
     record {
       as_told = refl;

@@ -5,7 +5,7 @@ use Rattle.tw_model.specs.declared.case.Scene.TheVariants.{Fail}
 use Rattle.tw_model.specs.Case.{Case}
 use Rattle.tw_model.specs.Rules.{scene_fault}
 use Rattle.tw_instance.specs.Build.{judged_scenes}
-use Rattle.tw_instance.specs.declared.refusal.Place.TheVariants.{Scene}
+use Rattle.tw_instance.specs.declared.refusal.Item.TheVariants.{Scene}
 use Rattle.tw_instance.proofs.Scenes.{judged_alike}
 use Rattle.tw_instance.proofs.Told.{covers_after, covers_end, covers_here}
 use Rattle.tw_instance.proofs.case.Case.add_all.Goals as goal

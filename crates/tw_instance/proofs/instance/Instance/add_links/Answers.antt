@@ -4,7 +4,7 @@ use Rattle.tw_model.specs.declared.net.Link.{Link as ALink}
 use Rattle.tw_model.specs.Net.{Net}
 use Rattle.tw_model.specs.Rules.{link_fault}
 use Rattle.tw_instance.specs.Build.{judged_links}
-use Rattle.tw_instance.specs.declared.refusal.Place.TheVariants.{Link}
+use Rattle.tw_instance.specs.declared.refusal.Item.TheVariants.{Link}
 use Rattle.tw_instance.proofs.Told.{Covers, covers_after, covers_end, covers_here}
 use Rattle.tw_instance.proofs.instance.Instance.add_links.Goals as goal
 

@@ -1,13 +1,14 @@
-use Rattle.std.proofs.Common.{count_by, ap, ◌∙◌}
-use Rattle.std.specs.BinaryHeap.{heap_items}
+use Rattle.std.proofs.Common.{◌+◌, count_by, ap, sym, ◌∙◌}
 use Rattle.tw_event.specs.Order.{event_same}
-use Rattle.tw_event.specs.contracts.event.EventPartialEq.TheImpl as event_eqs
 use Rattle.tw_sim.specs.Ordered.{times}
-use Rattle.tw_queue.proofs.Events.{times_in_heap}
+use Rattle.tw_queue.proofs.Places.{count_times, equals}
+use Rattle.tw_queue.proofs.Spares.{times_whole}
 use Rattle.tw_queue.proofs.pending.Pending.count.Goals as goal
 
 pub returns : goal.returns
 returns c =
-    let e = ap (λ q. q.events) c.self.view_is in
-    let d = c.args.event.now in
-    c.count_of.ensures ∙ ap (count_by (λ x. event_eqs.ghosts.eq d x.0)) c.as_slice.ensures.value ∙ times_in_heap d (heap_items c.self.inside.heap) ∙ ap (times event_same d) e
+    let a = c.self.inside in
+    let e = c.args.event.now in
+    let spare = c.count_of.ensures ∙ ap (count_by (equals e)) c.deref.ensures.value ∙ count_times e a.spare.items in
+    ap (λ n. n + c.count.result) spare ∙ ap (λ n. times event_same e a.spare.items + n) c.count.ensures.times ∙ sym (times_whole e a.spare.items a.table.events)
+    ∙ ap (λ q. times event_same e q.events) c.self.view_is

@@ -1,12 +1,9 @@
-use Rattle.std.proofs.Common.{◌≡◌, length, refl, ap, ◌∙◌, arith}
-use Rattle.std.specs.BinaryHeap.{heap_items, heap_len}
-use Rattle.tw_queue.proofs.Events.{length-events}
+use Rattle.std.proofs.Common.{◌==◌, length, ap, sym, ◌∙◌}
+use Rattle.tw_event.specs.Order.{event_before}
+use Rattle.tw_sim.proofs.Ordered.{length-insert_all}
 use Rattle.tw_queue.proofs.pending.Pending.is_empty.Goals as goal
 
 pub returns : goal.returns
 returns c =
     let a = c.self.inside in
-    let l = length-events (heap_items a.heap) in
-    let v = ap (λ q. length q.events) c.self.view_is in
-    let e : heap_len a.heap ≡ length c.args.self.now.events = omega (arith, a.heap.data.ok.0) in
-    c.is_empty.ensures ∙ rw e refl
+    ap (λ n. n == 0) (c.self.invariant.len ∙ sym (length-insert_all event_before a.spare.items a.table.events) ∙ ap (λ q. length q.events) c.self.view_is)

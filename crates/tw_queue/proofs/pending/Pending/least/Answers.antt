@@ -1,32 +1,23 @@
-use Rattle.std.proofs.Common.{◌≡◌, ◌-◌, slice_get, ap, sym, ◌∙◌, subst, arith}
-use Rattle.std.specs.BinaryHeap.{heap_items, heap_len, heap_capacity}
-use Rattle.std.proofs.lemmas.Bool.{false≢true}
-use Rattle.tw_sim.proofs.Counts.{none}
+use Rattle.std.proofs.Common.{◌<◌, IfSome, slice_get, ap, sym, subst, ◌∙◌}
+use Rattle.tw_queue.specs.InOrder.{least_with}
+use Rattle.tw_queue.specs.Pending.{room_of}
 use Rattle.tw_queue.specs.Queue.{IsQueue}
-use Rattle.tw_queue.proofs.Events.{queue_of, no_events, first_of_heap}
+use Rattle.tw_queue.proofs.Spares.{first_home, least_whole, whole_queue}
 use Rattle.tw_queue.proofs.pending.Pending.least.Goals as goal
-
-pub returns-in_err-event-clause-first : goal.returns-in_err-event-clause-first
-returns-in_err-event-clause-first c =
-    let a = c.self.inside in
-    let e = ap (λ q. q.events) c.self.view_is in
-    let v = c.in_err-event.ensures.variant in
-    let n : heap_len a.heap ≡ 0 = none (heap_len a.heap) (λ h. false≢true (v.1 h)) in
-    rw c.from_residual.ensures (ap (λ r. slice_get r 0) (sym (no_events (heap_items a.heap) (omega (arith, a.heap.data.ok.0))) ∙ e))
-
-pub returns-in_err-event-clause-queue : goal.returns-in_err-event-clause-queue
-returns-in_err-event-clause-queue c =
-    let a = c.self.inside in
-    subst IsQueue c.self.view_is (queue_of a.routers (heap_capacity a.heap - heap_len a.heap) (heap_items a.heap) c.self.invariant.1)
 
 pub returns-clause-first : goal.returns-clause-first
 returns-clause-first c =
     let a = c.self.inside in
-    let e = ap (λ q. q.events) c.self.view_is in
-    let p = c.in_ok-event.ensures in
-    sym (first_of_heap c.in_ok-event.event.now (heap_items a.heap) p.item.3.0 p.item.1 (p.greatest c.self.invariant.0)) ∙ ap (λ r. slice_get r 0) e
+    c.least_of.ensures ∙ ap (least_with c.least.result) c.deref.ensures.value ∙ ap (λ o. least_with o a.spare.items) c.least.ensures ∙ least_whole a.spare.items a.table.events
+    ∙ ap (λ q. slice_get q.events 0) c.self.view_is
 
 pub returns-clause-queue : goal.returns-clause-queue
 returns-clause-queue c =
     let a = c.self.inside in
-    subst IsQueue c.self.view_is (queue_of a.routers (heap_capacity a.heap - heap_len a.heap) (heap_items a.heap) c.self.invariant.1)
+    let v = c.self.invariant in
+    subst IsQueue c.self.view_is (whole_queue a.routers (room_of a) a.table a.spare.items v.routers v.table v.spare)
+
+pub returns-clause-home : goal.returns-clause-home
+returns-clause-home c =
+    let q = c.args.self.now in
+    subst (λ o. IfSome o (λ e. e.dst < q.routers)) (sym (returns-clause-first c)) (first_home q.routers q.events (returns-clause-queue c).homes)

@@ -1,13 +1,24 @@
-use Rattle.std.proofs.Common.{IfSome, ◌≡◌, ◌==◌, None, slice_get, filter, ap, sym, ◌∙◌, subst}
-use Rattle.std.specs.BinaryHeap.{heap_items}
-use Rattle.tw_queue.specs.Heap.{heap_events, least_with}
-use Rattle.tw_queue.proofs.Events.{least_in_order, home_of_first}
+use Rattle.std.proofs.Common.{◌≡◌, ◌==◌, IfSome, filter, slice_get, ap, sym, subst, ◌∙◌}
+use Rattle.tw_queue.specs.InOrder.{least_with}
+use Rattle.tw_queue.specs.Pending.{room_of}
+use Rattle.tw_queue.specs.Queue.{IsQueue}
+use Rattle.tw_queue.proofs.Events.{home_of_first}
+use Rattle.tw_queue.proofs.Spares.{least_passing, whole_queue}
 use Rattle.tw_queue.proofs.pending.Pending.least_at.Goals as goal
 
 pub returns-clause-first : goal.returns-clause-first
 returns-clause-first c =
-    let e = ap (λ q. q.events) c.self.view_is in
-    c.least_of.ensures ∙ ap (λ items. least_with None (filter (λ e. e.dst == c.args.router) (heap_events items))) c.as_slice.ensures.value ∙ least_in_order (λ e. e.dst == c.args.router) (heap_events (heap_items c.self.inside.heap)) ∙ ap (λ r. slice_get (filter (λ e. e.dst == c.args.router) r) 0) e
+    let a = c.self.inside in
+    let r = c.args.router in
+    let own = filter (λ e. e.dst == r) a.spare.items in
+    c.least_for.ensures ∙ ap (λ xs. least_with c.least_at.result (filter (λ e. e.dst == r) xs)) c.deref.ensures.value ∙ ap (λ o. least_with o own) c.least_at.ensures
+    ∙ least_passing (λ e. e.dst == r) a.spare.items a.table.events c.self.invariant.table.rising ∙ ap (λ q. slice_get (filter (λ e. e.dst == r) q.events) 0) c.self.view_is
+
+pub returns-clause-queue : goal.returns-clause-queue
+returns-clause-queue c =
+    let a = c.self.inside in
+    let v = c.self.invariant in
+    subst IsQueue c.self.view_is (whole_queue a.routers (room_of a) a.table a.spare.items v.routers v.table v.spare)
 
 pub returns-clause-home : goal.returns-clause-home
 returns-clause-home c =

@@ -1,10 +1,9 @@
-use Rattle.std.proofs.Common.{◌≡◌, ◌≤◌, ◌*◌, ◌+◌, ◌-◌, ◌/◌, max, ap, sym, subst, ◌∙◌, arith, Err}
+use Rattle.std.proofs.Common.{◌≡◌, ◌≤◌, ◌/◌, ap, sym, subst, ◌∙◌, arith, Err}
 use Rattle.std.proofs.lemmas.Result.{err_from_is_err_and}
 use Rattle.tw_handlers.specs.Calls.{counter_full}
 use Rattle.tw_model.specs.Case.{IsCase}
 use Rattle.tw_model.specs.declared.memory.OrMemory.TheVariants.{Fault}
 use Rattle.tw_shape.specs.Verdict.{finding}
-use Rattle.tw_model.specs.declared.limits.TheConstants.{LATEST}
 use Rattle.tw_shape.proofs.Seeing.{seen_early, seen_found}
 use Rattle.tw_seq.proofs.Checkpoints.{left_within, on_the_way_begin, on_the_way_next, seen_every, stuck_later}
 use Rattle.tw_seq.proofs.one_thread.OneThread.run_watched.Goals as goal

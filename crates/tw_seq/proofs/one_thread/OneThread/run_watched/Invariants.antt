@@ -1,4 +1,4 @@
-use Rattle.std.proofs.Common.{◌≡◌, ◌≤◌, ◌*◌, ◌-◌}
+use Rattle.std.proofs.Common.{◌≤◌, ◌-◌}
 use Rattle.tw_seq.proofs.Checkpoints.{IsOnTheWay}
 use Rattle.tw_seq.proofs.one_thread.OneThread.run_watched.Given as goal
 

@@ -42,7 +42,8 @@ returns-then-meets c =
     one_time c.args.every c.requires.every c.args.self.now c.args.other.now c.args.ticks c.requires.self_timely.is c.requires.other_timely.is c.requires.ticks
     c.in_ok-ticks_left.field-0 c.in_ok-left.field-0 (record { still = c.in_ok-ticks_left.ensures.still; longest = c.in_ok-ticks_left.ensures.longest })
     (record { still = c.in_ok-left.ensures.still; longest = c.in_ok-left.ensures.longest })
-    c.in_ok-since.ensures.0 c.in_ok-since.since c.in_ok-since.ensures.1 c.if-since-every-ne0.false c.if-self-since.false true true (sym (le-leb _ _ c.if-is_near.true)) (sym c.if-meets.true ∙ c.meets.ensures)
+    c.in_ok-since.ensures.0 c.in_ok-since.since c.in_ok-since.ensures.1 c.if-since-every-ne0.false c.if-self-since.false
+    true true (sym (le-leb _ _ c.if-is_near.true)) (sym c.if-meets.true ∙ c.meets.ensures)
 
 pub returns-else-is_near : goal.returns-else-is_near
 returns-else-is_near c =

@@ -15,7 +15,8 @@ loop-old-init c =
       tt,
       record {
         same = ap (λ (l : List Gap). time_first (is_again w.every (after_first c.args.gap.now c.args.ticks)) (flat_map (gap_checkpoints w.every) l)) (items ∙ ap (λ v. v.window) c.self.view_is);
-        timely = subst (λ (l : List Gap). All (IsTimely w.every) l) (sym items) (subst (λ (k : ℕ). All (IsTimely k) c.self.inside.window.items) (ap (λ v. v.every) c.self.view_is) c.self.invariant.gaps);
+        timely = subst (λ (l : List Gap). All (IsTimely w.every) l) (sym items)
+            (subst (λ (k : ℕ). All (IsTimely k) c.self.inside.window.items) (ap (λ v. v.every) c.self.view_is) c.self.invariant.gaps);
       },
     )
 

@@ -22,5 +22,6 @@ invariant_of-self c =
       some = c.self.invariant.some;
       most = c.self.invariant.most;
       places = ap (λ b. b.capacity) c.push_back.ensures.items ∙ c.self.invariant.places;
-      gaps = subst (λ (l : List Gap). All (IsTimely every) l) (sym (ap (λ b. b.items) c.push_back.ensures.items)) (timely_push every c.self.inside.window.capacity c.self.inside.window.items gap c.self.invariant.gaps timely);
+      gaps = subst (λ (l : List Gap). All (IsTimely every) l) (sym (ap (λ b. b.items) c.push_back.ensures.items))
+          (timely_push every c.self.inside.window.capacity c.self.inside.window.items gap c.self.invariant.gaps timely);
     }

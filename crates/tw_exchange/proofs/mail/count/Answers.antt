@@ -1,0 +1,33 @@
+use Rattle.std.proofs.Common.{arith, ◌≡◌, ◌∙◌, ap, get_or, length}
+use Rattle.std.proofs.lemmas.List.{drop_all, get_or-replicate}
+use Rattle.tw_exchange.specs.Board.{sent_to}
+use Rattle.tw_exchange.proofs.Followed.{counted_more, fewer_here, sent_few}
+use Rattle.tw_exchange.proofs.mail.count.Goals as goal
+
+pub loop-message-init : goal.loop-message-init
+loop-message-init c = λ w h.
+    let zeros = c.fill.ensures.after (λ y e. e) in
+    let none : get_or c.fill.new.self w 0 ≡ 0 = ap (λ xs. get_or xs w 0) zeros ∙ get_or-replicate (length c.args.counts.now) w 0 0 h in
+    omega arith
+
+pub overflow_add-counts : goal.overflow_add-counts
+overflow_add-counts c =
+    let n = length c.args.counts.now in
+    let long : length c.loop-message.counts ≡ n = c.loop-message.auto.counts ∙ c.fill.ensures.len in
+    let fewer = fewer_here n (length c.loop-message.counts) c.args.out.now c.loop-message.message-index c.owner.result _ long c.owner.ensures.value c.loop-message-test.true in
+    let all = c.loop-message.invariant c.owner.result (omega arith) in
+    let few = sent_few n c.owner.result c.args.out.now in
+    omega arith
+
+pub loop-message-preserved : goal.loop-message-preserved
+loop-message-preserved c =
+    let n = length c.args.counts.now in
+    let long : length c.loop-message.counts ≡ n = c.loop-message.auto.counts ∙ c.fill.ensures.len in
+    counted_more n (length c.loop-message.counts) c.loop-message.counts c.args.out.now c.loop-message.message-index c.owner.result _ long c.owner.ensures.value c.loop-message-test.true
+    long (omega arith) c.loop-message.invariant
+
+pub returns : goal.returns
+returns c = λ w h.
+    let none = ap (λ xs. length (sent_to (length c.args.counts.now) w xs)) (drop_all c.loop-message.message-index c.args.out.now c.loop-message-test.false) in
+    let all = c.loop-message.invariant w h in
+    omega arith

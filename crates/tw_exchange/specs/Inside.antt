@@ -1,0 +1,17 @@
+-- What the fields of an exchange say, and what holds of them (own).
+use Rattle.std.specs.Prelude.{◌≡◌, length, map}
+use Rattle.tw_exchange.specs.Board.{Board, IsBoard}
+use Rattle.tw_exchange.specs.declared.exchange.Exchange.TheInside.{Inside}
+use Rattle.tw_exchange.specs.Rows.{items, soonest_of}
+
+-- the board that the fields stand for
+abbrev pub board_of : Inside → Board
+board_of a = record { mail = items a.mail.items; reports = a.reports.items; bound = a.bound; stop = a.stop; halted = a.halted }
+
+-- it is a board, and each row has a place for each worker
+pub record IsExchange (a : Inside) : Type 0 where
+  pub board : IsBoard (board_of a)
+  -- of each mail the least time is at hand
+  pub soonest : a.soonest.items ≡ map soonest_of (items a.mail.items)
+  pub counts : length a.counts.items ≡ a.workers
+  pub reports : length a.reports.items ≡ a.workers

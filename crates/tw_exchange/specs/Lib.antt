@@ -1,0 +1,3 @@
+pub mod Board
+pub mod Rows
+pub mod Inside

@@ -1,0 +1,244 @@
+ghost use Rattle.std.specs.Prelude.{◌≡◌, ◌↔◌, ◌<◌, ◌≤◌, [], IfErr, IfOk, IsTrue, OnErr, OnOk, false, true, length, replicate, Err};
+ghost use Rattle.std.specs.Result.{IsErrAnd};
+ghost use Rattle.tw_exchange.specs.Board.{IsBoard, handed, is_early, mail_of, opening, report_of, visited, workers};
+ghost use Rattle.tw_exchange.specs.Rows.{items};
+ghost use Rattle.tw_exchange.specs.declared.visit.VisitFault.TheVariants.{Early, NoWorker};
+ghost use Rattle.tw_model.specs.declared.memory.OrMemory.TheVariants as or_memory;
+
+use crate::mail::{NEVER, deposit, hand_out};
+use crate::times::{is_early, least_of, least_report};
+use crate::visit::{Back, Visit, VisitFault};
+use std::alloc::{AllocError, Global};
+use std::marker::Model;
+use tw_event::Event;
+use tw_model::OrMemory;
+use tw_sim::Signed;
+
+/// Where workers leave messages for one another, and learn the bound.
+#[derive(Drop)]
+pub struct Exchange {
+    alloc: Global,
+    workers: u32,
+    // By worker, as the rows below: what waits for it, in the order deposited.
+    mail: Vec<Vec<Signed<Event>>>,
+    // The least time of its mail, so that a visit need not look through what waits for others.
+    soonest: Vec<u64>,
+    // How much of a deposit is for it, which is counted before the room for it is made.
+    counts: Vec<usize>,
+    reports: Vec<Option<u64>>,
+    bound: u64,
+    stop: u64,
+    halted: bool,
+}
+
+impl Model for Exchange {
+    ghost use Rattle.tw_exchange.specs.Board.{Board};
+    ghost use Rattle.tw_exchange.specs.Inside.{IsExchange, board_of};
+
+    ghost Value = { Board };
+
+    ghost view = { board_of };
+
+    ghost invariant = { IsExchange };
+}
+
+impl Exchange {
+    /// No mail for any of so many workers, each of which has reported the bound. The bound is not beyond the
+    /// stop; both are in ticks.
+    pub fn new(alloc: Global, workers: u32, bound: u64, stop: u64) -> Result<Exchange, AllocError>
+        requires { bound ≤ stop }
+        ensures { IfOk result (λ x. x ≡ opening workers bound stop) }
+    {
+        Ok(Exchange {
+            alloc,
+            workers,
+            mail: no_mail(alloc, workers)?,
+            soonest: row(alloc, workers, NEVER)?,
+            counts: row(alloc, workers, 0)?,
+            reports: row(alloc, workers, Some(bound))?,
+            bound,
+            stop,
+            halted: false,
+        })
+    }
+
+    /// How many workers there are. They are numbered from 0.
+    pub fn workers(&self) -> u32
+        ensures value { result ≡ workers self.now }
+        ensures board { IsBoard self.now }
+    {
+        self.workers
+    }
+
+    /// The time before which nothing waits or is on its way, in ticks. It never falls.
+    pub fn bound(&self) -> u64
+        ensures value { result ≡ self.now.bound }
+        ensures board { IsBoard self.now }
+    {
+        self.bound
+    }
+
+    /// The time from which on nothing is handled, in ticks.
+    pub fn stop(&self) -> u64
+        ensures value { result ≡ self.now.stop }
+        ensures board { IsBoard self.now }
+    {
+        self.stop
+    }
+
+    /// Whether the workers shall take no further turn.
+    pub fn is_halted(&self) -> bool
+        ensures { result ≡ self.now.halted }
+    {
+        self.halted
+    }
+
+    /// The least time, in ticks, of what a worker told that it has: `None` where it has nothing, and where
+    /// there is no such worker.
+    pub fn report(&self, worker: u32) -> Option<u64>
+        ensures value { result ≡ report_of worker self.now }
+        ensures board { IsBoard self.now }
+    {
+        match self.reports.get(worker as usize) {
+            Some(report) => *report,
+            None => None,
+        }
+    }
+
+    /// What waits for a worker, in the order deposited: nothing where there is no such worker.
+    pub fn mail(&self, worker: u32) -> &[Signed<Event>]
+        ensures value { result.now ≡ mail_of worker self.now }
+        ensures board { IsBoard self.now }
+    {
+        match self.mail.get(worker as usize) {
+            Some(mail) => mail,
+            None => &[],
+        }
+    }
+
+    /// A worker deposits what it has sent, reports the least time of what it still has, if it has anything,
+    /// and takes its mail. Each message of `out` goes to the mail of the worker that has its receiver: router r
+    /// is worker r mod `workers`'s. The worker is handed all of its own mail in the order deposited, this
+    /// deposit's included. Its report becomes the least of `report` and of the times of what it is handed, and
+    /// the bound the least of all reports, of all mail that is left, and of the stop. Times are in ticks.
+    ///
+    /// It is refused as `NoWorker` where there is no such worker, and as `Early` where `report` or the time of
+    /// a message of `out` lies before the bound. After a refusal and for want of memory `out` comes back, and
+    /// nothing has changed. With nothing to deposit it takes no memory.
+    pub fn visit(
+        &mut self,
+        worker: u32,
+        out: Vec<Signed<Event>>,
+        report: Option<u64>,
+    ) -> Result<Visit, Back>
+        ensures board { OnOk result (self.new ≡ visited worker out.items report self.old) }
+        ensures mail { IfOk result (λ visit. visit.mail.items ≡ handed worker out.items self.old) }
+        ensures bound { IfOk result (λ visit. visit.bound ≡ self.new.bound) }
+        ensures halted { IfOk result (λ visit. visit.halted ≡ self.old.halted) }
+        ensures no_worker { IsErrAnd result (λ back. back.why ≡ or_memory.Fault NoWorker) ↔ (workers self.old ≤ worker) }
+        ensures early { IsErrAnd result (λ back. back.why ≡ or_memory.Fault Early)
+            ↔ ((worker < workers self.old) × IsTrue (is_early out.items report self.old)) }
+        ensures memory { IsErrAnd result (λ back. back.why ≡ or_memory.Memory) → 0 < length out.items }
+        ensures back { IfErr result (λ back. back.out ≡ out) }
+        ensures err { OnErr result (self.new ≡ self.old) }
+        ensures rising { self.old.bound ≤ self.new.bound }
+        ensures whole { IsBoard self.new }
+    {
+        if let Err(fault) = self.may_visit(worker, &out, report) {
+            return Err(Back {
+                out,
+                why: OrMemory::Fault(fault),
+            });
+        }
+        match self.pass_on(worker, &out, report) {
+            Ok(mail) => Ok(Visit {
+                mail,
+                bound: self.bound,
+                halted: self.halted,
+            }),
+            Err(_) => Err(Back {
+                out,
+                why: OrMemory::Memory,
+            }),
+        }
+    }
+
+    /// Whether a worker may deposit these messages and report this.
+    fn may_visit(
+        &self,
+        worker: u32,
+        out: &[Signed<Event>],
+        report: Option<u64>,
+    ) -> Result<(), VisitFault>
+        ensures no_worker { result ≡ Err NoWorker ↔ (workers self.now ≤ worker) }
+        ensures early { result ≡ Err Early ↔ ((worker < workers self.now) × IsTrue (is_early out.now report self.now)) }
+        ensures board { IsBoard self.now }
+    {
+        if worker >= self.workers {
+            Err(VisitFault::NoWorker)
+        } else if is_early(out, report, self.bound) {
+            Err(VisitFault::Early)
+        } else {
+            Ok(())
+        }
+    }
+
+    /// Deposits messages, hands out the worker's mail, and computes its report and the bound.
+    fn pass_on(
+        &mut self,
+        worker: u32,
+        out: &[Signed<Event>],
+        report: Option<u64>,
+    ) -> Result<Vec<Signed<Event>>, AllocError>
+        requires within { worker < workers self.old }
+        requires late { is_early out.now report self.old ≡ false }
+        ensures board { OnOk result (self.new ≡ visited worker out.now report self.old) }
+        ensures mail { IfOk result (λ mail. mail.items ≡ handed worker out.now self.old) }
+        ensures err { OnErr result (self.new ≡ self.old) }
+        ensures wanted { OnErr result (0 < length out.now) }
+        ensures rising { self.old.bound ≤ self.new.bound }
+    {
+        let place = worker as usize;
+        deposit(&mut self.mail, &mut self.soonest, &mut self.counts, out)?;
+        let mail = hand_out(&mut self.mail, &mut self.soonest, place, self.alloc);
+        self.reports[place] = least_report(report, &mail);
+        self.bound = least_of(&self.reports, &self.soonest, self.stop);
+        Ok(mail)
+    }
+
+    /// Tells the workers to take no further turn.
+    pub fn halt(&mut self)
+        ensures { self.new ≡ record self.old { halted = true } }
+    {
+        self.halted = true;
+    }
+
+    /// Lets the workers go on to another stop, in ticks, which is not before the present one.
+    pub fn reopen(&mut self, stop: u64)
+        requires { self.old.stop ≤ stop }
+        ensures { self.new ≡ record self.old { stop = stop; halted = false } }
+    {
+        self.stop = stop;
+        self.halted = false;
+    }
+}
+
+/// No mail for any of so many workers.
+fn no_mail(alloc: Global, workers: u32) -> Result<Vec<Vec<Signed<Event>>>, AllocError>
+    ensures { IfOk result (λ mail. items mail.items ≡ replicate workers []) }
+{
+    let mut mail = Vec::new(alloc);
+    for _ in 0..workers {
+        mail.push(Vec::new(alloc))?;
+    }
+    Ok(mail)
+}
+
+/// A row with the same item for each of so many workers.
+fn row<T: Copy>(alloc: Global, workers: u32, item: T) -> Result<Vec<T>, AllocError>
+    ensures { IfOk result (λ row. row.items ≡ replicate workers item) }
+{
+    let mut row = Vec::new(alloc);
+    row.resize(workers as usize, item)?;
+    Ok(row)
+}

@@ -1,0 +1,20 @@
+//! What the workers of a parallel run pass on to one another: messages, reports of what each still
+//! has, and the bound that follows from these (after Jefferson, Virtual Time, 1985, where the bound is
+//! called global virtual time).
+//!
+//! Contracts see an `Exchange` as the `Board` of `specs/Board`: the mail of each worker in the order
+//! deposited, each worker's report, the bound, the stop and whether the workers shall halt. A worker
+//! calls `visit`, which deposits what it has sent, hands out its mail, and computes the new bound.
+//! Nothing here waits or knows of threads.
+#![tactic(auto)]
+
+mod exchange;
+pub mod laws;
+mod mail;
+mod times;
+mod visit;
+
+pub use exchange::Exchange;
+pub use tw_model::OrMemory;
+pub use tw_sim::Signed;
+pub use visit::{Back, Visit, VisitFault};

@@ -1,0 +1,53 @@
+//! Times of messages and of reports: what is too early, and the least ones.
+
+ghost use Rattle.std.specs.Prelude.{◌≡◌, ◌||◌, false, fold, min, nat_lt};
+ghost use Rattle.std.specs.List.{flat_map, list_any};
+ghost use Rattle.std.specs.Option.{option_map_or, option_to_list};
+ghost use Rattle.tw_exchange.specs.Board.{least_report};
+ghost use Rattle.tw_exchange.specs.Rows.{lesser_time};
+
+use tw_event::Event;
+use tw_lanes::least_time;
+use tw_sim::Signed;
+
+/// Whether the report or a message lies before the bound.
+pub fn is_early(out: &[Signed<Event>], report: Option<u64>, bound: u64) -> bool
+    ensures { result ≡ (option_map_or (λ time. nat_lt time bound) report false || list_any (λ m. nat_lt m.event.time bound) out.now) }
+{
+    report.is_some_and(|time| time < bound) || is_any_before(out, bound)
+}
+
+// Whether a message lies before the bound.
+fn is_any_before(out: &[Signed<Event>], bound: u64) -> bool
+    ensures { result ≡ list_any (λ m. nat_lt m.event.time bound) out.now }
+{
+    out.iter().any(|message| message.event.time < bound)
+}
+
+/// The least of the report, if there is one, and of the times of the messages.
+pub fn least_report(report: Option<u64>, messages: &[Signed<Event>]) -> Option<u64>
+    ensures { result ≡ least_report report messages.now }
+{
+    let mut least = report;
+    for message in messages {
+        least = Some(lesser(message.event.time, least));
+    }
+    least
+}
+
+/// The least of the stop, of a row of times, and of the reports.
+pub fn least_of(reports: &[Option<u64>], times: &[u64], stop: u64) -> u64
+    ensures { result ≡ fold min (fold min stop times.now) (flat_map option_to_list reports.now) }
+{
+    let least = least_time(times).map_or(stop, |time| time.min(stop));
+    reports
+        .iter()
+        .fold(least, |time, report| lesser(time, *report))
+}
+
+// The lesser of a time and of a report, if there is one.
+fn lesser(time: u64, report: Option<u64>) -> u64
+    ensures { result ≡ lesser_time time report }
+{
+    report.map_or(time, |reported| reported.min(time))
+}

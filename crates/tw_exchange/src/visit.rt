@@ -1,0 +1,32 @@
+use tw_event::Event;
+use tw_model::OrMemory;
+use tw_sim::Signed;
+
+/// What a worker is told at a visit.
+#[derive(Drop, Debug)]
+pub struct Visit {
+    /// The messages for its routers, in the order deposited.
+    pub mail: Vec<Signed<Event>>,
+    /// The time before which nothing waits or is on its way, in ticks.
+    pub bound: u64,
+    /// Whether it shall take no further turn.
+    pub halted: bool,
+}
+
+/// A visit that changed nothing.
+#[derive(Drop, Debug)]
+pub struct Back {
+    /// What the worker wanted to deposit.
+    pub out: Vec<Signed<Event>>,
+    /// Why it was not taken.
+    pub why: OrMemory<VisitFault>,
+}
+
+/// Why a visit is refused.
+#[derive(Clone, Copy, PartialEq, Eq, Debug)]
+pub enum VisitFault {
+    /// There is no worker of this number.
+    NoWorker,
+    /// The time of a message or the report lies before the bound.
+    Early,
+}

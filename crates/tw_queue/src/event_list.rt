@@ -1,0 +1,115 @@
+ghost use Rattle.std.specs.Prelude.{◌≡◌, ◌+◌, ◌<◌, ◌≤◌, IfNone, IfOk, IfSome, IsOk, OnErr, OnOk, [], drop, slice_get};
+ghost use Rattle.tw_event.specs.Order.{event_before};
+ghost use Rattle.tw_queue.specs.Heap.{heap_events};
+ghost use Rattle.tw_queue.specs.Queue.{IsQueue};
+ghost use Rattle.tw_sim.specs.Ordered.{insert};
+
+use std::alloc::{AllocError, Global};
+use std::cmp::Reverse;
+use std::collections::BinaryHeap;
+use std::marker::Model;
+use tw_event::Event;
+
+/// Events that wait to be handled, each as often as it was inserted, in a heap.
+///
+/// The least one comes out fast. [`Pending`](crate::Pending) also answers for one router, and takes an
+/// event out wherever it stands.
+#[derive(Drop)]
+pub struct EventList {
+    alloc: Global,
+    routers: u32,
+    heap: BinaryHeap<Reverse<Event>>,
+}
+
+impl Model for EventList {
+    ghost use Rattle.std.specs.Prelude.{◌-◌};
+    ghost use Rattle.tw_event.specs.Order.{event_before};
+    ghost use Rattle.std.specs.BinaryHeap.{heap_capacity, heap_items, heap_len, IsHeap};
+    ghost use Rattle.tw_queue.specs.Queue.{Queue, AreFor};
+    ghost use Rattle.tw_queue.specs.Heap.{heap_events};
+    ghost use Rattle.tw_queue.specs.InOrder.{in_order};
+
+    ghost Value = { Queue };
+
+    ghost view = { λ a. record { routers = a.routers; events = in_order event_before (heap_events (heap_items a.heap)); room = heap_capacity a.heap - heap_len a.heap } };
+
+    ghost invariant = { λ a. IsHeap ⟦<Reverse<Event> as Ord>⟧.cmp (heap_items a.heap) × AreFor a.routers (heap_events (heap_items a.heap)) };
+}
+
+impl EventList {
+    /// No events, for routers below `routers`.
+    pub fn new(alloc: Global, routers: u32) -> Result<EventList, AllocError>
+        ensures routers { IfOk result (λ q. q.routers ≡ routers) }
+        ensures empty { IfOk result (λ q. q.events ≡ []) }
+    {
+        Ok(EventList {
+            alloc,
+            routers,
+            heap: BinaryHeap::new(alloc),
+        })
+    }
+
+    /// Makes room for `additional` more events, so that inserting them cannot fail.
+    pub fn reserve(&mut self, additional: usize) -> Result<(), AllocError>
+        ensures ok { OnOk result (additional ≤ self.new.room) }
+        ensures full { OnErr result (self.old.room < additional) }
+        ensures routers { self.new.routers ≡ self.old.routers }
+        ensures events { self.new.events ≡ self.old.events }
+        ensures room { self.old.room ≤ self.new.room }
+    {
+        self.heap.reserve(additional)
+    }
+
+    /// Adds an event, in its place in the order. It cannot fail where there is room.
+    pub fn insert(&mut self, event: Event) -> Result<(), AllocError>
+        requires { event.dst < self.old.routers }
+        ensures ok { OnOk result (self.new.events ≡ insert event_before event self.old.events) }
+        ensures err { OnErr result (self.new.events ≡ self.old.events) }
+        ensures succeeds { 0 < self.old.room → IsOk result }
+        ensures routers { self.new.routers ≡ self.old.routers }
+        ensures room { self.old.room ≤ self.new.room + 1 }
+    {
+        self.heap.push(Reverse(event))?;
+        Ok(())
+    }
+
+    /// The least event.
+    pub fn least(&self) -> Option<Event>
+        ensures first { result ≡ slice_get self.now.events 0 }
+        ensures home { IfSome result (λ e. e.dst < self.now.routers) }
+        ensures queue { IsQueue self.now }
+    {
+        let event = self.heap.peek()?;
+        Some(event.0)
+    }
+
+    /// Takes out the least event.
+    pub fn take_least(&mut self) -> Option<Event>
+        ensures first { result ≡ slice_get self.old.events 0 }
+        ensures events { self.new.events ≡ drop 1 self.old.events }
+        ensures home { IfSome result (λ e. e.dst < self.old.routers) }
+        ensures routers { self.new.routers ≡ self.old.routers }
+        ensures room { self.old.room ≤ self.new.room }
+        ensures none { IfNone result (self.new ≡ self.old) }
+    {
+        let event = self.heap.pop()?;
+        Some(event.0)
+    }
+
+    /// All events, in rising order.
+    pub fn list(&self) -> Result<Vec<Event>, AllocError>
+        ensures events { IfOk result (λ v. v.items ≡ self.now.events) }
+        ensures queue { IsQueue self.now }
+    {
+        let mut events = collect_events(self.alloc, self.heap.as_slice())?;
+        events.sort_unstable();
+        Ok(events)
+    }
+}
+
+// The events of a heap's items.
+fn collect_events(alloc: Global, items: &[Reverse<Event>]) -> Result<Vec<Event>, AllocError>
+    ensures { IfOk result (λ v. v.items ≡ heap_events items.now) }
+{
+    items.iter().map(|item| item.0).collect(alloc)
+}

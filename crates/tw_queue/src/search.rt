@@ -1,0 +1,57 @@
+// Searches of a few events.
+ghost use Rattle.std.specs.Prelude.{◌≡◌, ◌<◌, ◌↔◌, IsTrue, count_by, position, vec_capacity};
+ghost use Rattle.tw_event.specs.Order.{event_same};
+ghost use Rattle.tw_queue.specs.InOrder.{earlier, least_with};
+ghost use Rattle.tw_sim.specs.Ordered.{take_out, times};
+
+use tw_event::Event;
+
+// The first place of an event.
+pub(crate) fn place_of(events: &[Event], event: &Event) -> Option<usize>
+    ensures { result ≡ position (λ x. ⟦<Event as PartialEq>⟧.eq event.now x) events.now }
+{
+    events.iter().position(|other| *event == *other)
+}
+
+// Takes one event that equals `event` out of these, and tells whether there was one.
+pub(crate) fn remove_from(events: &mut Vec<Event>, event: &Event) -> bool
+    ensures found { IsTrue result ↔ (0 < times event_same event.now events.old.items) }
+    ensures items { events.new.items ≡ take_out event_same event.now events.old.items }
+    ensures capacity { vec_capacity events.new ≡ vec_capacity events.old }
+{
+    match place_of(events, event) {
+        Some(place) => {
+            events.remove(place);
+            true
+        }
+        None => false,
+    }
+}
+
+// How often an event stands among these.
+pub(crate) fn count_of(events: &[Event], event: &Event) -> usize
+    ensures { result ≡ count_by (λ x. ⟦<Event as PartialEq>⟧.eq event.now x) events.now }
+{
+    events.iter().filter(|other| *event == **other).count()
+}
+
+// The least of an event, if there is one, and of these.
+pub(crate) fn least_of(first: Option<Event>, events: &[Event]) -> Option<Event>
+    ensures { result ≡ least_with first events.now }
+{
+    let mut least = first;
+    for event in events {
+        least = Some(earlier(*event, least));
+    }
+    least
+}
+
+// The one of the two events that comes first.
+pub(crate) fn earlier(event: Event, other: Option<Event>) -> Event
+    ensures { result ≡ earlier event other }
+{
+    match other {
+        Some(other) if other < event => other,
+        _ => event,
+    }
+}

@@ -1,0 +1,144 @@
+-- A shard as it begins.
+use Rattle.std.proofs.Common.{◌≡◌, ℕ, ◌+◌, ◌-◌, ◌*◌, ◌%◌, ◌<◌, ◌≤◌, ◌==◌, true, List, [], ◌∷◌, ◌++◌, ap, ap₂, sym, ◌∙◌, refl, subst, inl, inr, arith, nat_lt, if◌then◌else◌}
+use Rattle.std.proofs.Common.{filter, get_or, length, map}
+use Rattle.std.specs.Int.{div_ceil}
+use Rattle.std.specs.List.{AllByRecursion, range_with_len}
+use Rattle.std.proofs.Math.Nat.{div-add-mod, mul-le-mul_left}
+use Rattle.std.proofs.Math.Path.{fun_ext}
+use Rattle.std.proofs.lemmas.Bool.{cases_Bool, ltb-false, ltb-true}
+use Rattle.std.proofs.lemmas.Grind.{div_ceil_times}
+use Rattle.std.proofs.lemmas.List.FromFn.{get_or-map-range_with_len, length-map-range_with_len, map-range_with_len_more}
+use Rattle.tw_core.proofs.Sums.{all_map}
+use Rattle.tw_event.specs.declared.event.Event.{Event}
+use Rattle.tw_event.specs.Order.{event_before, event_same}
+use Rattle.tw_model.specs.Case.{Case, IsCase, opening_events, simulation}
+use Rattle.tw_model.specs.Effect.{suits}
+use Rattle.tw_model.specs.Net.{Net}
+use Rattle.tw_model.proofs.Lawful.{lawful}
+use Rattle.tw_model.proofs.Within.{suits_within}
+use Rattle.tw_queue.proofs.Ordered.{all-filter}
+use Rattle.tw_shard.specs.Shard.{IsWhole, Shard, core, no_timeline, opening_core, owns, place, timeline}
+use Rattle.tw_shard.specs.Timeline.{Timeline, history, opening_timeline}
+use Rattle.tw_shard.proofs.Shares.{owns_parts}
+use Rattle.tw_sim.specs.Ordered.{insert, insert_all}
+use Rattle.tw_sim.proofs.Counts.{is_order}
+use Rattle.tw_sim.proofs.Ordered.{all-insert, all_counted}
+
+-- each opening event suits its receiver
+opening_suits : (case : Case) → IsCase case → AllByRecursion (λ e. suits case.net e.dst e ≡ true) (opening_events case.scenes)
+opening_suits case is =
+    let m = simulation case in
+    let law = lawful case is in
+    all_counted m.before m.same (is_order m law) (λ e. suits case.net e.dst e ≡ true) (opening_events case.scenes) law.suit_opening
+
+-- so that it is for a router of the case
+pub opening_home : (case : Case) (routers : ℕ) (events : List Event) → IsCase case → events ≡ opening_events case.scenes → routers ≡ case.net.nodes
+    → AllByRecursion (λ e. e.dst < routers) events
+opening_home case routers events is are count =
+    subst (λ n. AllByRecursion (λ e. e.dst < n) events) (sym count) (subst (AllByRecursion (λ e. e.dst < case.net.nodes)) (sym are)
+    (all_map (λ e. suits case.net e.dst e ≡ true) (λ e. e.dst < case.net.nodes) (λ e h. suits_within case.net e.dst e is.net h) (opening_events case.scenes) (opening_suits case is)))
+
+all_inserted : (P : Event → Type 0) (events pending : List Event) → AllByRecursion P events → AllByRecursion P pending
+    → AllByRecursion P (insert_all event_before events pending)
+all_inserted P [] pending new old = old
+all_inserted P (e ∷ events) pending new old = all_inserted P events (insert event_before e pending) new.1 (all-insert event_before P e pending new.0 old)
+
+-- one more timeline
+pub one_more : (f : ℕ → Timeline) (n : ℕ) (xs ys : List Timeline) (x : Timeline) → ys ≡ xs ++ x ∷ [] → xs ≡ map f (range_with_len 0 n) → x ≡ f n
+    → ys ≡ map f (range_with_len 0 (n + 1))
+one_more f n xs ys x pushed old new = pushed ∙ (ap₂ (λ l y. l ++ y ∷ []) old new ∙ sym (map-range_with_len_more f 0 n n (omega arith)))
+
+-- a shard with its routers as they begin, the opening events for them, and nothing else
+pub record IsBegun (s : Shard) : Type 0 where
+  pub case : IsCase s.case
+  pub worker : s.worker < s.workers
+  pub timelines : s.timelines ≡ map (λ k. opening_timeline s.case.net (s.worker + s.workers * k)) (range_with_len 0 (div_ceil (s.case.net.nodes - s.worker) s.workers))
+  pub pending : s.pending ≡ insert_all event_before (filter (λ e. e.dst % s.workers == s.worker) (opening_events s.case.scenes)) []
+  pub kept : s.kept ≡ []
+  pub outgoing : s.outgoing ≡ []
+  pub bound : s.bound ≡ 0
+
+pub begun : (s : Shard) (net : Net) → net ≡ s.case.net → IsCase s.case → s.worker < s.workers
+    → s.timelines ≡ map (λ k. opening_timeline net (s.worker + s.workers * k)) (range_with_len 0 (div_ceil (net.nodes - s.worker) s.workers))
+    → s.pending ≡ insert_all event_before (filter (λ e. e.dst % s.workers == s.worker) (opening_events s.case.scenes)) []
+    → s.kept ≡ [] → s.outgoing ≡ [] → s.bound ≡ 0 → IsBegun s
+begun s net same case worker timelines pending kept outgoing bound = record {
+  case = case;
+  worker = worker;
+  timelines = timelines ∙ ap (λ (net : Net). map (λ k. opening_timeline net (s.worker + s.workers * k)) (range_with_len 0 (div_ceil (net.nodes - s.worker) s.workers))) same;
+  pending = pending;
+  kept = kept;
+  outgoing = outgoing;
+  bound = bound;
+}
+
+module _ (s : Shard) (is : IsBegun s) where
+  abbrev count : ℕ
+  count = div_ceil (s.case.net.nodes - s.worker) s.workers
+
+  router_at : (r : ℕ) → owns s r ≡ true → s.worker + s.workers * place s r ≡ r
+  router_at r mine = let whole = div-add-mod r s.workers in let rest = (owns_parts s r mine).1 in omega arith
+
+  -- there is a place for each of its routers
+  place_within : (r : ℕ) → owns s r ≡ true → place s r < count
+  place_within r mine =
+      elim (cases_Bool (nat_lt (place s r) count)) [
+        | inl within ↦ ltb-true (place s r) count within
+        | inr beyond ↦
+            let router = router_at r mine in
+            let below = (owns_parts s r mine).0 in
+            let more : s.workers * count ≤ s.workers * place s r = mul-le-mul_left s.workers (ltb-false (place s r) count beyond) in
+            let enough = (div_ceil_times (s.case.net.nodes - s.worker) s.workers (let h = is.worker in omega arith)).0 in
+            absurd (omega arith)
+      ]
+
+  -- each of them is as it begins
+  pub opened : (r : ℕ) → owns s r ≡ true → timeline s r ≡ opening_timeline s.case.net r
+  opened r mine =
+      let f = λ (k : ℕ). opening_timeline s.case.net (s.worker + s.workers * k) in
+      ap (λ l. get_or l (place s r) no_timeline) is.timelines
+      ∙ (get_or-map-range_with_len f 0 count (place s r) (place s r) no_timeline (place_within r mine) (omega arith) ∙ ap (opening_timeline s.case.net) (router_at r mine))
+
+  -- what is read of each router is what is there where there is none
+  read_opened : {A : Type 0} (read : Timeline → A) (none : A) → ((r : ℕ) → read (opening_timeline s.case.net r) ≡ none)
+      → ◌≡◌ {A = ℕ → A} (λ r. if owns s r then read (timeline s r) else none) (λ r. none)
+  read_opened read none same =
+      fun_ext (λ r. elim (cases_Bool (owns s r)) [
+        | inl mine ↦ rw mine (ap read (opened r mine) ∙ same r)
+        | inr other ↦ rw other refl
+      ])
+
+  pub whole_begun : IsWhole s
+  whole_begun = record {
+    case = is.case;
+    worker = is.worker;
+    routers = λ r mine. record {
+      within =
+          let place = place_within r mine in
+          let long = ap length is.timelines ∙ length-map-range_with_len (λ (k : ℕ). opening_timeline s.case.net (s.worker + s.workers * k)) 0 count in
+          omega arith;
+      net = ap (λ t. t.net) (opened r mine);
+      node = ap (λ t. t.node) (opened r mine);
+      done = let done = ap (λ t. t.done) (opened r mine) in omega arith;
+    };
+    pending =
+        let P = λ (e : Event). suits s.case.net e.dst e ≡ true in
+        let own = λ (e : Event). e.dst % s.workers == s.worker in
+        subst (AllByRecursion P) (sym is.pending)
+        (all_inserted P (filter own (opening_events s.case.scenes)) [] (all-filter event_before event_same P own (opening_events s.case.scenes) (opening_suits s.case is.case)) tt);
+  }
+
+  -- as a machine of its own routers it begins
+  pub core_begun : (stop : ℕ) → core stop s ≡ opening_core s.case s.worker s.workers stop
+  core_begun stop =
+      let histories = read_opened history [] (λ r. refl) in
+      let dones = read_opened (λ (t : Timeline). t.done) 0 (λ r. refl) in
+      λ i. record {
+        history = histories i;
+        pending = is.pending i;
+        kept = is.kept i;
+        flight = is.outgoing i;
+        done = dones i;
+        bound = is.bound i;
+        stop = stop;
+      }

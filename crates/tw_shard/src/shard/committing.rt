@@ -1,0 +1,100 @@
+ghost use Rattle.std.specs.Prelude.{◌≡◌, ◌-◌, ◌≤◌, ◌<◌, ◌↔◌, ◌++◌, ℕ, length, map, min, reverse, slice_get, slice_index_or, slice_set, true, IsErrOf, IsOk, OnErr, OnOk, Ok, Err};
+ghost use Rattle.std.specs.List.{reduce};
+ghost use Rattle.tw_core.specs.declared.refusal.Refusal.{Refusal as ARefusal};
+ghost use Rattle.tw_core.specs.Machine.{committed};
+ghost use Rattle.tw_model.specs.Case.{simulation};
+ghost use Rattle.tw_model.specs.declared.memory.OrMemory.TheVariants as or_memory;
+ghost use Rattle.tw_shard.specs.Commit.{HasNothingToCommit, committed_at, committed_to, committing, count_left};
+ghost use Rattle.tw_shard.specs.Shard.{IsSameShare, core, no_timeline, owns, timeline};
+ghost use Rattle.tw_shard.specs.Timeline.{history};
+
+use super::Shard;
+use crate::timeline::Timeline;
+use std::alloc::AllocError;
+use tw_core::Refusal;
+use tw_event::Event;
+use tw_model::OrMemory;
+
+impl<'a> Shard<'a> {
+    /// The events of a router that are before the bound become committed: they can be undone no more, and
+    /// what undoing them would need is let go.
+    ///
+    /// It is refused as `NotMine` where the router is none of the shard's. After a refusal and for want
+    /// of memory nothing has changed. Where no event becomes committed, it takes no memory.
+    pub fn commit(&mut self, router: u32) -> Result<(), OrMemory<Refusal>>
+        ensures ok { (stop : ℕ) → OnOk result (committing stop self.old router ≡ Ok (core stop self.new)) }
+        ensures events { OnOk result (self.new ≡ committed_at self.old router) }
+        ensures refused { (stop : ℕ) (f : ARefusal) → IsErrOf result (or_memory.Fault f) ↔ (committing stop self.old router ≡ Err f) }
+        ensures err { OnErr result (self.new ≡ self.old) }
+        ensures same { IsSameShare self.old self.new }
+        ensures free { owns self.old router ≡ true → HasNothingToCommit self.old router → IsOk result }
+    {
+        if !self.owns(router) {
+            return Err(OrMemory::Fault(Refusal::NotMine));
+        }
+        self.commit_own(router)?;
+        Ok(())
+    }
+
+    /// One of its routers commits its events before the bound.
+    fn commit_own(&mut self, router: u32) -> Result<(), AllocError>
+        requires own { owns self.old router ≡ true }
+        ensures ok { OnOk result (self.new ≡ committed_at self.old router) }
+        ensures err { OnErr result (self.new ≡ self.old) }
+        ensures free { HasNothingToCommit self.old router → IsOk result }
+    {
+        let place = self.place(router);
+        commit_at(&mut self.timelines, place, self.bound)?;
+        Ok(())
+    }
+
+    /// How many events of one of its routers are committed.
+    pub fn committed(&self, router: u32) -> usize
+        requires { owns self.now router ≡ true }
+        ensures { result ≡ length (committed (simulation self.now.case) (core 0 self.now) router) }
+    {
+        self.timeline(router).committed()
+    }
+
+    /// How many events one of its routers has handled that are not committed.
+    pub fn ahead(&self, router: u32) -> usize
+        requires { owns self.now router ≡ true }
+        ensures { result ≡ length ((core 0 self.now).history router) - length (committed (simulation self.now.case) (core 0 self.now) router) }
+    {
+        self.timeline(router).ahead_len()
+    }
+
+    /// Event number `k`, from 0, of those that one of its routers has handled and not undone, the oldest
+    /// first. `None` past the last.
+    pub fn handled(&self, router: u32, k: usize) -> Option<Event>
+        requires { owns self.now router ≡ true }
+        ensures { result ≡ slice_get (reverse (history (timeline self.now router))) k }
+    {
+        self.timeline(router).handled(k)
+    }
+
+    /// The least time, in ticks, of what waits for its routers and of the antimessages that came before
+    /// their message. `None` where there is neither.
+    pub fn report_time(&self) -> Option<u64>
+        ensures { result ≡ reduce min (map (λ e. e.time) (self.now.pending ++ self.now.kept)) }
+    {
+        match (self.pending.least(), self.kept.least()) {
+            (Some(event), Some(kept)) => Some(event.time.min(kept.time)),
+            (Some(event), None) => Some(event.time),
+            (None, Some(kept)) => Some(kept.time),
+            (None, None) => None,
+        }
+    }
+}
+
+/// The timeline at a place commits its events before a bound.
+fn commit_at(timelines: &mut [Timeline<'_>], place: usize, bound: u64) -> Result<(), AllocError>
+    requires within { place < length timelines.old }
+    requires done { (slice_index_or timelines.old place no_timeline).done ≤ bound }
+    ensures ok { OnOk result
+        (timelines.new ≡ slice_set timelines.old place (committed_to bound (slice_index_or timelines.old place no_timeline))) }
+    ensures err { OnErr result (timelines.new ≡ timelines.old) }
+    ensures free { let t = slice_index_or timelines.old place no_timeline in count_left bound t.ahead ≡ length t.ahead → IsOk result }
+{
+    timelines[place].commit(bound)
+}

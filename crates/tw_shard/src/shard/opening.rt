@@ -1,0 +1,110 @@
+ghost use Rattle.std.specs.Prelude.{◌≡◌, ◌==◌, ◌%◌, ◌+◌, ◌-◌, ◌*◌, ◌<◌, [], ℕ, filter, map, true, IfOk, OnOk};
+ghost use Rattle.std.specs.Int.{div_ceil};
+ghost use Rattle.std.specs.List.{range_with_len};
+ghost use Rattle.tw_event.specs.Order.{event_before};
+ghost use Rattle.tw_model.specs.Case.{opening_events};
+ghost use Rattle.tw_queue.specs.Queue.{AreFor};
+ghost use Rattle.tw_shard.specs.Shard.{core, opening_core, owns, timeline};
+ghost use Rattle.tw_shard.specs.Timeline.{opening_timeline};
+ghost use Rattle.tw_sim.specs.Ordered.{insert_all};
+
+use super::Shard;
+use crate::timeline::Timeline;
+use smallvec::SmallVec;
+use std::alloc::{AllocError, Global};
+use tw_event::Event;
+use tw_instance::{Case, Instance};
+use tw_queue::Pending;
+
+impl<'a> Shard<'a> {
+    /// What one worker of so many has of a case, where routers are dealt out to workers in turn: its
+    /// routers as they begin, and the opening events for them. Workers have numbers from 0 on; one past
+    /// the last router has none. It fails for want of memory alone.
+    pub fn open(
+        alloc: Global,
+        case: &'a Case,
+        worker: u32,
+        workers: u32,
+    ) -> Result<Shard<'a>, AllocError>
+        requires { worker < workers }
+        ensures core { IfOk result (λ shard. (stop : ℕ) → core stop shard ≡ opening_core case.now worker workers stop) }
+        ensures routers { IfOk result (λ shard. (r : ℕ) → owns shard r ≡ true → timeline shard r ≡ opening_timeline case.now.net r) }
+        ensures case { IfOk result (λ shard. shard.case ≡ case.now) }
+        ensures worker { IfOk result (λ shard. shard.worker ≡ worker) }
+        ensures workers { IfOk result (λ shard. shard.workers ≡ workers) }
+    {
+        let instance = case.instance();
+        let timelines = opening_timelines(alloc, instance, worker, workers)?;
+        let pending = opening_queue(alloc, case, worker, workers)?;
+        let kept = Pending::new(alloc, instance.nodes())?;
+        Ok(Shard {
+            case,
+            worker,
+            workers,
+            timelines,
+            pending,
+            kept,
+            outgoing: Vec::new(alloc),
+            sends: SmallVec::new(alloc),
+            bound: 0,
+        })
+    }
+}
+
+/// The timelines of a worker's routers as they begin, by rising number.
+fn opening_timelines<'a>(
+    alloc: Global,
+    instance: &'a Instance,
+    worker: u32,
+    workers: u32,
+) -> Result<Vec<Timeline<'a>>, AllocError>
+    requires { 0 < workers }
+    ensures { IfOk result (λ timelines. timelines.items
+        ≡ map (λ k. opening_timeline instance.now (worker + workers * k)) (range_with_len 0 (div_ceil (instance.now.nodes - worker) workers))) }
+{
+    let count = instance.nodes().saturating_sub(worker).div_ceil(workers);
+    let mut timelines = Vec::new(alloc);
+    for place in 0..count {
+        let node = worker + workers * place;
+        timelines.push(Timeline::open(alloc, instance, node)?)?;
+    }
+    Ok(timelines)
+}
+
+/// The opening events for a worker's routers.
+fn opening_queue(
+    alloc: Global,
+    case: &Case,
+    worker: u32,
+    workers: u32,
+) -> Result<Pending, AllocError>
+    requires { 0 < workers }
+    ensures events { IfOk result (λ pending. pending.events
+        ≡ insert_all event_before (filter (λ e. e.dst % workers == worker) (opening_events case.now.scenes)) []) }
+    ensures routers { IfOk result (λ pending. pending.routers ≡ case.now.net.nodes) }
+{
+    let mut pending = Pending::new(alloc, case.instance().nodes())?;
+    insert_own(&mut pending, case.openings(), worker, workers)?;
+    Ok(pending)
+}
+
+/// Adds the events that are for a worker's routers, each in its place.
+fn insert_own(
+    pending: &mut Pending,
+    events: &[Event],
+    worker: u32,
+    workers: u32,
+) -> Result<(), AllocError>
+    requires some { 0 < workers }
+    requires homes { AreFor pending.old.routers events.now }
+    ensures events { OnOk result
+        (pending.new.events ≡ insert_all event_before (filter (λ e. e.dst % workers == worker) events.now) pending.old.events) }
+    ensures routers { pending.new.routers ≡ pending.old.routers }
+{
+    for event in events {
+        if event.dst % workers == worker {
+            pending.insert(*event)?;
+        }
+    }
+    Ok(())
+}

@@ -1,0 +1,11 @@
+pub mod Whole
+pub mod Joined
+pub mod Moves
+pub mod Behind
+pub mod Turns
+pub mod Deliveries
+pub mod Bounds
+pub mod Walks
+pub mod Runs
+pub mod Openings
+pub mod CommittedEvents

@@ -1,0 +1,133 @@
+-- A machine whose shards begin is one that begins.
+use Rattle.std.proofs.Common.{◌≡◌, ℕ, suc, ◌+◌, ◌<◌, ◌≤◌, ◌==◌, ◌%◌, cond, List, [], ◌∷◌, ◌++◌, filter, flat_map, get_or, length, refl, ap, sym, ◌∙◌, subst, inl, inr, arith}
+use Rattle.std.proofs.lemmas.Bool.{cases_Bool, cases_eq, eq-eqb, ne_eqb}
+use Rattle.tw_core.specs.Machine.{Core, IsOpening}
+use Rattle.tw_core.specs.Parts.{IsOwn}
+use Rattle.tw_core.proofs.Steps.{good_opening}
+use Rattle.tw_event.specs.declared.event.Event.{Event}
+use Rattle.tw_event.specs.Order.{event_before}
+use Rattle.tw_model.specs.Case.{Case, IsCase, opening_events, simulation}
+use Rattle.tw_model.specs.declared.limits.TheConstants.{LATEST}
+use Rattle.tw_model.proofs.Lawful.{lawful}
+use Rattle.tw_shard.specs.Shard.{Shard}
+use Rattle.tw_sim.specs.Ordered.{insert_all}
+use Rattle.tw_sim.specs.Simulation.{times}
+use Rattle.tw_sim.proofs.Counts.{in_filter, times-append, times-filter-no, times-filter-yes, times-insert_all}
+use Rattle.std.proofs.Math.Path.{fun_ext}
+use Rattle.tw_warp.specs.Openings.{IsOpened, opening_machine}
+use Rattle.tw_warp.proofs.Whole.{same_order}
+use Rattle.tw_warp.specs.Warp.{IsWarp, Warp, core, no_shard, shard_of, worker_of}
+
+module _ (case : Case) (is : IsCase case) (n : ℕ) where
+  -- how often an event waits at a shard that begins
+  waits : (k : ℕ) (s : Shard) (e : Event) → IsOpened case k n s
+      → times (simulation case) e s.pending ≡ cond (e.dst % n == k) (times (simulation case) e (opening_events case.scenes)) 0
+  waits k s e at =
+      let m = simulation case in
+      let law = lawful case is in
+      let all = opening_events case.scenes in
+      let mine = filter (λ x. x.dst % n == k) all in
+      let pending : times m e s.pending ≡ times m e (insert_all event_before mine []) = ap (λ (C : Core Event). times m e C.pending) (at.core_is 0) in
+      let count = times-insert_all m e mine [] in
+      elim (cases_Bool (e.dst % n == k)) [
+        | inl here ↦ (let own = times-filter-yes m law (λ x. x.dst % n == k) e all here in rw here (omega arith))
+        | inr other ↦ (let none = times-filter-no m law (λ x. x.dst % n == k) e all other in rw other (omega arith))
+      ]
+
+  -- over shards from number a on, it waits once for its receiver's worker
+  all_wait : (e : Event) (ss : List Shard) (a : ℕ) → ((j : ℕ) → j < length ss → IsOpened case (a + j) n (get_or ss j no_shard))
+      → (a ≤ e.dst % n → e.dst % n < a + length ss → times (simulation case) e (flat_map (λ s. s.pending) ss) ≡ times (simulation case) e (opening_events case.scenes))
+      × (e.dst % n < a → times (simulation case) e (flat_map (λ s. s.pending) ss) ≡ 0)
+  all_wait e [] a each = ((λ from to. absurd (omega arith)), (λ before. refl))
+  all_wait e (s ∷ ss) a each =
+      let m = simulation case in
+      let first = waits a s e (subst (λ k. IsOpened case k n s) (omega arith) (each 0 (omega arith))) in
+      let rest = all_wait e ss (a + 1) (λ j h. subst (λ k. IsOpened case k n (get_or ss j no_shard)) (omega arith) (each (suc j) (omega arith))) in
+      let both : times m e (flat_map (λ s. s.pending) (s ∷ ss)) ≡ times m e s.pending + times m e (flat_map (λ s. s.pending) ss) = times-append m e s.pending (flat_map (λ s. s.pending) ss) in (
+        (λ from to. elim (cases_eq (e.dst % n) a) [
+          | inl here ↦ (
+              let own : times m e s.pending ≡ times m e (opening_events case.scenes) = first ∙ ap (λ b. cond b (times m e (opening_events case.scenes)) 0) (eq-eqb (e.dst % n) a here) in
+              let none = rest.1 (omega arith) in omega arith)
+          | inr other ↦ (
+              let none : times m e s.pending ≡ 0 = first ∙ ap (λ b. cond b (times m e (opening_events case.scenes)) 0) (ne_eqb (e.dst % n) a other) in
+              let own = rest.0 (grind arith) (omega arith) in omega arith)
+        ]),
+        (λ before.
+            let none : times m e s.pending ≡ 0 = first ∙ ap (λ b. cond b (times m e (opening_events case.scenes)) 0) (ne_eqb (e.dst % n) a (λ same. omega arith)) in
+            let more = rest.1 (omega arith) in omega arith),
+      )
+
+  none_kept : (ss : List Shard) (a : ℕ) → ((j : ℕ) → j < length ss → IsOpened case (a + j) n (get_or ss j no_shard)) → flat_map (λ s. s.kept) ss ≡ []
+  none_kept [] a each = refl
+  none_kept (s ∷ ss) a each =
+      let first : s.kept ≡ [] = ap (λ (C : Core Event). C.kept) ((each 0 (omega arith)).core_is 0) in
+      let rest = none_kept ss (a + 1) (λ j h. subst (λ k. IsOpened case k n (get_or ss j no_shard)) (omega arith) (each (suc j) (omega arith))) in
+      λ i. first i ++ rest i
+
+-- shards that begin, one for each worker
+module _ (w : Warp) (is : IsCase w.case) (some : 0 < length w.shards) (each : (k : ℕ) → k < length w.shards → IsOpened w.case k (length w.shards) (shard_of w k))
+    (flight : w.flight ≡ []) (bound : w.bound ≡ 0) where
+  from_zero : (j : ℕ) → j < length w.shards → IsOpened w.case (0 + j) (length w.shards) (get_or w.shards j no_shard)
+  from_zero j h = subst (λ k. IsOpened w.case k (length w.shards) (shard_of w j)) (omega arith) (each j h)
+
+  own_worker : (r : ℕ) → worker_of w r < length w.shards
+  own_worker r = omega arith
+
+  pub opens : IsOpening (simulation w.case) (core w)
+  opens =
+      let m = simulation w.case in
+      record {
+        history = λ r. ap (λ (C : Core Event). C.history r) ((each (worker_of w r) (own_worker r)).core_is w.stop);
+        pending = λ e.
+            let all = flat_map (λ s. s.pending) w.shards in
+            let count = times-insert_all m e all [] in
+            let once = (all_wait w.case is (length w.shards) e w.shards 0 from_zero).0 (omega arith) (let h = own_worker e.dst in omega arith) in
+            omega arith;
+        kept = ap (λ xs. insert_all event_before xs []) (none_kept w.case is (length w.shards) w.shards 0 from_zero);
+        flight = flight;
+        done = λ r. ap (λ (C : Core Event). C.done r) ((each (worker_of w r) (own_worker r)).core_is w.stop);
+        bound = bound;
+      }
+
+  pub opens_exactly : core w ≡ opening_machine w.case w.stop
+  opens_exactly =
+      let m = simulation w.case in
+      let all = flat_map (λ s. s.pending) w.shards in
+      let o = opens in
+      let same = same_order m (lawful w.case is) all (opening_events w.case.scenes)
+      (λ e. (all_wait w.case is (length w.shards) e w.shards 0 from_zero).0 (omega arith) (let h = own_worker e.dst in omega arith)) in
+      λ i. record {
+        history = fun_ext o.history i;
+        pending = same i;
+        kept = o.kept i;
+        flight = o.flight i;
+        done = fun_ext o.done i;
+        bound = o.bound i;
+        stop = w.stop;
+      }
+
+  pub opened_is : w.stop ≤ LATEST → IsWarp w
+  opened_is most =
+      let m = simulation w.case in
+      record {
+        case = is;
+        workers = some;
+        shares = λ k within.
+            let at = each k within in
+            record {
+              case = at.case_is;
+              worker = at.worker;
+              workers = at.count;
+              bound = ap (λ (C : Core Event). C.bound) (at.core_is 0) ∙ sym bound;
+              outgoing = ap (λ (C : Core Event). C.flight) (at.core_is 0);
+              own = subst (IsOwn m (λ r. worker_of w r == k)) (sym (at.core_is w.stop)) (record {
+                history = λ r e none. absurd (omega arith);
+                waiting = λ e there.
+                    let all = filter (λ x. x.dst % length w.shards == k) (opening_events w.case.scenes) in
+                    let count = times-insert_all m e all [] in
+                    (in_filter m (lawful w.case is) (λ x. x.dst % length w.shards == k) e (opening_events w.case.scenes) (omega arith)).0;
+              });
+            };
+        good = good_opening m (lawful w.case is) (core w) opens;
+        stop = most;
+      }

@@ -1,0 +1,256 @@
+-- What a turn at a router leaves of the machine.
+use Rattle.std.proofs.Common.{◌≡◌, ℕ, zero, suc, ◌∷◌, get_or, ◌↔◌, ◌<◌, ◌≤◌, ◌-◌, ◌==◌, Bool, true, false, List, [], length, reverse, take, if◌then◌else◌, arith, Result, Ok, Err, refl, ap, sym, ◌∙◌, subst}
+use Rattle.std.specs.Prelude.{IsErrOf, OnErr, OnOk}
+use Rattle.tw_core.specs.declared.refusal.Refusal.{Refusal}
+use Rattle.tw_model.specs.declared.memory.OrMemory.{OrMemory}
+use Rattle.tw_model.specs.declared.memory.OrMemory.TheVariants as or_memory
+use Rattle.tw_core.specs.declared.refusal.Refusal.TheVariants.{NotMine}
+use Rattle.tw_core.specs.Machine.{Core}
+use Rattle.tw_core.specs.Parts.{IsOwn}
+use Rattle.tw_core.specs.Steps.{first_pending, handle, step, undo, with_commit}
+use Rattle.tw_core.specs.Run.{IsSeq}
+use Rattle.tw_core.proofs.Headline.{good_is_seq}
+use Rattle.tw_core.proofs.Own.{own_handle, own_undo}
+use Rattle.tw_core.proofs.Steps.{good_further, handle_keeps, step_keeps, undo_keeps}
+use Rattle.tw_event.specs.declared.event.Event.{Event}
+use Rattle.tw_model.specs.Case.{Case, simulation}
+use Rattle.tw_model.specs.State.{Router}
+use Rattle.tw_sim.specs.Simulation.{below, state}
+use Rattle.tw_warp.specs.Committed.{ahead_at, oldest}
+use Rattle.std.proofs.lemmas.Bool.{lt-ltb}
+use Rattle.tw_model.specs.declared.limits.TheConstants.{LATEST}
+use Rattle.tw_model.proofs.Lawful.{lawful, numbered}
+use Rattle.tw_shard.specs.Commit.{committing}
+use Rattle.tw_shard.specs.Shard.{IsSameShare, Shard, handling, owns, undoing}
+use Rattle.tw_shard.specs.Shard as share
+use Rattle.tw_sim.specs.declared.machine.Signed.{Signed}
+use Rattle.tw_sim.specs.declared.machine.Step.{Step}
+use Rattle.tw_sim.specs.Simulation.{Simulation}
+use Rattle.tw_sim.specs.declared.machine.Step.TheVariants.{Commit, Handle, Undo}
+use Rattle.tw_warp.specs.Warp.{IsWarp, Warp, behind, core, lent, no_shard, shard_of, worker_of}
+use Rattle.tw_warp.proofs.Joined.{rest, set_same, with_shard}
+use Rattle.tw_warp.proofs.Moves.{lent_owns, commit_step, given_back, handle_step, later, law, next_is, own_lent, part, undo_step}
+use Rattle.tw_warp.proofs.Whole.{Rest, lift}
+
+-- a call at worker k's shard has left this shard
+pub record IsCalled (w : Warp) (k : ℕ) (t : Shard) : Type 0 where
+  pub same : IsSameShare (shard_of w k) t
+  pub bound : t.bound ≡ w.bound
+  pub own : IsOwn (simulation w.case) (λ r. worker_of w r == k) (share.core w.stop t)
+
+-- what is refused at the part is what is refused
+pub lift_err : {S : Type 0} (m : Simulation S Event) (X : Rest Event) (o : Result (Core Event) Refusal) (f : Refusal) → lift m X o ≡ Err f → o ≡ Err f
+lift_err m X (Ok D) f h = cc
+lift_err m X (Err g) f h = h
+
+-- of a router that is its own
+own_outcome : (s : Shard) (r : ℕ) (o : Result (Core Event) Refusal) (D : Core Event) → share.at_own s r o ≡ Ok D → o ≡ Ok D
+own_outcome s r o D h = go (owns s r) h where
+  go : (b : Bool) → (if b then o else Err NotMine) ≡ Ok D → o ≡ Ok D
+  go true h = h
+  go false h = cc
+
+module _ (w : Warp) (is : IsWarp w) (k : ℕ) (within : k < length w.shards) where
+  -- a step that was done leaves the machine good
+  pub done : (t : Shard) (x : Step) → IsCalled w k t → step (simulation w.case) (core w) x ≡ Ok (core (given_back w k t)) → IsWarp (given_back w k t)
+  done t x called did =
+      next_is w is k t t.outgoing within called.same called.bound called.own
+      (step_keeps (simulation w.case) (law w is) (core w) (core (given_back w k t)) x is.good did).good
+
+  pub handled : (t : Shard) (r : ℕ) → IsSameShare (shard_of w k) t → handling w.stop (lent w k) r ≡ Ok (share.core w.stop t) → IsCalled w k t
+  handled t r same went =
+      let m = simulation w.case in
+      let C = share.core w.stop (lent w k) in
+      let D = share.core w.stop t in
+      let did : handle m C r (first_pending m C r) ≡ Ok D =
+      own_outcome (lent w k) r (handle m C r (first_pending m C r)) D
+      (ap (λ case. share.at_own (lent w k) r (handle (simulation case) C r (first_pending (simulation case) C r))) (sym (is.shares k within).case) ∙ went) in
+      record {
+        same = same;
+        bound = (handle_keeps m (law w is) w.bound C D r (part w is k within) did).bound ∙ (is.shares k within).bound;
+        own = own_handle m (law w is) (λ r. worker_of w r == k) C D r (own_lent w is k within) did;
+      }
+
+  pub undone : (t : Shard) (r : ℕ) → IsSameShare (shard_of w k) t → undoing w.stop (lent w k) r ≡ Ok (share.core w.stop t) → IsCalled w k t
+  undone t r same went =
+      let m = simulation w.case in
+      let C = share.core w.stop (lent w k) in
+      let D = share.core w.stop t in
+      let did : undo m C r (C.history r) ≡ Ok D =
+      own_outcome (lent w k) r (undo m C r (C.history r)) D
+      (ap (λ case. share.at_own (lent w k) r (undo (simulation case) C r (C.history r))) (sym (is.shares k within).case) ∙ went) in
+      let bound = (is.shares k within).bound in
+      record {
+        same = same;
+        bound = (undo_keeps m (law w is) w.bound C D r (omega arith) (part w is k within) did).bound ∙ bound;
+        own = own_undo m (law w is) (λ r. worker_of w r == k) w.bound C D r (part w is k within) (own_lent w is k within) did;
+      }
+
+  pub commits : (t : Shard) (r : ℕ) → IsSameShare (shard_of w k) t → committing w.stop (lent w k) r ≡ Ok (share.core w.stop t) → IsCalled w k t
+  commits t r same went =
+      let m = simulation w.case in
+      let C = share.core w.stop (lent w k) in
+      let D = share.core w.stop t in
+      let did : ◌≡◌ {A = Result (Core Event) Refusal} (Ok (with_commit m C r)) (Ok D) =
+      own_outcome (lent w k) r (Ok (with_commit m C r)) D
+      (ap (λ case. share.at_own (lent w k) r (Ok (with_commit (simulation case) C r))) (sym (is.shares k within).case) ∙ went) in
+      let reached : with_commit m C r ≡ D = cc did in
+      let own = own_lent w is k within in
+      record {
+        same = same;
+        bound = sym (ap (λ (D : Core Event). D.bound) reached) ∙ (is.shares k within).bound;
+        own = subst (IsOwn m (λ r. worker_of w r == k)) reached (record { history = own.history; waiting = own.waiting });
+      }
+
+  -- the shard as it comes back, and the messages on their way
+  pub back_again : (s : Shard) (flight : List (Signed Event)) → s.outgoing ≡ [] → with_shard w k s flight ≡ given_back w k (behind s flight)
+  back_again s flight none = λ i. with_shard w k (record s { outgoing = none i }) flight
+
+  -- nothing has changed
+  pub same_again : (s : Shard) (flight : List (Signed Event)) → s ≡ shard_of w k → flight ≡ w.flight → with_shard w k s flight ≡ w
+  same_again s flight same kept = (λ i. with_shard w k (same i) (kept i)) ∙ ap (λ shards. record w { shards = shards }) (set_same w.shards k no_shard within)
+
+-- a read within a list does not depend on what stands beyond it
+pub any_default : {A : Type 0} (xs : List A) (k : ℕ) (a b : A) → k < length xs → get_or xs k a ≡ get_or xs k b
+any_default [] k a b within = absurd (omega arith)
+any_default (x ∷ xs) zero a b within = refl
+any_default (x ∷ xs) (suc k) a b within = any_default xs k a b (omega arith)
+
+-- what a turn at worker k's shard gives, with the shard and the messages on their way as they came back
+pub record IsTurned (w : Warp) (k : ℕ) (x : Step) (s : Shard) (flight : List (Signed Event)) (result : Result (Unit {0}) (OrMemory Refusal)) : Type 0 where
+  pub is : IsWarp (with_shard w k s flight)
+  pub ok : OnOk result (step (simulation w.case) (core w) x ≡ Ok (core (with_shard w k s flight)))
+  pub refused : (f : Refusal) → IsErrOf result (or_memory.Fault f) ↔ (step (simulation w.case) (core w) x ≡ Err f)
+
+module _ (w : Warp) (is : IsWarp w) (k : ℕ) (within : k < length w.shards) where
+  -- the outcome of a call at the part is that of a step
+  pub record IsOutcome (x : Step) (outcome : Result (Core Event) Refusal) : Type 0 where
+    pub step_is : step (simulation w.case) (core w) x ≡ lift (simulation w.case) (rest w k) outcome
+    pub called : (t : Shard) → IsSameShare (shard_of w k) t → outcome ≡ Ok (share.core w.stop t) → IsCalled w k t
+
+  -- the shard and the messages on their way after such a call at a shard
+  pub record IsBack (call : Shard → Result (Core Event) Refusal) (at s : Shard) (flight : List (Signed Event)) (result : Result (Unit {0}) (OrMemory Refusal)) : Type 0 where
+    pub ok : OnOk result (call (behind at w.flight) ≡ Ok (share.core w.stop (behind s flight)))
+    pub refused : (f : Refusal) → IsErrOf result (or_memory.Fault f) ↔ (call (behind at w.flight) ≡ Err f)
+    pub err : OnErr result (s ≡ at)
+    pub unsent : OnErr result (flight ≡ w.flight)
+    pub outgoing : s.outgoing ≡ at.outgoing
+    pub same : IsSameShare at s
+
+  pub turned : (x : Step) (call : Shard → Result (Core Event) Refusal) → IsOutcome x (call (lent w k))
+      → (at s : Shard) (flight : List (Signed Event)) (result : Result (Unit {0}) (OrMemory Refusal)) → at ≡ shard_of w k
+      → IsBack call at s flight result → IsTurned w k x s flight result
+  turned x call outcome at s flight result there came = record {
+    is = go result back;
+    ok = went result back;
+    refused = λ f. (
+      (λ told. outcome.step_is ∙ ap (lift (simulation w.case) (rest w k)) ((back.refused f).0 told)),
+      (λ told. (back.refused f).1 (lift_err (simulation w.case) (rest w k) (call (lent w k)) f (sym outcome.step_is ∙ told))),
+    );
+  } where
+    back : IsBack call (shard_of w k) s flight result
+    back = subst (λ at. IsBack call at s flight result) there came
+
+    none : s.outgoing ≡ []
+    none = back.outgoing ∙ (is.shares k within).outgoing
+
+    here : IsSameShare (shard_of w k) s → IsSameShare (shard_of w k) (behind s flight)
+    here same = record { case = same.case; worker = same.worker; workers = same.workers }
+
+    did : IsSameShare (shard_of w k) s → call (lent w k) ≡ Ok (share.core w.stop (behind s flight)) → step (simulation w.case) (core w) x ≡ Ok (core (given_back w k (behind s flight)))
+    did same ok =
+        outcome.step_is
+        ∙ (ap (lift (simulation w.case) (rest w k)) ok
+        ∙ ap Ok (sym (later w is k within (behind s flight) (outcome.called (behind s flight) (here same) ok).bound)))
+
+    go : (result : Result (Unit {0}) (OrMemory Refusal)) → IsBack call (shard_of w k) s flight result → IsWarp (with_shard w k s flight)
+    go (Ok u) back = subst IsWarp (sym (back_again w is k within s flight none))
+        (done w is k within (behind s flight) x (outcome.called (behind s flight) (here back.same) back.ok) (did back.same back.ok))
+    go (Err e) back = subst IsWarp (sym (same_again w is k within s flight back.err back.unsent)) is
+
+    went : (result : Result (Unit {0}) (OrMemory Refusal)) → IsBack call (shard_of w k) s flight result → OnOk result (step (simulation w.case) (core w) x ≡ Ok (core (with_shard w k s flight)))
+    went (Ok u) back = did back.same back.ok ∙ ap (λ v. Ok (core v)) (sym (back_again w is k within s flight none))
+    went (Err e) back = tt
+
+  pub handle_outcome : (r : ℕ) → worker_of w r ≡ k → IsOutcome (Handle r) (handling w.stop (lent w k) r)
+  handle_outcome r mine = record {
+    step_is = handle_step w is k within r mine;
+    called = λ t same went. handled w is k within t r same went;
+  }
+
+  pub commit_outcome : (r : ℕ) → worker_of w r ≡ k → IsOutcome (Commit r) (committing w.stop (lent w k) r)
+  commit_outcome r mine = record {
+    step_is = commit_step w is k within r mine;
+    called = λ t same went. commits w is k within t r same went;
+  }
+
+  pub undo_outcome : (r : ℕ) → worker_of w r ≡ k → IsOutcome (Undo r) (undoing w.stop (lent w k) r)
+  undo_outcome r mine = record {
+    step_is = undo_step w is k within r mine;
+    called = λ t same went. undone w is k within t r same went;
+  }
+
+-- the worker of a router, as the code finds it
+pub worker_there : (w v : Warp) (r k : ℕ) → w ≡ v → k ≡ worker_of v r → worker_of w r ≡ k
+worker_there w v r k is at = ap (λ u. worker_of u r) is ∙ sym at
+
+pub within_there : (w v : Warp) (k : ℕ) → w ≡ v → k < length v.shards → k < length w.shards
+within_there w v k is h = subst (λ u. k < length u.shards) (sym is) h
+
+-- a machine is the one-thread run as far as it is committed
+pub seq_of : (w : Warp) → IsWarp w → IsSeq (simulation w.case) (core w)
+seq_of w is = good_is_seq (simulation w.case) (lawful w.case is.case) (numbered w.case is.case) (core w) is.good
+
+-- a machine with a later stop is one
+pub later_stop : (w : Warp) (stop : ℕ) → IsWarp w → w.stop ≤ stop → stop ≤ LATEST → IsWarp (record w { stop = stop })
+later_stop w stop is rises most = record {
+  case = is.case;
+  workers = is.workers;
+  shares = λ k within. (let old = is.shares k within in record {
+    case = old.case;
+    worker = old.worker;
+    workers = old.workers;
+    bound = old.bound;
+    outgoing = old.outgoing;
+    own = record { history = old.own.history; waiting = old.own.waiting };
+  });
+  good = good_further (simulation w.case) (law w is) (core w) stop rises is.good;
+  stop = most;
+}
+
+-- ---- a router of the machine
+
+-- as the code tells it: its net, its number and what it knows
+abbrev pub told_router : Case → ℕ → List Event → Router
+told_router case r history = record { net = case.net; node = r; state = state (simulation case) r history }
+
+module _ (w : Warp) (is : IsWarp w) (r k : ℕ) (mine : worker_of w r ≡ k) (s : Shard) (there : s ≡ shard_of w k) where
+  pub owned_there : k < length w.shards → r < w.case.net.nodes → owns s r ≡ true
+  owned_there within known = ap (λ a. owns a r) there ∙ (lent_owns w is k within r mine ∙ lt-ltb r w.case.net.nodes known)
+
+  pub router_there : k < length w.shards → told_router s.case r ((share.core 0 s).history r) ≡ told_router w.case r ((core w).history r)
+  router_there within =
+      let case : s.case ≡ w.case = ap (λ a. a.case) there ∙ (is.shares k within).case in
+      let history : (share.core 0 s).history r ≡ (core w).history r =
+      ap (λ a. (share.core 0 a).history r) there ∙ ap (λ j. (share.core w.stop (shard_of w j)).history r) (sym mine) in
+      λ i. told_router (case i) r (history i)
+
+  -- its oldest events as they are told of it
+  pub oldest_there : k < length w.shards → oldest s.case (share.core 0 s) r ≡ oldest w.case (core w) r
+  oldest_there within =
+      let case : s.case ≡ w.case = ap (λ a. a.case) there ∙ (is.shares k within).case in
+      let history : (share.core 0 s).history r ≡ (core w).history r =
+      ap (λ a. (share.core 0 a).history r) there ∙ ap (λ j. (share.core w.stop (shard_of w j)).history r) (sym mine) in
+      let done : (share.core 0 s).done r ≡ (core w).done r =
+      ap (λ a. (share.core 0 a).done r) there ∙ ap (λ j. (share.core w.stop (shard_of w j)).done r) (sym mine) in
+      λ i. take (length (below (simulation (case i)) (done i) (history i))) (reverse (history i))
+
+  -- how many of its events are not committed, as it is told of it
+  pub ahead_there : k < length w.shards → ahead_at s.case (share.core 0 s) r ≡ ahead_at w.case (core w) r
+  ahead_there within =
+      let case : s.case ≡ w.case = ap (λ a. a.case) there ∙ (is.shares k within).case in
+      let history : (share.core 0 s).history r ≡ (core w).history r =
+      ap (λ a. (share.core 0 a).history r) there ∙ ap (λ j. (share.core w.stop (shard_of w j)).history r) (sym mine) in
+      let done : (share.core 0 s).done r ≡ (core w).done r =
+      ap (λ a. (share.core 0 a).done r) there ∙ ap (λ j. (share.core w.stop (shard_of w j)).done r) (sym mine) in
+      λ i. length (history i) - length (below (simulation (case i)) (done i) (history i))

@@ -1,0 +1,17 @@
+use Rattle.std.proofs.Common.{◌++◌, ap, ◌∙◌, map}
+use Rattle.tw_core.specs.Steps.{least_loose, least_time}
+use Rattle.tw_model.specs.Case.{simulation}
+use Rattle.tw_warp.specs.Bounds.{least_of_all}
+use Rattle.tw_warp.specs.Inside.{warp_of}
+use Rattle.tw_warp.specs.Warp.{Warp, core}
+use Rattle.tw_warp.proofs.Bounds.{least_found}
+use Rattle.tw_warp.proofs.warp.Warp.least_loose.Goals as goal
+
+pub returns : goal.returns
+returns c =
+    let w = warp_of c.self.inside in
+    let m = simulation w.case in
+    c.least_waiting.ensures w.case
+    ∙ ((λ i. least_of_all m (λ s. s.pending ++ s.kept) (c.deref-2.ensures.value i)
+    ((c.least_in_flight-in_flight.ensures w.case ∙ ap (λ f. least_time m (map (λ x. x.event) f) w.stop) c.deref.ensures.value) i))
+    ∙ (least_found w c.self.invariant ∙ ap (λ (v : Warp). least_loose (simulation v.case) (core v)) c.self.view_is))

@@ -1,0 +1,16 @@
+use Rattle.std.proofs.Common.{◌≡◌, ◌≤◌, length}
+use Rattle.std.specs.Prelude.{vec_capacity, vec_len}
+use Rattle.tw_core.specs.Run.{IsSeq}
+use Rattle.tw_model.specs.Case.{simulation}
+use Rattle.tw_warp.specs.Warp.{IsSameMachine, core}
+use Rattle.tw_warp.proofs.Runs.{IsRun}
+use Rattle.tw_warp.proofs.warp.Warp.run.Given as goal
+
+abbrev pub invariant-loop-step : goal.invariant-loop-step
+invariant-loop-step l = record {
+  far : IsRun (simulation l.fn.self.case) l.steps l.step-index (core l.fn.self) (core l.self) l.answers.items;
+  same : IsSameMachine l.fn.self l.self;
+  seq : IsSeq (simulation l.self.case) (core l.self);
+  count : vec_len l.answers ≡ l.step-index;
+  room : length l.steps ≤ vec_capacity l.answers;
+}

@@ -1,0 +1,122 @@
+-- All routers of a case, dealt out to workers, as one machine (after Jefferson, Virtual Time, 1985).
+use Rattle.std.specs.Prelude.{ℕ, zero, suc, ◌≡◌, ◌<◌, ◌≤◌, ◌%◌, ◌==◌, List, [], length, slice_get, slice_index_or, Option, Some, None}
+use Rattle.std.specs.List.{flat_map}
+use Rattle.tw_core.specs.Good.{IsGood}
+use Rattle.tw_core.specs.Machine.{Core}
+use Rattle.tw_core.specs.Parts.{IsOwn}
+use Rattle.tw_core.specs.Steps.{next}
+use Rattle.tw_event.specs.declared.event.Event.{Event}
+use Rattle.tw_event.specs.Order.{event_before}
+use Rattle.tw_model.specs.Case.{Case, IsCase, simulation}
+use Rattle.tw_model.specs.declared.limits.TheConstants.{LATEST}
+use Rattle.tw_shard.specs.Shard.{Shard}
+use Rattle.tw_shard.specs.Shard as share
+use Rattle.tw_sim.specs.declared.machine.Signed.{Signed}
+use Rattle.tw_sim.specs.declared.machine.Step.{Step}
+use Rattle.tw_sim.specs.declared.machine.Step.TheVariants.{Handle, Undo, Deliver, Bound, Commit}
+use Rattle.tw_sim.specs.Ordered.{insert_all}
+use Rattle.tw_sim.specs.Simulation.{Simulation}
+
+pub record Warp : Type 0 where
+  pub case : Case
+  -- the routers of each worker, by rising worker
+  pub shards : List Shard
+  -- the messages on their way, in the order sent
+  pub flight : List (Signed Event)
+  pub bound : ℕ
+  pub stop : ℕ
+
+-- what stands where there is no shard
+abbrev pub no_shard : Shard
+no_shard = record {
+  case = record { net = record { nodes = 0; links = []; permitted = [] }; scenes = [] };
+  worker = 0;
+  workers = 0;
+  timelines = [];
+  pending = [];
+  kept = [];
+  outgoing = [];
+  bound = 0;
+}
+
+-- the shard of this worker
+abbrev pub shard_of : Warp → ℕ → Shard
+shard_of w k = slice_index_or w.shards k no_shard
+
+-- which worker has router r
+abbrev pub worker_of : Warp → ℕ → ℕ
+worker_of w r = r % length w.shards
+
+-- the machine: what waits, in order
+abbrev pub core : Warp → Core Event
+core w = record {
+  history = λ r. (share.core w.stop (shard_of w (worker_of w r))).history r;
+  pending = insert_all event_before (flat_map (λ s. s.pending) w.shards) [];
+  kept = insert_all event_before (flat_map (λ s. s.kept) w.shards) [];
+  flight = w.flight;
+  done = λ r. (share.core w.stop (shard_of w (worker_of w r))).done r;
+  bound = w.bound;
+  stop = w.stop;
+}
+
+-- a shard as this worker's of the machine
+pub record IsShare (w : Warp) (k : ℕ) (s : Shard) : Type 0 where
+  -- of the same case, worker k of as many as there are shards
+  pub case : s.case ≡ w.case
+  pub worker : s.worker ≡ k
+  pub workers : s.workers ≡ length w.shards
+  -- with the bound of all
+  pub bound : s.bound ≡ w.bound
+  -- what its routers have sent is in flight
+  pub outgoing : s.outgoing ≡ []
+  -- what waits there is for its routers
+  pub own : IsOwn (simulation w.case) (λ r. worker_of w r == k) (share.core w.stop s)
+
+-- the shards are the workers', and together they are a good state
+pub record IsWarp (w : Warp) : Type 0 where
+  pub case : IsCase w.case
+  pub workers : 0 < length w.shards
+  pub shares : (k : ℕ) → k < length w.shards → IsShare w k (shard_of w k)
+  pub good : IsGood (simulation w.case) (core w)
+  pub stop : w.stop ≤ LATEST
+
+-- a shard that sends behind these messages
+abbrev pub behind : Shard → List (Signed Event) → Shard
+behind s messages = record s { outgoing = messages }
+
+-- worker k's shard, behind all messages on their way
+abbrev pub lent : Warp → ℕ → Shard
+lent w k = behind (shard_of w k) w.flight
+
+-- the later machine has the same case, workers and stop
+pub record IsSameMachine (v w : Warp) : Type 0 where
+  pub case : w.case ≡ v.case
+  pub workers : length w.shards ≡ length v.shards
+  pub stop : w.stop ≡ v.stop
+
+-- the message at this place in flight, where places count from 1
+abbrev pub message_at : {E : Type 0} → List (Signed E) → ℕ → Option (Signed E)
+message_at flight zero = None
+message_at flight (suc k) = slice_get flight k
+
+module _ {S E : Type 0} (m : Simulation S E) where
+  -- the state after n undo steps at router r, those that are refused among them
+  abbrev pub after_undos : ℕ → ℕ → Core E → Core E
+  after_undos zero r C = C
+  after_undos (suc n) r C = next m (after_undos n r C) (Undo r)
+
+  -- what is left of a delivery that memory was refused to: the message is at its place still, and some undo steps of its receiver stand
+  pub record IsCutShort (place : ℕ) (C D : Core E) : Type 0 where
+    pub message : Signed E
+    pub count : ℕ
+    pub there : message_at C.flight place ≡ Some message
+    pub stays : message_at D.flight place ≡ Some message
+    pub undone : D ≡ after_undos count (m.dst message.event) C
+
+  -- what a step leaves that memory was refused to: nothing has changed, but where a message was delivered
+  abbrev pub IsInterrupted : Step → Core E → Core E → Type 0
+  IsInterrupted (Handle r) C D = D ≡ C
+  IsInterrupted (Undo r) C D = D ≡ C
+  IsInterrupted (Deliver place) C D = IsCutShort place C D
+  IsInterrupted Bound C D = D ≡ C
+  IsInterrupted (Commit r) C D = D ≡ C

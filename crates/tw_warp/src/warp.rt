@@ -1,0 +1,381 @@
+ghost use Rattle.std.specs.Prelude.{◌≡◌, true, ◌≤◌, ◌<◌, ◌↔◌, ℕ, Ok, Err, length, IsErrOf, IsOk, OnErr, OnOk, IfErr, IfOk};
+ghost use Rattle.tw_shard.specs.Shard.{owns};
+ghost use Rattle.tw_warp.specs.Committed.{by_router, committed_events, count_ahead};
+ghost use Rattle.tw_warp.specs.Openings.{opening_machine};
+ghost use Rattle.tw_warp.specs.Runs.{IsBrokenOff};
+ghost use Rattle.tw_core.specs.declared.refusal.Refusal.{Refusal as ARefusal};
+ghost use Rattle.tw_core.specs.Machine.{IsOpening};
+ghost use Rattle.tw_core.specs.Run.{IsSeq};
+ghost use Rattle.tw_core.specs.Steps.{answers as core_answers, least_loose, run as core_run, step as core_step};
+ghost use Rattle.tw_model.specs.Case.{simulation};
+ghost use Rattle.tw_model.specs.declared.memory.OrMemory.TheVariants as or_memory;
+ghost use Rattle.tw_sim.specs.declared.machine.Step.TheVariants as steps;
+ghost use Rattle.tw_sim.specs.Simulation.{state};
+ghost use Rattle.tw_model.specs.declared.limits.TheConstants.{LATEST};
+ghost use Rattle.tw_warp.specs.Warp.{IsCutShort, IsInterrupted, IsSameMachine, IsWarp, core, message_at, shard_of, worker_of};
+
+use crate::calls::{commit_on, deliver_on, handle_on, undo_on};
+use crate::collecting::add_committed;
+use crate::counts::{sum_kept, sum_pending};
+use crate::least::{least_in_flight, least_waiting, raise_bounds};
+use crate::opening::open_shards;
+use std::alloc::{AllocError, Global};
+use std::marker::Model;
+use thiserror::Error;
+use tw_core::Refusal;
+use tw_event::Event;
+use tw_instance::Case;
+use tw_model::OrMemory;
+use tw_model::limits::LATEST;
+use tw_router::Router;
+use tw_shard::Shard;
+use tw_sim::{Signed, Step};
+
+/// The stop would fall, or pass its limit.
+#[derive(Clone, Copy, PartialEq, Eq, Debug, Error)]
+#[error("the stop would fall or pass 1,000,000,000")]
+pub struct StopLower;
+
+/// Whether a step was done, or why it was refused.
+pub type Answer = Result<(), Refusal>;
+
+/// Memory was refused to a step of a list.
+#[derive(Drop, Debug)]
+pub struct RunFault {
+    /// The number of the step, from 1.
+    pub step: usize,
+    /// The answers to the steps before it.
+    pub answers: Vec<Answer>,
+}
+
+/// All routers of a case as one Time Warp machine.
+#[derive(Drop)]
+pub struct Warp<'a> {
+    case: &'a Case,
+    shards: Vec<Shard<'a>>,
+    flight: Vec<Signed<Event>>,
+    bound: u64,
+    stop: u64,
+}
+
+impl<'a> Model for Warp<'a> {
+    ghost use Rattle.tw_warp.specs.Warp as spec;
+    ghost use Rattle.tw_warp.specs.Inside.{warp_of};
+
+    ghost Value = { spec.Warp };
+
+    ghost view = { warp_of };
+
+    ghost invariant = { λ a. spec.IsWarp (warp_of a) };
+}
+
+impl<'a> Warp<'a> {
+    /// The machine of a case as it begins, with its routers dealt out to so many workers in turn, and to this
+    /// stop, in ticks, at most 1,000,000,000. There is one worker at least.
+    pub fn new(
+        alloc: Global,
+        case: &'a Case,
+        workers: u32,
+        stop: u64,
+    ) -> Result<Warp<'a>, AllocError>
+        requires some { 0 < workers }
+        requires stop { stop ≤ LATEST }
+        ensures opens { IfOk result (λ warp. IsOpening (simulation case.now) (core warp)) }
+        ensures core { IfOk result (λ warp. core warp ≡ opening_machine case.now stop) }
+        ensures case { IfOk result (λ warp. warp.case ≡ case.now) }
+        ensures workers { IfOk result (λ warp. length warp.shards ≡ workers) }
+        ensures stop { IfOk result (λ warp. warp.stop ≡ stop) }
+    {
+        let shards = open_shards(alloc, case, workers)?;
+        // What a case keeps is told by a read of it.
+        let _ = case.instance();
+        Ok(Warp {
+            case,
+            shards,
+            flight: Vec::new(alloc),
+            bound: 0,
+            stop,
+        })
+    }
+
+    /// Takes one step. A step that is refused changes nothing; each step may be asked for at any time.
+    ///
+    /// `Handle` and `Undo` are refused as `NotMine` where there is no such router; `Handle` as `Nothing`
+    /// where none of its pending events is before the stop, as `Double` where the first of them equals the
+    /// event that it handled last, and as `CounterFull` where a counter would pass its limit; `Undo` as
+    /// `Nothing` where it has handled nothing, and as `Committed` where the event that it handled last is
+    /// before the bound; `Deliver` as `NoMessage` where no message has that place; and `Commit` as `NotMine`.
+    ///
+    /// Where memory is refused, nothing has changed; but where a message was delivered, some of the events
+    /// that its receiver has to undo for it may be undone, and the message is at its place still.
+    pub fn step(&mut self, step: Step) -> Result<(), OrMemory<Refusal>>
+        ensures ok { OnOk result (core_step (simulation self.old.case) (core self.old) step ≡ Ok (core self.new)) }
+        ensures refused { (f : ARefusal) → IsErrOf result (or_memory.Fault f) ↔ (core_step (simulation self.old.case) (core self.old) step ≡ Err f) }
+        ensures unchanged { (f : ARefusal) → IsErrOf result (or_memory.Fault f) → self.new ≡ self.old }
+        ensures memory { IsErrOf result or_memory.Memory → IsInterrupted (simulation self.old.case) step (core self.old) (core self.new) }
+        ensures same { IsSameMachine self.old self.new }
+        ensures seq { IsSeq (simulation self.new.case) (core self.new) }
+    {
+        match step {
+            Step::Handle(router) => self.handle(router),
+            Step::Undo(router) => self.undo(router),
+            Step::Deliver(place) => self.deliver(place),
+            Step::Commit(router) => self.commit(router),
+            Step::Bound => {
+                self.advance_bound();
+                Ok(())
+            }
+        }
+    }
+
+    /// Takes a list of steps, and answers for each whether it was done or why it was refused; the run goes on
+    /// past refusals.
+    ///
+    /// Where memory is refused, the fault names the step, from 1, and has the answers to the steps before it,
+    /// all of which stand; of that step stands what `step` leaves. Room for the answers is made first, so
+    /// that want of it is told as step 1.
+    pub fn run(&mut self, steps: &[Step]) -> Result<Vec<Answer>, RunFault>
+        ensures after { OnOk result (core self.new ≡ core_run (simulation self.old.case) (core self.old) steps.now) }
+        ensures answers { IfOk result (λ v. v.items ≡ core_answers (simulation self.old.case) (core self.old) steps.now) }
+        ensures fault { IfErr result (λ f. IsBrokenOff (simulation self.old.case) steps.now f (core self.old) (core self.new)) }
+        ensures same { IsSameMachine self.old self.new }
+        ensures seq { IsSeq (simulation self.new.case) (core self.new) }
+    {
+        let mut answers = Vec::new(*self.flight.allocator());
+        let Ok(()) = answers.reserve(steps.len()) else {
+            return Err(RunFault { step: 1, answers });
+        };
+        for step in steps {
+            match self.step(*step) {
+                Ok(()) => answers.push_reserved(Ok(())),
+                Err(OrMemory::Fault(refusal)) => answers.push_reserved(Err(refusal)),
+                Err(OrMemory::Memory) => {
+                    return Err(RunFault {
+                        step: answers.len() + 1,
+                        answers,
+                    });
+                }
+            }
+        }
+        Ok(answers)
+    }
+
+    /// The stop becomes this one, in ticks. It is refused where it would fall, or pass 1,000,000,000; then
+    /// nothing has changed.
+    pub fn set_stop(&mut self, stop: u64) -> Result<(), StopLower>
+        ensures ok { OnOk result (self.new ≡ record self.old { stop = stop }) }
+        ensures err { OnErr result (self.new ≡ self.old) }
+        ensures refused { IsOk result ↔ ((self.old.stop ≤ stop) × (stop ≤ LATEST)) }
+        ensures seq { IsSeq (simulation self.new.case) (core self.new) }
+    {
+        if stop < self.stop || stop > LATEST {
+            return Err(StopLower);
+        }
+        self.stop = stop;
+        Ok(())
+    }
+
+    /// The case.
+    pub fn case(&self) -> &'a Case
+        ensures value { result.now ≡ self.now.case }
+        ensures seq { IsSeq (simulation self.now.case) (core self.now) }
+    {
+        self.case
+    }
+
+    /// The messages on their way, in the order sent.
+    pub fn flight(&self) -> &[Signed<Event>]
+        ensures { result.now ≡ self.now.flight }
+    {
+        &self.flight
+    }
+
+    /// The time before which nothing arrives and nothing is undone, in ticks.
+    pub fn bound(&self) -> u64
+        ensures { result ≡ self.now.bound }
+    {
+        self.bound
+    }
+
+    /// The time at which nothing is handled any more, in ticks.
+    pub fn stop(&self) -> u64
+        ensures { result ≡ self.now.stop }
+    {
+        self.stop
+    }
+
+    /// How many workers there are.
+    pub fn workers(&self) -> usize
+        ensures { result ≡ length self.now.shards }
+    {
+        self.shards.len()
+    }
+
+    /// The shard of a worker, from 0.
+    pub fn shard(&self, worker: usize) -> &Shard<'a>
+        requires { worker < length self.now.shards }
+        ensures { result.now ≡ shard_of self.now worker }
+    {
+        &self.shards[worker]
+    }
+
+    /// A router, as the events that it has handled and not undone leave it.
+    pub fn router(&self, router: u32) -> &Router<'a>
+        requires { router < self.now.case.net.nodes }
+        ensures { result.now ≡ record { net = self.now.case.net; node = router; state = state (simulation self.now.case) router ((core self.now).history router) } }
+    {
+        self.shard_for(router).router(router)
+    }
+
+    /// The committed events of all routers, in their order.
+    pub fn committed(&self) -> Result<Vec<Event>, AllocError>
+        ensures { IfOk result (λ v. v.items ≡ committed_events self.now) }
+    {
+        let mut events = self.committed_by_router()?;
+        events.sort_unstable();
+        Ok(events)
+    }
+
+    /// The committed events of each router in turn.
+    fn committed_by_router(&self) -> Result<Vec<Event>, AllocError>
+        ensures events { IfOk result (λ v. v.items ≡ by_router self.now) }
+        ensures machine { IsWarp self.now }
+    {
+        let mut events = Vec::new(*self.flight.allocator());
+        for router in 0..self.case.instance().nodes() {
+            add_committed(self.shard_for(router), router, &mut events)?;
+        }
+        Ok(events)
+    }
+
+    /// The shard that has this router.
+    fn shard_for(&self, router: u32) -> &Shard<'a>
+        requires { router < self.now.case.net.nodes }
+        ensures value { result.now ≡ shard_of self.now (worker_of self.now router) }
+        ensures own { owns result.now router ≡ true }
+        ensures machine { IsWarp self.now }
+    {
+        &self.shards[self.worker_of(router)]
+    }
+
+    /// How many events are handled and not committed.
+    pub fn ahead(&self) -> u128
+        ensures { result ≡ count_ahead self.now }
+    {
+        let mut count = 0_u128;
+        for router in 0..self.case.instance().nodes() {
+            count += self.shard_for(router).ahead(router) as u128;
+        }
+        count
+    }
+
+    /// How many events are pending, each as often as it is.
+    pub fn pending_len(&self) -> u128
+        ensures { result ≡ length (core self.now).pending }
+    {
+        sum_pending(&self.shards)
+    }
+
+    /// How many antimessages came before their message and are kept.
+    pub fn kept_len(&self) -> u128
+        ensures { result ≡ length (core self.now).kept }
+    {
+        sum_kept(&self.shards)
+    }
+
+    /// The worker that has this router.
+    fn worker_of(&self, router: u32) -> usize
+        ensures value { result ≡ worker_of self.now router }
+        ensures within { result < length self.now.shards }
+    {
+        router as usize % self.shards.len()
+    }
+
+    /// A router handles its first pending event.
+    fn handle(&mut self, router: u32) -> Result<(), OrMemory<Refusal>>
+        ensures ok { OnOk result (core_step (simulation self.old.case) (core self.old) (steps.Handle router) ≡ Ok (core self.new)) }
+        ensures refused { (f : ARefusal) → IsErrOf result (or_memory.Fault f) ↔ (core_step (simulation self.old.case) (core self.old) (steps.Handle router) ≡ Err f) }
+        ensures err { OnErr result (self.new ≡ self.old) }
+        ensures same { IsSameMachine self.old self.new }
+        ensures seq { IsSeq (simulation self.new.case) (core self.new) }
+    {
+        let worker = self.worker_of(router);
+        handle_on(
+            &mut self.shards[worker],
+            &mut self.flight,
+            router,
+            self.stop,
+        )
+    }
+
+    /// A router undoes the event that it handled last.
+    fn undo(&mut self, router: u32) -> Result<(), OrMemory<Refusal>>
+        ensures ok { OnOk result (core_step (simulation self.old.case) (core self.old) (steps.Undo router) ≡ Ok (core self.new)) }
+        ensures refused { (f : ARefusal) → IsErrOf result (or_memory.Fault f) ↔ (core_step (simulation self.old.case) (core self.old) (steps.Undo router) ≡ Err f) }
+        ensures err { OnErr result (self.new ≡ self.old) }
+        ensures same { IsSameMachine self.old self.new }
+        ensures seq { IsSeq (simulation self.new.case) (core self.new) }
+    {
+        let worker = self.worker_of(router);
+        undo_on(&mut self.shards[worker], &mut self.flight, router)
+    }
+
+    /// The message at a place in flight, from 1.
+    fn message_at(&self, place: u64) -> Option<Signed<Event>>
+        ensures value { result ≡ message_at self.now.flight place }
+        ensures seq { IsSeq (simulation self.now.case) (core self.now) }
+    {
+        let flight = &self.flight;
+        let index = place.checked_sub(1)?;
+        flight.get(index as usize).copied()
+    }
+
+    /// The message at a place in flight, from 1, is delivered.
+    fn deliver(&mut self, place: u64) -> Result<(), OrMemory<Refusal>>
+        ensures ok { OnOk result (core_step (simulation self.old.case) (core self.old) (steps.Deliver place) ≡ Ok (core self.new)) }
+        ensures refused { (f : ARefusal) → IsErrOf result (or_memory.Fault f) ↔ (core_step (simulation self.old.case) (core self.old) (steps.Deliver place) ≡ Err f) }
+        ensures unchanged { (f : ARefusal) → IsErrOf result (or_memory.Fault f) → self.new ≡ self.old }
+        ensures memory { IsErrOf result or_memory.Memory → IsCutShort (simulation self.old.case) place (core self.old) (core self.new) }
+        ensures same { IsSameMachine self.old self.new }
+        ensures seq { IsSeq (simulation self.new.case) (core self.new) }
+    {
+        let Some(message) = self.message_at(place) else {
+            return Err(OrMemory::Fault(Refusal::NoMessage));
+        };
+        let worker = self.worker_of(message.event.dst);
+        deliver_on(&mut self.shards[worker], &mut self.flight, message)?;
+        self.flight.remove(place as usize - 1);
+        Ok(())
+    }
+
+    /// A router commits its events before the bound.
+    fn commit(&mut self, router: u32) -> Result<(), OrMemory<Refusal>>
+        ensures ok { OnOk result (core_step (simulation self.old.case) (core self.old) (steps.Commit router) ≡ Ok (core self.new)) }
+        ensures refused { (f : ARefusal) → IsErrOf result (or_memory.Fault f) ↔ (core_step (simulation self.old.case) (core self.old) (steps.Commit router) ≡ Err f) }
+        ensures err { OnErr result (self.new ≡ self.old) }
+        ensures same { IsSameMachine self.old self.new }
+        ensures seq { IsSeq (simulation self.new.case) (core self.new) }
+    {
+        let worker = self.worker_of(router);
+        commit_on(&mut self.shards[worker], &mut self.flight, router)
+    }
+
+    /// The bound becomes the least time of all that is loose, and of the stop.
+    fn advance_bound(&mut self)
+        ensures done { core_step (simulation self.old.case) (core self.old) steps.Bound ≡ Ok (core self.new) }
+        ensures same { IsSameMachine self.old self.new }
+        ensures seq { IsSeq (simulation self.new.case) (core self.new) }
+    {
+        let least = self.least_loose();
+        raise_bounds(&mut self.shards, least);
+        self.bound = least;
+    }
+
+    /// The least time of all that is loose, and of the stop.
+    fn least_loose(&self) -> u64
+        ensures { result ≡ least_loose (simulation self.now.case) (core self.now) }
+    {
+        let in_flight = least_in_flight(&self.flight, self.stop);
+        least_waiting(&self.shards, in_flight)
+    }
+}
