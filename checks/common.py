@@ -9,8 +9,10 @@ import sys
 TOP = pathlib.Path(__file__).resolve().parent.parent
 CASES = TOP / "cases"
 DISAGREE = CASES / "disagree.spp"
+STRAGGLER = CASES / "straggler.replay"
 PROGRAM = TOP / "crates/twarp/out/twarp"
 REPORT = TOP / "crates/twarp/stdout"
+REPLAYED = TOP / "checks/inputs/straggler-replay.txt"
 TESTS = TOP / "crates/tw_rows/out/tw_rows_tests"
 
 # Seconds after which a run is ended, and counts as failed.
@@ -27,6 +29,11 @@ def run(words, stdin, **how):
         return subprocess.CompletedProcess(words, None, b"", b"")
     finally:
         os.close(source)
+
+
+def input_of(words):
+    """The input that a command is shown: a replay text for `replay`, and else a case."""
+    return STRAGGLER if words[:1] == ["replay"] else DISAGREE
 
 
 def need(built, words):

@@ -12,13 +12,14 @@ import resource
 import signal
 import tempfile
 
-from common import CASES, DISAGREE, PROGRAM, REPORT, Refuser, Tally, need, run
+from common import CASES, DISAGREE, PROGRAM, REPLAYED, REPORT, STRAGGLER, Refuser, Tally, input_of, need, run
 
 NOTHING = os.devnull
 
 SEQ = ["seq", "--stop", "20", "--log"]
 TRAIL = ["trail", "--router", "1", "--stop", "20", "--keep", "0"]
-COMMANDS = [["check"], SEQ, TRAIL]
+REPLAY = ["replay", "--stop", "20", "--workers", "2"]
+COMMANDS = [["check"], SEQ, TRAIL, REPLAY]
 
 FOLLOWED = b"""\
 spp-trail 1
@@ -29,7 +30,7 @@ router 2 sent 1 handled 2 dropped 0 changed 0 rib ()
 
 # What a line of the help begins with, for each command.
 HELP = {
-    "": ["Usage: twarp ", "  check ", "  seq ", "  trail ", "Exit status:", "  0  ", "  1  ", "  2  ", "  3  "],
+    "": ["Usage: twarp ", "  check ", "  seq ", "  trail ", "  replay ", "Exit status:", "  0  ", "  1  ", "  2  ", "  3  "],
     "check": ["Usage: twarp check", "Exit status:"],
     "seq": ["Usage: twarp seq ", "      --stop <TICKS>", "      --log", "Exit status:"],
     "trail": [
@@ -39,12 +40,14 @@ HELP = {
         "      --keep <COUNT>",
         "Exit status:",
     ],
+    "replay": ["Usage: twarp replay ", "      --stop <TICKS>", "      --workers <COUNT>", "Exit status:"],
 }
 
 # What the help of a command says somewhere: the ranges of its numbers.
 RANGES = {
     "seq": ["1 to 1000000000"],
     "trail": ["0 to 1023", "1 to 1000000000", "0 to 1000000000"],
+    "replay": ["1 to 1000000000", "1 to 16"],
 }
 
 BAD_LINES = {
@@ -67,6 +70,10 @@ BAD_LINES = {
     "a stop that is no number": ["seq", "--stop", "soon"],
     "a router past its limit": ["trail", "--router", "1024", "--stop", "20", "--keep", "0"],
     "a keep past its limit": ["trail", "--router", "1", "--stop", "20", "--keep", "1000000001"],
+    "no stop of a replay": ["replay", "--workers", "2"],
+    "no worker": ["replay", "--stop", "20", "--workers", "0"],
+    "a worker too many": ["replay", "--stop", "20", "--workers", "17"],
+    "a replay that is to be logged": ["replay", "--stop", "20", "--log"],
     "a word that is no UTF-8": ["seq", "--stop", b"\xff"],
 }
 
@@ -100,6 +107,10 @@ def check_done(tally):
     words = ["trail", "--router", "2", "--stop", "8", "--keep", "2"]
     done = run([PROGRAM, *words], CASES / "failure-and-repair.spp")
     tally.add(name_of(words), differs(done, 0, FOLLOWED, b""))
+    for count in "1", "2", "16":
+        words = ["replay", "--stop", "20", "--workers", count]
+        done = run([PROGRAM, *words], STRAGGLER)
+        tally.add(name_of(words), differs(done, 0, REPLAYED.read_bytes(), b""))
 
 
 def check_refused(tally, folder):
@@ -111,6 +122,9 @@ def check_refused(tally, folder):
         tally.add(f"{name_of(words)} of no case", differs(done, 1, b"refused line 2 I1 Range\n", b""))
         done = run([PROGRAM, *words], NOTHING)
         tally.add(f"{name_of(words)} of nothing", differs(done, 1, b"refused line 1 X6 End\n", b""))
+    done = run([PROGRAM, *REPLAY], DISAGREE)
+    lines = len(DISAGREE.read_text().splitlines())
+    tally.add("a replay without its steps", differs(done, 1, b"refused line %d X6 End\n" % (lines + 1), b""))
     done = run([PROGRAM, *no_such], DISAGREE)
     tally.add("a router that is not there", differs(done, 1, b"refused option N1 Router\n", b""))
 
@@ -118,7 +132,7 @@ def check_refused(tally, folder):
 def check_memory(tally, folder):
     refuser = Refuser(folder)
     for words in [*COMMANDS, ["--help"], ["seq"]]:
-        done = refuser.run(1, [PROGRAM, *words], DISAGREE)
+        done = refuser.run(1, [PROGRAM, *words], input_of(words))
         wrong = done is None or differs(done, 2, b"", b"stopped memory\n")
         tally.add(f"{name_of(words)} without memory", wrong)
 
@@ -127,14 +141,14 @@ def check_output(tally, folder):
     """Standard output that takes nothing, or not all."""
     stopped = 2, None, b"stopped device\n"
     for words in [*COMMANDS, ["--help"], ["seq", "--help"]]:
-        line = [PROGRAM, *words]
+        line, source = [PROGRAM, *words], input_of(words)
         with open("/dev/full", "wb") as full:
-            tally.add(f"{name_of(words)} on a full device", differs(run(line, DISAGREE, stdout=full), *stopped))
-        done = run(line, DISAGREE, stdout=None, preexec_fn=lambda: os.close(1))
+            tally.add(f"{name_of(words)} on a full device", differs(run(line, source, stdout=full), *stopped))
+        done = run(line, source, stdout=None, preexec_fn=lambda: os.close(1))
         tally.add(f"{name_of(words)} with no standard output", differs(done, *stopped))
         left, right = os.pipe()
         os.close(left)
-        tally.add(f"{name_of(words)} into a pipe that nobody reads", differs(run(line, DISAGREE, stdout=right), *stopped))
+        tally.add(f"{name_of(words)} into a pipe that nobody reads", differs(run(line, source, stdout=right), *stopped))
         os.close(right)
     with open("/dev/full", "wb") as full:
         done = run([PROGRAM, "check"], NOTHING, stdout=full)

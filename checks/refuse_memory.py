@@ -6,7 +6,7 @@
 Each test of crates/tw_rows, or each that is named, runs once for each of its allocations, with just that one refused;
 it tries the call once more and must pass. The tests of LONG are left out where none is named: they call a program
 hundreds of times, with no allocation that the others do not make.
-Each command of the program runs on DISAGREE in the same way, and so do its help and a line that it does not accept.
+Each command of the program runs in the same way, on DISAGREE or on the replay of a straggler, and so do its help and a line that it does not accept.
 Refused memory must end it with status 2 and the line `stopped memory`, with nothing on standard output; or, where the
 standard library then asks for less and gets it, it must end as it does with all its memory.
 """
@@ -16,7 +16,7 @@ import sys
 import tempfile
 from concurrent.futures import ThreadPoolExecutor
 
-from common import DISAGREE, PROGRAM, TESTS, Refuser, Tally, need, run
+from common import PROGRAM, TESTS, Refuser, Tally, input_of, need, run
 
 LONG = [
     "programs::a_sink_that_fails_has_a_prefix",
@@ -30,6 +30,8 @@ LINES = [
     ["seq", "--stop", "20", "--log"],
     ["trail", "--router", "1", "--stop", "20", "--keep", "0"],
     ["trail", "--router", "3", "--stop", "20", "--keep", "0"],
+    ["replay", "--stop", "20"],
+    ["replay", "--stop", "20", "--workers", "3"],
     ["--help"],
     ["seq", "--stop", "0"],
 ]
@@ -57,9 +59,9 @@ def refuse_in_test(refuser, name):
 
 def refuse_in_program(refuser, line):
     """How many allocations were refused, and what is wrong."""
-    words = [PROGRAM, *line]
-    whole = end(run(words, DISAGREE))
-    ends = {number: end(done) for number, done in refuser.each(words, DISAGREE)}
+    words, source = [PROGRAM, *line], input_of(line)
+    whole = end(run(words, source))
+    ends = {number: end(done) for number, done in refuser.each(words, source)}
     failed = [number for number, found in ends.items() if found not in (STOPPED, whole)]
     if STOPPED not in ends.values():
         return len(ends), "no refused allocation stopped it"
