@@ -32,6 +32,3 @@ pub const MOST_DIGITS: usize = 10;
 
 /// How many bytes of its input a program reads at most.
 pub const MOST_INPUT: usize = 67_108_864;
-
-/// How many workers a run has at most.
-pub const MOST_WORKERS: u32 = 16;
