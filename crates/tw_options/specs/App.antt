@@ -35,7 +35,7 @@ router_rule = number_rule (codes "router") true 0 (MOST_ROUTERS - 1)
 abbrev pub keep_rule : Rule
 keep_rule = number_rule (codes "keep") true 0 LATEST
 
--- `--workers W`: how many workers the routers are dealt to
+-- `--workers W`: how many workers the routers are dealt out to
 abbrev pub workers_rule : Rule
 workers_rule = number_rule (codes "workers") false 1 MOST_WORKERS
 

@@ -30,11 +30,11 @@ pub enum CommandLine {
         /// How many of the events are kept, from 0 to 1,000,000,000.
         keep: u64,
     },
-    /// The Time Warp machine of a case, driven by steps, with a run to be below `stop`.
+    /// What steps do to the Time Warp machine of a case, which handles events below `stop`.
     Replay {
         /// From 1 to 1,000,000,000.
         stop: u64,
-        /// How many workers share the routers, from 1 to 16.
+        /// How many workers the routers are dealt out to, from 1 to 16.
         workers: u32,
     },
 }

@@ -91,11 +91,11 @@ Reads a case text from standard input and behind it the steps, with an `end` of 
   undo R     router R undoes the event that it handled last, and sends antimessages
   deliver K  the message at place K in flight, from 1, reaches its router
   bound      the bound becomes the least time of all that is not handled, or --stop
-  commit R   router R's events below the bound become final
+  commit R   router R's events below the bound are committed, and stay
 
 The answer has `ok`, or `refused` with the reason, for each step; then the bound, how much is in
-flight, pending, kept and handled ahead, the events that are final, and the routers. Of this text
-the case stands on the left and the steps on the right, with what they do:
+flight, pending, kept and handled ahead, the committed events, and the routers. Of this text the
+case stands on the left and the steps on the right, with what they do:
 
   spp 1           handle 0   router 0 tells its path to 1, at time 1, and to 2, at time 5
   nodes 3         deliver 2

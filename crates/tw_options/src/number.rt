@@ -62,7 +62,7 @@ pub(crate) const WORKERS: NumberOption = NumberOption {
     is_required: false,
     least: 1,
     most: MOST_WORKERS as u64,
-    help: "How many workers share the routers: 1 to 16, and 1 where it is not given",
+    help: "How many workers the routers are dealt out to: 1 to 16, and 1 where none is given",
 };
 
 impl NumberOption {
