@@ -12,12 +12,12 @@ use Rattle.tw_event.specs.declared.event.Event.{Event}
 use Rattle.tw_event.proofs.Order.{same_is, same_self}
 use Rattle.tw_model.specs.Case.{Case, IsCase, opening_events, simulation}
 use Rattle.tw_model.specs.Effect.{body_suits, suits}
-use Rattle.tw_model.specs.Net.{IsPath}
+use Rattle.tw_model.specs.Net.{Net, IsPath}
 use Rattle.tw_model.proofs.Lawful.{lawful}
 use Rattle.tw_model.proofs.Paths.{permitted_is_path}
 use Rattle.tw_model.proofs.Suits.{own_state}
 use Rattle.tw_report.specs.Lines.{NamesPath}
-use Rattle.tw_report.specs.ReplayText.{ShowsPaths}
+use Rattle.tw_report.specs.ReplayText.{Replayed, ShowsPaths}
 use Rattle.tw_sim.specs.declared.machine.Step.{Step}
 use Rattle.tw_sim.specs.Simulation.{state, times}
 use Rattle.tw_sim.proofs.Counts.{times-insert_all}
@@ -79,3 +79,8 @@ module _ (case : Case) (is : IsCase case) where
             let of = in_map (end_in case C) x (range_with_len 0 case.net.nodes) there in
             subst (λ y. IsPath case.net y.rib) (sym of.1) (rib_is_path C good of.0));
       }
+
+-- the same of what is equal
+pub same_paths : (case : Case) → IsCase case → (stop : ℕ) (net : Net) (same : Case) (steps : List Step) (told : Replayed) → net ≡ case.net → same ≡ case → told ≡ replayed stop same steps
+    → ShowsPaths net told
+same_paths case is stop net same steps told is_net is_case is_told = rw (is_net, is_told, is_case) (replay_paths case is stop steps)

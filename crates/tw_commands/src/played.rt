@@ -1,9 +1,12 @@
 //! What steps leave of a machine, as plain data.
-ghost use Rattle.std.specs.Prelude.{◌≡◌, ◌≤◌, ◌<◌, map, IfOk};
+ghost use Rattle.std.specs.Prelude.{◌≡◌, ◌≤◌, ◌<◌, length, map, IfOk};
 ghost use Rattle.std.specs.List.{range_with_len};
 ghost use Rattle.tw_commands.specs.Replay.{counts_of, end_in, replayed, told_of};
+ghost use Rattle.tw_core.specs.Steps.{answers, run};
+ghost use Rattle.tw_model.specs.Case.{simulation};
 ghost use Rattle.tw_model.specs.declared.limits.TheConstants.{LATEST};
 ghost use Rattle.tw_report.specs.ReplayText.{replayed_of};
+ghost use Rattle.tw_warp.specs.Openings.{opening_machine};
 ghost use Rattle.tw_warp.specs.Warp.{core};
 
 use crate::no_memory::NoMemory;
@@ -26,9 +29,28 @@ pub(crate) fn play(
     requires workers { 0 < workers }
     ensures { IfOk result (λ replay. replayed_of replay ≡ replayed stop case.now steps.now) }
 {
+    let (warp, answers) = take_steps(alloc, case, steps, stop, workers)?;
+    Ok(told(alloc, &warp, answers)?)
+}
+
+/// The machine of the case with so many workers, after the steps, and its answers to them.
+fn take_steps<'a>(
+    alloc: Global,
+    case: &'a Case,
+    steps: &[Step],
+    stop: u64,
+    workers: u32,
+) -> Result<(Warp<'a>, Vec<Answer>), NoMemory>
+    requires stop { stop ≤ LATEST }
+    requires workers { 0 < workers }
+    ensures machine { IfOk result (λ after. core after.0 ≡ run (simulation case.now) (opening_machine case.now stop) steps.now) }
+    ensures answers { IfOk result (λ after. after.1.items ≡ answers (simulation case.now) (opening_machine case.now stop) steps.now) }
+    ensures case { IfOk result (λ after. after.0.case ≡ case.now) }
+    ensures workers { IfOk result (λ after. length after.0.shards ≡ workers) }
+{
     let mut warp = Warp::new(alloc, case, workers, stop)?;
     let answers = warp.run(steps)?;
-    Ok(told(alloc, &warp, answers)?)
+    Ok((warp, answers))
 }
 
 /// What a machine that has answered so tells of itself.

@@ -34,7 +34,13 @@ impl Command for Replay {
         script: &Script,
         sink: &mut W,
     ) -> Result<Status, Cause> {
-        let replay = play(alloc, script.case(), script.steps(), self.stop, self.workers)?;
+        let replay = play(
+            alloc,
+            script.case(),
+            script.steps(),
+            self.stop,
+            self.workers,
+        )?;
         write_replay(sink, script.case().instance(), &replay)?;
         Ok(Status::Done)
     }

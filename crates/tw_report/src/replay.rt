@@ -81,11 +81,7 @@ fn put_steps<S: Sink>(sink: &mut S, answers: &[Result<(), Refusal>]) -> Result<(
 }
 
 /// Puts the line of a step.
-fn put_step<S: Sink>(
-    sink: &mut S,
-    step: usize,
-    answer: Result<(), Refusal>,
-) -> Result<(), Failed>
+fn put_step<S: Sink>(sink: &mut S, step: usize, answer: Result<(), Refusal>) -> Result<(), Failed>
     requires open { S.failed sink.old ≡ false }
     ensures { Puts result (S.written sink.old) (S.written sink.new) (S.failed sink.new) (line (step_words step answer)) }
 {

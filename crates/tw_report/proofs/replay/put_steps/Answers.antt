@@ -8,7 +8,7 @@ pub returns-in_err-put_step : goal.returns-in_err-put_step
 returns-in_err-put_step g c =
     let answers = c.args.answers.now in
     let before = c.loop-before.before in
-    puts_partway c.from_residual.result _ _ (step_lines (before + 2) (drop (before + 1) answers)) _ _ _ _ _
+    puts_partway c.from_residual.result _ _ (step_lines (before + 1 + 1) (drop (before + 1) answers)) _ _ _ _ _
     (ap (step_lines (before + 1)) (drop_more answers before _ c.loop-before-test.true)) c.loop-before.invariant.1 c.from_residual.ensures.0 c.in_err-put_step.ensures
 
 pub loop-before-preserved : goal.loop-before-preserved
@@ -16,6 +16,6 @@ loop-before-preserved g c =
     let answers = c.args.answers.now in
     let before = c.loop-before.before in (
       c.in_ok-put_step.ensures.1,
-      partway_more _ _ _ (step_lines (before + 2) (drop (before + 1) answers)) _ _ _
+      partway_more _ _ _ (step_lines (before + 1 + 1) (drop (before + 1) answers)) _ _ _
           (ap (step_lines (before + 1)) (drop_more answers before _ c.loop-before-test.true)) c.loop-before.invariant.1 c.in_ok-put_step.ensures.0,
     )

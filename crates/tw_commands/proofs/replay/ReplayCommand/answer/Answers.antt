@@ -1,8 +1,7 @@
-use Rattle.std.proofs.Common.{}
-use Rattle.tw_commands.proofs.ReplayPaths.{replay_paths}
+use Rattle.std.proofs.Common.{sym, ◌∙◌}
+use Rattle.tw_commands.proofs.ReplayPaths.{same_paths}
 use Rattle.tw_commands.proofs.replay.ReplayCommand.answer.Goals as goal
 
 pub write_replay-requires-clause-paths : goal.write_replay-requires-clause-paths
 write_replay-requires-clause-paths g c =
-    rw (c.instance.ensures.value, c.in_ok-replay.ensures)
-    (replay_paths c.args.script.now.0 c.instance.ensures.case c.args.self.now.stop c.args.script.now.1)
+    same_paths c.case-2.result.now c.instance.ensures.case c.args.self.now.stop _ _ _ _ c.instance.ensures.value (c.case.ensures ∙ sym c.case-2.ensures) c.in_ok-replay.ensures
