@@ -7,3 +7,4 @@ pub mod Counting
 pub mod Undoing
 pub mod Followed
 pub mod Never
+pub mod ReplayPaths

@@ -5,10 +5,9 @@ use Rattle.tw_commands.specs.declared.cause.Cause.TheVariants.{Memory, CounterFu
 use Rattle.tw_commands.specs.declared.cause.Status.{Status}
 use Rattle.tw_commands.specs.ForCase.{StuckFor}
 use Rattle.tw_commands.specs.Output.{Answers, Leaves, Output}
-use Rattle.tw_model.specs.Case.{Case}
 use Rattle.tw_text.specs.declared.text_fault.TextFault.{TextFault}
 
-never : (read : Result Case TextFault) → StuckFor (λ _. ⊥) read → ⊥
+never : {I : Type 0} (read : Result I TextFault) → StuckFor (λ _. ⊥) read → ⊥
 never (Ok case) h = h
 never (Err fault) h = h
 
@@ -19,7 +18,7 @@ leaves_weaker (Err Memory) output stuck other old new failed f h = h
 leaves_weaker (Err CounterFull) output stuck other old new failed f h = (f h.0, h.1)
 leaves_weaker (Err Device) output stuck other old new failed f h = h
 
-pub answers_never : (result : Result Status Cause) (output : List ℕ → Output) (read : List ℕ → Result Case TextFault) (known old new : Option (List ℕ)) (reader writer : Bool)
+pub answers_never : {I : Type 0} (result : Result Status Cause) (output : List ℕ → Output) (read : List ℕ → Result I TextFault) (known old new : Option (List ℕ)) (reader writer : Bool)
     → Answers result output (λ input. StuckFor (λ _. ⊥) (read input)) known old new reader writer → Answers result output (λ _. ⊥) known old new reader writer
 answers_never result output read known old new reader writer h = (
   h.0,

@@ -1,8 +1,7 @@
--- A program's answer to a text: that for its case, or the refusal (own).
+-- A program's answer to a text: that for its case, alone or with the steps behind it, or the refusal (own).
 use Rattle.std.specs.Prelude.{ℕ, List, [], ◌∷◌, ◌++◌, Result, Ok, Err}
 use Rattle.tw_commands.specs.declared.cause.Status.TheVariants.{Refused}
 use Rattle.tw_commands.specs.Output.{Output}
-use Rattle.tw_model.specs.Case.{Case}
 use Rattle.tw_text.specs.declared.text_fault.TextFault.{TextFault}
 use Rattle.tw_text.specs.FaultNames.{refusal_text}
 
@@ -11,11 +10,11 @@ abbrev pub refusal_output : List ℕ → Output
 refusal_output text = record { status = Refused; text = text }
 
 -- the output for the case of a text; where the text has none, its first faulty line and that line's lowest fault
-abbrev pub for_case : (Case → Output) → Result Case TextFault → Output
+abbrev pub for_case : {I : Type 0} → (I → Output) → Result I TextFault → Output
 for_case output (Ok case) = output case
 for_case output (Err fault) = refusal_output (refusal_text fault ++ 10 ∷ [])
 
 -- the run of the case of a text gets stuck
-abbrev pub StuckFor : (Case → Type 0) → Result Case TextFault → Type 0
+abbrev pub StuckFor : {I : Type 0} → (I → Type 0) → Result I TextFault → Type 0
 StuckFor stuck (Ok case) = stuck case
 StuckFor stuck (Err fault) = ⊥

@@ -4,3 +4,4 @@ pub mod Cause
 pub mod Check
 pub mod Seq
 pub mod Trail
+pub mod Replay

@@ -2,7 +2,7 @@ ghost use Rattle.std.specs.Prelude.{◌≡◌};
 ghost use Rattle.tw_commands.specs.declared.cause.Cause.TheVariants.{Memory, Device};
 ghost use Rattle.tw_commands.specs.Cause.{read_cause, run_cause};
 
-use crate::trail_page::NoMemory;
+use crate::no_memory::NoMemory;
 use std::alloc::AllocError;
 use thiserror::Error;
 use tw_device::Failed;

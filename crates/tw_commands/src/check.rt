@@ -18,6 +18,8 @@ use tw_report::put_line;
 struct Check;
 
 impl Command for Check {
+    type Input = Case;
+
     ghost ready = { λ _. Unit {0} };
 
     ghost output = { λ _ case. sizes_of case };

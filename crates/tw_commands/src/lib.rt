@@ -1,8 +1,8 @@
-//! The programs `check`, `seq` and `trail` as calls: each reads a case from any source, does its work
-//! and writes its answer to any sink.
+//! The programs `check`, `seq`, `trail` and `replay` as calls: each reads a case, `replay` with steps
+//! behind it, from any source, does its work and writes its answer to any sink.
 //!
-//! A program is a `Command`: what it writes for a case, and how it ends then. `answer_io` is the one way
-//! from input to answer. Proved, for sources and sinks that tell their bytes: what is written is exactly
+//! A program is a `Command`: what it reads, what it writes for that, and how it ends then. `answer_io` is
+//! the one way from input to answer. Proved, for sources and sinks that tell their bytes: what is written is exactly
 //! the answer to the text that was read, or nothing where memory was refused or a counter was full, or a
 //! prefix where the sink failed; at most `MOST_INPUT` bytes are read. Not proved: what a file or a
 //! terminal holds, and that memory is not refused.
@@ -11,7 +11,11 @@
 mod cause;
 mod check;
 mod command;
+mod input;
+mod no_memory;
+mod played;
 mod refusal;
+mod replay;
 mod seq;
 mod trail;
 mod trail_page;
@@ -19,5 +23,7 @@ mod trail_page;
 pub use cause::{Cause, Status};
 pub use check::check_io;
 pub use command::{Command, answer_io};
+pub use input::{Input, Script};
+pub use replay::replay_io;
 pub use seq::seq_io;
 pub use trail::trail_io;

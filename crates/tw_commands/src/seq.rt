@@ -26,6 +26,8 @@ struct Seq {
 }
 
 impl Command for Seq {
+    type Input = Case;
+
     ghost ready = { λ seq. (seq.stop ≤ LATEST) × IfSome seq.every (λ every. (0 < every) × (every ≤ LATEST)) };
 
     ghost output = { λ seq case. seq_report seq.stop seq.every seq.log case };

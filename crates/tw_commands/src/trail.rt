@@ -7,7 +7,8 @@ ghost use Rattle.tw_seq.specs.Run.{complete_run};
 
 use crate::cause::{Cause, Status};
 use crate::command::{Command, answer_io};
-use crate::trail_page::{NoMemory, trail_page};
+use crate::no_memory::NoMemory;
+use crate::trail_page::trail_page;
 use std::alloc::{AllocError, Global};
 use tw_device::{Page, Sink, Source, put_all};
 use tw_event::Event;
@@ -25,6 +26,8 @@ struct Trail {
 }
 
 impl Command for Trail {
+    type Input = Case;
+
     ghost ready = { λ trail. trail.stop ≤ LATEST };
 
     ghost output = { λ trail case. trail_of trail.router trail.stop trail.keep case };

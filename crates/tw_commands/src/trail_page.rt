@@ -8,6 +8,7 @@ ghost use Rattle.tw_model.specs.History.{state_after};
 ghost use Rattle.tw_model.specs.State.{IsCounted, opening};
 ghost use Rattle.tw_report.specs.Lines.{NamesPath};
 
+use crate::no_memory::NoMemory;
 use smallvec::SmallVec;
 use std::alloc::{AllocError, Global};
 use tw_device::{Failed, Page, Sink, put_all};
@@ -18,22 +19,6 @@ use tw_model::{OrMemory, RouterEnd};
 use tw_report::Word::Name;
 use tw_report::{put_event, put_line, put_router};
 use tw_router::Router;
-
-/// Memory was refused, for a trail or for the page that tells of it.
-#[derive(Clone, Copy)]
-pub(crate) struct NoMemory;
-
-impl From<AllocError> for NoMemory {
-    fn from(_: AllocError) -> NoMemory {
-        NoMemory
-    }
-}
-
-impl From<Failed> for NoMemory {
-    fn from(_: Failed) -> NoMemory {
-        NoMemory
-    }
-}
 
 /// A router after these events, what undoing all but the first `keep` takes back, and the router after
 /// that.

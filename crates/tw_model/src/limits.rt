@@ -27,6 +27,12 @@ pub const MOST_COUNTED: u64 = 1 << 48;
 /// How many checkpoints before a checkpoint its shape is looked for among.
 pub const WINDOW: usize = 64;
 
+/// How many workers a machine's routers are dealt out to at most.
+pub const MOST_WORKERS: u32 = 16;
+
+/// How many steps a step text has at most.
+pub const MOST_STEPS: usize = 1_000_000;
+
 /// How many digits a number of a text has at most.
 pub const MOST_DIGITS: usize = 10;
 

@@ -3,7 +3,7 @@ use Rattle.std.specs.Prelude.{◌-◌, ℕ, Bool, Some, true, false, codes}
 use Rattle.clap.specs.Words.{App, Rule, Text, new_app, new_rule, with_rule, with_subcommand}
 use Rattle.clap.specs.declared.builder.action.ArgAction.TheVariants.{Set, SetTrue}
 use Rattle.clap.specs.declared.builder.value_parser.ValueParser.TheVariants as vp
-use Rattle.tw_model.specs.declared.limits.TheConstants.{LATEST, MOST_ROUTERS}
+use Rattle.tw_model.specs.declared.limits.TheConstants.{LATEST, MOST_ROUTERS, MOST_WORKERS}
 
 -- an option `--id`, which may be required, that takes a number from least to most
 abbrev pub number_rule : Text → Bool → ℕ → ℕ → Rule
@@ -35,6 +35,10 @@ router_rule = number_rule (codes "router") true 0 (MOST_ROUTERS - 1)
 abbrev pub keep_rule : Rule
 keep_rule = number_rule (codes "keep") true 0 LATEST
 
+-- `--workers W`: how many workers the routers are dealt out to
+abbrev pub workers_rule : Rule
+workers_rule = number_rule (codes "workers") false 1 MOST_WORKERS
+
 -- `twarp check`
 abbrev pub check_app : App
 check_app = new_app (codes "check")
@@ -47,10 +51,18 @@ seq_app = with_rule (with_rule (with_rule (new_app (codes "seq")) stop_rule) eve
 abbrev pub trail_app : App
 trail_app = with_rule (with_rule (with_rule (new_app (codes "trail")) router_rule) stop_rule) keep_rule
 
+-- `twarp replay --stop N [--workers W]`
+abbrev pub replay_app : App
+replay_app = with_rule (with_rule (new_app (codes "replay")) stop_rule) workers_rule
+
 -- `twarp`, which asks for a subcommand, and has a version that it tells at `--version` and `-V`
 abbrev pub top_app : App
 top_app = let a = new_app (codes "twarp") in record a { top = record a.top { subcommand_required = true; has_version = true } }
 
+-- `twarp` with the subcommands whose input is a case alone
+abbrev pub case_app : App
+case_app = with_subcommand (with_subcommand (with_subcommand top_app check_app.top) seq_app.top) trail_app.top
+
 -- `twarp` with its subcommands
 abbrev pub twarp_app : App
-twarp_app = with_subcommand (with_subcommand (with_subcommand top_app check_app.top) seq_app.top) trail_app.top
+twarp_app = with_subcommand case_app replay_app.top

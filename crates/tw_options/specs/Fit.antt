@@ -2,7 +2,7 @@
 use Rattle.std.specs.Prelude.{◌≡◌, ◌⊎◌, ◌-◌, ℕ, List, Option, Some, None, codes}
 use Rattle.clap.specs.Values.{IsUnsignedIn}
 use Rattle.clap.specs.Words.{Row, Text, one_of}
-use Rattle.tw_model.specs.declared.limits.TheConstants.{LATEST, MOST_ROUTERS}
+use Rattle.tw_model.specs.declared.limits.TheConstants.{LATEST, MOST_ROUTERS, MOST_WORKERS}
 
 -- the option id has a text, which is a numeral for a number in the bounds
 abbrev pub HasNumber : Text → ℕ → ℕ → List Row → Type 0
@@ -23,11 +23,17 @@ pub record HasTrail (rows : List Row) : Type 0 where
   pub stop : HasNumber (codes "stop") 1 LATEST rows
   pub keep : HasNumber (codes "keep") 0 LATEST rows
 
+-- the numbers that `replay` takes
+pub record HasReplay (rows : List Row) : Type 0 where
+  pub stop : HasNumber (codes "stop") 1 LATEST rows
+  pub workers : HasNumberIfGiven (codes "workers") 1 MOST_WORKERS rows
+
 -- a subcommand of ours was matched, with each option that it requires
 pub record Fits (name : Text) (rows : List Row) : Type 0 where
-  pub known : (name ≡ codes "check") ⊎ ((name ≡ codes "seq") ⊎ (name ≡ codes "trail"))
+  pub known : (name ≡ codes "check") ⊎ ((name ≡ codes "seq") ⊎ ((name ≡ codes "trail") ⊎ (name ≡ codes "replay")))
   pub seq : name ≡ codes "seq" → HasSeq rows
   pub trail : name ≡ codes "trail" → HasTrail rows
+  pub replay : name ≡ codes "replay" → HasReplay rows
 
 -- a subcommand was matched, and fits
 abbrev pub IsFit : Option (Text × List Row) → Type 0

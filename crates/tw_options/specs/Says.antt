@@ -1,10 +1,10 @@
 -- What the words of a command line say, as the parser matched them. Own.
-use Rattle.std.specs.Prelude.{◌≡◌, ◌≤◌, ◌↔◌, ◌-◌, ℕ, Bool, IsTrue, List, Option, Some, None, codes}
+use Rattle.std.specs.Prelude.{◌≡◌, ◌⊎◌, ◌≤◌, ◌↔◌, ◌-◌, ℕ, Bool, IsTrue, List, Option, Some, None, codes}
 use Rattle.std.specs.Str.Parse.{IsNumeral, digits_value, without_leading_plus}
 use Rattle.clap.specs.Words.{Row, Text, one_of}
-use Rattle.tw_model.specs.declared.limits.TheConstants.{LATEST, MOST_ROUTERS}
+use Rattle.tw_model.specs.declared.limits.TheConstants.{LATEST, MOST_ROUTERS, MOST_WORKERS}
 use Rattle.tw_options.specs.declared.command_line.CommandLine.{CommandLine}
-use Rattle.tw_options.specs.declared.command_line.CommandLine.TheVariants.{Check, Seq, Trail}
+use Rattle.tw_options.specs.declared.command_line.CommandLine.TheVariants.{Check, Seq, Trail, Replay}
 
 -- n is the number given for the option id: its text is a decimal numeral for n, and n lies in the bounds
 pub record IsNumberGiven (id : Text) (least most : ℕ) (rows : List Row) (n : ℕ) : Type 0 where
@@ -20,6 +20,10 @@ abbrev pub IsNumberIfGiven : Text → ℕ → ℕ → List Row → Option ℕ �
 IsNumberIfGiven id least most rows None = one_of id rows ≡ None
 IsNumberIfGiven id least most rows (Some n) = IsNumberGiven id least most rows n
 
+-- n is the number given for the option id, and the default where none is given
+abbrev pub IsNumberOr : Text → ℕ → ℕ → ℕ → List Row → ℕ → Type 0
+IsNumberOr id least most default rows n = ((one_of id rows ≡ None) × (n ≡ default)) ⊎ IsNumberGiven id least most rows n
+
 -- the flag id is set exactly where its text is `true`
 abbrev pub Sets : Text → List Row → Bool → Type 0
 Sets id rows b = IsTrue b ↔ (one_of id rows ≡ Some (codes "true"))
@@ -34,3 +38,6 @@ Says (Some found) (Seq stop every log) =
 Says (Some found) (Trail router stop keep) =
     (found.0 ≡ codes "trail") × IsNumberGiven (codes "router") 0 (MOST_ROUTERS - 1) found.1 router
     × IsNumberGiven (codes "stop") 1 LATEST found.1 stop × IsNumberGiven (codes "keep") 0 LATEST found.1 keep
+Says (Some found) (Replay stop workers) =
+    (found.0 ≡ codes "replay") × IsNumberGiven (codes "stop") 1 LATEST found.1 stop
+    × IsNumberOr (codes "workers") 1 MOST_WORKERS 1 found.1 workers

@@ -1,16 +1,24 @@
 ghost use Rattle.std.specs.Prelude.{IfOk, ◌≡◌, false};
 ghost use Rattle.clap.specs.Words.{app_of, rule_of};
 ghost use Rattle.clap.specs.declared.builder.command.Command.TheViews.{out-Command as fields_of};
-ghost use Rattle.tw_options.specs.App.{check_app, log_rule, seq_app, top_app, trail_app, twarp_app};
+ghost use Rattle.tw_options.specs.App.{case_app, check_app, log_rule, replay_app, seq_app, top_app, trail_app, twarp_app};
 
 use crate::help;
-use crate::number::{EVERY, KEEP, ROUTER, STOP};
+use crate::number::{EVERY, KEEP, ROUTER, STOP, WORKERS};
 use clap::{Arg, ArgAction, Command};
 use std::alloc::{AllocError, Global};
 
 /// The whole command.
 pub(crate) fn twarp<'a>(alloc: Global) -> Result<Command<'a>, AllocError>
     ensures { IfOk result (λ command. app_of command ≡ twarp_app) }
+{
+    case_commands(alloc)?.subcommand(replay(alloc)?)
+}
+
+/// The command with the subcommands whose input is a case alone.
+fn case_commands<'a>(alloc: Global) -> Result<Command<'a>, AllocError>
+    ensures app { IfOk result (λ command. app_of command ≡ case_app) }
+    ensures local { IfOk result (λ command. (fields_of command).has_globals ≡ false) }
 {
     top(alloc)
         .subcommand(check(alloc))?
@@ -74,4 +82,16 @@ fn trail<'a>(alloc: Global) -> Result<Command<'a>, AllocError>
         .arg(ROUTER.arg(alloc))?
         .arg(STOP.arg(alloc))?
         .arg(KEEP.arg(alloc))
+}
+
+fn replay<'a>(alloc: Global) -> Result<Command<'a>, AllocError>
+    ensures app { IfOk result (λ command. app_of command ≡ replay_app) }
+    ensures local { IfOk result (λ command. (fields_of command).has_globals ≡ false) }
+{
+    Command::new(alloc, "replay")
+        .about(help::REPLAY)
+        .long_about(help::REPLAY_LONG)
+        .after_help(help::STATUSES)
+        .arg(STOP.arg(alloc))?
+        .arg(WORKERS.arg(alloc))
 }

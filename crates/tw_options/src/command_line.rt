@@ -1,9 +1,9 @@
 ghost use Rattle.std.specs.Prelude.{Some, codes};
 ghost use Rattle.clap.specs.Words.{found_of, rows_of, subcommand_rows_of};
-ghost use Rattle.tw_options.specs.Fit.{HasSeq, HasTrail, IsFit};
+ghost use Rattle.tw_options.specs.Fit.{HasReplay, HasSeq, HasTrail, IsFit};
 ghost use Rattle.tw_options.specs.Says.{Says, Sets};
 
-use crate::number::{EVERY, KEEP, ROUTER, STOP};
+use crate::number::{EVERY, KEEP, ROUTER, STOP, WORKERS};
 use clap::ArgMatches;
 
 /// What a command line asks for. The input comes from standard input, and times are in ticks.
@@ -30,6 +30,13 @@ pub enum CommandLine {
         /// How many of the events are kept, from 0 to 1,000,000,000.
         keep: u64,
     },
+    /// What steps do to the Time Warp machine of a case, which handles events below `stop`.
+    Replay {
+        /// From 1 to 1,000,000,000.
+        stop: u64,
+        /// How many workers the routers are dealt out to, from 1 to 16.
+        workers: u32,
+    },
 }
 
 /// The command line that the parser's matches stand for.
@@ -42,6 +49,7 @@ pub(crate) fn command_line_of(matches: &ArgMatches<'_>) -> CommandLine
         "check" => CommandLine::Check,
         "seq" => seq_of(given),
         "trail" => trail_of(given),
+        "replay" => replay_of(given),
         _ => unreachable!(),
     }
 }
@@ -65,6 +73,16 @@ fn trail_of(given: &ArgMatches<'_>) -> CommandLine
         router: ROUTER.read(given) as u32,
         stop: STOP.read(given),
         keep: KEEP.read(given),
+    }
+}
+
+fn replay_of(given: &ArgMatches<'_>) -> CommandLine
+    requires { HasReplay (rows_of (found_of given.now)) }
+    ensures { Says (Some (codes "replay", rows_of (found_of given.now))) result }
+{
+    CommandLine::Replay {
+        stop: STOP.read(given),
+        workers: WORKERS.read_or(given, 1) as u32,
     }
 }
 

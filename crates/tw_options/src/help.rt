@@ -8,7 +8,8 @@ Simulates path-vector routing, event by event.
 Each router uses the first of its permitted paths that its neighbours offer, and tells them of
 each change. A message takes the delay of its link, in ticks.
 
-Every command reads a case text from standard input and writes its answer to standard output.
+Every command reads a case text from standard input, `replay` with steps behind it, and writes
+its answer to standard output.
 This case has two routers that prefer to go by way of each other:
 
   spp 1
@@ -77,6 +78,48 @@ sent.
 
 Example:
   twarp trail --router 1 --stop 20 --keep 0 < case.txt";
+
+pub(crate) const REPLAY: &str = "Drives the Time Warp machine of a case step by step";
+
+pub(crate) const REPLAY_LONG: &str = "\
+Drives the Time Warp machine of a case step by step.
+
+Its routers handle events ahead of one another, and are rolled back where a message comes late.
+Reads a case text from standard input and behind it the steps, with an `end` of their own:
+
+  handle R   router R handles its first pending event; what it sends is then in flight
+  undo R     router R undoes the event that it handled last, and sends antimessages
+  deliver K  the message at place K in flight, from 1, reaches its router
+  bound      the bound becomes the least time of all that is not handled, or --stop
+  commit R   router R's events below the bound are committed, and stay
+
+The answer has `ok`, or `refused` with the reason, for each step; then the bound, how much is in
+flight, pending, kept and handled ahead, the committed events, and the routers. Of this text the
+case stands on the left and the steps on the right, with what they do:
+
+  spp 1           handle 0   router 0 tells its path to 1, at time 1, and to 2, at time 5
+  nodes 3         deliver 2
+  link 0 1 1      handle 2   router 2 goes ahead to time 5, and tells its path to 0 and 1
+  link 0 2 5      deliver 1
+  link 1 2 1      handle 1   router 1 tells its path to 0 and 2, both at time 2
+  path 1 1 2 0    deliver 4  a straggler: router 2 rolls back from time 5, and sends antimessages
+  path 1 1 0      handle 2   router 2 handles the event at time 2
+  path 2 2 1 0    handle 2   and the one at time 5 once more
+  path 2 2 0      deliver 1  what router 2 told router 0 too early
+  end             deliver 3  its antimessage: both vanish
+                  deliver 3  an antimessage before its message: router 1 keeps it
+                  end
+
+With --stop 20 the answer is `spp-replay 1`, `step 1 ok` to `step 11 ok`, and
+
+  bound 0
+  flight 4 pending 0 kept 1 ahead 4
+  router 0 sent 2 handled 1 dropped 0 changed 1 rib (0)
+  router 1 sent 2 handled 1 dropped 0 changed 1 rib (1 0)
+  router 2 sent 2 handled 2 dropped 0 changed 1 rib (2 1 0)
+
+Example:
+  twarp replay --stop 20 --workers 2 < steps.txt";
 
 pub(crate) const STATUSES: &str = "\
 Exit status:

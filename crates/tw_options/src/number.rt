@@ -1,13 +1,13 @@
-ghost use Rattle.std.specs.Prelude.{◌≡◌, false};
+ghost use Rattle.std.specs.Prelude.{◌≡◌, ◌≤◌, false};
 ghost use Rattle.clap.specs.Words.{found_of, rows_of, rule_of};
 ghost use Rattle.tw_options.specs.App.{number_rule};
 ghost use Rattle.tw_options.specs.Fit.{HasNumber, HasNumberIfGiven};
-ghost use Rattle.tw_options.specs.Says.{IsNumberGiven, IsNumberIfGiven};
+ghost use Rattle.tw_options.specs.Says.{IsNumberGiven, IsNumberIfGiven, IsNumberOr};
 
 use clap::builder::ValueParser;
 use clap::{Arg, ArgAction, ArgMatches};
 use std::alloc::Global;
-use tw_model::limits::{LATEST, MOST_ROUTERS};
+use tw_model::limits::{LATEST, MOST_ROUTERS, MOST_WORKERS};
 
 /// An option `--id` that takes a number from `least` to `most`.
 #[derive(Clone, Copy)]
@@ -56,6 +56,15 @@ pub(crate) const KEEP: NumberOption = NumberOption {
     help: "How many of the router's first events are not undone: 0 to 1000000000",
 };
 
+pub(crate) const WORKERS: NumberOption = NumberOption {
+    id: "workers",
+    value_name: "COUNT",
+    is_required: false,
+    least: 1,
+    most: MOST_WORKERS as u64,
+    help: "How many workers the routers are dealt out to: 1 to 16, and 1 where none is given",
+};
+
 impl NumberOption {
     /// The option, for the parser.
     pub(crate) fn arg<'a>(self, alloc: Global) -> Arg<'a>
@@ -85,5 +94,15 @@ impl NumberOption {
         ensures { IsNumberIfGiven self.id.now self.least self.most (rows_of (found_of given.now)) result }
     {
         given.get_one::<u64>(self.id)
+    }
+
+    /// The number, and the default where none was given.
+    pub(crate) fn read_or(self, given: &ArgMatches<'_>, default: u64) -> u64
+        requires given { HasNumberIfGiven self.id.now self.least self.most (rows_of (found_of given.now)) }
+        requires default { (self.least ≤ default) × (default ≤ self.most) }
+        ensures number { IsNumberOr self.id.now self.least self.most default (rows_of (found_of given.now)) result }
+        ensures range { (self.least ≤ result) × (result ≤ self.most) }
+    {
+        self.read_if_given(given).unwrap_or(default)
     }
 }

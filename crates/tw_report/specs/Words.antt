@@ -3,7 +3,7 @@ use Rattle.std.specs.Prelude.{ℕ, List, [], ◌∷◌, ◌++◌, map}
 use Rattle.std.specs.Fmt.{decimal}
 use Rattle.std.specs.List.{join_with_byte}
 use Rattle.tw_report.specs.declared.words.Word.{Word}
-use Rattle.tw_report.specs.declared.words.Word.TheVariants.{Name, Number, Path}
+use Rattle.tw_report.specs.declared.words.Word.TheVariants.{Name, Number, Count, Path}
 
 -- words with a space between each two
 abbrev pub with_spaces : List (List ℕ) → List ℕ
@@ -21,6 +21,7 @@ path_text nodes = 40 ∷ (with_spaces (map decimal nodes) ++ 41 ∷ [])
 abbrev pub word_text : Word → List ℕ
 word_text (Name letters) = letters.now
 word_text (Number n) = decimal n
+word_text (Count n) = decimal n
 word_text (Path nodes) = path_text nodes.now
 
 -- a word with a space before it

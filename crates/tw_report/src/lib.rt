@@ -1,14 +1,18 @@
-//! Reports of runs: the lines of events, routers and verdicts, and writing all of them to a sink.
+//! Reports of runs, and replays of steps: the lines of events, routers, verdicts and steps, and writing
+//! all of them to a sink.
 //!
-//! Contracts see a line as its words (`specs/Words`, `Lines`) and a report as one text (`specs/Report`).
+//! Contracts see a line as its words (`specs/Words`, `Lines`), and a report and a replay each as one
+//! text (`specs/Report`, `ReplayText`).
 //! Proved: what is put is exactly that text and nothing else, or a prefix of it where the sink failed;
 //! no call takes memory. Not proved: what a terminal or a file then holds.
 #![tactic(auto)]
 
 mod lines;
+mod replay;
 mod report;
 mod words;
 
 pub use lines::{put_event, put_router};
+pub use replay::{Counts, Replay, write_replay};
 pub use report::write_report;
 pub use words::{Word, put_line};

@@ -66,7 +66,11 @@ fn put_log<S: Sink>(
 }
 
 /// Puts the line of each event.
-fn put_events<S: Sink>(sink: &mut S, instance: &Instance, events: &[Event]) -> Result<(), Failed>
+pub(crate) fn put_events<S: Sink>(
+    sink: &mut S,
+    instance: &Instance,
+    events: &[Event],
+) -> Result<(), Failed>
     requires paths { All (λ e. NamesPath instance.now e.body) events.now }
     requires open { S.failed sink.old ≡ false }
     ensures { Puts result (S.written sink.old) (S.written sink.new) (S.failed sink.new) (event_lines instance.now events.now) }
@@ -78,7 +82,7 @@ fn put_events<S: Sink>(sink: &mut S, instance: &Instance, events: &[Event]) -> R
 }
 
 /// Puts the line of each router, numbered from 0.
-fn put_routers<S: Sink>(
+pub(crate) fn put_routers<S: Sink>(
     sink: &mut S,
     instance: &Instance,
     routers: &[RouterEnd],

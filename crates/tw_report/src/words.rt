@@ -14,6 +14,8 @@ pub enum Word<'a> {
     Name(&'a str),
     /// A number in decimal.
     Number(u64),
+    /// A number of things that several lists have together, in decimal.
+    Count(u128),
     /// A path in parentheses, as `(1 2 0)`; the empty path is `()`.
     Path(&'a [u32]),
 }
@@ -66,6 +68,7 @@ fn put_word<S: Sink>(sink: &mut S, word: Word<'_>) -> Result<(), Failed>
     match word {
         Word::Name(name) => put_all(sink, name.as_bytes()),
         Word::Number(number) => put_number(sink, number),
+        Word::Count(count) => put_count(sink, count),
         Word::Path(nodes) => put_path(sink, nodes),
     }
 }
@@ -76,6 +79,14 @@ fn put_number<S: Sink>(sink: &mut S, number: u64) -> Result<(), Failed>
 {
     let mut buffer = Buffer::new();
     put_all(sink, buffer.format(number).as_bytes())
+}
+
+fn put_count<S: Sink>(sink: &mut S, count: u128) -> Result<(), Failed>
+    requires open { S.failed sink.old ≡ false }
+    ensures { Puts result (S.written sink.old) (S.written sink.new) (S.failed sink.new) (decimal count) }
+{
+    let mut buffer = Buffer::new();
+    put_all(sink, buffer.format(count).as_bytes())
 }
 
 fn put_path<S: Sink>(sink: &mut S, nodes: &[u32]) -> Result<(), Failed>

@@ -13,7 +13,7 @@ fn asked(alloc: Global, words: &[&str]) -> Result<CommandLine, CommandLineFault>
 
 #[test]
 fn numbers_left_out_or_out_of_range_are_refused(rt: HostRuntime) {
-    let refused: [&[&str]; 5] = [
+    let refused: [&[&str]; 9] = [
         &["twarp", "seq"],
         &["twarp", "seq", "--stop", "0"],
         &["twarp", "seq", "--stop", "1000000001"],
@@ -21,6 +21,10 @@ fn numbers_left_out_or_out_of_range_are_refused(rt: HostRuntime) {
         &[
             "twarp", "trail", "--router", "1024", "--stop", "20", "--keep", "0",
         ],
+        &["twarp", "replay"],
+        &["twarp", "replay", "--stop", "0"],
+        &["twarp", "replay", "--stop", "20", "--workers", "0"],
+        &["twarp", "replay", "--stop", "20", "--workers", "17"],
     ];
     for words in refused {
         assert!(rt;
@@ -75,4 +79,28 @@ fn the_numbers_given_are_those_asked_for(rt: HostRuntime) {
     };
     let words = ["twarp", "seq", "--stop", "20", "--every", "2"];
     assert!(rt; matches!(asked(rt.alloc(), &words), Ok(found) if found == line));
+}
+
+#[test]
+fn a_replay_has_one_worker_where_no_number_is_given(rt: HostRuntime) {
+    let rows: [(&[&str], u64, u32); 3] = [
+        (&["twarp", "replay", "--stop", "20"], 20, 1),
+        (
+            &["twarp", "replay", "--workers", "3", "--stop", "1"],
+            1,
+            3,
+        ),
+        (
+            &["twarp", "replay", "--stop", "1000000000", "--workers", "16"],
+            1_000_000_000,
+            16,
+        ),
+    ];
+    for (words, stop, workers) in rows {
+        let line = CommandLine::Replay { stop, workers };
+        assert!(rt;
+            matches!(asked(rt.alloc(), words), Ok(found) if found == line),
+            "{words:?}"
+        );
+    }
 }

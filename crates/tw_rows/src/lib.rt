@@ -26,6 +26,8 @@ mod programs;
 #[cfg(test)]
 mod refusals;
 #[cfg(test)]
+mod replays;
+#[cfg(test)]
 mod runs;
 #[cfg(test)]
 mod shards;

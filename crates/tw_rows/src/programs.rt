@@ -9,7 +9,7 @@ use crate::texts::{
     RANK_EXCHANGE_TRAIL, SECOND_FAILURE, SECOND_FAILURE_TRAIL,
 };
 use std::alloc::Global;
-use tw_commands::{Cause, Status, check_io, seq_io, trail_io};
+use tw_commands::{Cause, Status, check_io, replay_io, seq_io, trail_io};
 
 /// A program, with its options.
 #[derive(Clone, Copy, Debug)]
@@ -18,6 +18,8 @@ pub(crate) enum Asked {
     /// With `every` 0 there are no checkpoints.
     Seq { stop: u16, every: u16, log: bool },
     Trail { router: u16, stop: u16, keep: u64 },
+    /// With `workers` 0 there is one.
+    Replay { stop: u16, workers: u8 },
 }
 
 fn run(
@@ -40,6 +42,9 @@ fn run(
         }
         Asked::Trail { router, stop, keep } => {
             trail_io(alloc, tape, page, u32::from(router), u64::from(stop), keep)
+        }
+        Asked::Replay { stop, workers } => {
+            replay_io(alloc, tape, page, u64::from(stop), u32::from(workers.max(1)))
         }
     }
 }

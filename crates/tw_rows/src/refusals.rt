@@ -7,7 +7,7 @@ use tw_model::OrMemory;
 use tw_text::{TextFault, read_case};
 
 /// A text, and the line that each program answers to it.
-const REFUSED: [(&str, &str); 19] = [
+const REFUSED: [(&str, &str); 16] = [
     (
         "spp 1\nnodes 3\nlink 1 1 2\nend\n",
         "refused line 3 I2 SelfLink\n",
@@ -33,12 +33,6 @@ const REFUSED: [(&str, &str); 19] = [
     ("spp 1\nlink 0 1 1\n", "refused line 2 X5 Order\n"),
     ("spp 1\nnodes 9999999999\n", "refused line 2 I1 Range\n"),
     ("spp 1\nnodes 99999999999\n", "refused line 2 X4 Number\n"),
-    ("spp 1\nnodes 1\nend\nend\n", "refused line 4 X6 End\n"),
-    ("spp 1\nnodes 1\nend\n\n", "refused line 4 X3 Word\n"),
-    (
-        "spp 1\nnodes 1\nend\nnodes 1\n",
-        "refused line 4 X5 Order\n",
-    ),
     (
         "spp 1\nnodes 2\nfail 1000000001 0 1\n",
         "refused line 3 I11 NoSuchLink\n",
@@ -53,23 +47,56 @@ const REFUSED: [(&str, &str); 19] = [
     ),
 ];
 
+/// A text that goes on behind a case, and the line that each program whose input is a case answers to it.
+const REFUSED_BEHIND_A_CASE: [(&str, &str); 3] = [
+    ("spp 1\nnodes 1\nend\nend\n", "refused line 4 X6 End\n"),
+    ("spp 1\nnodes 1\nend\n\n", "refused line 4 X3 Word\n"),
+    (
+        "spp 1\nnodes 1\nend\nnodes 1\n",
+        "refused line 4 X5 Order\n",
+    ),
+];
+
+/// The programs whose input is a case.
+const FOR_A_CASE: [Asked; 3] = [
+    Asked::Check,
+    Asked::Seq {
+        stop: 20,
+        every: 0,
+        log: true,
+    },
+    Asked::Trail {
+        router: 0,
+        stop: 20,
+        keep: 0,
+    },
+];
+
+const REPLAY: Asked = Asked::Replay {
+    stop: 20,
+    workers: 1,
+};
+
 #[test]
 fn the_first_bad_line_and_its_lowest_fault_are_named(rt: HostRuntime) {
-    let programs = [
-        Asked::Check,
-        Asked::Seq {
-            stop: 20,
-            every: 0,
-            log: true,
-        },
-        Asked::Trail {
-            router: 0,
-            stop: 20,
-            keep: 0,
-        },
-    ];
     for (text, line) in REFUSED {
-        for asked in programs {
+        assert!(rt;
+            answers(rt.alloc(), REPLAY, text, Status::Refused, line),
+            "{line}"
+        );
+        for asked in FOR_A_CASE {
+            assert!(rt;
+                answers(rt.alloc(), asked, text, Status::Refused, line),
+                "{line}"
+            );
+        }
+    }
+}
+
+#[test]
+fn nothing_follows_a_case(rt: HostRuntime) {
+    for (text, line) in REFUSED_BEHIND_A_CASE {
+        for asked in FOR_A_CASE {
             assert!(rt;
                 answers(rt.alloc(), asked, text, Status::Refused, line),
                 "{line}"

@@ -12,7 +12,7 @@ use Rattle.tw_text.specs.declared.step_text.StepDraft.{StepDraft}
 use Rattle.tw_text.specs.declared.step_text.StepDraft.TheVariants.{Open, Done}
 use Rattle.tw_text.specs.declared.step_text.StepLine.{StepLine}
 use Rattle.tw_text.specs.declared.step_text.StepLine.TheVariants as line
-use Rattle.tw_text.specs.declared.step_text.TheConstants.{MOST_STEPS}
+use Rattle.tw_model.specs.declared.limits.TheConstants.{MOST_STEPS}
 use Rattle.tw_text.specs.declared.text_fault.TextFault.{TextFault}
 use Rattle.tw_text.specs.Drafts.{result_items}
 use Rattle.tw_text.specs.StepText.{HasLine, HasText, after_line, is_ended, is_past_most, line_of_step, lines_of_steps, step_reader, steps_in, steps_of, text_of_steps, whole_steps, with_step_line}

@@ -9,11 +9,10 @@ use Rattle.tw_text.specs.declared.step_text.StepDraft.{StepDraft}
 use Rattle.tw_text.specs.declared.step_text.StepDraft.TheVariants.{Open, Done}
 use Rattle.tw_text.specs.declared.step_text.StepLine.{StepLine}
 use Rattle.tw_text.specs.declared.step_text.StepLine.TheVariants as line
-use Rattle.tw_text.specs.declared.step_text.TheConstants.{MOST_STEPS}
 use Rattle.tw_text.specs.declared.text_fault.LineFault.{LineFault}
 use Rattle.tw_text.specs.declared.text_fault.LineFault.TheVariants as x
 use Rattle.tw_text.specs.declared.text_fault.TextFault.{TextFault}
-use Rattle.tw_model.specs.declared.limits.TheConstants.{MOST_DIGITS}
+use Rattle.tw_model.specs.declared.limits.TheConstants.{MOST_DIGITS, MOST_STEPS}
 use Rattle.tw_text.specs.FaultTable.{faults_in_order, has_no_number, if_said, is_no_statement, unless_fault, with_said}
 use Rattle.tw_text.specs.LineReader.{Reader}
 use Rattle.tw_text.specs.Reading.{read_from}

@@ -28,6 +28,6 @@ mod write;
 
 pub use read::read_case;
 pub use replay_text::read_replay;
-pub use step_text::{MOST_STEPS, read_steps};
+pub use step_text::read_steps;
 pub use text_fault::{LineFault, TextFault};
 pub use write::write_case;

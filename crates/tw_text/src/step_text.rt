@@ -11,11 +11,9 @@ use crate::step_list::StepList;
 use crate::text_fault::{LineFault, TextFault};
 use crate::words::{is_plain_line, number_of, split_words};
 use std::alloc::Global;
+use tw_model::limits::MOST_STEPS;
 use tw_model::{OrMemory, Rule};
 use tw_sim::Step;
-
-/// How many steps a step text has at most.
-pub const MOST_STEPS: usize = 1_000_000;
 
 /// The steps of a text in the grammar of `docs/FORMATS.md`, in order. A text that is none is refused
 /// at its first line that has a fault, with the lowest fault of that line. Whether a router or a

@@ -5,23 +5,26 @@ use Rattle.tw_commands.specs.declared.cause.Status.{Status}
 use Rattle.tw_commands.specs.declared.cause.Status.TheVariants.{Done, Refused}
 use Rattle.tw_commands.specs.Check.{check_output}
 use Rattle.tw_commands.specs.Output.{Output}
+use Rattle.tw_commands.specs.Replay.{replay_output}
 use Rattle.tw_commands.specs.Seq.{GetsStuckFor, seq_output}
 use Rattle.tw_commands.specs.Trail.{TrailGetsStuck, trail_output}
 use Rattle.tw_model.specs.declared.limits.TheConstants.{LATEST}
 use Rattle.tw_options.specs.declared.command_line.CommandLine.{CommandLine}
-use Rattle.tw_options.specs.declared.command_line.CommandLine.TheVariants.{Check, Seq, Trail}
+use Rattle.tw_options.specs.declared.command_line.CommandLine.TheVariants.{Check, Seq, Trail, Replay}
 
--- its stop and its checkpoints are within their limits
+-- its stop and its checkpoints are within their limits, and there is a worker
 abbrev pub IsRunnable : CommandLine → Type 0
 IsRunnable Check = Unit {0}
 IsRunnable (Seq stop every log) = (stop ≤ LATEST) × IfSome every (λ n. (0 < n) × (n ≤ LATEST))
 IsRunnable (Trail router stop keep) = stop ≤ LATEST
+IsRunnable (Replay stop workers) = (stop ≤ LATEST) × (0 < workers)
 
 -- what is written for this input, and how the program ends
 abbrev pub due : CommandLine → List ℕ → Output
 due Check = check_output
 due (Seq stop every log) = seq_output stop every log
 due (Trail router stop keep) = trail_output router stop keep
+due (Replay stop workers) = replay_output stop
 
 -- the exit status of a program that ended so
 abbrev pub status_number : Result Status Cause → ℕ
@@ -34,3 +37,4 @@ abbrev pub StopsFull : CommandLine → List ℕ → Type 0
 StopsFull Check input = ⊥
 StopsFull (Seq stop every log) input = GetsStuckFor stop input
 StopsFull (Trail router stop keep) input = TrailGetsStuck router stop input
+StopsFull (Replay stop workers) input = ⊥

@@ -4,12 +4,12 @@ ghost use Rattle.tw_device.specs.Source.{LosesInput, TakesInput};
 ghost use Rattle.twarp.specs.Due.{IsRunnable, StopsFull, due};
 
 use std::alloc::Global;
-use tw_commands::{Cause, Status, check_io, seq_io, trail_io};
+use tw_commands::{Cause, Status, check_io, replay_io, seq_io, trail_io};
 use tw_device::{Sink, Source};
 use tw_options::CommandLine;
 
-/// Does what a command line asks: reads a case from the source and writes the answer that is due to
-/// the sink.
+/// Does what a command line asks: reads its input from the source and writes the answer that is due
+/// to the sink.
 pub(crate) fn perform<R: Source, W: Sink>(
     alloc: Global,
     line: CommandLine,
@@ -30,5 +30,6 @@ pub(crate) fn perform<R: Source, W: Sink>(
         CommandLine::Trail { router, stop, keep } => {
             trail_io(alloc, source, sink, router, stop, keep)
         }
+        CommandLine::Replay { stop, workers } => replay_io(alloc, source, sink, stop, workers),
     }
 }

@@ -8,3 +8,6 @@ returns-in-Seq-clause-answer g c = rw c.in-Seq.is c.seq_io.ensures.answer
 
 pub returns-in-Trail-clause-answer : goal.returns-in-Trail-clause-answer
 returns-in-Trail-clause-answer g c = rw c.in-Trail.is c.trail_io.ensures.answer
+
+pub returns-in-Replay-clause-answer : goal.returns-in-Replay-clause-answer
+returns-in-Replay-clause-answer g c = rw c.in-Replay.is c.replay_io.ensures.answer

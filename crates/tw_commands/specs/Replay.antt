@@ -1,0 +1,66 @@
+-- What `replay` writes: what a list of steps leaves of the Time Warp machine of a case (own).
+use Rattle.std.specs.Prelude.{ℕ, List, [], length, map, Result}
+use Rattle.std.specs.List.{flat_map, range_with_len}
+use Rattle.tw_commands.specs.declared.cause.Status.TheVariants.{Done}
+use Rattle.tw_commands.specs.ForCase.{for_case}
+use Rattle.tw_commands.specs.Output.{Output}
+use Rattle.tw_core.specs.declared.refusal.Refusal.{Refusal}
+use Rattle.tw_core.specs.Machine.{Core, committed}
+use Rattle.tw_core.specs.Parts.{total}
+use Rattle.tw_core.specs.Steps.{answers, run}
+use Rattle.tw_event.specs.declared.event.Event.{Event}
+use Rattle.tw_event.specs.Order.{event_before}
+use Rattle.tw_model.specs.Case.{Case, simulation}
+use Rattle.tw_model.specs.declared.outcome.RouterEnd.{RouterEnd}
+use Rattle.tw_report.specs.declared.replay.Counts.{Counts}
+use Rattle.tw_report.specs.ReplayText.{Replayed, replay_text}
+use Rattle.tw_sim.specs.declared.machine.Step.{Step}
+use Rattle.tw_sim.specs.Ordered.{insert_all}
+use Rattle.tw_sim.specs.Simulation.{state}
+use Rattle.tw_text.specs.ReplayText.{replay_of}
+use Rattle.tw_warp.specs.Committed.{ahead_at}
+use Rattle.tw_warp.specs.Openings.{opening_machine}
+
+module _ (case : Case) (C : Core Event) where
+  -- how many messages are in flight, events pending, antimessages kept, and events handled that are not committed
+  abbrev pub counts_of : Counts
+  counts_of = record {
+    flight = length C.flight;
+    pending = length C.pending;
+    kept = length C.kept;
+    ahead = total (λ r. ahead_at case C r) (range_with_len 0 case.net.nodes);
+  }
+
+  -- the committed events of all routers, in the order of events
+  abbrev pub committed_of : List Event
+  committed_of = insert_all event_before (flat_map (λ r. committed (simulation case) C r) (range_with_len 0 case.net.nodes)) []
+
+  -- how a router stands after all that it has handled, committed or not
+  abbrev pub end_in : ℕ → RouterEnd
+  end_in r = record {
+    counters = (state (simulation case) r (C.history r)).counters;
+    rib = (state (simulation case) r (C.history r)).rib;
+  }
+
+  -- what a machine that has answered so tells of itself
+  abbrev pub told_of : List (Result (Unit {0}) Refusal) → Replayed
+  told_of answers = record {
+    answers = answers;
+    bound = C.bound;
+    counts = counts_of;
+    committed = committed_of;
+    routers = map end_in (range_with_len 0 case.net.nodes);
+  }
+
+-- the answers to the steps, and what the machine that begins with the case becomes by them
+abbrev pub replayed : ℕ → Case → List Step → Replayed
+replayed stop case steps =
+    told_of case (run (simulation case) (opening_machine case stop) steps) (answers (simulation case) (opening_machine case stop) steps)
+
+-- the replay of steps of the machine of a case, to the stop
+abbrev pub steps_replay : ℕ → Case × List Step → Output
+steps_replay stop script = record { status = Done; text = replay_text script.0.net (replayed stop script.0 script.1) }
+
+-- the same for the case and the steps of a text, or why it has none
+abbrev pub replay_output : ℕ → List ℕ → Output
+replay_output stop text = for_case (steps_replay stop) (replay_of text)

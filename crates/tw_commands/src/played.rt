@@ -1,0 +1,96 @@
+//! What steps leave of a machine, as plain data.
+ghost use Rattle.std.specs.Prelude.{◌≡◌, ◌≤◌, ◌<◌, length, map, IfOk};
+ghost use Rattle.std.specs.List.{range_with_len};
+ghost use Rattle.tw_commands.specs.Replay.{counts_of, end_in, replayed, told_of};
+ghost use Rattle.tw_core.specs.Steps.{answers, run};
+ghost use Rattle.tw_model.specs.Case.{simulation};
+ghost use Rattle.tw_model.specs.declared.limits.TheConstants.{LATEST};
+ghost use Rattle.tw_report.specs.ReplayText.{replayed_of};
+ghost use Rattle.tw_warp.specs.Openings.{opening_machine};
+ghost use Rattle.tw_warp.specs.Warp.{core};
+
+use crate::no_memory::NoMemory;
+use std::alloc::{AllocError, Global};
+use tw_instance::Case;
+use tw_model::RouterEnd;
+use tw_report::{Counts, Replay};
+use tw_sim::Step;
+use tw_warp::{Answer, Warp};
+
+/// The answers to the steps, and what the machine of the case becomes by them.
+pub(crate) fn play(
+    alloc: Global,
+    case: &Case,
+    steps: &[Step],
+    stop: u64,
+    workers: u32,
+) -> Result<Replay, NoMemory>
+    requires stop { stop ≤ LATEST }
+    requires workers { 0 < workers }
+    ensures { IfOk result (λ replay. replayed_of replay ≡ replayed stop case.now steps.now) }
+{
+    let (warp, answers) = take_steps(alloc, case, steps, stop, workers)?;
+    Ok(told(alloc, &warp, answers)?)
+}
+
+/// The machine of the case with so many workers, after the steps, and its answers to them.
+fn take_steps<'a>(
+    alloc: Global,
+    case: &'a Case,
+    steps: &[Step],
+    stop: u64,
+    workers: u32,
+) -> Result<(Warp<'a>, Vec<Answer>), NoMemory>
+    requires stop { stop ≤ LATEST }
+    requires workers { 0 < workers }
+    ensures machine { IfOk result (λ after. core after.0 ≡ run (simulation case.now) (opening_machine case.now stop) steps.now) }
+    ensures answers { IfOk result (λ after. after.1.items ≡ answers (simulation case.now) (opening_machine case.now stop) steps.now) }
+    ensures case { IfOk result (λ after. after.0.case ≡ case.now) }
+    ensures workers { IfOk result (λ after. length after.0.shards ≡ workers) }
+{
+    let mut warp = Warp::new(alloc, case, workers, stop)?;
+    let answers = warp.run(steps)?;
+    Ok((warp, answers))
+}
+
+/// What a machine that has answered so tells of itself.
+fn told(alloc: Global, warp: &Warp<'_>, answers: Vec<Answer>) -> Result<Replay, AllocError>
+    ensures { IfOk result (λ replay. replayed_of replay ≡ told_of warp.now.case (core warp.now) answers.items) }
+{
+    let committed = warp.committed()?;
+    let routers = router_ends(alloc, warp)?;
+    Ok(Replay {
+        answers,
+        bound: warp.bound(),
+        counts: counts(warp),
+        committed,
+        routers,
+    })
+}
+
+/// How many messages and events a machine has.
+fn counts(warp: &Warp<'_>) -> Counts
+    ensures { result ≡ counts_of warp.now.case (core warp.now) }
+{
+    Counts {
+        flight: warp.flight().len() as u128,
+        pending: warp.pending_len(),
+        kept: warp.kept_len(),
+        ahead: warp.ahead(),
+    }
+}
+
+/// How each router of a machine stands.
+fn router_ends(alloc: Global, warp: &Warp<'_>) -> Result<Vec<RouterEnd>, AllocError>
+    ensures { IfOk result (λ ends. ends.items ≡ map (end_in warp.now.case (core warp.now)) (range_with_len 0 warp.now.case.net.nodes)) }
+{
+    let mut ends = Vec::new(alloc);
+    for node in 0..warp.case().instance().nodes() {
+        let router = warp.router(node);
+        ends.push(RouterEnd {
+            counters: router.counters(),
+            rib: router.rib(),
+        })?;
+    }
+    Ok(ends)
+}
