@@ -11,7 +11,7 @@ use Rattle.tw_core.proofs.Wording.{arrival-front}
 use Rattle.tw_core.specs.Good.{IsGoodPart}
 use Rattle.tw_core.specs.Machine.{Core, antimessages, messages, times_loose}
 use Rattle.tw_core.specs.Parts.{IsOwn, KeepsPart}
-use Rattle.tw_core.specs.Steps.{after_arrival, after_delivery, after_handling, after_undoing, antimessage, first_pending, handle, message}
+use Rattle.tw_core.specs.Steps.{after_arrival, after_delivery, after_handling, after_undoing, antimessage, first_pending, handle, message, AreUndone, IsRolledBack}
 use Rattle.tw_rule.specs.Board.{times_among}
 use Rattle.tw_rule.specs.Place.{IsFrom, IsPlace, Keeps, Place, core, in_hand, whole, with_core, with_unsent}
 use Rattle.tw_sim.specs.declared.machine.Signed.{Signed}
@@ -148,7 +148,7 @@ module _ {S E : Type 0} (m : Simulation S E) where
         ]
 
     -- one event is undone, while such a message is in the hand
-    pub keeps_undo : (stop k : ℕ) (p : Place E) (s : Signed E) (e : E) (older : List E) → IsPlace m stop p → slice_get p.mail k ≡ Some s → p.history (m.dst s.event) ≡ e ∷ older
+    keeps_undo : (stop k : ℕ) (p : Place E) (s : Signed E) (e : E) (older : List E) → IsPlace m stop p → slice_get p.mail k ≡ Some s → p.history (m.dst s.event) ≡ e ∷ older
         → m.before e s.event ≡ false → Keeps m stop p (with_core (after_undoing m (core stop p) (m.dst s.event) e older) p)
     keeps_undo stop k p s e older place there newest order =
         let r = m.dst s.event in
@@ -159,6 +159,38 @@ module _ {S E : Type 0} (m : Simulation S E) where
         (own_undoing m law p.owns (core stop p) r e older home newest (own_routers stop p place))
         (λ t good. subst (KeepsPart m t (whole stop p)) (undoing-front front (core stop p) r e older)
           (undoing_keeps m law t (whole stop p) r e older (let loose = good.late s.event (hand_is_loose p k s there) in omega arith) good newest))
+
+    keeps_same : (stop : ℕ) (p : Place E) → IsPlace m stop p → Keeps m stop p p
+    keeps_same stop p place = record { worker = refl; owns = refl; place = place; late = λ t from. from; surplus = λ e. refl; done = λ r. omega arith; bound = refl }
+
+    keeps_both : (stop : ℕ) (p q r : Place E) → Keeps m stop p q → Keeps m stop q r → Keeps m stop p r
+    keeps_both stop p q r first second = record {
+      worker = second.worker ∙ first.worker;
+      owns = second.owns ∙ first.owns;
+      place = second.place;
+      late = λ t from. second.late t (first.late t from);
+      surplus = λ e. (let a = first.surplus e in let b = second.surplus e in omega arith);
+      done = λ v. (let a = first.done v in let b = second.done v in omega arith);
+      bound = second.bound ∙ first.bound;
+    }
+
+    rolled : (n stop k : ℕ) (p : Place E) (s : Signed E) (D : Core E) → IsPlace m stop p → slice_get p.mail k ≡ Some s → AreUndone m n s.event (core stop p) D
+        → Keeps m stop p (with_core D p) × (D.stop ≡ stop)
+    rolled zero stop k p s D place there h = subst (λ C. Keeps m stop p (with_core C p) × (C.stop ≡ stop)) (sym h) (keeps_same stop p place, refl)
+    rolled (suc n) stop k p s D place there h =
+        let B = h.0 in
+        let e = h.2.0 in
+        let older = h.2.1 in
+        let first = rolled n stop k p s B place there h.1 in
+        let same : core stop (with_core B p) ≡ B = ap (λ t. record B { stop = t }) (sym first.1) in
+        let next = keeps_undo stop k (with_core B p) s e older first.0.place there h.2.2 h.2.3 in
+        let made : after_undoing m (core stop (with_core B p)) (m.dst s.event) e older ≡ D = ap (λ C. after_undoing m C (m.dst s.event) e older) same ∙ sym h.2.4 in
+        (keeps_both stop p (with_core B p) (with_core D p) first.0 (subst (λ C. Keeps m stop (with_core B p) (with_core C p)) made next), ap (λ C. C.stop) h.2.4 ∙ first.1)
+
+    -- a message in the hand has been met, but not received for want of memory
+    pub keeps_roll_back : (stop k : ℕ) (p : Place E) (s : Signed E) (D : Core E) → IsPlace m stop p → slice_get p.mail k ≡ Some s → IsRolledBack m s.event (core stop p) D
+        → Keeps m stop p (with_core D p)
+    keeps_roll_back stop k p s D place there h = (rolled h.0 stop k p s D place there h.1).0
 
     -- messages go from the outgoing ones to the unsent ones, or back
     pub keeps_unsent : (stop : ℕ) (p : Place E) (unsent outgoing : List (Signed E)) → IsPlace m stop p

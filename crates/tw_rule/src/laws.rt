@@ -7,7 +7,7 @@ ghost use Rattle.tw_core.specs.Good.{IsGood};
 ghost use Rattle.tw_core.specs.Machine.{Core, antimessages, committed, messages};
 ghost use Rattle.tw_core.specs.Parts.{total};
 ghost use Rattle.tw_core.specs.Run.{IsAtEnd, IsSeq};
-ghost use Rattle.tw_core.specs.Steps.{after_arrival, after_undoing, first_pending, handle, with_commit};
+ghost use Rattle.tw_core.specs.Steps.{IsRolledBack, after_arrival, first_pending, handle, with_commit};
 ghost use Rattle.tw_rule.specs.Board.{Board, IsBoard, IsVisit, workers};
 ghost use Rattle.tw_rule.specs.Place.{IsPlace, Keeps, Place, Tells, after_visit, core, in_hand, with_core, with_unsent};
 ghost use Rattle.tw_rule.specs.Rule.{AreOpeningPlaces, IsOpeningBoard, MayGive, Rule, Stands, assembled, owning};
@@ -48,10 +48,10 @@ pub fn settled_is_end<S, E>()
         → AllByRecursion (λ p. in_hand p ≡ []) ps → x.bound ≡ x.stop → IsAtEnd m (assembled x ps) }
 {}
 
-/// What is done at a place keeps it: an event is handled; a message of the hand is received, with all that
-/// its receiver then undoes; one event is undone while a message that is not after it is still in the hand,
-/// as where memory is refused within a delivery; a commit; and messages that move between those that are
-/// outgoing and those that are unsent. Whatever is kept by one call and then by another is kept by both.
+/// What is done at a place, to the board's stop, keeps it: an event is handled; a message of the hand is
+/// received, with all that its receiver then undoes; only some of this is undone and the message is still
+/// in the hand, as where memory is refused; a commit; and messages move between those that are outgoing
+/// and those that are unsent. What is kept by one call and then by another is kept by both.
 pub fn calls_keep_places<S, E>()
     ensures same { (m : Simulation S E) (stop : ℕ) (p : Place E) → IsPlace m stop p → Keeps m stop p p }
     ensures both { (m : Simulation S E) (stop : ℕ) (p q r : Place E) → Keeps m stop p q → Keeps m stop q r → Keeps m stop p r }
@@ -59,9 +59,8 @@ pub fn calls_keep_places<S, E>()
         → handle m (core stop p) r (first_pending m (core stop p) r) ≡ Ok D → Keeps m stop p (with_core D p) }
     ensures receive { (m : Simulation S E) → IsLawful m → (stop k : ℕ) (p : Place E) (s : Signed E) → IsPlace m stop p → slice_get p.mail k ≡ Some s
         → Keeps m stop p (with_core (after_arrival m (core stop p) s) (record p { mail = remove p.mail k })) }
-    ensures undo { (m : Simulation S E) → IsLawful m → (stop k : ℕ) (p : Place E) (s : Signed E) (e : E) (older : List E) → IsPlace m stop p
-        → slice_get p.mail k ≡ Some s → p.history (m.dst s.event) ≡ e ∷ older → m.before e s.event ≡ false
-        → Keeps m stop p (with_core (after_undoing m (core stop p) (m.dst s.event) e older) p) }
+    ensures roll_back { (m : Simulation S E) → IsLawful m → (stop k : ℕ) (p : Place E) (s : Signed E) (D : Core E) → IsPlace m stop p → slice_get p.mail k ≡ Some s
+        → IsRolledBack m s.event (core stop p) D → Keeps m stop p (with_core D p) }
     ensures commit { (m : Simulation S E) → IsLawful m → (stop r : ℕ) (p : Place E) → IsPlace m stop p → Keeps m stop p (with_core (with_commit m (core stop p) r) p) }
     ensures unsent { (m : Simulation S E) → IsLawful m → (stop : ℕ) (p : Place E) (unsent outgoing : List (Signed E)) → IsPlace m stop p
         → ((e : E) → messages m e unsent + messages m e outgoing ≡ messages m e p.unsent + messages m e p.outgoing)
