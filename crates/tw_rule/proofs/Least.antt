@@ -1,12 +1,12 @@
 -- The least of reports and of times: what is not before it, and what it is not before.
-use Rattle.std.proofs.Common.{◌≡◌, ℕ, zero, suc, ◌+◌, ◌<◌, ◌≤◌, List, [], ◌∷◌, ◌++◌, Option, None, Some, IfSome, flat_map, fold, get_or, min, refl, ap, sym, subst, ◌⊎◌, inl, inr, arith}
-use Rattle.std.proofs.lemmas.Bool.{cases_Bool, cases_lt}
-use Rattle.std.specs.List.{AllByRecursion, reduce}
+use Rattle.std.proofs.Common.{◌≡◌, ℕ, zero, suc, ◌<◌, ◌≤◌, List, [], ◌∷◌, ◌++◌, Option, None, Some, IfSome, flat_map, fold, get_or, min, sym, subst, ◌⊎◌, inl, inr, arith}
+use Rattle.std.proofs.lemmas.Bool.{cases_Bool}
+use Rattle.std.specs.List.{AllByRecursion}
 use Rattle.std.specs.Option.{IsSomeAnd, option_to_list}
 use Rattle.tw_rule.specs.Board.{Board, least_bound, least_report, report_of, times_among, times_of}
-use Rattle.tw_sim.proofs.Counts.{in_cons, one_cases, one_self}
+use Rattle.tw_sim.proofs.Counts.{one_cases, one_self}
 use Rattle.tw_sim.specs.declared.machine.Signed.{Signed}
-use Rattle.tw_sim.specs.Simulation.{Simulation, IsLawful, one}
+use Rattle.tw_sim.specs.Simulation.{Simulation, IsLawful}
 
 -- ---- lists of numbers
 

@@ -1,18 +1,18 @@
 -- What a worker may give back: what calls have kept, and what a visit leaves.
-use Rattle.std.proofs.Common.{◌≡◌, ℕ, zero, suc, ◌+◌, ◌<◌, ◌≤◌, ◌==◌, Bool, true, false, List, [], ◌++◌, Option, None, Some, IfSome, get_or, length, slice_get, refl, ap, sym, ◌∙◌, subst, inl, inr, arith}
-use Rattle.std.proofs.lemmas.Bool.{cases_Bool, cases_eq, cases_lt, eq-eqb}
+use Rattle.std.proofs.Common.{◌≡◌, ℕ, suc, ◌+◌, ◌<◌, ◌≤◌, ◌==◌, true, List, [], ◌++◌, Option, None, Some, IfSome, get_or, length, slice_get, refl, ap, sym, ◌∙◌, subst, inl, inr, arith}
+use Rattle.std.proofs.lemmas.Bool.{cases_eq, cases_lt, eq-eqb}
 use Rattle.std.proofs.lemmas.List.{get_or-set_other, get_or-set_same, length-set}
 use Rattle.std.specs.Option.{IsSomeAnd}
 use Rattle.tw_core.proofs.Counts.{antimessages-append, messages-append}
 use Rattle.tw_core.specs.Good.{IsGoodPart}
-use Rattle.tw_core.specs.Machine.{antimessages, messages, times_handled, times_loose}
+use Rattle.tw_core.specs.Machine.{antimessages, messages, times_loose}
 use Rattle.tw_rule.proofs.Calls.{hand_is_loose, hand_is_own, in_hand_loose}
 use Rattle.tw_rule.proofs.Least.{bound_from, from_bound, mail_told, still_told, told_from}
 use Rattle.tw_rule.specs.Board.{Board, IsBoard, IsVisit, least_bound, least_report, report_of, times_among, workers}
 use Rattle.tw_rule.specs.Place.{IsFrom, IsPlace, Keeps, Place, Tells, after_visit, in_hand, whole}
-use Rattle.tw_rule.specs.Rule.{MayGive, Stands, Steps}
+use Rattle.tw_rule.specs.Rule.{MayGive, Stands}
 use Rattle.tw_sim.specs.declared.machine.Signed.{Signed}
-use Rattle.tw_sim.specs.Simulation.{Simulation, IsLawful, times}
+use Rattle.tw_sim.specs.Simulation.{Simulation, IsLawful}
 
 module _ {S E : Type 0} (m : Simulation S E) (law : IsLawful m) (who : ℕ → ℕ) where
   -- ---- without a visit
@@ -87,12 +87,12 @@ module _ {S E : Type 0} (m : Simulation S E) (law : IsLawful m) (who : ℕ → �
 
     rises : x.bound ≤ y.bound
     rises = rw visit.bound (from_bound m law x.bound y (let old = board.stop in let same = visit.stop in omega arith)
-      (λ v. elim (cases_eq v p.worker) [
-        | inl is ↦ subst (λ o. IfSome o (λ time. x.bound ≤ time)) (sym (ap (λ w. report_of w y) is ∙ mine))
-            (told_from m law x.bound report mail visit.late (λ e h. (passed_on e (omega arith)).0))
-        | inr other ↦ subst (λ o. IfSome o (λ time. x.bound ≤ time)) (sym (others v other)) (board.reported v)
-      ])
-      (λ e h. (passed_on e (omega arith)).0))
+        (λ v. elim (cases_eq v p.worker) [
+          | inl is ↦ subst (λ o. IfSome o (λ time. x.bound ≤ time)) (sym (ap (λ w. report_of w y) is ∙ mine))
+              (told_from m law x.bound report mail visit.late (λ e h. (passed_on e (omega arith)).0))
+          | inr other ↦ subst (λ o. IfSome o (λ time. x.bound ≤ time)) (sym (others v other)) (board.reported v)
+        ])
+        (λ e h. (passed_on e (omega arith)).0))
 
     board_after : IsBoard m y
     board_after =

@@ -42,10 +42,13 @@ pub fn routers_have_owners<S, E>()
 {}
 
 /// Where there is no mail, every hand is empty and the bound is the stop, the places are at the end of the
-/// one-thread run: what they have handled is all of it, and what is pending at them is what it leaves.
+/// one-thread run: what they have handled is all of it, and what is pending at them is what it leaves. What
+/// each router has handled is all of its events as soon as the bound is the stop.
 pub fn settled_is_end<S, E>()
-    ensures { (m : Simulation S E) → IsLawful m → IsNumbered m → (who : ℕ → ℕ) (x : Board E) (ps : List (Place E)) → Rule m who x ps → x.mail ≡ []
+    ensures end { (m : Simulation S E) → IsLawful m → IsNumbered m → (who : ℕ → ℕ) (x : Board E) (ps : List (Place E)) → Rule m who x ps → x.mail ≡ []
         → AllByRecursion (λ p. in_hand p ≡ []) ps → x.bound ≡ x.stop → IsAtEnd m (assembled x ps) }
+    ensures handled { (m : Simulation S E) → IsLawful m → IsNumbered m → (who : ℕ → ℕ) (x : Board E) (ps : List (Place E)) (i r : ℕ) (p : Place E) → Rule m who x ps
+        → slice_get ps i ≡ Some p → r < m.routers → p.owns r ≡ true → x.bound ≡ x.stop → p.history r ≡ only m r (log m x.stop) }
 {}
 
 /// What is done at a place, to the board's stop, keeps it: an event is handled; a message of the hand is
