@@ -1,15 +1,15 @@
 //! Laws of the rule, over its definitions alone and any lawful simulation. Each function does nothing;
 //! its contract is the law. `who` names the worker of each router.
 
-ghost use Rattle.std.specs.Prelude.{ℕ, ◌≡◌, ◌<◌, ◌≤◌, ◌+◌, true, false, List, [], ◌∷◌, Option, Ok, Some, length, remove, slice_get, slice_set};
-ghost use Rattle.std.specs.List.{AllByRecursion};
+ghost use Rattle.std.specs.Prelude.{ℕ, ◌≡◌, ◌<◌, ◌≤◌, ◌+◌, true, IfSome, List, [], ◌++◌, Option, Ok, Some, length, map, min, remove, slice_get, slice_set};
+ghost use Rattle.std.specs.List.{AllByRecursion, reduce};
 ghost use Rattle.tw_core.specs.Good.{IsGood};
 ghost use Rattle.tw_core.specs.Machine.{Core, antimessages, committed, messages};
 ghost use Rattle.tw_core.specs.Parts.{total};
 ghost use Rattle.tw_core.specs.Run.{IsAtEnd, IsSeq};
 ghost use Rattle.tw_core.specs.Steps.{IsRolledBack, after_arrival, first_pending, handle, with_commit};
-ghost use Rattle.tw_rule.specs.Board.{Board, IsBoard, IsVisit, workers};
-ghost use Rattle.tw_rule.specs.Place.{IsPlace, Keeps, Place, Tells, after_visit, core, in_hand, with_core, with_unsent};
+ghost use Rattle.tw_rule.specs.Board.{Board, IsBoard, IsVisit, times_among};
+ghost use Rattle.tw_rule.specs.Place.{IsPlace, Keeps, Place, Tells, after_visit, core, in_hand, report_time, with_core, with_unsent};
 ghost use Rattle.tw_rule.specs.Rule.{AreOpeningPlaces, IsOpeningBoard, MayGive, Rule, Stands, assembled, owning};
 ghost use Rattle.tw_sim.specs.declared.machine.Signed.{Signed};
 ghost use Rattle.tw_sim.specs.Seq.{log};
@@ -80,6 +80,17 @@ pub fn calls_may_be_given<S, E>()
     ensures visit { (m : Simulation S E) → IsLawful m → (who : ℕ → ℕ) (x y : Board E) (p q : Place E) (report : Option ℕ) (mail : List (Signed E)) (bound : ℕ)
         → IsBoard m x → Stands m who x p → Keeps m x.stop p q → q.outgoing ≡ [] → Tells m report q → IsVisit m who p.worker q.unsent report mail x y
         → q.bound ≤ bound → bound ≤ y.bound → MayGive m who x p y (after_visit mail bound q) }
+{}
+
+/// What a worker may report is the least time of all that waits at its place: it tells of all of this.
+/// Neither it nor what is unsent is ever before the board's bound, so that no visit is refused as early.
+pub fn visits_are_welcome<S, E>()
+    ensures tells { (m : Simulation S E) → IsLawful m → (p : Place E) → Tells m (report_time m p) p }
+    ensures empty { (m : Simulation S E) (p : Place E) → p.mail ≡ [] → report_time m p ≡ reduce min (map (λ e. m.time e) (p.pending ++ p.kept)) }
+    ensures report { (m : Simulation S E) → IsLawful m → (who : ℕ → ℕ) (x : Board E) (p q : Place E) → IsBoard m x → Stands m who x p → Keeps m x.stop p q
+        → IfSome (report_time m q) (λ time. x.bound ≤ time) }
+    ensures unsent { (m : Simulation S E) → IsLawful m → (who : ℕ → ℕ) (x : Board E) (p q : Place E) (e : E) → IsBoard m x → Stands m who x p → Keeps m x.stop p q
+        → 0 < times_among m e q.unsent → x.bound ≤ m.time e }
 {}
 
 /// A message in a worker's hand is never before the bound that its place knows, is for one of its routers,
