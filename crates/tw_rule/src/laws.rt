@@ -1,0 +1,102 @@
+//! Laws of the rule, over its definitions alone and any lawful simulation. Each function does nothing;
+//! its contract is the law. `who` names the worker of each router.
+
+ghost use Rattle.std.specs.Prelude.{ℕ, ◌≡◌, ◌<◌, ◌≤◌, ◌+◌, true, IfSome, List, [], ◌++◌, Option, Ok, Some, length, map, min, remove, slice_get, slice_set};
+ghost use Rattle.std.specs.List.{AllByRecursion, reduce};
+ghost use Rattle.tw_core.specs.Good.{IsGood};
+ghost use Rattle.tw_core.specs.Machine.{Core, antimessages, messages};
+ghost use Rattle.tw_core.specs.Parts.{total};
+ghost use Rattle.tw_core.specs.Run.{IsAtEnd, IsSeq};
+ghost use Rattle.tw_core.specs.Steps.{IsRolledBack, after_arrival, first_pending, handle, with_commit};
+ghost use Rattle.tw_rule.specs.Board.{Board, IsBoard, IsVisit, times_among};
+ghost use Rattle.tw_rule.specs.Place.{IsPlace, Keeps, Place, Tells, after_visit, core, in_hand, report_time, with_core, with_unsent};
+ghost use Rattle.tw_rule.specs.Rule.{AreOpeningPlaces, IsOpeningBoard, MayGive, Rule, Stands, assembled, owning};
+ghost use Rattle.tw_sim.specs.declared.machine.Signed.{Signed};
+ghost use Rattle.tw_sim.specs.Seq.{log};
+ghost use Rattle.tw_sim.specs.Simulation.{IsLawful, IsNumbered, Simulation, below, only};
+
+/// Where the rule holds, the board and the places of all workers are, put together, a good state, and so
+/// the one-thread run as far as they are committed. The rule holds of a new board and new places; a
+/// worker that gives back what it may keeps it; and it still holds when the stop rises.
+pub fn running_is_seq<S, E>()
+    ensures good { (m : Simulation S E) → IsLawful m → (who : ℕ → ℕ) (x : Board E) (ps : List (Place E)) → Rule m who x ps → IsGood m (assembled x ps) }
+    ensures always { (m : Simulation S E) → IsLawful m → IsNumbered m → (who : ℕ → ℕ) (x : Board E) (ps : List (Place E)) → Rule m who x ps
+        → IsSeq m (assembled x ps) }
+    ensures opens { (m : Simulation S E) → IsLawful m → (who : ℕ → ℕ) (x : Board E) (ps : List (Place E)) → IsOpeningBoard (length ps) x
+        → AreOpeningPlaces m who 0 ps → ((r : ℕ) → r < m.routers → who r < length ps) → Rule m who x ps }
+    ensures gives { (m : Simulation S E) → IsLawful m → (who : ℕ → ℕ) (x y : Board E) (ps : List (Place E)) (i : ℕ) (p q : Place E) → Rule m who x ps
+        → slice_get ps i ≡ Some p → MayGive m who x p y q → Rule m who y (slice_set ps i q) }
+    ensures reopens { (m : Simulation S E) → IsLawful m → (who : ℕ → ℕ) (x : Board E) (ps : List (Place E)) (stop : ℕ) → x.stop ≤ stop → Rule m who x ps
+        → Rule m who (record x { stop = stop }) ps }
+{}
+
+/// Each router has one owner among the places, and what that place has of it is what the whole machine
+/// has. So what any place has committed at a router of its own is the one-thread run.
+pub fn routers_have_owners<S, E>()
+    ensures once { (m : Simulation S E) → IsLawful m → (who : ℕ → ℕ) (x : Board E) (ps : List (Place E)) (r : ℕ) → Rule m who x ps → r < m.routers
+        → total (owning r) ps ≡ 1 }
+    ensures history { (m : Simulation S E) → IsLawful m → (who : ℕ → ℕ) (x : Board E) (ps : List (Place E)) (i r : ℕ) (p : Place E) → Rule m who x ps
+        → slice_get ps i ≡ Some p → r < m.routers → p.owns r ≡ true → (assembled x ps).history r ≡ p.history r }
+    ensures committed { (m : Simulation S E) → IsLawful m → IsNumbered m → (who : ℕ → ℕ) (x : Board E) (ps : List (Place E)) (i r : ℕ) (p : Place E) → Rule m who x ps
+        → slice_get ps i ≡ Some p → r < m.routers → p.owns r ≡ true → below m (p.done r) (p.history r) ≡ only m r (log m (p.done r)) }
+{}
+
+/// Where there is no mail, every hand is empty and the bound is the stop, the places are at the end of the
+/// one-thread run: what they have handled is all of it, and what is pending at them is what it leaves. What
+/// each router has handled is all of its events as soon as the bound is the stop.
+pub fn settled_is_end<S, E>()
+    ensures end { (m : Simulation S E) → IsLawful m → IsNumbered m → (who : ℕ → ℕ) (x : Board E) (ps : List (Place E)) → Rule m who x ps → x.mail ≡ []
+        → AllByRecursion (λ p. in_hand p ≡ []) ps → x.bound ≡ x.stop → IsAtEnd m (assembled x ps) }
+    ensures handled { (m : Simulation S E) → IsLawful m → IsNumbered m → (who : ℕ → ℕ) (x : Board E) (ps : List (Place E)) (i r : ℕ) (p : Place E) → Rule m who x ps
+        → slice_get ps i ≡ Some p → r < m.routers → p.owns r ≡ true → x.bound ≡ x.stop → p.history r ≡ only m r (log m x.stop) }
+{}
+
+/// What is done at a place, to the board's stop, keeps it: an event is handled; a message of the hand is
+/// received, with all that its receiver then undoes; only some of this is undone and the message is still
+/// in the hand, as where memory is refused; a commit; and messages move between those that are outgoing
+/// and those that are unsent. What is kept by one call and then by another is kept by both.
+pub fn calls_keep_places<S, E>()
+    ensures same { (m : Simulation S E) (stop : ℕ) (p : Place E) → IsPlace m stop p → Keeps m stop p p }
+    ensures both { (m : Simulation S E) (stop : ℕ) (p q r : Place E) → Keeps m stop p q → Keeps m stop q r → Keeps m stop p r }
+    ensures handle { (m : Simulation S E) → IsLawful m → (stop r : ℕ) (p : Place E) (D : Core E) → IsPlace m stop p
+        → handle m (core stop p) r (first_pending m (core stop p) r) ≡ Ok D → Keeps m stop p (with_core D p) }
+    ensures receive { (m : Simulation S E) → IsLawful m → (stop k : ℕ) (p : Place E) (s : Signed E) → IsPlace m stop p → slice_get p.mail k ≡ Some s
+        → Keeps m stop p (with_core (after_arrival m (core stop p) s) (record p { mail = remove p.mail k })) }
+    ensures roll_back { (m : Simulation S E) → IsLawful m → (stop k : ℕ) (p : Place E) (s : Signed E) (D : Core E) → IsPlace m stop p → slice_get p.mail k ≡ Some s
+        → IsRolledBack m s.event (core stop p) D → Keeps m stop p (with_core D p) }
+    ensures commit { (m : Simulation S E) → IsLawful m → (stop r : ℕ) (p : Place E) → IsPlace m stop p → Keeps m stop p (with_core (with_commit m (core stop p) r) p) }
+    ensures unsent { (m : Simulation S E) → IsLawful m → (stop : ℕ) (p : Place E) (unsent outgoing : List (Signed E)) → IsPlace m stop p
+        → ((e : E) → messages m e unsent + messages m e outgoing ≡ messages m e p.unsent + messages m e p.outgoing)
+        → ((e : E) → antimessages m e unsent + antimessages m e outgoing ≡ antimessages m e p.unsent + antimessages m e p.outgoing)
+        → Keeps m stop p (with_unsent unsent outgoing p) }
+{}
+
+/// What a worker may give back: what calls have kept, without a visit, as where one was refused; and
+/// what a visit leaves, once all that its routers have sent is deposited and its report tells of all that
+/// waits. The place may then know any bound from its own to the board's.
+pub fn calls_may_be_given<S, E>()
+    ensures stay { (m : Simulation S E) → IsLawful m → (who : ℕ → ℕ) (x : Board E) (p q : Place E) → IsBoard m x → Stands m who x p → Keeps m x.stop p q
+        → MayGive m who x p x q }
+    ensures visit { (m : Simulation S E) → IsLawful m → (who : ℕ → ℕ) (x y : Board E) (p q : Place E) (report : Option ℕ) (mail : List (Signed E)) (bound : ℕ)
+        → IsBoard m x → Stands m who x p → Keeps m x.stop p q → q.outgoing ≡ [] → Tells m report q → IsVisit m who p.worker q.unsent report mail x y
+        → q.bound ≤ bound → bound ≤ y.bound → MayGive m who x p y (after_visit mail bound q) }
+{}
+
+/// What a worker may report is the least time of all that waits at its place: it tells of all of this.
+/// Neither it nor what is unsent is ever before the board's bound, so that no visit is refused as early.
+pub fn visits_are_welcome<S, E>()
+    ensures tells { (m : Simulation S E) → IsLawful m → (p : Place E) → Tells m (report_time m p) p }
+    ensures empty { (m : Simulation S E) (p : Place E) → p.mail ≡ [] → report_time m p ≡ reduce min (map (λ e. m.time e) (p.pending ++ p.kept)) }
+    ensures report { (m : Simulation S E) → IsLawful m → (who : ℕ → ℕ) (x : Board E) (p q : Place E) → IsBoard m x → Stands m who x p → Keeps m x.stop p q
+        → IfSome (report_time m q) (λ time. x.bound ≤ time) }
+    ensures unsent { (m : Simulation S E) → IsLawful m → (who : ℕ → ℕ) (x : Board E) (p q : Place E) (e : E) → IsBoard m x → Stands m who x p → Keeps m x.stop p q
+        → 0 < times_among m e q.unsent → x.bound ≤ m.time e }
+{}
+
+/// A message in a worker's hand is never before the bound that its place knows, is for one of its routers,
+/// and suits it: so it is never refused there as late, foreign or not its own.
+pub fn mail_is_welcome<S, E>()
+    ensures { (m : Simulation S E) → IsLawful m → (who : ℕ → ℕ) (x : Board E) (p q : Place E) (k : ℕ) (s : Signed E) → IsBoard m x → Stands m who x p
+        → Keeps m x.stop p q → slice_get q.mail k ≡ Some s
+        → (q.bound ≤ m.time s.event) × (q.owns (m.dst s.event) ≡ true) × (m.suits s.event ≡ true) }
+{}
