@@ -1,5 +1,5 @@
 //! Messages in chunks, which are short enough for one message to be taken out of the midst of all.
-ghost use Rattle.std.specs.Prelude.{◌≡◌, ◌++◌, ◌+◌, length, map, take, ℕ, IfOk};
+ghost use Rattle.std.specs.Prelude.{◌≡◌, ◌++◌, ◌+◌, length, map, slice_get, take, IfOk};
 ghost use Rattle.tw_core.specs.Steps.{least_time};
 ghost use Rattle.tw_model.specs.Case.{Case as ACase, simulation};
 ghost use Rattle.tw_warp.specs.Flight.{all_of, IsPlaceIn};
@@ -36,6 +36,13 @@ pub(crate) fn find(chunks: &[Vec<Signed<Event>>], index: usize) -> Spot
         spot.chunk += 1;
     }
     spot
+}
+
+/// The message at a place of a list, from 0.
+pub(crate) fn pick(messages: &[Signed<Event>], index: usize) -> Option<Signed<Event>>
+    ensures { result ≡ slice_get messages.now index }
+{
+    messages.get(index).copied()
 }
 
 /// A chunk takes in the next one, where together they make no more than one, and where there is room. So two

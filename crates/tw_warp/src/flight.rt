@@ -3,7 +3,7 @@ ghost use Rattle.std.specs.Prelude.{◌≡◌, ◌<◌, [], length, map, remove,
 ghost use Rattle.tw_core.specs.Steps.{least_time};
 ghost use Rattle.tw_model.specs.Case.{Case as ACase, simulation};
 
-use crate::chunks::{CHUNK, count, find, gather, join, least_in_chunks};
+use crate::chunks::{CHUNK, count, find, gather, join, least_in_chunks, pick};
 use crate::least::least_in_flight;
 use std::alloc::{AllocError, Global};
 use std::marker::Model;
@@ -69,8 +69,8 @@ impl Flight {
     {
         let spot = find(&self.earlier, index);
         match self.earlier.get(spot.chunk) {
-            Some(chunk) => chunk.get(spot.index).copied(),
-            None => self.recent.get(spot.index).copied(),
+            Some(chunk) => pick(chunk, spot.index),
+            None => pick(&self.recent, spot.index),
         }
     }
 
