@@ -1,4 +1,4 @@
-use Rattle.std.proofs.Common.{◌≡◌, ◌++◌, Ok, Err, ap, sym, ◌∙◌, subst}
+use Rattle.std.proofs.Common.{◌≡◌, ℕ, ◌++◌, Ok, Err, ap, sym, ◌∙◌, subst}
 use Rattle.std.specs.Prelude.{OnErr, OnOk}
 use Rattle.tw_core.specs.Steps.{after_arrival}
 use Rattle.tw_model.specs.Case.{simulation}
@@ -50,9 +50,13 @@ returns-clause-err c =
     let front = all_of c.flight.inside.earlier.items in
     let recent = c.flight.inside.recent.items in
     let called = c.receive-outcome.new.self in
-    let lent = behind c.args.shard.now recent in
     let ys = c.swap_outgoing-2.new.messages.items in
+    let cut : Type 0 = (stop : ℕ) → IsRolledBack (simulation c.args.shard.now.case) e (core stop (behind c.args.shard.now c.args.flight.now)) (core stop (behind c.swap_outgoing-2.new.self (front ++ ys))) in
     elim c.match-outcome.branch [
-      | in-Ok w ↦ ?
-      | in-Err+in-Memory w ↦ ?
+      | in-Ok w ↦ subst (λ r. OnErr r cut) (sym w.result-is) tt
+      | in-Err+in-Memory w ↦ subst (λ r. OnErr r cut) (sym w.result-is) (λ stop.
+          let back = back_behind called c.swap_outgoing-2.new.self _ _ c.swap_outgoing-2.ensures.put c.swap_outgoing-2.ensures.taken in
+          rolled_back front c.args.shard.now c.swap_outgoing.new.self called c.swap_outgoing-2.new.self recent ys c.args.flight.now
+          c.swap_outgoing.ensures.put back (c.flight.view_is ∙ c.settle.ensures) stop e
+          (subst (λ (s : Shard). IsRolledBack (simulation s.case) e (core stop s) (core stop called)) c.swap_outgoing.ensures.put (w.in-Err.ensures.memory stop)))
     ]
