@@ -124,6 +124,8 @@ module _ (front : List (Signed Event)) where
     pub rolled_back : (e : Event) → IsRolledBack (simulation s.case) e (core stop (behind s xs)) (core stop called)
         → IsRolledBack (simulation s.case) e (core stop (behind s all)) (core stop (behind back (front ++ ys)))
     rolled_back e h =
-        let m = simulation s.case in
-        (h.0, subst (λ f. AreUndone m h.0 e (core stop (behind s f)) (core stop (behind back (front ++ ys)))) was
-        (subst (λ D. AreUndone m h.0 e (core stop (behind s (front ++ xs))) D) left (undone_fronted front m h.0 e (core stop (behind s xs)) (core stop called) h.1)))
+        let m = simulation s.case in (
+          h.0,
+          subst (λ f. AreUndone m h.0 e (core stop (behind s f)) (core stop (behind back (front ++ ys)))) was
+              (subst (λ D. AreUndone m h.0 e (core stop (behind s (front ++ xs))) D) left (undone_fronted front m h.0 e (core stop (behind s xs)) (core stop called) h.1)),
+        )

@@ -17,7 +17,7 @@ returns-clause-refused c = λ f.
     (IsErrOf c.handle_next-outcome.result (or_memory.Fault f)) f (c.handle_next-outcome.ensures.refused f)
 
 pub returns-clause-ok : goal.returns-clause-ok
-returns-clause-ok c = 
+returns-clause-ok c =
     let front = all_of c.flight.inside.earlier.items in
     let called = c.handle_next-outcome.new.self in
     let back = back_behind called c.swap_outgoing-2.new.self _ _ c.swap_outgoing-2.ensures.put c.swap_outgoing-2.ensures.taken in
