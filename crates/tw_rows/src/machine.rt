@@ -55,7 +55,13 @@ fn message(letter: u8) -> Option<Signed<Event>> {
 
 /// Whether the messages of these letters are on their way, in this order.
 fn has_in_flight(warp: &Warp<'_>, letters: &str) -> bool {
-    let flight = warp.flight();
+    let found = match warp.flight() {
+        Err(_) => warp.flight(),
+        found => found,
+    };
+    let Ok(flight) = found else {
+        return false;
+    };
     let letters = letters.as_bytes();
     flight.len() == letters.len()
         && flight
@@ -145,9 +151,58 @@ fn counts(path: u32, sent: u64, handled: u64, changed: u64) -> Option<(PathNo, C
     Some((PathNo(path), counters))
 }
 
+/// Whether the origin handles its start and undoes it, so many times.
+fn starts_over(warp: &mut Warp<'_>, times: u32) -> bool {
+    for _ in 0..times {
+        if step(warp, Step::Handle(0)) != Ok(()) || step(warp, Step::Undo(0)) != Ok(()) {
+            return false;
+        }
+    }
+    true
+}
+
+/// Whether what the origin offers and takes back is on its way, again and again.
+fn has_starts_in_flight(warp: &Warp<'_>) -> bool {
+    let found = match warp.flight() {
+        Err(_) => warp.flight(),
+        found => found,
+    };
+    let Ok(flight) = found else {
+        return false;
+    };
+    flight
+        .iter()
+        .enumerate()
+        .all(|(place, found)| message(b"mnMN"[place % 4]) == Some(*found))
+}
+
+/// Which of the messages on their way comes next.
+#[derive(Clone, Copy)]
+enum Next {
+    First,
+    Middle,
+    Last,
+}
+
+/// Whether so many messages come, one by one, which are all.
+fn all_come(warp: &mut Warp<'_>, count: u64, next: Next) -> bool {
+    for come in 0..count {
+        let left = count - come;
+        let place = match next {
+            Next::First => 1,
+            Next::Middle => left / 2 + 1,
+            Next::Last => left,
+        };
+        if step(warp, Step::Deliver(place)) != Ok(()) {
+            return false;
+        }
+    }
+    step(warp, Step::Deliver(1)) == Err(OrMemory::Fault(Refusal::NoMessage))
+}
+
 /// Whether nothing but these numbers of messages is loose: on their way, pending and kept.
-fn has_loose(warp: &Warp<'_>, flight: usize, pending: u128, kept: u128) -> bool {
-    warp.flight().len() == flight && warp.pending_len() == pending && warp.kept_len() == kept
+fn has_loose(warp: &Warp<'_>, flight: u128, pending: u128, kept: u128) -> bool {
+    warp.flight_len() == flight && warp.pending_len() == pending && warp.kept_len() == kept
 }
 
 /// Whether the start of the origin and the events of these letters are committed, in this order.
@@ -293,6 +348,22 @@ fn an_event_pending_twice_is_handled_once(rt: HostRuntime) {
     assert!(rt; told(&warp, 0) == counts(1, 2, 1, 1));
     assert!(rt; told(&warp, 1) == counts(3, 2, 1, 1));
     assert!(rt; told(&warp, 2) == counts(0, 0, 0, 0));
+}
+
+#[test]
+fn messages_come_from_anywhere(rt: HostRuntime) {
+    let alloc = rt.alloc();
+    let Ok(case) = case(alloc, DISAGREE) else {
+        panic!(rt; "the case is refused")
+    };
+    let Ok(mut warp) = machine(alloc, &case, 2) else {
+        panic!(rt; "no memory")
+    };
+    for next in [Next::First, Next::Middle, Next::Last] {
+        assert!(rt; starts_over(&mut warp, 400) && has_loose(&warp, 1_600, 1, 0));
+        assert!(rt; has_starts_in_flight(&warp) && all_come(&mut warp, 1_600, next));
+        assert!(rt; has_loose(&warp, 0, 1, 0) && warp.ahead() == 0);
+    }
 }
 
 #[test]

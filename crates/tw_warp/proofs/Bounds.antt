@@ -5,7 +5,8 @@ use Rattle.std.specs.Option.{option_map_or}
 use Rattle.std.proofs.Math.Path.{fun_ext}
 use Rattle.std.proofs.Math.ListN.{get_or-map}
 use Rattle.std.proofs.lemmas.Bool.{cases_Bool, cases_eq}
-use Rattle.std.proofs.lemmas.List.{length-map}
+use Rattle.std.proofs.lemmas.List.{length-map, map-append}
+use Rattle.std.specs.declared.vec.Vec.{Vec}
 use Rattle.tw_core.specs.Machine.{Core, antimessages, messages}
 use Rattle.tw_core.specs.Steps.{least_loose, least_time, with_bound}
 use Rattle.tw_core.specs.Good.{IsGood}
@@ -23,6 +24,7 @@ use Rattle.tw_sim.specs.declared.machine.Step.TheVariants.{Bound}
 use Rattle.tw_sim.specs.Ordered.{insert_all}
 use Rattle.tw_sim.specs.Simulation.{one}
 use Rattle.tw_warp.specs.Bounds.{least_of_all, raised}
+use Rattle.tw_warp.specs.Flight.{all_of}
 use Rattle.tw_warp.specs.Warp.{IsShare, IsWarp, Warp, core, no_shard, shard_of, worker_of}
 use Rattle.tw_warp.proofs.Moves.{has_worker, own_as}
 use Rattle.tw_warp.proofs.Moves as moves
@@ -67,15 +69,18 @@ module _ {S E : Type 0} (m : Simulation S E) where
       (λ n le. let k = is_below law n ys t le in below_is law n xs s (subst (λ q. n ≤ q) (sym is) k.0, (λ e there. k.1 e (let c = h e in omega arith))))
 
   -- one list after the other
-  pub least-append : IsLawful m → (xs ys : List E) (t : ℕ) → least_time m (xs ++ ys) t ≡ least_time m xs (least_time m ys t)
-  least-append law [] ys t = refl
-  least-append law (x ∷ xs) ys t = ap (min (m.time x)) (least-append law xs ys t)
+  pub least-append : (xs ys : List E) (t : ℕ) → least_time m (xs ++ ys) t ≡ least_time m xs (least_time m ys t)
+  least-append [] ys t = refl
+  least-append (x ∷ xs) ys t = ap (min (m.time x)) (least-append xs ys t)
 
-  least-swap : IsLawful m → (xs ys : List E) (t : ℕ) → least_time m xs (least_time m ys t) ≡ least_time m ys (least_time m xs t)
-  least-swap law xs ys t =
-      sym (least-append law xs ys t)
-      ∙ (same_least_time law (xs ++ ys) (ys ++ xs) t t (λ e. let a = times-append m e xs ys in let b = times-append m e ys xs in omega arith) refl
-      ∙ least-append law ys xs t)
+  least-min : (xs : List E) (n t : ℕ) → least_time m xs (min n t) ≡ min n (least_time m xs t)
+  least-min [] n t = refl
+  least-min (x ∷ xs) n t = (let h = least-min xs n t in omega arith)
+
+  -- in either order
+  pub least-swap : (xs ys : List E) (t : ℕ) → least_time m xs (least_time m ys t) ≡ least_time m ys (least_time m xs t)
+  least-swap [] ys t = refl
+  least-swap (x ∷ xs) ys t = ap (min (m.time x)) (least-swap xs ys t) ∙ sym (least-min ys (m.time x) (least_time m xs t))
 
   -- the lesser of a time and of the least of a list
   pub min_reduced : (xs : List E) (t : ℕ) → option_map_or (λ least. min t least) (reduce min (map m.time xs)) t ≡ least_time m xs t
@@ -89,7 +94,7 @@ module _ {S E : Type 0} (m : Simulation S E) where
   least_of_all_is law read [] t = refl
   least_of_all_is law read (a ∷ rest) t =
       least_of_all_is law read rest (least_time m (read a) t)
-      ∙ (least-swap law (flat_map read rest) (read a) t ∙ sym (least-append law (read a) (flat_map read rest) t))
+      ∙ (least-swap (flat_map read rest) (read a) t ∙ sym (least-append (read a) (flat_map read rest) t))
 
   -- a message further on
   pub least_next : (x : E) (xs : List E) (t : ℕ) → least_time m xs (min t (m.time x)) ≡ least_time m (x ∷ xs) t
@@ -200,7 +205,7 @@ least_found w is =
     let K = flat_map (λ s. s.kept) w.shards in
     least_of_all_is m (moves.law w is) (λ s. s.pending ++ s.kept) w.shards top
     ∙ (same_least_time m (moves.law w is) (flat_map (λ s. s.pending ++ s.kept) w.shards) (P ++ K) top top (λ e. both e w.shards) refl
-    ∙ (least-append m (moves.law w is) P K top
+    ∙ (least-append m P K top
     ∙ same_least_time m (moves.law w is) P (insert_all event_before P []) (least_time m K top) (least_time m (insert_all event_before K []) top) (λ e. sym (times-in_order m (moves.law w is) e P))
     (same_least_time m (moves.law w is) K (insert_all event_before K []) top top (λ e. sym (times-in_order m (moves.law w is) e K)) refl))) where
       both : (e : Event) (ss : List Shard)
@@ -225,3 +230,26 @@ in_flight_next case xs i d a r within is =
     ap (least_time m (map (λ x. x.event) (drop (i + 1) xs))) is
     ∙ (least_next m (get_or xs i d).event (map (λ x. x.event) (drop (i + 1) xs)) a
     ∙ ap (λ ys. least_time m (map (λ x. x.event) ys) a) (sym (drop_next xs i d within)))
+
+-- one chunk further on
+pub chunk_next : {Z : Type 0} (case : Case) (chunks : List (Vec (Signed Event) Z)) (i : ℕ) (d : Vec (Signed Event) Z) (a r : ℕ) → i < length chunks
+    → r ≡ least_time (simulation case) (map (λ x. x.event) (get_or chunks i d).items) a
+    → least_time (simulation case) (map (λ x. x.event) (all_of (drop (i + 1) chunks))) r ≡ least_time (simulation case) (map (λ x. x.event) (all_of (drop i chunks))) a
+chunk_next case chunks i d a r within is =
+    let m = simulation case in
+    let first = map (λ x. x.event) (get_or chunks i d).items in
+    let rest = map (λ x. x.event) (all_of (drop (i + 1) chunks)) in
+    ap (least_time m rest) is
+    ∙ (least-swap m rest first a
+    ∙ (sym (least-append m first rest a)
+    ∙ (ap (λ es. least_time m es a) (sym (map-append (λ x. x.event) (get_or chunks i d).items (all_of (drop (i + 1) chunks))))
+    ∙ ap (λ cs. least_time m (map (λ x. x.event) (all_of cs)) a) (sym (drop_next chunks i d within)))))
+
+-- and the messages behind all chunks
+pub least_behind : {Z : Type 0} (case : Case) (chunks : List (Vec (Signed Event) Z)) (recent : List (Signed Event)) (t : ℕ)
+    → least_time (simulation case) (map (λ x. x.event) (all_of chunks)) (least_time (simulation case) (map (λ x. x.event) recent) t)
+    ≡ least_time (simulation case) (map (λ x. x.event) (all_of chunks ++ recent)) t
+least_behind case chunks recent t =
+    let m = simulation case in
+    sym (least-append m (map (λ x. x.event) (all_of chunks)) (map (λ x. x.event) recent) t)
+    ∙ ap (λ es. least_time m es t) (sym (map-append (λ x. x.event) (all_of chunks) recent))

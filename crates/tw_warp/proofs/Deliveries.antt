@@ -23,6 +23,7 @@ use Rattle.tw_sim.specs.declared.machine.Step.TheVariants.{Deliver, Undo}
 use Rattle.tw_sim.specs.Simulation.{Simulation, IsLawful, state, times}
 use Rattle.tw_sim.proofs.Counts.{in_head}
 use Rattle.tw_warp.specs.Warp.{IsWarp, Warp, IsCutShort, after_undos, behind, core, lent, message_at, shard_of, worker_of}
+use Rattle.tw_warp.proofs.InChunks.{before_others}
 use Rattle.tw_warp.proofs.Joined.{joined, rest, rest_apart, with_shard}
 use Rattle.tw_warp.proofs.Moves.{deliver_step, law, next_is, now, own_lent, part, welcome_there}
 use Rattle.tw_warp.proofs.Whole.{IsApart, Rest, same_history, undoing_whole, whole}
@@ -107,12 +108,6 @@ module _ {S E : Type 0} (m : Simulation S E) (law : IsLawful m) where
             | inr unhandled ↦ rw unhandled refl
           ])
         ]
-
--- what stands before other messages is read where it stood
-before_others : {A : Type 0} (xs ys : List A) (k : ℕ) → k < length xs → slice_get (xs ++ ys) k ≡ slice_get xs k
-before_others [] ys k within = absurd (omega arith)
-before_others (x ∷ xs) ys zero within = refl
-before_others (x ∷ xs) ys (suc k) within = before_others xs ys k (omega arith)
 
 -- ---- of the machine
 

@@ -6,6 +6,8 @@ pub mod Turns
 pub mod Deliveries
 pub mod Bounds
 pub mod Walks
+pub mod InChunks
+pub mod Fronts
 pub mod Runs
 pub mod Openings
 pub mod CommittedEvents

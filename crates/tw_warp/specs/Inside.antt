@@ -7,7 +7,7 @@ abbrev pub warp_of : Inside → Warp
 warp_of a = record {
   case = a.case.now;
   shards = a.shards.items;
-  flight = a.flight.items;
+  flight = a.flight;
   bound = a.bound;
   stop = a.stop;
 }

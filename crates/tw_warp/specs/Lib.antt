@@ -1,4 +1,6 @@
 pub mod Warp
+pub mod Flight
+pub mod InFlight
 pub mod Inside
 pub mod Bounds
 pub mod Runs

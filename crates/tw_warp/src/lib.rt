@@ -7,8 +7,10 @@
 #![tactic(auto)]
 
 mod calls;
+mod chunks;
 mod collecting;
 mod counts;
+mod flight;
 mod least;
 mod opening;
 mod warp;

@@ -17,7 +17,8 @@ ghost use Rattle.tw_warp.specs.Warp.{IsCutShort, IsInterrupted, IsSameMachine, I
 use crate::calls::{commit_on, deliver_on, handle_on, undo_on};
 use crate::collecting::add_committed;
 use crate::counts::{sum_kept, sum_pending};
-use crate::least::{least_in_flight, least_waiting, raise_bounds};
+use crate::flight::Flight;
+use crate::least::{least_waiting, raise_bounds};
 use crate::opening::open_shards;
 use std::alloc::{AllocError, Global};
 use std::marker::Model;
@@ -53,7 +54,7 @@ pub struct RunFault {
 pub struct Warp<'a> {
     case: &'a Case,
     shards: Vec<Shard<'a>>,
-    flight: Vec<Signed<Event>>,
+    flight: Flight,
     bound: u64,
     stop: u64,
 }
@@ -92,7 +93,7 @@ impl<'a> Warp<'a> {
         Ok(Warp {
             case,
             shards,
-            flight: Vec::new(alloc),
+            flight: Flight::new(alloc),
             bound: 0,
             stop,
         })
@@ -141,7 +142,7 @@ impl<'a> Warp<'a> {
         ensures same { IsSameMachine self.old self.new }
         ensures seq { IsSeq (simulation self.new.case) (core self.new) }
     {
-        let mut answers = Vec::new(*self.flight.allocator());
+        let mut answers = Vec::new(*self.shards.allocator());
         let Ok(()) = answers.reserve(steps.len()) else {
             return Err(RunFault { step: 1, answers });
         };
@@ -183,11 +184,18 @@ impl<'a> Warp<'a> {
         self.case
     }
 
-    /// The messages on their way, in the order sent.
-    pub fn flight(&self) -> &[Signed<Event>]
-        ensures { result.now ≡ self.now.flight }
+    /// The messages on their way, in the order sent, in a list of their own.
+    pub fn flight(&self) -> Result<Vec<Signed<Event>>, AllocError>
+        ensures { IfOk result (λ v. v.items ≡ self.now.flight) }
     {
-        &self.flight
+        self.flight.to_vec()
+    }
+
+    /// How many messages are on their way.
+    pub fn flight_len(&self) -> u128
+        ensures { result ≡ length self.now.flight }
+    {
+        self.flight.len()
     }
 
     /// The time before which nothing arrives and nothing is undone, in ticks.
@@ -241,7 +249,7 @@ impl<'a> Warp<'a> {
         ensures events { IfOk result (λ v. v.items ≡ by_router self.now) }
         ensures machine { IsWarp self.now }
     {
-        let mut events = Vec::new(*self.flight.allocator());
+        let mut events = Vec::new(*self.shards.allocator());
         for router in 0..self.case.instance().nodes() {
             add_committed(self.shard_for(router), router, &mut events)?;
         }
@@ -327,7 +335,7 @@ impl<'a> Warp<'a> {
     {
         let flight = &self.flight;
         let index = place.checked_sub(1)?;
-        flight.get(index as usize).copied()
+        flight.get(index as usize)
     }
 
     /// The message at a place in flight, from 1, is delivered.
@@ -375,7 +383,7 @@ impl<'a> Warp<'a> {
     fn least_loose(&self) -> u64
         ensures { result ≡ least_loose (simulation self.now.case) (core self.now) }
     {
-        let in_flight = least_in_flight(&self.flight, self.stop);
+        let in_flight = self.flight.least_time(self.stop);
         least_waiting(&self.shards, in_flight)
     }
 }

@@ -11,7 +11,7 @@ use Rattle.tw_warp.proofs.Joined.{with_shard}
 use Rattle.tw_warp.proofs.Turns.{IsTurned, any_default, seq_of, handle_outcome, turned, within_there, worker_there}
 use Rattle.tw_warp.proofs.warp.Warp.handle.Goals as goal
 
-turn : (c : goal.After-self-1) → IsTurned (warp_of c.self.inside) c.worker_of-worker.result (Handle c.args.router) c.handle_on.new.shard c.handle_on.new.flight.items c.handle_on.result
+turn : (c : goal.After-self-1) → IsTurned (warp_of c.self.inside) c.worker_of-worker.result (Handle c.args.router) c.handle_on.new.shard c.handle_on.new.flight c.handle_on.result
 turn c =
     let w = warp_of c.self.inside in
     let r = c.args.router in
@@ -20,7 +20,7 @@ turn c =
     let told = c.handle_on.ensures in
     turned w c.self.invariant k within (Handle r) (λ s. handling w.stop s r)
     (handle_outcome w c.self.invariant k within r (worker_there w c.args.self.now r k c.self.view_is c.worker_of-worker.ensures.value))
-    c.index_mut.result.now c.handle_on.new.shard c.handle_on.new.flight.items c.handle_on.result
+    c.index_mut.result.now c.handle_on.new.shard c.handle_on.new.flight c.handle_on.result
     (c.index_mut.ensures.value ∙ any_default w.shards k c.index_mut.result.now no_shard within)
     (record { ok = told.ok; refused = told.refused; err = told.err; unsent = told.unsent; outgoing = told.outgoing; same = told.same })
 
@@ -30,7 +30,7 @@ invariant_of-self c = (turn c).is
 pub returns-clause-ok : goal.returns-clause-ok
 returns-clause-ok c =
     let w = warp_of c.self.inside in
-    let after = with_shard w c.worker_of-worker.result c.handle_on.new.shard c.handle_on.new.flight.items in
+    let after = with_shard w c.worker_of-worker.result c.handle_on.new.shard c.handle_on.new.flight in
     subst (λ v. OnOk c.handle_on.result (step (simulation v.case) (core v) (Handle c.args.router) ≡ Ok (core after))) c.self.view_is (turn c).ok
 
 pub returns-clause-refused : goal.returns-clause-refused

@@ -17,10 +17,10 @@ some : (c : goal.After-new) → 0 < length c.in_ok-shards.shards.items
 some c = let count = c.in_ok-shards.ensures.count in let more = c.requires.some in omega arith
 
 pub invariant_of-result : goal.invariant_of-result
-invariant_of-result c = opened_is _ c.instance.ensures.case (some c) (each c) c.new.ensures.items refl c.requires.stop
+invariant_of-result c = opened_is _ c.instance.ensures.case (some c) (each c) c.new.ensures refl c.requires.stop
 
 pub returns-clause-opens : goal.returns-clause-opens
-returns-clause-opens c = opens _ c.instance.ensures.case (some c) (each c) c.new.ensures.items refl
+returns-clause-opens c = opens _ c.instance.ensures.case (some c) (each c) c.new.ensures refl
 
 pub returns-clause-core : goal.returns-clause-core
-returns-clause-core c = opens_exactly _ c.instance.ensures.case (some c) (each c) c.new.ensures.items refl
+returns-clause-core c = opens_exactly _ c.instance.ensures.case (some c) (each c) c.new.ensures refl

@@ -11,7 +11,7 @@ use Rattle.tw_warp.proofs.Joined.{with_shard}
 use Rattle.tw_warp.proofs.Turns.{IsTurned, any_default, seq_of, undo_outcome, turned, within_there, worker_there}
 use Rattle.tw_warp.proofs.warp.Warp.undo.Goals as goal
 
-turn : (c : goal.After-self-1) → IsTurned (warp_of c.self.inside) c.worker_of-worker.result (Undo c.args.router) c.undo_on.new.shard c.undo_on.new.flight.items c.undo_on.result
+turn : (c : goal.After-self-1) → IsTurned (warp_of c.self.inside) c.worker_of-worker.result (Undo c.args.router) c.undo_on.new.shard c.undo_on.new.flight c.undo_on.result
 turn c =
     let w = warp_of c.self.inside in
     let r = c.args.router in
@@ -20,7 +20,7 @@ turn c =
     let told = c.undo_on.ensures in
     turned w c.self.invariant k within (Undo r) (λ s. undoing w.stop s r)
     (undo_outcome w c.self.invariant k within r (worker_there w c.args.self.now r k c.self.view_is c.worker_of-worker.ensures.value))
-    c.index_mut.result.now c.undo_on.new.shard c.undo_on.new.flight.items c.undo_on.result
+    c.index_mut.result.now c.undo_on.new.shard c.undo_on.new.flight c.undo_on.result
     (c.index_mut.ensures.value ∙ any_default w.shards k c.index_mut.result.now no_shard within)
     (record { ok = told.ok w.stop; refused = told.refused w.stop; err = told.err; unsent = told.unsent; outgoing = told.outgoing; same = told.same })
 
@@ -30,7 +30,7 @@ invariant_of-self c = (turn c).is
 pub returns-clause-ok : goal.returns-clause-ok
 returns-clause-ok c =
     let w = warp_of c.self.inside in
-    let after = with_shard w c.worker_of-worker.result c.undo_on.new.shard c.undo_on.new.flight.items in
+    let after = with_shard w c.worker_of-worker.result c.undo_on.new.shard c.undo_on.new.flight in
     subst (λ v. OnOk c.undo_on.result (step (simulation v.case) (core v) (Undo c.args.router) ≡ Ok (core after))) c.self.view_is (turn c).ok
 
 pub returns-clause-refused : goal.returns-clause-refused
