@@ -10,11 +10,16 @@
 #![tactic(auto)]
 
 pub mod laws;
+mod logged_run;
 mod one_thread;
 mod routers;
+mod running;
 mod turn;
 mod watched;
 
+pub use logged_run::LoggedRun;
 pub use one_thread::OneThread;
+pub use running::Running;
 pub use tw_handlers::CounterFull;
 pub use tw_model::{OrMemory, Outcome, RouterEnd};
+pub use watched::run_watched;
