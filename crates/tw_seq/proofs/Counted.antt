@@ -11,7 +11,7 @@ use Rattle.tw_seq.specs.Turn.{receiver, no_router}
 -- routers that begin have counted none
 pub count_opening : (net : Net) (nodes : List ℕ) → count_of (map (λ r. record { net = net; node = r; state = opening net r }) nodes) ≡ 0
 count_opening net [] = refl
-count_opening net (r ∷ nodes) = count_opening net nodes
+count_opening net (r ∷ nodes) = let others = count_opening net nodes in omega arith
 
 -- one of the routers counts one event more
 count_set : (routers : List Router) (r : ℕ) (e : Event) → r < length routers

@@ -42,7 +42,7 @@ pub record IsRenewed (a b : Inside) (e : Event) (old : List Router) (changed : B
 
 module _ {a b : Inside} {e : Event} {old : List Router} {changed : Bool} (thread : IsThread a) (ready : IsReady (run_of a) old e) (h : IsRenewed a b e old changed) where
   -- the run once e is handled
-  next : Run
+  abbrev next : Run
   next = next_run (run_of a) e ready.next.0
 
   own_world : world_after a.case.now (count_of a.routers.items) ≡ world (run_of a)

@@ -1,6 +1,7 @@
 pub mod Steps
 pub mod Handled
 pub mod Counted
+pub mod Opening
 pub mod Homes
 pub mod Next
 pub mod Fields

@@ -9,5 +9,5 @@ use Rattle.tw_seq.proofs.Homes.{next_run, next_world}
 -- the next run has handled the least pending event after the others
 pub next_events : (a b : Run) (e : Event) → IsNext a e → IsNextRun a b → b.events ≡ a.events ++ e ∷ []
 next_events a b e first next =
-    let same = sym next.2.2 ∙ next_world a e first.0 a.stop first.1 first.2 in
+    let same = sym next.2 ∙ next_world a e first.0 a.stop first.1 first.2 in
     sym (reverse-reverse b.events) ∙ (ap (λ w. reverse w.log) same ∙ reverse-reverse (a.events ++ e ∷ []))

@@ -98,9 +98,9 @@ impl<'a> LoggedRun<'a> {
         ensures full { IsErrOf result (or_memory.Fault counter_full) → IsStuck self.old }
         ensures stuck { IsStuck self.old → IsErrOf result (or_memory.Fault counter_full) }
     {
-        if self.events.reserve(1).is_err() {
+        let Ok(()) = self.events.reserve(1) else {
             return Err(self.run.fault_at(event));
-        }
+        };
         self.run.handle_next(event)?;
         self.events.push_reserved(*event);
         Ok(())

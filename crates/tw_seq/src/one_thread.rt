@@ -144,9 +144,9 @@ impl<'a> OneThread<'a> {
         ensures full { IsErrOf result (or_memory.Fault counter_full) → IsStuck self.old }
         ensures stuck { IsStuck self.old → IsErrOf result (or_memory.Fault counter_full) }
     {
-        if self.pending.reserve(MOST_LINKS).is_err() {
+        let Ok(()) = self.pending.reserve(MOST_LINKS) else {
             return Err(self.fault_at(event));
-        }
+        };
         let instance = self.case.instance();
         let note = handle_at(instance, &mut self.routers, event, &mut self.sends)?;
         self.pending.take_least();
@@ -171,6 +171,7 @@ impl<'a> OneThread<'a> {
         let mut sends: SmallVec<Event, 8> = SmallVec::new(*self.routers.allocator());
         match handle_at(instance, &mut self.routers, event, &mut sends) {
             Ok(note) => {
+                prove!(sends.len() <= sends.capacity());
                 undo_at(instance, &mut self.routers, event, note, &mut sends);
                 OrMemory::Memory
             }

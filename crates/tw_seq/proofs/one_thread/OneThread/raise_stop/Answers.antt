@@ -13,3 +13,6 @@ invariant_of-self c = record {
   change = c.self.invariant.change;
   sent = c.self.invariant.sent;
 }
+
+pub returns-then-self-stop-clause-begun : goal.returns-then-self-stop-clause-begun
+returns-then-self-stop-clause-begun c = begun_later (run_of c.self.inside) c.args.stop (omega arith) c.self.invariant.begun
