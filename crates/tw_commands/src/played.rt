@@ -73,7 +73,7 @@ fn counts(warp: &Warp<'_>) -> Counts
     ensures { result ≡ counts_of warp.now.case (core warp.now) }
 {
     Counts {
-        flight: warp.flight().len() as u128,
+        flight: warp.flight_len(),
         pending: warp.pending_len(),
         kept: warp.kept_len(),
         ahead: warp.ahead(),
