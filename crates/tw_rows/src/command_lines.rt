@@ -85,11 +85,7 @@ fn the_numbers_given_are_those_asked_for(rt: HostRuntime) {
 fn a_replay_has_one_worker_where_no_number_is_given(rt: HostRuntime) {
     let rows: [(&[&str], u64, u32); 3] = [
         (&["twarp", "replay", "--stop", "20"], 20, 1),
-        (
-            &["twarp", "replay", "--workers", "3", "--stop", "1"],
-            1,
-            3,
-        ),
+        (&["twarp", "replay", "--workers", "3", "--stop", "1"], 1, 3),
         (
             &["twarp", "replay", "--stop", "1000000000", "--workers", "16"],
             1_000_000_000,

@@ -44,7 +44,13 @@ fn run(
             trail_io(alloc, tape, page, u32::from(router), u64::from(stop), keep)
         }
         Asked::Replay { stop, workers } => {
-            replay_io(alloc, tape, page, u64::from(stop), u32::from(workers.max(1)))
+            replay_io(
+                alloc,
+                tape,
+                page,
+                u64::from(stop),
+                u32::from(workers.max(1)),
+            )
         }
     }
 }
