@@ -1,5 +1,5 @@
 -- The paths that a replay shows are paths of its instance.
-use Rattle.std.proofs.Common.{◌≡◌, ℕ, ◌+◌, ◌<◌, ◌==◌, true, List, refl, sym, subst, ◌∙◌, [], flat_map, nat_lt, arith}
+use Rattle.std.proofs.Common.{◌≡◌, ℕ, ◌<◌, ◌==◌, true, List, refl, sym, subst, [], flat_map, nat_lt, arith}
 use Rattle.std.specs.List.{range_with_len}
 use Rattle.std.proofs.lemmas.Bool.{and_parts}
 use Rattle.tw_commands.proofs.RunPaths.{names_path}
