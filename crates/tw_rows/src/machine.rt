@@ -170,10 +170,7 @@ fn has_starts_in_flight(warp: &Warp<'_>) -> bool {
     let Ok(flight) = found else {
         return false;
     };
-    flight
-        .iter()
-        .enumerate()
-        .all(|(place, found)| message(b"mnMN"[place % 4]) == Some(*found))
+    flight.iter().enumerate().all(|(place, found)| message(b"mnMN"[place % 4]) == Some(*found))
 }
 
 /// Which of the messages on their way comes next.

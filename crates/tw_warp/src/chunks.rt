@@ -1,4 +1,4 @@
-//! Messages in chunks, which are short enough for one message to be taken out of the midst of all.
+//! Messages in chunks, so that one can be taken out from anywhere without moving all that stand behind it.
 ghost use Rattle.std.specs.Prelude.{◌≡◌, ◌++◌, ◌+◌, length, map, slice_get, take, IfOk};
 ghost use Rattle.tw_core.specs.Steps.{least_time};
 ghost use Rattle.tw_model.specs.Case.{Case as ACase, simulation};
@@ -9,8 +9,8 @@ use std::alloc::{AllocError, Global};
 use tw_event::Event;
 use tw_sim::Signed;
 
-/// How many messages make a chunk. Where one is taken out, half a chunk is moved on the average, 48 bytes a
-/// message, and the lengths of the chunks before it are read: at 10,000 messages 12 KB, and 20 lengths.
+/// How many messages make a chunk. To take one out, half a chunk is moved on the average, at 48 bytes a message,
+/// and the lengths of the chunks before it are read: at 10,000 messages 12 KB are moved and 20 lengths read at most.
 pub(crate) const CHUNK: usize = 512;
 
 /// Where a message stands.
@@ -18,7 +18,7 @@ pub(crate) const CHUNK: usize = 512;
 pub(crate) struct Spot {
     /// The number of its chunk, from 0.
     pub(crate) chunk: usize,
-    /// Its place in that chunk, from 0; or behind all chunks.
+    /// Its place in that chunk, or behind all chunks, from 0.
     pub(crate) index: usize,
 }
 
@@ -45,8 +45,8 @@ pub(crate) fn pick(messages: &[Signed<Event>], index: usize) -> Option<Signed<Ev
     messages.get(index).copied()
 }
 
-/// A chunk takes in the next one, where together they make no more than one, and where there is room. So two
-/// neighbours are more than one chunk, and chunks that have become short do not grow many.
+/// A chunk takes in the next one, where the two make no more than one chunk. Where memory is refused they stay
+/// two, which costs time alone. Without it the chunks would become many and short, and to find a message slow.
 pub(crate) fn join(chunks: &mut Vec<Vec<Signed<Event>>>, place: usize)
     ensures { all_of chunks.new.items ≡ all_of chunks.old.items }
 {

@@ -44,7 +44,7 @@ impl Flight {
     }
 
     /// Makes the recent messages a chunk, where they are many. Where memory is refused they stay as they are,
-    /// which costs time alone.
+    /// which costs time alone: so no step is refused for it.
     pub(crate) fn settle(&mut self)
         ensures { self.new ≡ self.old }
     {

@@ -184,7 +184,7 @@ impl<'a> Warp<'a> {
         self.case
     }
 
-    /// The messages on their way, in the order sent, in a list of their own.
+    /// A list of the messages on their way, in the order sent, for which it takes memory.
     pub fn flight(&self) -> Result<Vec<Signed<Event>>, AllocError>
         ensures { IfOk result (λ v. v.items ≡ self.now.flight) }
     {
