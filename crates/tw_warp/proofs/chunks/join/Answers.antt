@@ -1,7 +1,5 @@
-use Rattle.std.proofs.Common.{◌≡◌, ◌+◌, ◌≤◌, ◌<◌, ◌++◌, get_or, length, remove, set, Vec, Global, Ok, length-set, if◌then◌else◌, refl, ap, sym, ◌∙◌, arith}
+use Rattle.std.proofs.Common.{◌≡◌, ◌+◌, ◌<◌, ◌++◌, get_or, length, set, length-set, if◌then◌else◌, refl, ap, ◌∙◌, arith}
 use Rattle.std.specs.Prelude.{is_ok}
-use Rattle.tw_event.specs.declared.event.Event.{Event}
-use Rattle.tw_sim.specs.declared.machine.Signed.{Signed}
 use Rattle.tw_warp.specs.Flight.{all_of}
 use Rattle.tw_warp.proofs.InChunks.{joined_at, same_at}
 use Rattle.tw_warp.proofs.chunks.join.Goals as goal

@@ -1,4 +1,4 @@
-use Rattle.std.proofs.Common.{◌≡◌, ◌++◌, ◌+◌, ◌<◌, ◌≤◌, get_or, length, remove, take, ap, sym, ◌∙◌, subst, arith}
+use Rattle.std.proofs.Common.{◌++◌, ◌+◌, ◌<◌, ◌≤◌, length, remove, take, ap, sym, ◌∙◌, subst, arith}
 use Rattle.tw_warp.specs.Flight.{IsPlaceIn, all_of}
 use Rattle.tw_warp.proofs.InChunks.{taken_behind, taken_out}
 use Rattle.tw_warp.proofs.flight.Flight.remove.Goals as goal

@@ -1,5 +1,5 @@
-use Rattle.std.proofs.Common.{◌++◌, ap, ◌∙◌, map}
-use Rattle.tw_core.specs.Steps.{least_loose, least_time}
+use Rattle.std.proofs.Common.{◌++◌, ap, ◌∙◌}
+use Rattle.tw_core.specs.Steps.{least_loose}
 use Rattle.tw_model.specs.Case.{simulation}
 use Rattle.tw_warp.specs.Bounds.{least_of_all}
 use Rattle.tw_warp.specs.Inside.{warp_of}
