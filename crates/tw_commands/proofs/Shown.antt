@@ -1,5 +1,5 @@
 -- A report shows as much of a run as it is made of.
-use Rattle.std.proofs.Common.{◌≡◌, ℕ, Bool, true, false, List, Option, refl, sym, ◌∙◌}
+use Rattle.std.proofs.Common.{◌≡◌, ℕ, Bool, true, false, Option, refl, ◌∙◌}
 use Rattle.std.proofs.lemmas.List.Elements.{All-nil}
 use Rattle.tw_model.specs.Case.{Case, IsCase}
 use Rattle.tw_model.specs.Net.{Net}

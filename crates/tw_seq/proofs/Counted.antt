@@ -2,7 +2,7 @@
 use Rattle.std.proofs.Common.{◌≡◌, ℕ, zero, suc, ◌+◌, ◌<◌, List, [], ◌∷◌, length, map, set, get_or, refl, arith}
 use Rattle.tw_event.specs.declared.event.Event.{Event}
 use Rattle.tw_model.specs.Net.{Net}
-use Rattle.tw_model.specs.State.{Router, State, opening}
+use Rattle.tw_model.specs.State.{Router, opening}
 use Rattle.tw_model.proofs.Rises.{rises_acts}
 use Rattle.tw_handlers.specs.Calls.{after_event}
 use Rattle.tw_seq.specs.Thread.{count_of}

@@ -1,10 +1,9 @@
 -- A run with a log: what it has handled is the run's events.
-use Rattle.std.proofs.Common.{◌≡◌, ◌<◌, ◌∷◌, ◌++◌, [], reverse, ap, sym, ◌∙◌, subst}
+use Rattle.std.proofs.Common.{◌≡◌, ◌∷◌, ◌++◌, [], reverse, ap, sym, ◌∙◌}
 use Rattle.std.proofs.lemmas.List.{reverse-reverse}
 use Rattle.tw_event.specs.declared.event.Event.{Event}
-use Rattle.tw_model.specs.Case.{simulation}
-use Rattle.tw_seq.specs.Run.{IsBegun, IsNext, IsNextRun, Run, world}
-use Rattle.tw_seq.proofs.Homes.{next_run, next_world}
+use Rattle.tw_seq.specs.Run.{IsNext, IsNextRun, Run}
+use Rattle.tw_seq.proofs.Homes.{next_world}
 
 -- the next run has handled the least pending event after the others
 pub next_events : (a b : Run) (e : Event) → IsNext a e → IsNextRun a b → b.events ≡ a.events ++ e ∷ []

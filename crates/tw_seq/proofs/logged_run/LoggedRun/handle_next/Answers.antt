@@ -1,4 +1,4 @@
-use Rattle.std.proofs.Common.{◌≡◌, ◌++◌, ◌∷◌, [], ap, sym, ◌∙◌, subst}
+use Rattle.std.proofs.Common.{◌++◌, ◌∷◌, [], ap, sym, ◌∙◌, subst}
 use Rattle.tw_seq.specs.Run.{IsNext, IsStuck}
 use Rattle.tw_seq.proofs.Logged.{next_events}
 use Rattle.tw_seq.proofs.logged_run.LoggedRun.handle_next.Goals as goal

@@ -1,4 +1,4 @@
-use Rattle.std.proofs.Common.{◌≡◌, ◌≤◌, ◌∷◌, length, arith, if◌then◌else◌, [], ◌++◌, drop, refl, ap, sym, ◌∙◌, subst, Err, ℕ}
+use Rattle.std.proofs.Common.{◌≡◌, arith, if◌then◌else◌, drop, refl, ap, sym, ◌∙◌, subst, Err, ℕ}
 use Rattle.std.specs.Vec.{with_items}
 use Rattle.std.proofs.lemmas.Result.{err_from_is_err_and}
 use Rattle.tw_event.specs.Order.{event_before}

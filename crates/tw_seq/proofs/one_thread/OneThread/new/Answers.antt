@@ -1,4 +1,4 @@
-use Rattle.std.proofs.Common.{◌≡◌, ap, map, refl, ◌∙◌}
+use Rattle.std.proofs.Common.{ap, map, refl, ◌∙◌}
 use Rattle.std.specs.List.{range_with_len}
 use Rattle.tw_model.specs.State.{opening}
 use Rattle.tw_seq.specs.declared.one_thread.OneThread.TheInside.{Inside}
