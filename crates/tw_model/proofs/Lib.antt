@@ -15,3 +15,4 @@ pub mod LinkLast
 pub mod Settled
 pub mod Agreed
 pub mod Quiet
+pub mod Rises

@@ -10,7 +10,7 @@ use Rattle.tw_model.specs.Quiet.{last_change}
 use Rattle.tw_model.specs.State.{Router}
 use Rattle.tw_seq.specs.declared.one_thread.OneThread.TheInside.{Inside}
 use Rattle.tw_seq.specs.Run.{IsBegun, routers_after}
-use Rattle.tw_seq.specs.Thread.{IsThread}
+use Rattle.tw_seq.specs.Thread.{IsThread, count_of, run_of, world_after}
 use Rattle.tw_handlers.specs.Calls.{after_event, effect_at}
 use Rattle.tw_seq.specs.Turn.{no_router, receiver}
 use Rattle.tw_seq.proofs.Fields.{from_empty}
@@ -46,12 +46,24 @@ module _ (old now : List Router) (e : Event) (within : e.dst < length old) (are 
       ∙ (set-set old e.dst (after_event before e) before ∙ set-get_or old e.dst no_router)
 
 -- a run with the same fields
-pub back_thread : (a b : Inside) → IsThread a → b.case.now ≡ a.case.now → b.stop ≡ a.stop → b.routers.items ≡ a.routers.items
-    → b.pending.routers ≡ a.pending.routers → b.pending.events ≡ a.pending.events → b.events.items ≡ a.events.items → b.last_change ≡ a.last_change → IsThread b
-back_thread a b thread case stop routers homes pending events change = record {
-  begun = subst IsBegun (λ i. record { case = sym case i; stop = sym stop i; events = sym events i; pending = sym pending i }) thread.begun;
-  stop = subst (λ t. t ≤ LATEST) (sym stop) thread.stop;
-  routers = routers ∙ (thread.routers ∙ λ i. routers_after (sym case i) (sym events i));
-  homes = homes ∙ (thread.homes ∙ ap (λ c. c.net.nodes) (sym case));
-  change = change ∙ (thread.change ∙ λ i. last_change (sym case i) (reverse (sym events i)));
-}
+module _ (a b : Inside) (case : b.case.now ≡ a.case.now) (routers : b.routers.items ≡ a.routers.items) where
+  same_world : world_after a.case.now (count_of a.routers.items) ≡ world_after b.case.now (count_of b.routers.items)
+  same_world = λ i. world_after (sym case i) (count_of (sym routers i))
+
+  -- it has handled the same events
+  pub same_run : b.stop ≡ a.stop → b.pending.events ≡ a.pending.events → run_of a ≡ run_of b
+  same_run stop pending = λ i. record { case = sym case i; stop = sym stop i; events = reverse (same_world i).log; pending = sym pending i }
+
+  pub back_thread : IsThread a → b.stop ≡ a.stop → b.pending.routers ≡ a.pending.routers → b.pending.events ≡ a.pending.events → b.last_change ≡ a.last_change
+      → b.sends.items ≡ [] → IsThread b
+  back_thread thread stop homes pending change sent =
+      let events = ap (λ w. reverse w.log) same_world in
+      record {
+        begun = subst IsBegun (same_run stop pending) thread.begun;
+        waiting = pending ∙ (thread.waiting ∙ ap (λ w. w.rest) same_world);
+        stop = subst (λ t. t ≤ LATEST) (sym stop) thread.stop;
+        routers = routers ∙ (thread.routers ∙ λ i. routers_after (sym case i) (events i));
+        homes = homes ∙ (thread.homes ∙ ap (λ c. c.net.nodes) (sym case));
+        change = change ∙ (thread.change ∙ λ i. last_change (sym case i) (reverse (events i)));
+        sent = sent;
+      }

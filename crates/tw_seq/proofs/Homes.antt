@@ -34,14 +34,15 @@ sends_of run e = (effect_at (router_after run.case run.events e.dst) e).sends
 abbrev pub next_run : Run → Event → List Event → Run
 next_run run e later = record run { events = run.events ++ e ∷ []; pending = insert_all (simulation run.case) (sends_of run e) later }
 
-pub next_world : (run : Run) (e : Event) (later : List Event) → run.pending ≡ e ∷ later → e.time < run.stop
-    → turns (simulation run.case) 1 run.stop (world run) ≡ world (next_run run e later)
-next_world run e later is soon = rw is (pushed (simulation run.case) run.stop run.events e later soon)
+-- a turn to a time that is later handles it
+pub next_world : (run : Run) (e : Event) (later : List Event) (t : ℕ) → run.pending ≡ e ∷ later → e.time < t
+    → turns (simulation run.case) 1 t (world run) ≡ world (next_run run e later)
+next_world run e later t is soon = rw is (pushed (simulation run.case) t run.events e later soon)
 
 pub next_begun : (run : Run) (e : Event) (later : List Event) → IsBegun run → run.pending ≡ e ∷ later → e.time < run.stop → IsBegun (next_run run e later)
 next_begun run e later h is soon = record {
   case = h.case;
-  turns = (h.turns.0 + 1, goes_on (simulation run.case) h.turns.0 1 run.stop (world run) (world (next_run run e later)) h.turns.1 (next_world run e later is soon));
+  turns = (h.turns.0 + 1, goes_on (simulation run.case) h.turns.0 1 run.stop (world run) (world (next_run run e later)) h.turns.1 (next_world run e later run.stop is soon));
 }
 
 -- each of its sends is for one of the routers

@@ -1,8 +1,11 @@
 pub mod Steps
 pub mod Handled
+pub mod Counted
+pub mod Opening
 pub mod Homes
 pub mod Next
 pub mod Fields
+pub mod Logged
 pub mod Back
 pub mod Going
 pub mod Gathered

@@ -3,7 +3,7 @@ use Rattle.std.proofs.Common.{◌≡◌, ℕ, ◌<◌, ◌≤◌, ◌==◌, nat_
 use Rattle.std.specs.List.{AllByRecursion}
 use Rattle.std.proofs.lemmas.Bool.{and_from, le-leb}
 use Rattle.tw_event.specs.declared.event.Event.{Event}
-use Rattle.tw_model.specs.declared.limits.TheConstants.{LATEST}
+use Rattle.tw_model.specs.declared.limits.TheConstants.{LATEST, MOST_LINKS}
 use Rattle.tw_model.specs.Effect.{fits, suits}
 use Rattle.tw_model.specs.Quiet.{last_change}
 use Rattle.tw_model.specs.State.{Router}
@@ -64,6 +64,11 @@ module _ {run : Run} {routers : List Router} {e : Event} (ready : IsReady run ro
       subst (λ k. AllByRecursion (λ x. x.dst < k) sends) (sym count)
       (subst (AllByRecursion (λ x. x.dst < run.case.net.nodes)) (sym (is ∙ next_sends))
       (sends_home run e ready.next.0 (lawful run.case ready.begun.case) ready.begun ready.next.1 ready.next.2))
+
+  -- there are at most 64
+  pub next_few : (sends : List Event) → sends ≡ (effect_at (receiver routers e) e).sends → length sends ≤ MOST_LINKS
+  next_few sends is =
+      subst (λ xs. length xs ≤ MOST_LINKS) (sym (is ∙ next_sends)) ((lawful run.case ready.begun.case).few (router_after run.case run.events e.dst).state e)
 
   -- every router afterwards
   pub next_routers : set routers e.dst (after_event (receiver routers e) e) ≡ routers_after run.case (run.events ++ e ∷ [])

@@ -2,3 +2,4 @@ pub mod Turn
 pub mod Run
 pub mod Outcome
 pub mod Thread
+pub mod Logged

@@ -1,4 +1,4 @@
-ghost use Rattle.std.specs.Prelude.{◌≡◌, ◌≤◌, ◌<◌, [], ◌++◌, length, slice_set, vec_capacity, vec_len, IfOk, OnErr, OnOk, IsErrOf, IsTrue, not, ◌==◌, ◌↔◌};
+ghost use Rattle.std.specs.Prelude.{◌≡◌, ◌≤◌, ◌<◌, [], ◌++◌, length, slice_set, IfOk, OnErr, OnOk, IsErrOf, IsTrue, not, ◌==◌, ◌↔◌};
 ghost use Rattle.tw_event.specs.Order.{event_before};
 ghost use Rattle.tw_model.specs.Case.{opening_events};
 ghost use Rattle.tw_model.specs.declared.memory.OrMemory.TheVariants as or_memory;
@@ -66,22 +66,6 @@ pub(crate) fn undo_at(
     let router = &mut routers[event.dst as usize];
     sends.clear();
     undo(instance, router, event, note, sends).unwrap();
-}
-
-/// Makes room for one more event handled and for `count` more pending.
-pub(crate) fn make_room(
-    events: &mut Vec<Event>,
-    pending: &mut EventList,
-    count: usize,
-) -> Result<(), AllocError>
-    ensures events { events.new.items ≡ events.old.items }
-    ensures place { OnOk result (vec_len events.new < vec_capacity events.new) }
-    ensures routers { pending.new.routers ≡ pending.old.routers }
-    ensures pending { pending.new.events ≡ pending.old.events }
-    ensures room { OnOk result (count ≤ pending.new.room) }
-{
-    events.reserve(1)?;
-    pending.reserve(count)
 }
 
 /// Adds events for which there is room, each in its place.

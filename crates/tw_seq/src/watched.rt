@@ -5,36 +5,40 @@ ghost use Rattle.tw_handlers.specs.Calls.{counter_full};
 ghost use Rattle.tw_seq.specs.Run.{GetsStuck, complete_run, opening_run};
 ghost use Rattle.tw_shape.specs.Verdict.{finding};
 
-use crate::one_thread::OneThread;
+use crate::running::Running;
+use std::alloc::Global;
 use tw_handlers::CounterFull;
 use tw_model::OrMemory;
 use tw_shape::Watch;
 
-impl OneThread<'_> {
-    /// Handles all events before `stop`, in ticks, and shows a watch the shapes at the multiples of
-    /// `every` up to the stop. The run is at its beginning.
-    ///
-    /// Where nothing is handled between checkpoints, they are shown at once.
-    pub fn run_watched(&mut self, stop: u64, every: u64) -> Result<Watch, OrMemory<CounterFull>>
-        requires opening { self.old ≡ opening_run self.old.case }
-        requires stop { stop ≤ LATEST }
-        requires some { 0 < every }
-        requires most { every ≤ LATEST }
-        ensures ok { OnOk result (self.new ≡ complete_run self.old.case stop) }
-        ensures found { IfOk result (λ watch. watch.found ≡ finding self.old.case every (stop / every)) }
-        ensures case { self.new.case ≡ self.old.case }
-        ensures full { IsErrOf result (or_memory.Fault counter_full) → GetsStuck self.old.case stop }
-    {
-        let mut watch = Watch::new(self.allocator(), every)?;
-        let last = stop / every;
-        let mut seen = 0;
-        while seen < last {
-            let time = (seen + 1) * every;
-            self.run_to(time)?;
-            let shape = self.shape()?;
-            seen += watch.push(time, shape, last - seen);
-        }
-        self.run_to(stop)?;
-        Ok(watch)
+/// Handles all events of a run before `stop`, in ticks, and shows a watch the shapes at the multiples of
+/// `every` up to the stop. The run is at its beginning.
+///
+/// Where nothing is handled between checkpoints, they are shown at once.
+pub fn run_watched<R: Running>(
+    alloc: Global,
+    run: &mut R,
+    stop: u64,
+    every: u64,
+) -> Result<Watch, OrMemory<CounterFull>>
+    requires opening { R.run run.old ≡ opening_run (R.run run.old).case }
+    requires stop { stop ≤ LATEST }
+    requires some { 0 < every }
+    requires most { every ≤ LATEST }
+    ensures ok { OnOk result (R.run run.new ≡ complete_run (R.run run.old).case stop) }
+    ensures found { IfOk result (λ watch. watch.found ≡ finding (R.run run.old).case every (stop / every)) }
+    ensures case { (R.run run.new).case ≡ (R.run run.old).case }
+    ensures full { IsErrOf result (or_memory.Fault counter_full) → GetsStuck (R.run run.old).case stop }
+{
+    let mut watch = Watch::new(alloc, every)?;
+    let last = stop / every;
+    let mut seen = 0;
+    while seen < last {
+        let time = (seen + 1) * every;
+        run.run_to(time)?;
+        let shape = run.shape()?;
+        seen += watch.push(time, shape, last - seen);
     }
+    run.run_to(stop)?;
+    Ok(watch)
 }

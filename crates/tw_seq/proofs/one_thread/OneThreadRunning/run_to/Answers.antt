@@ -1,7 +1,7 @@
 use Rattle.std.proofs.Common.{◌∙◌}
 use Rattle.tw_seq.specs.Run.{complete_run}
 use Rattle.tw_seq.proofs.Going.{complete_at, continues_next, weight_next}
-use Rattle.tw_seq.proofs.one_thread.OneThread.run_to.Goals as goal
+use Rattle.tw_seq.proofs.one_thread.OneThreadRunning.run_to.Goals as goal
 
 pub loop-event-smaller : goal.loop-event-smaller
 loop-event-smaller c = weight_next c.loop-event.self c.handle_next.new.self c.in-Some.event c.in-Some.ensures.begun c.in-Some.ensures.some c.in_ok-handle_next.ensures.ok

@@ -3,7 +3,7 @@ use Rattle.tw_shape.specs.Shape.{shape}
 use Rattle.tw_seq.proofs.Gathered.{shape_of_run}
 use Rattle.tw_seq.specs.Run.{complete_run}
 use Rattle.tw_seq.specs.Thread.{run_of}
-use Rattle.tw_seq.proofs.one_thread.OneThread.shape.Goals as goal
+use Rattle.tw_seq.proofs.one_thread.OneThreadRunning.shape.Goals as goal
 
 pub returns : goal.returns
 returns c =

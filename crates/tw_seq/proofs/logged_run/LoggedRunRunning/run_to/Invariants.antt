@@ -2,7 +2,7 @@ use Rattle.std.proofs.Common.{◌≡◌, max}
 use Rattle.tw_model.specs.Case.{simulation}
 use Rattle.tw_sim.specs.Seq.{weight}
 use Rattle.tw_seq.specs.Run.{Continues}
-use Rattle.tw_seq.proofs.one_thread.OneThread.run_to.Given as goal
+use Rattle.tw_seq.proofs.logged_run.LoggedRunRunning.run_to.Given as goal
 
 abbrev pub invariant-loop-event : goal.invariant-loop-event
 invariant-loop-event l = record {

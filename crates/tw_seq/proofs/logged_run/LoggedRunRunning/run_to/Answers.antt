@@ -1,0 +1,25 @@
+use Rattle.std.proofs.Common.{◌∙◌, subst}
+use Rattle.tw_seq.specs.Run.{IsBegun, IsNext, NoneBefore, complete_run}
+use Rattle.tw_seq.proofs.Going.{complete_at, continues_next, weight_next}
+use Rattle.tw_seq.proofs.logged_run.LoggedRunRunning.run_to.Goals as goal
+
+pub loop-event-smaller : goal.loop-event-smaller
+loop-event-smaller c =
+    let same = c.self-in-loop-event.view_is in
+    weight_next c.loop-event.self c.handle_next.new.self c.in-Some.event (subst IsBegun same c.in-Some.ensures.begun)
+    (subst (λ run. IsNext run c.in-Some.event) same c.in-Some.ensures.some) c.in_ok-handle_next.ensures.ok
+
+pub loop-event-preserved : goal.loop-event-preserved
+loop-event-preserved c =
+    let next = c.in_ok-handle_next.ensures.ok in
+    record {
+      case = next.0 ∙ c.loop-event.invariant.case;
+      stop = next.1 ∙ c.loop-event.invariant.stop;
+      goes_on = continues_next c.args.self.now c.loop-event.self c.handle_next.new.self c.loop-event.invariant.case c.loop-event.invariant.goes_on next;
+    }
+
+pub returns-clause-ok : goal.returns-clause-ok
+returns-clause-ok c =
+    let same = c.self-in-loop-event.view_is in
+    complete_at c.loop-event.self (subst IsBegun same c.in_default.ensures.begun) (subst (λ run. NoneBefore run.stop run.pending) same c.in_default.ensures.none)
+    ∙ λ i. complete_run (c.loop-event.invariant.case i) (c.loop-event.invariant.stop i)
