@@ -3,6 +3,7 @@ pub mod Stuck
 pub mod Sizes
 pub mod Refusals
 pub mod RunPaths
+pub mod Shown
 pub mod Counting
 pub mod Undoing
 pub mod Followed

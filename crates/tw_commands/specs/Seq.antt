@@ -1,5 +1,5 @@
 -- What `seq` writes (own).
-use Rattle.std.specs.Prelude.{ℕ, ◌/◌, Bool, List, Option, Some, None}
+use Rattle.std.specs.Prelude.{ℕ, ◌/◌, Bool, List, [], Option, Some, None, if◌then◌else◌}
 use Rattle.tw_commands.specs.declared.cause.Status.TheVariants.{Done}
 use Rattle.tw_commands.specs.ForCase.{StuckFor, for_case}
 use Rattle.tw_commands.specs.Output.{Output}
@@ -16,6 +16,10 @@ use Rattle.tw_text.specs.Reading.{case_of}
 abbrev pub found_to : Case → ℕ → Option ℕ → Option Finding
 found_to case stop None = None
 found_to case stop (Some every) = finding case every (stop / every)
+
+-- what a report shows of a run: its events only where they are asked for
+abbrev pub shown : Bool → Summary → Summary
+shown log o = if log then o else record o { events = [] }
 
 -- the report of a run, with the verdict on it
 abbrev pub report_of : Case → Bool → Summary → Option Finding → Output

@@ -1,10 +1,12 @@
 ghost use Rattle.std.specs.Prelude.{◌≡◌, ◌≤◌, ◌<◌, false, IfOk, IfSome, IsErrOf, OnOk};
 ghost use Rattle.tw_commands.specs.Output.{Answers, Leaves};
-ghost use Rattle.tw_commands.specs.Seq.{GetsStuckFor, found_to, seq_output, seq_report};
+ghost use Rattle.tw_commands.specs.Seq.{GetsStuckFor, found_to, seq_output, seq_report, shown};
 ghost use Rattle.tw_device.specs.Source.{LosesInput, TakesInput};
 ghost use Rattle.tw_handlers.specs.Calls.{counter_full};
 ghost use Rattle.tw_model.specs.declared.limits.TheConstants.{LATEST};
 ghost use Rattle.tw_model.specs.declared.memory.OrMemory.TheVariants as or_memory;
+ghost use Rattle.tw_model.specs.Summary.{summary_of};
+ghost use Rattle.tw_seq.specs.Outcome.{outcome_of};
 ghost use Rattle.tw_seq.specs.Run.{GetsStuck, complete_run, opening_run};
 
 use crate::cause::{Cause, Status};
@@ -12,9 +14,9 @@ use crate::command::{Command, answer_io};
 use std::alloc::Global;
 use tw_device::{Sink, Source};
 use tw_instance::Case;
-use tw_model::OrMemory;
+use tw_model::{OrMemory, Outcome};
 use tw_report::write_report;
-use tw_seq::{CounterFull, OneThread};
+use tw_seq::{CounterFull, LoggedRun, OneThread, Running, run_watched};
 use tw_shape::{Finding, Verdict};
 
 /// The command `seq`: runs a case on one thread to the stop and reports the run.
@@ -33,30 +35,53 @@ impl Command for Seq {
     ghost stuck = { λ seq case. GetsStuck case seq.stop };
 
     fn answer<W: Sink>(&self, alloc: Global, case: &Case, sink: &mut W) -> Result<Status, Cause> {
-        let mut run = OneThread::new(alloc, case)?;
-        let found = run_to_stop(&mut run, self.stop, self.every)?;
-        let outcome = run.into_outcome()?;
+        let (outcome, found) = run_case(alloc, case, *self)?;
         let verdict = Verdict::of(&outcome, found);
         write_report(sink, case.instance(), &outcome, verdict, self.log)?;
         Ok(Status::Done)
     }
 }
 
+/// What a run to the stop leaves, with its events where they are to be logged, and what was found at its
+/// checkpoints.
+fn run_case(
+    alloc: Global,
+    case: &Case,
+    seq: Seq,
+) -> Result<(Outcome, Option<Finding>), OrMemory<CounterFull>>
+    requires stop { seq.stop ≤ LATEST }
+    requires every { IfSome seq.every (λ n. (0 < n) × (n ≤ LATEST)) }
+    ensures outcome { IfOk result (λ left. summary_of left.0 ≡ shown seq.log (outcome_of (complete_run case.now seq.stop))) }
+    ensures found { IfOk result (λ left. left.1 ≡ found_to case.now seq.stop seq.every) }
+    ensures full { IsErrOf result (or_memory.Fault counter_full) → GetsStuck case.now seq.stop }
+{
+    if seq.log {
+        let mut run = LoggedRun::new(alloc, case)?;
+        let found = run_to_stop(alloc, &mut run, seq.stop, seq.every)?;
+        Ok((run.into_outcome()?, found))
+    } else {
+        let mut run = OneThread::new(alloc, case)?;
+        let found = run_to_stop(alloc, &mut run, seq.stop, seq.every)?;
+        Ok((run.outcome_without_events()?, found))
+    }
+}
+
 /// Runs to the stop, and answers what was found at the checkpoints, the multiples of `every`.
-fn run_to_stop(
-    run: &mut OneThread<'_>,
+fn run_to_stop<R: Running>(
+    alloc: Global,
+    run: &mut R,
     stop: u64,
     every: Option<u64>,
 ) -> Result<Option<Finding>, OrMemory<CounterFull>>
-    requires opening { run.old ≡ opening_run run.old.case }
+    requires opening { R.run run.old ≡ opening_run (R.run run.old).case }
     requires stop { stop ≤ LATEST }
     requires every { IfSome every (λ n. (0 < n) × (n ≤ LATEST)) }
-    ensures ok { OnOk result (run.new ≡ complete_run run.old.case stop) }
-    ensures found { IfOk result (λ found. found ≡ found_to run.old.case stop every) }
-    ensures full { IsErrOf result (or_memory.Fault counter_full) → GetsStuck run.old.case stop }
+    ensures ok { OnOk result (R.run run.new ≡ complete_run (R.run run.old).case stop) }
+    ensures found { IfOk result (λ found. found ≡ found_to (R.run run.old).case stop every) }
+    ensures full { IsErrOf result (or_memory.Fault counter_full) → GetsStuck (R.run run.old).case stop }
 {
     match every {
-        Some(every) => Ok(run.run_watched(stop, every)?.finding()),
+        Some(every) => Ok(run_watched(alloc, run, stop, every)?.finding()),
         None => {
             run.run_to(stop)?;
             Ok(None)

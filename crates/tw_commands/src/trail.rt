@@ -14,7 +14,7 @@ use tw_event::Event;
 use tw_instance::Case;
 use tw_report::Word::Name;
 use tw_report::put_line;
-use tw_seq::OneThread;
+use tw_seq::{LoggedRun, Running};
 
 /// The command `trail`: lets one router handle its events of a run once more and undo the last ones.
 #[derive(Clone, Copy)]
@@ -39,7 +39,7 @@ impl Command for Trail {
             )?;
             return Ok(Status::Refused);
         }
-        let mut run = OneThread::new(alloc, case)?;
+        let mut run = LoggedRun::new(alloc, case)?;
         run.run_to(self.stop)?;
         let page = follow(alloc, &run, case, self.router, self.keep)?;
         put_all(sink, page.bytes())?;
@@ -74,7 +74,7 @@ pub fn trail_io<R: Source, W: Sink>(
 /// One router's events of a run, handled once more and undone.
 fn follow(
     alloc: Global,
-    run: &OneThread<'_>,
+    run: &LoggedRun<'_>,
     case: &Case,
     router: u32,
     keep: u64,

@@ -15,13 +15,13 @@ use tw_event::{Body, Event, PathNo};
 use tw_instance::Instance;
 use tw_model::{Counters, Outcome, RouterEnd};
 use tw_report::write_report;
-use tw_seq::OneThread;
+use tw_seq::{LoggedRun, OneThread, Running};
 use tw_shape::Verdict;
 
 /// Runs to the stop, once more where memory was refused.
-fn run_to(run: &mut OneThread<'_>, stop: u64) -> bool
+fn run_to<R: Running>(run: &mut R, stop: u64) -> bool
     requires { stop ≤ LATEST }
-    ensures { run.new.case ≡ run.old.case }
+    ensures { (R.run run.new).case ≡ (R.run run.old).case }
 {
     run.run_to(stop).is_ok() || run.run_to(stop).is_ok()
 }
@@ -33,7 +33,7 @@ fn a_run_goes_on_to_a_later_stop(rt: HostRuntime) {
         panic!(rt; "the case is refused")
     };
     assert!(rt; case.instance().nodes() == 3);
-    let Ok(mut run) = OneThread::new(alloc, &case).or_else(|_| OneThread::new(alloc, &case)) else {
+    let Ok(mut run) = LoggedRun::new(alloc, &case).or_else(|_| LoggedRun::new(alloc, &case)) else {
         panic!(rt; "no memory")
     };
     assert!(rt; run.handled().is_empty());
@@ -53,6 +53,32 @@ fn a_run_goes_on_to_a_later_stop(rt: HostRuntime) {
     if let Ok(moved) = run.into_outcome() {
         assert!(rt; moved.events.as_slice() == outcome.events.as_slice());
     }
+}
+
+#[test]
+fn a_run_without_a_log_ends_as_one_with_a_log(rt: HostRuntime) {
+    let alloc = rt.alloc();
+    let Ok(case) = case(alloc, DISAGREE) else {
+        panic!(rt; "the case is refused")
+    };
+    assert!(rt; case.instance().nodes() == 3);
+    let Ok(mut run) = OneThread::new(alloc, &case).or_else(|_| OneThread::new(alloc, &case)) else {
+        panic!(rt; "no memory")
+    };
+    assert!(rt; run_to(&mut run, 7));
+    let Ok(pending) = run.pending().or_else(|_| run.pending()) else {
+        panic!(rt; "no memory")
+    };
+    assert!(rt; pending.len() == 1 && pending[0].time == 7);
+    assert!(rt; run_to(&mut run, 20) && run.router(1).rib() == PathNo(3));
+    let Ok(outcome) = run
+        .outcome_without_events()
+        .or_else(|_| run.outcome_without_events())
+    else {
+        panic!(rt; "no memory")
+    };
+    assert!(rt; outcome.stop == 20 && outcome.bound == 20 && outcome.events.is_empty());
+    assert!(rt; Verdict::of(&outcome, None) == Verdict::Quiet(2));
 }
 
 /// What the run of the origin alone to stop 10 leaves.
