@@ -2,7 +2,7 @@
 use Rattle.std.specs.Prelude.{ℕ, ◌≡◌, List, slice_index_or}
 use Rattle.crossbeam_queue.specs.Passes.{IsPassOf, view}
 use Rattle.tw_exchange.specs.Board.{Board, opening}
-use Rattle.tw_rule.specs.Rule.{Place, nowhere}
+use Rattle.tw_table.specs.Shares.{Share, no_share}
 use Rattle.tw_table.specs.declared.seat.Held.{Held}
 use Rattle.tw_table.specs.declared.seat.Seat.{Seat}
 use Rattle.tw_table.specs.declared.table.Table.{Table}
@@ -18,9 +18,9 @@ pub record IsSeatOf (t : Table) (s : Seat) : Type 0 where
   pub pass : IsPassOf t.queue s.pass
   pub workers : (view s.pass).workers ≡ t.workers
 
--- its worker's place: the shard and the hand given last
-abbrev pub place_at : Seat → Place
-place_at s = slice_index_or (view s.pass).places 0 nowhere
+-- its worker's share: the shard and the hand given last
+abbrev pub share_at : Seat → Share
+share_at s = slice_index_or (view s.pass).shares 0 no_share
 
 -- the bound that it saw last
 abbrev pub bound_at : Seat → ℕ
@@ -33,9 +33,9 @@ pub record IsHeldOf (t : Table) (h : Held) : Type 0 where
   pub pass : IsPassOf t.queue h.pass
   pub workers : (view h.pass).workers ≡ t.workers
 
--- its worker's place, as given last
-abbrev pub place_of : Held → Place
-place_of h = slice_index_or (view h.pass).places 0 nowhere
+-- its worker's share, as given last
+abbrev pub share_of : Held → Share
+share_of h = slice_index_or (view h.pass).shares 0 no_share
 
 -- the exchange as it was taken
 abbrev pub taken_by : Held → Board
@@ -47,6 +47,6 @@ exchange_of h = h.exchange
 
 -- the same seat, whatever was done to the exchange
 pub record IsSameSeat (h k : Held) : Type 0 where
-  pub place : place_of k ≡ place_of h
+  pub share : share_of k ≡ share_of h
   pub taken : taken_by k ≡ taken_by h
   pub table : (t : Table) → IsHeldOf t h → IsHeldOf t k

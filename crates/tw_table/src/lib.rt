@@ -12,6 +12,7 @@ mod hand;
 mod rule;
 mod seat;
 mod table;
+mod visits;
 
 pub use hand::Hand;
 pub use seat::{Held, Seat};
