@@ -45,7 +45,7 @@ module _ {S E : Type 0} (m : Simulation S E) where
     pub board : IsBoard m x
     pub each : AllByRecursion (Stands who x) ps
     -- each worker has one place
-    pub workers : (w : ℕ) → w < workers x → total (is_at w) ps ≡ 1
+    pub places : (w : ℕ) → w < workers x → total (is_at w) ps ≡ 1
     -- and each router a worker
     pub routers : (r : ℕ) → r < m.routers → who r < workers x
     -- the surpluses of all places and the opening events add up to the mail
