@@ -53,7 +53,7 @@ all_held views = flat_map (λ v. v.held) views
 -- what a pass knows is so
 pub record Knows (x : Board) (v : View) : Type 0 where
   -- the table is open
-  pub open : v.opening ≡ false
+  pub begun : v.opening ≡ false
   -- it has seen no bound beyond that of the exchange
   pub seen : v.seen ≤ x.bound
   -- and knows how many workers there are
@@ -89,13 +89,13 @@ pub record Taken (v : View) (x : Board) (w : View) : Type 0 where
 
 -- the seat of a worker that has seen this bound, without the exchange
 pub record IsWaiting (worker bound : ℕ) (v : View) : Type 0 where
-  pub open : v.opening ≡ false
+  pub begun : v.opening ≡ false
   pub share : map (λ s. s.shard.worker) v.shares ≡ worker ∷ []
   pub seen : v.seen ≡ bound
   pub empty : v.held ≡ []
 
 -- the seat of a worker, with the exchange
 pub record IsHolding (worker : ℕ) (v : View) : Type 0 where
-  pub open : v.opening ≡ false
+  pub begun : v.opening ≡ false
   pub share : map (λ s. s.shard.worker) v.shares ≡ worker ∷ []
   pub one : map (λ x. workers x) v.held ≡ v.workers ∷ []

@@ -8,6 +8,7 @@
 //! A call that waits promises what it says only if it returns.
 #![tactic(auto)]
 
+mod calls;
 mod hand;
 mod rule;
 mod seat;
