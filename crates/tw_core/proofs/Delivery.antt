@@ -14,7 +14,7 @@ use Rattle.tw_sim.specs.Simulation.{Simulation, IsLawful, one, times}
 
 module _ {S E : Type 0} (m : Simulation S E) (law : IsLawful m) where
   -- other things are loose, but nothing that was not
-  part_loose : (t : ℕ) (C : Core E) (pending kept : List E) (flight : List (Signed E)) → IsGoodPart m t C
+  pub part_loose : (t : ℕ) (C : Core E) (pending kept : List E) (flight : List (Signed E)) → IsGoodPart m t C
       → ((x : E) → 0 < times m x pending + times m x kept + (messages m x flight + antimessages m x flight) → 0 < times_loose m C x)
       → ((e x : E) → 0 < times m e pending → 0 < times m x (C.history (m.dst e)) → m.before e x ≡ false)
       → ((x : E) → 0 < times m x kept → (times m x pending ≡ 0) × (times_handled m C x ≡ 0))

@@ -32,7 +32,7 @@ module _ {S E : Type 0} (m : Simulation S E) (law : IsLawful m) where
         | inr k ↦ both_ways (m.before e y) (ahead y (let self = one_self m law y in omega arith)) (falling.0 e k)
       ]
 
-  may_handle : (t : ℕ) (C : Core E) (r : ℕ) (e : E) → IsGoodPart m t C → first_pending m C r ≡ Some e → m.time e < C.stop → is_newest m e (C.history r) ≡ false
+  pub may_handle : (t : ℕ) (C : Core E) (r : ℕ) (e : E) → IsGoodPart m t C → first_pending m C r ≡ Some e → m.time e < C.stop → is_newest m e (C.history r) ≡ false
       → (m.dst e ≡ r) × MayHandle m C e
   may_handle t C r e good first soon other =
       let least = least_is m law e (only m r C.pending) first in
@@ -52,7 +52,7 @@ module _ {S E : Type 0} (m : Simulation S E) (law : IsLawful m) where
         },
       )
 
-  keeps_handling : (t : ℕ) (C : Core E) (r : ℕ) (e : E) → IsGoodPart m t C → (m.dst e ≡ r) × MayHandle m C e → KeepsPart m t C (after_handling m C r e)
+  pub keeps_handling : (t : ℕ) (C : Core E) (r : ℕ) (e : E) → IsGoodPart m t C → (m.dst e ≡ r) × MayHandle m C e → KeepsPart m t C (after_handling m C r e)
   keeps_handling t C r e good may =
       subst (λ q. KeepsPart m t C (after_handling m C q e)) may.0 (record {
         part = part_handling m law C e may.1 t good;

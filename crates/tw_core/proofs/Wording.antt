@@ -183,13 +183,13 @@ module _ {S E : Type 0} (m : Simulation S E) where
       ]),
     )
 
-    total_scale : {X : Type 0} (n : ℕ) (test : X → Bool) (xs : List X) → total (λ x. cond (test x) n 0) xs ≡ n * total (λ x. cond (test x) 1 0) xs
+    pub total_scale : {X : Type 0} (n : ℕ) (test : X → Bool) (xs : List X) → total (λ x. cond (test x) n 0) xs ≡ n * total (λ x. cond (test x) 1 0) xs
     total_scale n test [] = omega arith
     total_scale n test (x ∷ xs) =
         let more = total_scale n test xs in
         elim (cases_Bool (test x)) [ inl b ↦ rw b (omega arith) | inr b ↦ rw b (omega arith) ]
 
-    total_same : {X : Type 0} (f g : X → ℕ) (xs : List X) → AllByRecursion (λ x. f x ≡ g x) xs → total f xs ≡ total g xs
+    pub total_same : {X : Type 0} (f g : X → ℕ) (xs : List X) → AllByRecursion (λ x. f x ≡ g x) xs → total f xs ≡ total g xs
     total_same f g [] h = refl
     total_same f g (x ∷ xs) h = (let first = h.0 in let more = total_same f g xs h.1 in omega arith)
 

@@ -28,6 +28,12 @@ module _ {E : Type 0} where
   abbrev pub owning : ℕ → Place E → ℕ
   owning r p = cond (p.owns r) 1 0
 
+  -- a board for so many workers, who have reported the beginning of time
+  pub record IsOpeningBoard (n : ℕ) (x : Board E) : Type 0 where
+    pub mail : x.mail ≡ []
+    pub reports : x.reports ≡ replicate n (Some 0)
+    pub bound : x.bound ≡ 0
+
 module _ {S E : Type 0} (m : Simulation S E) where
   -- a place stands as its worker reported to a board, where who names the worker of each router
   pub record Stands (who : ℕ → ℕ) (x : Board E) (p : Place E) : Type 0 where
@@ -77,12 +83,6 @@ module _ {S E : Type 0} (m : Simulation S E) where
     pub done : (r : ℕ) → p.done r ≤ q.done r
 
   -- ---- the beginning
-
-  -- a board for so many workers, who have reported the beginning of time
-  pub record IsOpeningBoard (n : ℕ) (x : Board E) : Type 0 where
-    pub mail : x.mail ≡ []
-    pub reports : x.reports ≡ replicate n (Some 0)
-    pub bound : x.bound ≡ 0
 
   -- worker w's place, where nothing is handled and its opening events are pending
   pub record IsOpeningPlace (who : ℕ → ℕ) (w : ℕ) (p : Place E) : Type 0 where

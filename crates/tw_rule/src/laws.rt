@@ -22,7 +22,7 @@ pub fn running_is_seq<S, E>()
     ensures good { (m : Simulation S E) → IsLawful m → (who : ℕ → ℕ) (x : Board E) (ps : List (Place E)) → Rule m who x ps → IsGood m (assembled x ps) }
     ensures always { (m : Simulation S E) → IsLawful m → IsNumbered m → (who : ℕ → ℕ) (x : Board E) (ps : List (Place E)) → Rule m who x ps
         → IsSeq m (assembled x ps) }
-    ensures opens { (m : Simulation S E) → IsLawful m → (who : ℕ → ℕ) (x : Board E) (ps : List (Place E)) → IsOpeningBoard m (length ps) x
+    ensures opens { (m : Simulation S E) → IsLawful m → (who : ℕ → ℕ) (x : Board E) (ps : List (Place E)) → IsOpeningBoard (length ps) x
         → AreOpeningPlaces m who 0 ps → ((r : ℕ) → r < m.routers → who r < length ps) → Rule m who x ps }
     ensures gives { (m : Simulation S E) → IsLawful m → (who : ℕ → ℕ) (x y : Board E) (ps : List (Place E)) (i : ℕ) (p q : Place E) → Rule m who x ps
         → slice_get ps i ≡ Some p → MayGive m who x p y q → Rule m who y (slice_set ps i q) }

@@ -1,0 +1,198 @@
+-- What each call at a place keeps.
+use Rattle.std.proofs.Common.{◌≡◌, ℕ, suc, zero, ◌+◌, ◌<◌, ◌≤◌, Bool, cond, true, false, List, [], ◌∷◌, ◌++◌, map, append_assoc, Ok, Some, remove, slice_get, refl, ap, sym, ◌∙◌, subst, inl, inr, arith}
+use Rattle.std.proofs.lemmas.Bool.{cases_Bool, cases_lt}
+use Rattle.tw_sim.proofs.Counts.{in_head}
+use Rattle.tw_core.proofs.Counts.{antimessages-append, antimessages-remove, in_flight, messages-append, messages-remove}
+use Rattle.tw_core.proofs.Delivery.{delivered, part_loose}
+use Rattle.tw_core.proofs.Done.{handle_done}
+use Rattle.tw_core.proofs.Own.{own_arrival, own_handle, own_undoing}
+use Rattle.tw_core.proofs.Steps.{keeps_handling, may_handle, undoing_keeps}
+use Rattle.tw_core.proofs.Wording.{arrival-front}
+use Rattle.tw_core.specs.Good.{IsGoodPart}
+use Rattle.tw_core.specs.Machine.{Core, antimessages, messages, times_loose}
+use Rattle.tw_core.specs.Parts.{IsOwn, KeepsPart}
+use Rattle.tw_core.specs.Steps.{after_arrival, after_delivery, after_handling, after_undoing, antimessage, first_pending, handle, message}
+use Rattle.tw_rule.specs.Board.{times_among}
+use Rattle.tw_rule.specs.Place.{IsFrom, IsPlace, Keeps, Place, core, in_hand, whole, with_core, with_unsent}
+use Rattle.tw_sim.specs.declared.machine.Signed.{Signed}
+use Rattle.tw_sim.specs.Simulation.{Simulation, IsLawful, state, times}
+
+-- ---- lists
+
+-- a place of a list stays where another list follows
+pub get_front : {X : Type 0} (xs ys : List X) (k : ℕ) (x : X) → slice_get xs k ≡ Some x → slice_get (xs ++ ys) k ≡ Some x
+get_front [] ys k x h = cc
+get_front (z ∷ xs) ys zero x h = h
+get_front (z ∷ xs) ys (suc k) x h = get_front xs ys k x h
+
+pub remove_front : {X : Type 0} (xs ys : List X) (k : ℕ) (x : X) → slice_get xs k ≡ Some x → remove (xs ++ ys) k ≡ remove xs k ++ ys
+remove_front [] ys k x h = cc
+remove_front (z ∷ xs) ys zero x h = refl
+remove_front (z ∷ xs) ys (suc k) x h = ap (λ l. z ∷ l) (remove_front xs ys k x h)
+
+-- messages in front of what a machine has in flight
+abbrev pub behind : {E : Type 0} → List (Signed E) → Core E → Core E
+behind front C = record C { flight = front ++ C.flight }
+
+module _ {S E : Type 0} (m : Simulation S E) where
+  handling-front : (front : List (Signed E)) (C : Core E) (r : ℕ) (e : E) → after_handling m (behind front C) r e ≡ behind front (after_handling m C r e)
+  handling-front front C r e =
+      ap (λ f. record (after_handling m C r e) { flight = f }) (append_assoc front C.flight (map message (m.sends (state m r (C.history r)) e)))
+
+  undoing-front : (front : List (Signed E)) (C : Core E) (r : ℕ) (e : E) (older : List E) → after_undoing m (behind front C) r e older ≡ behind front (after_undoing m C r e older)
+  undoing-front front C r e older =
+      ap (λ f. record (after_undoing m C r e older) { flight = f }) (append_assoc front C.flight (map antimessage (m.sends (state m r older) e)))
+
+  -- a part in which nothing loose is before another time
+  pub part_from : (t : ℕ) (C : Core E) → IsGoodPart m 0 C → ((e : E) → 0 < times_loose m C e → t ≤ m.time e) → IsGoodPart m t C
+  part_from t C good late = record {
+    falling = good.falling;
+    home = good.home;
+    soon = good.soon;
+    late = late;
+    ahead = good.ahead;
+    alone = good.alone;
+    suit = good.suit;
+  }
+
+  -- what is among the messages of a hand is loose
+  pub in_hand_loose : (p : Place E) (e : E) → 0 < times_among m e p.mail + times_among m e p.unsent → 0 < times_loose m (whole 0 p) e
+  in_hand_loose p e h =
+      let a = messages-append m e (p.mail ++ p.unsent) p.outgoing in
+      let b = messages-append m e p.mail p.unsent in
+      let c = antimessages-append m e (p.mail ++ p.unsent) p.outgoing in
+      let d = antimessages-append m e p.mail p.unsent in
+      omega arith
+
+  -- its routers are its own
+  own_routers : (stop : ℕ) (p : Place E) → IsPlace m stop p → IsOwn m p.owns (core stop p)
+  own_routers stop p place = record { history = place.history; waiting = λ e h. place.waiting e (omega arith) }
+
+  module _ (law : IsLawful m) where
+    -- what a call at its routers keeps, while the rest of the hand is on its way
+    kept : (stop : ℕ) (p : Place E) (mail : List (Signed E)) (D : Core E) → IsPlace m stop p → ((e : E) → times_among m e mail ≤ times_among m e p.mail) → IsOwn m p.owns D
+        → ((t : ℕ) → IsGoodPart m t (whole stop p) → KeepsPart m t (whole stop p) (behind (mail ++ p.unsent) D))
+        → Keeps m stop p (with_core D (record p { mail = mail }))
+    kept stop p mail D place less own call =
+        let q = with_core D (record p { mail = mail }) in
+        let first = call 0 place.good in
+        let same : behind (mail ++ p.unsent) D ≡ whole stop q = ap (λ s. record (behind (mail ++ p.unsent) D) { stop = s }) first.stop in
+        let bound : D.bound ≡ p.bound = first.bound in
+        let done : (r : ℕ) → D.done r ≡ p.done r = λ r. ap (λ f. f r) first.done in
+        record {
+          worker = refl;
+          owns = refl;
+          place = record {
+            good = subst (IsGoodPart m 0) same first.part;
+            history = own.history;
+            waiting = λ e h. elim (cases_lt 0 (times m e D.pending + times m e D.kept)) [
+              | inl l ↦ own.waiting e l
+              | inr ge ↦ place.waiting e (let le = less e in omega arith)
+            ];
+            done = λ r. (let old = place.done r in let now = done r in omega arith);
+          };
+          late = λ t from. (call t (part_from t (whole stop p) place.good from)).part.late;
+          surplus = first.surplus;
+          done = λ r. (let now = done r in omega arith);
+          bound = bound;
+        }
+
+    -- handling
+    pub keeps_handle : (stop r : ℕ) (p : Place E) (D : Core E) → IsPlace m stop p → handle m (core stop p) r (first_pending m (core stop p) r) ≡ Ok D
+        → Keeps m stop p (with_core D p)
+    keeps_handle stop r p D place h =
+        let done = handle_done m (core stop p) D r (first_pending m (core stop p) r) h in
+        let front = p.mail ++ p.unsent in
+        let made : after_handling m (whole stop p) r done.event ≡ behind front D = handling-front front (core stop p) r done.event ∙ ap (behind front) done.made in
+        kept stop p p.mail D place (λ e. omega arith) (own_handle m law p.owns (core stop p) D r (own_routers stop p place) h)
+        (λ t good. subst (KeepsPart m t (whole stop p)) made
+          (keeps_handling m law t (whole stop p) r done.event good (may_handle m law t (whole stop p) r done.event good done.found done.soon done.new)))
+
+    -- a message of the hand is counted there, and is for a router of its own
+    at_hand : (p : Place E) (k : ℕ) (s : Signed E) → slice_get p.mail k ≡ Some s → 0 < times_among m s.event p.mail
+    at_hand p k s there = in_flight m law p.mail k s there
+
+    pub hand_is_own : (stop : ℕ) (p : Place E) (k : ℕ) (s : Signed E) → IsPlace m stop p → slice_get p.mail k ≡ Some s → p.owns (m.dst s.event) ≡ true
+    hand_is_own stop p k s place there = place.waiting s.event (let h = at_hand p k s there in omega arith)
+
+    pub hand_is_loose : (p : Place E) (k : ℕ) (s : Signed E) → slice_get p.mail k ≡ Some s → 0 < times_loose m (whole 0 p) s.event
+    hand_is_loose p k s there = in_hand_loose p s.event (let h = at_hand p k s there in omega arith)
+
+    -- a message is received, with all that is then undone
+    pub keeps_receive : (stop k : ℕ) (p : Place E) (s : Signed E) → IsPlace m stop p → slice_get p.mail k ≡ Some s
+        → Keeps m stop p (with_core (after_arrival m (core stop p) s) (record p { mail = remove p.mail k }))
+    keeps_receive stop k p s place there =
+        let rest = remove p.mail k in
+        let in_front = get_front p.mail p.unsent k s there in
+        let flight : remove (in_hand p) k ≡ (rest ++ p.unsent) ++ p.outgoing =
+        remove_front (p.mail ++ p.unsent) p.outgoing k s in_front ∙ ap (λ f. f ++ p.outgoing) (remove_front p.mail p.unsent k s there) in
+        let made : after_delivery m (whole stop p) k s ≡ behind (rest ++ p.unsent) (after_arrival m (core stop p) s) =
+        ap (λ f. after_arrival m (record (whole stop p) { flight = f }) s) flight ∙ arrival-front m (core stop p) s (rest ++ p.unsent) in
+        let alone = part_loose m law 0 (whole stop p) p.pending p.kept p.outgoing place.good
+        (λ e h. (
+          let a = messages-append m e (p.mail ++ p.unsent) p.outgoing in
+          let b = antimessages-append m e (p.mail ++ p.unsent) p.outgoing in
+          omega arith))
+        place.good.ahead place.good.alone in
+        kept stop p rest (after_arrival m (core stop p) s) place
+        (λ e. (let a = messages-remove m e p.mail k s there in let b = antimessages-remove m e p.mail k s there in omega arith))
+        (own_arrival m law p.owns 0 (core stop p) s alone (own_routers stop p place) (hand_is_own stop p k s place there))
+        (λ t good. subst (KeepsPart m t (whole stop p)) made (delivered m law t (whole stop p) k s good (get_front (p.mail ++ p.unsent) p.outgoing k s in_front)))
+
+    -- an event that is not before a message is no earlier
+    not_earlier : (e x : E) → m.before e x ≡ false → m.time x ≤ m.time e
+    not_earlier e x h =
+        elim (cases_Bool (m.before x e)) [
+          | inl b ↦ law.timely x e b
+          | inr b ↦ (let same : m.time e ≡ m.time x = ap m.time (law.total e x h b) in omega arith)
+        ]
+
+    -- one event is undone, while such a message is in the hand
+    pub keeps_undo : (stop k : ℕ) (p : Place E) (s : Signed E) (e : E) (older : List E) → IsPlace m stop p → slice_get p.mail k ≡ Some s → p.history (m.dst s.event) ≡ e ∷ older
+        → m.before e s.event ≡ false → Keeps m stop p (with_core (after_undoing m (core stop p) (m.dst s.event) e older) p)
+    keeps_undo stop k p s e older place there newest order =
+        let r = m.dst s.event in
+        let front = p.mail ++ p.unsent in
+        let home : m.dst e ≡ r = place.good.home r e (subst (λ xs. 0 < times m e xs) (sym newest) (in_head m law e older)) in
+        let late = not_earlier e s.event order in
+        kept stop p p.mail (after_undoing m (core stop p) r e older) place (λ x. omega arith)
+        (own_undoing m law p.owns (core stop p) r e older home newest (own_routers stop p place))
+        (λ t good. subst (KeepsPart m t (whole stop p)) (undoing-front front (core stop p) r e older)
+          (undoing_keeps m law t (whole stop p) r e older (let loose = good.late s.event (hand_is_loose p k s there) in omega arith) good newest))
+
+    -- messages go from the outgoing ones to the unsent ones, or back
+    pub keeps_unsent : (stop : ℕ) (p : Place E) (unsent outgoing : List (Signed E)) → IsPlace m stop p
+        → ((e : E) → messages m e unsent + messages m e outgoing ≡ messages m e p.unsent + messages m e p.outgoing)
+        → ((e : E) → antimessages m e unsent + antimessages m e outgoing ≡ antimessages m e p.unsent + antimessages m e p.outgoing)
+        → Keeps m stop p (with_unsent unsent outgoing p)
+    keeps_unsent stop p unsent outgoing place plus minus =
+        let q = with_unsent unsent outgoing p in
+        let same_messages : (e : E) → messages m e (in_hand q) ≡ messages m e (in_hand p) = λ e. (
+          let a = messages-append m e (p.mail ++ p.unsent) p.outgoing in
+          let b = messages-append m e p.mail p.unsent in
+          let c = messages-append m e (p.mail ++ unsent) outgoing in
+          let d = messages-append m e p.mail unsent in
+          let moved = plus e in
+          omega arith) in
+        let same_antimessages : (e : E) → antimessages m e (in_hand q) ≡ antimessages m e (in_hand p) = λ e. (
+          let a = antimessages-append m e (p.mail ++ p.unsent) p.outgoing in
+          let b = antimessages-append m e p.mail p.unsent in
+          let c = antimessages-append m e (p.mail ++ unsent) outgoing in
+          let d = antimessages-append m e p.mail unsent in
+          let moved = minus e in
+          omega arith) in
+        record {
+          worker = refl;
+          owns = refl;
+          place = record {
+            good = part_loose m law 0 (whole stop p) p.pending p.kept (in_hand q) place.good
+                (λ e h. (let a = same_messages e in let b = same_antimessages e in omega arith)) place.good.ahead place.good.alone;
+            history = place.history;
+            waiting = place.waiting;
+            done = place.done;
+          };
+          late = λ t from e h. from e (let a = same_messages e in let b = same_antimessages e in omega arith);
+          surplus = λ e. (let a = same_messages e in let b = same_antimessages e in omega arith);
+          done = λ r. omega arith;
+          bound = refl;
+        }

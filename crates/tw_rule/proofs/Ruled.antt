@@ -1,0 +1,109 @@
+-- What the rule gives: the machine put together is good.
+use Rattle.std.proofs.Common.{◌≡◌, ℕ, ◌+◌, ◌<◌, ◌≤◌, ◌==◌, Bool, cond, true, List, [], ◌∷◌, ◌++◌, map, Some, flat_map, slice_get, refl, ap, sym, ◌∙◌, subst, inl, inr, arith}
+use Rattle.std.proofs.lemmas.Bool.{cases_eq, eq-eqb, ne_eqb}
+use Rattle.std.specs.List.{AllByRecursion}
+use Rattle.std.specs.Option.{option_map_or}
+use Rattle.tw_core.proofs.Headline.{at_end, good_is_seq}
+use Rattle.tw_core.proofs.Owners.{owner_is}
+use Rattle.tw_core.proofs.Parts.{good_assembled}
+use Rattle.tw_core.proofs.Sums.{all_map}
+use Rattle.tw_core.specs.Good.{IsGood, times_there}
+use Rattle.tw_core.specs.Machine.{Core, antimessages, messages}
+use Rattle.tw_core.specs.Parts.{AddUp, IsPart, Part, owner, times_wanted, total}
+use Rattle.tw_core.specs.Run.{IsAtEnd, IsSeq, IsSettled}
+use Rattle.tw_rule.proofs.Calls.{part_from}
+use Rattle.tw_rule.proofs.Places.{all_at, all_in_map, get_map, total_map}
+use Rattle.tw_rule.proofs.Visits.{stands_from}
+use Rattle.tw_rule.specs.Board.{Board, IsBoard}
+use Rattle.tw_rule.specs.Place.{Place, in_hand, part_of, whole}
+use Rattle.tw_rule.specs.Rule.{Rule, Stands, assembled, is_at, owning, shared}
+use Rattle.tw_sim.specs.Seq.{log}
+use Rattle.tw_sim.specs.Simulation.{Simulation, IsLawful, IsNumbered, below, only, times}
+
+module _ {S E : Type 0} (m : Simulation S E) (law : IsLawful m) (who : ℕ → ℕ) where
+  -- a router's owners are as many as the places of its worker
+  owners_at : (r : ℕ) → r < m.routers → (x : Board E) (ps : List (Place E)) → AllByRecursion (Stands m who x) ps → total (owning r) ps ≡ total (is_at (who r)) ps
+  owners_at r l x [] h = refl
+  owners_at r l x (p ∷ ps) h =
+      let more = owners_at r l x ps h.1 in
+      let here : owning r p ≡ is_at (who r) p = elim (cases_eq p.worker (who r)) [
+        | inl is ↦ rw (h.0.owns r l, eq-eqb (who r) p.worker (sym is), eq-eqb p.worker (who r) is) refl
+        | inr ne ↦ rw (h.0.owns r l, ne_eqb (who r) p.worker (λ k. ne (sym k)), ne_eqb p.worker (who r) ne) refl
+      ] in
+      omega arith
+
+  -- so each router has one
+  pub owners_once : (x : Board E) (ps : List (Place E)) (r : ℕ) → Rule m who x ps → r < m.routers → total (owning r) ps ≡ 1
+  owners_once x ps r rule l = owners_at r l x ps rule.each ∙ rule.places (who r) (rule.routers r l)
+
+  -- a place that stands is a part
+  part_stands : (x : Board E) → IsBoard m x → (p : Place E) → Stands m who x p → IsPart m (shared x) (part_of x.stop p)
+  part_stands x board p stands = record {
+    good = part_from m x.bound (whole x.stop p) stands.place.good (stands_from m law who x p board stands);
+    done = λ r. (let a = stands.place.done r in let b = stands.bound in omega arith);
+    own = record { history = stands.place.history; waiting = λ e h. stands.place.waiting e (omega arith) };
+  }
+
+  abbrev parts : Board E → List (Place E) → List (Part E)
+  parts x ps = map (part_of x.stop) ps
+
+  adds_up : (x : Board E) (ps : List (Place E)) → Rule m who x ps → AddUp m (shared x) (parts x ps)
+  adds_up x ps rule = record {
+    once = λ r l. total_map (λ (p : Part E). cond (p.owns r) 1 0) (part_of x.stop) ps ∙ owners_once x ps r rule l;
+    each = all_in_map (IsPart m (shared x)) (part_of x.stop) ps
+        (all_map (Stands m who x) (λ p. IsPart m (shared x) (part_of x.stop p)) (part_stands x rule.board) ps rule.each);
+    bound = rule.board.stop;
+    late = rule.board.late;
+    suit = rule.board.suit;
+    balance = λ e. (
+        let wanted : total (λ p. times_wanted m p.core e) (parts x ps) ≡ total (λ p. times_wanted m (whole 0 p) e) ps = total_map (λ (p : Part E). times_wanted m p.core e) (part_of x.stop) ps in
+        let there : total (λ p. times_there m p.core e) (parts x ps) ≡ total (λ p. times_there m (whole 0 p) e) ps = total_map (λ (p : Part E). times_there m p.core e) (part_of x.stop) ps in
+        let sum = rule.balance e in
+        omega arith);
+  }
+
+  -- the machine put together is good
+  pub good_of_rule : (x : Board E) (ps : List (Place E)) → Rule m who x ps → IsGood m (assembled x ps)
+  good_of_rule x ps rule = good_assembled m law (shared x) (parts x ps) (adds_up x ps rule)
+
+  -- ---- what a place has is what that machine has
+
+  owner_of : (x : Board E) (ps : List (Place E)) (i r : ℕ) (p : Place E) → Rule m who x ps → slice_get ps i ≡ Some p → r < m.routers → p.owns r ≡ true
+      → owner r (parts x ps) ≡ Some (part_of x.stop p)
+  owner_of x ps i r p rule place l mine =
+      let one = (adds_up x ps rule).once r l in
+      all_at (λ (z : Part E). z.owns r ≡ true → owner r (parts x ps) ≡ Some z) (parts x ps) i (part_of x.stop p) (get_map (part_of x.stop) ps i p place) (owner_is r (parts x ps) one) mine
+
+  pub history_of : (x : Board E) (ps : List (Place E)) (i r : ℕ) (p : Place E) → Rule m who x ps → slice_get ps i ≡ Some p → r < m.routers → p.owns r ≡ true
+      → (assembled x ps).history r ≡ p.history r
+  history_of x ps i r p rule place l mine = ap (λ o. option_map_or (λ (z : Part E). z.core.history r) o []) (owner_of x ps i r p rule place l mine)
+
+  done_of : (x : Board E) (ps : List (Place E)) (i r : ℕ) (p : Place E) → Rule m who x ps → slice_get ps i ≡ Some p → r < m.routers → p.owns r ≡ true
+      → (assembled x ps).done r ≡ p.done r
+  done_of x ps i r p rule place l mine = ap (λ o. option_map_or (λ (z : Part E). z.core.done r) o 0) (owner_of x ps i r p rule place l mine)
+
+  -- ---- and that machine is the one-thread run
+
+  pub seq_of_rule : IsNumbered m → (x : Board E) (ps : List (Place E)) → Rule m who x ps → IsSeq m (assembled x ps)
+  seq_of_rule numbered x ps rule = good_is_seq m law numbered (assembled x ps) (good_of_rule x ps rule)
+
+  pub committed_of : IsNumbered m → (x : Board E) (ps : List (Place E)) (i r : ℕ) (p : Place E) → Rule m who x ps → slice_get ps i ≡ Some p → r < m.routers → p.owns r ≡ true
+      → below m (p.done r) (p.history r) ≡ only m r (log m (p.done r))
+  committed_of numbered x ps i r p rule place l mine =
+      let events = (seq_of_rule numbered x ps rule).events r in
+      subst (λ t. below m t (p.history r) ≡ only m r (log m t)) (done_of x ps i r p rule place l mine)
+      (subst (λ xs. below m ((assembled x ps).done r) xs ≡ only m r (log m ((assembled x ps).done r))) (history_of x ps i r p rule place l mine) events)
+
+  none_flies : (stop : ℕ) (ps : List (Place E)) → AllByRecursion (λ p. in_hand p ≡ []) ps → flat_map (λ (p : Part E). p.core.flight) (map (part_of stop) ps) ≡ []
+  none_flies stop [] h = refl
+  none_flies stop (p ∷ ps) h = ap (λ xs. xs ++ flat_map (λ (z : Part E). z.core.flight) (map (part_of stop) ps)) h.0 ∙ none_flies stop ps h.1
+
+  pub end_of_rule : IsNumbered m → (x : Board E) (ps : List (Place E)) → Rule m who x ps → x.mail ≡ [] → AllByRecursion (λ p. in_hand p ≡ []) ps → x.bound ≡ x.stop
+      → IsAtEnd m (assembled x ps)
+  end_of_rule numbered x ps rule no_mail empty last =
+      let good = good_of_rule x ps rule in
+      let settled : IsSettled m (assembled x ps) = record {
+        flight = ap (λ xs. xs ++ flat_map (λ (z : Part E). z.core.flight) (parts x ps)) no_mail ∙ none_flies x.stop ps empty;
+        pending = λ e h. (let late = good.late e (omega arith) in omega arith);
+      } in
+      at_end m law numbered (assembled x ps) good settled
