@@ -1,3 +1,4 @@
 pub mod Lists
 pub mod Rules
 pub mod Views
+pub mod Seats

@@ -7,6 +7,8 @@ use Rattle.tw_event.specs.declared.event.Event.{Event}
 use Rattle.tw_exchange.specs.Board.{Board, owner, workers}
 use Rattle.tw_model.proofs.Lawful.{lawful, numbered}
 use Rattle.tw_model.specs.Case.{Case, IsCase, simulation}
+use Rattle.tw_rule.proofs.Gives.{rule_gives}
+use Rattle.tw_rule.proofs.Ruled.{good_of_rule, seq_of_rule}
 use Rattle.tw_rule.specs.Place.{Place, whole}
 use Rattle.tw_rule.specs.Rule.{MayGive, Rule, Stands, is_at}
 use Rattle.tw_table.proofs.Lists.{all_map}
@@ -71,7 +73,7 @@ given_one case x y s t others ruled may =
       cases = (may.case ∙ ruled.cases.0, ruled.cases.1);
       count = ruled.count ∙ sym give.steps.workers;
       rule = subst (λ (n : ℕ). Rule m (owner n) (board_of y) (map place_of (t ∷ others))) (sym give.steps.workers)
-          ?;
+          (rule_gives m (owner (workers x)) (board_of x) (board_of y) (map place_of (s ∷ others)) 0 (place_of s) (place_of t) ruled.rule refl give);
     }
 
 -- the workers' shares with the exchange are a good state
@@ -79,6 +81,6 @@ pub whole_of : (case : Case) (x : Board) (shares : List Share) → IsRuled case 
 whole_of case x shares ruled = record {
   case = case;
   ruled = ruled;
-  good = ?;
-  seq = ?;
+  good = good_of_rule (simulation case) (lawful case ruled.is_case) (owner (workers x)) (board_of x) (map place_of shares) ruled.rule;
+  seq = seq_of_rule (simulation case) (lawful case ruled.is_case) (owner (workers x)) (numbered case ruled.is_case) (board_of x) (map place_of shares) ruled.rule;
 }
