@@ -2,3 +2,5 @@ pub mod Lists
 pub mod Rules
 pub mod Views
 pub mod Seats
+pub mod Joins
+pub mod Deals

@@ -200,8 +200,8 @@ finds_empty port v x begun has items views (inl none) at = none.0
 finds_empty port v x begun has items views (inr is) at = (holder items views port v x is.board at has is.one).items_empty
 
 -- the exchange is laid on the table
-pub lays : (port : ℕ) (case : Case) (x : Board) (shares : List Share) → IsRuled case x shares → Pushes Holds 1 port first_view x (λ w. w ≡ opened shares x)
-lays port case x shares ruled items views room (inl none) at =
+lays_first : (port : ℕ) (case : Case) (x : Board) (shares : List Share) → IsRuled case x shares → Pushes Holds 1 port first_view x (λ w. w ≡ opened shares x)
+lays_first port case x shares ruled items views room (inl none) at =
     let w = opened shares x in
     let now : set views port w ≡ w ∷ [] = ap (λ l. set l port w) none.1 ∙ first_set port first_view w (ap (λ l. get_elem? l port) (sym none.1) ∙ at) in
     (
@@ -215,11 +215,17 @@ lays port case x shares ruled items views room (inl none) at =
       }),
       refl,
     )
-lays port case x shares ruled items views room (inr is) at = absurd (true≢false (all_at (Knows is.board) views port first_view at is.each).begun)
+lays_first port case x shares ruled items views room (inr is) at = absurd (true≢false (all_at (Knows is.board) views port first_view at is.each).begun)
 
-pub lays_on_empty : (port : ℕ) → Learns Holds port first_view (λ items. items ≡ [])
-lays_on_empty port items views (inl none) at = none.0
-lays_on_empty port items views (inr is) at = absurd (true≢false (all_at (Knows is.board) views port first_view at is.each).begun)
+pub lays : (port : ℕ) (v : View) (case : Case) (x : Board) (shares : List Share) → v ≡ first_view → IsRuled case x shares → Pushes Holds 1 port v x (λ w. w ≡ opened shares x)
+lays port v case x shares is ruled = subst (λ (u : View). Pushes Holds 1 port u x (λ w. w ≡ opened shares x)) (sym is) (lays_first port case x shares ruled)
+
+lays_first_on_empty : (port : ℕ) → Learns Holds port first_view (λ items. items ≡ [])
+lays_first_on_empty port items views (inl none) at = none.0
+lays_first_on_empty port items views (inr is) at = absurd (true≢false (all_at (Knows is.board) views port first_view at is.each).begun)
+
+pub lays_on_empty : (port : ℕ) (v : View) → v ≡ first_view → Learns Holds port v (λ items. items ≡ [])
+lays_on_empty port v is = subst (λ (u : View). Learns Holds port u (λ items. items ≡ [])) (sym is) (lays_first_on_empty port)
 
 -- a pass is cut in two
 pub forks : (port : ℕ) (v : View) → v.opening ≡ false → v.held ≡ [] → Forks Holds port v (with_others v) (with_first v)
