@@ -1,12 +1,11 @@
 -- A pass that is cut into seats, one by one.
-use Rattle.std.proofs.Common.{◌≡◌, ℕ, zero, suc, ◌+◌, ◌<◌, ◌≤◌, false, List, [], ◌∷◌, ◌++◌, drop, length, map, take, refl, ap, sym, ◌∙◌, subst, append_assoc, arith}
-use Rattle.crossbeam_queue.specs.Passes.{IsPassOf, IsSamePass, Pass, view}
+use Rattle.std.proofs.Common.{◌≡◌, ℕ, zero, suc, ◌+◌, ◌<◌, false, List, [], ◌∷◌, ◌++◌, drop, length, map, take, refl, ap, sym, ◌∙◌, subst, arith}
+use Rattle.crossbeam_queue.specs.Passes.{Pass, view}
 use Rattle.std.specs.List.{AllByRecursion, range_with_len}
 use Rattle.tw_exchange.specs.Board.{Board, workers}
 use Rattle.tw_table.proofs.Joins.{only_share}
 use Rattle.tw_table.proofs.Lists.{all_append}
 use Rattle.tw_table.proofs.Seats.{worker_of}
-use Rattle.tw_table.proofs.Views.{nil_right}
 use Rattle.tw_table.specs.declared.rule.View.{View}
 use Rattle.tw_table.specs.declared.seat.Seat.{Seat}
 use Rattle.tw_table.specs.Seats.{share_at}

@@ -1,5 +1,5 @@
 -- Seats that become one.
-use Rattle.std.proofs.Common.{◌≡◌, ℕ, suc, ◌+◌, ◌<◌, ◌≤◌, false, List, [], ◌∷◌, ◌++◌, length, map, refl, ap, sym, ◌∙◌, subst, append_assoc, arith}
+use Rattle.std.proofs.Common.{◌≡◌, ℕ, ◌+◌, ◌<◌, false, List, [], ◌∷◌, ◌++◌, length, map, refl, ap, sym, ◌∙◌, subst, append_assoc, arith}
 use Rattle.crossbeam_queue.specs.Passes.{IsPassOf, IsSamePass, Pass, view}
 use Rattle.std.proofs.lemmas.List.{length-append}
 use Rattle.std.specs.List.{AllByRecursion}
@@ -78,4 +78,4 @@ closed x v shares n is count long more met knows =
     let d = length-append v.shares met.others in
     let none : met.others ≡ [] = no_more met.others (omega arith) in
     whole_of met.case x shares
-        (subst (IsRuled met.case x) (ap (λ l. v.shares ++ l) none ∙ (nil_right v.shares ∙ is)) met.ruled)
+    (subst (IsRuled met.case x) (ap (λ l. v.shares ++ l) none ∙ (nil_right v.shares ∙ is)) met.ruled)

@@ -1,17 +1,16 @@
 -- The rule over shares: they may stand in any order, and one of them is given.
-use Rattle.std.proofs.Common.{◌≡◌, ℕ, zero, suc, ◌+◌, ◌<◌, ◌≤◌, List, [], ◌∷◌, ◌++◌, length, map, refl, ap, sym, ◌∙◌, subst, arith}
+use Rattle.std.proofs.Common.{◌≡◌, ℕ, ◌+◌, List, [], ◌∷◌, length, map, refl, ap, sym, ◌∙◌, subst, arith}
 use Rattle.std.specs.List.{AllByRecursion}
 use Rattle.tw_core.specs.Good.{times_there}
 use Rattle.tw_core.specs.Parts.{times_wanted, total}
 use Rattle.tw_event.specs.declared.event.Event.{Event}
 use Rattle.tw_exchange.specs.Board.{Board, owner, workers}
 use Rattle.tw_model.proofs.Lawful.{lawful, numbered}
-use Rattle.tw_model.specs.Case.{Case, IsCase, simulation}
+use Rattle.tw_model.specs.Case.{Case, simulation}
 use Rattle.tw_rule.proofs.Gives.{rule_gives}
 use Rattle.tw_rule.proofs.Ruled.{good_of_rule, seq_of_rule}
 use Rattle.tw_rule.specs.Place.{Place, whole}
 use Rattle.tw_rule.specs.Rule.{MayGive, Rule, Stands, is_at}
-use Rattle.tw_table.proofs.Lists.{all_map}
 use Rattle.tw_table.specs.Shares.{IsRuled, IsWhole, MayBeGiven, Share, board_of, place_of}
 
 -- the same shares, in another order
@@ -55,10 +54,10 @@ any_order case x ss ts same ruled =
         places = λ w h. sums_of ss ts same (is_at w) ∙ old.places w h;
         routers = old.routers;
         balance = λ e.
-          let wanted = sums_of ss ts same (λ p. times_wanted m (whole 0 p) e) in
-          let there = sums_of ss ts same (λ p. times_there m (whole 0 p) e) in
-          let before = old.balance e in
-          omega arith;
+            let wanted = sums_of ss ts same (λ p. times_wanted m (whole 0 p) e) in
+            let there = sums_of ss ts same (λ p. times_there m (whole 0 p) e) in
+            let before = old.balance e in
+            omega arith;
       };
     }
 
@@ -67,7 +66,7 @@ pub given_one : (case : Case) (x y : Board) (s t : Share) (others : List Share) 
 given_one case x y s t others ruled may =
     let m = simulation case in
     let give : MayGive m (owner (workers x)) (board_of x) (place_of s) (board_of y) (place_of t)
-        = subst (λ (c : Case). MayGive (simulation c) (owner (workers x)) (board_of x) (place_of s) (board_of y) (place_of t)) ruled.cases.0 may.give in
+    = subst (λ (c : Case). MayGive (simulation c) (owner (workers x)) (board_of x) (place_of s) (board_of y) (place_of t)) ruled.cases.0 may.give in
     record {
       is_case = ruled.is_case;
       cases = (may.case ∙ ruled.cases.0, ruled.cases.1);

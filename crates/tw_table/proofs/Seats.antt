@@ -1,12 +1,9 @@
 -- What a seat knows of its one share, and of the exchange while it has it.
-use Rattle.std.proofs.Common.{◌≡◌, ℕ, suc, ◌+◌, ◌<◌, ◌≤◌, false, List, [], ◌∷◌, ◌++◌, drop, get_or, length, map, refl, ap, sym, ◌∙◌, subst, arith}
+use Rattle.std.proofs.Common.{◌≡◌, ℕ, ◌<◌, List, [], ◌∷◌, drop, get_or, length, map, refl, ap, sym, subst, arith}
 use Rattle.std.proofs.lemmas.List.{length-map}
-use Rattle.std.specs.List.{AllByRecursion}
-use Rattle.tw_exchange.specs.Board.{Board, opening, workers}
-use Rattle.tw_model.specs.Case.{simulation}
-use Rattle.tw_rule.specs.Rule.{Stands}
+use Rattle.tw_exchange.specs.Board.{Board, workers}
 use Rattle.tw_table.specs.declared.rule.View.{View}
-use Rattle.tw_table.specs.Shares.{Share, no_share, place_of}
+use Rattle.tw_table.specs.Shares.{Share}
 use Rattle.tw_table.specs.Views.{IsHolding, IsMet, IsWaiting, Knows, took}
 
 -- a list with one element

@@ -1,5 +1,5 @@
 -- Each step at the table's queue keeps its rule.
-use Rattle.std.proofs.Common.{◌≡◌, ℕ, zero, suc, ◌+◌, ◌<◌, ◌≤◌, ◌⊎◌, true, false, true≢false, List, [], ◌∷◌, ◌++◌, drop, length, map, set, take, flat_map, get_or, refl, ap, sym, ◌∙◌, subst, inl, inr, ⊎_elim, append_assoc, arith}
+use Rattle.std.proofs.Common.{◌≡◌, ℕ, zero, suc, ◌<◌, ◌≤◌, false, true≢false, List, [], ◌∷◌, ◌++◌, drop, length, set, take, get_or, refl, ap, sym, ◌∙◌, subst, inl, inr, ⊎_elim, arith}
 use mathlib.Core.Option.{some, some-injective, some-ne-none}
 use lib.ListN.{get_elem?}
 use Rattle.crossbeam_queue.proofs.Lists.{at_set}
@@ -8,11 +8,11 @@ use Rattle.std.specs.List.{AllByRecursion}
 use Rattle.tw_core.specs.Parts.{total}
 use Rattle.tw_exchange.specs.Board.{Board, workers}
 use Rattle.tw_model.specs.Case.{Case}
-use Rattle.tw_table.proofs.Lists.{Around, all_append, all_apart, all_at, all_flat, all_left, all_map, all_right, all_set, around, flat_append, total_append, total_flat, total_set}
+use Rattle.tw_table.proofs.Lists.{all_append, all_apart, all_at, all_flat, all_left, all_map, all_right, all_set, around, flat_append, total_append, total_flat, total_set}
 use Rattle.tw_table.proofs.Rules.{AreSame, any_order, given_one}
 use Rattle.tw_table.specs.declared.rule.View.{View}
 use Rattle.tw_table.specs.Shares.{IsRuled, MayBeGiven, Share}
-use Rattle.tw_table.specs.Views.{Holds, IsMet, IsOpen, Knows, Taken, all_held, all_shares, first_view, given, joined, opened, spent_view, took, with_first, with_others}
+use Rattle.tw_table.specs.Views.{Holds, Knows, Taken, all_held, all_shares, first_view, given, joined, opened, spent_view, took, with_first, with_others}
 
 -- ---- lists of which one is empty
 
@@ -62,7 +62,7 @@ holder : (items : List Board) (views : List View) (port : ℕ) (v : View) (x y :
 holder items views port v x y at has one =
     let s = around (λ (u : View). u.held) views port v at in
     let all : items ++ (s.front ++ (x ∷ s.rear)) ≡ y ∷ []
-        = ap (λ l. items ++ (s.front ++ (l ++ s.rear))) (sym has) ∙ (ap (λ l. items ++ l) (sym s.now) ∙ one) in
+    = ap (λ l. items ++ (s.front ++ (l ++ s.rear))) (sym has) ∙ (ap (λ l. items ++ l) (sym s.now) ∙ one) in
     let is = alone items s.front s.rear x y all in
     record {
       items_empty = is.first;
@@ -86,14 +86,14 @@ begun_not_first views port v begun is at =
 to_front : (front mine rear : List Share) → AreSame (front ++ (mine ++ rear)) (mine ++ (front ++ rear))
 to_front front mine rear = record {
   sums = λ f.
-    let a = total_append f front (mine ++ rear) in
-    let b = total_append f mine rear in
-    let c = total_append f mine (front ++ rear) in
-    let d = total_append f front rear in
-    omega arith;
+      let a = total_append f front (mine ++ rear) in
+      let b = total_append f mine rear in
+      let c = total_append f mine (front ++ rear) in
+      let d = total_append f front rear in
+      omega arith;
   each = λ P h.
-    let others = all_right P front (mine ++ rear) h in
-    all_append P mine (front ++ rear) (all_left P mine rear others) (all_append P front rear (all_left P front (mine ++ rear) h) (all_right P mine rear others));
+      let others = all_right P front (mine ++ rear) h in
+      all_append P mine (front ++ rear) (all_left P mine rear others) (all_append P front rear (all_left P front (mine ++ rear) h) (all_right P mine rear others));
 }
 
 to_middle : (front mine rear : List Share) → AreSame (mine ++ (front ++ rear)) (front ++ (mine ++ rear))
@@ -111,13 +111,13 @@ cut front [] rear = record {
 }
 cut front (s ∷ mine) rear = record {
   sums = λ f.
-    let a = total_append f front ((s ∷ mine) ++ rear) in
-    let b = total_append f (front ++ (mine ++ rear)) (s ∷ []) in
-    let c = total_append f front (mine ++ rear) in
-    omega arith;
+      let a = total_append f front ((s ∷ mine) ++ rear) in
+      let b = total_append f (front ++ (mine ++ rear)) (s ∷ []) in
+      let c = total_append f front (mine ++ rear) in
+      omega arith;
   each = λ P h.
-    let others = all_right P front ((s ∷ mine) ++ rear) h in
-    all_append P (front ++ (mine ++ rear)) (s ∷ []) (all_append P front (mine ++ rear) (all_left P front ((s ∷ mine) ++ rear) h) others.1) (others.0, tt);
+      let others = all_right P front ((s ∷ mine) ++ rear) h in
+      all_append P (front ++ (mine ++ rear)) (s ∷ []) (all_append P front (mine ++ rear) (all_left P front ((s ∷ mine) ++ rear) h) others.1) (others.0, tt);
 }
 
 fewer_left : (mine : List Share) → 0 < length (drop 1 mine) → 0 < length mine
@@ -138,9 +138,8 @@ takes port v begun empty x items views (inr is) at =
     let s = around (λ (u : View). u.shares) views port v at in
     let w = took v x in
     let mine : IsRuled is.case x (s.front ++ (v.shares ++ s.rear))
-        = subst (λ (b : Board). IsRuled is.case b (s.front ++ (v.shares ++ s.rear))) (sym one) (subst (IsRuled is.case is.board) s.now is.ruled) in
-    let knows = all_at (Knows is.board) views port v at is.each in
-    (
+    = subst (λ (b : Board). IsRuled is.case b (s.front ++ (v.shares ++ s.rear))) (sym one) (subst (IsRuled is.case is.board) s.now is.ruled) in
+    let knows = all_at (Knows is.board) views port v at is.each in (
       w,
       inr (record {
         case = is.case;
@@ -171,17 +170,16 @@ gives port v x y s t begun has mine may items views room (inr is) at =
     let h = holder items views port v x is.board at has is.one in
     let a = around (λ (u : View). u.shares) views port v at in
     let old : IsRuled is.case x (a.front ++ (v.shares ++ a.rear))
-        = subst (λ (b : Board). IsRuled is.case b (a.front ++ (v.shares ++ a.rear))) (sym h.one) (subst (IsRuled is.case is.board) a.now is.ruled) in
+    = subst (λ (b : Board). IsRuled is.case b (a.front ++ (v.shares ++ a.rear))) (sym h.one) (subst (IsRuled is.case is.board) a.now is.ruled) in
     let front : IsRuled is.case x (s ∷ (a.front ++ a.rear))
-        = subst (λ l. IsRuled is.case x (l ++ (a.front ++ a.rear))) mine
-            (any_order is.case x (a.front ++ (v.shares ++ a.rear)) (v.shares ++ (a.front ++ a.rear)) (to_front a.front v.shares a.rear) old) in
+    = subst (λ l. IsRuled is.case x (l ++ (a.front ++ a.rear))) mine
+    (any_order is.case x (a.front ++ (v.shares ++ a.rear)) (v.shares ++ (a.front ++ a.rear)) (to_front a.front v.shares a.rear) old) in
     let new = given_one is.case x y s t (a.front ++ a.rear) front may in
     let knows = all_at (Knows is.board) views port v at is.each in
     let rises : is.board.bound ≤ y.bound = (let up = may.give.steps.bound in let b = ap (λ (b : Board). b.bound) h.one in omega arith) in
     let same : workers y ≡ workers is.board = may.give.steps.workers ∙ ap (λ (b : Board). workers b) h.one in
     let weaker : (u : View) → Knows is.board u → Knows y u
-        = λ u k. record { begun = k.begun; seen = (let b = k.seen in omega arith); workers = λ l. k.workers l ∙ sym same } in
-    (
+    = λ u k. record { begun = k.begun; seen = (let b = k.seen in omega arith); workers = λ l. k.workers l ∙ sym same } in (
       w,
       inr (record {
         case = is.case;
@@ -203,8 +201,7 @@ finds_empty port v x begun has items views (inr is) at = (holder items views por
 lays_first : (port : ℕ) (case : Case) (x : Board) (shares : List Share) → IsRuled case x shares → Pushes Holds 1 port first_view x (λ w. w ≡ opened shares x)
 lays_first port case x shares ruled items views room (inl none) at =
     let w = opened shares x in
-    let now : set views port w ≡ w ∷ [] = ap (λ l. set l port w) none.1 ∙ first_set port first_view w (ap (λ l. get_elem? l port) (sym none.1) ∙ at) in
-    (
+    let now : set views port w ≡ w ∷ [] = ap (λ l. set l port w) none.1 ∙ first_set port first_view w (ap (λ l. get_elem? l port) (sym none.1) ∙ at) in (
       w,
       inr (record {
         case = case;
@@ -237,9 +234,9 @@ forks port v begun empty items views (inr is) at =
     let h = around (λ (u : View). u.held) views port v at in
     let knows = all_at (Knows is.board) views port v at is.each in
     let shares : all_shares (set views port l ++ r ∷ []) ≡ (s.front ++ (drop 1 v.shares ++ s.rear)) ++ (take 1 v.shares ++ [])
-        = flat_append (λ (u : View). u.shares) (set views port l) (r ∷ []) ∙ ap (λ k. k ++ (take 1 v.shares ++ [])) (s.with l) in
+    = flat_append (λ (u : View). u.shares) (set views port l) (r ∷ []) ∙ ap (λ k. k ++ (take 1 v.shares ++ [])) (s.with l) in
     let holds : all_held (set views port l ++ r ∷ []) ≡ all_held views
-        = flat_append (λ (u : View). u.held) (set views port l) (r ∷ []) ∙ (nil_right (all_held (set views port l)) ∙ (h.with l ∙ sym h.now)) in
+    = flat_append (λ (u : View). u.held) (set views port l) (r ∷ []) ∙ (nil_right (all_held (set views port l)) ∙ (h.with l ∙ sym h.now)) in
     inr (record {
       case = is.case;
       board = is.board;
@@ -264,21 +261,21 @@ merges port v other u begun more empty items views (inr is) at apart there =
     let h = around (λ (k : View). k.held) views port v at in
     let g = around (λ (k : View). k.held) once other u there in
     let held : all_held two ≡ all_held views
-        = g.with spent_view ∙ (ap (λ l. g.front ++ (l ++ g.rear)) (sym empty) ∙ (sym g.now ∙ (h.with w ∙ sym h.now))) in
+    = g.with spent_view ∙ (ap (λ l. g.front ++ (l ++ g.rear)) (sym empty) ∙ (sym g.now ∙ (h.with w ∙ sym h.now))) in
     let same : AreSame (all_shares views) (all_shares two) = record {
       sums = λ f.
-        let F : View → ℕ = λ k. total f k.shares in
-        let a = total_set F views port v w at in
-        let b = total_set F once other u spent_view there in
-        let c = total_append f v.shares u.shares in
-        let d = total_flat (λ (k : View). k.shares) f views in
-        let e = total_flat (λ (k : View). k.shares) f two in
-        omega arith;
+          let F : View → ℕ = λ k. total f k.shares in
+          let a = total_set F views port v w at in
+          let b = total_set F once other u spent_view there in
+          let c = total_append f v.shares u.shares in
+          let d = total_flat (λ (k : View). k.shares) f views in
+          let e = total_flat (λ (k : View). k.shares) f two in
+          omega arith;
       each = λ P all.
-        let Q : View → Type 0 = λ k. AllByRecursion P k.shares in
-        let apart = all_apart (λ (k : View). k.shares) P views all in
-        let both = all_append P v.shares u.shares (all_at Q views port v at apart) (all_at Q views other u was apart) in
-        all_flat (λ (k : View). k.shares) P two (all_set Q once other spent_view (all_set Q views port w apart both) tt);
+          let Q : View → Type 0 = λ k. AllByRecursion P k.shares in
+          let apart = all_apart (λ (k : View). k.shares) P views all in
+          let both = all_append P v.shares u.shares (all_at Q views port v at apart) (all_at Q views other u was apart) in
+          all_flat (λ (k : View). k.shares) P two (all_set Q once other spent_view (all_set Q views port w apart both) tt);
     } in
     inr (record {
       case = is.case;

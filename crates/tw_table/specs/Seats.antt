@@ -1,5 +1,5 @@
 -- What contracts say of a table and of its seats (own).
-use Rattle.std.specs.Prelude.{ℕ, ◌≡◌, List, slice_index_or}
+use Rattle.std.specs.Prelude.{ℕ, ◌≡◌, slice_index_or}
 use Rattle.crossbeam_queue.specs.Passes.{IsPassOf, view}
 use Rattle.tw_exchange.specs.Board.{Board, opening}
 use Rattle.tw_table.specs.Shares.{Share, no_share}

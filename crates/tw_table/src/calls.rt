@@ -71,7 +71,9 @@ impl Table {
         ensures bound { bound_at seat ≤ (taken_by result).bound }
     {
         let Seat {
-            worker, mut pass, ..
+            worker,
+            mut pass,
+            ..
         } = seat;
         let exchange = pop(rt, &self.queue, &mut pass);
         Held {

@@ -1,4 +1,4 @@
-use Rattle.std.proofs.Common.{◌≡◌, ◌+◌, [], ◌∷◌, length, rules, sym, ◌∙◌, ap, arith, subst, vec_len}
+use Rattle.std.proofs.Common.{◌≡◌, ◌∷◌, length, rules, sym, ◌∙◌, arith, subst, vec_len}
 use Rattle.std.specs.List.{AllByRecursion}
 use Rattle.std.specs.Vec.Iter.{into_iter_items, into_iter_len}
 use Rattle.tw_table.proofs.Joins.{IsJoined, all_joined, joins_first, joins_next}
@@ -21,7 +21,7 @@ pub absorb-requires-clause-queue : goal.absorb-requires-clause-queue
 absorb-requires-clause-queue c =
     let joined = c.loop-seat.invariant in
     let each : AllByRecursion (IsSeatOf c.args.table.now) (c.in-Some-seat.seat ∷ into_iter_items c.next-in-loop-seat.new.self)
-        = subst (AllByRecursion (IsSeatOf c.args.table.now)) c.in-Some-seat.ensures.steps.0 joined.seats in
+    = subst (AllByRecursion (IsSeatOf c.args.table.now)) c.in-Some-seat.ensures.steps.0 joined.seats in
     (joined.queue, each.0.pass)
 
 pub absorb-requires-clause-rule : goal.absorb-requires-clause-rule

@@ -1,5 +1,4 @@
-use Rattle.std.proofs.Common.{◌≡◌, [], false, sym, ◌∙◌, ap, subst}
-use Rattle.crossbeam_queue.specs.Fifo.{Pops}
+use Rattle.std.proofs.Common.{◌∙◌, ap}
 use Rattle.tw_table.proofs.Views.{takes}
 use Rattle.tw_table.specs.declared.rule.View.{View}
 use Rattle.tw_table.proofs.calls.pop.Goals as goal

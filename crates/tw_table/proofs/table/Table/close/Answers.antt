@@ -11,5 +11,5 @@ returns-clause-whole g c =
     let pass = c.join_all-pass in
     let seats = c.args.seats in
     let as_many : length (map share_at seats.items) ≡ c.args.table.workers
-        = (let all : length seats.items ≡ vec_len seats = search rules in let long = long_map share_at seats.items in let same : vec_len seats ≡ c.args.table.workers = search rules in omega arith) in
+    = (let all : length seats.items ≡ vec_len seats = search rules in let long = long_map share_at seats.items in let same : vec_len seats ≡ c.args.table.workers = search rules in omega arith) in
     closed c.pop.result (view pass.result) (map share_at seats.items) c.args.table.workers pass.ensures.shares pass.ensures.workers as_many c.args.table.some told.met told.knows

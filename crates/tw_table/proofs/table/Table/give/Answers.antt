@@ -1,4 +1,3 @@
-use Rattle.std.proofs.Common.{◌≡◌}
 use Rattle.crossbeam_queue.specs.Passes.{view}
 use Rattle.tw_exchange.specs.Board.{opening, workers}
 use Rattle.tw_table.proofs.Seats.{one_alone, worker_of}

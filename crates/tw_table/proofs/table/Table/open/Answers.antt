@@ -1,9 +1,7 @@
-use Rattle.std.proofs.Common.{◌≡◌, ◌+◌, ◌≤◌, length, rules, sym, ◌∙◌, ap, arith, subst, vec_len}
+use Rattle.std.proofs.Common.{◌+◌, rules, sym, ◌∙◌, subst}
 use Rattle.crossbeam_queue.specs.Passes.{IsPassOf}
-use Rattle.std.specs.List.{AllByRecursion}
-use Rattle.std.specs.Vec.{vec_capacity}
 use Rattle.tw_exchange.specs.Board.{workers}
-use Rattle.tw_table.proofs.Deals.{IsDealt, all_dealt, deals_next, deals_none, next_worker}
+use Rattle.tw_table.proofs.Deals.{IsDealt, deals_next, deals_none, next_worker}
 use Rattle.tw_table.proofs.Views.{lays, lays_on_empty}
 use Rattle.tw_table.specs.Shares.{shares_of}
 use Rattle.tw_table.proofs.table.Table.open.Goals as goal
@@ -20,10 +18,9 @@ lay-requires-clause-means g c = λ v x w is. is
 pub loop-worker-init : goal.loop-worker-init
 loop-worker-init g c =
     let same = c.lay.ensures.queue in
-    let pass = c.in-Ok-ruled.ensures.1 in
-    (
+    let pass = c.in-Ok-ruled.ensures.1 in (
       deals_none (IsPassOf c.in-Ok-ruled.queue) c.args.exchange (shares_of c.args.shards.now c.args.hands.now) c.lay.new.pass c.in-Ok.seats.items
-      c.in-Ok.ensures.items (same.0 ∙ pass.0, same.2 ∙ pass.1) c.lay.ensures.view,
+          c.in-Ok.ensures.items (same.0 ∙ pass.0, same.2 ∙ pass.1) c.lay.ensures.view,
       search rules,
       search rules,
     )
@@ -40,11 +37,10 @@ loop-worker-preserved g c =
     let k = c.loop-worker.worker in
     let is = c.loop-worker.invariant.0 in
     let told = c.deal-seat.ensures in
-    let same = told.queue.0 in
-    (
+    let same = told.queue.0 in (
       subst (IsDealt of n bound all (k + 1) c.deal-seat.new.pass) (sym c.push_reserved.ensures.items)
-      (deals_next of n bound all k c.loop-worker.pass c.deal-seat.new.pass c.loop-worker.seats.items c.deal-seat.result is
-      (same.0 ∙ is.pass.0, same.2 ∙ is.pass.1) told.queue.1 told.others told.first (told.bound ∙ c.bound-bound.ensures.value)),
+          (deals_next of n bound all k c.loop-worker.pass c.deal-seat.new.pass c.loop-worker.seats.items c.deal-seat.result is
+          (same.0 ∙ is.pass.0, same.2 ∙ is.pass.1) told.queue.1 told.others told.first (told.bound ∙ c.bound-bound.ensures.value)),
       search rules,
       search rules,
     )
