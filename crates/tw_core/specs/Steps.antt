@@ -1,5 +1,5 @@
 -- The steps of the machine: what each does, and why it is refused (after Jefferson, Virtual Time, 1985).
-use Rattle.std.specs.Prelude.{ℕ, zero, suc, ◌==◌, Bool, true, false, cond, not, ◌||◌, List, [], ◌∷◌, ◌++◌, map, min, remove, slice_get, nat_lt, Option, Some, None, Result, Ok, Err, if◌then◌else◌}
+use Rattle.std.specs.Prelude.{ℕ, zero, suc, ◌≡◌, ◌==◌, Bool, true, false, cond, not, ◌||◌, List, [], ◌∷◌, ◌++◌, map, min, remove, slice_get, nat_lt, Option, Some, None, Result, Ok, Err, if◌then◌else◌}
 use Rattle.std.specs.Result.{result_and, result_unwrap_or}
 use Rattle.tw_core.specs.declared.refusal.Refusal.{Refusal}
 use Rattle.tw_core.specs.declared.refusal.Refusal.TheVariants.{NotMine, Nothing, Double, Committed, NoMessage, CounterFull}
@@ -58,6 +58,16 @@ module _ {S E : Type 0} (m : Simulation S E) where
   -- its router has undone the events down to and including e: none that is left is e or after it
   abbrev pub without_from : Core E → E → Core E
   without_from C e = after_undoing_while (λ x. not (m.before x e)) (m.dst e) (C.history (m.dst e)) C
+
+  -- the receiver of x has undone its n newest events, none of which is before x
+  abbrev pub AreUndone : ℕ → E → Core E → Core E → Type 0
+  AreUndone zero x C D = D ≡ C
+  AreUndone (suc n) x C D =
+      (B : Core E) × AreUndone n x C B × ((e : E) × (older : List E) × (B.history (m.dst x) ≡ e ∷ older) × (m.before e x ≡ false) × (D ≡ after_undoing B (m.dst x) e older))
+
+  -- the receiver of x has undone some of its newest events, none of which is before x, and nothing else has changed
+  abbrev pub IsRolledBack : E → Core E → Core E → Type 0
+  IsRolledBack x C D = (n : ℕ) × AreUndone n x C D
 
   -- e is pending once more
   abbrev pub with_pending : Core E → E → Core E

@@ -1,5 +1,5 @@
 -- What each call at a place keeps.
-use Rattle.std.proofs.Common.{◌≡◌, ℕ, suc, zero, ◌+◌, ◌<◌, ◌≤◌, Bool, cond, true, false, List, [], ◌∷◌, ◌++◌, map, append_assoc, Ok, Some, remove, slice_get, refl, ap, sym, ◌∙◌, subst, inl, inr, arith}
+use Rattle.std.proofs.Common.{◌≡◌, ℕ, suc, zero, ◌+◌, ◌<◌, ◌≤◌, true, false, List, [], ◌∷◌, ◌++◌, map, append_assoc, Ok, Some, remove, slice_get, refl, ap, sym, ◌∙◌, subst, inl, inr, arith}
 use Rattle.std.proofs.lemmas.Bool.{cases_Bool, cases_lt}
 use Rattle.tw_sim.proofs.Counts.{in_head}
 use Rattle.tw_core.proofs.Counts.{antimessages-append, antimessages-remove, in_flight, messages-append, messages-remove}
@@ -11,9 +11,9 @@ use Rattle.tw_core.proofs.Wording.{arrival-front}
 use Rattle.tw_core.specs.Good.{IsGoodPart}
 use Rattle.tw_core.specs.Machine.{Core, antimessages, messages, times_loose}
 use Rattle.tw_core.specs.Parts.{IsOwn, KeepsPart}
-use Rattle.tw_core.specs.Steps.{after_arrival, after_delivery, after_handling, after_undoing, antimessage, first_pending, handle, message}
+use Rattle.tw_core.specs.Steps.{after_arrival, after_delivery, after_handling, after_undoing, antimessage, first_pending, handle, message, AreUndone, IsRolledBack}
 use Rattle.tw_rule.specs.Board.{times_among}
-use Rattle.tw_rule.specs.Place.{IsFrom, IsPlace, Keeps, Place, core, in_hand, whole, with_core, with_unsent}
+use Rattle.tw_rule.specs.Place.{IsPlace, Keeps, Place, core, in_hand, whole, with_core, with_unsent}
 use Rattle.tw_sim.specs.declared.machine.Signed.{Signed}
 use Rattle.tw_sim.specs.Simulation.{Simulation, IsLawful, state, times}
 
@@ -106,7 +106,7 @@ module _ {S E : Type 0} (m : Simulation S E) where
         let made : after_handling m (whole stop p) r done.event ≡ behind front D = handling-front front (core stop p) r done.event ∙ ap (behind front) done.made in
         kept stop p p.mail D place (λ e. omega arith) (own_handle m law p.owns (core stop p) D r (own_routers stop p place) h)
         (λ t good. subst (KeepsPart m t (whole stop p)) made
-          (keeps_handling m law t (whole stop p) r done.event good (may_handle m law t (whole stop p) r done.event good done.found done.soon done.new)))
+        (keeps_handling m law t (whole stop p) r done.event good (may_handle m law t (whole stop p) r done.event good done.found done.soon done.new)))
 
     -- a message of the hand is counted there, and is for a router of its own
     at_hand : (p : Place E) (k : ℕ) (s : Signed E) → slice_get p.mail k ≡ Some s → 0 < times_among m s.event p.mail
@@ -130,9 +130,9 @@ module _ {S E : Type 0} (m : Simulation S E) where
         ap (λ f. after_arrival m (record (whole stop p) { flight = f }) s) flight ∙ arrival-front m (core stop p) s (rest ++ p.unsent) in
         let alone = part_loose m law 0 (whole stop p) p.pending p.kept p.outgoing place.good
         (λ e h. (
-          let a = messages-append m e (p.mail ++ p.unsent) p.outgoing in
-          let b = antimessages-append m e (p.mail ++ p.unsent) p.outgoing in
-          omega arith))
+        let a = messages-append m e (p.mail ++ p.unsent) p.outgoing in
+        let b = antimessages-append m e (p.mail ++ p.unsent) p.outgoing in
+        omega arith))
         place.good.ahead place.good.alone in
         kept stop p rest (after_arrival m (core stop p) s) place
         (λ e. (let a = messages-remove m e p.mail k s there in let b = antimessages-remove m e p.mail k s there in omega arith))
@@ -148,7 +148,7 @@ module _ {S E : Type 0} (m : Simulation S E) where
         ]
 
     -- one event is undone, while such a message is in the hand
-    pub keeps_undo : (stop k : ℕ) (p : Place E) (s : Signed E) (e : E) (older : List E) → IsPlace m stop p → slice_get p.mail k ≡ Some s → p.history (m.dst s.event) ≡ e ∷ older
+    keeps_undo : (stop k : ℕ) (p : Place E) (s : Signed E) (e : E) (older : List E) → IsPlace m stop p → slice_get p.mail k ≡ Some s → p.history (m.dst s.event) ≡ e ∷ older
         → m.before e s.event ≡ false → Keeps m stop p (with_core (after_undoing m (core stop p) (m.dst s.event) e older) p)
     keeps_undo stop k p s e older place there newest order =
         let r = m.dst s.event in
@@ -158,7 +158,39 @@ module _ {S E : Type 0} (m : Simulation S E) where
         kept stop p p.mail (after_undoing m (core stop p) r e older) place (λ x. omega arith)
         (own_undoing m law p.owns (core stop p) r e older home newest (own_routers stop p place))
         (λ t good. subst (KeepsPart m t (whole stop p)) (undoing-front front (core stop p) r e older)
-          (undoing_keeps m law t (whole stop p) r e older (let loose = good.late s.event (hand_is_loose p k s there) in omega arith) good newest))
+        (undoing_keeps m law t (whole stop p) r e older (let loose = good.late s.event (hand_is_loose p k s there) in omega arith) good newest))
+
+    keeps_same : (stop : ℕ) (p : Place E) → IsPlace m stop p → Keeps m stop p p
+    keeps_same stop p place = record { worker = refl; owns = refl; place = place; late = λ t from. from; surplus = λ e. refl; done = λ r. omega arith; bound = refl }
+
+    keeps_both : (stop : ℕ) (p q r : Place E) → Keeps m stop p q → Keeps m stop q r → Keeps m stop p r
+    keeps_both stop p q r first second = record {
+      worker = second.worker ∙ first.worker;
+      owns = second.owns ∙ first.owns;
+      place = second.place;
+      late = λ t from. second.late t (first.late t from);
+      surplus = λ e. (let a = first.surplus e in let b = second.surplus e in omega arith);
+      done = λ v. (let a = first.done v in let b = second.done v in omega arith);
+      bound = second.bound ∙ first.bound;
+    }
+
+    rolled : (n stop k : ℕ) (p : Place E) (s : Signed E) (D : Core E) → IsPlace m stop p → slice_get p.mail k ≡ Some s → AreUndone m n s.event (core stop p) D
+        → Keeps m stop p (with_core D p) × (D.stop ≡ stop)
+    rolled zero stop k p s D place there h = subst (λ C. Keeps m stop p (with_core C p) × (C.stop ≡ stop)) (sym h) (keeps_same stop p place, refl)
+    rolled (suc n) stop k p s D place there h =
+        let B = h.0 in
+        let e = h.2.0 in
+        let older = h.2.1 in
+        let first = rolled n stop k p s B place there h.1 in
+        let same : core stop (with_core B p) ≡ B = ap (λ t. record B { stop = t }) (sym first.1) in
+        let next = keeps_undo stop k (with_core B p) s e older first.0.place there h.2.2 h.2.3 in
+        let made : after_undoing m (core stop (with_core B p)) (m.dst s.event) e older ≡ D = ap (λ C. after_undoing m C (m.dst s.event) e older) same ∙ sym h.2.4 in
+        (keeps_both stop p (with_core B p) (with_core D p) first.0 (subst (λ C. Keeps m stop (with_core B p) (with_core C p)) made next), ap (λ C. C.stop) h.2.4 ∙ first.1)
+
+    -- a message in the hand has been met, but not received for want of memory
+    pub keeps_roll_back : (stop k : ℕ) (p : Place E) (s : Signed E) (D : Core E) → IsPlace m stop p → slice_get p.mail k ≡ Some s → IsRolledBack m s.event (core stop p) D
+        → Keeps m stop p (with_core D p)
+    keeps_roll_back stop k p s D place there h = (rolled h.0 stop k p s D place there h.1).0
 
     -- messages go from the outgoing ones to the unsent ones, or back
     pub keeps_unsent : (stop : ℕ) (p : Place E) (unsent outgoing : List (Signed E)) → IsPlace m stop p
@@ -168,19 +200,19 @@ module _ {S E : Type 0} (m : Simulation S E) where
     keeps_unsent stop p unsent outgoing place plus minus =
         let q = with_unsent unsent outgoing p in
         let same_messages : (e : E) → messages m e (in_hand q) ≡ messages m e (in_hand p) = λ e. (
-          let a = messages-append m e (p.mail ++ p.unsent) p.outgoing in
-          let b = messages-append m e p.mail p.unsent in
-          let c = messages-append m e (p.mail ++ unsent) outgoing in
-          let d = messages-append m e p.mail unsent in
-          let moved = plus e in
-          omega arith) in
+        let a = messages-append m e (p.mail ++ p.unsent) p.outgoing in
+        let b = messages-append m e p.mail p.unsent in
+        let c = messages-append m e (p.mail ++ unsent) outgoing in
+        let d = messages-append m e p.mail unsent in
+        let moved = plus e in
+        omega arith) in
         let same_antimessages : (e : E) → antimessages m e (in_hand q) ≡ antimessages m e (in_hand p) = λ e. (
-          let a = antimessages-append m e (p.mail ++ p.unsent) p.outgoing in
-          let b = antimessages-append m e p.mail p.unsent in
-          let c = antimessages-append m e (p.mail ++ unsent) outgoing in
-          let d = antimessages-append m e p.mail unsent in
-          let moved = minus e in
-          omega arith) in
+        let a = antimessages-append m e (p.mail ++ p.unsent) p.outgoing in
+        let b = antimessages-append m e p.mail p.unsent in
+        let c = antimessages-append m e (p.mail ++ unsent) outgoing in
+        let d = antimessages-append m e p.mail unsent in
+        let moved = minus e in
+        omega arith) in
         record {
           worker = refl;
           owns = refl;

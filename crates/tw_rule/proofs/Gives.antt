@@ -1,16 +1,15 @@
 -- The rule is kept: by a worker that gives back what it may, and where the stop rises.
-use Rattle.std.proofs.Common.{◌≡◌, ℕ, ◌+◌, ◌<◌, ◌≤◌, ◌==◌, cond, List, [], ◌∷◌, Some, set, slice_get, refl, ap, sym, ◌∙◌, subst, arith}
-use Rattle.std.specs.List.{AllByRecursion}
+use Rattle.std.proofs.Common.{◌≡◌, ℕ, ◌<◌, ◌≤◌, ◌==◌, cond, List, Some, set, slice_get, refl, ap, sym, subst, arith}
 use Rattle.std.specs.Option.{IsSomeAnd}
 use Rattle.tw_core.proofs.Sums.{all_map}
 use Rattle.tw_core.specs.Good.{times_there}
-use Rattle.tw_core.specs.Machine.{antimessages, messages, times_loose}
-use Rattle.tw_core.specs.Parts.{times_wanted, total}
+use Rattle.tw_core.specs.Machine.{times_loose}
+use Rattle.tw_core.specs.Parts.{times_wanted}
 use Rattle.tw_rule.proofs.Places.{all_at, each_set, total_set}
-use Rattle.tw_rule.specs.Board.{Board, workers}
+use Rattle.tw_rule.specs.Board.{Board}
 use Rattle.tw_rule.specs.Place.{IsPlace, Place, whole}
 use Rattle.tw_rule.specs.Rule.{MayGive, Rule, Stands, Steps, is_at}
-use Rattle.tw_sim.specs.Simulation.{Simulation, IsLawful, times}
+use Rattle.tw_sim.specs.Simulation.{Simulation}
 
 module _ {S E : Type 0} (m : Simulation S E) (who : ℕ → ℕ) where
   -- another worker's place stands as before

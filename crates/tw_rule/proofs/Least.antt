@@ -1,12 +1,12 @@
 -- The least of reports and of times: what is not before it, and what it is not before.
-use Rattle.std.proofs.Common.{◌≡◌, ℕ, zero, suc, ◌+◌, ◌<◌, ◌≤◌, List, [], ◌∷◌, ◌++◌, Option, None, Some, IfSome, flat_map, fold, get_or, min, refl, ap, sym, subst, ◌⊎◌, inl, inr, arith}
-use Rattle.std.proofs.lemmas.Bool.{cases_Bool, cases_lt}
+use Rattle.std.proofs.Common.{◌≡◌, ℕ, zero, suc, ◌<◌, ◌≤◌, List, [], ◌∷◌, ◌++◌, Option, None, Some, IfSome, flat_map, fold, map, get_or, min, sym, refl, subst, ◌⊎◌, inl, inr, arith}
+use Rattle.std.proofs.lemmas.Bool.{cases_Bool}
 use Rattle.std.specs.List.{AllByRecursion, reduce}
 use Rattle.std.specs.Option.{IsSomeAnd, option_to_list}
 use Rattle.tw_rule.specs.Board.{Board, least_bound, least_report, report_of, times_among, times_of}
-use Rattle.tw_sim.proofs.Counts.{in_cons, one_cases, one_self}
+use Rattle.tw_sim.proofs.Counts.{in_cons, in_head, one_cases, one_self}
 use Rattle.tw_sim.specs.declared.machine.Signed.{Signed}
-use Rattle.tw_sim.specs.Simulation.{Simulation, IsLawful, one}
+use Rattle.tw_sim.specs.Simulation.{Simulation, IsLawful, times}
 
 -- ---- lists of numbers
 
@@ -113,3 +113,29 @@ module _ {S E : Type 0} (m : Simulation S E) (law : IsLawful m) where
   told_from b None [] h late = tt
   told_from b None (x ∷ xs) h late = (let all = times_all (λ n. b ≤ n) (x ∷ xs) late in from_fold b (m.time x.event) (times_of m xs) all.0 all.1)
   told_from b (Some a) mail h late = from_fold b a (times_of m mail) h (times_all (λ n. b ≤ n) mail late)
+
+  -- ---- the least time of events
+
+  events_each : (P : ℕ → Type 0) (xs : List E) → AllByRecursion P (map (λ e. m.time e) xs) → (e : E) → 0 < times m e xs → P (m.time e)
+  events_each P [] h e k = absurd (omega arith)
+  events_each P (x ∷ xs) h e k = elim (in_cons m law e x xs k) [ inl is ↦ subst (λ z. P (m.time z)) (sym is) h.0 | inr l ↦ events_each P xs h.1 e l ]
+
+  events_all : (P : ℕ → Type 0) (xs : List E) → ((e : E) → 0 < times m e xs → P (m.time e)) → AllByRecursion P (map (λ e. m.time e) xs)
+  events_all P [] h = tt
+  events_all P (x ∷ xs) h = (h x (in_head m law x xs), events_all P xs (λ e k. h e (omega arith)))
+
+  pub events_told : (xs : List E) (e : E) → 0 < times m e xs → IsSomeAnd (reduce min (map (λ e. m.time e) xs)) (λ time. time ≤ m.time e)
+  events_told [] e h = absurd (omega arith)
+  events_told (x ∷ xs) e h =
+      let least = fold min (m.time x) (map (λ e. m.time e) xs) in
+      let all = fold_from least (m.time x) (map (λ e. m.time e) xs) (omega arith) in
+      events_each (λ n. least ≤ n) (x ∷ xs) all e h
+
+  pub events_from : (b : ℕ) (xs : List E) → ((e : E) → 0 < times m e xs → b ≤ m.time e) → IfSome (reduce min (map (λ e. m.time e) xs)) (λ time. b ≤ time)
+  events_from b [] late = tt
+  events_from b (x ∷ xs) late = (let all = events_all (λ n. b ≤ n) (x ∷ xs) late in from_fold b (m.time x) (map (λ e. m.time e) xs) all.0 all.1)
+
+-- no message changes no report
+pub none_told : {S E : Type 0} (m : Simulation S E) (report : Option ℕ) → least_report m report [] ≡ report
+none_told m None = refl
+none_told m (Some a) = refl

@@ -1,5 +1,6 @@
 -- The rule holds of a new board and new places.
-use Rattle.std.proofs.Common.{◌≡◌, ℕ, zero, suc, ◌+◌, ◌*◌, ◌<◌, ◌≤◌, ◌==◌, Bool, cond, true, false, List, [], ◌∷◌, ◌++◌, Option, None, Some, IfSome, get_or, length, replicate, refl, ap, sym, ◌∙◌, subst, inl, inr, arith, mul-one, zero-mul}
+use Rattle.std.proofs.Common.{◌≡◌, ◌+◌, ◌*◌, ◌<◌, ◌≤◌, ◌==◌, ◌∷◌, ◌++◌, ◌∙◌}
+use Rattle.std.proofs.Common.{ℕ, suc, cond, List, [], Option, None, Some, IfSome, get_or, length, replicate, refl, ap, sym, subst, inl, inr, arith, mul-one, zero-mul}
 use Rattle.std.proofs.lemmas.Bool.{cases_Bool, cases_lt, both_ways, eq-eqb, eqb-true, ne_eqb}
 use Rattle.std.proofs.lemmas.List.{get_or-replicate, length-replicate}
 use Rattle.std.specs.List.{AllByRecursion}

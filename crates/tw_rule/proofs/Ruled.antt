@@ -1,5 +1,5 @@
 -- What the rule gives: the machine put together is good.
-use Rattle.std.proofs.Common.{◌≡◌, ℕ, ◌+◌, ◌<◌, ◌≤◌, ◌==◌, Bool, cond, true, List, [], ◌∷◌, ◌++◌, map, Some, flat_map, slice_get, refl, ap, sym, ◌∙◌, subst, inl, inr, arith}
+use Rattle.std.proofs.Common.{◌≡◌, ℕ, ◌<◌, cond, true, List, [], ◌∷◌, ◌++◌, map, Some, flat_map, slice_get, refl, ap, sym, ◌∙◌, subst, inl, inr, arith}
 use Rattle.std.proofs.lemmas.Bool.{cases_eq, eq-eqb, ne_eqb}
 use Rattle.std.specs.List.{AllByRecursion}
 use Rattle.std.specs.Option.{option_map_or}
@@ -8,7 +8,6 @@ use Rattle.tw_core.proofs.Owners.{owner_is}
 use Rattle.tw_core.proofs.Parts.{good_assembled}
 use Rattle.tw_core.proofs.Sums.{all_map}
 use Rattle.tw_core.specs.Good.{IsGood, times_there}
-use Rattle.tw_core.specs.Machine.{Core, antimessages, messages}
 use Rattle.tw_core.specs.Parts.{AddUp, IsPart, Part, owner, times_wanted, total}
 use Rattle.tw_core.specs.Run.{IsAtEnd, IsSeq, IsSettled}
 use Rattle.tw_rule.proofs.Calls.{part_from}
@@ -17,8 +16,9 @@ use Rattle.tw_rule.proofs.Visits.{stands_from}
 use Rattle.tw_rule.specs.Board.{Board, IsBoard}
 use Rattle.tw_rule.specs.Place.{Place, in_hand, part_of, whole}
 use Rattle.tw_rule.specs.Rule.{Rule, Stands, assembled, is_at, owning, shared}
+use Rattle.tw_sim.proofs.Unique.{all_below}
 use Rattle.tw_sim.specs.Seq.{log}
-use Rattle.tw_sim.specs.Simulation.{Simulation, IsLawful, IsNumbered, below, only, times}
+use Rattle.tw_sim.specs.Simulation.{Simulation, IsLawful, IsNumbered, below, only}
 
 module _ {S E : Type 0} (m : Simulation S E) (law : IsLawful m) (who : ℕ → ℕ) where
   -- a router's owners are as many as the places of its worker
@@ -93,6 +93,14 @@ module _ {S E : Type 0} (m : Simulation S E) (law : IsLawful m) (who : ℕ → �
       let events = (seq_of_rule numbered x ps rule).events r in
       subst (λ t. below m t (p.history r) ≡ only m r (log m t)) (done_of x ps i r p rule place l mine)
       (subst (λ xs. below m ((assembled x ps).done r) xs ≡ only m r (log m ((assembled x ps).done r))) (history_of x ps i r p rule place l mine) events)
+
+  -- where the bound is the stop, a router has handled its events of the whole run
+  pub handled_of : IsNumbered m → (x : Board E) (ps : List (Place E)) (i r : ℕ) (p : Place E) → Rule m who x ps → slice_get ps i ≡ Some p → r < m.routers → p.owns r ≡ true
+      → x.bound ≡ x.stop → p.history r ≡ only m r (log m x.stop)
+  handled_of numbered x ps i r p rule place l mine last =
+      let A = assembled x ps in
+      let events : below m x.stop (A.history r) ≡ only m r (log m x.stop) = subst (λ t. below m t (A.history r) ≡ only m r (log m t)) last ((seq_of_rule numbered x ps rule).handled r) in
+      sym (history_of x ps i r p rule place l mine) ∙ (sym (all_below m law x.stop (A.history r) ((good_of_rule x ps rule).soon r)) ∙ events)
 
   none_flies : (stop : ℕ) (ps : List (Place E)) → AllByRecursion (λ p. in_hand p ≡ []) ps → flat_map (λ (p : Part E). p.core.flight) (map (part_of stop) ps) ≡ []
   none_flies stop [] h = refl

@@ -1,18 +1,30 @@
 -- What a worker may give back: what calls have kept, and what a visit leaves.
-use Rattle.std.proofs.Common.{◌≡◌, ℕ, zero, suc, ◌+◌, ◌<◌, ◌≤◌, ◌==◌, Bool, true, false, List, [], ◌++◌, Option, None, Some, IfSome, get_or, length, slice_get, refl, ap, sym, ◌∙◌, subst, inl, inr, arith}
-use Rattle.std.proofs.lemmas.Bool.{cases_Bool, cases_eq, cases_lt, eq-eqb}
+use Rattle.std.proofs.Common.{◌≡◌, ℕ, suc, ◌+◌, ◌<◌, ◌≤◌, ◌==◌, true, List, [], ◌++◌, Option, None, Some, IfSome, get_or, length, map, min, slice_get, refl, ap, sym, ◌∙◌, subst, inl, inr, arith}
+use Rattle.std.proofs.lemmas.Bool.{cases_eq, cases_lt, eq-eqb}
 use Rattle.std.proofs.lemmas.List.{get_or-set_other, get_or-set_same, length-set}
+use Rattle.std.specs.List.{reduce}
 use Rattle.std.specs.Option.{IsSomeAnd}
 use Rattle.tw_core.proofs.Counts.{antimessages-append, messages-append}
 use Rattle.tw_core.specs.Good.{IsGoodPart}
-use Rattle.tw_core.specs.Machine.{antimessages, messages, times_handled, times_loose}
+use Rattle.tw_core.specs.Machine.{antimessages, messages, times_loose}
 use Rattle.tw_rule.proofs.Calls.{hand_is_loose, hand_is_own, in_hand_loose}
-use Rattle.tw_rule.proofs.Least.{bound_from, from_bound, mail_told, still_told, told_from}
+use Rattle.tw_rule.proofs.Least.{bound_from, events_from, events_told, from_bound, mail_told, still_told, told_from}
 use Rattle.tw_rule.specs.Board.{Board, IsBoard, IsVisit, least_bound, least_report, report_of, times_among, workers}
-use Rattle.tw_rule.specs.Place.{IsFrom, IsPlace, Keeps, Place, Tells, after_visit, in_hand, whole}
-use Rattle.tw_rule.specs.Rule.{MayGive, Stands, Steps}
+use Rattle.tw_rule.specs.Place.{IsFrom, IsPlace, Keeps, Place, Tells, after_visit, in_hand, report_time, whole}
+use Rattle.tw_rule.specs.Rule.{MayGive, Stands}
+use Rattle.tw_sim.proofs.Counts.{times-append}
 use Rattle.tw_sim.specs.declared.machine.Signed.{Signed}
-use Rattle.tw_sim.specs.Simulation.{Simulation, IsLawful, times}
+use Rattle.tw_sim.specs.Simulation.{Simulation, IsLawful}
+
+module _ {S E : Type 0} (m : Simulation S E) (law : IsLawful m) where
+  -- the least time of what waits tells of all of it
+  pub tells_all : (p : Place E) → Tells m (report_time m p) p
+  tells_all p e h =
+      let told = reduce min (map (λ x. m.time x) (p.pending ++ p.kept)) in
+      elim (cases_lt 0 (times_among m e p.mail)) [
+        | inl l ↦ mail_told m law told p.mail e l
+        | inr ge ↦ still_told m law told p.mail (m.time e) (events_told m law (p.pending ++ p.kept) e (let both = times-append m e p.pending p.kept in omega arith))
+      ]
 
 module _ {S E : Type 0} (m : Simulation S E) (law : IsLawful m) (who : ℕ → ℕ) where
   -- ---- without a visit
@@ -60,6 +72,20 @@ module _ {S E : Type 0} (m : Simulation S E) (law : IsLawful m) (who : ℕ → �
       let old = stands.bound in
       ((omega arith), hand_is_own m law x.stop q k s keeps.place there, keeps.place.good.suit s.event (omega arith))
 
+  -- ---- what a visit is asked
+
+  -- the least time of what waits is not before the board's bound
+  pub report_late : (x : Board E) (p q : Place E) → IsBoard m x → Stands m who x p → Keeps m x.stop p q → IfSome (report_time m q) (λ time. x.bound ≤ time)
+  report_late x p q board stands keeps =
+      let from = keeps.late x.bound (stands_from x p board stands) in
+      told_from m law x.bound (reduce min (map (λ e. m.time e) (q.pending ++ q.kept))) q.mail
+      (events_from m law x.bound (q.pending ++ q.kept) (λ e h. from e (let both = times-append m e q.pending q.kept in omega arith)))
+      (λ e h. from e (in_hand_loose m q e (omega arith)))
+
+  -- nor is what it would deposit
+  pub unsent_late : (x : Board E) (p q : Place E) (e : E) → IsBoard m x → Stands m who x p → Keeps m x.stop p q → 0 < times_among m e q.unsent → x.bound ≤ m.time e
+  unsent_late x p q e board stands keeps h = keeps.late x.bound (stands_from x p board stands) e (in_hand_loose m q e (omega arith))
+
   -- ---- with a visit
 
   module _ (x y : Board E) (p q : Place E) (report : Option ℕ) (mail : List (Signed E)) (board : IsBoard m x) (stands : Stands m who x p) (keeps : Keeps m x.stop p q)
@@ -87,12 +113,12 @@ module _ {S E : Type 0} (m : Simulation S E) (law : IsLawful m) (who : ℕ → �
 
     rises : x.bound ≤ y.bound
     rises = rw visit.bound (from_bound m law x.bound y (let old = board.stop in let same = visit.stop in omega arith)
-      (λ v. elim (cases_eq v p.worker) [
-        | inl is ↦ subst (λ o. IfSome o (λ time. x.bound ≤ time)) (sym (ap (λ w. report_of w y) is ∙ mine))
-            (told_from m law x.bound report mail visit.late (λ e h. (passed_on e (omega arith)).0))
-        | inr other ↦ subst (λ o. IfSome o (λ time. x.bound ≤ time)) (sym (others v other)) (board.reported v)
-      ])
-      (λ e h. (passed_on e (omega arith)).0))
+        (λ v. elim (cases_eq v p.worker) [
+          | inl is ↦ subst (λ o. IfSome o (λ time. x.bound ≤ time)) (sym (ap (λ w. report_of w y) is ∙ mine))
+              (told_from m law x.bound report mail visit.late (λ e h. (passed_on e (omega arith)).0))
+          | inr other ↦ subst (λ o. IfSome o (λ time. x.bound ≤ time)) (sym (others v other)) (board.reported v)
+        ])
+        (λ e h. (passed_on e (omega arith)).0))
 
     board_after : IsBoard m y
     board_after =

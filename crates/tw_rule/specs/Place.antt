@@ -1,10 +1,11 @@
 -- What one worker has: its routers, and the messages in its hand. What a call at it keeps (own, after Jefferson, Virtual Time, 1985).
-use Rattle.std.specs.Prelude.{ℕ, ◌+◌, ◌≡◌, ◌<◌, ◌≤◌, Bool, true, List, [], ◌++◌, Option}
+use Rattle.std.specs.Prelude.{ℕ, ◌+◌, ◌≡◌, ◌<◌, ◌≤◌, Bool, true, List, [], ◌++◌, Option, map, min}
+use Rattle.std.specs.List.{reduce}
 use Rattle.std.specs.Option.{IsSomeAnd}
 use Rattle.tw_core.specs.Good.{IsGoodPart}
 use Rattle.tw_core.specs.Machine.{Core, times_loose}
 use Rattle.tw_core.specs.Parts.{Part, SameSurplus}
-use Rattle.tw_rule.specs.Board.{times_among}
+use Rattle.tw_rule.specs.Board.{least_report, times_among}
 use Rattle.tw_sim.specs.declared.machine.Signed.{Signed}
 use Rattle.tw_sim.specs.Simulation.{Simulation, times}
 
@@ -102,6 +103,10 @@ module _ {S E : Type 0} (m : Simulation S E) where
     -- no commit is taken back
     pub done : (r : ℕ) → p.done r ≤ q.done r
     pub bound : q.bound ≡ p.bound
+
+  -- the least time of all that waits at a place, if anything does: pending, kept, or as a message that it was handed
+  abbrev pub report_time : Place E → Option ℕ
+  report_time p = least_report m (reduce min (map (λ e. m.time e) (p.pending ++ p.kept))) p.mail
 
   -- a report tells of all that waits at a place: there is one where something waits, and nothing that waits is before it
   abbrev pub Tells : Option ℕ → Place E → Type 0

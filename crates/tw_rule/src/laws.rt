@@ -1,15 +1,15 @@
 //! Laws of the rule, over its definitions alone and any lawful simulation. Each function does nothing;
 //! its contract is the law. `who` names the worker of each router.
 
-ghost use Rattle.std.specs.Prelude.{ℕ, ◌≡◌, ◌<◌, ◌≤◌, ◌+◌, true, false, List, [], ◌∷◌, Option, Ok, Some, length, remove, slice_get, slice_set};
-ghost use Rattle.std.specs.List.{AllByRecursion};
+ghost use Rattle.std.specs.Prelude.{ℕ, ◌≡◌, ◌<◌, ◌≤◌, ◌+◌, true, IfSome, List, [], ◌++◌, Option, Ok, Some, length, map, min, remove, slice_get, slice_set};
+ghost use Rattle.std.specs.List.{AllByRecursion, reduce};
 ghost use Rattle.tw_core.specs.Good.{IsGood};
 ghost use Rattle.tw_core.specs.Machine.{Core, antimessages, committed, messages};
 ghost use Rattle.tw_core.specs.Parts.{total};
 ghost use Rattle.tw_core.specs.Run.{IsAtEnd, IsSeq};
-ghost use Rattle.tw_core.specs.Steps.{after_arrival, after_undoing, first_pending, handle, with_commit};
-ghost use Rattle.tw_rule.specs.Board.{Board, IsBoard, IsVisit, workers};
-ghost use Rattle.tw_rule.specs.Place.{IsPlace, Keeps, Place, Tells, after_visit, core, in_hand, with_core, with_unsent};
+ghost use Rattle.tw_core.specs.Steps.{IsRolledBack, after_arrival, first_pending, handle, with_commit};
+ghost use Rattle.tw_rule.specs.Board.{Board, IsBoard, IsVisit, times_among};
+ghost use Rattle.tw_rule.specs.Place.{IsPlace, Keeps, Place, Tells, after_visit, core, in_hand, report_time, with_core, with_unsent};
 ghost use Rattle.tw_rule.specs.Rule.{AreOpeningPlaces, IsOpeningBoard, MayGive, Rule, Stands, assembled, owning};
 ghost use Rattle.tw_sim.specs.declared.machine.Signed.{Signed};
 ghost use Rattle.tw_sim.specs.Seq.{log};
@@ -42,16 +42,19 @@ pub fn routers_have_owners<S, E>()
 {}
 
 /// Where there is no mail, every hand is empty and the bound is the stop, the places are at the end of the
-/// one-thread run: what they have handled is all of it, and what is pending at them is what it leaves.
+/// one-thread run: what they have handled is all of it, and what is pending at them is what it leaves. What
+/// each router has handled is all of its events as soon as the bound is the stop.
 pub fn settled_is_end<S, E>()
-    ensures { (m : Simulation S E) → IsLawful m → IsNumbered m → (who : ℕ → ℕ) (x : Board E) (ps : List (Place E)) → Rule m who x ps → x.mail ≡ []
+    ensures end { (m : Simulation S E) → IsLawful m → IsNumbered m → (who : ℕ → ℕ) (x : Board E) (ps : List (Place E)) → Rule m who x ps → x.mail ≡ []
         → AllByRecursion (λ p. in_hand p ≡ []) ps → x.bound ≡ x.stop → IsAtEnd m (assembled x ps) }
+    ensures handled { (m : Simulation S E) → IsLawful m → IsNumbered m → (who : ℕ → ℕ) (x : Board E) (ps : List (Place E)) (i r : ℕ) (p : Place E) → Rule m who x ps
+        → slice_get ps i ≡ Some p → r < m.routers → p.owns r ≡ true → x.bound ≡ x.stop → p.history r ≡ only m r (log m x.stop) }
 {}
 
-/// What is done at a place keeps it: an event is handled; a message of the hand is received, with all that
-/// its receiver then undoes; one event is undone while a message that is not after it is still in the hand,
-/// as where memory is refused within a delivery; a commit; and messages that move between those that are
-/// outgoing and those that are unsent. Whatever is kept by one call and then by another is kept by both.
+/// What is done at a place, to the board's stop, keeps it: an event is handled; a message of the hand is
+/// received, with all that its receiver then undoes; only some of this is undone and the message is still
+/// in the hand, as where memory is refused; a commit; and messages move between those that are outgoing
+/// and those that are unsent. What is kept by one call and then by another is kept by both.
 pub fn calls_keep_places<S, E>()
     ensures same { (m : Simulation S E) (stop : ℕ) (p : Place E) → IsPlace m stop p → Keeps m stop p p }
     ensures both { (m : Simulation S E) (stop : ℕ) (p q r : Place E) → Keeps m stop p q → Keeps m stop q r → Keeps m stop p r }
@@ -59,9 +62,8 @@ pub fn calls_keep_places<S, E>()
         → handle m (core stop p) r (first_pending m (core stop p) r) ≡ Ok D → Keeps m stop p (with_core D p) }
     ensures receive { (m : Simulation S E) → IsLawful m → (stop k : ℕ) (p : Place E) (s : Signed E) → IsPlace m stop p → slice_get p.mail k ≡ Some s
         → Keeps m stop p (with_core (after_arrival m (core stop p) s) (record p { mail = remove p.mail k })) }
-    ensures undo { (m : Simulation S E) → IsLawful m → (stop k : ℕ) (p : Place E) (s : Signed E) (e : E) (older : List E) → IsPlace m stop p
-        → slice_get p.mail k ≡ Some s → p.history (m.dst s.event) ≡ e ∷ older → m.before e s.event ≡ false
-        → Keeps m stop p (with_core (after_undoing m (core stop p) (m.dst s.event) e older) p) }
+    ensures roll_back { (m : Simulation S E) → IsLawful m → (stop k : ℕ) (p : Place E) (s : Signed E) (D : Core E) → IsPlace m stop p → slice_get p.mail k ≡ Some s
+        → IsRolledBack m s.event (core stop p) D → Keeps m stop p (with_core D p) }
     ensures commit { (m : Simulation S E) → IsLawful m → (stop r : ℕ) (p : Place E) → IsPlace m stop p → Keeps m stop p (with_core (with_commit m (core stop p) r) p) }
     ensures unsent { (m : Simulation S E) → IsLawful m → (stop : ℕ) (p : Place E) (unsent outgoing : List (Signed E)) → IsPlace m stop p
         → ((e : E) → messages m e unsent + messages m e outgoing ≡ messages m e p.unsent + messages m e p.outgoing)
@@ -78,6 +80,17 @@ pub fn calls_may_be_given<S, E>()
     ensures visit { (m : Simulation S E) → IsLawful m → (who : ℕ → ℕ) (x y : Board E) (p q : Place E) (report : Option ℕ) (mail : List (Signed E)) (bound : ℕ)
         → IsBoard m x → Stands m who x p → Keeps m x.stop p q → q.outgoing ≡ [] → Tells m report q → IsVisit m who p.worker q.unsent report mail x y
         → q.bound ≤ bound → bound ≤ y.bound → MayGive m who x p y (after_visit mail bound q) }
+{}
+
+/// What a worker may report is the least time of all that waits at its place: it tells of all of this.
+/// Neither it nor what is unsent is ever before the board's bound, so that no visit is refused as early.
+pub fn visits_are_welcome<S, E>()
+    ensures tells { (m : Simulation S E) → IsLawful m → (p : Place E) → Tells m (report_time m p) p }
+    ensures empty { (m : Simulation S E) (p : Place E) → p.mail ≡ [] → report_time m p ≡ reduce min (map (λ e. m.time e) (p.pending ++ p.kept)) }
+    ensures report { (m : Simulation S E) → IsLawful m → (who : ℕ → ℕ) (x : Board E) (p q : Place E) → IsBoard m x → Stands m who x p → Keeps m x.stop p q
+        → IfSome (report_time m q) (λ time. x.bound ≤ time) }
+    ensures unsent { (m : Simulation S E) → IsLawful m → (who : ℕ → ℕ) (x : Board E) (p q : Place E) (e : E) → IsBoard m x → Stands m who x p → Keeps m x.stop p q
+        → 0 < times_among m e q.unsent → x.bound ≤ m.time e }
 {}
 
 /// A message in a worker's hand is never before the bound that its place knows, is for one of its routers,

@@ -1,8 +1,9 @@
 -- A message that comes to a shard (after Jefferson, Virtual Time, 1985).
-use Rattle.std.specs.Prelude.{ℕ, zero, suc, ◌≡◌, Bool, false, not, List, ◌∷◌, Result, Ok, Err, nat_lt, if◌then◌else◌}
+use Rattle.std.specs.Prelude.{ℕ, Bool, not, Result, Ok, Err, nat_lt, if◌then◌else◌}
 use Rattle.std.specs.Result.{result_and}
 use Rattle.tw_core.specs.Machine.{Core}
-use Rattle.tw_core.specs.Steps.{after_arrival, after_undoing}
+use Rattle.tw_core.specs.Steps.{after_arrival}
+pub use Rattle.tw_core.specs.Steps.{AreUndone, IsRolledBack}
 use Rattle.tw_event.specs.declared.event.Event.{Event}
 use Rattle.tw_event.specs.Order.{event_before}
 use Rattle.tw_model.specs.Case.{simulation}
@@ -13,7 +14,6 @@ use Rattle.tw_shard.specs.declared.rejection.Rejection.{Rejection}
 use Rattle.tw_shard.specs.declared.rejection.Rejection.TheVariants.{NotMine, Late, Foreign}
 use Rattle.tw_shard.specs.Shard.{Shard, core, owns}
 use Rattle.tw_sim.specs.declared.machine.Signed.{Signed}
-use Rattle.tw_sim.specs.Simulation.{Simulation}
 
 -- whether an event may come to a shard, or why not
 abbrev pub refusing : Shard → Event → Result (Unit {0}) Rejection
@@ -31,14 +31,3 @@ receiving stop s x = result_and (refusing s x.event) (Ok (after_arrival (simulat
 abbrev pub rolls : Reach → Event → Event → Bool
 rolls Later e x = event_before e x
 rolls From e x = not (event_before x e)
-
-module _ {S E : Type 0} (m : Simulation S E) where
-  -- the receiver of x has undone its n newest events, none of which is before x
-  abbrev pub AreUndone : ℕ → E → Core E → Core E → Type 0
-  AreUndone zero x C D = D ≡ C
-  AreUndone (suc n) x C D =
-      (B : Core E) × AreUndone n x C B × ((e : E) × (older : List E) × (B.history (m.dst x) ≡ e ∷ older) × (m.before e x ≡ false) × (D ≡ after_undoing m B (m.dst x) e older))
-
-  -- the receiver of x has undone some of its newest events, none of which is before x, and nothing else has changed
-  abbrev pub IsRolledBack : E → Core E → Core E → Type 0
-  IsRolledBack x C D = (n : ℕ) × AreUndone n x C D

@@ -1,4 +1,4 @@
-use Rattle.tw_rule.proofs.Calls.{keeps_handle, keeps_receive, keeps_undo, keeps_unsent}
+use Rattle.tw_rule.proofs.Calls.{keeps_handle, keeps_receive, keeps_roll_back, keeps_unsent}
 use Rattle.tw_rule.proofs.laws.calls_keep_places.Goals as goal
 
 pub returns-clause-handle : goal.returns-clause-handle
@@ -7,8 +7,8 @@ returns-clause-handle c = λ start m law stop r p D place h. keeps_handle m law 
 pub returns-clause-receive : goal.returns-clause-receive
 returns-clause-receive c = λ start m law stop k p s place there. keeps_receive m law stop k p s place there
 
-pub returns-clause-undo : goal.returns-clause-undo
-returns-clause-undo c = λ start m law stop k p s e older place there newest order. keeps_undo m law stop k p s e older place there newest order
+pub returns-clause-roll_back : goal.returns-clause-roll_back
+returns-clause-roll_back c = λ start m law stop k p s D place there h. keeps_roll_back m law stop k p s D place there h
 
 pub returns-clause-unsent : goal.returns-clause-unsent
 returns-clause-unsent c = λ start m law stop p unsent outgoing place plus minus. keeps_unsent m law stop p unsent outgoing place plus minus
