@@ -148,7 +148,7 @@ takes port v begun empty x items views (inr is) at =
             ∙ (nobody views port v w at (right_empty items (all_held views) rest) ∙ ap (λ b. b ∷ []) one);
         ruled = subst (IsRuled is.case is.board) (s.now ∙ sym (s.with w)) is.ruled;
         each = all_set (Knows is.board) views port w is.each
-            (record { begun = begun; seen = (let b = ap (λ (b : Board). b.bound) one in omega arith); workers = knows.workers });
+            (record { begun = begun; seen = (let b = ap (λ (b : Board). b.bound) one in omega arith); workers = knows.workers; stop = knows.stop });
       }),
       record {
         view = refl;
@@ -178,8 +178,9 @@ gives port v x y s t begun has mine may items views room (inr is) at =
     let knows = all_at (Knows is.board) views port v at is.each in
     let rises : is.board.bound ≤ y.bound = (let up = may.give.steps.bound in let b = ap (λ (b : Board). b.bound) h.one in omega arith) in
     let same : workers y ≡ workers is.board = may.give.steps.workers ∙ ap (λ (b : Board). workers b) h.one in
+    let same_stop : y.stop ≡ is.board.stop = may.give.steps.stop ∙ ap (λ (b : Board). b.stop) h.one in
     let weaker : (u : View) → Knows is.board u → Knows y u
-    = λ u k. record { begun = k.begun; seen = (let b = k.seen in omega arith); workers = λ l. k.workers l ∙ sym same } in (
+    = λ u k. record { begun = k.begun; seen = (let b = k.seen in omega arith); workers = λ l. k.workers l ∙ sym same; stop = λ l. k.stop l ∙ sym same_stop } in (
       w,
       inr (record {
         case = is.case;
@@ -187,7 +188,7 @@ gives port v x y s t begun has mine may items views room (inr is) at =
         one = ap (λ l. (l ++ y ∷ []) ++ all_held (set views port w)) h.items_empty ∙ ap (λ l. y ∷ l) (h.others w);
         ruled = subst (IsRuled is.case y) (sym (a.with w)) (any_order is.case y (t ∷ (a.front ++ a.rear)) (a.front ++ (t ∷ a.rear)) (to_middle a.front (t ∷ []) a.rear) new);
         each = all_set (Knows y) views port w (all_map (Knows is.board) (Knows y) weaker views is.each)
-            (record { begun = begun; seen = omega arith; workers = λ l. knows.workers (let n = ap length mine in omega arith) ∙ sym same });
+            (record { begun = begun; seen = omega arith; workers = λ l. knows.workers (let n = ap length mine in omega arith) ∙ sym same; stop = λ l. knows.stop (let n = ap length mine in omega arith) ∙ sym same_stop });
       }),
       refl,
     )
@@ -208,7 +209,7 @@ lays_first port case x shares ruled items views room (inl none) at =
         board = x;
         one = ap (λ l. (l ++ x ∷ []) ++ all_held (set views port w)) none.0 ∙ ap (λ l. x ∷ all_held l) now;
         ruled = subst (IsRuled case x) (sym (ap all_shares now ∙ nil_right shares)) ruled;
-        each = subst (AllByRecursion (Knows x)) (sym now) (record { begun = refl; seen = omega arith; workers = λ l. refl }, tt);
+        each = subst (AllByRecursion (Knows x)) (sym now) (record { begun = refl; seen = omega arith; workers = λ l. refl; stop = λ l. refl }, tt);
       }),
       refl,
     )
@@ -245,8 +246,8 @@ forks port v begun empty items views (inr is) at =
           (any_order is.case is.board (s.front ++ (v.shares ++ s.rear)) ((s.front ++ (drop 1 v.shares ++ s.rear)) ++ (take 1 v.shares ++ [])) (cut s.front v.shares s.rear)
           (subst (IsRuled is.case is.board) s.now is.ruled));
       each = all_append (Knows is.board) (set views port l) (r ∷ [])
-          (all_set (Knows is.board) views port l is.each (record { begun = begun; seen = knows.seen; workers = λ n. knows.workers (fewer_left v.shares n) }))
-          (record { begun = begun; seen = knows.seen; workers = λ n. knows.workers (fewer_first v.shares n) }, tt);
+          (all_set (Knows is.board) views port l is.each (record { begun = begun; seen = knows.seen; workers = λ n. knows.workers (fewer_left v.shares n); stop = λ n. knows.stop (fewer_left v.shares n) }))
+          (record { begun = begun; seen = knows.seen; workers = λ n. knows.workers (fewer_first v.shares n); stop = λ n. knows.stop (fewer_first v.shares n) }, tt);
     })
 
 -- a pass takes in another
@@ -283,6 +284,6 @@ merges port v other u begun more empty items views (inr is) at apart there =
       one = ap (λ k. items ++ k) held ∙ is.one;
       ruled = any_order is.case is.board (all_shares views) (all_shares two) same is.ruled;
       each = all_set (Knows is.board) once other spent_view
-          (all_set (Knows is.board) views port w is.each (record { begun = begun; seen = knows.seen; workers = λ n. knows.workers more }))
-          (record { begun = refl; seen = omega arith; workers = λ n. absurd (omega arith) });
+          (all_set (Knows is.board) views port w is.each (record { begun = begun; seen = knows.seen; workers = λ n. knows.workers more; stop = λ n. knows.stop more }))
+          (record { begun = refl; seen = omega arith; workers = λ n. absurd (omega arith); stop = λ n. absurd (omega arith) });
     })

@@ -26,6 +26,10 @@ share_at s = slice_index_or (view s.pass).shares 0 no_share
 abbrev pub bound_at : Seat → ℕ
 bound_at s = s.bound
 
+-- the stop of the exchange
+abbrev pub stop_at : Seat → ℕ
+stop_at s = (view s.pass).stop
+
 -- ---- a seat with the exchange
 
 -- it was taken from this table
@@ -36,6 +40,10 @@ pub record IsHeldOf (t : Table) (h : Held) : Type 0 where
 -- its worker's share, as given last
 abbrev pub share_of : Held → Share
 share_of h = slice_index_or (view h.pass).shares 0 no_share
+
+-- the stop that it knows
+abbrev pub stop_of : Held → ℕ
+stop_of h = (view h.pass).stop
 
 -- the exchange as it was taken
 abbrev pub taken_by : Held → Board
@@ -49,4 +57,5 @@ exchange_of h = h.exchange
 pub record IsSameSeat (h k : Held) : Type 0 where
   pub share : share_of k ≡ share_of h
   pub taken : taken_by k ≡ taken_by h
+  pub stop : stop_of k ≡ stop_of h
   pub table : (t : Table) → IsHeldOf t h → IsHeldOf t k

@@ -10,11 +10,11 @@ use Rattle.tw_table.specs.Shares.{IsRuled, Share}
 
 -- before the exchange was given for the first time
 abbrev pub first_view : View
-first_view = record { opening = true; workers = 0; shares = []; seen = 0; held = [] }
+first_view = record { opening = true; workers = 0; shares = []; seen = 0; stop = 0; held = [] }
 
 -- once it was, by the one who opens the table, for all workers
 abbrev pub opened : List Share → Board → View
-opened shares x = record { opening = false; workers = workers x; shares = shares; seen = x.bound; held = [] }
+opened shares x = record { opening = false; workers = workers x; shares = shares; seen = x.bound; stop = x.stop; held = [] }
 
 -- with the exchange
 abbrev pub took : View → Board → View
@@ -38,7 +38,7 @@ joined v w = record v { shares = v.shares ++ w.shares }
 
 -- without any
 abbrev pub spent_view : View
-spent_view = record { opening = false; workers = 0; shares = []; seen = 0; held = [] }
+spent_view = record { opening = false; workers = 0; shares = []; seen = 0; stop = 0; held = [] }
 
 -- ---- the rule
 
@@ -58,6 +58,8 @@ pub record Knows (x : Board) (v : View) : Type 0 where
   pub seen : v.seen ≤ x.bound
   -- and knows how many workers there are
   pub workers : 0 < length v.shares → v.workers ≡ workers x
+  -- and the stop
+  pub stop : 0 < length v.shares → v.stop ≡ x.stop
 
 -- there is one exchange, in the queue or with one pass, and with the shares of all it keeps the rule
 pub record IsOpen (items : List Board) (views : List View) : Type 0 where

@@ -6,7 +6,7 @@ ghost use Rattle.crossbeam_queue.specs.Passes.{IsPassOf, IsSamePass, ruled_capac
 ghost use Rattle.tw_exchange.specs.Board.{Board, IsBoard, workers};
 ghost use Rattle.tw_model.specs.Case.{Case};
 ghost use Rattle.tw_table.specs.declared.rule.View.{View as AView};
-ghost use Rattle.tw_table.specs.Seats.{IsHeldOf, IsSeatOf, bound_at, exchange_of, share_at, share_of, taken_by, workers_at};
+ghost use Rattle.tw_table.specs.Seats.{IsHeldOf, IsSeatOf, bound_at, exchange_of, share_at, share_of, stop_at, stop_of, taken_by, workers_at};
 ghost use Rattle.tw_table.specs.Shares.{IsRuled, IsWhole, MayBeGiven, Share as AShare, share, shares_of};
 ghost use Rattle.tw_table.specs.Views.{Holds, IsMet, Knows, first_view, given, opened, took};
 
@@ -40,6 +40,7 @@ impl Table {
         ensures seats { IfOk result (λ r. AllByRecursion (IsSeatOf r.0) r.1.items) }
         ensures shares { IfOk result (λ r. map share_at r.1.items ≡ shares_of shards.now hands.now) }
         ensures bounds { IfOk result (λ r. AllByRecursion (λ s. bound_at s ≡ exchange.bound) r.1.items) }
+        ensures stops { IfOk result (λ r. AllByRecursion (λ s. stop_at s ≡ exchange.stop) r.1.items) }
         ensures back { IfErr result (λ x. x ≡ exchange) }
     {
         let workers = exchange.workers();
@@ -69,6 +70,8 @@ impl Table {
         ensures exchange { exchange_of result ≡ taken_by result }
         ensures met { IsMet (share_at seat ∷ []) (taken_by result) }
         ensures bound { bound_at seat ≤ (taken_by result).bound }
+        ensures stop { (taken_by result).stop ≡ stop_at seat }
+        ensures knows { stop_of result ≡ stop_at seat }
     {
         let Seat {
             worker,
@@ -93,6 +96,7 @@ impl Table {
         ensures seat { IsSeatOf self.now result }
         ensures share { share_at result ≡ share shard.now hand.now }
         ensures bound { bound_at result ≡ (exchange_of held).bound }
+        ensures stop { stop_at result ≡ stop_of held }
     {
         let Held {
             exchange,

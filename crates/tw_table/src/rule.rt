@@ -30,6 +30,8 @@ pub struct View {
     pub shares: LinkedList<Share>,
     /// The greatest bound that it has seen, in ticks.
     pub seen: u64,
+    /// The stop of the exchange, in ticks.
+    pub stop: u64,
     /// The exchange, as it was taken, while this pass has it.
     pub held: LinkedList<Exchange>,
 }

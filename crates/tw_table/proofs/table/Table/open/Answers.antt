@@ -26,20 +26,21 @@ loop-worker-init g c =
     )
 
 pub deal-seat-requires-clause-first : goal.deal-seat-requires-clause-first
-deal-seat-requires-clause-first g c = next_worker _ _ _ _ _ _ _ c.loop-worker.invariant.0 c.requires.order (search rules)
+deal-seat-requires-clause-first g c = next_worker _ _ _ _ _ _ _ _ c.loop-worker.invariant.0 c.requires.order (search rules)
 
 pub loop-worker-preserved : goal.loop-worker-preserved
 loop-worker-preserved g c =
     let of = IsPassOf c.in-Ok-ruled.queue in
     let n = workers c.args.exchange in
     let bound = c.args.exchange.bound in
+    let stop = c.args.exchange.stop in
     let all = shares_of c.args.shards.now c.args.hands.now in
     let k = c.loop-worker.worker in
     let is = c.loop-worker.invariant.0 in
     let told = c.deal-seat.ensures in
     let same = told.queue.0 in (
-      subst (IsDealt of n bound all (k + 1) c.deal-seat.new.pass) (sym c.push_reserved.ensures.items)
-          (deals_next of n bound all k c.loop-worker.pass c.deal-seat.new.pass c.loop-worker.seats.items c.deal-seat.result is
+      subst (IsDealt of n bound stop all (k + 1) c.deal-seat.new.pass) (sym c.push_reserved.ensures.items)
+          (deals_next of n bound stop all k c.loop-worker.pass c.deal-seat.new.pass c.loop-worker.seats.items c.deal-seat.result is
           (same.0 ∙ is.pass.0, same.2 ∙ is.pass.1) told.queue.1 told.others told.first (told.bound ∙ c.bound-bound.ensures.value)),
       search rules,
       search rules,

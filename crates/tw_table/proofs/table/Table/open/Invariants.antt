@@ -14,6 +14,6 @@ ghosts-lay-M-Outcome g a = record { then = λ v x w. w ≡ opened (shares_of a.s
 -- the first workers have their seats
 abbrev pub invariant-loop-worker : goal.invariant-loop-worker
 invariant-loop-worker g l =
-    IsDealt (IsPassOf l.queue) (workers l.fn.exchange) l.fn.exchange.bound (shares_of l.fn.shards l.fn.hands) l.worker l.pass l.seats.items
+    IsDealt (IsPassOf l.queue) (workers l.fn.exchange) l.fn.exchange.bound l.fn.exchange.stop (shares_of l.fn.shards l.fn.hands) l.worker l.pass l.seats.items
     × (vec_len l.seats ≡ l.worker)
     × (workers l.fn.exchange ≤ vec_capacity l.seats)
