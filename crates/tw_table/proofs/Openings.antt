@@ -1,16 +1,16 @@
 -- New shares keep the rule with a new exchange.
-use Rattle.std.proofs.Common.{◌≡◌, ℕ, zero, suc, ◌+◌, ◌<◌, ◌≤◌, ◌==◌, ◌%◌, ◌&&◌, Bool, true, cond, List, [], ◌∷◌, ◌++◌, Option, Some, filter, flat_map, length, map, replicate, refl, ap, sym, ◌∙◌, subst, inl, inr, arith, nat_lt}
+use Rattle.std.proofs.Common.{◌≡◌, ℕ, zero, suc, ◌+◌, ◌<◌, ◌==◌, ◌%◌, ◌&&◌, cond, List, [], ◌∷◌, Option, Some, filter, flat_map, length, map, replicate, refl, ap, sym, ◌∙◌, subst, inl, inr, arith, nat_lt}
 use Rattle.std.proofs.lemmas.Bool.{cases_Bool, lt-ltb}
 use Rattle.std.specs.List.{AllByRecursion, range_with_len}
 use Rattle.tw_core.specs.Machine.{Core}
 use Rattle.tw_event.specs.declared.event.Event.{Event}
 use Rattle.tw_event.specs.Order.{event_before}
-use Rattle.tw_exchange.specs.Board.{Board, opening, owner, workers}
+use Rattle.tw_exchange.specs.Board.{opening, owner}
 use Rattle.tw_model.proofs.Lawful.{lawful}
 use Rattle.tw_model.specs.Case.{Case, IsCase, opening_events, simulation}
 use Rattle.tw_rule.proofs.Opens.{rule_opens}
-use Rattle.tw_rule.specs.Rule.{AreOpeningPlaces, IsOpeningBoard, IsOpeningPlace, Rule}
-use Rattle.tw_shard.specs.Shard.{Shard, owns}
+use Rattle.tw_rule.specs.Rule.{AreOpeningPlaces, IsOpeningPlace, Rule}
+use Rattle.tw_shard.specs.Shard.{owns}
 use Rattle.tw_sim.proofs.Counts.{times-filter-no, times-filter-yes, times-insert_all}
 use Rattle.tw_sim.specs.declared.machine.Signed.{Signed}
 use Rattle.tw_sim.specs.Ordered.{insert_all}

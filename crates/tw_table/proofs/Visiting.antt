@@ -1,9 +1,8 @@
 -- A visit of an exchange is a visit as the rule has it.
-use Rattle.std.proofs.Common.{◌≡◌, ℕ, zero, suc, ◌+◌, ◌<◌, ◌≤◌, ◌==◌, ◌||◌, Bool, true, false, true≢false, cond, List, [], ◌∷◌, ◌++◌, Option, Some, None, refl, ap, sym, ◌∙◌, subst, inl, inr, arith, nat_lt}
+use Rattle.std.proofs.Common.{◌≡◌, ℕ, zero, suc, ◌+◌, ◌<◌, ◌≤◌, ◌||◌, true, false, true≢false, cond, List, [], ◌∷◌, Option, Some, None, refl, ap, sym, ◌∙◌, inl, inr, arith, nat_lt}
 use Rattle.std.proofs.lemmas.Bool.{cases_Bool, eqb-true, ltb-false}
 use Rattle.std.proofs.lemmas.List.Sums.{sum_by-cons}
 use Rattle.std.specs.List.{AllByRecursion, list_any, sum_by}
-use Rattle.std.specs.Option.{option_map_or}
 use Rattle.std.specs.Prelude.{IfSome}
 use Rattle.tw_core.specs.Machine.{antimessages, messages}
 use Rattle.tw_event.specs.declared.event.Event.{Event}
@@ -68,21 +67,21 @@ is_visit case x w out report is board within late =
     let y = visited w out report x in
     record {
       messages = λ e.
-        let weight : Signed Event → ℕ = λ s. cond s.plus (one (simulation case) e s.event) 0 in
-        let all = nothing_lost weight x w out report board within in
-        let a = messages_sum case is e (all_mail y) in
-        let b = messages_sum case is e (handed w out x) in
-        let c = messages_sum case is e (all_mail x) in
-        let d = messages_sum case is e out in
-        omega arith;
+          let weight : Signed Event → ℕ = λ s. cond s.plus (one (simulation case) e s.event) 0 in
+          let all = nothing_lost weight x w out report board within in
+          let a = messages_sum case is e (all_mail y) in
+          let b = messages_sum case is e (handed w out x) in
+          let c = messages_sum case is e (all_mail x) in
+          let d = messages_sum case is e out in
+          omega arith;
       antimessages = λ e.
-        let weight : Signed Event → ℕ = λ s. cond s.plus 0 (one (simulation case) e s.event) in
-        let all = nothing_lost weight x w out report board within in
-        let a = antimessages_sum case is e (all_mail y) in
-        let b = antimessages_sum case is e (handed w out x) in
-        let c = antimessages_sum case is e (all_mail x) in
-        let d = antimessages_sum case is e out in
-        omega arith;
+          let weight : Signed Event → ℕ = λ s. cond s.plus 0 (one (simulation case) e s.event) in
+          let all = nothing_lost weight x w out report board within in
+          let a = antimessages_sum case is e (all_mail y) in
+          let b = antimessages_sum case is e (handed w out x) in
+          let c = antimessages_sum case is e (all_mail x) in
+          let d = antimessages_sum case is e out in
+          omega arith;
       home = λ e some. is_home case is e (workers x) w (handed w out x) (handed_home x w out board) some;
       late = reported_late report out x late;
       reports = refl;
