@@ -1,0 +1,81 @@
+-- Seats that become one.
+use Rattle.std.proofs.Common.{◌≡◌, ℕ, ◌+◌, ◌<◌, false, List, [], ◌∷◌, ◌++◌, length, map, refl, ap, sym, ◌∙◌, subst, append_assoc, arith}
+use Rattle.crossbeam_queue.specs.Passes.{IsPassOf, IsSamePass, Pass, view}
+use Rattle.std.proofs.lemmas.List.{length-append}
+use Rattle.std.specs.List.{AllByRecursion}
+use Rattle.tw_exchange.specs.Board.{Board}
+use Rattle.tw_table.proofs.Rules.{whole_of}
+use Rattle.tw_table.proofs.Seats.{one_alone, worker_of}
+use Rattle.tw_table.proofs.Views.{nil_right}
+use Rattle.tw_table.specs.declared.rule.View.{View}
+use Rattle.tw_table.specs.declared.seat.Seat.{Seat}
+use Rattle.tw_table.specs.declared.table.Table.{Table}
+use Rattle.tw_table.specs.Seats.{IsSeatOf, share_at}
+use Rattle.tw_table.specs.Shares.{IsRuled, IsWhole, Share, no_share}
+use Rattle.tw_table.specs.Views.{IsMet, Knows, joined}
+
+no_more : {X : Type 0} (xs : List X) → length xs ≡ 0 → xs ≡ []
+no_more [] h = refl
+no_more (x ∷ xs) h = absurd (omega arith)
+
+-- the share of a seat is its only one
+pub only_share : (s : Seat) → (view s.pass).shares ≡ share_at s ∷ []
+only_share s = one_alone worker_of no_share s.worker (view s.pass).shares s.waits.share
+
+-- a pass stands for the seats that it has taken in, and so many are left
+pub record IsJoined (t : Table) (all : List Seat) (p : Pass Board View) (left : List Seat) (n : ℕ) : Type 0 where
+  pub queue : IsPassOf t.queue p
+  pub workers : (view p).workers ≡ t.workers
+  pub begun : (view p).opening ≡ false
+  pub empty : (view p).held ≡ []
+  pub some : 0 < length (view p).shares
+  pub shares : (view p).shares ++ map share_at left ≡ map share_at all
+  pub seats : AllByRecursion (IsSeatOf t) left
+  pub len : length left ≡ n
+
+pub joins_first : (t : Table) (all : List Seat) (s : Seat) (left : List Seat) (n : ℕ) → all ≡ s ∷ left → length all ≡ n + 1 → AllByRecursion (IsSeatOf t) all
+    → IsJoined t all s.pass left n
+joins_first t all s left n is long seats =
+    let each : AllByRecursion (IsSeatOf t) (s ∷ left) = subst (AllByRecursion (IsSeatOf t)) is seats in
+    record {
+      queue = each.0.pass;
+      workers = each.0.workers;
+      begun = s.waits.begun;
+      empty = s.waits.empty;
+      some = (let l = ap length (only_share s) in omega arith);
+      shares = ap (λ ss. ss ++ map share_at left) (only_share s) ∙ ap (map share_at) (sym is);
+      seats = each.1;
+      len = (let l = ap length is in omega arith);
+    }
+
+pub joins_next : (t : Table) (all : List Seat) (p q : Pass Board View) (s : Seat) (now left : List Seat) (n m : ℕ) → now ≡ s ∷ left → m + 1 ≡ n → IsJoined t all p now n
+    → IsSamePass p q → view q ≡ joined (view p) (view s.pass) → IsJoined t all q left m
+joins_next t all p q s now left n m is less old same told =
+    let each : AllByRecursion (IsSeatOf t) (s ∷ left) = subst (AllByRecursion (IsSeatOf t)) is old.seats in
+    record {
+      queue = (same.0 ∙ old.queue.0, same.2 ∙ old.queue.1);
+      workers = ap (λ (v : View). v.workers) told ∙ old.workers;
+      begun = ap (λ (v : View). v.opening) told ∙ old.begun;
+      empty = ap (λ (v : View). v.held) told ∙ old.empty;
+      some = (let l = ap (λ (v : View). length v.shares) told in let a = length-append (view p).shares (view s.pass).shares in let b = old.some in omega arith);
+      shares = ap (λ (v : View). v.shares ++ map share_at left) told
+          ∙ (append_assoc (view p).shares (view s.pass).shares (map share_at left)
+          ∙ (ap (λ ss. (view p).shares ++ (ss ++ map share_at left)) (only_share s) ∙ (ap (λ l. (view p).shares ++ map share_at l) (sym is) ∙ old.shares)));
+      seats = each.1;
+      len = (let l = ap length is in let k = old.len in omega arith);
+    }
+
+pub all_joined : (t : Table) (all : List Seat) (p : Pass Board View) (left : List Seat) → IsJoined t all p left 0 → (view p).shares ≡ map share_at all
+all_joined t all p [] is = sym (nil_right (view p).shares) ∙ is.shares
+all_joined t all p (s ∷ left) is = absurd (let l = is.len in omega arith)
+
+-- where a pass stands for all workers, the exchange that it takes and their shares are a good state
+pub closed : (x : Board) (v : View) (shares : List Share) (n : ℕ) → v.shares ≡ shares → v.workers ≡ n → length shares ≡ n → 0 < n → IsMet v.shares x → Knows x v → IsWhole x shares
+closed x v shares n is count long more met knows =
+    let a = ap length is in
+    let b = knows.workers (omega arith) in
+    let c = met.ruled.count in
+    let d = length-append v.shares met.others in
+    let none : met.others ≡ [] = no_more met.others (omega arith) in
+    whole_of met.case x shares
+    (subst (IsRuled met.case x) (ap (λ l. v.shares ++ l) none ∙ (nil_right v.shares ∙ is)) met.ruled)

@@ -1,0 +1,61 @@
+-- What contracts say of a table and of its seats (own).
+use Rattle.std.specs.Prelude.{ℕ, ◌≡◌, slice_index_or}
+use Rattle.crossbeam_queue.specs.Passes.{IsPassOf, view}
+use Rattle.tw_exchange.specs.Board.{Board, opening}
+use Rattle.tw_table.specs.Shares.{Share, no_share}
+use Rattle.tw_table.specs.declared.seat.Held.{Held}
+use Rattle.tw_table.specs.declared.seat.Seat.{Seat}
+use Rattle.tw_table.specs.declared.table.Table.{Table}
+
+-- how many workers a table has
+abbrev pub workers_at : Table → ℕ
+workers_at t = t.workers
+
+-- ---- a seat that waits
+
+-- the seat is one of this table
+pub record IsSeatOf (t : Table) (s : Seat) : Type 0 where
+  pub pass : IsPassOf t.queue s.pass
+  pub workers : (view s.pass).workers ≡ t.workers
+
+-- its worker's share: the shard and the hand given last
+abbrev pub share_at : Seat → Share
+share_at s = slice_index_or (view s.pass).shares 0 no_share
+
+-- the bound that it saw last
+abbrev pub bound_at : Seat → ℕ
+bound_at s = s.bound
+
+-- the stop of the exchange
+abbrev pub stop_at : Seat → ℕ
+stop_at s = (view s.pass).stop
+
+-- ---- a seat with the exchange
+
+-- it was taken from this table
+pub record IsHeldOf (t : Table) (h : Held) : Type 0 where
+  pub pass : IsPassOf t.queue h.pass
+  pub workers : (view h.pass).workers ≡ t.workers
+
+-- its worker's share, as given last
+abbrev pub share_of : Held → Share
+share_of h = slice_index_or (view h.pass).shares 0 no_share
+
+-- the stop that it knows
+abbrev pub stop_of : Held → ℕ
+stop_of h = (view h.pass).stop
+
+-- the exchange as it was taken
+abbrev pub taken_by : Held → Board
+taken_by h = slice_index_or (view h.pass).held 0 (opening 0 0 0)
+
+-- and as it is
+abbrev pub exchange_of : Held → Board
+exchange_of h = h.exchange
+
+-- the same seat, whatever was done to the exchange
+pub record IsSameSeat (h k : Held) : Type 0 where
+  pub share : share_of k ≡ share_of h
+  pub taken : taken_by k ≡ taken_by h
+  pub stop : stop_of k ≡ stop_of h
+  pub table : (t : Table) → IsHeldOf t h → IsHeldOf t k

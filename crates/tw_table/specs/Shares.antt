@@ -1,0 +1,89 @@
+-- What a worker has beside the exchange, and the rule over all workers (own, after Jefferson, Virtual Time, 1985).
+use Rattle.std.specs.Prelude.{◌≡◌, List, [], drop, length, map, zip}
+use Rattle.std.specs.List.{AllByRecursion}
+use Rattle.tw_core.specs.Good.{IsGood}
+use Rattle.tw_core.specs.Run.{IsSeq}
+use Rattle.tw_event.specs.declared.event.Event.{Event}
+use Rattle.tw_exchange.specs.Board.{Board, all_mail, owner, workers}
+use Rattle.tw_model.specs.Case.{Case, IsCase, simulation}
+use Rattle.tw_rule.specs.Board as rule
+use Rattle.tw_rule.specs.Place.{Place}
+use Rattle.tw_rule.specs.Rule.{MayGive, Rule, assembled}
+use Rattle.tw_shard.specs.Shard.{Shard, core, owns}
+use Rattle.tw_sim.specs.declared.machine.Signed.{Signed}
+use Rattle.tw_table.specs.declared.hand.Hand.{Hand}
+
+-- a worker's shard, and the messages in its hand
+pub record Share : Type 0 where
+  pub shard : Shard
+  -- the mail that it was handed and that is not delivered
+  pub mail : List (Signed Event)
+  -- what a visit did not take
+  pub unsent : List (Signed Event)
+
+-- a shard and a hand
+abbrev pub share : Shard → Hand → Share
+share s h = record { shard = s; mail = drop h.next h.mail.items; unsent = h.out.items }
+
+-- shards with a hand each
+abbrev pub shares_of : List Shard → List Hand → List Share
+shares_of shards hands = map (λ (p : Shard × Hand). share p.0 p.1) (zip shards hands)
+
+-- what stands where there is none
+abbrev pub no_share : Share
+no_share = record {
+  shard = record {
+    case = record { net = record { nodes = 0; links = []; permitted = [] }; scenes = [] };
+    worker = 0;
+    workers = 0;
+    timelines = [];
+    pending = [];
+    kept = [];
+    outgoing = [];
+    bound = 0;
+  };
+  mail = [];
+  unsent = [];
+}
+
+-- a worker's share, as the rule sees it
+abbrev pub place_of : Share → Place Event
+place_of s = record {
+  worker = s.shard.worker;
+  owns = owns s.shard;
+  history = (core 0 s.shard).history;
+  pending = s.shard.pending;
+  kept = s.shard.kept;
+  outgoing = s.shard.outgoing;
+  done = (core 0 s.shard).done;
+  bound = s.shard.bound;
+  mail = s.mail;
+  unsent = s.unsent;
+}
+
+-- the exchange, as the rule sees it
+abbrev pub board_of : Board → rule.Board Event
+board_of x = record { mail = all_mail x; reports = x.reports; bound = x.bound; stop = x.stop }
+
+-- the exchange and the shares of all workers keep the rule, for this case
+pub record IsRuled (case : Case) (x : Board) (shares : List Share) : Type 0 where
+  pub is_case : IsCase case
+  -- all shards keep this case
+  pub cases : AllByRecursion (λ s. s.shard.case ≡ case) shares
+  -- there are as many shares as workers
+  pub count : length shares ≡ workers x
+  pub rule : Rule (simulation case) (owner (workers x)) (board_of x) (map place_of shares)
+
+-- the worker that took the exchange x, and left the share s, may give back y and leave t
+pub record MayBeGiven (x : Board) (s : Share) (y : Board) (t : Share) : Type 0 where
+  -- its shard keeps the same case
+  pub case : t.shard.case ≡ s.shard.case
+  pub give : MayGive (simulation s.shard.case) (owner (workers x)) (board_of x) (place_of s) (board_of y) (place_of t)
+
+-- the exchange and the shares of all workers are, put together, a good state of the machine of their case
+pub record IsWhole (x : Board) (shares : List Share) : Type 0 where
+  pub case : Case
+  pub ruled : IsRuled case x shares
+  pub good : IsGood (simulation case) (assembled (board_of x) (map place_of shares))
+  -- and so the one-thread run, as far as it is committed
+  pub seq : IsSeq (simulation case) (assembled (board_of x) (map place_of shares))

@@ -1,0 +1,27 @@
+ghost use Rattle.std.specs.Prelude.{◌≡◌, ◌↔◌, ◌<◌, ◌≤◌, IfErr, IfOk, IsTrue, OnErr, OnOk, length};
+ghost use Rattle.std.specs.Result.{IsErrAnd};
+ghost use Rattle.crossbeam_queue.specs.Passes.{view};
+ghost use Rattle.tw_exchange.specs.Board.{workers};
+ghost use Rattle.tw_table.specs.Views.{IsHolding, IsWaiting};
+
+use crate::rule::Ticket;
+use tw_exchange::Exchange;
+
+/// A worker's seat at a table.
+#[derive(Drop)]
+pub struct Seat {
+    pub(crate) worker: u32,
+    pub(crate) bound: u64,
+    pub(crate) pass: Ticket,
+    pub(crate) ghost waits: { IsWaiting worker bound (view pass) },
+}
+
+/// A worker's seat, with the exchange.
+#[derive(Drop)]
+pub struct Held {
+    pub(crate) exchange: Exchange,
+    pub(crate) worker: u32,
+    pub(crate) pass: Ticket,
+    pub(crate) ghost holds: { IsHolding worker (view pass) },
+    pub(crate) ghost there: { worker < workers exchange },
+}

@@ -1,0 +1,60 @@
+//! What a worker reads of its seat, and does with the exchange.
+ghost use Rattle.std.specs.Prelude.{◌≡◌, ◌↔◌, ◌<◌, ◌≤◌, true, IfErr, IfOk, IsTrue, OnErr, OnOk, length};
+ghost use Rattle.std.specs.Result.{IsErrAnd};
+ghost use Rattle.tw_exchange.specs.Board.{IsBoard, handed, is_early, visited};
+ghost use Rattle.tw_exchange.specs.declared.visit.VisitFault.TheVariants.{Early, NoWorker};
+ghost use Rattle.tw_model.specs.declared.memory.OrMemory.TheVariants as or_memory;
+ghost use Rattle.tw_table.specs.Seats.{IsSameSeat, bound_at, exchange_of, share_at, share_of};
+
+use crate::seat::{Held, Seat};
+use tw_event::Event;
+use tw_exchange::{Back, Visit};
+use tw_sim::Signed;
+
+impl Seat {
+    /// The worker whose seat it is.
+    pub fn worker(&self) -> u32
+        ensures { result ≡ (share_at self.now).shard.worker }
+    {
+        self.worker
+    }
+
+    /// The bound of the exchange when this worker gave it back last, or when the table was opened, in ticks.
+    pub fn bound(&self) -> u64
+        ensures { result ≡ bound_at self.now }
+    {
+        self.bound
+    }
+}
+
+impl Held {
+    /// The seat's worker deposits what it has sent, reports the least time of what it still has, if it has
+    /// anything, and is handed its mail, as at `Exchange::visit`.
+    ///
+    /// It is refused as `Early` where `report` or the time of a message of `out` lies before the bound. After
+    /// a refusal and for want of memory `out` comes back, and nothing has changed.
+    pub fn visit(&mut self, out: Vec<Signed<Event>>, report: Option<u64>) -> Result<Visit, Back>
+        ensures board { OnOk result (exchange_of self.new ≡ visited (share_of self.old).shard.worker out.items report (exchange_of self.old)) }
+        ensures mail { IfOk result (λ visit. visit.mail.items ≡ handed (share_of self.old).shard.worker out.items (exchange_of self.old)) }
+        ensures bound { IfOk result (λ visit. visit.bound ≡ (exchange_of self.new).bound) }
+        ensures halted { IfOk result (λ visit. visit.halted ≡ (exchange_of self.old).halted) }
+        ensures there { IsErrAnd result (λ back. back.why ≡ or_memory.Fault NoWorker) → ⊥ }
+        ensures early { IsErrAnd result (λ back. back.why ≡ or_memory.Fault Early) ↔ IsTrue (is_early out.items report (exchange_of self.old)) }
+        ensures memory { IsErrAnd result (λ back. back.why ≡ or_memory.Memory) → 0 < length out.items }
+        ensures back { IfErr result (λ back. back.out ≡ out) }
+        ensures err { OnErr result (exchange_of self.new ≡ exchange_of self.old) }
+        ensures rising { (exchange_of self.old).bound ≤ (exchange_of self.new).bound }
+        ensures whole { IsBoard (exchange_of self.new) }
+        ensures same { IsSameSeat self.old self.new }
+    {
+        self.exchange.visit(self.worker, out, report)
+    }
+
+    /// Tells all workers to take no further turn.
+    pub fn halt(&mut self)
+        ensures board { exchange_of self.new ≡ record (exchange_of self.old) { halted = true } }
+        ensures same { IsSameSeat self.old self.new }
+    {
+        self.exchange.halt();
+    }
+}
