@@ -69,6 +69,7 @@ impl Table {
         ensures share { share_of result ≡ share_at seat }
         ensures exchange { exchange_of result ≡ taken_by result }
         ensures met { IsMet (share_at seat ∷ []) (taken_by result) }
+        ensures board { IsBoard (taken_by result) }
         ensures bound { bound_at seat ≤ (taken_by result).bound }
         ensures stop { (taken_by result).stop ≡ stop_at seat }
         ensures knows { stop_of result ≡ stop_at seat }
@@ -79,6 +80,8 @@ impl Table {
             ..
         } = seat;
         let exchange = pop(rt, &self.queue, &mut pass);
+        // What an exchange keeps is told by a read of it.
+        let _ = exchange.bound();
         Held {
             exchange,
             worker,
