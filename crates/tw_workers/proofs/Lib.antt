@@ -1,1 +1,3 @@
 pub mod Places
+pub mod Moves
+pub mod Visits

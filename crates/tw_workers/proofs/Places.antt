@@ -92,7 +92,7 @@ drop_all [] (suc k) h = refl
 drop_all (x ∷ xs) zero h = absurd (omega arith)
 drop_all (x ∷ xs) (suc k) h = drop_all xs k (omega arith)
 
-before_no : (a b : ℕ) → b ≤ a → nat_lt a b ≡ false
+pub before_no : (a b : ℕ) → b ≤ a → nat_lt a b ≡ false
 before_no a b h =
     elim (cases_Bool (nat_lt a b)) [
       | inl before ↦ absurd (let less = ltb-true a b before in omega arith)
