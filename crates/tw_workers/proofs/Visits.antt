@@ -1,14 +1,19 @@
 -- What a worker may give back to the table: after a visit, and without one.
 use Rattle.std.proofs.Common.{◌≡◌, ℕ, ◌+◌, ◌<◌, ◌≤◌, ◌==◌, ◌||◌, max, min, nat_lt, Bool, true, false, cond, List, [], ◌∷◌, ◌++◌, Option, None, Some, IfSome, map, refl, ap, sym, ◌∙◌, subst, inl, inr, arith}
 use Rattle.std.proofs.lemmas.Bool.{cases_Bool, cases_lt, eq-eqb, eqb-true, or_from}
+use Rattle.std.proofs.lemmas.List.Sums.{sum_by-cons}
 use Rattle.std.specs.List.{AllByRecursion, list_any, reduce, sum_by}
 use Rattle.std.specs.Option.{option_map_or}
 use Rattle.tw_core.specs.Machine.{antimessages, messages}
 use Rattle.tw_event.specs.declared.event.Event.{Event}
 use Rattle.tw_exchange.proofs.Boards.{handed_home}
 use Rattle.tw_exchange.proofs.Weights.{nothing_lost}
+use Rattle.tw_exchange.specs.declared.visit.VisitFault.{VisitFault}
+use Rattle.tw_exchange.specs.declared.visit.VisitFault.TheVariants.{Early, NoWorker}
 use Rattle.tw_exchange.specs.Board.{Board, IsBoard, handed, is_early, is_for, owner, visited, workers}
 use Rattle.tw_model.proofs.Lawful.{lawful}
+use Rattle.tw_model.specs.declared.memory.OrMemory.{OrMemory}
+use Rattle.tw_model.specs.declared.memory.OrMemory.TheVariants.{Fault, Memory}
 use Rattle.tw_model.specs.Case.{Case, IsCase, simulation}
 use Rattle.tw_rule.proofs.Least.{none_told}
 use Rattle.tw_rule.proofs.Visits.{may_stay, may_visit, report_late, stands_from, tells_all, unsent_late}
@@ -19,6 +24,8 @@ use Rattle.tw_rule.specs.Rule.{MayGive, Rule, Stands}
 use Rattle.tw_sim.proofs.Counts.{one_cases, one_self}
 use Rattle.tw_sim.specs.declared.machine.Signed.{Signed}
 use Rattle.tw_sim.specs.Simulation.{IsLawful, Simulation, one}
+use Rattle.tw_table.specs.declared.seat.Held.{Held}
+use Rattle.tw_table.specs.Seats.{IsSameSeat}
 use Rattle.tw_table.specs.Shares.{MayBeGiven, Share, board_of, place_of}
 use Rattle.tw_table.specs.Views.{IsMet}
 use Rattle.tw_workers.proofs.Moves.{of_one_sign}
@@ -63,11 +70,17 @@ stayed_given x y stop s q met same kept as_before =
 module _ {S : Type 0} (m : Simulation S Event) (law : IsLawful m) where
   weighed : (e : Event) (xs : List (Signed Event)) → messages m e xs ≡ sum_by (λ x. cond x.plus (one m e x.event) 0) xs
   weighed e [] = refl
-  weighed e (x ∷ xs) = ap (λ n. cond x.plus (one m e x.event) 0 + n) (weighed e xs)
+  weighed e (x ∷ xs) =
+      let more = weighed e xs in
+      let cons = sum_by-cons (λ (y : Signed Event). cond y.plus (one m e y.event) 0) x xs in
+      omega arith
 
   weighed_back : (e : Event) (xs : List (Signed Event)) → antimessages m e xs ≡ sum_by (λ x. cond x.plus 0 (one m e x.event)) xs
   weighed_back e [] = refl
-  weighed_back e (x ∷ xs) = ap (λ n. cond x.plus 0 (one m e x.event) + n) (weighed_back e xs)
+  weighed_back e (x ∷ xs) =
+      let more = weighed_back e xs in
+      let cons = sum_by-cons (λ (y : Signed Event). cond y.plus 0 (one m e y.event)) x xs in
+      omega arith
 
   -- messages for one worker are for its routers
   all_for : (n w : ℕ) (e : Event) (xs : List (Signed Event)) → AllByRecursion (λ x. is_for n w x ≡ true) xs → 0 < times_among m e xs → owner n e.dst ≡ w
@@ -205,3 +218,18 @@ work_given x y stop s t is_case same may =
       place = subst (λ (c : Case). IsPlace (simulation c) stop (place_of t)) (sym may.case) place;
       late = subst (λ (c : Case). IsFrom (simulation c) t.shard.bound (place_of t)) (sym may.case) late;
     }
+
+-- ---- why a visit is refused
+
+pub for_memory : (why : OrMemory VisitFault) (n : ℕ) → (why ≡ Fault NoWorker → ⊥) → (why ≡ Fault Early → ⊥) → (why ≡ Memory → 0 < n) → 0 < n
+for_memory (Fault NoWorker) n there soon enough = absurd (there refl)
+for_memory (Fault Early) n there soon enough = absurd (soon refl)
+for_memory Memory n there soon enough = enough refl
+
+pub same_seat : (h k l : Held) → IsSameSeat h k → IsSameSeat k l → IsSameSeat h l
+same_seat h k l one two = record {
+  share = two.share ∙ one.share;
+  taken = two.taken ∙ one.taken;
+  stop = two.stop ∙ one.stop;
+  table = λ t is. two.table t (one.table t is);
+}

@@ -33,6 +33,7 @@ impl<'a> Worker<'a> {
             → (r : ℕ) × (handling self.new.stop self.new.share.shard r ≡ Err refusal.CounterFull) }
         ensures stop { self.new.stop ≡ self.old.stop }
     {
+        self.deliver()?;
         let limit = self.pace.limit(self.shard.bound(), self.stop);
         let mut at_window = false;
         for _ in 0..self.pace.batch() {
@@ -50,6 +51,7 @@ impl<'a> Worker<'a> {
 
     /// What its routers have sent is sorted: what is for them comes to them.
     fn receive_own(&mut self) -> Result<(), AllocError>
+        requires { self.old.share.mail ≡ [] }
         ensures kept { Kept self.old.stop self.old.share self.new.share }
         ensures empty { OnOk result (self.new.share.mail ≡ []) }
         ensures stop { self.new.stop ≡ self.old.stop }
@@ -58,15 +60,18 @@ impl<'a> Worker<'a> {
         self.deliver()
     }
 
-    /// What its routers have sent goes into the hand: what is for them with the mail, and what is for
-    /// others with what is unsent.
+    /// What its routers have sent goes into the hand, which is delivered: what is for them as mail, and what
+    /// is for others as unsent.
     fn sort_out(&mut self) -> Result<(), AllocError>
+        requires { self.old.share.mail ≡ [] }
         ensures kept { Kept self.old.stop self.old.share self.new.share }
         ensures stop { self.new.stop ≡ self.old.stop }
     {
         let count = self.shard.outgoing().len();
         self.hand.mail.reserve(count)?;
         self.hand.out.reserve(count)?;
+        self.hand.mail.clear();
+        self.hand.next = 0;
         sort(&self.shard, &mut self.hand);
         self.shard.swap_outgoing(&mut self.outgoing);
         self.outgoing.clear();
@@ -92,6 +97,7 @@ impl<'a> Worker<'a> {
         ensures kept { Kept self.old.stop self.old.share self.new.share }
         ensures full { IsErrOf result (or_memory.Fault counter_full)
             → (r : ℕ) × (handling self.new.stop self.new.share.shard r ≡ Err refusal.CounterFull) }
+        ensures mail { self.new.share.mail ≡ self.old.share.mail }
         ensures stop { self.new.stop ≡ self.old.stop }
     {
         match self.shard.pending().least() {

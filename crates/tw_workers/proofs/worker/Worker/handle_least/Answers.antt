@@ -25,7 +25,7 @@ returns-in-Ok-clause-kept c =
     let s = share inside.shard inside.hand in
     let t = share c.handle_next.new.self inside.hand in
     let kept = kept_handled inside.stop c.in-Some.event.dst s t c.self.invariant.work c.in-Ok.ensures.same c.in-Ok.ensures.ok refl refl in
-    subst (λ (w : Worker). Kept w.stop w.share t) (sym c.self.view_is) kept
+    subst (λ (w : Worker). Kept w.stop w.share t) c.self.view_is kept
 
 pub returns-in-Err-Fault-CounterFull-clause-full : goal.returns-in-Err-Fault-CounterFull-clause-full
 returns-in-Err-Fault-CounterFull-clause-full c = λ is.
