@@ -24,3 +24,7 @@ pub record IsAtWork (stop : ℕ) (s : Share) : Type 0 where
 pub record Kept (stop : ℕ) (s t : Share) : Type 0 where
   pub case : t.shard.case ≡ s.shard.case
   pub place : Keeps (simulation s.shard.case) stop (place_of s) (place_of t)
+
+-- what a worker has kept since any share, it still has later
+abbrev pub StillKeeps : Worker → Worker → Type 0
+StillKeeps v w = (s : Share) → Kept v.stop s v.share → Kept w.stop s w.share

@@ -5,8 +5,9 @@ ghost use Rattle.tw_model.specs.Case.{simulation};
 ghost use Rattle.tw_shard.specs.Arrival.{receiving, refusing};
 ghost use Rattle.tw_shard.specs.Shard.{IsSameShare, core};
 ghost use Rattle.tw_table.specs.Shares.{share};
-ghost use Rattle.tw_workers.specs.Work.{IsAtWork, Kept};
+ghost use Rattle.tw_workers.specs.Work.{IsAtWork, Kept, StillKeeps};
 
+use crate::policy::count_undone;
 use crate::worker::Worker;
 use std::alloc::AllocError;
 use tw_event::Event;
@@ -21,14 +22,17 @@ impl<'a> Worker<'a> {
     /// For want of memory it is broken off: the message that met it is in the hand still, and those
     /// before it are received.
     pub fn deliver(&mut self) -> Result<(), AllocError>
-        ensures kept { Kept self.old.stop self.old.share self.new.share }
+        ensures kept { StillKeeps self.old self.new }
         ensures empty { OnOk result (self.new.share.mail ≡ []) }
         ensures unsent { self.new.share.unsent ≡ self.old.share.unsent }
         ensures stop { self.new.stop ≡ self.old.stop }
     {
+        let waiting = self.shard.pending().len();
         for _ in self.hand.next..self.hand.mail.len() {
             receive_next(&mut self.shard, &mut self.hand)?;
         }
+        let undone = count_undone(waiting, &self.hand.mail, self.shard.pending().len());
+        self.pace.count_undone(undone);
         self.hand.mail.clear();
         self.hand.next = 0;
         Ok(())

@@ -7,7 +7,7 @@ ghost use Rattle.tw_model.specs.declared.limits.TheConstants.{LATEST};
 ghost use Rattle.tw_model.specs.declared.memory.OrMemory.TheVariants as or_memory;
 ghost use Rattle.tw_shard.specs.Shard.{IsSameShare, core, handling, owns};
 ghost use Rattle.tw_table.specs.Shares.{share};
-ghost use Rattle.tw_workers.specs.Work.{IsAtWork, Kept};
+ghost use Rattle.tw_workers.specs.Work.{IsAtWork, Kept, StillKeeps};
 
 use crate::worker::Worker;
 use std::alloc::AllocError;
@@ -26,7 +26,7 @@ impl<'a> Worker<'a> {
     /// It is refused as `CounterFull` where a counter of a router would pass its limit. For that and for
     /// want of memory it is broken off, and what was done before stands.
     pub fn handle_some(&mut self) -> Result<(), OrMemory<CounterFull>>
-        ensures kept { Kept self.old.stop self.old.share self.new.share }
+        ensures kept { StillKeeps self.old self.new }
         ensures empty { OnOk result (self.new.share.mail ≡ []) }
         ensures sorted { OnOk result (self.new.share.shard.outgoing ≡ []) }
         ensures full { IsErrOf result (or_memory.Fault counter_full)
@@ -35,24 +35,35 @@ impl<'a> Worker<'a> {
     {
         self.deliver()?;
         let limit = self.pace.limit(self.shard.bound(), self.stop);
-        let mut at_window = false;
-        for _ in 0..self.pace.batch() {
-            self.receive_own()?;
-            if !self.handle_least(limit)? {
-                at_window = true;
-                break;
-            }
-        }
+        let at_window = self.handle_until(limit)?;
         self.receive_own()?;
         self.send_rest()?;
         self.pace.adapt(at_window);
         Ok(())
     }
 
+    /// Its routers handle a batch of events that are before a time. It is answered whether none was left.
+    fn handle_until(&mut self, limit: u64) -> Result<bool, OrMemory<CounterFull>>
+        requires { self.old.share.mail ≡ [] }
+        ensures kept { StillKeeps self.old self.new }
+        ensures empty { OnOk result (self.new.share.mail ≡ []) }
+        ensures full { IsErrOf result (or_memory.Fault counter_full)
+            → (r : ℕ) × (handling self.new.stop self.new.share.shard r ≡ Err refusal.CounterFull) }
+        ensures stop { self.new.stop ≡ self.old.stop }
+    {
+        for _ in 0..self.pace.batch() {
+            self.receive_own()?;
+            if !self.handle_least(limit)? {
+                return Ok(true);
+            }
+        }
+        Ok(false)
+    }
+
     /// What its routers have sent is sorted: what is for them comes to them.
     fn receive_own(&mut self) -> Result<(), AllocError>
         requires { self.old.share.mail ≡ [] }
-        ensures kept { Kept self.old.stop self.old.share self.new.share }
+        ensures kept { StillKeeps self.old self.new }
         ensures empty { OnOk result (self.new.share.mail ≡ []) }
         ensures stop { self.new.stop ≡ self.old.stop }
     {
@@ -64,7 +75,7 @@ impl<'a> Worker<'a> {
     /// is for others as unsent.
     fn sort_out(&mut self) -> Result<(), AllocError>
         requires { self.old.share.mail ≡ [] }
-        ensures kept { Kept self.old.stop self.old.share self.new.share }
+        ensures kept { StillKeeps self.old self.new }
         ensures stop { self.new.stop ≡ self.old.stop }
     {
         let count = self.shard.outgoing().len();
@@ -80,7 +91,7 @@ impl<'a> Worker<'a> {
 
     /// What its routers have sent is unsent, whomever it is for.
     fn send_rest(&mut self) -> Result<(), AllocError>
-        ensures kept { Kept self.old.stop self.old.share self.new.share }
+        ensures kept { StillKeeps self.old self.new }
         ensures mail { self.new.share.mail ≡ self.old.share.mail }
         ensures sorted { OnOk result (self.new.share.shard.outgoing ≡ []) }
         ensures stop { self.new.stop ≡ self.old.stop }
@@ -94,7 +105,7 @@ impl<'a> Worker<'a> {
     /// A router handles the least pending event of all, if it is before a time that is not beyond the stop,
     /// and is not the event that the router handled last, which then waits for its antimessage.
     fn handle_least(&mut self, limit: u64) -> Result<bool, OrMemory<CounterFull>>
-        ensures kept { Kept self.old.stop self.old.share self.new.share }
+        ensures kept { StillKeeps self.old self.new }
         ensures full { IsErrOf result (or_memory.Fault counter_full)
             → (r : ℕ) × (handling self.new.stop self.new.share.shard r ≡ Err refusal.CounterFull) }
         ensures mail { self.new.share.mail ≡ self.old.share.mail }

@@ -2,6 +2,8 @@
 //! on these numbers, but that the window is never empty.
 
 use std::cmp;
+use tw_event::Event;
+use tw_sim::Signed;
 
 /// Begin with a window of one tick: events of the least tick are never undone.
 const FIRST_WINDOW: u64 = 1;
@@ -48,7 +50,7 @@ impl Pace {
         self.handled = self.handled.saturating_add(1);
     }
 
-    /// So many events more are pending than the messages that were received account for.
+    /// So many events were undone.
     pub(crate) fn count_undone(&mut self, events: usize) {
         self.undone = self.undone.saturating_add(events as u64);
     }
@@ -65,4 +67,18 @@ impl Pace {
         self.handled = 0;
         self.undone = 0;
     }
+}
+
+/// How many events were undone for messages: so many more are pending than before than they account for.
+/// A message adds one, an antimessage takes one out; where antimessages are kept it is a guess.
+pub(crate) fn count_undone(before: usize, messages: &[Signed<Event>], after: usize) -> usize {
+    let mut waiting = before;
+    for message in messages {
+        waiting = if message.plus {
+            waiting.saturating_add(1)
+        } else {
+            waiting.saturating_sub(1)
+        };
+    }
+    after.saturating_sub(waiting)
 }

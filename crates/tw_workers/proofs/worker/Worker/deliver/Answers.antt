@@ -1,7 +1,6 @@
-use Rattle.std.proofs.Common.{rules, ◌≡◌, ◌∙◌, ap, sym, subst}
+use Rattle.std.proofs.Common.{rules}
 use Rattle.tw_table.specs.Shares.{share}
-use Rattle.tw_workers.proofs.Places.{drop_all, kept_both, work_kept}
-use Rattle.tw_workers.specs.Work.{Kept}
+use Rattle.tw_workers.proofs.Places.{kept_both, work_kept}
 use Rattle.tw_workers.proofs.worker.Worker.deliver.Goals as goal
 
 pub invariant_of-self : goal.invariant_of-self
@@ -15,11 +14,10 @@ invariant_of-self c =
     }
 
 pub returns-in_err-receive_next-clause-kept : goal.returns-in_err-receive_next-clause-kept
-returns-in_err-receive_next-clause-kept c =
+returns-in_err-receive_next-clause-kept c = λ s kept.
     let inside = c.loop.self-inside in
     let is = c.loop.invariant in
-    kept_both c.args.self.now.stop c.args.self.now.share (share inside.shard inside.hand) (share c.receive_next.new.shard c.receive_next.new.hand) is.4
-    (subst (λ stop. Kept stop (share inside.shard inside.hand) (share c.receive_next.new.shard c.receive_next.new.hand)) is.5 (c.receive_next.ensures.kept inside.stop is.3))
+    kept_both inside.stop s (share inside.shard inside.hand) (share c.receive_next.new.shard c.receive_next.new.hand) (is.4 s kept) (c.receive_next.ensures.kept inside.stop is.3)
 
 pub loop-preserved : goal.loop-preserved
 loop-preserved c =
@@ -31,7 +29,7 @@ loop-preserved c =
       search rules,
       search rules,
       work_kept inside.stop (share inside.shard inside.hand) t is.3 step,
-      kept_both c.args.self.now.stop c.args.self.now.share (share inside.shard inside.hand) t is.4 (subst (λ stop. Kept stop (share inside.shard inside.hand) t) is.5 step),
+      λ s kept. kept_both inside.stop s (share inside.shard inside.hand) t (is.4 s kept) step,
       is.5,
       is.6,
       is.7,

@@ -3,7 +3,7 @@ use Rattle.tw_core.specs.declared.refusal.Refusal.TheVariants as refusal
 use Rattle.tw_model.specs.declared.memory.OrMemory.TheVariants as or_memory
 use Rattle.tw_shard.specs.Shard.{handling}
 use Rattle.tw_table.specs.Shares.{share}
-use Rattle.tw_workers.proofs.Places.{kept_handled, work_kept}
+use Rattle.tw_workers.proofs.Places.{kept_both, kept_handled, work_kept}
 use Rattle.tw_workers.specs.Work.{Kept, Worker}
 use Rattle.tw_workers.proofs.worker.Worker.handle_least.Goals as goal
 
@@ -20,12 +20,12 @@ invariant_of-self c =
     }
 
 pub returns-in-Ok-clause-kept : goal.returns-in-Ok-clause-kept
-returns-in-Ok-clause-kept c =
+returns-in-Ok-clause-kept c = λ since before.
     let inside = c.self.inside in
     let s = share inside.shard inside.hand in
     let t = share c.handle_next.new.self inside.hand in
     let kept = kept_handled inside.stop c.in-Some.event.dst s t c.self.invariant.work c.in-Ok.ensures.same c.in-Ok.ensures.ok refl refl in
-    subst (λ (w : Worker). Kept w.stop w.share t) c.self.view_is kept
+    kept_both inside.stop since s t (subst (λ (w : Worker). Kept w.stop since w.share) (sym c.self.view_is) before) kept
 
 pub returns-in-Err-Fault-CounterFull-clause-full : goal.returns-in-Err-Fault-CounterFull-clause-full
 returns-in-Err-Fault-CounterFull-clause-full c = λ is.

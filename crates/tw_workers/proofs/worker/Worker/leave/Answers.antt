@@ -1,6 +1,6 @@
 use Rattle.std.proofs.Common.{◌≡◌, ap, sym, ◌∙◌, subst}
 use Rattle.tw_exchange.specs.Board.{Board}
-use Rattle.tw_table.specs.Seats.{exchange_of, share_at, taken_by}
+use Rattle.tw_table.specs.Seats.{exchange_of, share_at, share_of, taken_by}
 use Rattle.tw_table.specs.Shares.{MayBeGiven, Share, board_of, share}
 use Rattle.tw_workers.proofs.Visits.{stayed_given}
 use Rattle.tw_workers.specs.Work.{Kept, Worker}
@@ -21,4 +21,4 @@ give-requires-clause-fair g c =
     let board : board_of (exchange_of c.halt.new.self) ≡ board_of (taken_by held) = ap board_of c.halt.ensures.board ∙ ap board_of told.exchange in
     let may = stayed_given (taken_by held) (exchange_of c.halt.new.self) inside.stop (share_at seat) t told.met stop kept board in
     let mine = subst (λ (s : Share). MayBeGiven (taken_by held) s (exchange_of c.halt.new.self) t) (sym (c.halt.ensures.same.share ∙ told.share)) may in
-    subst (λ (x : Board). MayBeGiven x _ (exchange_of c.halt.new.self) t) (sym c.halt.ensures.same.taken) mine
+    subst (λ (x : Board). MayBeGiven x (share_of c.halt.new.self) (exchange_of c.halt.new.self) t) (sym c.halt.ensures.same.taken) mine
