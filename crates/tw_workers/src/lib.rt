@@ -7,6 +7,7 @@
 //! is ever refused as late, foreign or not its own. Nothing here starts a thread.
 #![tactic(auto)]
 
+mod committing;
 mod delivering;
 mod handling;
 mod meeting;
