@@ -1,0 +1,166 @@
+-- What calls at a shard and at a hand keep of a worker's share.
+use Rattle.std.proofs.Common.{◌≡◌, ℕ, zero, suc, ◌+◌, ◌<◌, ◌≤◌, ◌%◌, ◌==◌, ◌&&◌, nat_lt, true, false, List, [], ◌∷◌, ◌++◌, drop, length, get_or, Ok, Err, Some, remove, slice_get, refl, ap, sym, ◌∙◌, subst, inl, inr, arith, if◌then◌else◌}
+use Rattle.std.proofs.lemmas.Bool.{cases_Bool, ltb-true}
+use Rattle.std.proofs.lemmas.List.{at_drop_more}
+use Rattle.tw_core.specs.declared.refusal.Refusal.TheVariants.{NotMine}
+use Rattle.tw_core.specs.Machine.{Core, times_loose}
+use Rattle.tw_core.specs.Steps.{IsRolledBack, after_arrival, first_pending, handle, with_commit}
+use Rattle.tw_event.specs.declared.event.Event.{Event}
+use Rattle.tw_model.proofs.Lawful.{lawful}
+use Rattle.tw_model.specs.Case.{Case, IsCase, simulation}
+use Rattle.tw_model.specs.Effect.{suits}
+use Rattle.tw_rule.proofs.Calls.{hand_is_loose, hand_is_own, keeps_handle, keeps_receive, keeps_roll_back}
+use Rattle.tw_rule.specs.Place as place
+use Rattle.tw_rule.specs.Place.{IsFrom, IsPlace, Keeps, Place, with_core, whole}
+use Rattle.std.specs.Result.{result_and}
+use Rattle.tw_shard.specs.Arrival.{receiving, refusing}
+use Rattle.tw_shard.specs.Shard.{IsSameShare, Shard, core, handling, owns}
+use Rattle.tw_sim.specs.declared.machine.Signed.{Signed}
+use Rattle.tw_table.specs.Shares.{Share, place_of}
+use Rattle.tw_workers.specs.Work.{IsAtWork, Kept}
+
+-- ---- the share after a call
+
+-- it is the place whose routers have become another machine
+pub place_after : (stop : ℕ) (s t : Share) → IsSameShare s.shard t.shard → t.mail ≡ s.mail → t.unsent ≡ s.unsent → place_of t ≡ with_core (core stop t.shard) (place_of s)
+place_after stop s t same mail unsent = λ i. record {
+  worker = same.worker i;
+  owns = λ r. nat_lt r (same.case i).net.nodes && (r % same.workers i == same.worker i);
+  history = (core 0 t.shard).history;
+  pending = t.shard.pending;
+  kept = t.shard.kept;
+  outgoing = t.shard.outgoing;
+  done = (core 0 t.shard).done;
+  bound = t.shard.bound;
+  mail = mail i;
+  unsent = unsent i;
+}
+
+-- what is kept by nothing, and by one call after another
+keeps_same : (stop : ℕ) (s : Share) → IsAtWork stop s → Keeps (simulation s.shard.case) stop (place_of s) (place_of s)
+keeps_same stop s work = record {
+  worker = refl;
+  owns = refl;
+  place = work.place;
+  late = λ t from. from;
+  surplus = λ e. refl;
+  done = λ r. omega arith;
+  bound = refl;
+}
+
+pub kept_same : (stop : ℕ) (s : Share) → IsAtWork stop s → Kept stop s s
+kept_same stop s work = record { case = refl; place = keeps_same stop s work }
+
+pub kept_both : (stop : ℕ) (s t u : Share) → Kept stop s t → Kept stop t u → Kept stop s u
+kept_both stop s t u one two =
+    let m = simulation s.shard.case in
+    let first = one.place in
+    let second : Keeps m stop (place_of t) (place_of u) = subst (λ (c : Case). Keeps (simulation c) stop (place_of t) (place_of u)) one.case two.place in
+    record {
+      case = two.case ∙ one.case;
+      place = record {
+        worker = second.worker ∙ first.worker;
+        owns = second.owns ∙ first.owns;
+        place = second.place;
+        late = λ time from. second.late time (first.late time from);
+        surplus = λ e. (let a = first.surplus e in let b = second.surplus e in omega arith);
+        done = λ r. (let a = first.done r in let b = second.done r in omega arith);
+        bound = second.bound ∙ first.bound;
+      };
+    }
+
+-- a worker stays at work
+pub work_kept : (stop : ℕ) (s t : Share) → IsAtWork stop s → Kept stop s t → IsAtWork stop t
+work_kept stop s t work kept =
+    let m = simulation s.shard.case in
+    let late : IsFrom m t.shard.bound (place_of t) = subst (λ b. IsFrom m b (place_of t)) (sym kept.place.bound) (kept.place.late s.shard.bound work.late) in
+    record {
+      case = subst IsCase (sym kept.case) work.case;
+      place = subst (λ (c : Case). IsPlace (simulation c) stop (place_of t)) (sym kept.case) kept.place.place;
+      late = subst (λ (c : Case). IsFrom (simulation c) t.shard.bound (place_of t)) (sym kept.case) late;
+    }
+
+-- ---- messages of the hand
+
+-- the first that is left
+pub drop_one : {X : Type 0} (xs : List X) (k : ℕ) (d : X) → k < length xs → drop k xs ≡ get_or xs k d ∷ drop (k + 1) xs
+drop_one xs k d h = at_drop_more (λ l. l) xs k d h
+
+pub drop_none : {X : Type 0} (xs : List X) → drop 0 xs ≡ xs
+drop_none [] = refl
+drop_none (x ∷ xs) = refl
+
+pub drop_all : {X : Type 0} (xs : List X) (k : ℕ) → length xs ≤ k → drop k xs ≡ []
+drop_all [] zero h = refl
+drop_all [] (suc k) h = refl
+drop_all (x ∷ xs) zero h = absurd (omega arith)
+drop_all (x ∷ xs) (suc k) h = drop_all xs k (omega arith)
+
+pub before_no : (a b : ℕ) → b ≤ a → nat_lt a b ≡ false
+before_no a b h =
+    elim (cases_Bool (nat_lt a b)) [
+      | inl before ↦ absurd (let less = ltb-true a b before in omega arith)
+      | inr not_before ↦ not_before
+    ]
+
+-- a message in the hand is never refused
+pub welcome : (stop : ℕ) (s : Share) (x : Signed Event) (rest : List (Signed Event)) → IsAtWork stop s → s.mail ≡ x ∷ rest → refusing s.shard x.event ≡ Ok tt
+welcome stop s x rest work first =
+    let m = simulation s.shard.case in
+    let law = lawful s.shard.case work.case in
+    let there : slice_get s.mail 0 ≡ Some x = ap (λ l. slice_get l 0) first in
+    let own : owns s.shard x.event.dst ≡ true = hand_is_own m law stop (place_of s) 0 x work.place there in
+    let loose = hand_is_loose m law (place_of s) 0 x there in
+    let late : s.shard.bound ≤ x.event.time = work.late x.event loose in
+    let suit : suits s.shard.case.net x.event.dst x.event ≡ true = work.place.good.suit x.event (omega arith) in
+    let not_late : nat_lt x.event.time s.shard.bound ≡ false = before_no x.event.time s.shard.bound late in
+    rw own (rw not_late (rw suit refl))
+
+-- and so it is received
+pub may_come : (s : Shard) (x : Signed Event) (stop : ℕ) → refusing s x.event ≡ Ok tt → receiving stop s x ≡ Ok (after_arrival (simulation s.case) (core stop s) x)
+may_come s x stop may = ap (λ o. result_and o (Ok (after_arrival (simulation s.case) (core stop s) x))) may
+
+pub kept_received : (stop : ℕ) (s t : Share) (x : Signed Event) (rest : List (Signed Event)) → IsAtWork stop s → s.mail ≡ x ∷ rest → IsSameShare s.shard t.shard
+    → after_arrival (simulation s.shard.case) (core stop s.shard) x ≡ core stop t.shard → t.mail ≡ rest → t.unsent ≡ s.unsent → Kept stop s t
+kept_received stop s t x rest work first same came mail unsent =
+    let m = simulation s.shard.case in
+    let there : slice_get s.mail 0 ≡ Some x = ap (λ l. slice_get l 0) first in
+    let left : remove s.mail 0 ≡ rest = ap (λ l. remove l 0) first in
+    let mid : Share = record s { mail = rest } in
+    let keeps = keeps_receive m (lawful s.shard.case work.case) stop 0 (place_of s) x work.place there in
+    let arrived : with_core (after_arrival m (core stop s.shard) x) (record (place_of s) { mail = remove s.mail 0 }) ≡ with_core (core stop t.shard) (place_of mid)
+    = λ i. with_core (came i) (record (place_of s) { mail = left i }) in
+    let made = arrived ∙ sym (place_after stop mid t same mail unsent) in
+    record { case = same.case; place = subst (Keeps m stop (place_of s)) made keeps }
+
+-- some of what it undoes is undone, and it is in the hand still
+pub kept_rolled_back : (stop : ℕ) (s t : Share) (x : Signed Event) (rest : List (Signed Event)) → IsAtWork stop s → s.mail ≡ x ∷ rest → IsSameShare s.shard t.shard
+    → IsRolledBack (simulation s.shard.case) x.event (core stop s.shard) (core stop t.shard) → t.mail ≡ s.mail → t.unsent ≡ s.unsent → Kept stop s t
+kept_rolled_back stop s t x rest work first same back mail unsent =
+    let m = simulation s.shard.case in
+    let there : slice_get s.mail 0 ≡ Some x = ap (λ l. slice_get l 0) first in
+    let keeps = keeps_roll_back m (lawful s.shard.case work.case) stop 0 (place_of s) x (core stop t.shard) work.place there back in
+    record { case = same.case; place = subst (Keeps m stop (place_of s)) (sym (place_after stop s t same mail unsent)) keeps }
+
+-- ---- a router handles
+
+-- only its own routers do
+own_of : (stop r : ℕ) (s t : Shard) → handling stop s r ≡ Ok (core stop t) → owns s r ≡ true
+own_of stop r s t done =
+    elim (cases_Bool (owns s r)) [
+      | inl own ↦ own
+      | inr other ↦
+          let m = simulation s.case in
+          let refused : handling stop s r ≡ Err NotMine = ap (λ b. if b then handle m (core stop s) r (first_pending m (core stop s) r) else Err NotMine) other in
+          absurd (cc (refused, done))
+    ]
+
+pub kept_handled : (stop r : ℕ) (s t : Share) → IsAtWork stop s → IsSameShare s.shard t.shard → handling stop s.shard r ≡ Ok (core stop t.shard) → t.mail ≡ s.mail → t.unsent ≡ s.unsent
+    → Kept stop s t
+kept_handled stop r s t work same done mail unsent =
+    let m = simulation s.shard.case in
+    let next = handle m (core stop s.shard) r (first_pending m (core stop s.shard) r) in
+    let own = own_of stop r s.shard t.shard done in
+    let at_own : next ≡ Ok (core stop t.shard) = sym (ap (λ b. if b then next else Err NotMine) own) ∙ done in
+    let keeps = keeps_handle m (lawful s.shard.case work.case) stop r (place_of s) (core stop t.shard) work.place at_own in
+    record { case = same.case; place = subst (Keeps m stop (place_of s)) (sym (place_after stop s t same mail unsent)) keeps }

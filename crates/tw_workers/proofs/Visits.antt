@@ -1,0 +1,235 @@
+-- What a worker may give back to the table: after a visit, and without one.
+use Rattle.std.proofs.Common.{◌≡◌, ℕ, ◌+◌, ◌<◌, ◌≤◌, ◌==◌, ◌||◌, max, min, nat_lt, Bool, true, false, cond, List, [], ◌∷◌, ◌++◌, Option, None, Some, IfSome, map, refl, ap, sym, ◌∙◌, subst, inl, inr, arith}
+use Rattle.std.proofs.lemmas.Bool.{cases_Bool, cases_lt, eq-eqb, eqb-true, or_from}
+use Rattle.std.proofs.lemmas.List.Sums.{sum_by-cons}
+use Rattle.std.specs.List.{AllByRecursion, list_any, reduce, sum_by}
+use Rattle.std.specs.Option.{option_map_or}
+use Rattle.tw_core.specs.Machine.{antimessages, messages}
+use Rattle.tw_event.specs.declared.event.Event.{Event}
+use Rattle.tw_exchange.proofs.Boards.{handed_home}
+use Rattle.tw_exchange.proofs.Weights.{nothing_lost}
+use Rattle.tw_exchange.specs.declared.visit.VisitFault.{VisitFault}
+use Rattle.tw_exchange.specs.declared.visit.VisitFault.TheVariants.{Early, NoWorker}
+use Rattle.tw_exchange.specs.Board.{Board, IsBoard, handed, is_early, is_for, owner, visited, workers}
+use Rattle.tw_model.proofs.Lawful.{lawful}
+use Rattle.tw_model.specs.declared.memory.OrMemory.{OrMemory}
+use Rattle.tw_model.specs.declared.memory.OrMemory.TheVariants.{Fault, Memory}
+use Rattle.tw_model.specs.Case.{Case, IsCase, simulation}
+use Rattle.tw_rule.proofs.Least.{none_told}
+use Rattle.tw_rule.proofs.Visits.{may_stay, may_visit, report_late, stands_from, tells_all, unsent_late}
+use Rattle.tw_rule.specs.Board as rule
+use Rattle.tw_rule.specs.Board.{IsVisit, least_report, times_among}
+use Rattle.tw_rule.specs.Place.{IsFrom, IsPlace, Keeps, Place, Tells, after_visit, report_time}
+use Rattle.tw_rule.specs.Rule.{MayGive, Rule, Stands}
+use Rattle.tw_sim.proofs.Counts.{one_cases, one_self}
+use Rattle.tw_sim.specs.declared.machine.Signed.{Signed}
+use Rattle.tw_sim.specs.Simulation.{IsLawful, Simulation, one}
+use Rattle.tw_table.specs.declared.seat.Held.{Held}
+use Rattle.tw_table.specs.Seats.{IsSameSeat}
+use Rattle.tw_table.specs.Shares.{MayBeGiven, Share, board_of, place_of}
+use Rattle.tw_table.specs.Views.{IsMet}
+use Rattle.tw_workers.proofs.Moves.{of_one_sign}
+use Rattle.tw_workers.proofs.Places.{before_no}
+use Rattle.tw_workers.specs.Work.{IsAtWork, Kept}
+
+-- ---- the exchange that a worker has met
+
+-- its own share stands as it reported
+record IsHere (x : Board) (s : Share) : Type 0 where
+  pub is_case : IsCase s.shard.case
+  pub board : rule.IsBoard (simulation s.shard.case) (board_of x)
+  pub stands : Stands (simulation s.shard.case) (owner (workers x)) (board_of x) (place_of s)
+
+here_at : (case : Case) (x : Board) (s : Share) → s.shard.case ≡ case → IsCase case → rule.IsBoard (simulation case) (board_of x)
+    → Stands (simulation case) (owner (workers x)) (board_of x) (place_of s) → IsHere x s
+here_at case x s same is_case board stands = record {
+  is_case = subst IsCase (sym same) is_case;
+  board = subst (λ (c : Case). rule.IsBoard (simulation c) (board_of x)) (sym same) board;
+  stands = subst (λ (c : Case). Stands (simulation c) (owner (workers x)) (board_of x) (place_of s)) (sym same) stands;
+}
+
+here : (x : Board) (s : Share) → IsMet (s ∷ []) x → IsHere x s
+here x s met = here_at met.case x s met.ruled.cases.0 met.ruled.is_case met.ruled.rule.board met.ruled.rule.each.0
+
+-- what was kept to a worker's stop was kept to the board's
+keeps_here : (x : Board) (stop : ℕ) (s q : Share) → x.stop ≡ stop → Kept stop s q → Keeps (simulation s.shard.case) (board_of x).stop (place_of s) (place_of q)
+keeps_here x stop s q same kept = subst (λ n. Keeps (simulation s.shard.case) n (place_of s) (place_of q)) (sym same) kept.place
+
+-- ---- without a visit
+
+pub stayed_given : (x y : Board) (stop : ℕ) (s q : Share) → IsMet (s ∷ []) x → x.stop ≡ stop → Kept stop s q → board_of y ≡ board_of x → MayBeGiven x s y q
+stayed_given x y stop s q met same kept as_before =
+    let at = here x s met in
+    let m = simulation s.shard.case in
+    let who = owner (workers x) in
+    let may = may_stay m (lawful s.shard.case at.is_case) who (board_of x) (place_of s) (place_of q) at.board at.stands (keeps_here x stop s q same kept) in
+    record { case = kept.case; give = subst (λ b. MayGive m who (board_of x) (place_of s) b (place_of q)) (sym as_before) may }
+
+-- ---- with a visit
+
+module _ {S : Type 0} (m : Simulation S Event) (law : IsLawful m) where
+  weighed : (e : Event) (xs : List (Signed Event)) → messages m e xs ≡ sum_by (λ x. cond x.plus (one m e x.event) 0) xs
+  weighed e [] = refl
+  weighed e (x ∷ xs) =
+      let more = weighed e xs in
+      let cons = sum_by-cons (λ (y : Signed Event). cond y.plus (one m e y.event) 0) x xs in
+      omega arith
+
+  weighed_back : (e : Event) (xs : List (Signed Event)) → antimessages m e xs ≡ sum_by (λ x. cond x.plus 0 (one m e x.event)) xs
+  weighed_back e [] = refl
+  weighed_back e (x ∷ xs) =
+      let more = weighed_back e xs in
+      let cons = sum_by-cons (λ (y : Signed Event). cond y.plus 0 (one m e y.event)) x xs in
+      omega arith
+
+  -- messages for one worker are for its routers
+  all_for : (n w : ℕ) (e : Event) (xs : List (Signed Event)) → AllByRecursion (λ x. is_for n w x ≡ true) xs → 0 < times_among m e xs → owner n e.dst ≡ w
+  all_for n w e [] all h = absurd (omega arith)
+  all_for n w e (x ∷ xs) all h =
+      let count = of_one_sign m law e x xs in
+      elim (one_cases m law e x.event) [
+        | inl none ↦ all_for n w e xs all.1 (omega arith)
+        | inr same ↦ ap (λ (y : Event). owner n y.dst) same ∙ eqb-true (owner n x.event.dst) w all.0
+      ]
+
+  -- none of the messages is early
+  none_early : (b : ℕ) (xs : List (Signed Event)) → ((e : Event) → 0 < times_among m e xs → b ≤ e.time) → list_any (λ x. nat_lt x.event.time b) xs ≡ false
+  none_early b [] late = refl
+  none_early b (x ∷ xs) late =
+      let self = one_self m law x.event in
+      let count = of_one_sign m law x.event x xs in
+      or_from (nat_lt x.event.time b) (list_any (λ y. nat_lt y.event.time b) xs) (before_no x.event.time b (late x.event (omega arith)))
+      (none_early b xs (λ e h. late e (let more = of_one_sign m law e x xs in omega arith)))
+
+report_not_early : (b : ℕ) (report : Option ℕ) → IfSome report (λ time. b ≤ time) → option_map_or (λ time. nat_lt time b) report false ≡ false
+report_not_early b None h = refl
+report_not_early b (Some a) h = before_no a b h
+
+-- a visit of the exchange is one of the rule
+visit_is : (case : Case) → IsCase case → (x : Board) (w : ℕ) (out : List (Signed Event)) (report : Option ℕ) → IsBoard x → w < workers x → IfSome report (λ time. x.bound ≤ time)
+    → IsVisit (simulation case) (owner (workers x)) w out report (handed w out x) (board_of x) (board_of (visited w out report x))
+visit_is case is_case x w out report board below late =
+    let m = simulation case in
+    let law = lawful case is_case in
+    let y = visited w out report x in
+    let mail = handed w out x in
+    record {
+      messages = λ e. (
+          let all = nothing_lost (λ s. cond s.plus (one m e s.event) 0) x w out report board below in
+          let a = weighed m law e (board_of y).mail in
+          let b = weighed m law e mail in
+          let c = weighed m law e (board_of x).mail in
+          let d = weighed m law e out in
+          omega arith);
+      antimessages = λ e. (
+          let all = nothing_lost (λ s. cond s.plus 0 (one m e s.event)) x w out report board below in
+          let a = weighed_back m law e (board_of y).mail in
+          let b = weighed_back m law e mail in
+          let c = weighed_back m law e (board_of x).mail in
+          let d = weighed_back m law e out in
+          omega arith);
+      home = λ e h. all_for m law (workers x) w e mail (handed_home x w out board) h;
+      late = late;
+      reports = refl;
+      bound = refl;
+      stop = refl;
+    }
+
+-- what a worker tells where its hand is delivered
+abbrev pub told_of : Share → Option ℕ
+told_of q = reduce min (map (λ e. e.time) (q.shard.pending ++ q.shard.kept))
+
+told_is : (case : Case) (q : Share) → q.mail ≡ [] → report_time (simulation case) (place_of q) ≡ told_of q
+told_is case q none = ap (λ xs. least_report (simulation case) (told_of q) xs) none ∙ none_told (simulation case) (told_of q)
+
+-- it is never early
+told_late : (x : Board) (stop : ℕ) (s q : Share) → IsMet (s ∷ []) x → x.stop ≡ stop → Kept stop s q → q.mail ≡ [] → IfSome (told_of q) (λ time. x.bound ≤ time)
+told_late x stop s q met same kept none =
+    let at = here x s met in
+    subst (λ o. IfSome o (λ time. x.bound ≤ time)) (told_is s.shard.case q none)
+    (report_late (simulation s.shard.case) (lawful s.shard.case at.is_case) (owner (workers x)) (board_of x) (place_of s) (place_of q) at.board at.stands (keeps_here x stop s q same kept))
+
+pub not_early : (x : Board) (stop : ℕ) (s q : Share) → IsMet (s ∷ []) x → x.stop ≡ stop → Kept stop s q → q.mail ≡ [] → is_early q.unsent (told_of q) x ≡ false
+not_early x stop s q met same kept none =
+    let at = here x s met in
+    let m = simulation s.shard.case in
+    let law = lawful s.shard.case at.is_case in
+    or_from (option_map_or (λ time. nat_lt time x.bound) (told_of q) false) (list_any (λ y. nat_lt y.event.time x.bound) q.unsent)
+    (report_not_early x.bound (told_of q) (told_late x stop s q met same kept none))
+    (none_early m law x.bound q.unsent
+    (λ e h. unsent_late m law (owner (workers x)) (board_of x) (place_of s) (place_of q) e at.board at.stands (keeps_here x stop s q same kept) h))
+
+-- what was asked of a visit, and what it left
+pub record IsVisited (x y : Board) (s q t : Share) : Type 0 where
+  pub board : y ≡ visited s.shard.worker q.unsent (told_of q) x
+  pub shard : t.shard ≡ record q.shard { bound = max q.shard.bound y.bound }
+  pub mail : t.mail ≡ handed s.shard.worker q.unsent x
+  pub unsent : t.unsent ≡ []
+
+place_told : (x y : Board) (s q t : Share) → IsVisited x y s q t → q.mail ≡ []
+    → after_visit (handed s.shard.worker q.unsent x) (max q.shard.bound y.bound) (place_of q) ≡ place_of t
+place_told x y s q t is none =
+    let mail = handed s.shard.worker q.unsent x in
+    let left : Share = record { shard = record q.shard { bound = max q.shard.bound y.bound }; mail = mail; unsent = [] } in
+    let same : left ≡ t = λ i. record { shard = sym is.shard i; mail = sym is.mail i; unsent = sym is.unsent i } in
+    ap (λ l. record (place_of left) { mail = l ++ mail }) none ∙ ap place_of same
+
+pub visited_given : (x y : Board) (stop : ℕ) (s q t : Share) → IsMet (s ∷ []) x → IsBoard x → x.stop ≡ stop → Kept stop s q → q.mail ≡ [] → q.shard.outgoing ≡ [] → x.bound ≤ y.bound
+    → IsVisited x y s q t → MayBeGiven x s y t
+visited_given x y stop s q t met board same kept none sorted rises is =
+    let at = here x s met in
+    let m = simulation s.shard.case in
+    let law = lawful s.shard.case at.is_case in
+    let who = owner (workers x) in
+    let w = s.shard.worker in
+    let keeps = keeps_here x stop s q same kept in
+    let mail = handed w q.unsent x in
+    let b = max q.shard.bound y.bound in
+    let z = visited w q.unsent (told_of q) x in
+    let visit : IsVisit m who w q.unsent (told_of q) mail (board_of x) (board_of y)
+    = subst (λ (v : Board). IsVisit m who w q.unsent (told_of q) mail (board_of x) (board_of v)) (sym is.board)
+    (visit_is s.shard.case at.is_case x w q.unsent (told_of q) board at.stands.worker (told_late x stop s q met same kept none)) in
+    let tells : Tells m (told_of q) (place_of q) = subst (λ o. Tells m o (place_of q)) (told_is s.shard.case q none) (tells_all m law (place_of q)) in
+    let known : q.shard.bound ≤ y.bound = (let k = keeps.bound in let l = at.stands.bound in omega arith) in
+    let least : q.shard.bound ≤ b = omega arith in
+    let most : b ≤ y.bound = omega arith in
+    let may = may_visit m law who (board_of x) (board_of y) (place_of s) (place_of q) (told_of q) mail at.board at.stands keeps visit sorted tells b least most in
+    record {
+      case = ap (λ c. c.case) is.shard ∙ kept.case;
+      give = subst (MayGive m who (board_of x) (place_of s) (board_of y)) (place_told x y s q t is none) may;
+    }
+
+-- ---- a worker that has given is at work
+
+sooner : {S : Type 0} (m : Simulation S Event) (a b : ℕ) (p : Place Event) → b ≤ a → IsFrom m a p → IsFrom m b p
+sooner m a b p le from e h = let old = from e h in omega arith
+
+pub work_given : (x y : Board) (stop : ℕ) (s t : Share) → IsCase s.shard.case → x.stop ≡ stop → MayBeGiven x s y t → IsAtWork stop t
+work_given x y stop s t is_case same may =
+    let m = simulation s.shard.case in
+    let law = lawful s.shard.case is_case in
+    let who = owner (workers x) in
+    let give = may.give in
+    let place : IsPlace m stop (place_of t) = subst (λ n. IsPlace m n (place_of t)) (give.steps.stop ∙ same) give.stands.place in
+    let late : IsFrom m t.shard.bound (place_of t) =
+    sooner m y.bound t.shard.bound (place_of t) give.stands.bound (stands_from m law who (board_of y) (place_of t) give.steps.board give.stands) in
+    record {
+      case = subst IsCase (sym may.case) is_case;
+      place = subst (λ (c : Case). IsPlace (simulation c) stop (place_of t)) (sym may.case) place;
+      late = subst (λ (c : Case). IsFrom (simulation c) t.shard.bound (place_of t)) (sym may.case) late;
+    }
+
+-- ---- why a visit is refused
+
+pub for_memory : (why : OrMemory VisitFault) (n : ℕ) → (why ≡ Fault NoWorker → ⊥) → (why ≡ Fault Early → ⊥) → (why ≡ Memory → 0 < n) → 0 < n
+for_memory (Fault NoWorker) n there soon enough = absurd (there refl)
+for_memory (Fault Early) n there soon enough = absurd (soon refl)
+for_memory Memory n there soon enough = enough refl
+
+pub same_seat : (h k l : Held) → IsSameSeat h k → IsSameSeat k l → IsSameSeat h l
+same_seat h k l one two = record {
+  share = two.share ∙ one.share;
+  taken = two.taken ∙ one.taken;
+  stop = two.stop ∙ one.stop;
+  table = λ t is. two.table t (one.table t is);
+}

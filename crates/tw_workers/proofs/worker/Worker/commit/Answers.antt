@@ -1,0 +1,25 @@
+use Rattle.std.proofs.Common.{rules}
+use Rattle.tw_table.specs.Shares.{share}
+use Rattle.tw_workers.proofs.Commits.{done_more, kept_committed}
+use Rattle.tw_workers.proofs.Places.{kept_both, work_kept}
+use Rattle.tw_workers.proofs.worker.Worker.commit.Goals as goal
+
+pub loop-router-preserved : goal.loop-router-preserved
+loop-router-preserved c =
+    let inside = c.loop-router.self-inside in
+    let is = c.loop-router.invariant in
+    let told = c.in_ok-commit_at.ensures in
+    let r = c.loop-router.router in
+    let s = share inside.shard inside.hand in
+    let t = share c.commit_at.new.shard inside.hand in
+    let step = kept_committed inside.stop r s c.commit_at.new.shard is.work c.commit_at.ensures.same (told.own inside.stop) told.other in
+    record {
+      work = work_kept inside.stop s t is.work step;
+      kept = λ since kept. kept_both inside.stop since s t (is.kept since kept) step;
+      done = done_more r inside.shard c.commit_at.new.shard is.done c.commit_at.ensures.same (told.own 0) told.other;
+      mail = is.mail;
+      unsent = is.unsent;
+      stop = is.stop;
+      latest = is.latest;
+      none = is.none;
+    }

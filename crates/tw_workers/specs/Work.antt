@@ -1,0 +1,30 @@
+-- A worker at its work, and what each call at it keeps (own, after Jefferson, Virtual Time, 1985).
+use Rattle.std.specs.Prelude.{ℕ, ◌≡◌, ◌≤◌, max, List, ◌++◌}
+use Rattle.tw_event.specs.declared.event.Event.{Event}
+use Rattle.tw_model.specs.Case.{IsCase, simulation}
+use Rattle.tw_model.specs.declared.limits.TheConstants.{LATEST}
+use Rattle.tw_rule.specs.Place.{IsFrom, IsPlace, Keeps}
+use Rattle.tw_shard.specs.Shard.{core}
+use Rattle.tw_sim.specs.declared.machine.Signed.{Signed}
+use Rattle.tw_table.specs.Shares.{Share, place_of}
+
+-- a worker with what it has, and the time from which on it handles nothing
+pub record Worker : Type 0 where
+  pub share : Share
+  pub stop : ℕ
+
+-- what a worker keeps, to this stop
+pub record IsAtWork (stop : ℕ) (s : Share) : Type 0 where
+  pub case : IsCase s.shard.case
+  pub place : IsPlace (simulation s.shard.case) stop (place_of s)
+  -- nothing of its own that is loose is before the bound that it knows
+  pub late : IsFrom (simulation s.shard.case) s.shard.bound (place_of s)
+
+-- what calls at a worker, to this stop, keep of its share
+pub record Kept (stop : ℕ) (s t : Share) : Type 0 where
+  pub case : t.shard.case ≡ s.shard.case
+  pub place : Keeps (simulation s.shard.case) stop (place_of s) (place_of t)
+
+-- what a worker has kept since any share, it still has later
+abbrev pub StillKeeps : Worker → Worker → Type 0
+StillKeeps v w = (s : Share) → Kept v.stop s v.share → Kept w.stop s w.share

@@ -1,0 +1,50 @@
+//! What a worker has handled before the bound is let go.
+ghost use Rattle.std.specs.Prelude.{ℕ, ◌≡◌, ◌<◌, false, true, OnErr, OnOk};
+ghost use Rattle.tw_core.specs.Steps.{with_commit};
+ghost use Rattle.tw_model.specs.Case.{simulation};
+ghost use Rattle.tw_model.specs.declared.limits.TheConstants.{MOST_ROUTERS};
+ghost use Rattle.tw_shard.specs.Shard.{IsSameShare, core, owns};
+ghost use Rattle.tw_workers.specs.Work.{StillKeeps};
+
+use crate::worker::Worker;
+use std::alloc::AllocError;
+use tw_model::OrMemory;
+use tw_model::limits::MOST_ROUTERS;
+use tw_shard::Shard;
+
+impl<'a> Worker<'a> {
+    /// The events of its routers that are before the bound become committed: they can be undone no more,
+    /// and what undoing them would need is let go.
+    ///
+    /// For want of memory it is broken off, and those of some routers are committed.
+    pub fn commit(&mut self) -> Result<(), AllocError>
+        ensures kept { StillKeeps self.old self.new }
+        ensures done { OnOk result ((r : ℕ) → r < MOST_ROUTERS → owns self.new.share.shard r ≡ true
+            → (core 0 self.new.share.shard).done r ≡ self.new.share.shard.bound) }
+        ensures mail { self.new.share.mail ≡ self.old.share.mail }
+        ensures unsent { self.new.share.unsent ≡ self.old.share.unsent }
+        ensures stop { self.new.stop ≡ self.old.stop }
+    {
+        for router in 0..MOST_ROUTERS {
+            commit_at(&mut self.shard, router)?;
+        }
+        Ok(())
+    }
+}
+
+/// A router commits its events before the bound, if it is one of the shard's.
+fn commit_at(shard: &mut Shard<'_>, router: u32) -> Result<(), AllocError>
+    ensures own { (stop : ℕ) → OnOk result (owns shard.old router ≡ true → core stop shard.new ≡ with_commit (simulation shard.old.case) (core stop shard.old) router) }
+    ensures other { OnOk result (owns shard.old router ≡ false → shard.new ≡ shard.old) }
+    ensures err { OnErr result (shard.new ≡ shard.old) }
+    ensures same { IsSameShare shard.old shard.new }
+{
+    if !shard.owns(router) {
+        return Ok(());
+    }
+    match shard.commit(router) {
+        Ok(()) => Ok(()),
+        Err(OrMemory::Memory) => Err(AllocError),
+        Err(OrMemory::Fault(_)) => unreachable!(),
+    }
+}

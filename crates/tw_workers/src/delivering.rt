@@ -1,0 +1,72 @@
+//! What is in a worker's hand comes to its routers.
+ghost use Rattle.std.specs.Prelude.{◌≡◌, ◌<◌, ◌+◌, [], ℕ, Ok, IsOk, OnErr, OnOk, drop, length, slice_index};
+ghost use Rattle.tw_core.specs.Steps.{after_arrival, IsRolledBack};
+ghost use Rattle.tw_model.specs.Case.{simulation};
+ghost use Rattle.tw_shard.specs.Arrival.{receiving, refusing};
+ghost use Rattle.tw_shard.specs.Shard.{IsSameShare, core};
+ghost use Rattle.tw_table.specs.Shares.{share};
+ghost use Rattle.tw_workers.specs.Work.{IsAtWork, Kept, StillKeeps};
+
+use crate::policy::count_undone;
+use crate::worker::Worker;
+use std::alloc::AllocError;
+use tw_event::Event;
+use tw_model::OrMemory;
+use tw_shard::Shard;
+use tw_sim::Signed;
+use tw_table::Hand;
+
+impl<'a> Worker<'a> {
+    /// Each message in the hand comes to its router, in the order handed out.
+    ///
+    /// For want of memory it is broken off: the message that met it is in the hand still, and those
+    /// before it are received.
+    pub fn deliver(&mut self) -> Result<(), AllocError>
+        ensures kept { StillKeeps self.old self.new }
+        ensures empty { OnOk result (self.new.share.mail ≡ []) }
+        ensures unsent { self.new.share.unsent ≡ self.old.share.unsent }
+        ensures stop { self.new.stop ≡ self.old.stop }
+    {
+        let waiting = self.shard.pending().len();
+        for _ in self.hand.next..self.hand.mail.len() {
+            receive_next(&mut self.shard, &mut self.hand)?;
+        }
+        let undone = count_undone(waiting, &self.hand.mail, self.shard.pending().len());
+        self.pace.count_undone(undone);
+        self.hand.mail.clear();
+        self.hand.next = 0;
+        Ok(())
+    }
+}
+
+/// The next message of a hand comes to its router.
+fn receive_next(shard: &mut Shard<'_>, hand: &mut Hand) -> Result<(), AllocError>
+    requires some { hand.old.next < length hand.old.mail.items }
+    requires work { (stop : ℕ) × IsAtWork stop (share shard.old hand.old) }
+    ensures kept { (stop : ℕ) → IsAtWork stop (share shard.old hand.old) → Kept stop (share shard.old hand.old) (share shard.new hand.new) }
+    ensures mail { hand.new.mail ≡ hand.old.mail }
+    ensures unsent { hand.new.out ≡ hand.old.out }
+    ensures next { OnOk result (hand.new.next ≡ hand.old.next + 1) }
+    ensures err { OnErr result (hand.new.next ≡ hand.old.next) }
+{
+    let message = hand.mail[hand.next];
+    receive(shard, message)?;
+    hand.next += 1;
+    Ok(())
+}
+
+/// A message that may come comes to a shard.
+fn receive(shard: &mut Shard<'_>, message: Signed<Event>) -> Result<(), AllocError>
+    requires { refusing shard.old message.event ≡ Ok tt }
+    ensures ok { (stop : ℕ) → OnOk result (after_arrival (simulation shard.old.case) (core stop shard.old) message ≡ core stop shard.new) }
+    ensures err { OnErr result ((stop : ℕ) → IsRolledBack (simulation shard.old.case) message.event (core stop shard.old) (core stop shard.new)) }
+    ensures same { IsSameShare shard.old shard.new }
+{
+    match shard.receive(message) {
+        Ok(()) => Ok(()),
+        Err(returned) => match returned.why {
+            OrMemory::Memory => Err(AllocError),
+            OrMemory::Fault(_) => unreachable!(),
+        },
+    }
+}

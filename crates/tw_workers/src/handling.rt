@@ -1,0 +1,150 @@
+//! Events are handled, and what they send is sorted: what is for the worker's own routers comes to them
+//! at once.
+ghost use Rattle.std.specs.Prelude.{◌≡◌, ◌++◌, ◌≤◌, ◌<◌, ◌+◌, [], ℕ, Err, Ok, not, true, IfNone, IfSome, IsErrOf, OnErr, OnOk, filter, length, slice_get, vec_capacity, vec_len};
+ghost use Rattle.tw_core.specs.declared.refusal.Refusal.TheVariants as refusal;
+ghost use Rattle.tw_handlers.specs.Calls.{counter_full};
+ghost use Rattle.tw_model.specs.declared.limits.TheConstants.{LATEST};
+ghost use Rattle.tw_model.specs.declared.memory.OrMemory.TheVariants as or_memory;
+ghost use Rattle.tw_shard.specs.Shard.{IsSameShare, core, handling, owns};
+ghost use Rattle.tw_table.specs.Shares.{share};
+ghost use Rattle.tw_workers.specs.Work.{IsAtWork, Kept, StillKeeps};
+
+use crate::worker::Worker;
+use std::alloc::AllocError;
+use tw_event::Event;
+use tw_handlers::CounterFull;
+use tw_model::OrMemory;
+use tw_shard::{Refusal, Shard};
+use tw_sim::Signed;
+use tw_table::Hand;
+
+impl<'a> Worker<'a> {
+    /// Its routers handle their least pending events, one after the other, until as many are handled as
+    /// it may handle between two meetings, or the next is at or past the stop or its window. What they
+    /// send to one another comes at once; what is for others is unsent.
+    ///
+    /// It is refused as `CounterFull` where a counter of a router would pass its limit. For that and for
+    /// want of memory it is broken off, and what was done before stands.
+    pub fn handle_some(&mut self) -> Result<(), OrMemory<CounterFull>>
+        ensures kept { StillKeeps self.old self.new }
+        ensures empty { OnOk result (self.new.share.mail ≡ []) }
+        ensures sorted { OnOk result (self.new.share.shard.outgoing ≡ []) }
+        ensures full { IsErrOf result (or_memory.Fault counter_full)
+            → (r : ℕ) × (handling self.new.stop self.new.share.shard r ≡ Err refusal.CounterFull) }
+        ensures stop { self.new.stop ≡ self.old.stop }
+    {
+        self.deliver()?;
+        let limit = self.pace.limit(self.shard.bound(), self.stop);
+        let at_window = self.handle_until(limit)?;
+        self.receive_own()?;
+        self.send_rest()?;
+        self.pace.adapt(at_window);
+        Ok(())
+    }
+
+    /// Its routers handle a batch of events that are before a time. It is answered whether none was left.
+    fn handle_until(&mut self, limit: u64) -> Result<bool, OrMemory<CounterFull>>
+        requires { self.old.share.mail ≡ [] }
+        ensures kept { StillKeeps self.old self.new }
+        ensures empty { OnOk result (self.new.share.mail ≡ []) }
+        ensures full { IsErrOf result (or_memory.Fault counter_full)
+            → (r : ℕ) × (handling self.new.stop self.new.share.shard r ≡ Err refusal.CounterFull) }
+        ensures stop { self.new.stop ≡ self.old.stop }
+    {
+        for _ in 0..self.pace.batch() {
+            self.receive_own()?;
+            if !self.handle_least(limit)? {
+                return Ok(true);
+            }
+        }
+        Ok(false)
+    }
+
+    /// What its routers have sent is sorted: what is for them comes to them.
+    fn receive_own(&mut self) -> Result<(), AllocError>
+        requires { self.old.share.mail ≡ [] }
+        ensures kept { StillKeeps self.old self.new }
+        ensures empty { OnOk result (self.new.share.mail ≡ []) }
+        ensures stop { self.new.stop ≡ self.old.stop }
+    {
+        self.sort_out()?;
+        self.deliver()
+    }
+
+    /// What its routers have sent goes into the hand, which is delivered: what is for them as mail, and what
+    /// is for others as unsent.
+    fn sort_out(&mut self) -> Result<(), AllocError>
+        requires { self.old.share.mail ≡ [] }
+        ensures kept { StillKeeps self.old self.new }
+        ensures stop { self.new.stop ≡ self.old.stop }
+    {
+        let count = self.shard.outgoing().len();
+        self.hand.mail.reserve(count)?;
+        self.hand.out.reserve(count)?;
+        self.hand.mail.clear();
+        self.hand.next = 0;
+        sort(&self.shard, &mut self.hand);
+        self.shard.swap_outgoing(&mut self.outgoing);
+        self.outgoing.clear();
+        Ok(())
+    }
+
+    /// What its routers have sent is unsent, whomever it is for.
+    fn send_rest(&mut self) -> Result<(), AllocError>
+        ensures kept { StillKeeps self.old self.new }
+        ensures mail { self.new.share.mail ≡ self.old.share.mail }
+        ensures sorted { OnOk result (self.new.share.shard.outgoing ≡ []) }
+        ensures stop { self.new.stop ≡ self.old.stop }
+    {
+        self.hand.out.extend_from_slice(self.shard.outgoing())?;
+        self.shard.swap_outgoing(&mut self.outgoing);
+        self.outgoing.clear();
+        Ok(())
+    }
+
+    /// A router handles the least pending event of all, if it is before a time that is not beyond the stop,
+    /// and is not the event that the router handled last, which then waits for its antimessage.
+    fn handle_least(&mut self, limit: u64) -> Result<bool, OrMemory<CounterFull>>
+        ensures kept { StillKeeps self.old self.new }
+        ensures full { IsErrOf result (or_memory.Fault counter_full)
+            → (r : ℕ) × (handling self.new.stop self.new.share.shard r ≡ Err refusal.CounterFull) }
+        ensures mail { self.new.share.mail ≡ self.old.share.mail }
+        ensures stop { self.new.stop ≡ self.old.stop }
+    {
+        match self.shard.pending().least() {
+            Some(event) if event.time < limit => {
+                let stop = self.stop;
+                match self.shard.handle_next(event.dst, stop) {
+                    Ok(()) => {
+                        self.pace.count_handled();
+                        Ok(true)
+                    }
+                    Err(OrMemory::Memory) => Err(OrMemory::Memory),
+                    Err(OrMemory::Fault(Refusal::CounterFull)) => {
+                        Err(OrMemory::Fault(CounterFull))
+                    }
+                    Err(OrMemory::Fault(_)) => Ok(false),
+                }
+            }
+            _ => Ok(false),
+        }
+    }
+}
+
+/// Puts what a shard has sent into a hand, in which there is room for it: what is for its own routers
+/// with the mail, the rest with what is unsent.
+fn sort(shard: &Shard<'_>, hand: &mut Hand)
+    requires mail { vec_len hand.old.mail + length shard.now.outgoing ≤ vec_capacity hand.old.mail }
+    requires out { vec_len hand.old.out + length shard.now.outgoing ≤ vec_capacity hand.old.out }
+    ensures mail { hand.new.mail.items ≡ hand.old.mail.items ++ filter (λ m. owns shard.now m.event.dst) shard.now.outgoing }
+    ensures out { hand.new.out.items ≡ hand.old.out.items ++ filter (λ m. not (owns shard.now m.event.dst)) shard.now.outgoing }
+    ensures next { hand.new.next ≡ hand.old.next }
+{
+    for message in shard.outgoing() {
+        if shard.owns(message.event.dst) {
+            hand.mail.push_reserved(*message);
+        } else {
+            hand.out.push_reserved(*message);
+        }
+    }
+}

@@ -1,0 +1,20 @@
+//! What one worker of a parallel run does, off the table and at it (after Jefferson, Virtual Time, 1985).
+//!
+//! A `Worker` has a shard and a hand. It delivers the messages in its hand, handles events and receives
+//! at once what it sends to its own routers; then it meets the table, where it leaves what is for others
+//! and is handed its mail. Proved: whatever it does off the table keeps its place as the rule of `tw_rule`
+//! asks, at want of memory too, so that it may always give its shard and hand; and no message in its hand
+//! is ever refused as late, foreign or not its own. Nothing here starts a thread.
+#![tactic(auto)]
+
+mod committing;
+mod delivering;
+mod handling;
+mod meeting;
+mod policy;
+mod worker;
+
+pub use meeting::Meeting;
+pub use tw_handlers::CounterFull;
+pub use tw_model::OrMemory;
+pub use worker::Worker;

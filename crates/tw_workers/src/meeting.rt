@@ -1,0 +1,134 @@
+//! A worker meets the table.
+ghost use Rattle.std.specs.Prelude.{◌≡◌, ◌≤◌, ◌<◌, [], ◌∷◌, ℕ, length, true};
+ghost use Rattle.tw_exchange.specs.Board.{IsBoard};
+ghost use Rattle.tw_model.specs.declared.limits.TheConstants.{LATEST};
+ghost use Rattle.tw_table.specs.Seats.{IsHeldOf, IsSameSeat, IsSeatOf, bound_at, exchange_of, share_at, share_of, stop_at, stop_of, taken_by};
+ghost use Rattle.tw_table.specs.Shares.{MayBeGiven, share};
+ghost use Rattle.tw_table.specs.Views.{IsMet};
+ghost use Rattle.tw_workers.specs.declared.meeting.Meeting.TheVariants.{Halted, Open, Refused, Settled};
+ghost use Rattle.tw_workers.specs.Work.{IsAtWork, Kept};
+
+use crate::worker::Worker;
+use std::mem;
+use std::sync::Wait;
+use tw_shard::Shard;
+use tw_table::{Hand, Held, Seat, Table};
+
+/// What a worker is told at a meeting.
+#[derive(Clone, Copy, PartialEq, Eq, Debug)]
+pub enum Meeting {
+    /// It goes on.
+    Open,
+    /// The bound is the stop.
+    Settled,
+    /// The workers shall take no further turn.
+    Halted,
+    /// Memory was refused for what it would deposit, and it has told all workers to take no further turn.
+    Refused,
+}
+
+impl<'a> Worker<'a> {
+    /// The worker takes the exchange from the table, deposits what is unsent, reports the least time of what
+    /// waits for its routers, is handed its mail and told the bound, and gives the exchange back, with its
+    /// shard and hand as they are then. The seat is its own, at this table, and what it gave there last
+    /// has been kept since. It has delivered its hand.
+    pub fn meet<R: Wait>(&mut self, rt: &R, table: &Table, seat: Seat) -> (Seat, Meeting)
+        requires seat { IsSeatOf table.now seat }
+        requires kept { Kept self.old.stop (share_at seat) self.old.share }
+        requires stop { stop_at seat ≡ self.old.stop }
+        requires delivered { self.old.share.mail ≡ [] }
+        requires sorted { self.old.share.shard.outgoing ≡ [] }
+        ensures seat { IsSeatOf table.now result.0 }
+        ensures share { share_at result.0 ≡ self.new.share }
+        ensures kept { Kept self.new.stop (share_at result.0) self.new.share }
+        ensures case { self.new.share.shard.case ≡ self.old.share.shard.case }
+        ensures worker { self.new.share.shard.worker ≡ self.old.share.shard.worker }
+        ensures workers { self.new.share.shard.workers ≡ self.old.share.shard.workers }
+        ensures stop { self.new.stop ≡ self.old.stop }
+        ensures seat_stop { stop_at result.0 ≡ self.new.stop }
+        ensures bound { bound_at seat ≤ bound_at result.0 }
+        ensures told { (result.1 ≡ Refused → ⊥) → self.new.share.shard.bound ≡ bound_at result.0 }
+        ensures sent { (result.1 ≡ Refused → ⊥) → self.new.share.unsent ≡ [] }
+        ensures open { result.1 ≡ Open → bound_at result.0 < self.new.stop }
+        ensures settled { result.1 ≡ Settled → bound_at result.0 ≡ self.new.stop }
+        ensures refused { result.1 ≡ Refused → 0 < length self.old.share.unsent }
+    {
+        let mut held = table.take(rt, seat);
+        let meeting = visit(&mut held, &mut self.shard, &mut self.hand, self.stop);
+        let seat = table.give(rt, held, &self.shard, &self.hand);
+        (seat, meeting)
+    }
+
+    /// The worker tells all workers to take no further turn, and leaves its shard and hand as they are. The
+    /// seat is its own, at this table, and what it gave there last has been kept since.
+    pub fn leave<R: Wait>(&self, rt: &R, table: &Table, seat: Seat) -> Seat
+        requires seat { IsSeatOf table.now seat }
+        requires kept { Kept self.now.stop (share_at seat) self.now.share }
+        requires stop { stop_at seat ≡ self.now.stop }
+        ensures seat { IsSeatOf table.now result }
+        ensures share { share_at result ≡ self.now.share }
+        ensures seat_stop { stop_at result ≡ self.now.stop }
+        ensures bound { bound_at seat ≤ bound_at result }
+    {
+        let mut held = table.take(rt, seat);
+        held.halt();
+        table.give(rt, held, &self.shard, &self.hand)
+    }
+}
+
+/// A worker with this shard and hand visits the exchange that it has just taken.
+fn visit(held: &mut Held, shard: &mut Shard<'_>, hand: &mut Hand, stop: u64) -> Meeting
+    requires met { IsMet (share_of held.old ∷ []) (taken_by held.old) }
+    requires fresh { exchange_of held.old ≡ taken_by held.old }
+    requires board { IsBoard (taken_by held.old) }
+    requires stop { (taken_by held.old).stop ≡ stop }
+    requires kept { Kept stop (share_of held.old) (share shard.old hand.old) }
+    requires work { IsAtWork stop (share shard.old hand.old) }
+    requires delivered { (share shard.old hand.old).mail ≡ [] }
+    requires sorted { shard.old.outgoing ≡ [] }
+    ensures seat { IsSameSeat held.old held.new }
+    ensures given { MayBeGiven (taken_by held.old) (share_of held.old) (exchange_of held.new) (share shard.new hand.new) }
+    ensures work { IsAtWork stop (share shard.new hand.new) }
+    ensures case { shard.new.case ≡ shard.old.case }
+    ensures worker { shard.new.worker ≡ shard.old.worker }
+    ensures workers { shard.new.workers ≡ shard.old.workers }
+    ensures rises { (taken_by held.old).bound ≤ (exchange_of held.new).bound }
+    ensures told { (result ≡ Refused → ⊥) → shard.new.bound ≡ (exchange_of held.new).bound }
+    ensures sent { (result ≡ Refused → ⊥) → hand.new.out.items ≡ [] }
+    ensures open { result ≡ Open → (exchange_of held.new).bound < stop }
+    ensures settled { result ≡ Settled → (exchange_of held.new).bound ≡ stop }
+    ensures refused { result ≡ Refused → 0 < length hand.old.out.items }
+{
+    let alloc = *hand.out.allocator();
+    let out = mem::replace(&mut hand.out, Vec::new(alloc));
+    match held.visit(out, shard.report_time()) {
+        Ok(visit) => {
+            shard.raise_bound(visit.bound);
+            hand.mail = visit.mail;
+            hand.next = 0;
+            told(visit.bound, visit.halted, stop)
+        }
+        Err(back) => {
+            hand.out = back.out;
+            held.halt();
+            Meeting::Refused
+        }
+    }
+}
+
+/// What a worker is told that knows this bound.
+fn told(bound: u64, halted: bool, stop: u64) -> Meeting
+    requires { bound ≤ stop }
+    ensures not_refused { result ≡ Refused → ⊥ }
+    ensures open { result ≡ Open → bound < stop }
+    ensures settled { result ≡ Settled → bound ≡ stop }
+    ensures halted { halted ≡ true → result ≡ Halted }
+{
+    if halted {
+        Meeting::Halted
+    } else if bound == stop {
+        Meeting::Settled
+    } else {
+        Meeting::Open
+    }
+}

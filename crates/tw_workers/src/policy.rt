@@ -1,0 +1,84 @@
+//! How far a worker runs ahead of the bound, and how much it does between two meetings. No promise rests
+//! on these numbers, but that the window is never empty.
+
+use std::cmp;
+use tw_event::Event;
+use tw_sim::Signed;
+
+/// Begin with a window of one tick: events of the least tick are never undone.
+const FIRST_WINDOW: u64 = 1;
+
+/// A window wider than the longest delay of a link lets routers run ahead of messages not yet sent.
+const WIDEST_WINDOW: u64 = 1_000_000;
+
+/// The window grows while less than a twentieth of what is handled is undone, and falls above that.
+const HANDLED_FOR_EACH_UNDONE: u64 = 20;
+
+/// How a worker paces itself.
+#[derive(Clone, Copy, Debug)]
+pub(crate) struct Pace {
+    batch: u32,
+    window: u64,
+    // Since the window was set last.
+    handled: u64,
+    undone: u64,
+}
+
+impl Pace {
+    /// At most so many events between two meetings.
+    pub(crate) fn new(batch: u32) -> Pace {
+        Pace {
+            batch,
+            window: FIRST_WINDOW,
+            handled: 0,
+            undone: 0,
+        }
+    }
+
+    /// How many events may be handled before the next meeting.
+    pub(crate) fn batch(&self) -> u32 {
+        self.batch
+    }
+
+    /// The time at which a worker stops that knows this bound.
+    pub(crate) fn limit(&self, bound: u64, stop: u64) -> u64 {
+        cmp::min(stop, bound.saturating_add(self.window))
+    }
+
+    /// An event was handled.
+    pub(crate) fn count_handled(&mut self) {
+        self.handled = self.handled.saturating_add(1);
+    }
+
+    /// So many events were undone.
+    pub(crate) fn count_undone(&mut self, events: usize) {
+        self.undone = self.undone.saturating_add(events as u64);
+    }
+
+    /// A batch is over: whether it ended at the window.
+    pub(crate) fn adapt(&mut self, at_window: bool) {
+        let much = self.undone.saturating_mul(HANDLED_FOR_EACH_UNDONE) > self.handled;
+        if much {
+            self.window = cmp::max(FIRST_WINDOW, self.window / 2);
+        } else if at_window {
+            let wider = self.window.saturating_add(self.window / 4 + 1);
+            self.window = cmp::min(WIDEST_WINDOW, wider);
+        }
+        self.handled = 0;
+        self.undone = 0;
+    }
+}
+
+/// How many events were undone for messages: so many more are pending than before than they account for.
+/// A message adds one, an antimessage takes one out; where antimessages are kept it is a guess.
+pub(crate) fn count_undone(before: usize, messages: &[Signed<Event>], after: usize) -> usize {
+    let mut waiting = before;
+    for message in messages {
+        waiting = if message.plus {
+            waiting.saturating_add(1)
+        } else {
+            waiting.saturating_sub(1)
+        };
+    }
+    after.saturating_sub(waiting)
+}

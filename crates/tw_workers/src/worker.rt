@@ -1,0 +1,68 @@
+ghost use Rattle.std.specs.Prelude.{◌≡◌, ◌≤◌};
+ghost use Rattle.tw_model.specs.declared.limits.TheConstants.{LATEST};
+ghost use Rattle.tw_table.specs.Shares.{share};
+ghost use Rattle.tw_workers.specs.Work.{IsAtWork};
+
+use crate::policy::Pace;
+use std::marker::Model;
+use tw_event::Event;
+use tw_shard::Shard;
+use tw_sim::Signed;
+use tw_table::Hand;
+
+/// A worker of a parallel run: its routers, and the messages in its hand.
+#[derive(Drop)]
+pub struct Worker<'a> {
+    pub(crate) shard: Shard<'a>,
+    pub(crate) hand: Hand,
+    // Empty between calls: it keeps the memory of the list that goes out.
+    pub(crate) outgoing: Vec<Signed<Event>>,
+    pub(crate) stop: u64,
+    pub(crate) pace: Pace,
+}
+
+impl<'a> Model for Worker<'a> {
+    ghost use Rattle.tw_workers.specs.Work as spec;
+    ghost use Rattle.tw_workers.specs.Inside.{IsWorker, worker_of};
+
+    ghost Value = { spec.Worker };
+
+    ghost view = { worker_of };
+
+    ghost invariant = { IsWorker };
+}
+
+impl<'a> Worker<'a> {
+    /// A worker with this shard and hand, which handles nothing from the stop on, in ticks, at most
+    /// 1,000,000,000, and at most `batch` events between two meetings.
+    pub fn new(shard: Shard<'a>, hand: Hand, stop: u64, batch: u32) -> Worker<'a>
+        requires work { IsAtWork stop (share shard hand) }
+        requires stop { stop ≤ LATEST }
+        ensures share { result.share ≡ share shard.entry hand }
+        ensures stop { result.stop ≡ stop }
+    {
+        let alloc = *hand.mail.allocator();
+        Worker {
+            shard,
+            hand,
+            outgoing: Vec::new(alloc),
+            stop,
+            pace: Pace::new(batch),
+        }
+    }
+
+    /// Its shard and its hand, as they are.
+    pub fn into_parts(self) -> (Shard<'a>, Hand)
+        ensures { share result.0 result.1 ≡ self.entry.share }
+    {
+        (self.shard, self.hand)
+    }
+
+    /// Its routers.
+    pub fn shard(&self) -> &Shard<'a>
+        ensures value { result.now ≡ self.now.share.shard }
+        ensures work { IsAtWork self.now.stop self.now.share }
+    {
+        &self.shard
+    }
+}
