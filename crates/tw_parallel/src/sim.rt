@@ -80,7 +80,7 @@ impl<'a> Sim<'a> {
     pub fn of_parts(parts: Parts<'a>) -> Sim<'a>
         requires sim { IsSim (run_of parts) }
         requires hands { HasHands parts }
-        ensures { result ≡ run_of parts }
+        ensures { result ≡ run_of parts.entry }
     {
         let Parts {
             case,
