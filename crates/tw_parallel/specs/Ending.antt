@@ -5,8 +5,11 @@ use Rattle.tw_core.specs.Machine.{committed}
 use Rattle.tw_event.specs.declared.event.Event.{Event}
 use Rattle.tw_model.specs.Case.{Case, simulation}
 use Rattle.tw_model.specs.declared.outcome.RouterEnd.{RouterEnd}
+use Rattle.tw_model.specs.State.{State}
+use Rattle.tw_parallel.specs.declared.ending.NotSettled.{NotSettled}
 use Rattle.tw_parallel.specs.Sim.{Sim, machine}
 use Rattle.tw_sim.specs.Seq.{at, log}
+use Rattle.tw_sim.specs.Simulation.{state}
 
 -- the workers have come to the stop
 pub record IsSettled (s : Sim) : Type 0 where
@@ -16,14 +19,26 @@ pub record IsSettled (s : Sim) : Type 0 where
   -- and every handled event is committed
   pub committed : (r : ℕ) → r < s.case.net.nodes → committed (simulation s.case) (machine s) r ≡ (machine s).history r
 
--- the events of the run to a stop, the first one first, or none
-abbrev pub logged : Bool → Case → ℕ → List Event
-logged log_too case stop = if log_too then reverse (log (simulation case) stop) else []
-
--- how each router stands at a stop
-abbrev pub ends_at : Case → ℕ → List RouterEnd
-ends_at case stop = map (λ r. record { counters = (at (simulation case) stop r).counters; rib = (at (simulation case) stop r).rib }) (range_with_len 0 case.net.nodes)
+-- the one value of `NotSettled`
+abbrev pub not_settled : NotSettled
+not_settled = record {}
 
 -- how many events a router has handled that are not committed
 abbrev pub ahead_of : Sim → ℕ → ℕ
 ahead_of s r = length ((machine s).history r) - length (committed (simulation s.case) (machine s) r)
+
+-- what each router knows
+abbrev pub states_of : Sim → List State
+states_of s = map (λ r. state (simulation s.case) r ((machine s).history r)) (range_with_len 0 s.case.net.nodes)
+
+-- and at a stop of the one-thread run
+abbrev pub states_at : Case → ℕ → List State
+states_at case stop = map (at (simulation case) stop) (range_with_len 0 case.net.nodes)
+
+-- how a router stands that knows this
+abbrev pub end_of : State → RouterEnd
+end_of known = record { counters = known.counters; rib = known.rib }
+
+-- the events of the run to a stop, the first one first, or none
+abbrev pub logged : Bool → Case → ℕ → List Event
+logged with_log case stop = if with_log then reverse (log (simulation case) stop) else []

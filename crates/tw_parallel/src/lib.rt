@@ -10,9 +10,11 @@
 
 mod collecting;
 mod counts;
+mod ending;
 mod opening;
 mod sim;
 
+pub use ending::{Ending, NotSettled};
 pub use sim::{Parts, Sim};
 pub use tw_model::OrMemory;
 pub use tw_warp::StopLower;
