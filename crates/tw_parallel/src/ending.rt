@@ -40,16 +40,26 @@ impl Sim<'_> {
         ensures value { IsTrue result ↔ IsSettled self.now }
         ensures sim { IsSim self.now }
     {
-        self.bound() == self.stop() && self.is_still() && self.ahead() == 0
+        if self.bound() != self.stop() {
+            return false;
+        }
+        if !self.is_still() {
+            return false;
+        }
+        self.ahead() == 0
     }
 
     /// Whether no message is on its way.
     fn is_still(&self) -> bool
         ensures { IsTrue result ↔ ((machine self.now).flight ≡ []) }
     {
-        count_mail(&self.exchange) == 0
-            && count_held(&self.hands) == 0
-            && count_outgoing(&self.shards) == 0
+        if count_mail(&self.exchange) > 0 {
+            return false;
+        }
+        if count_held(&self.hands) > 0 {
+            return false;
+        }
+        count_outgoing(&self.shards) == 0
     }
 
     /// What the run leaves at its stop, its events only where `log` asks for them: all of it is that of the
