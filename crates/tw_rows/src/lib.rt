@@ -20,6 +20,8 @@ mod machine;
 #[cfg(test)]
 mod messages;
 #[cfg(test)]
+mod parallel;
+#[cfg(test)]
 mod pending;
 #[cfg(test)]
 mod programs;

@@ -78,7 +78,7 @@ module _ {S E : Type 0} (m : Simulation S E) (law : IsLawful m) (who : ℕ → �
       → (assembled x ps).history r ≡ p.history r
   history_of x ps i r p rule place l mine = ap (λ o. option_map_or (λ (z : Part E). z.core.history r) o []) (owner_of x ps i r p rule place l mine)
 
-  done_of : (x : Board E) (ps : List (Place E)) (i r : ℕ) (p : Place E) → Rule m who x ps → slice_get ps i ≡ Some p → r < m.routers → p.owns r ≡ true
+  pub done_of : (x : Board E) (ps : List (Place E)) (i r : ℕ) (p : Place E) → Rule m who x ps → slice_get ps i ≡ Some p → r < m.routers → p.owns r ≡ true
       → (assembled x ps).done r ≡ p.done r
   done_of x ps i r p rule place l mine = ap (λ o. option_map_or (λ (z : Part E). z.core.done r) o 0) (owner_of x ps i r p rule place l mine)
 

@@ -8,14 +8,16 @@ use Rattle.std.proofs.lemmas.Grind.{flat_map-append}
 use Rattle.tw_core.specs.Machine.{Core, committed}
 use Rattle.tw_core.specs.Parts.{total}
 use Rattle.tw_event.specs.declared.event.Event.{Event}
+use Rattle.tw_event.specs.Order.{event_before}
 use Rattle.tw_event.specs.contracts.event.EventOrd.TheImpl as event_ord
-use Rattle.tw_model.specs.Case.{Case, simulation}
+use Rattle.tw_model.specs.Case.{Case, IsCase, simulation}
+use Rattle.tw_model.proofs.Lawful.{lawful}
 use Rattle.tw_queue.proofs.Spares.{sorted_whole}
+use Rattle.tw_sim.specs.Ordered.{insert_all}
 use Rattle.tw_sim.specs.Simulation.{Simulation, IsFalling, IsLawful, below, times}
 use Rattle.tw_sim.proofs.Counts.{in_head, times-append, times-reverse}
 use Rattle.tw_warp.specs.Committed.{by_router, committed_events, oldest}
 use Rattle.tw_warp.specs.Warp.{IsWarp, Warp, core}
-use Rattle.tw_warp.proofs.Moves.{law}
 
 module _ {S E : Type 0} (m : Simulation S E) (law : IsLawful m) where
   -- of a falling history whose newest event is before a time all are
@@ -71,28 +73,31 @@ one_gathered case C n before events more so added is =
     ∙ (ap (λ ys. flat_map (λ r. oldest case C r) (range_with_len 0 n) ++ ys) (sym (append-nil (oldest case C n)))
     ∙ (sym (flat_map-append (λ r. oldest case C r) (range_with_len 0 n) (n ∷ [])) ∙ ap (flat_map (λ r. oldest case C r)) (sym next))))
 
-module _ (w : Warp) (is : IsWarp w) where
+module _ (case : Case) (is : IsCase case) (C : Core Event) (falling : (r : ℕ) → IsFalling (simulation case) (C.history r)) where
   -- each event is gathered as often as it is committed
-  gathered : (e : Event) (rs : List ℕ) → times (simulation w.case) e (flat_map (λ r. oldest w.case (core w) r) rs)
-      ≡ times (simulation w.case) e (flat_map (λ r. committed (simulation w.case) (core w) r) rs)
+  gathered : (e : Event) (rs : List ℕ) → times (simulation case) e (flat_map (λ r. oldest case C r) rs)
+      ≡ times (simulation case) e (flat_map (λ r. committed (simulation case) C r) rs)
   gathered e [] = refl
   gathered e (r ∷ rs) =
-      let m = simulation w.case in
-      let C = core w in
+      let m = simulation case in
       let h = gathered e rs in
-      let old = ap (times m e) (oldest_below m (law w is) (C.done r) (C.history r) (is.good.falling r)) in
+      let old = ap (times m e) (oldest_below m (lawful case is) (C.done r) (C.history r) (falling r)) in
       let same = times-reverse m e (committed m C r) in
-      let a = times-append m e (oldest w.case C r) (flat_map (λ r. oldest w.case C r) rs) in
+      let a = times-append m e (oldest case C r) (flat_map (λ r. oldest case C r) rs) in
       let b = times-append m e (committed m C r) (flat_map (λ r. committed m C r) rs) in
       omega arith
 
   -- so, sorted, they are the committed events in order
-  pub sorted_committed : (all events : List Event) → all ≡ by_router w → IsPermutation all events → IsSorted event_ord.ghosts.cmp events → events ≡ committed_events w
-  sorted_committed all events is_all p s =
-      let m = simulation w.case in
-      let rs = range_with_len 0 w.case.net.nodes in
-      sorted_whole (flat_map (λ r. committed m (core w) r) rs) [] events all tt
+  pub sorted_of : (rs : List ℕ) (all events : List Event) → all ≡ flat_map (λ r. oldest case C r) rs → IsPermutation all events → IsSorted event_ord.ghosts.cmp events
+      → events ≡ insert_all event_before (flat_map (λ r. committed (simulation case) C r) rs) []
+  sorted_of rs all events is_all p s =
+      let m = simulation case in
+      sorted_whole (flat_map (λ r. committed m C r) rs) [] events all tt
       (λ e. ap (times m e) is_all ∙ (gathered e rs ∙ omega arith)) p s
+
+pub sorted_committed : (w : Warp) → IsWarp w → (all events : List Event) → all ≡ by_router w → IsPermutation all events → IsSorted event_ord.ghosts.cmp events
+    → events ≡ committed_events w
+sorted_committed w is all events is_all p s = sorted_of w.case is.case (core w) is.good.falling (range_with_len 0 w.case.net.nodes) all events is_all p s
 
 -- one more router's events that are not committed
 total_more : (f : ℕ → ℕ) (xs : List ℕ) (n : ℕ) → total f (xs ++ n ∷ []) ≡ total f xs + f n

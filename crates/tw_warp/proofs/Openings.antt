@@ -20,7 +20,7 @@ use Rattle.tw_warp.specs.Warp.{IsWarp, Warp, core, no_shard, shard_of, worker_of
 
 module _ (case : Case) (is : IsCase case) (n : ℕ) where
   -- how often an event waits at a shard that begins
-  waits : (k : ℕ) (s : Shard) (e : Event) → IsOpened case k n s
+  pub waits : (k : ℕ) (s : Shard) (e : Event) → IsOpened case k n s
       → times (simulation case) e s.pending ≡ cond (e.dst % n == k) (times (simulation case) e (opening_events case.scenes)) 0
   waits k s e at =
       let m = simulation case in
@@ -35,7 +35,7 @@ module _ (case : Case) (is : IsCase case) (n : ℕ) where
       ]
 
   -- over shards from number a on, it waits once for its receiver's worker
-  all_wait : (e : Event) (ss : List Shard) (a : ℕ) → ((j : ℕ) → j < length ss → IsOpened case (a + j) n (get_or ss j no_shard))
+  pub all_wait : (e : Event) (ss : List Shard) (a : ℕ) → ((j : ℕ) → j < length ss → IsOpened case (a + j) n (get_or ss j no_shard))
       → (a ≤ e.dst % n → e.dst % n < a + length ss → times (simulation case) e (flat_map (λ s. s.pending) ss) ≡ times (simulation case) e (opening_events case.scenes))
       × (e.dst % n < a → times (simulation case) e (flat_map (λ s. s.pending) ss) ≡ 0)
   all_wait e [] a each = ((λ from to. absurd (omega arith)), (λ before. refl))

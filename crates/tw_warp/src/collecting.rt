@@ -8,8 +8,8 @@ use std::alloc::AllocError;
 use tw_event::Event;
 use tw_shard::Shard;
 
-/// Adds as many of a router's events, the oldest first, as are committed.
-pub(crate) fn add_committed(
+/// Adds as many of a router's events, the oldest first, as are committed. The router is one of the shard's.
+pub fn add_committed(
     shard: &Shard<'_>,
     router: u32,
     events: &mut Vec<Event>,

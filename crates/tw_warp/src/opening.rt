@@ -7,8 +7,8 @@ use std::alloc::{AllocError, Global};
 use tw_instance::Case;
 use tw_shard::Shard;
 
-/// The shards of so many workers, by rising worker.
-pub(crate) fn open_shards<'a>(
+/// The shards of so many workers, by rising worker, as they begin.
+pub fn open_shards<'a>(
     alloc: Global,
     case: &'a Case,
     workers: u32,

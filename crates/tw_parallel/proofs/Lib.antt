@@ -1,0 +1,4 @@
+pub mod Shares
+pub mod Owners
+pub mod Openings
+pub mod Ends

@@ -1,0 +1,169 @@
+-- A run that begins keeps the rule, and is a machine that begins.
+use Rattle.std.proofs.Common.{◌≡◌, ℕ, zero, suc, ◌+◌, ◌<◌, ◌≤◌, ◌==◌, ◌%◌, ◌&&◌, cond, List, [], ◌∷◌, ◌++◌, drop, flat_map, get_or, length, map, nat_lt, refl, ap, sym, ◌∙◌, subst, inl, inr, arith}
+use Rattle.std.proofs.lemmas.Bool.{cases_Bool, lt-ltb}
+use Rattle.std.specs.List.{AllByRecursion, range_with_len}
+use Rattle.std.specs.Prelude.{Some, replicate}
+use Rattle.tw_core.specs.Machine.{Core, IsOpening}
+use Rattle.tw_core.specs.Parts.{Part, at_owner}
+use Rattle.tw_event.specs.declared.event.Event.{Event}
+use Rattle.tw_exchange.specs.Board.{all_mail, opening, owner, workers}
+use Rattle.tw_model.proofs.Lawful.{lawful}
+use Rattle.tw_model.specs.Case.{Case, IsCase, simulation}
+use Rattle.tw_model.specs.declared.limits.TheConstants.{LATEST}
+use Rattle.tw_parallel.proofs.Owners.{pending_of}
+use Rattle.tw_parallel.proofs.Shares.{long_shares}
+use Rattle.tw_parallel.specs.Hands.{IsEmptyHand}
+use Rattle.tw_parallel.specs.Sim.{IsSim, Sim, machine}
+use Rattle.tw_rule.proofs.Opens.{rule_opens}
+use Rattle.tw_rule.specs.Place.{Place, part_of}
+use Rattle.tw_rule.specs.Rule.{AreOpeningPlaces, IsOpeningBoard, IsOpeningPlace, Rule}
+use Rattle.tw_shard.specs.Shard.{Shard}
+use Rattle.tw_sim.specs.Simulation.{Simulation, times}
+use Rattle.tw_sim.specs.declared.machine.Signed.{Signed}
+use Rattle.tw_table.specs.declared.hand.Hand.{Hand}
+use Rattle.tw_table.specs.Shares.{Share, board_of, place_of, share, shares_of}
+use Rattle.tw_warp.proofs.Openings.{all_wait, waits}
+use Rattle.tw_warp.specs.Openings.{IsOpened}
+use Rattle.tw_warp.specs.Warp.{no_shard}
+
+-- nothing waits on a new exchange
+no_mail : (n : ℕ) → flat_map (λ (mail : List (Signed Event)). mail) (replicate n []) ≡ []
+no_mail zero = refl
+no_mail (suc n) = no_mail n
+
+long_row : {X : Type 0} (n : ℕ) (x : X) → length (replicate n x) ≡ n
+long_row zero x = refl
+long_row (suc n) x = let more = long_row n x in omega arith
+
+module _ (case : Case) (is : IsCase case) (n : ℕ) where
+  -- a shard and a hand that begin are a place that begins
+  place_opens : (k : ℕ) (s : Shard) (h : Hand) → IsOpened case k n s → IsEmptyHand h → IsOpeningPlace (simulation case) (owner n) k (place_of (share s h))
+  place_opens k s h at empty = record {
+    worker = at.worker;
+    owns = λ r l.
+        (λ i. nat_lt r (at.case_is i).net.nodes && (r % at.count i == at.worker i))
+        ∙ ap (λ b. b && (r % n == k)) (lt-ltb r case.net.nodes l);
+    history = λ r. ap (λ (C : Core Event). C.history r) (at.core_is 0);
+    pending = λ e. waits case is n k s e at;
+    kept = ap (λ (C : Core Event). C.kept) (at.core_is 0);
+    outgoing = ap (λ (C : Core Event). C.flight) (at.core_is 0);
+    done = λ r. ap (λ (C : Core Event). C.done r) (at.core_is 0);
+    bound = ap (λ (C : Core Event). C.bound) (at.core_is 0);
+    mail = λ i. drop (empty.next i) (empty.mail i);
+    unsent = empty.out;
+  }
+
+  -- the shards of the workers from k on begin
+  abbrev Begin : ℕ → List Shard → Type 0
+  Begin k ss = (j : ℕ) → j < length ss → IsOpened case (k + j) n (get_or ss j no_shard)
+
+  first : (k : ℕ) (s : Shard) (ss : List Shard) → Begin k (s ∷ ss) → IsOpened case k n s
+  first k s ss each = subst (λ i. IsOpened case i n s) (omega arith) (each 0 (omega arith))
+
+  later : (k : ℕ) (s : Shard) (ss : List Shard) → Begin k (s ∷ ss) → Begin (k + 1) ss
+  later k s ss each = λ j h. subst (λ i. IsOpened case i n (get_or ss j no_shard)) (omega arith) (each (suc j) (omega arith))
+
+  places_open : (k : ℕ) (ss : List Shard) (hs : List Hand) → Begin k ss → AllByRecursion IsEmptyHand hs → length hs ≡ length ss
+      → AreOpeningPlaces (simulation case) (owner n) k (map place_of (shares_of ss hs))
+  places_open k [] hs each empty same = tt
+  places_open k (s ∷ ss) [] each empty same = absurd (omega arith)
+  places_open k (s ∷ ss) (h ∷ hs) each empty same =
+      let up : k + 1 ≡ suc k = omega arith in (
+        place_opens k s h (first k s ss each) empty.0,
+        subst (λ i. AreOpeningPlaces (simulation case) (owner n) i (map place_of (shares_of ss hs))) up
+            (places_open (k + 1) ss hs (later k s ss each) empty.1 (omega arith)),
+      )
+
+  in_order : (k : ℕ) (ss : List Shard) (hs : List Hand) → Begin k ss → length hs ≡ length ss
+      → map (λ (t : Share). t.shard.worker) (shares_of ss hs) ≡ range_with_len k (length ss)
+  in_order k [] hs each same = refl
+  in_order k (s ∷ ss) [] each same = absurd (omega arith)
+  in_order k (s ∷ ss) (h ∷ hs) each same = λ i. (first k s ss each).worker i ∷ in_order (k + 1) ss hs (later k s ss each) (omega arith) i
+
+  all_of_case : (k : ℕ) (ss : List Shard) (hs : List Hand) → Begin k ss → length hs ≡ length ss → AllByRecursion (λ (t : Share). t.shard.case ≡ case) (shares_of ss hs)
+  all_of_case k [] hs each same = tt
+  all_of_case k (s ∷ ss) [] each same = absurd (omega arith)
+  all_of_case k (s ∷ ss) (h ∷ hs) each same = ((first k s ss each).case_is, all_of_case (k + 1) ss hs (later k s ss each) (omega arith))
+
+module _ {S E : Type 0} (m : Simulation S E) (who : ℕ → ℕ) (stop : ℕ) where
+  -- what places that begin are as parts of the machine
+  no_history : (r k : ℕ) (ps : List (Place E)) → AreOpeningPlaces m who k ps → at_owner (λ (C : Core E). C.history r) [] (map (part_of stop) ps) r ≡ []
+  no_history r k [] h = refl
+  no_history r k (p ∷ ps) h =
+      elim (cases_Bool (p.owns r)) [
+        | inl own ↦ rw own (h.0.history r)
+        | inr other ↦ rw other (no_history r (suc k) ps h.1)
+      ]
+
+  none_done : (r k : ℕ) (ps : List (Place E)) → AreOpeningPlaces m who k ps → at_owner (λ (C : Core E). C.done r) 0 (map (part_of stop) ps) r ≡ 0
+  none_done r k [] h = refl
+  none_done r k (p ∷ ps) h =
+      elim (cases_Bool (p.owns r)) [
+        | inl own ↦ rw own (h.0.done r)
+        | inr other ↦ rw other (none_done r (suc k) ps h.1)
+      ]
+
+  none_kept : (k : ℕ) (ps : List (Place E)) → AreOpeningPlaces m who k ps → flat_map (λ (p : Part E). p.core.kept) (map (part_of stop) ps) ≡ []
+  none_kept k [] h = refl
+  none_kept k (p ∷ ps) h = λ i. h.0.kept i ++ none_kept (suc k) ps h.1 i
+
+  none_flies : (k : ℕ) (ps : List (Place E)) → AreOpeningPlaces m who k ps → flat_map (λ (p : Part E). p.core.flight) (map (part_of stop) ps) ≡ []
+  none_flies k [] h = refl
+  none_flies k (p ∷ ps) h = λ i. ((h.0.mail i ++ h.0.unsent i) ++ h.0.outgoing i) ++ none_flies (suc k) ps h.1 i
+
+-- shards and hands that begin, with a new exchange for as many workers
+module _ (case : Case) (is : IsCase case) (n : ℕ) (some : 0 < n) (ss : List Shard) (hs : List Hand) (count : length ss ≡ n) (same : length hs ≡ length ss)
+    (each : (k : ℕ) → k < n → IsOpened case k n (get_or ss k no_shard)) (empty : AllByRecursion IsEmptyHand hs) where
+  abbrev pub new_sim : Sim
+  new_sim = record { case = case; board = opening n 0 0; shares = shares_of ss hs }
+
+  from_zero : Begin case is n 0 ss
+  from_zero j h = subst (λ k. IsOpened case k n (get_or ss j no_shard)) (omega arith) (each j (omega arith))
+
+  new_places : AreOpeningPlaces (simulation case) (owner n) 0 (map place_of (shares_of ss hs))
+  new_places = places_open case is n 0 ss hs from_zero empty same
+
+  many : workers (opening n 0 0) ≡ n
+  many = long_row n (Some 0)
+
+  long_places : (ts : List Share) → length (map place_of ts) ≡ length ts
+  long_places [] = refl
+  long_places (t ∷ ts) = let more = long_places ts in omega arith
+
+  new_rule : Rule (simulation case) (owner n) (board_of (opening n 0 0)) (map place_of (shares_of ss hs))
+  new_rule =
+      let long = long_places (shares_of ss hs) in
+      let all = long_shares ss hs same in
+      let places : n ≡ length (map place_of (shares_of ss hs)) = omega arith in
+      rule_opens (simulation case) (lawful case is) (owner n) (board_of (opening n 0 0)) (map place_of (shares_of ss hs))
+      (record { mail = no_mail n; reports = ap (λ k. replicate k (Some 0)) places; bound = refl }) new_places
+      (λ r l. let within : r % n < n = omega arith in omega arith)
+
+  pub new_is : IsSim new_sim
+  new_is =
+      let all = long_shares ss hs same in
+      let workers_are = many in
+      record {
+        some = omega arith;
+        order = in_order case is n 0 ss hs from_zero same ∙ ap (range_with_len 0) (omega arith);
+        ruled = record {
+          is_case = is;
+          cases = all_of_case case is n 0 ss hs from_zero same;
+          count = omega arith;
+          rule = subst (λ k. Rule (simulation case) (owner k) (board_of (opening n 0 0)) (map place_of (shares_of ss hs))) (sym many) new_rule;
+        };
+        stop = omega arith;
+      }
+
+  pub new_opens : IsOpening (simulation case) (machine new_sim)
+  new_opens =
+      let m = simulation case in
+      let ps = map place_of (shares_of ss hs) in
+      record {
+        history = λ r. no_history m (owner n) 0 r 0 ps new_places;
+        pending = λ e. ap (times m e) (pending_of 0 ss hs same) ∙ (all_wait case is n e ss 0 from_zero).0 (omega arith) (let within : e.dst % n < n = omega arith in omega arith);
+        kept = none_kept m (owner n) 0 0 ps new_places;
+        flight = λ i. no_mail n i ++ none_flies m (owner n) 0 0 ps new_places i;
+        done = λ r. none_done m (owner n) 0 r 0 ps new_places;
+        bound = refl;
+      }

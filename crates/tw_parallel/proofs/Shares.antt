@@ -1,0 +1,32 @@
+-- Shards with a hand each: the share of each worker.
+use Rattle.std.proofs.Common.{◌≡◌, ℕ, zero, suc, ◌+◌, ◌<◌, List, [], ◌∷◌, drop, get_or, length, map, slice_get, Some, refl, ap, arith}
+use Rattle.std.specs.List.{range_with_len}
+use Rattle.tw_shard.specs.Shard.{Shard}
+use Rattle.tw_table.specs.declared.hand.Hand.{Hand}
+use Rattle.tw_table.specs.Shares.{Share, share, shares_of}
+
+-- there are as many as shards
+pub long_shares : (ss : List Shard) (hs : List Hand) → length hs ≡ length ss → length (shares_of ss hs) ≡ length ss
+long_shares [] hs same = refl
+long_shares (s ∷ ss) [] same = absurd (omega arith)
+long_shares (s ∷ ss) (h ∷ hs) same = let more = long_shares ss hs (omega arith) in omega arith
+
+-- that of worker k has its shard
+pub share_there : (ss : List Shard) (hs : List Hand) (k : ℕ) (d : Shard) → length hs ≡ length ss → k < length ss
+    → (h : Hand) × (slice_get (shares_of ss hs) k ≡ Some (share (get_or ss k d) h))
+share_there [] hs k d same within = absurd (omega arith)
+share_there (s ∷ ss) [] k d same within = absurd (omega arith)
+share_there (s ∷ ss) (h ∷ hs) zero d same within = (h, refl)
+share_there (s ∷ ss) (h ∷ hs) (suc k) d same within = share_there ss hs k d (omega arith) (omega arith)
+
+-- and is that of worker k
+pub worker_there : (from n k : ℕ) (ts : List Share) (t : Share) → map (λ (t : Share). t.shard.worker) ts ≡ range_with_len from n → slice_get ts k ≡ Some t → t.shard.worker ≡ from + k
+worker_there from n k [] t order there = cc
+worker_there from zero k (x ∷ ts) t order there = absurd (let long = ap length order in omega arith)
+worker_there from (suc n) zero (x ∷ ts) t order there =
+    let same : x ≡ t = cc in
+    let first : x.shard.worker ≡ from = ap (λ l. get_or l 0 0) order in
+    let worker : x.shard.worker ≡ t.shard.worker = ap (λ (z : Share). z.shard.worker) same in
+    omega arith
+worker_there from (suc n) (suc k) (x ∷ ts) t order there =
+    let more = worker_there (from + 1) n k ts t (ap (drop 1) order) there in omega arith

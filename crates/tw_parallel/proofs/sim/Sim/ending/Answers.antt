@@ -1,0 +1,18 @@
+use Rattle.std.proofs.Common.{map, ap, ◌∙◌}
+use Rattle.tw_parallel.proofs.Ends.{all_committed, all_states, ended}
+use Rattle.tw_parallel.specs.Ending.{end_of}
+use Rattle.tw_parallel.proofs.sim.Sim.ending.Goals as goal
+use Rattle.tw_parallel.proofs.sim.Sim.ending.Goals.{then-log+in_ok-events, else-log}
+
+pub returns-clause-events : goal.returns-clause-events
+returns-clause-events c =
+    elim c.if-log.branch [
+      | then-log+in_ok-events w ↦ rw w.if-log.true (ap (λ v. v.items) w.events-is ∙ (w.in_ok-events.ensures.value ∙ all_committed c.args.self.now c.stop.ensures.sim c.requires))
+      | else-log w ↦ rw w.if-log.false (ap (λ v. v.items) w.events-is ∙ w.new-events.ensures.items)
+    ]
+
+pub returns-clause-routers : goal.returns-clause-routers
+returns-clause-routers c = c.in_ok-router_ends.ensures ∙ ap (map end_of) (all_states c.args.self.now c.stop.ensures.sim c.requires)
+
+pub returns-clause-pending : goal.returns-clause-pending
+returns-clause-pending c = c.in_ok-pending.ensures.value ∙ (ended c.args.self.now c.stop.ensures.sim c.requires).pending

@@ -1,0 +1,4 @@
+pub mod Hands
+pub mod Sim
+pub mod Inside
+pub mod Ending

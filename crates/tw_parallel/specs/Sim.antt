@@ -1,0 +1,41 @@
+-- A parallel run between two runs of its workers: what they share, and what each of them has (own).
+use Rattle.std.specs.Prelude.{ℕ, ◌≡◌, ◌<◌, ◌≤◌, false, List, [], map}
+use Rattle.std.specs.List.{flat_map, range_with_len}
+use Rattle.tw_core.specs.Machine.{Core, committed}
+use Rattle.tw_event.specs.declared.event.Event.{Event}
+use Rattle.tw_event.specs.Order.{event_before}
+use Rattle.tw_exchange.specs.Board.{Board, workers}
+use Rattle.tw_model.specs.Case.{Case, simulation}
+use Rattle.tw_model.specs.declared.limits.TheConstants.{LATEST}
+use Rattle.tw_rule.specs.Rule.{assembled}
+use Rattle.tw_sim.specs.Ordered.{insert_all}
+use Rattle.tw_table.specs.Shares.{IsRuled, Share, board_of, place_of}
+
+pub record Sim : Type 0 where
+  pub case : Case
+  -- the exchange
+  pub board : Board
+  -- what each worker has, by rising worker
+  pub shares : List Share
+
+-- all of it as one machine
+abbrev pub machine : Sim → Core Event
+machine s = assembled (board_of s.board) (map place_of s.shares)
+
+-- it keeps the rule
+pub record IsSim (s : Sim) : Type 0 where
+  -- there are workers
+  pub some : 0 < workers s.board
+  -- each has its share, by rising worker
+  pub order : map (λ t. t.shard.worker) s.shares ≡ range_with_len 0 (workers s.board)
+  pub ruled : IsRuled s.case s.board s.shares
+  -- the stop is one that a case may have
+  pub stop : s.board.stop ≤ LATEST
+
+-- the committed events of all routers, in the order of events
+abbrev pub committed_events : Sim → List Event
+committed_events s = insert_all event_before (flat_map (λ r. committed (simulation s.case) (machine s) r) (range_with_len 0 s.case.net.nodes)) []
+
+-- where a run goes on to another stop
+abbrev pub reopened : ℕ → Sim → Sim
+reopened stop s = record s { board = record s.board { stop = stop; halted = false } }

@@ -1,0 +1,159 @@
+//! What a parallel run leaves at its stop.
+ghost use Rattle.std.specs.Prelude.{◌≡◌, ◌↔◌, ◌++◌, [], map, IfOk, IsErrOf, IsTrue, OnOk};
+ghost use Rattle.tw_model.specs.Case.{simulation};
+ghost use Rattle.tw_model.specs.declared.memory.OrMemory.TheVariants as or_memory;
+ghost use Rattle.tw_parallel.specs.Ending.{IsSettled, end_of, logged, not_settled, states_at, states_of};
+ghost use Rattle.tw_parallel.specs.Sim.{IsSim, machine};
+ghost use Rattle.tw_shape.specs.Shape.{bare, shape as shape_at};
+ghost use Rattle.tw_sim.specs.Seq.{rest};
+
+use crate::counts::{count_held, count_mail, count_outgoing};
+use crate::sim::Sim;
+use std::alloc::AllocError;
+use thiserror::Error;
+use tw_event::Event;
+use tw_model::{OrMemory, RouterEnd};
+use tw_shape::{Shape, ShapeBuilder};
+
+/// The bound is below the stop, a message is on its way, or a handled event is not committed.
+#[derive(Clone, Copy, PartialEq, Eq, Debug, Error)]
+#[error("the run has not come to its stop")]
+pub struct NotSettled;
+
+/// What a parallel run leaves at its stop.
+#[derive(Drop, Debug)]
+pub struct Ending {
+    /// The stop, in ticks: all events before it were handled.
+    pub stop: u64,
+    /// The events handled, in their order, or none where they were not asked for.
+    pub events: Vec<Event>,
+    /// How each router stands, in ascending order.
+    pub routers: Vec<RouterEnd>,
+    /// The events pending, in their order; none of them is before the stop.
+    pub pending: Vec<Event>,
+}
+
+impl Sim<'_> {
+    /// Whether the run has come to its stop: the bound is the stop, no message is on its way, and every
+    /// handled event is committed.
+    pub fn is_settled(&self) -> bool
+        ensures value { IsTrue result ↔ IsSettled self.now }
+        ensures sim { IsSim self.now }
+    {
+        if self.bound() != self.stop() {
+            return false;
+        }
+        if !self.is_still() {
+            return false;
+        }
+        self.ahead() == 0
+    }
+
+    /// Whether no message is on its way.
+    fn is_still(&self) -> bool
+        ensures { IsTrue result ↔ ((machine self.now).flight ≡ []) }
+    {
+        if count_mail(&self.exchange) > 0 {
+            return false;
+        }
+        if count_held(&self.hands) > 0 {
+            return false;
+        }
+        count_outgoing(&self.shards) == 0
+    }
+
+    /// What the run leaves at its stop, its events only where `log` asks for them: all of it is that of the
+    /// one-thread run, whatever the number of workers. It is refused where the run has not come to its stop.
+    pub fn outcome(&self, log: bool) -> Result<Ending, OrMemory<NotSettled>>
+        ensures settled { OnOk result (IsSettled self.now) }
+        ensures refused { IsErrOf result (or_memory.Fault not_settled) ↔ (IsSettled self.now → ⊥) }
+        ensures stop { IfOk result (λ e. e.stop ≡ self.now.board.stop) }
+        ensures events { IfOk result (λ e. e.events.items ≡ logged log self.now.case self.now.board.stop) }
+        ensures routers { IfOk result (λ e. e.routers.items ≡ map end_of (states_at self.now.case self.now.board.stop)) }
+        ensures pending { IfOk result (λ e. e.pending.items ≡ rest (simulation self.now.case) self.now.board.stop) }
+    {
+        if !self.is_settled() {
+            return Err(OrMemory::Fault(NotSettled));
+        }
+        match self.ending(log) {
+            Ok(ending) => Ok(ending),
+            Err(AllocError) => Err(OrMemory::Memory),
+        }
+    }
+
+    /// What a run leaves that has come to its stop.
+    fn ending(&self, log: bool) -> Result<Ending, AllocError>
+        requires { IsSettled self.now }
+        ensures stop { IfOk result (λ e. e.stop ≡ self.now.board.stop) }
+        ensures events { IfOk result (λ e. e.events.items ≡ logged log self.now.case self.now.board.stop) }
+        ensures routers { IfOk result (λ e. e.routers.items ≡ map end_of (states_at self.now.case self.now.board.stop)) }
+        ensures pending { IfOk result (λ e. e.pending.items ≡ rest (simulation self.now.case) self.now.board.stop) }
+    {
+        let events = if log {
+            self.committed()?
+        } else {
+            Vec::new(*self.shards.allocator())
+        };
+        Ok(Ending {
+            stop: self.stop(),
+            events,
+            routers: self.router_ends()?,
+            pending: self.pending()?,
+        })
+    }
+
+    /// How each router stands.
+    fn router_ends(&self) -> Result<Vec<RouterEnd>, AllocError>
+        ensures { IfOk result (λ ends. ends.items ≡ map end_of (states_of self.now)) }
+    {
+        let mut ends = Vec::new(*self.shards.allocator());
+        for number in 0..self.case.instance().nodes() {
+            let router = self.router(number);
+            ends.push(RouterEnd {
+                counters: router.counters(),
+                rib: router.rib(),
+            })?;
+        }
+        Ok(ends)
+    }
+
+    /// The shape of the run at its stop. It is refused where the run has not come to its stop.
+    pub fn shape(&self) -> Result<Shape, OrMemory<NotSettled>>
+        ensures value { IfOk result (λ shape. shape ≡ shape_at self.now.case self.now.board.stop) }
+        ensures settled { OnOk result (IsSettled self.now) }
+        ensures refused { IsErrOf result (or_memory.Fault not_settled) ↔ (IsSettled self.now → ⊥) }
+    {
+        if !self.is_settled() {
+            return Err(OrMemory::Fault(NotSettled));
+        }
+        match self.settled_shape() {
+            Ok(shape) => Ok(shape),
+            Err(AllocError) => Err(OrMemory::Memory),
+        }
+    }
+
+    /// The shape of a run that has come to its stop.
+    fn settled_shape(&self) -> Result<Shape, AllocError>
+        requires { IsSettled self.now }
+        ensures { IfOk result (λ shape. shape ≡ shape_at self.now.case self.now.board.stop) }
+    {
+        let mut builder = ShapeBuilder::new(*self.shards.allocator(), self.stop());
+        self.gather(&mut builder)?;
+        Ok(builder.finish(self.pending()?))
+    }
+
+    /// Adds each router to a shape.
+    fn gather(&self, builder: &mut ShapeBuilder) -> Result<(), AllocError>
+        ensures { OnOk result (builder.new ≡ record builder.old {
+          routers = builder.old.routers ++ map bare (states_of self.now);
+          sent = builder.old.sent ++ map (λ known. known.counters.sent) (states_of self.now);
+        }) }
+    {
+        for number in 0..self.case.instance().nodes() {
+            let router = self.router(number);
+            let sent = router.counters().sent;
+            builder.add_router(router.rib(), router.rows(), router.order(), sent)?;
+        }
+        Ok(())
+    }
+}

@@ -1,0 +1,20 @@
+//! A parallel run between two runs of its workers: the shards and hands of all of them, and the exchange
+//! (after Jefferson, Virtual Time, 1985).
+//!
+//! Contracts see a `Sim` as the record of its case, the exchange and each worker's share (`specs/Sim`);
+//! `machine` of that record is a Time Warp machine (`tw_core`). Every `Sim` keeps the rule of `tw_rule`, so
+//! that what it has committed is the one-thread run; where it is settled at its stop, `outcome` tells
+//! all of that run to it, for every number of workers. Nothing here starts a thread: a `Sim` is taken
+//! apart into what a table and its workers take, and put together from what they leave.
+#![tactic(auto)]
+
+mod collecting;
+mod counts;
+mod ending;
+mod opening;
+mod sim;
+
+pub use ending::{Ending, NotSettled};
+pub use sim::{Parts, Sim};
+pub use tw_model::OrMemory;
+pub use tw_warp::StopLower;
