@@ -57,6 +57,11 @@ pub found_own : (net : Net) (o : Option PathNo) (v : ℕ) (p : List ℕ) → IfS
 found_own net None v p h = tt
 found_own net (Some q) v p h = (is_path net q v p h, rw h (eq-eqb v v refl))
 
+-- and a comparison of nodes says that it is
+pub found_same : (net : Net) (o : Option PathNo) (v : ℕ) (p : List ℕ) → IfSome o (λ q. path net q ≡ v ∷ p) → IfSome o (λ q. IsTrue (same_path (path net q) (v ∷ p)))
+found_same net None v p h = tt
+found_same net (Some q) v p h = is-same (path net q) (v ∷ p) h
+
 -- it has these nodes, written as one list
 pub found_whole : (net : Net) (o : Option PathNo) (v : ℕ) (p xs : List ℕ) → v ∷ p ≡ xs → IfSome o (λ q. path net q ≡ v ∷ p)
     → IfSome o (λ q. IsPath net q × (path net q ≡ xs))

@@ -77,7 +77,7 @@ linked_table net l links rows more fault is table e =
 
 -- ---- one more path
 
-path_kept : (net : Net) (p : PermittedPath) (q : PathNo) → IsPath net q → path (record net { permitted = net.permitted ++ p ∷ [] }) q ≡ path net q
+pub path_kept : (net : Net) (p : PermittedPath) (q : PathNo) → IsPath net q → path (record net { permitted = net.permitted ++ p ∷ [] }) q ≡ path net q
 unfolding path
 path_kept net p q h = ap (λ ps. get_or ps q.0 []) (paths_push net p) ∙ get_or_append_left (paths net) (p.nodes ∷ []) [] q.0 h
 
@@ -85,7 +85,7 @@ path_kept net p q h = ap (λ ps. get_or ps q.0 []) (paths_push net p) ∙ get_or
 abbrev pub next_number : Net → PathNo
 next_number net = record { 0 = suc (suc (length net.permitted)) }
 
-path_new : (net : Net) (p : PermittedPath) → path (record net { permitted = net.permitted ++ p ∷ [] }) (next_number net) ≡ p.nodes
+pub path_new : (net : Net) (p : PermittedPath) → path (record net { permitted = net.permitted ++ p ∷ [] }) (next_number net) ≡ p.nodes
 unfolding path
 path_new net p =
     ap (λ ps. get_or ps (suc (suc (length net.permitted))) []) (paths_push net p) ∙ get_or_push (paths net) p.nodes [] (suc (suc (length net.permitted))) (length-paths net)

@@ -40,7 +40,7 @@ first_place p ks j e =
       | inr f ↦ (let none : position p ks ≡ None = rw f refl in absurd (cc))
     ]
 
-no_place : (p : ℕ → Bool) (ks : List ℕ) → None ≡ position p ks → length ks < 1 + position_or_len p ks
+pub no_place : (p : ℕ → Bool) (ks : List ℕ) → None ≡ position p ks → length ks < 1 + position_or_len p ks
 no_place p ks e =
     elim (cases_Bool (nat_lt (position_or_len p ks) (length ks))) [
       | inl t ↦ (let found : position p ks ≡ Some (position_or_len p ks) = rw t refl in absurd (cc))

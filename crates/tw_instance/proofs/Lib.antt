@@ -1,13 +1,17 @@
 pub mod Lists
 pub mod Paths
+pub mod Chained
 pub mod Finding
 pub mod Hashes
+pub mod Extending
 pub mod Hops
 pub mod Links
 pub mod Permitted
 pub mod Rows
 pub mod Facts
 pub mod Sound
+pub mod Indexed
 pub mod Growing
 pub mod Told
 pub mod Scenes
+pub mod Placed

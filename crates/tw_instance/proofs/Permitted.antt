@@ -106,7 +106,7 @@ paths_more net p v =
     ∙ (map-append no (places (paths net) v) (cond (begins_at p.nodes v) (length (paths net) ∷ []) [])
     ∙ ap (λ qs. map no (places (paths net) v) ++ qs) (map_no (begins_at p.nodes v) (length (paths net)))))
 
-begins_owner : (p : List ℕ) (owner v : ℕ) → begins_at p owner ≡ true → begins_at p v ≡ (owner == v)
+pub begins_owner : (p : List ℕ) (owner v : ℕ) → begins_at p owner ≡ true → begins_at p v ≡ (owner == v)
 begins_owner [] owner v h = absurd (cc)
 begins_owner (x ∷ p) owner v h = ap (λ n. n == v) (eqb-true x owner h)
 

@@ -52,7 +52,7 @@ module _ {X Z : Type 0} where
       let here : (get_or ready i b).items ≡ row rows i = sym (row_at ready i b long) ∙ ap (λ t. get_or t i []) same in
       items-set ready i w (row rows i ++ x ∷ []) (pushed ∙ ap (λ ys. ys ++ x ∷ []) here) ∙ ap (λ t. set t i (row rows i ++ x ∷ [])) same
 
-  length-items : (rows : List (Vec X Z)) → length (items rows) ≡ length rows
+  pub length-items : (rows : List (Vec X Z)) → length (items rows) ≡ length rows
   length-items rows = length-map rows (λ r. r.items)
 
   -- ---- tables

@@ -1,5 +1,9 @@
 pub mod Build
+pub mod Chains
+pub mod Extensions
 pub mod Hops
+pub mod Index
 pub mod Instance
 pub mod Opening
+pub mod Places
 pub mod Tables

@@ -36,11 +36,12 @@ impl Model for Case {
 
 impl Case {
     /// A case of this instance with an empty scenario.
-    pub fn new(alloc: Global, instance: Instance) -> Result<Case, AllocError>
+    pub fn new(alloc: Global, mut instance: Instance) -> Result<Case, AllocError>
         ensures { IfOk result (λ c. c ≡ record { net = instance; scenes = [] }) }
     {
         // Each instance keeps the rules, which this read tells.
         let _ = instance.nodes();
+        instance.make_index(alloc)?;
         let opening = opening::start(alloc)?;
         Ok(Case {
             instance,

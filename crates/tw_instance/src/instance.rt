@@ -1,4 +1,4 @@
-ghost use Rattle.std.specs.Prelude.{◌≡◌, ◌↔◌, ℕ, ◌+◌, ◌-◌, ◌*◌, ◌==◌, ◌<◌, ◌≤◌, List, [], ◌∷◌, ◌++◌, length, true, IfOk, IfSome, OnErr, OnOk, SomeIff, IsTrue, slice_index_or, map, drop};
+ghost use Rattle.std.specs.Prelude.{◌≡◌, ◌↔◌, ℕ, ◌+◌, ◌-◌, ◌*◌, ◌==◌, ◌<◌, ◌≤◌, List, [], ◌∷◌, ◌++◌, length, true, IfOk, IfSome, OnErr, OnOk, SomeIff, IsTrue, slice_get, slice_index_or, map, drop};
 ghost use Rattle.std.specs.List.{All, find, position};
 ghost use Rattle.std.specs.List.Sorted.{IsStrictlyIncreasing};
 ghost use Rattle.tw_event.specs.declared.event.PathNo.{PathNo as APathNo};
@@ -11,9 +11,10 @@ ghost use Rattle.tw_instance.specs.Build.{TellsOf, judged_instance, judged_links
 ghost use Rattle.tw_instance.specs.Hops.{AreDistinct, IsGoodHop};
 ghost use Rattle.tw_instance.specs.Tables.{hash, tail_hash, tail_hashes_of};
 
+use crate::index::Index;
 use crate::refusal::{At, Item};
 use crate::{rules, tables};
-use std::alloc::Global;
+use std::alloc::{AllocError, Global};
 use std::marker::Model;
 use tw_event::PathNo;
 use tw_lanes::first_equal;
@@ -33,6 +34,10 @@ pub struct Instance {
     permitted: Vec<Vec<PathNo>>,
     /// Of each of them, in the same order, the hash of the path without its first node.
     tail_hashes: Vec<Vec<u32>>,
+    /// Of each path, by its number, its place among the permitted paths of its router.
+    places: Vec<u32>,
+    /// The tables of the whole, at most once: none before they are made, and after a further link or path.
+    index: Vec<Index>,
 }
 
 impl Model for Instance {
@@ -60,6 +65,7 @@ impl Instance {
         let hops = tables::empty_rows(alloc, nodes)?;
         let permitted = tables::opening_rows(alloc, nodes, PathNo::ORIGIN)?;
         let tail_hashes = tables::opening_rows(alloc, nodes, tables::hash_of(&[]))?;
+        let places = tables::opening_places(alloc)?;
         Ok(Instance {
             nodes,
             links: Vec::new(alloc),
@@ -67,6 +73,8 @@ impl Instance {
             hops,
             permitted,
             tail_hashes,
+            places,
+            index: Vec::new(alloc),
         })
     }
 
@@ -82,6 +90,7 @@ impl Instance {
         }
         self.links.reserve(1)?;
         tables::join(&mut self.hops, &link)?;
+        self.index.clear();
         self.links.push_reserved(link);
         Ok(())
     }
@@ -99,7 +108,9 @@ impl Instance {
         }
         let number = PathNo(self.paths.len() as u32 + 2);
         let hash = tail_hash(&path.nodes);
+        let place = self.permitted(path.owner).len() as u32;
         self.paths.reserve(1)?;
+        self.places.reserve(1)?;
         tables::push_path(
             &mut self.permitted,
             &mut self.tail_hashes,
@@ -107,6 +118,8 @@ impl Instance {
             number,
             hash,
         )?;
+        self.index.clear();
+        self.places.push_reserved(place);
         self.paths.push_reserved(path);
         Ok(())
     }
@@ -158,6 +171,17 @@ impl Instance {
                 return Err(At { item, fault });
             }
         }
+        Ok(())
+    }
+
+    /// Makes the tables from which look-ups are answered fast. Until then, and after a further link or
+    /// path, they are searched for.
+    pub(crate) fn make_index(&mut self, alloc: Global) -> Result<(), AllocError>
+        ensures same { self.new ≡ self.old }
+    {
+        let index = Index::new(alloc, self)?;
+        self.index.clear();
+        self.index.push(index)?;
         Ok(())
     }
 
@@ -216,7 +240,10 @@ impl Instance {
     pub fn slot(&self, node: u32, peer: u32) -> Option<usize>
         ensures { SomeIff result (IsTrue (has_peer self.now node peer)) (slot_of self.now node peer) }
     {
-        slot_of_peer(self.hops(node), peer)
+        match self.index.first() {
+            Some(index) => first_equal(tables::row_of(&index.peers, node), peer),
+            None => slot_of_peer(self.hops(node), peer),
+        }
     }
 
     /// The delay in ticks, 1 to 1,000,000, of the link to the neighbour of a slot.
@@ -260,6 +287,25 @@ impl Instance {
         }
     }
 
+    /// The place, from 0, of a path among the permitted paths of its router, the best first; 0 of the
+    /// empty path.
+    pub fn place(&self, number: PathNo) -> usize
+        requires { IsPath self.now number }
+        ensures own { (v : ℕ) → IsTrue (is_own self.now v number) → slice_get (paths_of self.now v) result ≡ Some number }
+        ensures empty { number ≡ empty_path → result ≡ 0 }
+    {
+        self.places[number.0 as usize] as usize
+    }
+
+    /// How many numbers stand for paths: those of the empty path, of (0), and of the permitted paths.
+    pub(crate) fn count(&self) -> u32
+        ensures value { result ≡ length (paths self.now) }
+        ensures few { result ≤ MOST_PATHS * (MOST_ROUTERS - 1) + 2 }
+        ensures distinct { AreDistinct self.now }
+    {
+        2 + self.paths.len() as u32
+    }
+
     /// Whether a path has this number.
     pub fn has_path(&self, number: PathNo) -> bool
         ensures { IsTrue result ↔ IsPath self.now number }
@@ -283,7 +329,10 @@ impl Instance {
         if slot >= self.hops(node).len() || !self.has_path(number) {
             return None;
         }
-        self.number_at(node, self.path(number))
+        match self.index.first() {
+            Some(index) => index.extensions.find(node, number),
+            None => self.number_at(node, self.path(number)),
+        }
     }
 
     /// The number of the path that begins with `node` and goes on with `rest`.

@@ -11,6 +11,9 @@
 #![tactic(auto)]
 
 mod case;
+mod chains;
+mod extensions;
+mod index;
 mod instance;
 mod opening;
 mod refusal;

@@ -42,6 +42,13 @@ pub fn opening_rows<T: Drop>(alloc: Global, count: u32, item: T) -> Result<Vec<V
     Ok(rows)
 }
 
+/// The places of the empty path and of the origin's own at their routers.
+pub fn opening_places(alloc: Global) -> Result<Vec<u32>, AllocError>
+    ensures { IfOk result (λ places. places.items ≡ 0 ∷ 0 ∷ []) }
+{
+    Ok(vec![in alloc; 0, 0]?)
+}
+
 /// Makes the two ends of a link neighbours of each other.
 pub fn join(rows: &mut [Vec<Hop>], link: &Link) -> Result<(), AllocError>
     requires first { link.now.first < length rows.old }

@@ -1,10 +1,11 @@
 -- The first place that passes a test, and lists that are take-written anew.
-use Rattle.std.proofs.Common.{◌≡◌, ℕ, ◌+◌, ◌<◌, ◌≤◌, Bool, true, false, not, cond, ◌||◌, List, [], ◌∷◌, ◌++◌, length, map, get_or, set, take, drop, min, refl, ap, ap₂, sym, ◌∙◌, arith, inl, inr}
-use Rattle.std.specs.List.{position_or_len}
-use Rattle.std.proofs.lemmas.Bool.{cases_Bool, cases_lt, both_ways}
+use Rattle.std.proofs.Common.{◌≡◌, ◌≢◌, ◌==◌, ℕ, ◌+◌, ◌<◌, ◌≤◌, Bool, true, false, not, cond, ◌||◌, List, [], ◌∷◌, ◌++◌, length, map, get_or, set, take, drop, min, refl, ap, ap₂, sym, ◌∙◌, arith, inl, inr}
+use Rattle.std.specs.List.{AllPairs, position_or_len}
+use Rattle.std.proofs.lemmas.Bool.{cases_Bool, cases_lt, both_ways, eq-eqb, ne_eqb}
 use Rattle.std.proofs.lemmas.List.{map-append, take_more, take_more_set}
-use Rattle.std.proofs.lemmas.List.Sums.{fails_before_first}
+use Rattle.std.proofs.lemmas.List.Sums.{fails_before_first, position_or_len_is}
 use Rattle.std.proofs.Math.Seq.{take-append_seam}
+use Rattle.tw_event.specs.declared.event.PathNo.{PathNo}
 use Rattle.tw_sim.proofs.Members.{In}
 
 module _ {X : Type 0} where
@@ -55,3 +56,10 @@ map_step f xs made i new d within same before is =
 -- a list take-written over another of its length
 pub take-written : (n : ℕ) (new old : List ℕ) → n ≡ length new → take n (new ++ drop (length new) old) ≡ new
 take-written n new old is = ap (λ k. take k (new ++ drop (length new) old)) is ∙ take-append_seam new (drop (length new) old)
+
+-- a path that stands at a place of an order without repeats stands there first
+pub place_of-distinct : (order : List PathNo) (k : ℕ) (p d : PathNo) → AllPairs (λ p q. p ≢ q) order → k < length order → (get_or order k d).0 ≡ p.0 → k ≡ position_or_len (λ q. q.0 == p.0) order
+place_of-distinct order k p d distinct below here =
+    sym (position_or_len_is (λ q. q.0 == p.0) order k d (omega arith)
+    (λ j before. ne_eqb (get_or order j d).0 p.0 (λ e. distinct j k d before below (let same : (get_or order j d).0 ≡ (get_or order k d).0 = e ∙ sym here in λ i. record { 0 = same i })))
+    (λ within. eq-eqb (get_or order k d).0 p.0 here))

@@ -1,5 +1,5 @@
-ghost use Rattle.std.specs.Prelude.{◌≡◌, ◌<◌, ◌≤◌, ◌-◌, ◌==◌, ◌↔◌, length, map, slice_set, IsTrue};
-ghost use Rattle.std.specs.List.{All, position_or_len};
+ghost use Rattle.std.specs.Prelude.{◌≡◌, ◌≢◌, ◌<◌, ◌≤◌, ◌-◌, ◌==◌, ◌↔◌, length, map, slice_set, IfSome, IsTrue};
+ghost use Rattle.std.specs.List.{All, AllPairs, position_or_len};
 ghost use Rattle.tw_event.specs.declared.event.PathNo.{PathNo as APathNo};
 ghost use Rattle.tw_model.specs.declared.limits.TheConstants.{MOST_PATHS};
 ghost use Rattle.tw_model.specs.Net.{IsPath, hops_of};
@@ -23,6 +23,7 @@ pub(crate) fn refresh(
     requires ranks { length ranks.old ≡ length rows.now }
     requires heard { All (λ row. IsPath instance.now row.heard) rows.now }
     requires few { length order.now ≤ MOST_PATHS }
+    requires distinct { AllPairs (λ p q. p ≢ q) order.now }
     ensures { ranks.new ≡ map (rank instance.now node order.now) rows.now }
 {
     for (slot, row) in rows.iter().enumerate() {
@@ -44,6 +45,7 @@ pub(crate) fn refresh_slot(
     requires rank { slot < length ranks.old }
     requires path { IsPath instance.now row.heard }
     requires few { length order.now ≤ MOST_PATHS }
+    requires distinct { AllPairs (λ p q. p ≢ q) order.now }
     ensures { ranks.new ≡ slice_set ranks.old slot (rank instance.now node order.now row) }
 {
     ranks[slot] = rank_of(instance, node, slot, order, row);
@@ -55,10 +57,11 @@ fn rank_of(instance: &Instance, node: u32, slot: usize, order: &[PathNo], row: R
     requires slot { slot < length (hops_of instance.now node) }
     requires path { IsPath instance.now row.heard }
     requires few { length order.now ≤ MOST_PATHS }
+    requires distinct { AllPairs (λ p q. p ≢ q) order.now }
     ensures { result ≡ rank instance.now node order.now row }
 {
     match offered_path(instance, node, slot, row) {
-        Some(path) => (order.len() - place_of(order, path)) as u32,
+        Some(path) => (order.len() - place_of(instance, order, path)) as u32,
         None => 0,
     }
 }
@@ -68,7 +71,8 @@ fn offered_path(instance: &Instance, node: u32, slot: usize, row: Row) -> Option
     requires router { node < instance.now.nodes }
     requires slot { slot < length (hops_of instance.now node) }
     requires path { IsPath instance.now row.heard }
-    ensures { (q : APathNo) → IsTrue (offers instance.now node q row) ↔ (result ≡ Some q) }
+    ensures value { (q : APathNo) → IsTrue (offers instance.now node q row) ↔ (result ≡ Some q) }
+    ensures path { IfSome result (IsPath instance.now) }
 {
     if !row.up || row.heard.0 == 0 {
         return None;
@@ -77,7 +81,21 @@ fn offered_path(instance: &Instance, node: u32, slot: usize, row: Row) -> Option
 }
 
 /// How many paths of the order stand before this one: all of them where it is not there.
-fn place_of(order: &[PathNo], path: PathNo) -> usize
+fn place_of(instance: &Instance, order: &[PathNo], path: PathNo) -> usize
+    requires path { IsPath instance.now path }
+    requires distinct { AllPairs (λ p q. p ≢ q) order.now }
+    ensures within { result ≤ length order.now }
+    ensures value { result ≡ position_or_len (λ q. q.0 == path.0) order.now }
+{
+    // A path stands where the instance has it, unless it was exchanged.
+    let place = instance.place(path);
+    match order.get(place) {
+        Some(other) if other.0 == path.0 => place,
+        _ => count_before(order, path),
+    }
+}
+
+fn count_before(order: &[PathNo], path: PathNo) -> usize
     ensures within { result ≤ length order.now }
     ensures value { result ≡ position_or_len (λ q. q.0 == path.0) order.now }
 {

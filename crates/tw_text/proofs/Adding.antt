@@ -10,6 +10,7 @@ use Rattle.tw_model.specs.declared.case.Scene.{Scene}
 use Rattle.tw_model.specs.declared.case.Scene.TheVariants.{Fail, Restore, Swap}
 use Rattle.tw_model.specs.declared.memory.OrMemory.{OrMemory}
 use Rattle.tw_model.specs.declared.memory.OrMemory.TheVariants.{Fault, Memory}
+use Rattle.tw_model.specs.declared.net.Link.{Link}
 use Rattle.tw_model.specs.declared.rule.Rule.{Rule}
 use Rattle.tw_model.specs.declared.rule.Rule.TheVariants.{NoSuchPlace, Range}
 use Rattle.tw_model.specs.Case.{Case, IsCase}
@@ -22,9 +23,9 @@ use Rattle.tw_text.specs.declared.keyword.Keyword.{Keyword}
 use Rattle.tw_text.specs.declared.keyword.Keyword.TheVariants as keyword
 use Rattle.tw_text.specs.declared.text_fault.LineFault.{LineFault}
 use Rattle.tw_text.specs.declared.text_fault.LineFault.TheVariants as x
-use Rattle.tw_text.specs.Drafts.{before_scenes, node_in, nodes_in, of_rule, place_of, step_by, step_said, with_link, with_path, with_scene}
+use Rattle.tw_text.specs.Drafts.{before_links, before_scenes, node_in, nodes_in, of_rule, place_of, step_by, step_said, with_link, with_path, with_scene}
 use Rattle.tw_text.specs.FaultTable.{unless_fault}
-use Rattle.tw_text.specs.Statements.{statement_with, scene_line}
+use Rattle.tw_text.specs.Statements.{link_line, statement_with, scene_line}
 use Rattle.tw_text.proofs.Steps.{passed}
 
 pub refused : {A : Type 0} (result : Result A (OrMemory Rule)) (e : OrMemory Rule) (f : OrMemory LineFault) (fault : Option Rule) (next : Draft) → result ≡ Err e → f ≡ map_fault (λ r. x.Rule r) e
@@ -34,6 +35,22 @@ refused result (Fault r) f fault next is same h = rw (same, (h r).0 is) refl
 
 pub node_is : (net : Net) (n m : ℕ) → Ok m ≡ node_in net n → m ≡ n
 node_is net n m h = sym (passed (nat_lt n net.nodes) n m (x.Rule Range) (sym h)).1
+
+-- nodes that the instance does not have are no path of it
+pub nodes_refused : (net : Net) (owner m : ℕ) (nodes : List ℕ) (e : OrMemory LineFault) → Ok m ≡ node_in net owner
+    → (let told : Result (List ℕ) (OrMemory LineFault) = Err e in IsUnlessMemory told (nodes_in net nodes))
+    → (let told : Result Draft (OrMemory LineFault) = Err e in IsUnlessMemory told (with_path net (record { owner = owner; nodes = nodes })))
+nodes_refused net owner m nodes Memory is told = tt
+nodes_refused net owner m nodes (Fault f) is told =
+    let below = (passed (nat_lt owner net.nodes) owner m (x.Rule Range) (sym is)).0 in
+    elim (cases_Bool (list_all (λ n. nat_lt n net.nodes) nodes)) [
+      | inl t ↦ (let all : nodes_in net nodes ≡ Ok nodes = rw t refl in let wrong : Ok nodes ≡ Err f = sym all ∙ told in absurd (cc))
+      | inr g ↦ (
+          let none : nodes_in net nodes ≡ Err (x.Rule Range) = rw g refl in
+          let e : Err (x.Rule Range) ≡ Err f = sym none ∙ told in
+          let same : x.Rule Range ≡ f = cc in
+          rw (below, g) (ap Err same))
+    ]
 
 pub nodes_are : (net : Net) (ns ms : List ℕ) → nodes_in net ns ≡ Ok ms → ms ≡ ns
 nodes_are net ns ms h = sym (passed (list_all (λ n. nat_lt n net.nodes) ns) ns ms (x.Rule Range) h).1
@@ -108,6 +125,25 @@ scene_step (Scenes c) s true case h = ap (λ case. with_scene case s) (passed tr
 pub scene_taken : (d : Draft) (k : Keyword) (ns : List ℕ) (s : Scene) (ended : Bool) (case : Case) (r : Result Draft (OrMemory LineFault)) → statement_with k ns ≡ Ok (scene_line s)
     → before_scenes d ended ≡ Ok case → IsUnlessMemory r (with_scene case s) → IsUnlessMemory r (step_said d (statement_with k ns) ended)
 scene_taken d k ns s ended case r e before h = rw (e, scene_step d s ended case before) h
+
+-- a link, where its line may stand
+link_step : (d : Draft) (l : Link) (ended : Bool) (net : Net) → before_links d ended ≡ Ok net → step_by d (link_line l) ended ≡ with_link net l
+link_step Start l ended net h = absurd (cc)
+link_step Header l ended net h = absurd (cc)
+link_step (Paths n) l ended net h = absurd (cc)
+link_step (Scenes c) l ended net h = absurd (cc)
+link_step (Done c) l ended net h = absurd (cc)
+link_step (Links n) l false net h = absurd (cc)
+link_step (Links n) l true net h = ap (λ n. with_link n l) (passed true n net x.End h).1
+
+pub link_taken : (d : Draft) (k : Keyword) (ns : List ℕ) (l : Link) (ended : Bool) (net : Net) (r : Result Draft (OrMemory LineFault)) → statement_with k ns ≡ Ok (link_line l)
+    → Ok net ≡ before_links d ended → IsUnlessMemory r (with_link net l) → IsUnlessMemory r (step_said d (statement_with k ns) ended)
+link_taken d k ns l ended net r e before h = rw (e, link_step d l ended net (sym before)) h
+
+pub link_said : (k : Keyword) (ns : List ℕ) → k ≡ keyword.Link → 3 ≤ length ns → length ns < 4
+    → statement_with k ns ≡ Ok (link_line (record { first = get_or ns 0 0; second = get_or ns 1 0; delay = get_or ns 2 0 }))
+link_said k (a ∷ b ∷ c ∷ []) e low high = rw e refl
+link_said k ns e low high = absurd (omega arith)
 
 pub fail_said : (k : Keyword) (ns : List ℕ) → k ≡ keyword.Fail → 3 ≤ length ns → length ns < 4
     → statement_with k ns ≡ Ok (scene_line (Fail (get_or ns 0 0) (get_or ns 1 0) (get_or ns 2 0)))

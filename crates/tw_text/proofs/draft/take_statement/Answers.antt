@@ -1,5 +1,10 @@
-use Rattle.tw_text.proofs.Adding.{fail_said, restore_said, scene_taken, swap_said}
+use Rattle.tw_text.proofs.Adding.{fail_said, link_said, link_taken, restore_said, scene_taken, swap_said}
 use Rattle.tw_text.proofs.draft.take_statement.Goals as goal
+
+pub returns-in_ok-instance-in-Link-len3 : goal.returns-in_ok-instance-in-Link-len3
+returns-in_ok-instance-in-Link-len3 c =
+    let said = link_said c.args.keyword c.args.numbers.now c.in-Link-len3.is-0 c.in-Link-len3.len_at_least c.in-Link-len3.len_below in
+    link_taken c.args.draft c.args.keyword c.args.numbers.now _ c.args.ended _ _ said c.in_ok-instance-in-Link-len3.ensures c.with_link.ensures
 
 pub returns-in_ok-case-in-Fail-len3 : goal.returns-in_ok-case-in-Fail-len3
 returns-in_ok-case-in-Fail-len3 c =

@@ -1,10 +1,14 @@
 use Rattle.std.proofs.Common.{◌≡◌, [], ◌∷◌, ◌++◌, None, ap, subst, sym, ◌∙◌}
+use Rattle.std.specs.List.{All}
+use Rattle.std.proofs.lemmas.List.Elements.{All-nil}
 use Rattle.tw_model.specs.Net.{hops_of}
 use Rattle.tw_model.specs.Rules.{IsNet, link_fault}
 use Rattle.tw_model.proofs.Grown.{net_with_link}
+use Rattle.tw_instance.specs.Index.{IsIndex}
 use Rattle.tw_instance.specs.Instance.{net_of}
 use Rattle.tw_instance.specs.Tables.{IsTable}
 use Rattle.tw_instance.proofs.Growing.{hashes_kept, linked_table, paths_kept}
+use Rattle.tw_instance.proofs.Placed.{linked_places}
 use Rattle.tw_instance.proofs.Rows.{table_as, table_in}
 use Rattle.tw_instance.proofs.instance.Instance.add_link.Goals as goal
 
@@ -24,4 +28,6 @@ invariant_of-self-2 c =
       hops = table_in a.hops c.join.new.rows a.nodes (hops_of net) (hops_of (record net { links = links })) so.hops more;
       permitted = table_as a.permitted.items a.nodes so.permitted (λ v. sym (paths_kept net links v));
       tail_hashes = table_as a.tail_hashes.items a.nodes so.tail_hashes (λ v. sym (hashes_kept net links v));
+      places = linked_places net links a.places.items so.places;
+      index = subst (All (IsIndex (record net { links = links }))) (sym c.clear.ensures.items) (All-nil (IsIndex (record net { links = links })));
     }

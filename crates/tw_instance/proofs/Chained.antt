@@ -1,0 +1,181 @@
+-- The paths of one rest: as a chain from the last to the first, and as rows behind one another.
+use Rattle.std.proofs.Common.{◌≡◌, ℕ, suc, zero, ◌+◌, ◌-◌, ◌<◌, ◌≤◌, ◌==◌, List, [], ◌∷◌, ◌++◌, length, map, get_or, set, take, drop, arith}
+use Rattle.std.proofs.Common.{Option, Some, None, refl, ap, sym, ◌∙◌, subst, inl, inr}
+use Rattle.std.specs.List.{All}
+use Rattle.std.proofs.lemmas.Bool.{cases_Bool, cases_eq, cases_lt, eqb-true, eq-eqb, ne_eqb}
+use Rattle.std.proofs.lemmas.List.{drop-append-le, get_or-set_other, get_or-set_same, get_or_append_left, get_or_default, get_or_push, length-append, length-drop, length-set, length_push, take-append-le, take_all}
+use Rattle.std.proofs.lemmas.List.Elements.{All-append, All-cons, All-map, All-nil, All-weaker}
+use Rattle.std.proofs.Math.Seq.{drop-append_seam}
+use Rattle.tw_event.specs.declared.event.PathNo.{PathNo}
+use Rattle.tw_model.specs.Net.{Net}
+use Rattle.tw_instance.specs.Chains.{AreChained, AreRests, AreRows, IsCut, IsRest, cut, first_of, places_of, row_of}
+
+-- ---- rests
+
+pub rest_push : (net : Net) (k r : ℕ) (rests : List ℕ) (q : PathNo) → q.0 ≡ k → AreRests net k rests → IsRest net q r → AreRests net (k + 1) (rests ++ r ∷ [])
+rest_push net k r rests q is so next = record {
+  long = (let n = length_push rests r in let m = so.long in omega arith);
+  each = λ p h. elim (cases_lt p.0 k) [
+    | inl below ↦ (let same = get_or_append_left rests (r ∷ []) 0 p.0 (let m = so.long in omega arith) in subst (IsRest net p) (sym same) (so.each p below))
+    | inr at ↦ (
+        let e : p.0 ≡ k = omega arith in
+        let here : r ≡ get_or (rests ++ r ∷ []) p.0 0 = sym (get_or_push rests r 0 p.0 (let m = so.long in omega arith)) in
+        let same : q ≡ p = (let n : q.0 ≡ p.0 = omega arith in λ i. record { 0 = n i }) in
+        subst (λ s. IsRest net p s) here (subst (λ s. IsRest net s r) same next))
+  ];
+}
+
+-- ---- a chain
+
+-- what stands from a place on, back to the first
+abbrev pub chain : List ℕ → Option ℕ → List ℕ
+chain xs None = []
+chain xs (Some j) = j ∷ places_of xs (get_or xs j 0) j
+
+-- the next place is one past this, or 0 where there is none
+abbrev pub ahead : Option ℕ → ℕ
+ahead None = 0
+ahead (Some j) = j + 1
+
+pub chain-first_of : (xs : List ℕ) (r k : ℕ) → chain xs (first_of (places_of xs r k)) ≡ places_of xs r k
+chain-first_of xs r zero = refl
+chain-first_of xs r (suc k) =
+    elim (cases_Bool (get_or xs k 0 == r)) [
+      | inl t ↦ (let e = eqb-true (get_or xs k 0) r t in rw t (ap (λ s. k ∷ places_of xs s k) e))
+      | inr f ↦ rw f (chain-first_of xs r k)
+    ]
+
+pub first_below : (xs : List ℕ) (r k : ℕ) → ahead (first_of (places_of xs r k)) ≤ k
+first_below xs r zero = omega arith
+first_below xs r (suc k) =
+    elim (cases_Bool (get_or xs k 0 == r)) [
+      | inl t ↦ rw t (omega arith)
+      | inr f ↦ rw f (let h = first_below xs r k in omega arith)
+    ]
+
+pub places_below : (xs : List ℕ) (r k : ℕ) → All (λ j. j < k) (places_of xs r k)
+places_below xs r zero = All-nil (λ j. j < 0)
+places_below xs r (suc k) =
+    let low = All-weaker (λ j. j < k) (λ j. j < suc k) (λ j h. omega arith) (places_of xs r k) (places_below xs r k) in
+    elim (cases_Bool (get_or xs k 0 == r)) [
+      | inl t ↦ rw t (All-cons (λ j. j < suc k) k (places_of xs r k) (omega arith) low)
+      | inr f ↦ rw f low
+    ]
+
+-- ---- a chain that grows
+
+pub chained_start : (xs : List ℕ) (numbers : ℕ) (last before : List (Option ℕ)) → length last ≡ numbers → ((r : ℕ) → get_or last r None ≡ None) → before ≡ [] → AreChained xs numbers 0 last before
+chained_start xs numbers last before all none empty = record {
+  all = all;
+  long = ap length empty;
+  lasts = λ r h. none r;
+  befores = λ j h. absurd (omega arith);
+}
+
+pub chained_push : (xs : List ℕ) (numbers k r : ℕ) (last before : List (Option ℕ)) → get_or xs k 0 ≡ r → r < numbers → AreChained xs numbers k last before
+    → AreChained xs numbers (k + 1) (set last r (Some k)) (before ++ get_or last r None ∷ [])
+chained_push xs numbers k r last before is low so =
+    let e : k + 1 ≡ suc k = omega arith in
+    let link = get_or last r None in
+    rw e record {
+      all = length-set last r (Some k) ∙ so.all;
+      long = (let n = length_push before link in let m = so.long in omega arith);
+      lasts = λ s h. elim (cases_eq s r) [
+        | inl same ↦ (
+            let here : get_or (set last r (Some k)) s None ≡ Some k = ap (λ n. get_or (set last r (Some k)) n None) same ∙ get_or-set_same last r (Some k) None (let n = so.all in omega arith) in
+            let passes = eq-eqb (get_or xs k 0) s (is ∙ sym same) in
+            rw passes here)
+        | inr ne ↦ (
+            let fails = ne_eqb (get_or xs k 0) s (λ h. ne (sym h ∙ is)) in
+            rw fails (get_or-set_other last r s (Some k) None ne ∙ so.lasts s h))
+      ];
+      befores = λ j h. elim (cases_lt j k) [
+        | inl below ↦ (get_or_append_left before (link ∷ []) None j (let n = so.long in omega arith) ∙ so.befores j below)
+        | inr at ↦ (
+            let last_one : j ≡ k = omega arith in
+            let here : get_or (before ++ link ∷ []) j None ≡ link = get_or_push before link None j (let n = so.long in omega arith) in
+            here ∙ (so.lasts r low ∙ (ap (λ s. first_of (places_of xs s k)) (sym is) ∙ ap (λ n. first_of (places_of xs (get_or xs n 0) n)) (sym last_one))))
+      ];
+    }
+
+-- the last place of a number, read out of a chain
+pub last_at : (xs : List ℕ) (numbers k r : ℕ) (last before : List (Option ℕ)) (x : Option ℕ) → AreChained xs numbers k last before → r < numbers → x ≡ get_or last r x
+    → x ≡ first_of (places_of xs r k)
+last_at xs numbers k r last before x so low is = is ∙ (get_or_default last r x None (let n = so.all in omega arith) ∙ so.lasts r low)
+
+-- the place before a place of the same number
+pub before_at : (xs : List ℕ) (numbers k j : ℕ) (last before : List (Option ℕ)) (x : Option ℕ) → AreChained xs numbers k last before → j < k → x ≡ get_or before j x
+    → x ≡ first_of (places_of xs (get_or xs j 0) j)
+before_at xs numbers k j last before x so low is = is ∙ (get_or_default before j x None (let n = so.long in omega arith) ∙ so.befores j low)
+
+-- what is left of a row when none is taken
+pub row_begins : (xs : List ℕ) (r : ℕ) (x : Option ℕ) → x ≡ first_of (places_of xs r (length xs)) → (ahead x ≤ length xs) × (map (λ k. record { 0 = k }) (chain xs x) ≡ row_of xs r)
+row_begins xs r x is = (
+  subst (λ y. ahead y ≤ length xs) (sym is) (first_below xs r (length xs)),
+  ap (λ y. map (λ k. record { 0 = k }) (chain xs y)) is ∙ ap (map (λ k. record { 0 = k })) (chain-first_of xs r (length xs)),
+)
+
+-- what is left when one more is taken
+pub row_goes_on : (xs : List ℕ) (j : ℕ) (x : Option ℕ) → x ≡ first_of (places_of xs (get_or xs j 0) j) → (ahead x ≤ j) × (j ∷ chain xs x ≡ chain xs (Some j))
+row_goes_on xs j x is = (
+  subst (λ y. ahead y ≤ j) (sym is) (first_below xs (get_or xs j 0) j),
+  ap (λ y. j ∷ chain xs y) is ∙ ap (λ ys. j ∷ ys) (chain-first_of xs (get_or xs j 0) j),
+)
+
+-- ---- rows
+
+pub no_rows : (xs : List ℕ) (starts : List ℕ) (numbers : List PathNo) → starts ≡ 0 ∷ [] → numbers ≡ [] → AreRows xs 0 starts numbers
+no_rows xs starts numbers one none = record {
+  long = ap length one;
+  end = ap (λ ss. get_or ss 0 0) one ∙ ap length (sym none);
+  cuts = λ r h. absurd (omega arith);
+  rows = λ r h. absurd (omega arith);
+  few = subst (All (λ q. q.0 < length xs)) (sym none) (λ i d h. absurd (omega arith));
+}
+
+-- a row that stands already stays
+cut_kept : {X : Type 0} (starts : List ℕ) (r n : ℕ) (xs ys : List X) → r + 1 < length starts → IsCut starts r (length xs) → cut (starts ++ n ∷ []) r (xs ++ ys) ≡ cut starts r xs
+cut_kept starts r n xs ys there within =
+    let low = get_or_append_left starts (n ∷ []) 0 r (omega arith) in
+    let high = get_or_append_left starts (n ∷ []) 0 (r + 1) there in
+    let s = get_or starts r 0 in
+    let m = get_or starts (r + 1) 0 in
+    let up : s ≤ m = within.rises in
+    let in' : m ≤ length xs = within.within in
+    rw (low, high) (ap (take (m - s)) (drop-append-le s xs ys (omega arith)) ∙ take-append-le (m - s) (drop s xs) ys (let l = length-drop s xs in omega arith))
+
+pub row_push : (xs : List ℕ) (k n : ℕ) (starts : List ℕ) (numbers row : List PathNo) → AreRows xs k starts numbers → row ≡ row_of xs k → n ≡ length (numbers ++ row)
+    → AreRows xs (k + 1) (starts ++ n ∷ []) (numbers ++ row)
+row_push xs k n starts numbers row so is count =
+    let more = starts ++ n ∷ [] in
+    let longer : length more ≡ k + 1 + 1 = (let l = length_push starts n in let m = so.long in omega arith) in
+    let sum = length-append numbers row in
+    let before : (r : ℕ) → r ≤ k → get_or more r 0 ≡ get_or starts r 0 = λ r h. get_or_append_left starts (n ∷ []) 0 r (let m = so.long in omega arith) in
+    let end : get_or more (k + 1) 0 ≡ n = get_or_push starts n 0 (k + 1) (let m = so.long in omega arith) in
+    let begin : get_or more k 0 ≡ length numbers = before k (omega arith) ∙ so.end in
+    record {
+      long = longer;
+      end = end ∙ count;
+      cuts = λ r h. elim (cases_lt r k) [
+        | inl below ↦ (
+            let c = so.cuts r below in
+            let low = before r (omega arith) in
+            let high = before (r + 1) (omega arith) in
+            let up = c.rises in
+            let in' = c.within in
+            record { rises = omega arith; within = omega arith })
+        | inr at ↦ (
+            let e : r ≡ k = omega arith in
+            rw e record { rises = omega arith; within = omega arith })
+      ];
+      rows = λ r h. elim (cases_lt r k) [
+        | inl below ↦ (cut_kept starts r n numbers row (let m = so.long in omega arith) (so.cuts r below) ∙ so.rows r below)
+        | inr at ↦ (
+            let e : r ≡ k = omega arith in
+            let m : n - length numbers ≡ length row = omega arith in
+            let rest : drop (length numbers) (numbers ++ row) ≡ row = drop-append_seam numbers row in
+            rw e (rw (begin, end, m, rest) (take_all (length row) row (omega arith) ∙ is)))
+      ];
+      few = All-append (λ q. q.0 < length xs) numbers row so.few
+          (subst (All (λ q. q.0 < length xs)) (sym is) (All-map (λ (q : PathNo). q.0 < length xs) (λ j. record { 0 = j }) (places_of xs k (length xs)) (places_below xs k (length xs))));
+    }

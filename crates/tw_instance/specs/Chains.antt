@@ -1,0 +1,62 @@
+-- The rest of each path, and the paths by their rest (own).
+use Rattle.std.specs.Prelude.{ℕ, ◌≡◌, ◌==◌, ◌+◌, ◌-◌, ◌<◌, ◌≤◌, cond, zero, suc, List, [], ◌∷◌, drop, length, map, slice_index_or, take, Option, Some, None}
+use Rattle.std.specs.List.{All}
+use Rattle.tw_event.specs.declared.event.PathNo.{PathNo}
+use Rattle.tw_model.specs.Net.{Net, IsPath, path, paths}
+
+-- the first node of a path, and 0 of the empty path
+abbrev pub first_node : Net → PathNo → ℕ
+first_node net q = slice_index_or (path net q) 0 0
+
+-- path q is one node, its first, followed by path p
+abbrev pub Extends : Net → PathNo → PathNo → Type 0
+Extends net q p = path net q ≡ first_node net q ∷ path net p
+
+-- the number of the path that q extends, or else the number past the last path
+pub record IsRest (net : Net) (q : PathNo) (rest : ℕ) : Type 0 where
+  pub within : rest ≤ length (paths net)
+  pub sound : (p : PathNo) → IsPath net p → rest ≡ p.0 → Extends net q p
+  pub whole : (p : PathNo) → IsPath net p → Extends net q p → rest ≡ p.0
+
+-- these are the rests of the first paths, so many
+pub record AreRests (net : Net) (count : ℕ) (rests : List ℕ) : Type 0 where
+  pub long : length rests ≡ count
+  pub each : (q : PathNo) → q.0 < count → IsRest net q (slice_index_or rests q.0 0)
+
+-- the places below k that hold r, the last first
+abbrev pub places_of : List ℕ → ℕ → ℕ → List ℕ
+places_of xs r zero = []
+places_of xs r (suc k) = cond (slice_index_or xs k 0 == r) (k ∷ places_of xs r k) (places_of xs r k)
+
+-- the first item
+abbrev pub first_of : List ℕ → Option ℕ
+first_of [] = None
+first_of (x ∷ xs) = Some x
+
+-- last has for each number up to so many its last place below k, before has for each place below k the last place before it of the same number
+pub record AreChained (xs : List ℕ) (numbers k : ℕ) (last before : List (Option ℕ)) : Type 0 where
+  pub all : length last ≡ numbers
+  pub long : length before ≡ k
+  pub lasts : (r : ℕ) → r < numbers → slice_index_or last r None ≡ first_of (places_of xs r k)
+  pub befores : (j : ℕ) → j < k → slice_index_or before j None ≡ first_of (places_of xs (slice_index_or xs j 0) j)
+
+-- the paths at the places that hold r, the last first
+abbrev pub row_of : List ℕ → ℕ → List PathNo
+row_of xs r = map (λ k. record { 0 = k }) (places_of xs r (length xs))
+
+-- row r of a list that is cut at these places
+abbrev pub cut : {X : Type 0} → List ℕ → ℕ → List X → List X
+cut starts r xs = take (slice_index_or starts (r + 1) 0 - slice_index_or starts r 0) (drop (slice_index_or starts r 0) xs)
+
+-- row r of a list of so many is within it, and begins before it ends
+pub record IsCut (starts : List ℕ) (r long : ℕ) : Type 0 where
+  pub rises : slice_index_or starts r 0 ≤ slice_index_or starts (r + 1) 0
+  pub within : slice_index_or starts (r + 1) 0 ≤ long
+
+-- the rows of the first numbers, so many, stand behind one another
+pub record AreRows (xs : List ℕ) (count : ℕ) (starts : List ℕ) (numbers : List PathNo) : Type 0 where
+  pub long : length starts ≡ count + 1
+  pub end : slice_index_or starts count 0 ≡ length numbers
+  pub cuts : (r : ℕ) → r < count → IsCut starts r (length numbers)
+  pub rows : (r : ℕ) → r < count → cut starts r numbers ≡ row_of xs r
+  pub few : All (λ q. q.0 < length xs) numbers

@@ -1,0 +1,79 @@
+//! Which paths extend which: a path that is one node followed by another path extends that path.
+
+ghost use Rattle.std.specs.Prelude.{◌≡◌, ◌+◌, ◌<◌, ◌∷◌, length, map, slice_index_or, IfOk, IfSome};
+ghost use Rattle.std.specs.List.{All};
+ghost use Rattle.tw_event.specs.declared.event.PathNo.{PathNo as APathNo};
+ghost use Rattle.tw_model.specs.Net.{IsPath, Net, path};
+ghost use Rattle.tw_instance.specs.Chains.{first_node as first_node_of};
+ghost use Rattle.tw_instance.specs.Hops.{AreDistinct};
+
+use crate::chains::{Chains, rests_of};
+use crate::instance::Instance;
+use std::alloc::{AllocError, Global};
+use tw_event::PathNo;
+use tw_lanes::first_equal;
+
+/// Of each path of an instance, by its number, the paths that extend it, in compressed sparse rows.
+#[derive(Drop, Debug)]
+pub struct Extensions {
+    /// Where the row of each path begins, and behind these where the last one ends.
+    starts: Vec<usize>,
+    /// The first node of each extension, row by row.
+    nodes: Vec<u32>,
+    /// The number of each extension.
+    numbers: Vec<PathNo>,
+}
+
+impl Extensions {
+    ghost use Rattle.tw_instance.specs.Extensions.{HasExtensions, HasRow};
+
+    /// The table of an instance.
+    pub fn new(alloc: Global, instance: &Instance) -> Result<Extensions, AllocError>
+        ensures { IfOk result (HasExtensions instance.now) }
+    {
+        let chains = Chains::new(alloc, rests_of(alloc, instance)?)?;
+        let (starts, numbers) = chains.rows(alloc)?;
+        let nodes = first_nodes(alloc, instance, &numbers)?;
+        Ok(Extensions {
+            starts,
+            nodes,
+            numbers,
+        })
+    }
+
+    /// The path that is `node` followed by the path of this number, where there is one.
+    pub fn find(&self, node: u32, number: PathNo) -> Option<PathNo>
+        requires { HasRow self.now number.0 }
+        ensures some { (net : Net) → HasExtensions net self.now → IsPath net number
+            → IfSome result (λ q. path net q ≡ node ∷ path net number) }
+        ensures only { (net : Net) → HasExtensions net self.now → IsPath net number → AreDistinct net
+            → (q : APathNo) → path net q ≡ node ∷ path net number → result ≡ Some q }
+    {
+        let row = number.0 as usize;
+        let (start, end) = (self.starts[row], self.starts[row + 1]);
+        let place = first_equal(&self.nodes[start..end], node)?;
+        Some(self.numbers[start + place])
+    }
+}
+
+/// The first node of each of these paths, and 0 of the empty path.
+fn first_nodes(
+    alloc: Global,
+    instance: &Instance,
+    numbers: &[PathNo],
+) -> Result<Vec<u32>, AllocError>
+    requires { All (IsPath instance.now) numbers.now }
+    ensures { IfOk result (λ nodes. nodes.items ≡ map (first_node_of instance.now) numbers.now) }
+{
+    let mut nodes = Vec::with_capacity(alloc, numbers.len())?;
+    for number in numbers {
+        nodes.push(first_node(instance.path(*number)))?;
+    }
+    Ok(nodes)
+}
+
+fn first_node(nodes: &[u32]) -> u32
+    ensures { result ≡ slice_index_or nodes.now 0 0 }
+{
+    nodes.first().copied().unwrap_or(0)
+}
