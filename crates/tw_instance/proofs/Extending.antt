@@ -114,9 +114,15 @@ module _ (net : Net) (t : Extensions) (h : HasExtensions net t) (p : PathNo) (is
       let m = get_or t.starts.items (p.0 + 1) 0 - s in
       let at = position-Some (λ o. o == v) (map (first_node net) row) i (first_node net x) (ap (position (λ o. o == v)) (sym row_nodes) ∙ found) in
       let below : i < length row = (let n = length-map row (first_node net) in let l = at.0 in omega arith) in
-      let fits : i < m = (let c = h.cuts p is in let up = c.rises in let in' = c.within in let l = length-take-le m (drop s t.numbers.items) (let d = length-drop s t.numbers.items in omega arith) in omega arith) in
+      let c = h.cuts p is in
+      let up = c.rises in
+      let in' = c.within in
+      let rest = length-drop s t.numbers.items in
+      let long = length-take-le m (drop s t.numbers.items) (omega arith) in
+      let fits : i < m = omega arith in
       let here : get_or row i x ≡ x = get_or-take m (drop s t.numbers.items) i x fits ∙ (get_or-drop s t.numbers.items i x ∙ sym e) in
-      let passes : (first_node net x == v) ≡ true = subst (λ (q : PathNo). (first_node net q == v) ≡ true) here (subst (λ k. (k == v) ≡ true) (get_or-map (first_node net) row i x (first_node net x) below) at.1) in
+      let passes : (first_node net x == v) ≡ true =
+      subst (λ (q : PathNo). (first_node net q == v) ≡ true) here (subst (λ k. (k == v) ≡ true) (get_or-map (first_node net) row i x (first_node net x) below) at.1) in
       let sound : Extends net x p = subst (λ q. Extends net q p) here (h.sound p is i x below) in
       sound ∙ ap (λ k. k ∷ path net p) (eqb-true (first_node net x) v passes)
 
@@ -128,4 +134,6 @@ module _ (net : Net) (t : Extensions) (h : HasExtensions net t) (p : PathNo) (is
       let c = h.whole p q is extends in
       let past = no_place (λ o. o == v) (map (first_node net) row) (sym none ∙ ap (position (λ o. o == v)) row_nodes) in
       let here : first_node net (get_or row c.0 q) ≡ v = ap (first_node net) c.2 ∙ first in
-      holds_before v (map (first_node net) row) c.0 (first_node net q) (let l = c.1 in let n = length-map row (first_node net) in omega arith) past (get_or-map (first_node net) row c.0 q (first_node net q) c.1 ∙ here)
+      let low = c.1 in
+      let n = length-map row (first_node net) in
+      holds_before v (map (first_node net) row) c.0 (first_node net q) (omega arith) past (get_or-map (first_node net) row c.0 q (first_node net q) c.1 ∙ here)
