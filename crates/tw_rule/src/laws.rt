@@ -4,7 +4,7 @@
 ghost use Rattle.std.specs.Prelude.{ℕ, ◌≡◌, ◌<◌, ◌≤◌, ◌+◌, true, IfSome, List, [], ◌++◌, Option, Ok, Some, length, map, min, remove, slice_get, slice_set};
 ghost use Rattle.std.specs.List.{AllByRecursion, reduce};
 ghost use Rattle.tw_core.specs.Good.{IsGood};
-ghost use Rattle.tw_core.specs.Machine.{Core, antimessages, committed, messages};
+ghost use Rattle.tw_core.specs.Machine.{Core, antimessages, messages};
 ghost use Rattle.tw_core.specs.Parts.{total};
 ghost use Rattle.tw_core.specs.Run.{IsAtEnd, IsSeq};
 ghost use Rattle.tw_core.specs.Steps.{IsRolledBack, after_arrival, first_pending, handle, with_commit};

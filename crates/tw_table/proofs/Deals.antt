@@ -101,7 +101,8 @@ deals_next Of n bound stop all k p q seats s is of_q of_s others first same = re
   dealt = map_append share_at seats (s ∷ [])
       ∙ (ap (λ l. l ++ share_at s ∷ []) is.dealt
       ∙ (ap (λ l. take k all ++ l) (sym (only_share s) ∙ (ap (λ (v : View). v.shares) first ∙ ap (take 1) is.left)) ∙ sym (take_more k all)));
-  each = all_append (IsNew Of n bound stop) seats (s ∷ []) is.each (record { pass = of_s; workers = ap (λ (v : View). v.workers) first ∙ is.workers; bound_is = same; stop_is = ap (λ (v : View). v.stop) first ∙ is.stop_is }, tt);
+  each = all_append (IsNew Of n bound stop) seats (s ∷ []) is.each
+      (record { pass = of_s; workers = ap (λ (v : View). v.workers) first ∙ is.workers; bound_is = same; stop_is = ap (λ (v : View). v.stop) first ∙ is.stop_is }, tt);
 }
 
 pub all_dealt : (Of : Pass Board View → Type 0) (n bound stop : ℕ) (all : List Share) (p : Pass Board View) (seats : List Seat) → IsDealt Of n bound stop all n p seats

@@ -4,3 +4,5 @@ pub mod Views
 pub mod Seats
 pub mod Joins
 pub mod Deals
+pub mod Visiting
+pub mod Openings

@@ -176,6 +176,7 @@ gives port v x y s t begun has mine may items views room (inr is) at =
     (any_order is.case x (a.front ++ (v.shares ++ a.rear)) (v.shares ++ (a.front ++ a.rear)) (to_front a.front v.shares a.rear) old) in
     let new = given_one is.case x y s t (a.front ++ a.rear) front may in
     let knows = all_at (Knows is.board) views port v at is.each in
+    let one : 0 < length v.shares = (let n = ap length mine in omega arith) in
     let rises : is.board.bound ≤ y.bound = (let up = may.give.steps.bound in let b = ap (λ (b : Board). b.bound) h.one in omega arith) in
     let same : workers y ≡ workers is.board = may.give.steps.workers ∙ ap (λ (b : Board). workers b) h.one in
     let same_stop : y.stop ≡ is.board.stop = may.give.steps.stop ∙ ap (λ (b : Board). b.stop) h.one in
@@ -188,7 +189,7 @@ gives port v x y s t begun has mine may items views room (inr is) at =
         one = ap (λ l. (l ++ y ∷ []) ++ all_held (set views port w)) h.items_empty ∙ ap (λ l. y ∷ l) (h.others w);
         ruled = subst (IsRuled is.case y) (sym (a.with w)) (any_order is.case y (t ∷ (a.front ++ a.rear)) (a.front ++ (t ∷ a.rear)) (to_middle a.front (t ∷ []) a.rear) new);
         each = all_set (Knows y) views port w (all_map (Knows is.board) (Knows y) weaker views is.each)
-            (record { begun = begun; seen = omega arith; workers = λ l. knows.workers (let n = ap length mine in omega arith) ∙ sym same; stop = λ l. knows.stop (let n = ap length mine in omega arith) ∙ sym same_stop });
+            (record { begun = begun; seen = omega arith; workers = λ l. knows.workers one ∙ sym same; stop = λ l. knows.stop one ∙ sym same_stop });
       }),
       refl,
     )
@@ -246,7 +247,8 @@ forks port v begun empty items views (inr is) at =
           (any_order is.case is.board (s.front ++ (v.shares ++ s.rear)) ((s.front ++ (drop 1 v.shares ++ s.rear)) ++ (take 1 v.shares ++ [])) (cut s.front v.shares s.rear)
           (subst (IsRuled is.case is.board) s.now is.ruled));
       each = all_append (Knows is.board) (set views port l) (r ∷ [])
-          (all_set (Knows is.board) views port l is.each (record { begun = begun; seen = knows.seen; workers = λ n. knows.workers (fewer_left v.shares n); stop = λ n. knows.stop (fewer_left v.shares n) }))
+          (all_set (Knows is.board) views port l is.each
+          (record { begun = begun; seen = knows.seen; workers = λ n. knows.workers (fewer_left v.shares n); stop = λ n. knows.stop (fewer_left v.shares n) }))
           (record { begun = begun; seen = knows.seen; workers = λ n. knows.workers (fewer_first v.shares n); stop = λ n. knows.stop (fewer_first v.shares n) }, tt);
     })
 

@@ -1,3 +1,4 @@
 pub mod Shares
+pub mod Openings
 pub mod Views
 pub mod Seats

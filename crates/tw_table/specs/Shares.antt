@@ -70,7 +70,7 @@ pub record IsRuled (case : Case) (x : Board) (shares : List Share) : Type 0 wher
   pub is_case : IsCase case
   -- all shards keep this case
   pub cases : AllByRecursion (λ s. s.shard.case ≡ case) shares
-  -- each worker has a share
+  -- there are as many shares as workers
   pub count : length shares ≡ workers x
   pub rule : Rule (simulation case) (owner (workers x)) (board_of x) (map place_of shares)
 

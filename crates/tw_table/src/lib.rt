@@ -10,6 +10,7 @@
 
 mod calls;
 mod hand;
+pub mod laws;
 mod rule;
 mod seat;
 mod table;

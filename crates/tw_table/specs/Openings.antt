@@ -1,0 +1,19 @@
+-- What workers have as they begin (own).
+use Rattle.std.specs.Prelude.{ℕ, suc, ◌≡◌, List, [], ◌∷◌}
+use Rattle.tw_model.specs.Case.{Case}
+use Rattle.tw_shard.specs.Shard.{core, opening_core}
+use Rattle.tw_table.specs.Shares.{Share}
+
+-- worker k's share, of so many: its shard as it opens, and an empty hand
+pub record IsNew (case : Case) (k workers : ℕ) (s : Share) : Type 0 where
+  pub core_is : (stop : ℕ) → core stop s.shard ≡ opening_core case k workers stop
+  pub case_is : s.shard.case ≡ case
+  pub worker : s.shard.worker ≡ k
+  pub count : s.shard.workers ≡ workers
+  pub mail : s.mail ≡ []
+  pub unsent : s.unsent ≡ []
+
+-- those of the workers from k on
+abbrev pub AreNew : Case → ℕ → ℕ → List Share → Type 0
+AreNew case k workers [] = Unit {0}
+AreNew case k workers (s ∷ shares) = IsNew case k workers s × AreNew case (suc k) workers shares

@@ -1,0 +1,26 @@
+//! Laws of the table, over its definitions alone. Each function does nothing; its contract is the law.
+
+ghost use Rattle.std.specs.Prelude.{ℕ, ◌≡◌, ◌<◌, false, List, Option, length, map};
+ghost use Rattle.std.specs.List.{range_with_len};
+ghost use Rattle.tw_event.specs.declared.event.Event.{Event};
+ghost use Rattle.tw_exchange.specs.Board.{Board, IsBoard, handed, is_early, opening, owner, visited, workers};
+ghost use Rattle.tw_model.specs.Case.{Case, IsCase, simulation};
+ghost use Rattle.tw_rule.specs.Board.{IsVisit};
+ghost use Rattle.tw_sim.specs.declared.machine.Signed.{Signed};
+ghost use Rattle.tw_table.specs.Openings.{AreNew};
+ghost use Rattle.tw_table.specs.Shares.{IsRuled, Share, board_of};
+
+/// A new exchange, and for each of its workers in turn a shard as it opens and an empty hand, keep the
+/// rule. So a table can be opened with them.
+pub fn new_is_ruled()
+    ensures ruled { (case : Case) (stop : ℕ) (shares : List Share) → IsCase case → 0 < length shares → AreNew case 0 (length shares) shares
+        → IsRuled case (opening (length shares) 0 stop) shares }
+    ensures order { (case : Case) (shares : List Share) → AreNew case 0 (length shares) shares → map (λ s. s.shard.worker) shares ≡ range_with_len 0 (length shares) }
+{}
+
+/// What `visit` does to an exchange is a visit as the rule has it. So what a worker may give back after
+/// one follows from `tw_rule::laws::calls_may_be_given`.
+pub fn visits_are_exact()
+    ensures { (case : Case) (x : Board) (w : ℕ) (out : List (Signed Event)) (report : Option ℕ) → IsCase case → IsBoard x → w < workers x → is_early out report x ≡ false
+        → IsVisit (simulation case) (owner (workers x)) w out report (handed w out x) (board_of x) (board_of (visited w out report x)) }
+{}
