@@ -3,7 +3,6 @@ use Rattle.std.proofs.Common.{◌≡◌, ℕ, ◌+◌, ◌<◌, ◌≤◌, ◌%�
 use Rattle.std.proofs.lemmas.Bool.{and_parts, cases_Bool, eqb-false, eqb-true, ltb-true}
 use Rattle.tw_core.specs.declared.refusal.Refusal.{Refusal}
 use Rattle.tw_core.specs.declared.refusal.Refusal.TheVariants.{NotMine}
-use Rattle.tw_core.specs.Machine.{Core}
 use Rattle.tw_core.specs.Steps.{put, with_commit}
 use Rattle.tw_instance.proofs.Sound.{is_whole}
 use Rattle.tw_model.specs.declared.limits.TheConstants.{MOST_ROUTERS}

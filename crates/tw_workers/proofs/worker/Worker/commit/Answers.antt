@@ -1,4 +1,3 @@
-use Rattle.std.proofs.Common.{rules}
 use Rattle.tw_table.specs.Shares.{share}
 use Rattle.tw_workers.proofs.Commits.{all_done, done_more, kept_committed}
 use Rattle.tw_workers.proofs.Places.{kept_both, work_kept}
