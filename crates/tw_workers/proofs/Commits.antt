@@ -1,11 +1,12 @@
 -- What a commit keeps of a worker's share.
-use Rattle.std.proofs.Common.{◌≡◌, ℕ, ◌+◌, ◌<◌, ◌≤◌, ◌==◌, [], cond, true, false, Ok, Err, refl, ap, sym, ◌∙◌, subst, inl, inr, arith, if◌then◌else◌}
-use Rattle.std.proofs.lemmas.Bool.{cases_Bool, eqb-false, eqb-true}
+use Rattle.std.proofs.Common.{◌≡◌, ℕ, ◌+◌, ◌<◌, ◌≤◌, ◌%◌, ◌==◌, nat_lt, [], cond, true, false, Ok, Err, refl, ap, sym, ◌∙◌, subst, inl, inr, arith, if◌then◌else◌}
+use Rattle.std.proofs.lemmas.Bool.{and_parts, cases_Bool, eqb-false, eqb-true, ltb-true}
 use Rattle.tw_core.specs.declared.refusal.Refusal.{Refusal}
 use Rattle.tw_core.specs.declared.refusal.Refusal.TheVariants.{NotMine}
-use Rattle.tw_core.specs.Machine.{Core}
 use Rattle.tw_core.specs.Steps.{put, with_commit}
-use Rattle.tw_model.specs.Case.{simulation}
+use Rattle.tw_instance.proofs.Sound.{is_whole}
+use Rattle.tw_model.specs.declared.limits.TheConstants.{MOST_ROUTERS}
+use Rattle.tw_model.specs.Case.{IsCase, simulation}
 use Rattle.tw_rule.specs.Place as place
 use Rattle.tw_rule.specs.Place.{IsPlace, Keeps, Place, with_core}
 use Rattle.tw_shard.specs.Commit.{committing}
@@ -98,3 +99,11 @@ no_refusal stop s r f own refused = let done = commits stop s r own in cc (done,
 
 pub ok_is : (stop : ℕ) (s t : Shard) (r : ℕ) → owns s r ≡ true → committing stop s r ≡ Ok (core stop t) → core stop t ≡ with_commit (simulation s.case) (core stop s) r
 ok_is stop s t r own done = let made = commits stop s r own in cc (made, done)
+
+-- an instance has no more routers than that
+pub all_done : (n : ℕ) (s : Shard) → MOST_ROUTERS ≤ n → IsCase s.case → AreDone n s → (r : ℕ) → owns s r ≡ true → (core 0 s).done r ≡ s.bound
+all_done n s enough is_case done r own =
+    let parts = and_parts (nat_lt r s.case.net.nodes) (r % s.workers == s.worker) own in
+    let there = ltb-true r s.case.net.nodes parts.0 in
+    let most = (is_whole s.case.net is_case.net).most in
+    done r (omega arith) own

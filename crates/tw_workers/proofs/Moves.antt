@@ -1,5 +1,5 @@
 -- Messages move between the mail of a hand, what is unsent, and what its routers have sent.
-use Rattle.std.proofs.Common.{◌≡◌, ℕ, ◌+◌, ◌<◌, ◌≤◌, Bool, true, false, cond, not, List, [], ◌∷◌, ◌++◌, filter, refl, ap, sym, ◌∙◌, subst, inl, inr, arith}
+use Rattle.std.proofs.Common.{◌≡◌, ℕ, ◌+◌, ◌<◌, Bool, true, cond, not, List, [], ◌∷◌, ◌++◌, filter, refl, ap, ◌∙◌, subst, inl, inr, arith}
 use Rattle.std.proofs.lemmas.Bool.{cases_Bool, cases_lt}
 use Rattle.tw_core.proofs.Counts.{antimessages-append, messages-append}
 use Rattle.tw_core.proofs.Delivery.{part_loose}
@@ -116,15 +116,15 @@ kept_sorted stop s work =
       case = refl;
       place = keeps_moved m law stop (place_of s) (s.mail ++ own) (s.unsent ++ rest) [] work.place
           (λ e. (
-            let a = messages-append m e s.mail own in
-            let b = messages-append m e s.unsent rest in
-            let c = messages_split m law (is_own s.shard) e s.shard.outgoing in
-            omega arith))
+          let a = messages-append m e s.mail own in
+          let b = messages-append m e s.unsent rest in
+          let c = messages_split m law (is_own s.shard) e s.shard.outgoing in
+          omega arith))
           (λ e. (
-            let a = antimessages-append m e s.mail own in
-            let b = antimessages-append m e s.unsent rest in
-            let c = antimessages_split m law (is_own s.shard) e s.shard.outgoing in
-            omega arith))
+          let a = antimessages-append m e s.mail own in
+          let b = antimessages-append m e s.unsent rest in
+          let c = antimessages_split m law (is_own s.shard) e s.shard.outgoing in
+          omega arith))
           (λ e h. elim (cases_lt 0 (times_among m e s.mail)) [
             | inl l ↦ work.place.waiting e (omega arith)
             | inr ge ↦

@@ -1,17 +1,15 @@
 -- What calls at a shard and at a hand keep of a worker's share.
-use Rattle.std.proofs.Common.{◌≡◌, ℕ, zero, suc, ◌+◌, ◌<◌, ◌≤◌, ◌%◌, ◌==◌, ◌&&◌, nat_lt, true, false, List, [], ◌∷◌, ◌++◌, drop, length, get_or, Ok, Err, Some, remove, slice_get, refl, ap, sym, ◌∙◌, subst, inl, inr, arith, if◌then◌else◌}
+use Rattle.std.proofs.Common.{◌≡◌, ℕ, zero, suc, ◌+◌, ◌<◌, ◌≤◌, ◌%◌, ◌==◌, ◌&&◌, nat_lt, true, false, List, [], ◌∷◌, drop, length, get_or, Ok, Err, Some, remove, slice_get, refl, ap, sym, ◌∙◌, subst, inl, inr, arith, if◌then◌else◌}
 use Rattle.std.proofs.lemmas.Bool.{cases_Bool, ltb-true}
 use Rattle.std.proofs.lemmas.List.{at_drop_more}
 use Rattle.tw_core.specs.declared.refusal.Refusal.TheVariants.{NotMine}
-use Rattle.tw_core.specs.Machine.{Core, times_loose}
-use Rattle.tw_core.specs.Steps.{IsRolledBack, after_arrival, first_pending, handle, with_commit}
+use Rattle.tw_core.specs.Steps.{IsRolledBack, after_arrival, first_pending, handle}
 use Rattle.tw_event.specs.declared.event.Event.{Event}
 use Rattle.tw_model.proofs.Lawful.{lawful}
 use Rattle.tw_model.specs.Case.{Case, IsCase, simulation}
 use Rattle.tw_model.specs.Effect.{suits}
 use Rattle.tw_rule.proofs.Calls.{hand_is_loose, hand_is_own, keeps_handle, keeps_receive, keeps_roll_back}
-use Rattle.tw_rule.specs.Place as place
-use Rattle.tw_rule.specs.Place.{IsFrom, IsPlace, Keeps, Place, with_core, whole}
+use Rattle.tw_rule.specs.Place.{IsFrom, IsPlace, Keeps, with_core}
 use Rattle.std.specs.Result.{result_and}
 use Rattle.tw_shard.specs.Arrival.{receiving, refusing}
 use Rattle.tw_shard.specs.Shard.{IsSameShare, Shard, core, handling, owns}

@@ -1,16 +1,12 @@
 -- What a worker may give back to the table: after a visit, and without one.
-use Rattle.std.proofs.Common.{◌≡◌, ℕ, ◌+◌, ◌<◌, ◌≤◌, ◌==◌, ◌||◌, max, min, nat_lt, Bool, true, false, cond, List, [], ◌∷◌, ◌++◌, Option, None, Some, IfSome, map, refl, ap, sym, ◌∙◌, subst, inl, inr, arith}
-use Rattle.std.proofs.lemmas.Bool.{cases_Bool, cases_lt, eq-eqb, eqb-true, or_from}
-use Rattle.std.proofs.lemmas.List.Sums.{sum_by-cons}
-use Rattle.std.specs.List.{AllByRecursion, list_any, reduce, sum_by}
+use Rattle.std.proofs.Common.{◌≡◌, ℕ, ◌<◌, ◌≤◌, max, min, nat_lt, false, List, [], ◌∷◌, ◌++◌, Option, None, Some, IfSome, map, refl, ap, sym, ◌∙◌, subst, arith}
+use Rattle.std.proofs.lemmas.Bool.{or_from}
+use Rattle.std.specs.List.{list_any, reduce}
 use Rattle.std.specs.Option.{option_map_or}
-use Rattle.tw_core.specs.Machine.{antimessages, messages}
 use Rattle.tw_event.specs.declared.event.Event.{Event}
-use Rattle.tw_exchange.proofs.Boards.{handed_home}
-use Rattle.tw_exchange.proofs.Weights.{nothing_lost}
 use Rattle.tw_exchange.specs.declared.visit.VisitFault.{VisitFault}
 use Rattle.tw_exchange.specs.declared.visit.VisitFault.TheVariants.{Early, NoWorker}
-use Rattle.tw_exchange.specs.Board.{Board, IsBoard, handed, is_early, is_for, owner, visited, workers}
+use Rattle.tw_exchange.specs.Board.{Board, IsBoard, handed, is_early, owner, visited, workers}
 use Rattle.tw_model.proofs.Lawful.{lawful}
 use Rattle.tw_model.specs.declared.memory.OrMemory.{OrMemory}
 use Rattle.tw_model.specs.declared.memory.OrMemory.TheVariants.{Fault, Memory}
@@ -20,10 +16,11 @@ use Rattle.tw_rule.proofs.Visits.{may_stay, may_visit, report_late, stands_from,
 use Rattle.tw_rule.specs.Board as rule
 use Rattle.tw_rule.specs.Board.{IsVisit, least_report, times_among}
 use Rattle.tw_rule.specs.Place.{IsFrom, IsPlace, Keeps, Place, Tells, after_visit, report_time}
-use Rattle.tw_rule.specs.Rule.{MayGive, Rule, Stands}
-use Rattle.tw_sim.proofs.Counts.{one_cases, one_self}
+use Rattle.tw_rule.specs.Rule.{MayGive, Stands}
+use Rattle.tw_sim.proofs.Counts.{one_self}
 use Rattle.tw_sim.specs.declared.machine.Signed.{Signed}
 use Rattle.tw_sim.specs.Simulation.{IsLawful, Simulation, one}
+use Rattle.tw_table.proofs.Visiting.{is_visit}
 use Rattle.tw_table.specs.declared.seat.Held.{Held}
 use Rattle.tw_table.specs.Seats.{IsSameSeat}
 use Rattle.tw_table.specs.Shares.{MayBeGiven, Share, board_of, place_of}
@@ -68,30 +65,6 @@ stayed_given x y stop s q met same kept as_before =
 -- ---- with a visit
 
 module _ {S : Type 0} (m : Simulation S Event) (law : IsLawful m) where
-  weighed : (e : Event) (xs : List (Signed Event)) → messages m e xs ≡ sum_by (λ x. cond x.plus (one m e x.event) 0) xs
-  weighed e [] = refl
-  weighed e (x ∷ xs) =
-      let more = weighed e xs in
-      let cons = sum_by-cons (λ (y : Signed Event). cond y.plus (one m e y.event) 0) x xs in
-      omega arith
-
-  weighed_back : (e : Event) (xs : List (Signed Event)) → antimessages m e xs ≡ sum_by (λ x. cond x.plus 0 (one m e x.event)) xs
-  weighed_back e [] = refl
-  weighed_back e (x ∷ xs) =
-      let more = weighed_back e xs in
-      let cons = sum_by-cons (λ (y : Signed Event). cond y.plus 0 (one m e y.event)) x xs in
-      omega arith
-
-  -- messages for one worker are for its routers
-  all_for : (n w : ℕ) (e : Event) (xs : List (Signed Event)) → AllByRecursion (λ x. is_for n w x ≡ true) xs → 0 < times_among m e xs → owner n e.dst ≡ w
-  all_for n w e [] all h = absurd (omega arith)
-  all_for n w e (x ∷ xs) all h =
-      let count = of_one_sign m law e x xs in
-      elim (one_cases m law e x.event) [
-        | inl none ↦ all_for n w e xs all.1 (omega arith)
-        | inr same ↦ ap (λ (y : Event). owner n y.dst) same ∙ eqb-true (owner n x.event.dst) w all.0
-      ]
-
   -- none of the messages is early
   none_early : (b : ℕ) (xs : List (Signed Event)) → ((e : Event) → 0 < times_among m e xs → b ≤ e.time) → list_any (λ x. nat_lt x.event.time b) xs ≡ false
   none_early b [] late = refl
@@ -104,36 +77,6 @@ module _ {S : Type 0} (m : Simulation S Event) (law : IsLawful m) where
 report_not_early : (b : ℕ) (report : Option ℕ) → IfSome report (λ time. b ≤ time) → option_map_or (λ time. nat_lt time b) report false ≡ false
 report_not_early b None h = refl
 report_not_early b (Some a) h = before_no a b h
-
--- a visit of the exchange is one of the rule
-visit_is : (case : Case) → IsCase case → (x : Board) (w : ℕ) (out : List (Signed Event)) (report : Option ℕ) → IsBoard x → w < workers x → IfSome report (λ time. x.bound ≤ time)
-    → IsVisit (simulation case) (owner (workers x)) w out report (handed w out x) (board_of x) (board_of (visited w out report x))
-visit_is case is_case x w out report board below late =
-    let m = simulation case in
-    let law = lawful case is_case in
-    let y = visited w out report x in
-    let mail = handed w out x in
-    record {
-      messages = λ e. (
-          let all = nothing_lost (λ s. cond s.plus (one m e s.event) 0) x w out report board below in
-          let a = weighed m law e (board_of y).mail in
-          let b = weighed m law e mail in
-          let c = weighed m law e (board_of x).mail in
-          let d = weighed m law e out in
-          omega arith);
-      antimessages = λ e. (
-          let all = nothing_lost (λ s. cond s.plus 0 (one m e s.event)) x w out report board below in
-          let a = weighed_back m law e (board_of y).mail in
-          let b = weighed_back m law e mail in
-          let c = weighed_back m law e (board_of x).mail in
-          let d = weighed_back m law e out in
-          omega arith);
-      home = λ e h. all_for m law (workers x) w e mail (handed_home x w out board) h;
-      late = late;
-      reports = refl;
-      bound = refl;
-      stop = refl;
-    }
 
 -- what a worker tells where its hand is delivered
 abbrev pub told_of : Share → Option ℕ
@@ -188,7 +131,7 @@ visited_given x y stop s q t met board same kept none sorted rises is =
     let z = visited w q.unsent (told_of q) x in
     let visit : IsVisit m who w q.unsent (told_of q) mail (board_of x) (board_of y)
     = subst (λ (v : Board). IsVisit m who w q.unsent (told_of q) mail (board_of x) (board_of v)) (sym is.board)
-    (visit_is s.shard.case at.is_case x w q.unsent (told_of q) board at.stands.worker (told_late x stop s q met same kept none)) in
+    (is_visit s.shard.case x w q.unsent (told_of q) at.is_case board at.stands.worker (not_early x stop s q met same kept none)) in
     let tells : Tells m (told_of q) (place_of q) = subst (λ o. Tells m o (place_of q)) (told_is s.shard.case q none) (tells_all m law (place_of q)) in
     let known : q.shard.bound ≤ y.bound = (let k = keeps.bound in let l = at.stands.bound in omega arith) in
     let least : q.shard.bound ≤ b = omega arith in

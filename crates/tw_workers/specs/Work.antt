@@ -1,11 +1,7 @@
 -- A worker at its work, and what each call at it keeps (own, after Jefferson, Virtual Time, 1985).
-use Rattle.std.specs.Prelude.{ℕ, ◌≡◌, ◌≤◌, max, List, ◌++◌}
-use Rattle.tw_event.specs.declared.event.Event.{Event}
+use Rattle.std.specs.Prelude.{ℕ, ◌≡◌}
 use Rattle.tw_model.specs.Case.{IsCase, simulation}
-use Rattle.tw_model.specs.declared.limits.TheConstants.{LATEST}
 use Rattle.tw_rule.specs.Place.{IsFrom, IsPlace, Keeps}
-use Rattle.tw_shard.specs.Shard.{core}
-use Rattle.tw_sim.specs.declared.machine.Signed.{Signed}
 use Rattle.tw_table.specs.Shares.{Share, place_of}
 
 -- a worker with what it has, and the time from which on it handles nothing

@@ -1,8 +1,7 @@
 //! What a worker has handled before the bound is let go.
-ghost use Rattle.std.specs.Prelude.{ℕ, ◌≡◌, ◌<◌, false, true, OnErr, OnOk};
+ghost use Rattle.std.specs.Prelude.{ℕ, ◌≡◌, false, true, OnErr, OnOk};
 ghost use Rattle.tw_core.specs.Steps.{with_commit};
 ghost use Rattle.tw_model.specs.Case.{simulation};
-ghost use Rattle.tw_model.specs.declared.limits.TheConstants.{MOST_ROUTERS};
 ghost use Rattle.tw_shard.specs.Shard.{IsSameShare, core, owns};
 ghost use Rattle.tw_workers.specs.Work.{StillKeeps};
 
@@ -19,7 +18,7 @@ impl<'a> Worker<'a> {
     /// For want of memory it is broken off, and those of some routers are committed.
     pub fn commit(&mut self) -> Result<(), AllocError>
         ensures kept { StillKeeps self.old self.new }
-        ensures done { OnOk result ((r : ℕ) → r < MOST_ROUTERS → owns self.new.share.shard r ≡ true
+        ensures done { OnOk result ((r : ℕ) → owns self.new.share.shard r ≡ true
             → (core 0 self.new.share.shard).done r ≡ self.new.share.shard.bound) }
         ensures mail { self.new.share.mail ≡ self.old.share.mail }
         ensures unsent { self.new.share.unsent ≡ self.old.share.unsent }

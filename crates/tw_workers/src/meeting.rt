@@ -70,9 +70,9 @@ impl<'a> Worker<'a> {
         ensures seat_stop { stop_at result ≡ self.now.stop }
         ensures bound { bound_at seat ≤ bound_at result }
     {
-        let mut held = table.take(rt, seat);
-        held.halt();
-        table.give(rt, held, &self.shard, &self.hand)
+        let mut taken = table.take(rt, seat);
+        taken.halt();
+        table.give(rt, taken, &self.shard, &self.hand)
     }
 }
 

@@ -1,10 +1,4 @@
-use Rattle.std.proofs.Common.{◌≡◌, Ok, Err, ap, sym, ◌∙◌, if◌then◌else◌}
-use Rattle.tw_core.specs.declared.refusal.Refusal.TheVariants.{NotMine}
-use Rattle.tw_core.specs.Steps.{with_commit}
-use Rattle.tw_model.specs.Case.{simulation}
-use Rattle.tw_model.specs.declared.memory.OrMemory.TheVariants as or_memory
-use Rattle.tw_shard.specs.Commit.{committing}
-use Rattle.tw_shard.specs.Shard.{core}
+use Rattle.std.proofs.Common.{Err, ap, sym, ◌∙◌}
 use Rattle.tw_workers.proofs.Commits.{no_refusal, ok_is}
 use Rattle.tw_workers.proofs.committing.commit_at.Goals as goal
 

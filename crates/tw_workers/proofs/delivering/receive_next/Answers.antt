@@ -1,4 +1,4 @@
-use Rattle.std.proofs.Common.{rules, ◌≡◌, ◌∷◌, ◌+◌, drop, refl, ap, sym, ◌∙◌}
+use Rattle.std.proofs.Common.{◌∷◌, ◌+◌, drop, refl, ap, sym, ◌∙◌}
 use Rattle.tw_table.specs.Shares.{share}
 use Rattle.tw_workers.proofs.Places.{drop_one, kept_received, kept_rolled_back, welcome}
 use Rattle.tw_workers.proofs.delivering.receive_next.Goals as goal

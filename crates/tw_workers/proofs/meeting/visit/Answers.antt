@@ -1,10 +1,10 @@
-use Rattle.std.proofs.Common.{◌≡◌, ◌≤◌, ◌<◌, [], drop, false, length, max, ap, sym, ◌∙◌, subst}
+use Rattle.std.proofs.Common.{◌≡◌, ◌≤◌, ◌<◌, false, length, max, ap, sym, ◌∙◌, subst}
 use Rattle.tw_exchange.specs.Board.{handed, is_early, visited}
 use Rattle.tw_model.specs.Case.{IsCase}
 use Rattle.tw_table.specs.Seats.{exchange_of, share_of, taken_by}
 use Rattle.tw_table.specs.Shares.{MayBeGiven, board_of, share}
 use Rattle.tw_workers.proofs.Places.{drop_none}
-use Rattle.tw_workers.proofs.Visits.{IsVisited, for_memory, not_early, same_seat, stayed_given, told_of, visited_given, work_given}
+use Rattle.tw_workers.proofs.Visits.{IsVisited, for_memory, not_early, same_seat, stayed_given, visited_given, work_given}
 use Rattle.tw_workers.proofs.meeting.visit.Goals as goal
 
 pub returns-in-Ok-clause-given : goal.returns-in-Ok-clause-given

@@ -1,6 +1,5 @@
-use Rattle.std.proofs.Common.{rules}
 use Rattle.tw_table.specs.Shares.{share}
-use Rattle.tw_workers.proofs.Commits.{done_more, kept_committed}
+use Rattle.tw_workers.proofs.Commits.{all_done, done_more, kept_committed}
 use Rattle.tw_workers.proofs.Places.{kept_both, work_kept}
 use Rattle.tw_workers.proofs.worker.Worker.commit.Goals as goal
 
@@ -23,3 +22,6 @@ loop-router-preserved c =
       latest = is.latest;
       none = is.none;
     }
+
+pub returns-clause-done : goal.returns-clause-done
+returns-clause-done c = all_done c.loop-router.router c.loop-router.self-inside.shard c.loop-router-test.false c.loop-router.invariant.work.case c.loop-router.invariant.done

@@ -7,13 +7,13 @@ use Rattle.tw_workers.specs.Work.{Kept, Worker}
 use Rattle.tw_workers.proofs.worker.Worker.leave.Goals as goal
 
 pub give-requires-clause-held : goal.give-requires-clause-held
-give-requires-clause-held g c = c.halt.ensures.same.table _ c.take-held.ensures.held
+give-requires-clause-held g c = c.halt.ensures.same.table _ c.take-taken.ensures.held
 
 pub give-requires-clause-fair : goal.give-requires-clause-fair
 give-requires-clause-fair g c =
     let seat = c.args.seat in
-    let held = c.take-held.result in
-    let told = c.take-held.ensures in
+    let held = c.take-taken.result in
+    let told = c.take-taken.ensures in
     let inside = c.self.inside in
     let t = share inside.shard inside.hand in
     let kept = subst (λ (w : Worker). Kept w.stop (share_at seat) w.share) (sym c.self.view_is) c.requires.kept in

@@ -17,7 +17,7 @@ sorted c =
     let shard = c.swap_outgoing.ensures.put ∙ (λ i. record s.shard { outgoing = c.self.invariant.none i }) in
     let mail : drop c.sort.new.hand.next c.sort.new.hand.mail.items ≡ s.mail ++ own
     = ap (λ n. drop n c.sort.new.hand.mail.items) c.sort.ensures.next ∙ (drop_none c.sort.new.hand.mail.items
-        ∙ (c.sort.ensures.mail ∙ (ap (λ l. l ++ own) c.clear.ensures.items ∙ ap (λ l. l ++ own) (sym none)))) in
+    ∙ (c.sort.ensures.mail ∙ (ap (λ l. l ++ own) c.clear.ensures.items ∙ ap (λ l. l ++ own) (sym none)))) in
     let unsent = c.sort.ensures.out ∙ ap (λ l. l ++ rest) c.in_ok-reserve-2.ensures.items in
     let same : share c.swap_outgoing.new.self c.sort.new.hand ≡ made = λ i. record { shard = shard i; mail = mail i; unsent = unsent i } in
     subst (Kept inside.stop s) (sym same) (kept_sorted inside.stop s c.self.invariant.work)
