@@ -1,22 +1,21 @@
 -- A run that begins keeps the rule, and is a machine that begins.
-use Rattle.std.proofs.Common.{◌≡◌, ℕ, zero, suc, ◌+◌, ◌<◌, ◌≤◌, ◌==◌, ◌%◌, ◌&&◌, cond, List, [], ◌∷◌, ◌++◌, drop, flat_map, get_or, length, map, nat_lt, refl, ap, sym, ◌∙◌, subst, inl, inr, arith}
+use Rattle.std.proofs.Common.{◌≡◌, ℕ, zero, suc, ◌+◌, ◌<◌, ◌==◌, ◌%◌, ◌&&◌, List, [], ◌∷◌, ◌++◌, drop, flat_map, get_or, length, map, nat_lt, refl, ap, sym, ◌∙◌, subst, inl, inr, arith}
 use Rattle.std.proofs.lemmas.Bool.{cases_Bool, lt-ltb}
 use Rattle.std.specs.List.{AllByRecursion, range_with_len}
 use Rattle.std.specs.Prelude.{Some, replicate}
 use Rattle.tw_core.specs.Machine.{Core, IsOpening}
 use Rattle.tw_core.specs.Parts.{Part, at_owner}
 use Rattle.tw_event.specs.declared.event.Event.{Event}
-use Rattle.tw_exchange.specs.Board.{all_mail, opening, owner, workers}
+use Rattle.tw_exchange.specs.Board.{opening, owner, workers}
 use Rattle.tw_model.proofs.Lawful.{lawful}
 use Rattle.tw_model.specs.Case.{Case, IsCase, simulation}
-use Rattle.tw_model.specs.declared.limits.TheConstants.{LATEST}
 use Rattle.tw_parallel.proofs.Owners.{pending_of}
 use Rattle.tw_parallel.proofs.Shares.{long_shares}
 use Rattle.tw_parallel.specs.Hands.{IsEmptyHand}
 use Rattle.tw_parallel.specs.Sim.{IsSim, Sim, machine}
 use Rattle.tw_rule.proofs.Opens.{rule_opens}
 use Rattle.tw_rule.specs.Place.{Place, part_of}
-use Rattle.tw_rule.specs.Rule.{AreOpeningPlaces, IsOpeningBoard, IsOpeningPlace, Rule}
+use Rattle.tw_rule.specs.Rule.{AreOpeningPlaces, IsOpeningPlace, Rule}
 use Rattle.tw_shard.specs.Shard.{Shard}
 use Rattle.tw_sim.specs.Simulation.{Simulation, times}
 use Rattle.tw_sim.specs.declared.machine.Signed.{Signed}

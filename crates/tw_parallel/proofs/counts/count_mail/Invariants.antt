@@ -1,4 +1,4 @@
-use Rattle.std.proofs.Common.{◌≡◌, ◌+◌, ◌*◌, ◌≤◌, length, take}
+use Rattle.std.proofs.Common.{◌≡◌, ◌*◌, ◌≤◌, length, take}
 use Rattle.std.specs.List.{flat_map}
 use Rattle.tw_parallel.proofs.counts.count_mail.Given as goal
 

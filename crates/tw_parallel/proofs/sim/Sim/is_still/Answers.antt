@@ -1,4 +1,4 @@
-use Rattle.std.proofs.Common.{◌≡◌, ◌==◌, false, true≢false, flat_map, length, ap, sym, ◌∙◌, subst, arith}
+use Rattle.std.proofs.Common.{◌==◌, false, true≢false, flat_map, length, ap, sym, ◌∙◌, subst, arith}
 use Rattle.std.proofs.lemmas.Bool.{eq-eqb, eqb-true}
 use Rattle.tw_parallel.proofs.Ends.{TellsStill, empty_of, held, in_flight}
 use Rattle.tw_shard.specs.Shard.{Shard}

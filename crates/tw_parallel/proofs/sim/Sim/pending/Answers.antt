@@ -1,6 +1,5 @@
-use Rattle.std.proofs.Common.{◌≡◌, List, [], flat_map, length, map, ap, sym, ◌∙◌, subst, arith}
+use Rattle.std.proofs.Common.{◌≡◌, [], flat_map, ap, sym, ◌∙◌, subst, arith}
 use Rattle.tw_core.specs.Run.{IsSeq}
-use Rattle.tw_event.specs.declared.event.Event.{Event}
 use Rattle.tw_event.specs.Order.{event_same}
 use Rattle.tw_model.specs.Case.{simulation}
 use Rattle.tw_parallel.proofs.Owners.{pending_of, seq_of}
@@ -19,8 +18,8 @@ returns-clause-value c =
     let all = c.in_ok-events.events.items in
     let waits = (machine c.args.self.now).pending in
     let is : all ≡ waits = c.in_ok-events.ensures
-        ∙ (ap (flat_map (λ (s : Shard). s.pending)) c.deref.ensures.value
-        ∙ (sym (pending_of inside.exchange.stop inside.shards.items inside.hands.items c.self.invariant.hands) ∙ ap (λ (s : Sim). (machine s).pending) c.self.view_is)) in
+    ∙ (ap (flat_map (λ (s : Shard). s.pending)) c.deref.ensures.value
+    ∙ (sym (pending_of inside.exchange.stop inside.shards.items inside.hands.items c.self.invariant.hands) ∙ ap (λ (s : Sim). (machine s).pending) c.self.view_is)) in
     sorted_whole waits [] c.sort_unstable.new.self.items all tt (λ e. ap (times event_same e) is ∙ omega arith)
     c.sort_unstable.ensures.permutation c.sort_unstable.ensures.sorted
 

@@ -1,4 +1,4 @@
-use Rattle.std.proofs.Common.{sym, ◌∙◌, subst, arith}
+use Rattle.std.proofs.Common.{sym, subst, arith}
 use Rattle.tw_core.specs.Run.{IsSeq}
 use Rattle.tw_exchange.specs.Board.{Board}
 use Rattle.tw_model.specs.Case.{simulation}
