@@ -1,8 +1,8 @@
 //! What is in a worker's hand comes to its routers.
-ghost use Rattle.std.specs.Prelude.{◌≡◌, ◌<◌, ◌+◌, [], ℕ, Ok, IsOk, OnErr, OnOk, drop, length, slice_index};
+ghost use Rattle.std.specs.Prelude.{◌≡◌, ◌<◌, ◌+◌, [], ℕ, Ok, OnErr, OnOk, length};
 ghost use Rattle.tw_core.specs.Steps.{after_arrival, IsRolledBack};
 ghost use Rattle.tw_model.specs.Case.{simulation};
-ghost use Rattle.tw_shard.specs.Arrival.{receiving, refusing};
+ghost use Rattle.tw_shard.specs.Arrival.{refusing};
 ghost use Rattle.tw_shard.specs.Shard.{IsSameShare, core};
 ghost use Rattle.tw_table.specs.Shares.{share};
 ghost use Rattle.tw_workers.specs.Work.{IsAtWork, Kept, StillKeeps};

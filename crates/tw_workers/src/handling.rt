@@ -1,13 +1,11 @@
 //! Events are handled, and what they send is sorted: what is for the worker's own routers comes to them
 //! at once.
-ghost use Rattle.std.specs.Prelude.{◌≡◌, ◌++◌, ◌≤◌, ◌<◌, ◌+◌, [], ℕ, Err, Ok, not, true, IfNone, IfSome, IsErrOf, OnErr, OnOk, filter, length, slice_get, vec_capacity, vec_len};
+ghost use Rattle.std.specs.Prelude.{◌≡◌, ◌++◌, ◌≤◌, ◌+◌, [], ℕ, Err, not, IsErrOf, OnOk, filter, length, vec_capacity, vec_len};
 ghost use Rattle.tw_core.specs.declared.refusal.Refusal.TheVariants as refusal;
 ghost use Rattle.tw_handlers.specs.Calls.{counter_full};
-ghost use Rattle.tw_model.specs.declared.limits.TheConstants.{LATEST};
 ghost use Rattle.tw_model.specs.declared.memory.OrMemory.TheVariants as or_memory;
-ghost use Rattle.tw_shard.specs.Shard.{IsSameShare, core, handling, owns};
-ghost use Rattle.tw_table.specs.Shares.{share};
-ghost use Rattle.tw_workers.specs.Work.{IsAtWork, Kept, StillKeeps};
+ghost use Rattle.tw_shard.specs.Shard.{handling, owns};
+ghost use Rattle.tw_workers.specs.Work.{StillKeeps};
 
 use crate::worker::Worker;
 use std::alloc::AllocError;
@@ -20,8 +18,10 @@ use tw_table::Hand;
 
 impl<'a> Worker<'a> {
     /// Its routers handle their least pending events, one after the other, until as many are handled as
-    /// it may handle between two meetings, or the next is at or past the stop or its window. What they
-    /// send to one another comes at once; what is for others is unsent.
+    /// it may handle between two meetings, or the next is at or past the stop or its window. What is in the
+    /// hand is delivered before. What they send to one another comes at once; what is for others is unsent.
+    ///
+    /// An event that equals the one that its router handled last waits for its antimessage, and ends this.
     ///
     /// It is refused as `CounterFull` where a counter of a router would pass its limit. For that and for
     /// want of memory it is broken off, and what was done before stands.
@@ -42,7 +42,8 @@ impl<'a> Worker<'a> {
         Ok(())
     }
 
-    /// Its routers handle a batch of events that are before a time. It is answered whether none was left.
+    /// Its routers handle a batch of events that are before a time, and it is answered whether the batch
+    /// ended since none was left.
     fn handle_until(&mut self, limit: u64) -> Result<bool, OrMemory<CounterFull>>
         requires { self.old.share.mail ≡ [] }
         ensures kept { StillKeeps self.old self.new }

@@ -1,8 +1,7 @@
 //! A worker meets the table.
-ghost use Rattle.std.specs.Prelude.{◌≡◌, ◌≤◌, ◌<◌, [], ◌∷◌, ℕ, length, true};
+ghost use Rattle.std.specs.Prelude.{◌≡◌, ◌≤◌, ◌<◌, [], ◌∷◌, length, true};
 ghost use Rattle.tw_exchange.specs.Board.{IsBoard};
-ghost use Rattle.tw_model.specs.declared.limits.TheConstants.{LATEST};
-ghost use Rattle.tw_table.specs.Seats.{IsHeldOf, IsSameSeat, IsSeatOf, bound_at, exchange_of, share_at, share_of, stop_at, stop_of, taken_by};
+ghost use Rattle.tw_table.specs.Seats.{IsSameSeat, IsSeatOf, bound_at, exchange_of, share_at, share_of, stop_at, taken_by};
 ghost use Rattle.tw_table.specs.Shares.{MayBeGiven, share};
 ghost use Rattle.tw_table.specs.Views.{IsMet};
 ghost use Rattle.tw_workers.specs.declared.meeting.Meeting.TheVariants.{Halted, Open, Refused, Settled};

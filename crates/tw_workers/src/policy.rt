@@ -1,17 +1,19 @@
 //! How far a worker runs ahead of the bound, and how much it does between two meetings. No promise rests
-//! on these numbers, but that the window is never empty.
+//! on this.
 
 use std::cmp;
 use tw_event::Event;
+use tw_model::limits::LONGEST_DELAY;
 use tw_sim::Signed;
 
-/// Begin with a window of one tick: events of the least tick are never undone.
+/// A window of one tick is safe: messages take a tick at least, so events of the least tick stay.
 const FIRST_WINDOW: u64 = 1;
 
 /// A window wider than the longest delay of a link lets routers run ahead of messages not yet sent.
-const WIDEST_WINDOW: u64 = 1_000_000;
+const WIDEST_WINDOW: u64 = LONGEST_DELAY;
 
-/// The window grows while less than a twentieth of what is handled is undone, and falls above that.
+/// The window grows while at most one event is undone for so many handled, and falls above that: a wrong
+/// window costs more than handling a few events twice.
 const HANDLED_FOR_EACH_UNDONE: u64 = 20;
 
 /// How a worker paces itself.
