@@ -1,6 +1,6 @@
 //! A parallel run by calls, before its workers have taken a turn.
 
-ghost use Rattle.std.specs.Prelude.{◌≡◌, ◌<◌, IfOk};
+ghost use Rattle.std.specs.Prelude.{◌≡◌, IfOk};
 
 use crate::handlers::case;
 use crate::texts::DISAGREE;
@@ -85,7 +85,9 @@ fn a_stop_that_rises_is_still_to_be_reached(rt: HostRuntime) {
         panic!(rt; "no memory")
     };
     assert!(rt; sim.raise_stop(20) == Ok(()) && sim.stop() == 20 && sim.bound() == 0);
-    assert!(rt; sim.raise_stop(19) == Err(StopLower) && sim.raise_stop(1_000_000_001) == Err(StopLower));
+    assert!(rt;
+        sim.raise_stop(19) == Err(StopLower) && sim.raise_stop(1_000_000_001) == Err(StopLower)
+    );
     assert!(rt; sim.stop() == 20 && is_refused(&sim));
     let sim = Sim::of_parts(sim.into_parts());
     assert!(rt; sim.stop() == 20 && !sim.is_settled());
