@@ -1,6 +1,6 @@
 //! A parallel run by calls, before its workers have taken a turn.
 
-ghost use Rattle.std.specs.Prelude.{◌≡◌, ◌<◌, IfOk};
+ghost use Rattle.std.specs.Prelude.{◌≡◌, IfOk};
 
 use crate::handlers::case;
 use crate::texts::DISAGREE;
