@@ -8,6 +8,8 @@ use Rattle.tw_table.specs.Shares.{Share, place_of}
 pub record Worker : Type 0 where
   pub share : Share
   pub stop : ℕ
+  -- how many events it handles at most between two meetings
+  pub batch : ℕ
 
 -- what a worker keeps, to this stop
 pub record IsAtWork (stop : ℕ) (s : Share) : Type 0 where

@@ -1,6 +1,8 @@
 //! How far a worker runs ahead of the bound, and how much it does between two meetings. No promise rests
 //! on this.
 
+ghost use Rattle.std.specs.Prelude.{◌≡◌};
+
 use std::cmp;
 use tw_event::Event;
 use tw_model::limits::LONGEST_DELAY;
@@ -28,7 +30,9 @@ pub(crate) struct Pace {
 
 impl Pace {
     /// At most so many events between two meetings.
-    pub(crate) fn new(batch: u32) -> Pace {
+    pub(crate) fn new(batch: u32) -> Pace
+        ensures { result.batch ≡ batch }
+    {
         Pace {
             batch,
             window: FIRST_WINDOW,

@@ -40,6 +40,7 @@ impl<'a> Worker<'a> {
         requires stop { stop ≤ LATEST }
         ensures share { result.share ≡ share shard.entry hand }
         ensures stop { result.stop ≡ stop }
+        ensures batch { result.batch ≡ batch }
     {
         let alloc = *hand.mail.allocator();
         Worker {

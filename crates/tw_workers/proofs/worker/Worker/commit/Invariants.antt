@@ -10,7 +10,7 @@ abbrev pub invariant-loop-router : goal.invariant-loop-router
 invariant-loop-router l =
     let s = share l.self-inside.shard l.self-inside.hand in record {
       work : IsAtWork l.self-inside.stop s;
-      kept : StillKeeps l.fn.self (record { share = s; stop = l.self-inside.stop });
+      kept : StillKeeps l.fn.self (record { share = s; stop = l.self-inside.stop; batch = l.self-inside.pace.batch });
       done : AreDone l.router l.self-inside.shard;
       mail : s.mail ≡ l.fn.self.share.mail;
       unsent : s.unsent ≡ l.fn.self.share.unsent;
