@@ -1,8 +1,8 @@
 //! Pending events by calls.
 
-ghost use Rattle.std.specs.Prelude.{◌≡◌, ◌<◌};
+ghost use Rattle.std.specs.Prelude.{◌≡◌, ◌<◌, IfOk};
 
-use std::alloc::AllocError;
+use std::alloc::{AllocError, Global};
 use tw_event::{Body, Event, PathNo};
 use tw_queue::Pending;
 
@@ -22,6 +22,16 @@ fn offer(time: u64, dst: u32, seq: u64) -> Event
     }
 }
 
+/// Pending events of three routers, none yet; asked for once more where memory was refused.
+fn nothing_pending(alloc: Global) -> Result<Pending, AllocError>
+    ensures { IfOk result (λ pending. pending.routers ≡ 3) }
+{
+    match Pending::new(alloc, 3) {
+        Err(_) => Pending::new(alloc, 3),
+        done => done,
+    }
+}
+
 /// Inserts the event, once more where memory was refused.
 fn insert(pending: &mut Pending, event: Event) -> Result<(), AllocError>
     requires { event.dst < pending.old.routers }
@@ -36,7 +46,7 @@ fn insert(pending: &mut Pending, event: Event) -> Result<(), AllocError>
 #[test]
 fn an_event_is_counted_as_often_as_it_was_inserted(rt: HostRuntime) {
     let (first, second) = (offer(1, 1, 0), offer(5, 2, 1));
-    let Ok(mut pending) = Pending::new(rt.alloc(), 3) else {
+    let Ok(mut pending) = nothing_pending(rt.alloc()) else {
         panic!(rt; "no memory")
     };
     assert!(rt; insert(&mut pending, first).is_ok());
