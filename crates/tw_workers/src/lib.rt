@@ -11,6 +11,7 @@ mod committing;
 mod delivering;
 mod gate;
 mod handling;
+pub mod laws;
 mod meeting;
 mod policy;
 mod worker;
