@@ -1,7 +1,7 @@
 //! How far a worker runs ahead of the bound, and how much it does between two meetings. No promise rests
 //! on this.
 
-ghost use Rattle.std.specs.Prelude.{◌≡◌};
+ghost use Rattle.std.specs.Prelude.{◌≡◌, true};
 
 use std::cmp;
 use tw_event::Event;
@@ -65,7 +65,9 @@ impl Pace {
     }
 
     /// Whether a worker commits that knows this bound: at the end, and once in a while before.
-    pub(crate) fn is_commit_due(&self, bound: u64, stop: u64) -> bool {
+    pub(crate) fn is_commit_due(&self, bound: u64, stop: u64) -> bool
+        ensures { bound ≡ stop → result ≡ true }
+    {
         bound == stop || self.uncommitted >= HANDLED_FOR_EACH_COMMIT
     }
 

@@ -5,7 +5,7 @@ ghost use Rattle.tw_shard.specs.Shard.{handling};
 ghost use Rattle.tw_table.specs.Seats.{IsSeatOf, bound_at, share_at, stop_at};
 ghost use Rattle.tw_workers.specs.declared.meeting.Meeting.TheVariants as meetings;
 ghost use Rattle.tw_workers.specs.declared.working.Leaving.TheVariants as leaving;
-ghost use Rattle.tw_workers.specs.Work.{IsAtWork, Kept, StillKeeps};
+ghost use Rattle.tw_workers.specs.Work.{HasCommitted, IsAtWork, StillKeeps};
 
 use crate::gate::Gate;
 use crate::meeting::Meeting;
@@ -54,6 +54,7 @@ impl<'a> Worker<'a> {
         ensures worker { self.new.share.shard.worker ≡ self.old.share.shard.worker }
         ensures workers { self.new.share.shard.workers ≡ self.old.share.shard.workers }
         ensures settled { result.1 ≡ leaving.Settled → bound_at result.0 ≡ self.new.stop }
+        ensures committed { result.1 ≡ leaving.Settled → HasCommitted self.new }
         ensures full { result.1 ≡ leaving.CounterFull → (r : ℕ) × (handling self.new.stop self.new.share.shard r ≡ Err refusal.CounterFull) }
     {
         let mut seat = seat;
@@ -90,6 +91,7 @@ impl<'a> Worker<'a> {
         ensures worker { self.new.share.shard.worker ≡ self.old.share.shard.worker }
         ensures workers { self.new.share.shard.workers ≡ self.old.share.shard.workers }
         ensures settled { result.1 ≡ Some leaving.Settled → bound_at result.0 ≡ self.new.stop }
+        ensures committed { result.1 ≡ Some leaving.Settled → HasCommitted self.new }
         ensures full { result.1 ≡ Some leaving.CounterFull → (r : ℕ) × (handling self.new.stop self.new.share.shard r ≡ Err refusal.CounterFull) }
     {
         if let Err(leaving) = self.prepare(rt, gate, seat.worker(), turn) {
@@ -117,6 +119,7 @@ impl<'a> Worker<'a> {
         ensures sorted { OnOk result (self.new.share.shard.outgoing ≡ []) }
         ensures stop { self.new.stop ≡ self.old.stop }
         ensures work { IsAtWork self.old.stop self.old.share }
+        ensures committed { OnOk result (self.new.share.shard.bound ≡ self.new.stop → HasCommitted self.new) }
         ensures settled { IsErrOf result leaving.Settled → ⊥ }
         ensures full { IsErrOf result leaving.CounterFull → (r : ℕ) × (handling self.new.stop self.new.share.shard r ≡ Err refusal.CounterFull) }
     {
@@ -152,8 +155,9 @@ impl<'a> Worker<'a> {
         ensures mail { self.new.share.mail ≡ self.old.share.mail }
         ensures sorted { self.new.share.shard.outgoing ≡ self.old.share.shard.outgoing }
         ensures stop { self.new.stop ≡ self.old.stop }
-        ensures err { IsErrOf result leaving.Settled → ⊥ }
-        ensures err_full { IsErrOf result leaving.CounterFull → ⊥ }
+        ensures committed { OnOk result (self.new.share.shard.bound ≡ self.new.stop → HasCommitted self.new) }
+        ensures settled { IsErrOf result leaving.Settled → ⊥ }
+        ensures full { IsErrOf result leaving.CounterFull → ⊥ }
     {
         if !self.pace.is_commit_due(self.shard.bound(), self.stop) {
             return Ok(());
