@@ -1,7 +1,8 @@
 -- A worker at its work, and what each call at it keeps (own, after Jefferson, Virtual Time, 1985).
-use Rattle.std.specs.Prelude.{ℕ, ◌≡◌}
+use Rattle.std.specs.Prelude.{ℕ, ◌≡◌, true}
 use Rattle.tw_model.specs.Case.{IsCase, simulation}
 use Rattle.tw_rule.specs.Place.{IsFrom, IsPlace, Keeps}
+use Rattle.tw_shard.specs.Shard.{core, owns}
 use Rattle.tw_table.specs.Shares.{Share, place_of}
 
 -- a worker with what it has, and the time from which on it handles nothing
@@ -21,7 +22,13 @@ pub record IsAtWork (stop : ℕ) (s : Share) : Type 0 where
 -- what calls at a worker, to this stop, keep of its share
 pub record Kept (stop : ℕ) (s t : Share) : Type 0 where
   pub case : t.shard.case ≡ s.shard.case
+  -- there are as many workers
+  pub workers : t.shard.workers ≡ s.shard.workers
   pub place : Keeps (simulation s.shard.case) stop (place_of s) (place_of t)
+
+-- its routers have committed all before its stop
+abbrev pub HasCommitted : Worker → Type 0
+HasCommitted w = (r : ℕ) → owns w.share.shard r ≡ true → (core 0 w.share.shard).done r ≡ w.stop
 
 -- what a worker has kept since any share, it still has later
 abbrev pub StillKeeps : Worker → Worker → Type 0

@@ -1,6 +1,7 @@
 //! A worker meets the table.
-ghost use Rattle.std.specs.Prelude.{◌≡◌, ◌≤◌, ◌<◌, [], ◌∷◌, length, true};
+ghost use Rattle.std.specs.Prelude.{ℕ, ◌≡◌, ◌≤◌, ◌<◌, [], ◌∷◌, length, true};
 ghost use Rattle.tw_exchange.specs.Board.{IsBoard};
+ghost use Rattle.tw_shard.specs.Shard.{core};
 ghost use Rattle.tw_table.specs.Seats.{IsSameSeat, IsSeatOf, bound_at, exchange_of, share_at, share_of, stop_at, taken_by};
 ghost use Rattle.tw_table.specs.Shares.{MayBeGiven, share};
 ghost use Rattle.tw_table.specs.Views.{IsMet};
@@ -43,6 +44,7 @@ impl<'a> Worker<'a> {
         ensures case { self.new.share.shard.case ≡ self.old.share.shard.case }
         ensures worker { self.new.share.shard.worker ≡ self.old.share.shard.worker }
         ensures workers { self.new.share.shard.workers ≡ self.old.share.shard.workers }
+        ensures done { (r : ℕ) → (core 0 self.new.share.shard).done r ≡ (core 0 self.old.share.shard).done r }
         ensures stop { self.new.stop ≡ self.old.stop }
         ensures seat_stop { stop_at result.0 ≡ self.new.stop }
         ensures bound { bound_at seat ≤ bound_at result.0 }
@@ -91,6 +93,7 @@ fn visit(held: &mut Held, shard: &mut Shard<'_>, hand: &mut Hand, stop: u64) -> 
     ensures case { shard.new.case ≡ shard.old.case }
     ensures worker { shard.new.worker ≡ shard.old.worker }
     ensures workers { shard.new.workers ≡ shard.old.workers }
+    ensures done { (r : ℕ) → (core 0 shard.new).done r ≡ (core 0 shard.old).done r }
     ensures rises { (taken_by held.old).bound ≤ (exchange_of held.new).bound }
     ensures told { (result ≡ Refused → ⊥) → shard.new.bound ≡ (exchange_of held.new).bound }
     ensures sent { (result ≡ Refused → ⊥) → hand.new.out.items ≡ [] }
