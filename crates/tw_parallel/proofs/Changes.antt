@@ -1,5 +1,5 @@
 -- When a path of a run changed last, by routers.
-use Rattle.std.proofs.Common.{◌≡◌, ℕ, zero, suc, ◌+◌, ◌<◌, ◌≤◌, ◌==◌, Bool, not, true, false, List, [], ◌∷◌, max, refl, ap, sym, subst, ◌∙◌, inl, inr, arith, if◌then◌else◌}
+use Rattle.std.proofs.Common.{◌≡◌, ℕ, zero, suc, ◌+◌, ◌<◌, ◌≤◌, ◌==◌, not, true, false, List, [], ◌∷◌, max, refl, ap, sym, subst, ◌∙◌, inl, inr, arith}
 use Rattle.std.proofs.Math.Path.{fun_ext}
 use Rattle.std.proofs.lemmas.Bool.{cases_Bool, cases_eq, eq-eqb, ne_eqb}
 use Rattle.std.specs.List.{range_with_len}
@@ -57,9 +57,9 @@ module _ (case : Case) (is : IsCase case) where
       let here = h e (in_head m (lawful case is) e older) in
       elim (cases_Bool (e.dst == r)) [
         | inl mine ↦ rw mine (elim (cases_Bool (changes_path case.net r e (only m r older))) [
-            | inl changed ↦ rw changed here
-            | inr kept ↦ rw kept rest
-          ])
+          | inl changed ↦ rw changed here
+          | inr kept ↦ rw kept rest
+        ])
         | inr others ↦ rw others rest
       ]
 
