@@ -13,8 +13,10 @@ use Rattle.tw_event.specs.declared.event.Event.{Event}
 use Rattle.tw_exchange.specs.Board.{all_mail}
 use Rattle.tw_model.proofs.Lawful.{numbered}
 use Rattle.tw_model.specs.Case.{simulation}
+use Rattle.tw_model.specs.Quiet.{last_change}
+use Rattle.tw_parallel.proofs.Changes.{last_of_all}
 use Rattle.tw_parallel.proofs.Owners.{good_of, law}
-use Rattle.tw_parallel.specs.Ending.{IsSettled, ahead_of, states_at, states_of}
+use Rattle.tw_parallel.specs.Ending.{IsSettled, ahead_of, change_of, greatest, states_at, states_of}
 use Rattle.tw_parallel.specs.Inside.{IsInside, sim_of}
 use Rattle.tw_parallel.specs.Sim.{IsSim, Sim, committed_events, machine}
 use Rattle.tw_parallel.specs.declared.sim.Sim.TheInside.{Inside}
@@ -22,6 +24,7 @@ use Rattle.tw_rule.specs.Place.{part_of}
 use Rattle.tw_shape.proofs.Stillness.{gathered}
 use Rattle.tw_shape.specs.Shape.{Draft, Shape, bare, seen_from, shape}
 use Rattle.tw_shard.specs.Shard.{Shard}
+use Rattle.tw_shard.specs.Timeline.{last_change_at}
 use Rattle.tw_sim.proofs.Closed.{log_closed}
 use Rattle.tw_sim.proofs.Counts.{in_head, is_order, none, times-append, times-filter-no, times-filter-yes}
 use Rattle.tw_sim.proofs.Ordered.{not_back}
@@ -212,6 +215,19 @@ module _ (s : Sim) (is : IsSim s) (settled : IsSettled s) where
         | inr past ↦ (let h = ltb-false e.dst nodes past in counts.past (omega arith) ∙ sym (all_there e h))
       ])
       ∙ turned m (law s is) run (log_closed m (law s is) (numbered s.case is.ruled.is_case) s.board.stop).falling
+
+  -- the last change of a path is that of the run
+  pub change_of_run : greatest (λ r. change_of s r) (range_with_len 0 s.case.net.nodes) ≡ last_change s.case (log (simulation s.case) s.board.stop)
+  change_of_run =
+      let m = simulation s.case in
+      let nodes = s.case.net.nodes in
+      let each = fun_ext (λ r. ap (last_change_at s.case.net r) (ended.events r)) in
+      ap (λ f. greatest f (range_with_len 0 nodes)) each
+      ∙ last_of_all s.case is.ruled.is_case (log m s.board.stop) (log_closed m (law s is) (numbered s.case is.ruled.is_case) s.board.stop).falling (λ e some.
+      elim (cases_Bool (nat_lt e.dst nodes)) [
+        | inl there ↦ ltb-true e.dst nodes there
+        | inr past ↦ (let none_there = all_there e (ltb-false e.dst nodes past) in absurd (omega arith))
+      ])
 
 -- the shape at the stop
 pub settled_shape : (s : Sim) → IsSim s → IsSettled s → (fresh draft : Draft) → fresh ≡ record { time = s.board.stop; routers = []; sent = [] }

@@ -1,3 +1,4 @@
+pub mod Changes
 pub mod Shares
 pub mod Owners
 pub mod Openings

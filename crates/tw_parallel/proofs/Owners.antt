@@ -11,7 +11,7 @@ use Rattle.tw_model.proofs.Lawful.{lawful, numbered}
 use Rattle.tw_model.specs.Case.{simulation}
 use Rattle.tw_model.specs.declared.limits.TheConstants.{LATEST}
 use Rattle.tw_parallel.proofs.Shares.{long_shares, share_there, worker_there}
-use Rattle.tw_parallel.specs.Ending.{ahead_of}
+use Rattle.tw_parallel.specs.Ending.{ahead_of, change_of}
 use Rattle.tw_parallel.specs.Sim.{IsSim, Sim, machine, reopened}
 use Rattle.tw_rule.proofs.Gives.{rule_reopens}
 use Rattle.tw_rule.proofs.Places.{all_at, get_map}
@@ -19,6 +19,7 @@ use Rattle.tw_rule.proofs.Ruled.{done_of, good_of_rule, history_of, seq_of_rule}
 use Rattle.tw_rule.specs.Place.{part_of}
 use Rattle.tw_rule.specs.Rule.{Stands}
 use Rattle.tw_shard.specs.Shard.{Shard, core, owns}
+use Rattle.tw_shard.specs.Timeline.{last_change_at}
 use Rattle.tw_sim.specs.Simulation.{IsLawful, below}
 use Rattle.tw_table.proofs.Deals.{as_many}
 use Rattle.tw_table.specs.declared.hand.Hand.{Hand}
@@ -85,6 +86,10 @@ module _ (s : Sim) (r : ℕ) (x : Shard) (has : Has s r x) where
   -- and so are those that are not committed
   pub ahead_there : length ((core 0 x).history r) - length (committed (simulation x.case) (core 0 x) r) ≡ ahead_of s r
   ahead_there = λ i. length (has.history i) - length (below (simulation (has.case i)) (has.done i) (has.history i))
+
+  -- and so is the time of its last change
+  pub change_there : last_change_at x.case.net r ((core 0 x).history r) ≡ change_of s r
+  change_there = λ i. last_change_at (has.case i).net r (has.history i)
 
 -- what waits at all workers
 pub pending_of : (stop : ℕ) (ss : List Shard) (hs : List Hand) → length hs ≡ length ss

@@ -1,5 +1,5 @@
 -- A parallel run that is over, and what it leaves (own).
-use Rattle.std.specs.Prelude.{ℕ, ◌≡◌, ◌<◌, ◌-◌, Bool, List, [], length, map, reverse, if◌then◌else◌}
+use Rattle.std.specs.Prelude.{ℕ, ◌≡◌, ◌<◌, ◌-◌, Bool, List, [], ◌∷◌, length, map, max, reverse, if◌then◌else◌}
 use Rattle.std.specs.List.{range_with_len}
 use Rattle.tw_core.specs.Machine.{committed}
 use Rattle.tw_event.specs.declared.event.Event.{Event}
@@ -8,6 +8,7 @@ use Rattle.tw_model.specs.declared.outcome.RouterEnd.{RouterEnd}
 use Rattle.tw_model.specs.State.{State}
 use Rattle.tw_parallel.specs.declared.ending.NotSettled.{NotSettled}
 use Rattle.tw_parallel.specs.Sim.{Sim, machine}
+use Rattle.tw_shard.specs.Timeline.{last_change_at}
 use Rattle.tw_sim.specs.Seq.{at, log}
 use Rattle.tw_sim.specs.Simulation.{state}
 
@@ -26,6 +27,15 @@ not_settled = record {}
 -- how many events a router has handled that are not committed
 abbrev pub ahead_of : Sim → ℕ → ℕ
 ahead_of s r = length ((machine s).history r) - length (committed (simulation s.case) (machine s) r)
+
+-- the time of the last event that changed router r's path, or 0
+abbrev pub change_of : Sim → ℕ → ℕ
+change_of s r = last_change_at s.case.net r ((machine s).history r)
+
+-- the greatest of what is read of these routers, or 0
+abbrev pub greatest : (ℕ → ℕ) → List ℕ → ℕ
+greatest f [] = 0
+greatest f (r ∷ rs) = max (f r) (greatest f rs)
 
 -- what each router knows
 abbrev pub states_of : Sim → List State

@@ -1,11 +1,13 @@
 //! What a parallel run leaves at its stop.
 ghost use Rattle.std.specs.Prelude.{◌≡◌, ◌↔◌, ◌++◌, [], map, IfOk, IsErrOf, IsTrue, OnOk};
+ghost use Rattle.std.specs.List.{range_with_len};
 ghost use Rattle.tw_model.specs.Case.{simulation};
 ghost use Rattle.tw_model.specs.declared.memory.OrMemory.TheVariants as or_memory;
-ghost use Rattle.tw_parallel.specs.Ending.{IsSettled, end_of, logged, not_settled, states_at, states_of};
+ghost use Rattle.tw_model.specs.Quiet.{last_change};
+ghost use Rattle.tw_parallel.specs.Ending.{IsSettled, change_of, end_of, greatest, logged, not_settled, states_at, states_of};
 ghost use Rattle.tw_parallel.specs.Sim.{IsSim, machine};
 ghost use Rattle.tw_shape.specs.Shape.{bare, shape as shape_at};
-ghost use Rattle.tw_sim.specs.Seq.{rest};
+ghost use Rattle.tw_sim.specs.Seq.{log as run_log, rest};
 
 use crate::counts::{count_held, count_mail, count_outgoing};
 use crate::sim::Sim;
@@ -31,6 +33,8 @@ pub struct Ending {
     pub routers: Vec<RouterEnd>,
     /// The events pending, in their order; none of them is before the stop.
     pub pending: Vec<Event>,
+    /// The time in ticks of the last event that changed a router's path, or 0.
+    pub last_change: u64,
 }
 
 impl Sim<'_> {
@@ -71,6 +75,7 @@ impl Sim<'_> {
         ensures events { IfOk result (λ e. e.events.items ≡ logged log self.now.case self.now.board.stop) }
         ensures routers { IfOk result (λ e. e.routers.items ≡ map end_of (states_at self.now.case self.now.board.stop)) }
         ensures pending { IfOk result (λ e. e.pending.items ≡ rest (simulation self.now.case) self.now.board.stop) }
+        ensures last_change { IfOk result (λ e. e.last_change ≡ last_change self.now.case (run_log (simulation self.now.case) self.now.board.stop)) }
     {
         if !self.is_settled() {
             return Err(OrMemory::Fault(NotSettled));
@@ -88,6 +93,7 @@ impl Sim<'_> {
         ensures events { IfOk result (λ e. e.events.items ≡ logged log self.now.case self.now.board.stop) }
         ensures routers { IfOk result (λ e. e.routers.items ≡ map end_of (states_at self.now.case self.now.board.stop)) }
         ensures pending { IfOk result (λ e. e.pending.items ≡ rest (simulation self.now.case) self.now.board.stop) }
+        ensures last_change { IfOk result (λ e. e.last_change ≡ last_change self.now.case (run_log (simulation self.now.case) self.now.board.stop)) }
     {
         let events = if log {
             self.committed()?
@@ -99,7 +105,19 @@ impl Sim<'_> {
             events,
             routers: self.router_ends()?,
             pending: self.pending()?,
+            last_change: self.last_change(),
         })
+    }
+
+    /// The time of the last event that changed a router's path, or 0.
+    fn last_change(&self) -> u64
+        ensures { result ≡ greatest (λ r. change_of self.now r) (range_with_len 0 self.now.case.net.nodes) }
+    {
+        let mut last = 0_u64;
+        for router in 0..self.case.instance().nodes() {
+            last = last.max(self.shard_for(router).last_change(router));
+        }
+        last
     }
 
     /// How each router stands.

@@ -1,5 +1,5 @@
 -- What a commit leaves of a timeline.
-use Rattle.std.proofs.Common.{◌≡◌, ℕ, zero, suc, ◌+◌, ◌-◌, ◌<◌, ◌≤◌, Bool, true, cond, List, [], ◌∷◌, ◌++◌, refl, ap, ap₂, sym, ◌∙◌, subst, inl, inr, arith, nat_lt, Ok, Err, if◌then◌else◌}
+use Rattle.std.proofs.Common.{◌≡◌, ℕ, zero, suc, ◌+◌, ◌-◌, ◌<◌, ◌≤◌, ◌==◌, Bool, not, true, cond, List, [], ◌∷◌, ◌++◌, refl, ap, ap₂, sym, ◌∙◌, subst, inl, inr, arith, nat_lt, Ok, Err, if◌then◌else◌}
 use Rattle.std.proofs.Common.{append_assoc, count_by, drop, filter, length, reverse, slice_get, take}
 use Rattle.std.specs.List.{AllByRecursion, prefix_len, suffix_len}
 use Rattle.std.proofs.Math.Seq.{drop-append_seam, take-append_seam}
@@ -12,12 +12,14 @@ use Rattle.tw_core.specs.Steps.{with_commit}
 use Rattle.tw_core.proofs.Sums.{all_map}
 use Rattle.tw_event.specs.declared.event.Event.{Event}
 use Rattle.tw_handlers.specs.Record.{IsHandled}
+use Rattle.tw_handlers.specs.declared.record.UndoRecord.{UndoRecord}
 use Rattle.tw_model.specs.Case.{simulation}
 use Rattle.tw_model.specs.Net.{Net}
+use Rattle.tw_model.specs.State.{State}
 use Rattle.tw_shard.specs.declared.timeline.HandledEvent.{HandledEvent}
 use Rattle.tw_shard.specs.Commit.{committed_at, committed_to, committing, count_left}
 use Rattle.tw_shard.specs.Shard.{IsWhole, Shard, core, owns, timeline}
-use Rattle.tw_shard.specs.Timeline.{AreNoted, Timeline, events_of, history, known}
+use Rattle.tw_shard.specs.Timeline.{AreNoted, Timeline, changes_path, events_of, history, known, last_change_at, noted_change}
 use Rattle.tw_shard.proofs.Histories.{length-events, reverse-push}
 use Rattle.tw_shard.proofs.Shares.{put_same, read_put}
 
@@ -77,6 +79,42 @@ noted_after net v past (d ∷ newer) older h =
     let same : events_of (newer ++ older) ++ past ≡ events_of newer ++ (events_of older ++ past) =
     ap (λ l. l ++ past) (map-append (λ (d : HandledEvent). d.event) newer older) ∙ append_assoc (events_of newer) (events_of older) past in
     (subst (λ h. IsHandled net v (known net v h) d.event d.note (known net v (d.event ∷ h))) same h.0, noted_after net v past newer older h.1)
+
+-- and so have the older ones
+noted_before : (net : Net) (v : ℕ) (past : List Event) (newer older : List HandledEvent) → AreNoted net v past (newer ++ older) → AreNoted net v past older
+noted_before net v past [] older h = h
+noted_before net v past (d ∷ newer) older h = noted_before net v past newer older h.1
+
+-- one more step, the newest one
+noted_change-push : (time : ℕ) (steps : List HandledEvent) (d : HandledEvent)
+    → noted_change time (steps ++ d ∷ []) ≡ (if d.note.changed then d.event.time else noted_change time steps)
+noted_change-push time [] d = refl
+noted_change-push time (x ∷ steps) d = noted_change-push (if x.note.changed then x.event.time else time) steps d
+
+-- what the records say of the last change is so
+changed_by : (net : Net) (v : ℕ) (past : List Event) (steps : List HandledEvent) (time : ℕ) → AreNoted net v past steps → time ≡ last_change_at net v past
+    → noted_change time (reverse steps) ≡ last_change_at net v (events_of steps ++ past)
+changed_by net v past [] time h is = is
+changed_by net v past (d ∷ older) time h is =
+    let s = known net v (events_of older ++ past) in
+    let told : d.note.changed ≡ changes_path net v d.event (events_of older ++ past) =
+    ap (λ (u : UndoRecord). u.changed) (sym h.0.note) ∙ ap (λ (t : State). not (s.rib.0 == t.rib.0)) h.0.state in
+    ap (noted_change time) (reverse-append (d ∷ []) older)
+    ∙ (noted_change-push time (reverse older) d
+    ∙ ap₂ (λ (b : Bool) (n : ℕ). if b then d.event.time else n) told (changed_by net v past older time h.1 is))
+
+-- the time of the last change in a history
+pub change_now : (net : Net) (v : ℕ) (past : List Event) (steps : List HandledEvent) (time : ℕ) → AreNoted net v past (reverse steps) → time ≡ last_change_at net v past
+    → noted_change time steps ≡ last_change_at net v (events_of (reverse steps) ++ past)
+change_now net v past steps time h is =
+    ap (noted_change time) (sym (reverse-reverse steps)) ∙ changed_by net v past (reverse steps) time h is
+
+-- and in what is committed, with the first steps
+pub change_committed : (net : Net) (v n : ℕ) (past : List Event) (steps : List HandledEvent) (time : ℕ) → AreNoted net v (reverse past) (reverse steps)
+    → time ≡ last_change_at net v (reverse past) → noted_change time (take n steps) ≡ last_change_at net v (reverse (past ++ events_of (take n steps)))
+change_committed net v n past steps time h is =
+    let older = noted_before net v (reverse past) (reverse (drop n steps)) (reverse (take n steps)) (subst (AreNoted net v (reverse past)) (parted n steps) h) in
+    change_now net v (reverse past) (take n steps) time older is ∙ ap (last_change_at net v) (sym (past_events past (take n steps)))
 
 pub noted_left : (net : Net) (v n : ℕ) (past : List Event) (steps : List HandledEvent) → AreNoted net v (reverse past) (reverse steps)
     → AreNoted net v (reverse (past ++ events_of (take n steps))) (reverse (drop n steps))

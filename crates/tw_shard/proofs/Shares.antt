@@ -11,7 +11,7 @@ use Rattle.tw_model.specs.Case.{Case, simulation}
 use Rattle.tw_model.specs.Effect.{effect, suits}
 use Rattle.tw_model.specs.State.{State}
 use Rattle.tw_shard.specs.Shard.{IsWhole, Shard, core, no_timeline, owns, place, timeline}
-use Rattle.tw_shard.specs.Timeline.{Timeline, history, known, router_of}
+use Rattle.tw_shard.specs.Timeline.{Timeline, history, known, last_change_at, router_of}
 use Rattle.tw_sim.specs.declared.machine.Signed.{Signed}
 use Rattle.tw_sim.specs.Simulation.{state}
 
@@ -101,3 +101,11 @@ router_known s r whole mine =
       node = at.node i;
       state = ((λ j. known (at.net j) (at.node j) (history (timeline s r))) ∙ (known_state s.case r (history (timeline s r)) ∙ ap (state (simulation s.case) r) (sym here))) i;
     }
+
+-- and when its path changed last
+pub change_known : (s : Shard) (r : ℕ) → IsWhole s → owns s r ≡ true
+    → last_change_at (timeline s r).net (timeline s r).node (history (timeline s r)) ≡ last_change_at s.case.net r ((core 0 s).history r)
+change_known s r whole mine =
+    let at = whole.routers r mine in
+    let here : (core 0 s).history r ≡ history (timeline s r) = rw mine refl in
+    λ i. last_change_at (at.net i) (at.node i) (sym here i)

@@ -1,5 +1,5 @@
 -- A router with the events that it has handled and not undone (after Jefferson, Virtual Time, 1985).
-use Rattle.std.specs.Prelude.{ℕ, ◌≡◌, ◌<◌, Bool, List, [], ◌∷◌, ◌++◌, map, reverse}
+use Rattle.std.specs.Prelude.{ℕ, ◌≡◌, ◌<◌, ◌==◌, Bool, not, List, [], ◌∷◌, ◌++◌, map, reverse, if◌then◌else◌}
 use Rattle.std.specs.List.{AllByRecursion}
 use Rattle.tw_event.specs.declared.event.Event.{Event}
 use Rattle.tw_handlers.specs.Record.{IsHandled}
@@ -27,6 +27,15 @@ abbrev pub known : Net → ℕ → List Event → State
 known net v [] = opening net v
 known net v (e ∷ older) = (effect net e.dst (known net v older) e).state
 
+-- whether the newest event of a history changed the router's path
+abbrev pub changes_path : Net → ℕ → Event → List Event → Bool
+changes_path net v e older = not ((known net v older).rib.0 == (known net v (e ∷ older)).rib.0)
+
+-- the time of the last event of a history that changed the router's path, or 0
+abbrev pub last_change_at : Net → ℕ → List Event → ℕ
+last_change_at net v [] = 0
+last_change_at net v (e ∷ older) = if changes_path net v e older then e.time else last_change_at net v older
+
 -- the router as its history leaves it
 abbrev pub router_of : Timeline → Router
 router_of t = record { net = t.net; node = t.node; state = known t.net t.node (history t) }
@@ -53,6 +62,11 @@ AreNoted net v past [] = Unit {0}
 AreNoted net v past (d ∷ older) =
     IsHandled net v (known net v (events_of older ++ past)) d.event d.note (known net v (d.event ∷ events_of older ++ past)) × AreNoted net v past older
 
+-- the time of the last of these steps, the oldest first, that changed the router's path, or this time where none did
+abbrev pub noted_change : ℕ → List HandledEvent → ℕ
+noted_change time [] = time
+noted_change time (d ∷ newer) = noted_change (if d.note.changed then d.event.time else time) newer
+
 -- the timeline that the fields stand for
 abbrev pub timeline_of : Inside → Timeline
 timeline_of a = record {
@@ -63,8 +77,10 @@ timeline_of a = record {
   done = a.done;
 }
 
--- the router and the records are those of the history, and committed events are before the bound at the latest commit
+-- the router and the records are those of the history, committed events are before the bound at the latest commit, and the time of
+-- the last change is theirs
 pub record IsTimeline (a : Inside) : Type 0 where
   pub state : a.router.state ≡ known a.router.net a.router.node (history (timeline_of a))
   pub noted : AreNoted a.router.net a.router.node (reverse a.past.items) (reverse a.ahead.items)
   pub past : AllByRecursion (λ e. e.time < a.done) (reverse a.past.items)
+  pub change : a.past_change ≡ last_change_at a.router.net a.router.node (reverse a.past.items)

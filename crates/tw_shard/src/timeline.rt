@@ -41,6 +41,8 @@ pub(crate) struct Timeline<'a> {
     past: Vec<Event>,
     ahead: Vec<HandledEvent>,
     done: u64,
+    // The time of the last event of `past` that changed the router's path, or 0.
+    past_change: u64,
 }
 
 impl<'a> Model for Timeline<'a> {
@@ -68,6 +70,7 @@ impl<'a> Timeline<'a> {
             past: Vec::new(alloc),
             ahead: Vec::new(alloc),
             done: 0,
+            past_change: 0,
         })
     }
 

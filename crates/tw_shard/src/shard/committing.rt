@@ -6,7 +6,7 @@ ghost use Rattle.tw_model.specs.Case.{simulation};
 ghost use Rattle.tw_model.specs.declared.memory.OrMemory.TheVariants as or_memory;
 ghost use Rattle.tw_shard.specs.Commit.{HasNothingToCommit, committed_at, committed_to, committing, count_left};
 ghost use Rattle.tw_shard.specs.Shard.{IsSameShare, core, no_timeline, owns, timeline};
-ghost use Rattle.tw_shard.specs.Timeline.{history};
+ghost use Rattle.tw_shard.specs.Timeline.{history, last_change_at};
 
 use super::Shard;
 use crate::timeline::Timeline;
@@ -62,6 +62,15 @@ impl<'a> Shard<'a> {
         ensures { result ≡ length ((core 0 self.now).history router) - length (committed (simulation self.now.case) (core 0 self.now) router) }
     {
         self.timeline(router).ahead_len()
+    }
+
+    /// The time, in ticks, of the last event that changed the path of one of its routers, of those that the
+    /// router has handled and not undone, whether committed or not; 0 where none did.
+    pub fn last_change(&self, router: u32) -> u64
+        requires { owns self.now router ≡ true }
+        ensures { result ≡ last_change_at self.now.case.net router ((core 0 self.now).history router) }
+    {
+        self.timeline(router).last_change()
     }
 
     /// Event number `k`, from 0, of those that one of its routers has handled and not undone, the oldest

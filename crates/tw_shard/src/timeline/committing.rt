@@ -1,7 +1,7 @@
 ghost use Rattle.std.specs.Prelude.{◌≡◌, ◌+◌, ◌-◌, ◌≤◌, ◌++◌, drop, count_by, filter, length, nat_lt, reverse, slice_get, take, vec_capacity, vec_len, IsOk, OnErr, OnOk};
 ghost use Rattle.std.specs.List.{prefix_len};
 ghost use Rattle.tw_shard.specs.Commit.{committed_to, count_left};
-ghost use Rattle.tw_shard.specs.Timeline.{events_of, history};
+ghost use Rattle.tw_shard.specs.Timeline.{events_of, history, last_change_at, noted_change};
 
 use super::{HandledEvent, Timeline};
 use std::alloc::AllocError;
@@ -17,7 +17,9 @@ impl Timeline<'_> {
         ensures free { count_left bound self.old.ahead ≡ length self.old.ahead → IsOk result }
     {
         let count = first_before(&self.ahead, bound);
+        let change = last_change_of(&self.ahead[..count], self.past_change);
         commit_first(&mut self.ahead, &mut self.past, count)?;
+        self.past_change = change;
         self.done = bound;
         Ok(())
     }
@@ -35,6 +37,14 @@ impl Timeline<'_> {
         ensures { result ≡ length (history self.now) - length (filter (λ e. nat_lt e.time self.now.done) (history self.now)) }
     {
         self.ahead.len() - all_before(&self.ahead, self.done)
+    }
+
+    /// The time, in ticks, of the last event that changed the router's path, of those that it has handled
+    /// and not undone; 0 where none did.
+    pub(crate) fn last_change(&self) -> u64
+        ensures { result ≡ last_change_at self.now.net self.now.node (history self.now) }
+    {
+        last_change_of(&self.ahead, self.past_change)
     }
 
     /// Event number `k` of those that it has handled and not undone, from 0, the oldest first.
@@ -72,6 +82,19 @@ fn all_before(steps: &[HandledEvent], time: u64) -> usize
     ensures { result ≡ count_by (λ d. nat_lt d.event.time time) steps.now }
 {
     steps.iter().filter(|step| step.event.time < time).count()
+}
+
+/// The time of the last of these steps that changed the router's path, or `time` where none did.
+fn last_change_of(steps: &[HandledEvent], time: u64) -> u64
+    ensures { result ≡ noted_change time steps.now }
+{
+    let mut last = time;
+    for step in steps {
+        if step.note.changed {
+            last = step.event.time;
+        }
+    }
+    last
 }
 
 /// Moves the events of the first `count` steps to `past`, and drops their records.

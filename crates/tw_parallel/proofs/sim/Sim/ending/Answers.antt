@@ -1,5 +1,5 @@
 use Rattle.std.proofs.Common.{map, ap, ◌∙◌}
-use Rattle.tw_parallel.proofs.Ends.{all_committed, all_states, ended}
+use Rattle.tw_parallel.proofs.Ends.{all_committed, all_states, change_of_run, ended}
 use Rattle.tw_parallel.specs.Ending.{end_of}
 use Rattle.tw_parallel.proofs.sim.Sim.ending.Goals as goal
 use Rattle.tw_parallel.proofs.sim.Sim.ending.Goals.{then-log+in_ok-events, else-log}
@@ -16,3 +16,6 @@ returns-clause-routers c = c.in_ok-router_ends.ensures ∙ ap (map end_of) (all_
 
 pub returns-clause-pending : goal.returns-clause-pending
 returns-clause-pending c = c.in_ok-pending.ensures.value ∙ (ended c.args.self.now c.stop.ensures.sim c.requires).pending
+
+pub returns-clause-last_change : goal.returns-clause-last_change
+returns-clause-last_change c = c.last_change.ensures ∙ change_of_run c.args.self.now c.stop.ensures.sim c.requires

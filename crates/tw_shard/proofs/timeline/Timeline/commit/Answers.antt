@@ -1,8 +1,8 @@
 use Rattle.std.proofs.Common.{◌≡◌, ◌≤◌, ◌++◌, drop, nat_lt, reverse, take, ap, sym, ◌∙◌, subst}
 use Rattle.std.specs.List.{prefix_len}
 use Rattle.tw_shard.specs.Commit.{committed_to}
-use Rattle.tw_shard.specs.Timeline.{Timeline, events_of, known}
-use Rattle.tw_shard.proofs.Commits.{gone_events, left_events, noted_left, past_early, past_events, same_history}
+use Rattle.tw_shard.specs.Timeline.{Timeline, events_of, known, last_change_at, noted_change}
+use Rattle.tw_shard.proofs.Commits.{change_committed, gone_events, left_events, noted_left, past_early, past_events, same_history}
 use Rattle.tw_shard.proofs.timeline.Timeline.commit.Goals as goal
 
 pub invariant_of-self-2 : goal.invariant_of-self-2
@@ -19,6 +19,11 @@ invariant_of-self-2 c =
           ∙ ap (known a.router.net a.router.node) (sym (same_history n a.past.items a.ahead.items) ∙ sym (λ i. events_of (reverse (ahead i)) ++ reverse (past i)));
       noted = rw (ahead, past) (noted_left a.router.net a.router.node n a.past.items a.ahead.items c.self.invariant.noted);
       past = rw past (past_early a.done c.args.bound n a.past.items a.ahead.items later first c.self.invariant.past);
+      change =
+          c.last_change_of-change.ensures
+          ∙ (ap (λ steps. noted_change a.past_change (take n steps)) c.deref-2.ensures.value
+          ∙ (change_committed a.router.net a.router.node n a.past.items a.ahead.items a.past_change c.self.invariant.noted c.self.invariant.change
+          ∙ ap (λ events. last_change_at a.router.net a.router.node (reverse events)) (sym past)));
     }
 
 pub returns-clause-ok : goal.returns-clause-ok

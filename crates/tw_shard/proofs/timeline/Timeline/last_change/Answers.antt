@@ -1,0 +1,12 @@
+use Rattle.std.proofs.Common.{reverse, ap, ◌∙◌}
+use Rattle.tw_shard.specs.Timeline.{Timeline, history, last_change_at, noted_change}
+use Rattle.tw_shard.proofs.Commits.{change_now}
+use Rattle.tw_shard.proofs.timeline.Timeline.last_change.Goals as goal
+
+pub returns : goal.returns
+returns c =
+    let a = c.self.inside in
+    c.last_change_of.ensures
+    ∙ (ap (noted_change a.past_change) c.deref.ensures.value
+    ∙ (change_now a.router.net a.router.node (reverse a.past.items) a.ahead.items a.past_change c.self.invariant.noted c.self.invariant.change
+    ∙ ap (λ (t : Timeline). last_change_at t.net t.node (history t)) c.self.view_is))
