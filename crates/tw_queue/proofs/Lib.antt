@@ -7,3 +7,4 @@ pub mod Buckets
 pub mod Groups
 pub mod Tables
 pub mod Spares
+pub mod Rings
