@@ -8,3 +8,4 @@ pub mod Groups
 pub mod Tables
 pub mod Spares
 pub mod Rings
+pub mod Merged

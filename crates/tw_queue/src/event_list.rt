@@ -1,14 +1,14 @@
 ghost use Rattle.std.specs.Prelude.{◌≡◌, ◌+◌, ◌++◌, ◌<◌, ◌≤◌, IfNone, IfOk, IfSome, IsOk, OnErr, OnOk, [], drop, length, slice_get};
 ghost use Rattle.std.specs.BinaryHeap.{heap_items, IsHeap};
 ghost use Rattle.std.specs.Bool.{OnFalse, OnTrue};
-ghost use Rattle.tw_event.specs.Order.{event_before, event_same};
+ghost use Rattle.tw_event.specs.Order.{event_before};
 ghost use Rattle.tw_queue.specs.Heap.{heap_events};
 ghost use Rattle.tw_queue.specs.InOrder.{in_order};
 ghost use Rattle.tw_queue.specs.Queue.{IsQueue};
 ghost use Rattle.tw_sim.specs.Ordered.{insert};
-ghost use Rattle.tw_sim.specs.Rising.{IsRising};
 
 use crate::ring::Ring;
+use crate::search::comes_before;
 use std::alloc::{AllocError, Global};
 use std::cmp::Reverse;
 use std::collections::BinaryHeap;
@@ -133,13 +133,13 @@ fn is_heap_first(ring: &Ring, heap: &BinaryHeap<Reverse<Event>>) -> bool
     ensures some { OnTrue result (0 < length (heap_items heap.now)) }
     ensures ring { OnFalse result
         (slice_get (in_order event_before (ring.now ++ heap_events (heap_items heap.now))) 0 ≡ slice_get ring.now 0) }
-    ensures rising { IsRising event_before event_same ring.now }
 {
+    let _ = ring.taken();
     let Some(top) = heap.peek() else {
         return false;
     };
     match ring.least() {
-        Some(event) => top.0 < event,
+        Some(event) => comes_before(&top.0, &event),
         None => true,
     }
 }

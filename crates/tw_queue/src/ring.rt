@@ -82,13 +82,19 @@ impl Ring {
 
     /// The least event.
     pub(crate) fn least(&self) -> Option<Event>
-        ensures first { result ≡ slice_get self.now 0 }
-        ensures rising { IsRising event_before event_same self.now }
+        ensures { result ≡ slice_get self.now 0 }
     {
         match self.hand.events().get(self.taken) {
             Some(event) => Some(*event),
             None => least_of(None, self.buckets[first_place(&self.times)].events()),
         }
+    }
+
+    /// How many events of the tick at hand are taken out. The events are in order.
+    pub(crate) fn taken(&self) -> usize
+        ensures { IsRising event_before event_same self.now }
+    {
+        self.taken
     }
 
     /// Takes out the least event.

@@ -1,17 +1,14 @@
 use Rattle.std.proofs.Common.{◌≡◌, ◌<◌, ◌≤◌, ◌++◌, ℕ, None, [], drop, length, get_or, slice_get, ap, sym, ◌∙◌, subst, arith}
 use Rattle.std.proofs.lemmas.List.{drop_all, get_or_read}
-use Rattle.tw_event.specs.Order.{event_before, event_same}
-use Rattle.tw_sim.specs.Rising.{IsRising}
+use Rattle.tw_event.specs.Order.{event_before}
 use Rattle.tw_queue.specs.Buckets.{together}
 use Rattle.tw_queue.specs.InOrder.{in_order, least_with}
 use Rattle.tw_queue.specs.Ring.{hand_of}
-use Rattle.tw_queue.proofs.Events.{event_law}
-use Rattle.tw_queue.proofs.Ordered.{rising-in_order}
 use Rattle.tw_queue.proofs.Rings.{first_of_place, first_taken, read_left, some_left}
 use Rattle.tw_queue.proofs.ring.Ring.least.Goals as goal
 
-pub returns-in-Some-clause-first : goal.returns-in-Some-clause-first
-returns-in-Some-clause-first c =
+pub returns-in-Some : goal.returns-in-Some
+returns-in-Some c =
     let a = c.self.inside in
     let v = c.self.invariant in
     let lookup = c.in-Some.ensures.lookup in
@@ -20,13 +17,8 @@ returns-in-Some-clause-first c =
     read_left a.taken a.hand c.in-Some.event.now within read ∙ first_taken a.tick (together a.buckets) v.after (hand_of a) (some_left a.taken a.hand within) v.rising v.begun
     ∙ ap (λ r. slice_get r 0) c.self.view_is
 
-pub returns-in-Some-clause-rising : goal.returns-in-Some-clause-rising
-returns-in-Some-clause-rising c =
-    let a = c.self.inside in
-    subst (λ xs. IsRising event_before event_same xs) c.self.view_is (rising-in_order event_before event_same event_law (hand_of a ++ together a.buckets))
-
-pub returns-in-None-clause-first : goal.returns-in-None-clause-first
-returns-in-None-clause-first c =
+pub returns-in-None : goal.returns-in-None
+returns-in-None c =
     let a = c.self.inside in
     let v = c.self.invariant in
     let beyond : length a.hand ≤ a.taken = subst (λ xs. length xs ≤ a.taken) c.events.ensures c.in-None.ensures.lookup.3 in
@@ -39,8 +31,3 @@ returns-in-None-clause-first c =
     c.least_of.ensures ∙ ap (least_with None) seen
     ∙ first_of_place a.buckets v.number v.placed v.alike v.early a.times v.row p place.within place.least
     ∙ ap (λ hand. slice_get (in_order event_before (hand ++ together a.buckets)) 0) (sym none) ∙ ap (λ r. slice_get r 0) c.self.view_is
-
-pub returns-in-None-clause-rising : goal.returns-in-None-clause-rising
-returns-in-None-clause-rising c =
-    let a = c.self.inside in
-    subst (λ xs. IsRising event_before event_same xs) c.self.view_is (rising-in_order event_before event_same event_law (hand_of a ++ together a.buckets))
