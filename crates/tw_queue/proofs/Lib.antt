@@ -7,3 +7,5 @@ pub mod Buckets
 pub mod Groups
 pub mod Tables
 pub mod Spares
+pub mod Rings
+pub mod Merged

@@ -5,3 +5,4 @@ pub mod Buckets
 pub mod Table
 pub mod Least
 pub mod Pending
+pub mod Ring

@@ -1,28 +1,35 @@
-ghost use Rattle.std.specs.Prelude.{◌≡◌, ◌+◌, ◌<◌, ◌≤◌, IfNone, IfOk, IfSome, IsOk, OnErr, OnOk, [], drop, slice_get};
+ghost use Rattle.std.specs.Prelude.{◌≡◌, ◌+◌, ◌++◌, ◌<◌, ◌≤◌, IfNone, IfOk, IfSome, IsOk, OnErr, OnOk, [], drop, length, slice_get};
+ghost use Rattle.std.specs.BinaryHeap.{heap_items, IsHeap};
+ghost use Rattle.std.specs.Bool.{OnFalse, OnTrue};
 ghost use Rattle.tw_event.specs.Order.{event_before};
 ghost use Rattle.tw_queue.specs.Heap.{heap_events};
+ghost use Rattle.tw_queue.specs.InOrder.{in_order};
 ghost use Rattle.tw_queue.specs.Queue.{IsQueue};
 ghost use Rattle.tw_sim.specs.Ordered.{insert};
 
+use crate::ring::Ring;
+use crate::search::comes_before;
 use std::alloc::{AllocError, Global};
 use std::cmp::Reverse;
 use std::collections::BinaryHeap;
 use std::marker::Model;
 use tw_event::Event;
 
-/// Events that wait to be handled, each as often as it was inserted, in a heap.
+/// Events that wait to be handled, each as often as it was inserted.
 ///
-/// The least one comes out fast. [`Pending`](crate::Pending) also answers for one router, and takes an
-/// event out wherever it stands.
+/// The least one comes out fast. Events of the next 64 ticks stand in buckets of one tick, which is put in
+/// order when it is begun, and all others in a heap. [`Pending`](crate::Pending) also answers for one
+/// router, and takes an event out wherever it stands.
 #[derive(Drop)]
 pub struct EventList {
     alloc: Global,
     routers: u32,
+    ring: Ring,
     heap: BinaryHeap<Reverse<Event>>,
 }
 
 impl Model for EventList {
-    ghost use Rattle.std.specs.Prelude.{◌-◌};
+    ghost use Rattle.std.specs.Prelude.{◌-◌, ◌++◌};
     ghost use Rattle.tw_event.specs.Order.{event_before};
     ghost use Rattle.std.specs.BinaryHeap.{heap_capacity, heap_items, heap_len, IsHeap};
     ghost use Rattle.tw_queue.specs.Queue.{Queue, AreFor};
@@ -31,9 +38,9 @@ impl Model for EventList {
 
     ghost Value = { Queue };
 
-    ghost view = { λ a. record { routers = a.routers; events = in_order event_before (heap_events (heap_items a.heap)); room = heap_capacity a.heap - heap_len a.heap } };
+    ghost view = { λ a. record { routers = a.routers; events = in_order event_before (a.ring ++ heap_events (heap_items a.heap)); room = heap_capacity a.heap - heap_len a.heap } };
 
-    ghost invariant = { λ a. IsHeap ⟦<Reverse<Event> as Ord>⟧.cmp (heap_items a.heap) × AreFor a.routers (heap_events (heap_items a.heap)) };
+    ghost invariant = { λ a. IsHeap ⟦<Reverse<Event> as Ord>⟧.cmp (heap_items a.heap) × AreFor a.routers (a.ring ++ heap_events (heap_items a.heap)) };
 }
 
 impl EventList {
@@ -45,6 +52,7 @@ impl EventList {
         Ok(EventList {
             alloc,
             routers,
+            ring: Ring::new(alloc),
             heap: BinaryHeap::new(alloc),
         })
     }
@@ -69,6 +77,9 @@ impl EventList {
         ensures routers { self.new.routers ≡ self.old.routers }
         ensures room { self.old.room ≤ self.new.room + 1 }
     {
+        if self.ring.insert(event) {
+            return Ok(());
+        }
         self.heap.push(Reverse(event))?;
         Ok(())
     }
@@ -79,6 +90,9 @@ impl EventList {
         ensures home { IfSome result (λ e. e.dst < self.now.routers) }
         ensures queue { IsQueue self.now }
     {
+        if !is_heap_first(&self.ring, &self.heap) {
+            return self.ring.least();
+        }
         let event = self.heap.peek()?;
         Some(event.0)
     }
@@ -92,6 +106,9 @@ impl EventList {
         ensures room { self.old.room ≤ self.new.room }
         ensures none { IfNone result (self.new ≡ self.old) }
     {
+        if !is_heap_first(&self.ring, &self.heap) {
+            return self.ring.take_least();
+        }
         let event = self.heap.pop()?;
         Some(event.0)
     }
@@ -102,8 +119,28 @@ impl EventList {
         ensures queue { IsQueue self.now }
     {
         let mut events = collect_events(self.alloc, self.heap.as_slice())?;
+        self.ring.append_to(&mut events)?;
         events.sort_unstable();
         Ok(events)
+    }
+}
+
+// Whether the least event of all is that of the heap, and not that of the ring.
+fn is_heap_first(ring: &Ring, heap: &BinaryHeap<Reverse<Event>>) -> bool
+    requires { IsHeap ⟦<Reverse<Event> as Ord>⟧.cmp (heap_items heap.now) }
+    ensures heap { OnTrue result
+        (slice_get (in_order event_before (ring.now ++ heap_events (heap_items heap.now))) 0 ≡ slice_get (in_order event_before (heap_events (heap_items heap.now))) 0) }
+    ensures some { OnTrue result (0 < length (heap_items heap.now)) }
+    ensures ring { OnFalse result
+        (slice_get (in_order event_before (ring.now ++ heap_events (heap_items heap.now))) 0 ≡ slice_get ring.now 0) }
+{
+    let _ = ring.taken();
+    let Some(top) = heap.peek() else {
+        return false;
+    };
+    match ring.least() {
+        Some(event) => comes_before(&top.0, &event),
+        None => true,
     }
 }
 

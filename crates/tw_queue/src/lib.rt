@@ -10,8 +10,10 @@ mod event_list;
 mod least_times;
 mod pending;
 mod queue_table;
+mod ring;
 mod router_queue;
 mod search;
+mod tick;
 
 pub use event_list::EventList;
 pub use pending::Pending;

@@ -1,6 +1,6 @@
 // Searches of a few events.
 ghost use Rattle.std.specs.Prelude.{◌≡◌, ◌<◌, ◌↔◌, IsTrue, count_by, position, vec_capacity};
-ghost use Rattle.tw_event.specs.Order.{event_same};
+ghost use Rattle.tw_event.specs.Order.{event_before, event_same};
 ghost use Rattle.tw_queue.specs.InOrder.{earlier, least_with};
 ghost use Rattle.tw_sim.specs.Ordered.{take_out, times};
 
@@ -54,4 +54,11 @@ pub(crate) fn earlier(event: Event, other: Option<Event>) -> Event
         Some(other) if other < event => other,
         _ => event,
     }
+}
+
+// Whether an event comes before another.
+pub(crate) fn comes_before(event: &Event, other: &Event) -> bool
+    ensures { result ≡ event_before event.now other.now }
+{
+    event < other
 }

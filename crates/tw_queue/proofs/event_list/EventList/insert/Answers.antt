@@ -1,9 +1,28 @@
-use Rattle.std.proofs.Common.{ap, ◌∙◌, arith}
+use Rattle.std.proofs.Common.{◌≡◌, ◌<◌, ◌++◌, ap, sym, ◌∙◌, subst, arith}
 use Rattle.std.specs.BinaryHeap.{heap_items}
 use Rattle.tw_event.specs.Order.{event_before}
 use Rattle.tw_sim.specs.Ordered.{insert}
-use Rattle.tw_queue.proofs.Events.{in_order_pushed, homes_pushed}
+use Rattle.tw_queue.specs.Heap.{heap_events}
+use Rattle.tw_queue.specs.InOrder.{in_order}
+use Rattle.tw_queue.specs.Queue.{AreFor}
+use Rattle.tw_queue.proofs.Merged.{heap_more, homes_heap_more, homes_more, ring_more}
 use Rattle.tw_queue.proofs.event_list.EventList.insert.Goals as goal
+
+pub invariant_of-self : goal.invariant_of-self
+invariant_of-self c =
+    let a = c.self.inside in
+    let e = c.args.event in
+    let n = ap (λ q. q.routers) c.self.view_is in
+    let d = c.requires in
+    let more : c.insert.new.self ≡ insert event_before e a.ring = c.if-insert.ensures.added in
+    (c.self.invariant.0, homes_more a.routers e a.ring c.insert.new.self (heap_events (heap_items a.heap)) more (omega arith) c.self.invariant.1)
+
+pub returns-then-insert-clause-ok : goal.returns-then-insert-clause-ok
+returns-then-insert-clause-ok c =
+    let a = c.self.inside in
+    let e = c.args.event in
+    let more : c.insert.new.self ≡ insert event_before e a.ring = c.if-insert.ensures.added in
+    ring_more e a.ring c.insert.new.self (heap_events (heap_items a.heap)) more ∙ ap (λ q. insert event_before e q.events) c.self.view_is
 
 pub invariant_of-self-2 : goal.invariant_of-self-2
 invariant_of-self-2 c =
@@ -11,9 +30,14 @@ invariant_of-self-2 c =
     let p = c.in_ok-push.ensures in
     let d = c.requires in
     let n = ap (λ q. q.routers) c.self.view_is in
-    (p.heap_order c.self.invariant.0, homes_pushed a.routers (record { 0 = c.args.event }) (heap_items a.heap) (heap_items c.push.new.self) p.permutation (omega arith) c.self.invariant.1)
+    let same : c.insert.new.self ≡ a.ring = c.if-insert.ensures.same in
+    (p.heap_order c.self.invariant.0, subst (λ ring. AreFor a.routers (ring ++ heap_events (heap_items c.push.new.self))) (sym same)
+    (homes_heap_more a.routers a.ring (record { 0 = c.args.event }) (heap_items a.heap) (heap_items c.push.new.self) p.permutation (omega arith) c.self.invariant.1))
 
 pub returns-clause-ok : goal.returns-clause-ok
 returns-clause-ok c =
-    let e = ap (λ q. q.events) c.self.view_is in
-    in_order_pushed (record { 0 = c.args.event }) (heap_items c.self.inside.heap) (heap_items c.push.new.self) c.in_ok-push.ensures.permutation ∙ ap (insert event_before c.args.event) e
+    let a = c.self.inside in
+    let e = c.args.event in
+    let same : c.insert.new.self ≡ a.ring = c.if-insert.ensures.same in
+    ap (λ ring. in_order event_before (ring ++ heap_events (heap_items c.push.new.self))) same
+    ∙ heap_more a.ring (record { 0 = e }) (heap_items a.heap) (heap_items c.push.new.self) c.in_ok-push.ensures.permutation ∙ ap (λ q. insert event_before e q.events) c.self.view_is

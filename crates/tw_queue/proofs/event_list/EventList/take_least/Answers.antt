@@ -1,39 +1,41 @@
-use Rattle.std.proofs.Common.{slice_get, drop, ap, sym, ◌∙◌, arith}
+use Rattle.std.proofs.Common.{◌≡◌, ◌<◌, ◌++◌, Some, drop, slice_get, ap, sym, ◌∙◌, subst}
 use Rattle.std.specs.BinaryHeap.{heap_items}
-use Rattle.tw_queue.proofs.Events.{no_events, first_popped, rest_popped, homes_popped}
+use Rattle.tw_event.specs.Order.{event_before}
+use Rattle.tw_queue.specs.Heap.{heap_events}
+use Rattle.tw_queue.specs.InOrder.{in_order}
+use Rattle.tw_queue.proofs.Merged.{heap_first, heap_taken, homes_heap_less, ring_taken}
 use Rattle.tw_queue.proofs.event_list.EventList.take_least.Goals as goal
 
-pub returns-in_err-event-clause-first : goal.returns-in_err-event-clause-first
-returns-in_err-event-clause-first c =
+pub returns-then-not-is_heap_first-clause-events : goal.returns-then-not-is_heap_first-clause-events
+returns-then-not-is_heap_first-clause-events c =
     let a = c.self.inside in
-    let e = ap (λ q. q.events) c.self.view_is in
-    let v = c.in_err-event.ensures.none in
-    rw c.from_residual.ensures (ap (λ r. slice_get r 0) (sym (no_events (heap_items a.heap) (omega (arith, a.heap.data.ok.0))) ∙ e))
-
-pub returns-in_err-event-clause-events : goal.returns-in_err-event-clause-events
-returns-in_err-event-clause-events c =
-    let a = c.self.inside in
-    let e = ap (λ q. q.events) c.self.view_is in
-    let v = c.in_err-event.ensures.none in
-    let z = no_events (heap_items a.heap) (omega (arith, a.heap.data.ok.0)) in
-    rw c.in_err-event.ensures.unchanged.0 (z ∙ ap (drop 1) (sym z ∙ e))
+    let heap = heap_events (heap_items a.heap) in
+    let first : slice_get (in_order event_before (a.ring ++ heap)) 0 ≡ slice_get a.ring 0 = c.if-not-is_heap_first.ensures.ring in
+    ap (λ ring. in_order event_before (ring ++ heap)) c.take_least.ensures.events ∙ ring_taken a.ring heap first ∙ ap (λ q. drop 1 q.events) c.self.view_is
 
 pub invariant_of-self-2 : goal.invariant_of-self-2
 invariant_of-self-2 c =
     let a = c.self.inside in
     let p = c.in_ok-event.ensures in
-    ((p.heap_order c.self.invariant.0).0, (homes_popped a.routers c.in_ok-event.event (heap_items a.heap) (heap_items c.pop.new.self) p.permutation c.self.invariant.1).1)
+    ((p.heap_order c.self.invariant.0).0, (homes_heap_less a.routers a.ring c.in_ok-event.event (heap_items a.heap) (heap_items c.pop.new.self) p.permutation c.self.invariant.1).1)
 
 pub returns-clause-first : goal.returns-clause-first
 returns-clause-first c =
     let a = c.self.inside in
-    let e = ap (λ q. q.events) c.self.view_is in
     let p = c.in_ok-event.ensures in
-    sym (first_popped c.in_ok-event.event (heap_items a.heap) (heap_items c.pop.new.self) p.permutation (p.below_top c.self.invariant.0)) ∙ ap (λ r. slice_get r 0) e
+    let first : slice_get (in_order event_before (a.ring ++ heap_events (heap_items a.heap))) 0 ≡ slice_get (in_order event_before (heap_events (heap_items a.heap))) 0 = c.if-not-is_heap_first.ensures.heap in
+    sym (heap_first a.ring c.in_ok-event.event (heap_items a.heap) (heap_items c.pop.new.self) p.permutation (p.below_top c.self.invariant.0) first) ∙ ap (λ q. slice_get q.events 0) c.self.view_is
 
 pub returns-clause-events : goal.returns-clause-events
 returns-clause-events c =
     let a = c.self.inside in
-    let e = ap (λ q. q.events) c.self.view_is in
     let p = c.in_ok-event.ensures in
-    rest_popped c.in_ok-event.event (heap_items a.heap) (heap_items c.pop.new.self) p.permutation (p.below_top c.self.invariant.0) ∙ ap (drop 1) e
+    let first : slice_get (in_order event_before (a.ring ++ heap_events (heap_items a.heap))) 0 ≡ slice_get (in_order event_before (heap_events (heap_items a.heap))) 0 = c.if-not-is_heap_first.ensures.heap in
+    heap_taken a.ring c.in_ok-event.event (heap_items a.heap) (heap_items c.pop.new.self) p.permutation (p.below_top c.self.invariant.0) first ∙ ap (λ q. drop 1 q.events) c.self.view_is
+
+pub returns-clause-home : goal.returns-clause-home
+returns-clause-home c =
+    let a = c.self.inside in
+    let p = c.in_ok-event.ensures in
+    let home = (homes_heap_less a.routers a.ring c.in_ok-event.event (heap_items a.heap) (heap_items c.pop.new.self) p.permutation c.self.invariant.1).0 in
+    subst (λ n. c.in_ok-event.event.0.dst < n) (ap (λ q. q.routers) c.self.view_is) home

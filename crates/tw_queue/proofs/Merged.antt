@@ -1,0 +1,185 @@
+-- The events of a ring and of a heap together.
+use Rattle.std.proofs.Common.{◌≡◌, ◌<◌, ◌+◌, ◌++◌, ℕ, Bool, true, false, Option, Some, None, List, [], ◌∷◌, length, drop, slice_get, refl, ap, sym, ◌∙◌, subst, inl, inr, arith}
+use Rattle.std.specs.List.{AllByRecursion}
+use Rattle.std.specs.List.Sorted.{IsPermutation}
+use Rattle.std.specs.BinaryHeap.{IsUpperBound}
+use Rattle.std.specs.declared.cmp.Reverse.{Reverse}
+use Rattle.std.proofs.lemmas.Bool.{cases_Bool, false≢true}
+use Rattle.std.proofs.lemmas.List.Sorted.{IsPermutation-map}
+use Rattle.std.proofs.lemmas.Option.{none-some}
+use Rattle.tw_event.specs.declared.event.Event.{Event}
+use Rattle.tw_event.specs.Order.{event_before, event_same}
+use Rattle.tw_sim.specs.Ordered.{insert, one, times}
+use Rattle.tw_sim.specs.Rising.{IsRising}
+use Rattle.tw_sim.proofs.Ordered.{all-insert, not_back, not_before, times-insert}
+use Rattle.tw_queue.specs.Heap.{heap_events}
+use Rattle.tw_queue.specs.InOrder.{in_order}
+use Rattle.tw_queue.specs.Queue.{AreFor, IsQueue}
+use Rattle.tw_queue.proofs.Ordered.{all-in_order, cases_zero, in_order-permutation, in_order-times, rising-in_order, times-in_order}
+use Rattle.tw_queue.proofs.Events.{IsLeast, event_law, first_is_least, first_of_least, first_popped, homes_popped, homes_pushed, least_is, later, none_first, same_some}
+use Rattle.tw_queue.proofs.Lists.{times-append}
+use Rattle.tw_queue.proofs.Tables.{in_order_rising, nothing}
+
+-- the first of a list that rises is its least
+pub least_of_rising : (e : Event) (xs : List Event) → IsRising event_before event_same xs → slice_get xs 0 ≡ Some e → IsLeast e xs
+least_of_rising e xs h k = first_is_least e xs xs h (λ x. refl) k
+
+-- the lesser of the two first events is the least of all
+module _ (x y : Event) (ring heap : List Event) where
+  pub least_left : IsLeast x ring → IsLeast y heap → event_before y x ≡ false → slice_get (in_order event_before (ring ++ heap)) 0 ≡ Some x
+  least_left h k b =
+      first_of_least x (ring ++ heap) (record {
+        there =
+            let n = times-append x ring heap in
+            let l = h.there in
+            omega arith;
+        first = λ z there.
+            let n = times-append z ring heap in
+            elim (cases_zero (times event_same z ring)) [
+              | inl q ↦ not_before event_before event_same event_law z y x (k.first z (omega arith)) b
+              | inr l ↦ h.first z l
+            ];
+      })
+
+  pub least_right : IsLeast x ring → IsLeast y heap → event_before y x ≡ true → slice_get (in_order event_before (ring ++ heap)) 0 ≡ Some y
+  least_right h k b =
+      first_of_least y (ring ++ heap) (record {
+        there =
+            let n = times-append y ring heap in
+            let l = k.there in
+            omega arith;
+        first = λ z there.
+            let n = times-append z ring heap in
+            elim (cases_zero (times event_same z heap)) [
+              | inl q ↦ not_before event_before event_same event_law z x y (h.first z (omega arith)) (not_back event_before event_same event_law y x b)
+              | inr l ↦ k.first z l
+            ];
+      })
+
+pub append_none : (xs : List Event) → xs ++ [] ≡ xs
+append_none [] = refl
+append_none (x ∷ xs) = ap (λ r. x ∷ r) (append_none xs)
+
+-- without a heap
+pub ring_alone : (ring heap : List Event) → heap ≡ [] → IsRising event_before event_same ring → slice_get (in_order event_before (ring ++ heap)) 0 ≡ slice_get ring 0
+ring_alone ring heap h r =
+    ap (λ xs. slice_get (in_order event_before (ring ++ xs)) 0) h ∙ ap (λ xs. slice_get (in_order event_before xs) 0) (append_none ring) ∙ ap (λ xs. slice_get xs 0) (in_order_rising ring r)
+
+pub none_of : (xs : List Event) → slice_get xs 0 ≡ None → xs ≡ []
+none_of [] h = refl
+none_of (x ∷ xs) h = absurd (none-some x (sym h))
+
+-- what goes in first comes out first
+insert_taken : (x : Event) (xs : List Event) → slice_get (insert event_before x xs) 0 ≡ Some x → drop 1 (insert event_before x xs) ≡ xs
+insert_taken x [] h = refl
+insert_taken x (y ∷ ys) h =
+    elim (cases_Bool (event_before y x)) [
+      | inl b ↦
+          let k : Some y ≡ Some x = rw b at h in
+          let self : event_before x x ≡ true = subst (λ z. event_before z x ≡ true) (same_some y x k) b in
+          absurd (false≢true (sym (event_law.not_self x) ∙ self))
+      | inr b ↦ rw b refl
+    ]
+
+pub ring_taken : (ring heap : List Event) → slice_get (in_order event_before (ring ++ heap)) 0 ≡ slice_get ring 0 → in_order event_before (drop 1 ring ++ heap) ≡ drop 1 (in_order event_before (ring ++ heap))
+unfolding in_order
+ring_taken [] heap h =
+    let z : heap ≡ [] = nothing heap (none_first heap h) in
+    rw z refl
+ring_taken (x ∷ xs) heap h = sym (insert_taken x (in_order event_before (xs ++ heap)) h)
+
+pub times_permuted : (e : Event) (xs ys : List Event) → IsPermutation xs ys → times event_same e ys ≡ times event_same e xs
+times_permuted e xs ys p =
+    sym (times-in_order event_before event_same event_law e ys) ∙ ap (times event_same e) (in_order-permutation event_before event_same event_law xs ys p)
+    ∙ times-in_order event_before event_same event_law e xs
+
+-- one more event
+pub ring_more : (e : Event) (ring more heap : List Event) → more ≡ insert event_before e ring → in_order event_before (more ++ heap) ≡ insert event_before e (in_order event_before (ring ++ heap))
+unfolding in_order
+ring_more e ring more heap h =
+    in_order-times event_before event_same event_law (more ++ heap) (e ∷ ring ++ heap) (λ d.
+    let a = times-append d more heap in
+    let b = times-append d ring heap in
+    let c = ap (times event_same d) h in
+    let n = times-insert event_before event_same d e ring in
+    omega arith)
+
+pub heap_more : (ring : List Event) (x : Reverse Event) (xs ys : List (Reverse Event)) → IsPermutation (x ∷ xs) ys
+    → in_order event_before (ring ++ heap_events ys) ≡ insert event_before x.0 (in_order event_before (ring ++ heap_events xs))
+unfolding in_order
+heap_more ring x xs ys p =
+    in_order-times event_before event_same event_law (ring ++ heap_events ys) (x.0 ∷ ring ++ heap_events xs) (λ d.
+    let a = times-append d ring (heap_events ys) in
+    let b = times-append d ring (heap_events xs) in
+    let n = times_permuted d (heap_events (x ∷ xs)) (heap_events ys) (IsPermutation-map (λ r. r.0) (x ∷ xs) ys p) in
+    omega arith)
+
+-- the heap's least comes out
+module _ (ring : List Event) (x : Reverse Event) (xs ys : List (Reverse Event)) (p : IsPermutation xs (x ∷ ys)) (top : IsUpperBound later x ys)
+    (first : slice_get (in_order event_before (ring ++ heap_events xs)) 0 ≡ slice_get (in_order event_before (heap_events xs)) 0) where
+  pub heap_first : slice_get (in_order event_before (ring ++ heap_events xs)) 0 ≡ Some x.0
+  heap_first = first ∙ first_popped x xs ys p top
+
+  pub heap_taken : in_order event_before (ring ++ heap_events ys) ≡ drop 1 (in_order event_before (ring ++ heap_events xs))
+  unfolding in_order
+  heap_taken =
+      let whole : in_order event_before (ring ++ heap_events xs) ≡ insert event_before x.0 (in_order event_before (ring ++ heap_events ys)) =
+      in_order-times event_before event_same event_law (ring ++ heap_events xs) (x.0 ∷ ring ++ heap_events ys) (λ d.
+      let a = times-append d ring (heap_events xs) in
+      let b = times-append d ring (heap_events ys) in
+      let n = times_permuted d (heap_events xs) (heap_events (x ∷ ys)) (IsPermutation-map (λ r. r.0) xs (x ∷ ys) p) in
+      omega arith) in
+      sym (insert_taken x.0 (in_order event_before (ring ++ heap_events ys)) (ap (λ r. slice_get r 0) (sym whole) ∙ heap_first)) ∙ ap (drop 1) (sym whole)
+
+-- routers
+pub all_left : (n : ℕ) (xs ys : List Event) → AreFor n (xs ++ ys) → AreFor n xs
+all_left n [] ys h = tt
+all_left n (x ∷ xs) ys h = (h.0, all_left n xs ys h.1)
+
+pub all_right : (n : ℕ) (xs ys : List Event) → AreFor n (xs ++ ys) → AreFor n ys
+all_right n [] ys h = h
+all_right n (x ∷ xs) ys h = all_right n xs ys h.1
+
+pub all_both : (n : ℕ) (xs ys : List Event) → AreFor n xs → AreFor n ys → AreFor n (xs ++ ys)
+all_both n [] ys h k = k
+all_both n (x ∷ xs) ys h k = (h.0, all_both n xs ys h.1 k)
+
+pub all_rest : (n : ℕ) (xs : List Event) → AreFor n xs → AreFor n (drop 1 xs)
+all_rest n [] h = tt
+all_rest n (x ∷ xs) h = h.1
+
+pub homes_more : (n : ℕ) (e : Event) (ring more heap : List Event) → more ≡ insert event_before e ring → e.dst < n → AreFor n (ring ++ heap) → AreFor n (more ++ heap)
+homes_more n e ring more heap h d k =
+    all_both n more heap (subst (AreFor n) (sym h) (all-insert event_before (λ x. x.dst < n) e ring d (all_left n ring heap k))) (all_right n ring heap k)
+
+pub homes_heap_more : (n : ℕ) (ring : List Event) (x : Reverse Event) (xs ys : List (Reverse Event)) → IsPermutation (x ∷ xs) ys → x.0.dst < n → AreFor n (ring ++ heap_events xs) → AreFor n (ring ++ heap_events ys)
+homes_heap_more n ring x xs ys p d k =
+    all_both n ring (heap_events ys) (all_left n ring (heap_events xs) k) (homes_pushed n x xs ys p d (all_right n ring (heap_events xs) k))
+
+pub homes_ring_less : (n : ℕ) (ring less heap : List Event) → less ≡ drop 1 ring → AreFor n (ring ++ heap) → AreFor n (less ++ heap)
+homes_ring_less n ring less heap h k =
+    all_both n less heap (subst (AreFor n) (sym h) (all_rest n ring (all_left n ring heap k))) (all_right n ring heap k)
+
+pub homes_heap_less : (n : ℕ) (ring : List Event) (x : Reverse Event) (xs ys : List (Reverse Event)) → IsPermutation xs (x ∷ ys) → AreFor n (ring ++ heap_events xs) → (x.0.dst < n) × AreFor n (ring ++ heap_events ys)
+homes_heap_less n ring x xs ys p k =
+    let h = homes_popped n x xs ys p (all_right n ring (heap_events xs) k) in
+    (h.0, all_both n ring (heap_events ys) (all_left n ring (heap_events xs) k) h.1)
+
+first_is : (n : ℕ) (xs : List Event) (e : Event) → AreFor n xs → slice_get xs 0 ≡ Some e → e.dst < n
+first_is n [] e h k = absurd (none-some e k)
+first_is n (x ∷ xs) e h k = subst (λ d. d.dst < n) (same_some x e k) h.0
+
+-- the first of events that are for routers
+pub home_first : (n : ℕ) (xs : List Event) (e : Event) → AreFor n xs → slice_get (in_order event_before xs) 0 ≡ Some e → e.dst < n
+home_first n xs e h k = first_is n (in_order event_before xs) e (all-in_order event_before event_same (λ d. d.dst < n) xs h) k
+
+-- events in order make a queue
+pub queue_of_events : (n room : ℕ) (events : List Event) → AreFor n events → IsQueue (record { routers = n; events = in_order event_before events; room = room })
+queue_of_events n room events h = record {
+  rising = rising-in_order event_before event_same event_law events;
+  homes = all-in_order event_before event_same (λ e. e.dst < n) events h;
+}
+
+pub empty_heap : (items : List (Reverse Event)) → length items ≡ 0 → heap_events items ≡ []
+empty_heap [] h = refl
+empty_heap (x ∷ xs) h = absurd (omega arith)

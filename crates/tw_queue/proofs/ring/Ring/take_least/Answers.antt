@@ -1,0 +1,148 @@
+use Rattle.std.proofs.Common.{◌≡◌, ◌<◌, ◌≤◌, ◌+◌, ◌++◌, ℕ, None, List, [], drop, length, get_or, set, slice_get, refl, ap, sym, ◌∙◌, subst, arith, length-set}
+use Rattle.std.proofs.lemmas.List.{drop_all, get_or_read}
+use Rattle.tw_event.specs.declared.event.Event.{Event}
+use Rattle.tw_event.specs.Order.{event_before, event_same}
+use Rattle.tw_sim.specs.Ordered.{times}
+use Rattle.tw_sim.specs.Rising.{IsRising}
+use Rattle.tw_queue.specs.Buckets.{together}
+use Rattle.tw_queue.specs.InOrder.{in_order}
+use Rattle.tw_queue.specs.Ring.{hand_of}
+use Rattle.tw_queue.specs.Table.{never}
+use Rattle.tw_queue.proofs.Events.{event_law}
+use Rattle.tw_queue.proofs.Ordered.{rising-in_order}
+use Rattle.tw_queue.proofs.Rings.{begin_after, begin_alike, begin_begun, begin_early, begin_order, begin_placed, begin_row, begin_some}
+use Rattle.tw_queue.proofs.Rings.{drop_more, first_taken, none_left, read_left, rest_taken, rising_rest, some_left, times_rest}
+use Rattle.tw_queue.proofs.ring.Ring.take_least.Goals as goal
+
+-- what the bucket had is at hand
+taken_over : (lists : List (List Event)) (p : ℕ) (bucket : List Event) → bucket ≡ get_or lists p bucket → bucket ≡ get_or lists p [] → (hand : List Event)
+    → hand ≡ in_order event_before (get_or lists p bucket) → hand ≡ in_order event_before (get_or lists p [])
+taken_over lists p bucket is read hand h = h ∙ ap (in_order event_before) (sym is ∙ read)
+
+pub invariant_of-self : goal.invariant_of-self
+invariant_of-self c =
+    let a = c.self.inside in
+    let v = c.self.invariant in
+    let l : a.taken < length a.hand = subst (λ xs. a.taken < length xs) c.events.ensures c.in-Some.ensures.lookup.3.0 in
+    let next = drop_more a.taken a.hand in
+    record {
+      taken = omega arith;
+      rising = subst (λ xs. IsRising event_before event_same xs) (sym next) (rising_rest (hand_of a) v.rising);
+      begun = λ e there. v.begun e (times_rest e (hand_of a) (subst (λ xs. 0 < times event_same e xs) next there));
+      number = v.number;
+      placed = v.placed;
+      alike = v.alike;
+      row = v.row;
+      after = v.after;
+      early = v.early;
+    }
+
+pub returns-in-Some-clause-first : goal.returns-in-Some-clause-first
+returns-in-Some-clause-first c =
+    let a = c.self.inside in
+    let v = c.self.invariant in
+    let l : a.taken < length a.hand = subst (λ xs. a.taken < length xs) c.events.ensures c.in-Some.ensures.lookup.3.0 in
+    let read = c.in-Some.ensures.lookup.1 ∙ ap (λ xs. get_or xs a.taken c.in-Some.event.now) c.events.ensures in
+    read_left a.taken a.hand c.in-Some.event.now l read ∙ first_taken a.tick (together a.buckets) v.after (hand_of a) (some_left a.taken a.hand l) v.rising v.begun
+    ∙ ap (λ r. slice_get r 0) c.self.view_is
+
+pub returns-in-Some-clause-events : goal.returns-in-Some-clause-events
+returns-in-Some-clause-events c =
+    let a = c.self.inside in
+    let v = c.self.invariant in
+    let l : a.taken < length a.hand = subst (λ xs. a.taken < length xs) c.events.ensures c.in-Some.ensures.lookup.3.0 in
+    ap (λ hand. in_order event_before (hand ++ together a.buckets)) (drop_more a.taken a.hand)
+    ∙ rest_taken a.tick (together a.buckets) v.after (hand_of a) (some_left a.taken a.hand l) v.rising v.begun ∙ ap (drop 1) c.self.view_is
+
+-- the tick at hand is over: the rest is in the buckets
+later : (hand : List Event) (taken : ℕ) (lists : List (List Event)) (now : List Event) → length hand ≤ taken → in_order event_before (drop taken hand ++ together lists) ≡ now
+    → in_order event_before (together lists) ≡ now
+later hand taken lists now beyond h =
+    ap (λ xs. in_order event_before (xs ++ together lists)) (sym (drop_all taken hand beyond)) ∙ h
+
+over : (lists : List (List Event)) (now : List Event) → in_order event_before (together lists) ≡ now → together lists ≡ [] → now ≡ []
+unfolding in_order
+over lists now h none = sym h ∙ ap (in_order event_before) none
+
+pub returns-then-time-clause-first : goal.returns-then-time-clause-first
+returns-then-time-clause-first c =
+    let a = c.self.inside in
+    let v = c.self.invariant in
+    let place = c.first_place-place.ensures in
+    let beyond : length a.hand ≤ a.taken = subst (λ xs. length xs ≤ a.taken) c.events.ensures c.in_default.ensures.lookup.3 in
+    let none = none_left a.buckets v.number v.placed v.alike v.early a.times v.row c.first_place-place.result place.within place.least c.if-time.true in
+    ap (λ xs. slice_get xs 0) (sym (over a.buckets c.args.self.now (later a.hand a.taken a.buckets c.args.self.now beyond c.self.view_is) none))
+
+pub returns-then-time-clause-events : goal.returns-then-time-clause-events
+returns-then-time-clause-events c =
+    let a = c.self.inside in
+    let v = c.self.invariant in
+    let place = c.first_place-place.ensures in
+    let beyond : length a.hand ≤ a.taken = subst (λ xs. length xs ≤ a.taken) c.events.ensures c.in_default.ensures.lookup.3 in
+    let none = none_left a.buckets v.number v.placed v.alike v.early a.times v.row c.first_place-place.result place.within place.least c.if-time.true in
+    let z = over a.buckets c.args.self.now (later a.hand a.taken a.buckets c.args.self.now beyond c.self.view_is) none in
+    z ∙ ap (drop 1) (sym z)
+
+pub invariant_of-self-2 : goal.invariant_of-self-2
+invariant_of-self-2 c =
+    let a = c.self.inside in
+    let v = c.self.invariant in
+    let p = c.first_place-place.result in
+    let place = c.first_place-place.ensures in
+    let bucket = c.index-self-place.result in
+    let in_it : p < length a.buckets = omega (arith, place.within, v.number) in
+    let read = get_or_read a.buckets p bucket in_it c.index-self-place.is [] in
+    let filled = taken_over a.buckets p bucket c.index-self-place.is read c.take_over.new.self c.take_over.ensures.events in
+    let empty = c.take_over.ensures.empty in
+    let some = begin_some a.buckets v.number v.placed v.alike v.early a.times v.row p place.within place.least c.if-time.false in
+    rw (filled, empty) (record {
+      taken = omega (arith, some);
+      rising = rising_rest (in_order event_before (get_or a.buckets p [])) (rising-in_order event_before event_same event_law (get_or a.buckets p []));
+      begun = λ e there. begin_begun a.buckets v.number v.placed v.alike v.early a.times v.row p place.within place.least e (times_rest e (in_order event_before (get_or a.buckets p [])) there);
+      number = length-set a.buckets p [] ∙ v.number;
+      placed = begin_placed a.buckets v.number v.placed v.alike v.early a.times v.row p place.within place.least;
+      alike = begin_alike a.buckets v.number v.placed v.alike v.early a.times v.row p place.within place.least;
+      row = begin_row a.buckets v.number v.placed v.alike v.early a.times v.row p place.within place.least _ refl;
+      after = begin_after a.buckets v.number v.placed v.alike v.early a.times v.row p place.within place.least;
+      early = begin_early a.buckets v.number v.placed v.alike v.early a.times v.row p place.within place.least;
+    })
+
+pub returns-clause-first : goal.returns-clause-first
+returns-clause-first c =
+    let a = c.self.inside in
+    let v = c.self.invariant in
+    let p = c.first_place-place.result in
+    let place = c.first_place-place.ensures in
+    let bucket = c.index-self-place.result in
+    let in_it : p < length a.buckets = omega (arith, place.within, v.number) in
+    let read = get_or_read a.buckets p bucket in_it c.index-self-place.is [] in
+    let filled = taken_over a.buckets p bucket c.index-self-place.is read c.take_over.new.self c.take_over.ensures.events in
+    let some = begin_some a.buckets v.number v.placed v.alike v.early a.times v.row p place.within place.least c.if-time.false in
+    let beyond : length a.hand ≤ a.taken = subst (λ xs. length xs ≤ a.taken) c.events.ensures c.in_default.ensures.lookup.3 in
+    c.copied.ensures ∙ c.first.ensures.value ∙ ap (λ xs. slice_get xs 0) (c.events-2.ensures ∙ filled)
+    ∙ first_taken (get_or a.times p 0) (together (set a.buckets p []))
+    (begin_after a.buckets v.number v.placed v.alike v.early a.times v.row p place.within place.least)
+    (in_order event_before (get_or a.buckets p [])) some (rising-in_order event_before event_same event_law (get_or a.buckets p []))
+    (begin_begun a.buckets v.number v.placed v.alike v.early a.times v.row p place.within place.least)
+    ∙ ap (λ xs. slice_get xs 0) (begin_order a.buckets v.number v.placed v.alike v.early a.times v.row p place.within place.least
+    ∙ later a.hand a.taken a.buckets c.args.self.now beyond c.self.view_is)
+
+pub returns-clause-events : goal.returns-clause-events
+returns-clause-events c =
+    let a = c.self.inside in
+    let v = c.self.invariant in
+    let p = c.first_place-place.result in
+    let place = c.first_place-place.ensures in
+    let bucket = c.index-self-place.result in
+    let in_it : p < length a.buckets = omega (arith, place.within, v.number) in
+    let read = get_or_read a.buckets p bucket in_it c.index-self-place.is [] in
+    let filled = taken_over a.buckets p bucket c.index-self-place.is read c.take_over.new.self c.take_over.ensures.events in
+    let empty = c.take_over.ensures.empty in
+    let some = begin_some a.buckets v.number v.placed v.alike v.early a.times v.row p place.within place.least c.if-time.false in
+    let beyond : length a.hand ≤ a.taken = subst (λ xs. length xs ≤ a.taken) c.events.ensures c.in_default.ensures.lookup.3 in
+    rw (filled, empty) (rest_taken (get_or a.times p 0) (together (set a.buckets p []))
+    (begin_after a.buckets v.number v.placed v.alike v.early a.times v.row p place.within place.least)
+    (in_order event_before (get_or a.buckets p [])) some (rising-in_order event_before event_same event_law (get_or a.buckets p []))
+    (begin_begun a.buckets v.number v.placed v.alike v.early a.times v.row p place.within place.least)
+    ∙ ap (drop 1) (begin_order a.buckets v.number v.placed v.alike v.early a.times v.row p place.within place.least
+    ∙ later a.hand a.taken a.buckets c.args.self.now beyond c.self.view_is))

@@ -1,0 +1,180 @@
+// Events by time, for a run that takes the least of them again and again.
+ghost use Rattle.std.specs.Prelude.{ℕ, ◌≡◌, ◌<◌, ◌≤◌, ◌+◌, ◌++◌, ◌⊎◌, [], drop, length, slice_get, slice_index_or, OnOk};
+ghost use Rattle.std.specs.Bool.{OnFalse, OnTrue};
+ghost use Rattle.tw_event.specs.declared.event.Event.{Event};
+ghost use Rattle.tw_event.specs.Order.{event_before, event_same};
+ghost use Rattle.tw_queue.specs.Buckets.{together};
+ghost use Rattle.tw_queue.specs.Ring.{slot_at};
+ghost use Rattle.tw_queue.specs.Table.{never};
+ghost use Rattle.tw_sim.specs.Ordered.{insert, times};
+ghost use Rattle.tw_sim.specs.Rising.{IsRising};
+
+use crate::search::least_of;
+use crate::tick::Tick;
+use std::alloc::{AllocError, Global};
+use std::array;
+use std::marker::Model;
+use tw_event::Event;
+use tw_lanes::least_time;
+
+/// How many ticks have a bucket.
+const BUCKETS: u64 = 64;
+
+/// The events of a tick in order, and those of later ticks in buckets, a tick in each.
+///
+/// An event at time t, in ticks, is in the bucket with the number t mod 64. A row beside the buckets has
+/// their times, and `u64::MAX` for one that is empty.
+#[derive(Drop)]
+pub(crate) struct Ring {
+    hand: Tick,
+    taken: usize,
+    tick: u64,
+    buckets: [Tick; 64],
+    times: [u64; 64],
+}
+
+impl Model for Ring {
+    ghost use Rattle.std.specs.Prelude.{List};
+    ghost use Rattle.tw_event.specs.declared.event.Event.{Event};
+    ghost use Rattle.tw_queue.specs.Ring.{IsRing, ring_events};
+
+    ghost Value = { List Event };
+
+    ghost view = { ring_events };
+
+    ghost invariant = { IsRing };
+}
+
+impl Ring {
+    /// No events.
+    pub(crate) fn new(alloc: Global) -> Ring
+        ensures { result ≡ [] }
+    {
+        Ring {
+            hand: Tick::new(alloc),
+            taken: 0,
+            tick: 0,
+            buckets: array::from_fn(|_| Tick::new(alloc)),
+            times: [u64::MAX; 64],
+        }
+    }
+
+    /// Adds an event where it is later than the tick at hand, its bucket has no event of another tick, and
+    /// memory is not refused, and tells whether it did.
+    pub(crate) fn insert(&mut self, event: Event) -> bool
+        ensures added { OnTrue result (self.new ≡ insert event_before event self.old) }
+        ensures same { OnFalse result (self.new ≡ self.old) }
+    {
+        let time = event.time;
+        if !is_later(time, self.tick) {
+            return false;
+        }
+        let slot = slot_of(time);
+        if !is_free_for(time, self.times[slot]) {
+            return false;
+        }
+        if let Err(_) = self.buckets[slot].push(event) {
+            return false;
+        }
+        self.times[slot] = time;
+        true
+    }
+
+    /// The least event.
+    pub(crate) fn least(&self) -> Option<Event>
+        ensures { result ≡ slice_get self.now 0 }
+    {
+        match self.hand.events().get(self.taken) {
+            Some(event) => Some(*event),
+            None => least_of(None, self.buckets[first_place(&self.times)].events()),
+        }
+    }
+
+    /// How many events of the tick at hand are taken out. The events are in order.
+    pub(crate) fn taken(&self) -> usize
+        ensures { IsRising event_before event_same self.now }
+    {
+        self.taken
+    }
+
+    /// Takes out the least event.
+    pub(crate) fn take_least(&mut self) -> Option<Event>
+        ensures first { result ≡ slice_get self.old 0 }
+        ensures events { self.new ≡ drop 1 self.old }
+    {
+        if let Some(event) = self.hand.events().get(self.taken) {
+            let event = *event;
+            self.taken += 1;
+            return Some(event);
+        }
+        let place = first_place(&self.times);
+        let time = self.times[place];
+        if time == u64::MAX {
+            return None;
+        }
+        let bucket = &mut self.buckets[place];
+        self.hand.take_over(bucket);
+        self.taken = 1;
+        self.tick = time;
+        self.times[place] = u64::MAX;
+        self.hand.events().first().copied()
+    }
+
+    /// Puts its events at the end of a list.
+    pub(crate) fn append_to(&self, events: &mut Vec<Event>) -> Result<(), AllocError>
+        ensures ok { OnOk result ((e : Event) → times event_same e events.new.items ≡ times event_same e self.now + times event_same e events.old.items) }
+    {
+        append_left(self.hand.events(), self.taken, events)?;
+        append_all(&self.buckets, events)?;
+        Ok(())
+    }
+}
+
+// Puts the events that are not taken out at the end of a list.
+fn append_left(hand: &[Event], taken: usize, events: &mut Vec<Event>) -> Result<(), AllocError>
+    requires { taken ≤ length hand.now }
+    ensures { OnOk result (events.new.items ≡ events.old.items ++ drop taken hand.now) }
+{
+    events.extend_from_slice(&hand[taken..])?;
+    Ok(())
+}
+
+// Puts the events of buckets at the end of a list.
+fn append_all(buckets: &[Tick], events: &mut Vec<Event>) -> Result<(), AllocError>
+    ensures { OnOk result (events.new.items ≡ events.old.items ++ together buckets.now) }
+{
+    for bucket in buckets {
+        events.extend_from_slice(bucket.events())?;
+    }
+    Ok(())
+}
+
+// The number of the bucket for a time, in ticks.
+fn slot_of(time: u64) -> usize
+    ensures { result ≡ slot_at time }
+{
+    (time % BUCKETS) as usize
+}
+
+// Whether a time is later than a tick, and not the last one, which stands for no event.
+fn is_later(time: u64, tick: u64) -> bool
+    ensures { OnTrue result ((tick < time) × (time < never)) }
+{
+    tick < time && time < u64::MAX
+}
+
+// Whether a bucket with this time may take an event at `time`.
+fn is_free_for(time: u64, bucket: u64) -> bool
+    ensures { OnTrue result ((bucket ≡ time) ⊎ (bucket ≡ never)) }
+{
+    bucket == time || bucket == u64::MAX
+}
+
+// A place of the least of the times.
+fn first_place(times: &[u64; 64]) -> usize
+    ensures within { result < 64 }
+    ensures least { (k : ℕ) → k < 64 → slice_index_or times.now result 0 ≤ slice_index_or times.now k 0 }
+{
+    let least = least_time(times).unwrap();
+    times.iter().position(|other| *other == least).unwrap()
+}
