@@ -121,6 +121,7 @@ impl<'a> Worker<'a> {
         ensures work { IsAtWork self.old.stop self.old.share }
         ensures committed { OnOk result (self.new.share.shard.bound ≡ self.new.stop → HasCommitted self.new) }
         ensures settled { IsErrOf result leaving.Settled → ⊥ }
+        ensures halted { IsErrOf result leaving.Halted → ⊥ }
         ensures full { IsErrOf result leaving.CounterFull → (r : ℕ) × (handling self.new.stop self.new.share.shard r ≡ Err refusal.CounterFull) }
     {
         // What a worker keeps is told by a read of it.
@@ -140,6 +141,7 @@ impl<'a> Worker<'a> {
         ensures sorted { OnOk result (self.new.share.shard.outgoing ≡ []) }
         ensures stop { self.new.stop ≡ self.old.stop }
         ensures settled { IsErrOf result leaving.Settled → ⊥ }
+        ensures halted { IsErrOf result leaving.Halted → ⊥ }
         ensures full { IsErrOf result leaving.CounterFull → (r : ℕ) × (handling self.new.stop self.new.share.shard r ≡ Err refusal.CounterFull) }
     {
         match self.handle_some() {
@@ -157,6 +159,7 @@ impl<'a> Worker<'a> {
         ensures stop { self.new.stop ≡ self.old.stop }
         ensures committed { OnOk result (self.new.share.shard.bound ≡ self.new.stop → HasCommitted self.new) }
         ensures settled { IsErrOf result leaving.Settled → ⊥ }
+        ensures halted { IsErrOf result leaving.Halted → ⊥ }
         ensures full { IsErrOf result leaving.CounterFull → ⊥ }
     {
         if !self.pace.is_commit_due(self.shard.bound(), self.stop) {
@@ -177,6 +180,9 @@ fn leaving_after(meeting: Meeting, last: bool) -> Option<Leaving>
     ensures halted { result ≡ Some leaving.Halted → meeting ≡ meetings.Halted }
     ensures memory { result ≡ Some leaving.Memory → meeting ≡ meetings.Refused }
     ensures full { result ≡ Some leaving.CounterFull → ⊥ }
+    ensures leaves { meeting ≡ meetings.Settled → last ≡ true → result ≡ Some leaving.Settled }
+    ensures stops { meeting ≡ meetings.Halted → result ≡ Some leaving.Halted }
+    ensures refused { meeting ≡ meetings.Refused → result ≡ Some leaving.Memory }
 {
     match meeting {
         Meeting::Settled if last => Some(Leaving::Settled),
