@@ -44,10 +44,28 @@ impl Command for Trail {
         }
         let mut run = LoggedRun::new(alloc, case)?;
         run.run_to(self.stop)?;
-        let page = follow(alloc, &run, case, self.router, self.keep)?;
-        put_all(sink, page.bytes())?;
-        Ok(Status::Done)
+        write_trail(alloc, &run, case, *self, sink)
     }
+}
+
+/// Writes the trail of one router of a run that has come to its stop.
+fn write_trail<W: Sink>(
+    alloc: Global,
+    run: &LoggedRun<'_>,
+    case: &Case,
+    trail: Trail,
+    sink: &mut W,
+) -> Result<Status, Cause>
+    requires router { trail.router < case.now.net.nodes }
+    requires stop { trail.stop ≤ LATEST }
+    requires whole { run.now ≡ complete_run case.now trail.stop }
+    requires open { W.failed sink.old ≡ false }
+    ensures { Leaves result (trail_of trail.router trail.stop trail.keep case.now) (FollowGetsStuck trail.router trail.stop case.now)
+        (W.written sink.old) (W.written sink.new) (W.failed sink.new) }
+{
+    let page = follow(alloc, run, case, trail.router, trail.keep)?;
+    put_all(sink, page.bytes())?;
+    Ok(Status::Done)
 }
 
 /// Reads a case, runs it on one thread to the stop, in ticks, and lets one router handle its events of
