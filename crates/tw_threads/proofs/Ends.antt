@@ -1,0 +1,94 @@
+-- What is so once all workers have left.
+use Rattle.std.proofs.Common.{◌≡◌, ℕ, suc, zero, ◌<◌, ◌≤◌, List, [], ◌∷◌, Some, length, map, refl, ap, sym, ◌∙◌, subst, arith, slice_get}
+use Rattle.std.proofs.lemmas.Option.{none-some, same_Some, slice_get-map}
+use Rattle.std.specs.List.{AllByRecursion, AllZip}
+use Rattle.std.specs.Option.{option_map}
+use Rattle.tw_table.specs.Seats.{IsSeatOf, bound_at, share_at, stop_at}
+use Rattle.tw_table.specs.Shares.{Share}
+use Rattle.tw_table.specs.declared.seat.Seat.{Seat}
+use Rattle.tw_table.specs.declared.table.Table.{Table}
+use Rattle.tw_threads.specs.Left.{HasLeft, IsFull, IsFullAhead}
+use Rattle.tw_threads.specs.Started.{IsSomeFull}
+
+mapped : {A B C : Type 0} (f : A → B) (g : B → C) (xs : List A) → map (λ x. g (f x)) xs ≡ map g (map f xs)
+mapped f g [] = refl
+mapped f g (x ∷ xs) = ap (λ ys. g (f x) ∷ ys) (mapped f g xs)
+
+all_get : {X : Type 0} (P : X → Type 0) (xs : List X) (i : ℕ) (x : X) → AllByRecursion P xs → slice_get xs i ≡ Some x → P x
+all_get P [] i x h e = absurd (none-some x e)
+all_get P (y ∷ xs) zero x h e = subst P (same_Some y x e) h.0
+all_get P (y ∷ xs) (suc i) x h e = all_get P xs i x h.1 e
+
+-- what holds of seats before and so of those after
+all_after : (t : Table) (P Q : Seat → Type 0) → ((s u : Seat) → HasLeft t s u → P s → Q u) → (before after : List Seat) → AllZip (HasLeft t) before after
+    → AllByRecursion P before → AllByRecursion Q after
+all_after t P Q f [] [] h p = tt
+all_after t P Q f [] (u ∷ after) h p = absurd h
+all_after t P Q f (s ∷ before) [] h p = absurd h
+all_after t P Q f (s ∷ before) (u ∷ after) h p = (f s u h.0 p.0, all_after t P Q f before after h.1 p.1)
+
+map_after : {A : Type 0} (t : Table) (f : Seat → A) → ((s u : Seat) → HasLeft t s u → f u ≡ f s) → (before after : List Seat) → AllZip (HasLeft t) before after
+    → map f after ≡ map f before
+map_after t f same [] [] h = refl
+map_after t f same [] (u ∷ after) h = absurd h
+map_after t f same (s ∷ before) [] h = absurd h
+map_after t f same (s ∷ before) (u ∷ after) h = λ i. same s u h.0 i ∷ map_after t f same before after h.1 i
+
+pub seats_after : (t : Table) (before after : List Seat) → AllZip (HasLeft t) before after → AllByRecursion (IsSeatOf t) after
+seats_after t [] [] h = tt
+seats_after t [] (u ∷ after) h = absurd h
+seats_after t (s ∷ before) [] h = absurd h
+seats_after t (s ∷ before) (u ∷ after) h = (h.0.seat, seats_after t before after h.1)
+
+pub as_many : (t : Table) (before after : List Seat) → AllZip (HasLeft t) before after → length after ≡ length before
+as_many t [] [] h = refl
+as_many t [] (u ∷ after) h = absurd h
+as_many t (s ∷ before) [] h = absurd h
+as_many t (s ∷ before) (u ∷ after) h = ap suc (as_many t before after h.1)
+
+-- what a shard keeps, all workers keep
+pub workers_keep : {W A : Type 0} (share : W → Share) (f : Share → A) (t : Table) (before after : List Seat) (were are : List W)
+    → ((s u : Seat) → HasLeft t s u → f (share_at u) ≡ f (share_at s)) → AllZip (HasLeft t) before after
+    → map share_at before ≡ map share were → map share_at after ≡ map share are → map (λ w. f (share w)) are ≡ map (λ w. f (share w)) were
+workers_keep share f t before after were are same left old now =
+    mapped share f are ∙ (ap (map f) (sym now) ∙ (sym (mapped share_at f after) ∙ (map_after t (λ s. f (share_at s)) same before after left
+    ∙ (mapped share_at f before ∙ (ap (map f) old ∙ sym (mapped share f were))))))
+
+pub stops_after : (t : Table) (stop : ℕ) (before after : List Seat) → AllZip (HasLeft t) before after → AllByRecursion (λ s. stop_at s ≡ stop) before
+    → AllByRecursion (λ s. stop_at s ≡ stop) after
+stops_after t stop before after left h = all_after t (λ s. stop_at s ≡ stop) (λ s. stop_at s ≡ stop) (λ s u is e. is.stop ∙ e) before after left h
+
+bounds_after : (t : Table) (bound : ℕ) (before after : List Seat) → AllZip (HasLeft t) before after → AllByRecursion (λ s. bound ≤ bound_at s) before
+    → AllByRecursion (λ s. bound ≤ bound_at s) after
+bounds_after t bound before after left h = all_after t (λ s. bound ≤ bound_at s) (λ s. bound ≤ bound_at s) (λ s u is e. omega (arith, is.bound, e)) before after left h
+
+-- what the first seat knows, where all know it
+pub first_stop : (stop n : ℕ) (seats : List Seat) → 0 < length seats → ((s : Seat) → slice_get seats 0 ≡ Some s → n ≡ stop_at s) → AllByRecursion (λ s. stop_at s ≡ stop) seats
+    → n ≡ stop
+first_stop stop n [] some told h = absurd (omega arith)
+first_stop stop n (s ∷ seats) some told h = told s refl ∙ h.0
+
+first_bound : (bound n : ℕ) (seats : List Seat) → 0 < length seats → ((s : Seat) → slice_get seats 0 ≡ Some s → bound_at s ≤ n) → AllByRecursion (λ s. bound ≤ bound_at s) seats
+    → bound ≤ n
+first_bound bound n [] some told h = absurd (omega arith)
+first_bound bound n (s ∷ seats) some told h = omega (arith, told s refl, h.0)
+
+pub bound_after : (t : Table) (bound n : ℕ) (before after : List Seat) → AllZip (HasLeft t) before after → 0 < length after
+    → ((s : Seat) → slice_get after 0 ≡ Some s → bound_at s ≤ n) → AllByRecursion (λ s. bound ≤ bound_at s) before → bound ≤ n
+bound_after t bound n before after left some told h = first_bound bound n after some told (bounds_after t bound before after left h)
+
+pub stop_after : (t : Table) (stop n : ℕ) (before after : List Seat) → AllZip (HasLeft t) before after → 0 < length after
+    → ((s : Seat) → slice_get after 0 ≡ Some s → n ≡ stop_at s) → AllByRecursion (λ s. stop_at s ≡ stop) before → n ≡ stop
+stop_after t stop n before after left some told h = first_stop stop n after some told (stops_after t stop before after left h)
+
+-- a full counter of a worker, told of the workers' shares
+pub full_after : {W : Type 0} (share : W → Share) (t : Table) (stop : ℕ) (before after : List Seat) (are : List W) → AllZip (HasLeft t) before after
+    → map share_at after ≡ map share are → AllByRecursion (λ s. stop_at s ≡ stop) before → IsSomeFull after → IsFullAhead stop (map share are)
+full_after share t stop before after are left now stops h =
+    let same : stop_at h.seat ≡ stop = all_get (λ s. stop_at s ≡ stop) after h.at h.seat (stops_after t stop before after left stops) h.there in
+    subst (IsFullAhead stop) now record {
+      at = h.at;
+      share = share_at h.seat;
+      there = slice_get-map share_at after h.at ∙ ap (option_map share_at) h.there;
+      full = subst (λ n. IsFull n (share_at h.seat).shard) same h.full;
+    }

@@ -1,0 +1,124 @@
+-- Workers that are joined one after the other.
+use Rattle.std.proofs.Common.{◌≡◌, ◌⊎◌, inl, inr, ℕ, suc, zero, List, [], ◌∷◌, ◌++◌, Option, Some, None, length, map, refl, ap, sym, ◌∙◌, subst, append_assoc, arith, slice_get}
+use Rattle.std.proofs.lemmas.List.{append-nil, map-append}
+use Rattle.std.proofs.lemmas.Option.{none-some, same_Some}
+use Rattle.std.specs.List.{AllByRecursion, AllZip}
+use Rattle.tw_table.specs.Seats.{IsSeatOf, share_at}
+use Rattle.tw_table.specs.Shares.{Share}
+use Rattle.tw_table.specs.declared.seat.Seat.{Seat}
+use Rattle.tw_table.specs.declared.table.Table.{Table}
+use Rattle.tw_threads.specs.Left.{HasLeft, IsFull, IsLeft}
+use Rattle.tw_threads.specs.Started.{HaveLeft, IsSomeFull, IsStarted}
+use Rattle.tw_threads.specs.declared.joining.Cause.{Cause}
+use Rattle.tw_threads.specs.declared.joining.Cause.TheVariants as cause
+use Rattle.tw_threads.specs.declared.starting.Started.{Started}
+use Rattle.tw_threads.specs.declared.gate.Leaving.{Leaving}
+use Rattle.tw_threads.specs.declared.gate.Leaving.TheVariants as leaving
+
+module _ {X : Type 0} where
+  -- an element is where it was
+  pub get_left : (xs ys : List X) (i : ℕ) (x : X) → slice_get xs i ≡ Some x → slice_get (xs ++ ys) i ≡ Some x
+  get_left [] ys i x e = absurd (none-some _ e)
+  get_left (y ∷ xs) ys zero x e = e
+  get_left (y ∷ xs) ys (suc i) x e = get_left xs ys i x e
+
+  -- and one more is at the end
+  pub get_last : (xs : List X) (x : X) → slice_get (xs ++ x ∷ []) (length xs) ≡ Some x
+  get_last [] x = refl
+  get_last (y ∷ xs) x = get_last xs x
+
+other_cause : cause.Memory ≡ cause.CounterFull → ⊥
+other_cause e = grind (arith, e)
+
+one_cause : cause.NoThread ≡ cause.CounterFull → ⊥
+one_cause e = grind (arith, e)
+
+module _ {W : Type 0} (share : W → Share) where
+  -- these workers are still to be joined, and those before them have left
+  pub record AreJoined (t : Table) (before : List Seat) (rest : List (Started W)) (workers : List W) (seats : List Seat) (why : Option Cause) : Type 0 where
+    pub waiting : List Seat
+    pub each : AllZip (IsStarted share t) waiting rest
+    pub left : (more : List Seat) → AllZip (HasLeft t) waiting more → AllZip (HasLeft t) before (seats ++ more)
+    pub shares : map share_at seats ≡ map share workers
+    pub full : why ≡ Some cause.CounterFull → IsSomeFull seats
+
+  pub none_joined : (t : Table) (before : List Seat) (rest : List (Started W)) → AllZip (IsStarted share t) before rest → AreJoined t before rest [] [] None
+  none_joined t before rest each = record {
+    waiting = before;
+    each = each;
+    left = λ more h. h;
+    shares = refl;
+    full = λ e. absurd (none-some _ e);
+  }
+
+  -- one that was full before is so after
+  more_full : (seats more : List Seat) → IsSomeFull seats → IsSomeFull (seats ++ more)
+  more_full seats more h = record { at = h.at; seat = h.seat; there = get_left seats more h.at h.seat h.there; full = h.full }
+
+  next_full : (t : Table) (before : Seat) (seats : List Seat) (s : Share) (seat : Seat) (reason : Leaving) (why later : Option Cause) → IsLeft s t before seat reason
+      → (later ≡ Some cause.CounterFull → (why ≡ Some cause.CounterFull) ⊎ (reason ≡ leaving.CounterFull))
+      → (why ≡ Some cause.CounterFull → IsSomeFull seats) → later ≡ Some cause.CounterFull → IsSomeFull (seats ++ seat ∷ [])
+  next_full t before seats s seat reason why later is told full now =
+      elim (told now) [
+        | inl e ↦ more_full seats (seat ∷ []) (full e)
+        | inr e ↦ record { at = length seats; seat = seat; there = get_last seats seat; full = is.full e }
+      ]
+
+  next_joined : (t : Table) (before waiting : List Seat) (one : Started W) (rest : List (Started W)) (workers : List W) (seats : List Seat) (why : Option Cause)
+      (w : W) (seat : Seat) (reason : Leaving) (later : Option Cause)
+      → AllZip (IsStarted share t) waiting (one ∷ rest)
+      → ((more : List Seat) → AllZip (HasLeft t) waiting more → AllZip (HasLeft t) before (seats ++ more))
+      → map share_at seats ≡ map share workers
+      → (why ≡ Some cause.CounterFull → IsSomeFull seats)
+      → ((s : Seat) → IsStarted share t s one → IsLeft (share w) t s seat reason)
+      → (later ≡ Some cause.CounterFull → (why ≡ Some cause.CounterFull) ⊎ (reason ≡ leaving.CounterFull))
+      → AreJoined t before rest (workers ++ w ∷ []) (seats ++ seat ∷ []) later
+  next_joined t before [] one rest workers seats why w seat reason later each left shares full is told = absurd each
+  next_joined t before (s ∷ waiting) one rest workers seats why w seat reason later each left shares full is told =
+    let mine : IsLeft (share w) t s seat reason = is s each.0 in
+    record {
+      waiting = waiting;
+      each = each.1;
+      left = λ more h. subst (AllZip (HasLeft t) before) (sym (append_assoc seats (seat ∷ []) more)) (left (seat ∷ more) (mine.left, h));
+      shares = map-append share_at seats (seat ∷ []) ∙ ((λ i. shares i ++ mine.share i ∷ []) ∙ sym (map-append share workers (w ∷ [])));
+      full = next_full t s seats (share w) seat reason why later mine told full;
+    }
+
+  pub one_joined : (t : Table) (before : List Seat) (one : Started W) (rest : List (Started W)) (workers next : List W) (seats after : List Seat) (why : Option Cause)
+      (w : W) (seat : Seat) (reason : Leaving) (later : Option Cause)
+      → AreJoined t before (one ∷ rest) workers seats why
+      → next ≡ workers ++ w ∷ [] → after ≡ seats ++ seat ∷ []
+      → ((s : Seat) → IsStarted share t s one → IsLeft (share w) t s seat reason)
+      → (later ≡ Some cause.CounterFull → (why ≡ Some cause.CounterFull) ⊎ (reason ≡ leaving.CounterFull))
+      → AreJoined t before rest next after later
+  one_joined t before one rest workers next seats after why w seat reason later h to too is told =
+    subst (λ ws. AreJoined t before rest ws after later) (sym to)
+    (subst (λ ss. AreJoined t before rest (workers ++ w ∷ []) ss later) (sym too)
+    (next_joined t before h.waiting one rest workers seats why w seat reason later h.each h.left h.shares h.full is told))
+
+  all_waited : (t : Table) (before waiting seats : List Seat) → AllZip (IsStarted share t) waiting []
+      → ((more : List Seat) → AllZip (HasLeft t) waiting more → AllZip (HasLeft t) before (seats ++ more)) → AllZip (HasLeft t) before seats
+  all_waited t before [] seats each left = subst (AllZip (HasLeft t) before) (append-nil seats) (left [] tt)
+  all_waited t before (s ∷ waiting) seats each left = absurd each
+
+  pub all_joined : (t : Table) (before : List Seat) (workers : List W) (seats : List Seat) (why : Option Cause) → AreJoined t before [] workers seats why
+      → HaveLeft share t before seats workers why
+  all_joined t before workers seats why h = record { left = all_waited t before h.waiting seats h.each h.left; shares = h.shares; full = h.full }
+
+  stay : (t : Table) (seats : List Seat) → AllByRecursion (IsSeatOf t) seats → AllZip (HasLeft t) seats seats
+  stay t [] h = tt
+  stay t (s ∷ seats) h = (record { seat = h.0; stop = refl; bound = omega arith; case = refl; worker = refl; workers = refl }, stay t seats h.1)
+
+  -- workers that took no turn have left as they were
+  pub have_stayed : (t : Table) (before after : List Seat) (were are : List W) (why : Option Cause) → after ≡ before → are ≡ were → why ≡ Some cause.Memory
+      → AllByRecursion (IsSeatOf t) before → map share_at before ≡ map share were → HaveLeft share t before after are why
+  have_stayed t before after were are why seats workers is mine shares = record {
+    left = subst (AllZip (HasLeft t) before) (sym seats) (stay t before mine);
+    shares = ap (map share_at) seats ∙ (shares ∙ ap (map share) (sym workers));
+    full = λ e. absurd (other_cause (same_Some _ _ (sym is ∙ e)));
+  }
+
+  -- a run that lacks a thread tells nothing else
+  pub with_no_thread : (t : Table) (before after : List Seat) (workers : List W) (why : Option Cause) → HaveLeft share t before after workers why
+      → HaveLeft share t before after workers (Some cause.NoThread)
+  with_no_thread t before after workers why h = record { left = h.left; shares = h.shares; full = λ e. absurd (one_cause (same_Some _ _ e)) }

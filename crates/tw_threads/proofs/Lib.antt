@@ -1,0 +1,3 @@
+mod Starts
+mod Joins
+mod Ends

@@ -1,0 +1,24 @@
+use Rattle.std.proofs.Common.{ap}
+use Rattle.tw_threads.proofs.Joins.{have_stayed, with_no_thread}
+use Rattle.tw_threads.proofs.running.gather.Goals as goal
+
+pub returns-in_default : goal.returns-in_default
+returns-in_default g c =
+    let told = c.unchanged.ensures in
+    have_stayed g.W.Work.share _ _ _ _ _ _ (ap (λ v. v.items) told.seats) (ap (λ v. v.items) told.workers) told.cause c.requires.seats c.requires.shares
+
+pub returns-in_default-with_capacity : goal.returns-in_default-with_capacity
+returns-in_default-with_capacity g c =
+    let told = c.unchanged-in_default-with_capacity.ensures in
+    have_stayed g.W.Work.share _ _ _ _ _ _ (ap (λ v. v.items) told.seats) (ap (λ v. v.items) told.workers) told.cause c.requires.seats c.requires.shares
+
+pub returns-in_default-with_capacity-2 : goal.returns-in_default-with_capacity-2
+returns-in_default-with_capacity-2 g c =
+    let told = c.unchanged-in_default-with_capacity-2.ensures in
+    have_stayed g.W.Work.share _ _ _ _ _ _ (ap (λ v. v.items) told.seats) (ap (λ v. v.items) told.workers) told.cause c.requires.seats c.requires.shares
+
+pub returns-then-into_inner : goal.returns-then-into_inner
+returns-then-into_inner g c = with_no_thread g.W.Work.share _ _ _ _ _ (c.join_all-gathered.ensures c.args.table.now c.args.seats.items c.scoped-started.ensures.1.started)
+
+pub returns-else-into_inner : goal.returns-else-into_inner
+returns-else-into_inner g c = c.join_all-gathered.ensures c.args.table.now c.args.seats.items c.scoped-started.ensures.1.started

@@ -1,0 +1,38 @@
+-- How workers leave a table (own).
+use Rattle.std.specs.Prelude.{ℕ, ◌≡◌, ◌≤◌, Err, List, Some, map, slice_get}
+use Rattle.std.specs.List.{AllZip}
+use Rattle.tw_core.specs.declared.refusal.Refusal.TheVariants as refusal
+use Rattle.tw_shard.specs.Shard.{Shard, handling}
+use Rattle.tw_table.specs.Seats.{IsSeatOf, bound_at, share_at, stop_at}
+use Rattle.tw_table.specs.Shares.{Share}
+use Rattle.tw_table.specs.declared.seat.Seat.{Seat}
+use Rattle.tw_table.specs.declared.table.Table.{Table}
+use Rattle.tw_threads.specs.declared.gate.Leaving.{Leaving}
+use Rattle.tw_threads.specs.declared.gate.Leaving.TheVariants.{CounterFull}
+
+-- the seat that a worker had at a table, and the one that it leaves
+pub record HasLeft (t : Table) (before after : Seat) : Type 0 where
+  pub seat : IsSeatOf t after
+  pub stop : stop_at after ≡ stop_at before
+  pub bound : bound_at before ≤ bound_at after
+  -- its shard is of the same case and the same worker
+  pub case : (share_at after).shard.case ≡ (share_at before).shard.case
+  pub worker : (share_at after).shard.worker ≡ (share_at before).shard.worker
+  pub workers : (share_at after).shard.workers ≡ (share_at before).shard.workers
+
+-- a counter of one of a shard's routers would pass its limit at its next event
+abbrev pub IsFull : ℕ → Shard → Type 0
+IsFull stop shard = (r : ℕ) × (handling stop shard r ≡ Err refusal.CounterFull)
+
+-- a worker with this share has left so, for this reason
+pub record IsLeft (s : Share) (t : Table) (before after : Seat) (why : Leaving) : Type 0 where
+  pub left : HasLeft t before after
+  pub share : share_at after ≡ s
+  pub full : why ≡ CounterFull → IsFull (stop_at after) (share_at after).shard
+
+-- one of these shares has a router whose counter would pass its limit
+pub record IsFullAhead (stop : ℕ) (shares : List Share) : Type 0 where
+  pub at : ℕ
+  pub share : Share
+  pub there : slice_get shares at ≡ Some share
+  pub full : IsFull stop share.shard

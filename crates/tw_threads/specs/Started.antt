@@ -1,0 +1,31 @@
+-- Workers that were started, and what all of them leave (own).
+use Rattle.std.specs.Prelude.{ℕ, ◌≡◌, List, Option, Some, map, slice_get}
+use Rattle.std.specs.List.{AllZip}
+use Rattle.tw_table.specs.Seats.{share_at, stop_at}
+use Rattle.tw_table.specs.Shares.{Share}
+use Rattle.tw_table.specs.declared.seat.Seat.{Seat}
+use Rattle.tw_table.specs.declared.table.Table.{Table}
+use Rattle.tw_threads.specs.Left.{HasLeft, IsFull, IsLeft}
+use Rattle.tw_threads.specs.declared.joining.Cause.{Cause}
+use Rattle.tw_threads.specs.declared.joining.Cause.TheVariants as cause
+use Rattle.tw_threads.specs.declared.starting.Started.{Started}
+use Rattle.tw_threads.specs.declared.starting.Started.TheVariants.{Here, Running}
+
+-- some of these seats is of a worker that has a full counter
+pub record IsSomeFull (seats : List Seat) : Type 0 where
+  pub at : ℕ
+  pub seat : Seat
+  pub there : slice_get seats at ≡ Some seat
+  pub full : IsFull (stop_at seat) (share_at seat).shard
+
+module _ {W : Type 0} (share : W → Share) where
+  -- the worker of a seat was started: its thread promises what it leaves, or it has left
+  abbrev pub IsStarted : Table → Seat → Started W → Type 0
+  IsStarted t s (Running h) = (h.promise.table.value ≡ t) × (h.promise.seat.value ≡ s)
+  IsStarted t s (Here l) = IsLeft (share l.worker) t s l.seat l.why
+
+  -- the workers of these seats have left those seats, and why
+  pub record HaveLeft (t : Table) (before after : List Seat) (workers : List W) (why : Option Cause) : Type 0 where
+    pub left : AllZip (HasLeft t) before after
+    pub shares : map share_at after ≡ map share workers
+    pub full : why ≡ Some cause.CounterFull → IsSomeFull after

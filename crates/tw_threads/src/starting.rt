@@ -1,0 +1,150 @@
+//! The threads of workers are started.
+ghost use Rattle.std.specs.Prelude.{◌≡◌, ◌≤◌, [], length, map, vec_capacity, vec_len};
+ghost use Rattle.std.specs.List.{AllByRecursion, AllZip};
+ghost use Rattle.tw_table.specs.Seats.{IsSeatOf, share_at, stop_at};
+ghost use Rattle.tw_threads.specs.Left.{IsLeft};
+ghost use Rattle.tw_threads.specs.Started.{IsStarted};
+
+use crate::work::Work;
+use std::snapshot::Snapshot;
+use std::sync::Wait;
+use std::sync::atomic::{AtomicBool, Ordering};
+use std::thread::{Promise, PromisedHandle, Scope, Threads};
+use tw_table::{Seat, Table};
+use crate::gate::{Gate, Leaving};
+
+/// What a worker leaves.
+#[derive(Drop)]
+pub(crate) struct Left<W> {
+    pub(crate) worker: W,
+    pub(crate) seat: Seat,
+    pub(crate) why: Leaving,
+}
+
+/// That a worker leaves the seat that it had at a table.
+#[derive(Drop)]
+pub(crate) struct Leaves {
+    pub(crate) table: Snapshot<Table>,
+    pub(crate) seat: Snapshot<Seat>,
+}
+
+impl<W: Work> Promise<Left<W>> for Leaves {
+    ghost kept_by = { λ p l. IsLeft (W.share l.worker) p.table.value p.seat.value l.seat l.why };
+}
+
+/// A worker that was started.
+#[derive(Drop)]
+pub(crate) enum Started<W: Work> {
+    /// In a thread.
+    Running(PromisedHandle<Left<W>, Leaves>),
+    /// Its thread was refused, and it has left.
+    Here(Left<W>),
+}
+
+/// A thread for each of these workers, who have these seats. Where one is refused, its worker leaves, and
+/// so do those that have not taken a turn yet. The list is empty, with room for all.
+pub(crate) fn start_all<
+    's,
+    E,
+    W: Work + Send + Drop + 's,
+    G: Gate + Sync + 's,
+    R: Threads + Wait + Sync + 's,
+>(
+    scope: &'s Scope<'s, E>,
+    rt: &'s R,
+    table: &'s Table,
+    gate: &'s G,
+    refused: &'s AtomicBool,
+    workers: Vec<W>,
+    seats: Vec<Seat>,
+    started: Vec<Started<W>>,
+) -> Vec<Started<W>>
+    requires empty { started.items ≡ [] }
+    requires room { length workers.items ≤ vec_capacity started }
+    requires seats { AllByRecursion (IsSeatOf table.now) seats.items }
+    requires shares { map share_at seats.items ≡ map W.share workers.items }
+    requires stops { map stop_at seats.items ≡ map W.stop workers.items }
+    ensures count { vec_len result ≡ vec_len workers }
+    ensures started { AllZip (IsStarted W.share table.now) seats.items result.items }
+{
+    let mut started = started;
+    let mut seats = seats.into_iter();
+    for worker in workers {
+        let Some(seat) = seats.next() else {
+            unreachable!()
+        };
+        let one = start(scope, rt, table, gate, refused, worker, seat);
+        started.push_reserved(one);
+    }
+    started
+}
+
+/// A thread for a worker. Where it is refused, all workers are told so, and this one leaves.
+fn start<
+    's,
+    E,
+    W: Work + Send + Drop + 's,
+    G: Gate + Sync + 's,
+    R: Threads + Wait + Sync + 's,
+>(
+    scope: &'s Scope<'s, E>,
+    rt: &'s R,
+    table: &'s Table,
+    gate: &'s G,
+    refused: &'s AtomicBool,
+    worker: W,
+    seat: Seat,
+) -> Started<W>
+    requires seat { IsSeatOf table.now seat }
+    requires share { share_at seat ≡ W.share worker }
+    requires stop { stop_at seat ≡ W.stop worker }
+    ensures { IsStarted W.share table.now seat result }
+{
+    let promise = Leaves {
+        table: Snapshot::of(table),
+        seat: Snapshot::of(&seat),
+    };
+    let turns = move || -> Left<W>
+        requires seat { IsSeatOf table.now seat }
+        requires share { share_at seat ≡ W.share worker }
+        requires stop { stop_at seat ≡ W.stop worker }
+        ensures { IsLeft (W.share result.worker) table.entry.now seat result.seat result.why }
+    {
+        run(rt, table, gate, refused, worker, seat)
+    };
+    match scope.spawn_with(promise, turns) {
+        Ok(handle) => Started::Running(handle),
+        Err(back) => {
+            refused.store(true, Ordering::SeqCst);
+            let turns = back.value;
+            Started::Here(turns())
+        }
+    }
+}
+
+/// A worker takes its turns, or leaves at once where a thread was refused.
+fn run<W: Work, G: Gate, R: Wait>(
+    rt: &R,
+    table: &Table,
+    gate: &G,
+    refused: &AtomicBool,
+    worker: W,
+    seat: Seat,
+) -> Left<W>
+    requires seat { IsSeatOf table.now seat }
+    requires share { share_at seat ≡ W.share worker }
+    requires stop { stop_at seat ≡ W.stop worker }
+    ensures { IsLeft (W.share result.worker) table.now seat result.seat result.why }
+{
+    let mut worker = worker;
+    if refused.load(Ordering::SeqCst) {
+        let seat = worker.leave(rt, table, seat);
+        return Left {
+            worker,
+            seat,
+            why: Leaving::Halted,
+        };
+    }
+    let (seat, why) = worker.work(rt, table, gate, seat);
+    Left { worker, seat, why }
+}

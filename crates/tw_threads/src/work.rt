@@ -1,0 +1,41 @@
+ghost use Rattle.std.specs.Prelude.{◌≡◌, ℕ};
+ghost use Rattle.tw_table.specs.Seats.{IsSeatOf, share_at, stop_at};
+ghost use Rattle.tw_table.specs.Shares.{Share};
+ghost use Rattle.tw_threads.specs.Left.{HasLeft, IsFull};
+ghost use Rattle.tw_threads.specs.declared.gate.Leaving.TheVariants.{CounterFull};
+
+use std::sync::Wait;
+use tw_table::{Seat, Table};
+use crate::gate::{Gate, Leaving};
+
+/// A worker, as a thread knows it.
+pub trait Work {
+    ghost share: { Self → Share };
+
+    ghost stop: { Self → ℕ };
+
+    /// It takes turns until it may take no further one, and it is answered why. The seat is its own, at this
+    /// table, and what it gave there last it still has.
+    fn work<G: Gate, R: Wait>(
+        &mut self,
+        rt: &R,
+        table: &Table,
+        gate: &G,
+        seat: Seat,
+    ) -> (Seat, Leaving)
+        requires seat { IsSeatOf table.now seat }
+        requires share { share_at seat ≡ share self.old }
+        requires stop { stop_at seat ≡ stop self.old }
+        ensures left { HasLeft table.now seat result.0 }
+        ensures share { share_at result.0 ≡ share self.new }
+        ensures full { result.1 ≡ CounterFull → IsFull (stop_at result.0) (share_at result.0).shard };
+
+    /// It takes no turn, and tells all workers to take no further one. The seat is its own, at this table, and
+    /// what it gave there last it still has.
+    fn leave<R: Wait>(&self, rt: &R, table: &Table, seat: Seat) -> Seat
+        requires seat { IsSeatOf table.now seat }
+        requires share { share_at seat ≡ share self.now }
+        requires stop { stop_at seat ≡ stop self.now }
+        ensures left { HasLeft table.now seat result }
+        ensures share { share_at result ≡ share self.now };
+}
