@@ -1,5 +1,5 @@
 -- Seats that become one.
-use Rattle.std.proofs.Common.{◌≡◌, ℕ, ◌+◌, ◌<◌, false, List, [], ◌∷◌, ◌++◌, length, map, refl, ap, sym, ◌∙◌, subst, append_assoc, arith}
+use Rattle.std.proofs.Common.{◌≡◌, ℕ, ◌+◌, ◌<◌, false, List, [], ◌∷◌, ◌++◌, Some, length, map, slice_get, refl, ap, sym, ◌∙◌, subst, append_assoc, arith}
 use Rattle.crossbeam_queue.specs.Passes.{IsPassOf, IsSamePass, Pass, view}
 use Rattle.std.proofs.lemmas.List.{length-append}
 use Rattle.std.specs.List.{AllByRecursion}
@@ -10,7 +10,7 @@ use Rattle.tw_table.proofs.Views.{nil_right}
 use Rattle.tw_table.specs.declared.rule.View.{View}
 use Rattle.tw_table.specs.declared.seat.Seat.{Seat}
 use Rattle.tw_table.specs.declared.table.Table.{Table}
-use Rattle.tw_table.specs.Seats.{IsSeatOf, share_at}
+use Rattle.tw_table.specs.Seats.{IsSeatOf, bound_at, share_at, stop_at}
 use Rattle.tw_table.specs.Shares.{IsRuled, IsWhole, Share, no_share}
 use Rattle.tw_table.specs.Views.{IsMet, Knows, joined}
 
@@ -32,6 +32,8 @@ pub record IsJoined (t : Table) (all : List Seat) (p : Pass Board View) (left : 
   pub shares : (view p).shares ++ map share_at left ≡ map share_at all
   pub seats : AllByRecursion (IsSeatOf t) left
   pub len : length left ≡ n
+  -- it knows what the first of all knows
+  pub first : (s : Seat) → slice_get all 0 ≡ Some s → ((view p).stop ≡ stop_at s) × ((view p).seen ≡ bound_at s)
 
 pub joins_first : (t : Table) (all : List Seat) (s : Seat) (left : List Seat) (n : ℕ) → all ≡ s ∷ left → length all ≡ n + 1 → AllByRecursion (IsSeatOf t) all
     → IsJoined t all s.pass left n
@@ -46,6 +48,10 @@ joins_first t all s left n is long seats =
       shares = ap (λ ss. ss ++ map share_at left) (only_share s) ∙ ap (map share_at) (sym is);
       seats = each.1;
       len = (let l = ap length is in omega arith);
+      first = λ u there.
+          let at : slice_get all 0 ≡ Some s = ap (λ l. slice_get l 0) is in
+          let same : s ≡ u = cc in
+          (ap stop_at same, s.waits.seen ∙ ap bound_at same);
     }
 
 pub joins_next : (t : Table) (all : List Seat) (p q : Pass Board View) (s : Seat) (now left : List Seat) (n m : ℕ) → now ≡ s ∷ left → m + 1 ≡ n → IsJoined t all p now n
@@ -63,6 +69,7 @@ joins_next t all p q s now left n m is less old same told =
           ∙ (ap (λ ss. (view p).shares ++ (ss ++ map share_at left)) (only_share s) ∙ (ap (λ l. (view p).shares ++ map share_at l) (sym is) ∙ old.shares)));
       seats = each.1;
       len = (let l = ap length is in let k = old.len in omega arith);
+      first = λ u there. (ap (λ (v : View). v.stop) told ∙ (old.first u there).0, ap (λ (v : View). v.seen) told ∙ (old.first u there).1);
     }
 
 pub all_joined : (t : Table) (all : List Seat) (p : Pass Board View) (left : List Seat) → IsJoined t all p left 0 → (view p).shares ≡ map share_at all
@@ -79,3 +86,7 @@ closed x v shares n is count long more met knows =
     let none : met.others ≡ [] = no_more met.others (omega arith) in
     whole_of met.case x shares
     (subst (IsRuled met.case x) (ap (λ l. v.shares ++ l) none ∙ (nil_right v.shares ∙ is)) met.ruled)
+
+-- and what it knows of the stop and the bound is so
+pub closed_stop : (x : Board) (v : View) (shares : List Share) (n : ℕ) → v.shares ≡ shares → length shares ≡ n → 0 < n → Knows x v → x.stop ≡ v.stop
+closed_stop x v shares n is long more knows = (let a = ap length is in sym (knows.stop (omega arith)))

@@ -1,11 +1,12 @@
 //! What workers do at a table.
-ghost use Rattle.std.specs.Prelude.{◌≡◌, ◌<◌, ◌≤◌, ◌↔◌, ℕ, IfErr, IfOk, IsOk, false, List, [], ◌∷◌, drop, length, map, take, vec_len};
+ghost use Rattle.std.specs.Prelude.{◌≡◌, ◌<◌, ◌≤◌, ◌↔◌, ℕ, IfErr, IfOk, IsOk, false, List, [], ◌∷◌, Some, drop, length, map, slice_get, take, vec_len};
 ghost use Rattle.std.specs.List.{AllByRecursion, range_with_len};
 ghost use Rattle.crossbeam_queue.specs.Fifo.{Learns, Pushes};
 ghost use Rattle.crossbeam_queue.specs.Passes.{IsPassOf, IsSamePass, ruled_capacity, view};
 ghost use Rattle.tw_exchange.specs.Board.{Board, IsBoard, workers};
 ghost use Rattle.tw_model.specs.Case.{Case};
 ghost use Rattle.tw_table.specs.declared.rule.View.{View as AView};
+ghost use Rattle.tw_table.specs.declared.seat.Seat.{Seat as ASeat};
 ghost use Rattle.tw_table.specs.Seats.{IsHeldOf, IsSeatOf, bound_at, exchange_of, share_at, share_of, stop_at, stop_of, taken_by, workers_at};
 ghost use Rattle.tw_table.specs.Shares.{IsRuled, IsWhole, MayBeGiven, Share as AShare, share, shares_of};
 ghost use Rattle.tw_table.specs.Views.{Holds, IsMet, Knows, first_view, given, opened, took};
@@ -116,11 +117,14 @@ impl Table {
     }
 
     /// Takes the exchange off the table for good, where all its seats are handed in: it and what the
-    /// workers gave last are, put together, a good state of the machine. Else both come back.
+    /// workers gave last are, put together, a good state of the machine. Its stop is the one that the first
+    /// seat knows, and its bound is not below the one that this seat saw last. Else both come back.
     pub fn close<R: Wait>(rt: &R, table: Table, seats: Vec<Seat>) -> Result<Exchange, Missing>
         requires seats { AllByRecursion (IsSeatOf table) seats.items }
         ensures all { IsOk result ↔ (vec_len seats ≡ workers_at table) }
         ensures whole { IfOk result (λ x. IsWhole x (map share_at seats.items)) }
+        ensures stop { IfOk result (λ x. (s : ASeat) → slice_get seats.items 0 ≡ Some s → x.stop ≡ stop_at s) }
+        ensures bound { IfOk result (λ x. (s : ASeat) → slice_get seats.items 0 ≡ Some s → bound_at s ≤ x.bound) }
         ensures back { IfErr result (λ m. (m.table ≡ table) × (m.seats ≡ seats)) }
     {
         if seats.len() != table.workers as usize {
@@ -224,6 +228,7 @@ fn join_all(table: &Table, seats: Vec<Seat>) -> Ticket
     ensures begun { (view result).opening ≡ false }
     ensures empty { (view result).held ≡ [] }
     ensures shares { (view result).shares ≡ map share_at seats.items }
+    ensures first { (s : ASeat) → slice_get seats.items 0 ≡ Some s → ((view result).stop ≡ stop_at s) × ((view result).seen ≡ bound_at s) }
 {
     let mut seats = seats.into_iter();
     let Some(first) = seats.next() else {

@@ -55,7 +55,7 @@ kept_committed stop r s t work same own other =
           let m = simulation s.shard.case in
           let made : with_core (with_commit m (core stop s.shard) r) (place_of s) ≡ place_of (record s { shard = t })
           = (λ i. with_core (sym (own mine) i) (place_of s)) ∙ sym (place_after stop s (record s { shard = t }) same refl refl) in
-          record { case = same.case; place = subst (Keeps m stop (place_of s)) made (keeps_commit m stop r (place_of s) work.place) }
+          record { case = same.case; workers = same.workers; place = subst (Keeps m stop (place_of s)) made (keeps_commit m stop r (place_of s) work.place) }
       | inr not_mine ↦ subst (λ u. Kept stop s (record s { shard = u })) (sym (other not_mine)) (kept_same stop s work)
     ]
 
@@ -87,6 +87,14 @@ done_more n s t old same own other r less mine =
             | inr is_not ↦
                 subst (λ u. (core 0 u).done r ≡ u.bound) (sym now) (old r (let apart = eqb-false r n is_not in omega arith) was)
           ]
+    ]
+
+-- and nothing is sent
+pub same_outgoing : (r : ℕ) (s t : Shard) → (owns s r ≡ true → core 0 t ≡ with_commit (simulation s.case) (core 0 s) r) → (owns s r ≡ false → t ≡ s) → t.outgoing ≡ s.outgoing
+same_outgoing r s t own other =
+    elim (cases_Bool (owns s r)) [
+      | inl mine ↦ ap (λ C. C.flight) (own mine)
+      | inr not_mine ↦ ap (λ u. u.outgoing) (other not_mine)
     ]
 
 -- ---- what a commit answers for a router of its own

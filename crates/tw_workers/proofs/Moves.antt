@@ -114,6 +114,7 @@ kept_sorted stop s work =
     let rest = filter (λ x. not (is_own s.shard x)) s.shard.outgoing in
     record {
       case = refl;
+      workers = refl;
       place = keeps_moved m law stop (place_of s) (s.mail ++ own) (s.unsent ++ rest) [] work.place
           (λ e. (
           let a = messages-append m e s.mail own in
@@ -140,6 +141,7 @@ kept_sent stop s work =
     let m = simulation s.shard.case in
     record {
       case = refl;
+      workers = refl;
       place = keeps_moved m (lawful s.shard.case work.case) stop (place_of s) s.mail (s.unsent ++ s.shard.outgoing) [] work.place
           (λ e. (let b = messages-append m e s.unsent s.shard.outgoing in omega arith))
           (λ e. (let b = antimessages-append m e s.unsent s.shard.outgoing in omega arith))

@@ -47,7 +47,7 @@ keeps_same stop s work = record {
 }
 
 pub kept_same : (stop : ℕ) (s : Share) → IsAtWork stop s → Kept stop s s
-kept_same stop s work = record { case = refl; place = keeps_same stop s work }
+kept_same stop s work = record { case = refl; workers = refl; place = keeps_same stop s work }
 
 pub kept_both : (stop : ℕ) (s t u : Share) → Kept stop s t → Kept stop t u → Kept stop s u
 kept_both stop s t u one two =
@@ -56,6 +56,7 @@ kept_both stop s t u one two =
     let second : Keeps m stop (place_of t) (place_of u) = subst (λ (c : Case). Keeps (simulation c) stop (place_of t) (place_of u)) one.case two.place in
     record {
       case = two.case ∙ one.case;
+      workers = two.workers ∙ one.workers;
       place = record {
         worker = second.worker ∙ first.worker;
         owns = second.owns ∙ first.owns;
@@ -129,7 +130,7 @@ kept_received stop s t x rest work first same came mail unsent =
     let arrived : with_core (after_arrival m (core stop s.shard) x) (record (place_of s) { mail = remove s.mail 0 }) ≡ with_core (core stop t.shard) (place_of mid)
     = λ i. with_core (came i) (record (place_of s) { mail = left i }) in
     let made = arrived ∙ sym (place_after stop mid t same mail unsent) in
-    record { case = same.case; place = subst (Keeps m stop (place_of s)) made keeps }
+    record { case = same.case; workers = same.workers; place = subst (Keeps m stop (place_of s)) made keeps }
 
 -- some of what it undoes is undone, and it is in the hand still
 pub kept_rolled_back : (stop : ℕ) (s t : Share) (x : Signed Event) (rest : List (Signed Event)) → IsAtWork stop s → s.mail ≡ x ∷ rest → IsSameShare s.shard t.shard
@@ -138,7 +139,7 @@ kept_rolled_back stop s t x rest work first same back mail unsent =
     let m = simulation s.shard.case in
     let there : slice_get s.mail 0 ≡ Some x = ap (λ l. slice_get l 0) first in
     let keeps = keeps_roll_back m (lawful s.shard.case work.case) stop 0 (place_of s) x (core stop t.shard) work.place there back in
-    record { case = same.case; place = subst (Keeps m stop (place_of s)) (sym (place_after stop s t same mail unsent)) keeps }
+    record { case = same.case; workers = same.workers; place = subst (Keeps m stop (place_of s)) (sym (place_after stop s t same mail unsent)) keeps }
 
 -- ---- a router handles
 
@@ -161,4 +162,4 @@ kept_handled stop r s t work same done mail unsent =
     let own = own_of stop r s.shard t.shard done in
     let at_own : next ≡ Ok (core stop t.shard) = sym (ap (λ b. if b then next else Err NotMine) own) ∙ done in
     let keeps = keeps_handle m (lawful s.shard.case work.case) stop r (place_of s) (core stop t.shard) work.place at_own in
-    record { case = same.case; place = subst (Keeps m stop (place_of s)) (sym (place_after stop s t same mail unsent)) keeps }
+    record { case = same.case; workers = same.workers; place = subst (Keeps m stop (place_of s)) (sym (place_after stop s t same mail unsent)) keeps }

@@ -1,5 +1,5 @@
 -- What a worker may give back to the table: after a visit, and without one.
-use Rattle.std.proofs.Common.{◌≡◌, ℕ, ◌<◌, ◌≤◌, max, min, nat_lt, false, List, [], ◌∷◌, ◌++◌, Option, None, Some, IfSome, map, refl, ap, sym, ◌∙◌, subst, arith}
+use Rattle.std.proofs.Common.{◌≡◌, ℕ, ◌<◌, ◌≤◌, max, min, nat_lt, false, List, [], ◌∷◌, ◌++◌, Option, None, Some, IfSome, map, slice_get, refl, ap, sym, ◌∙◌, subst, arith}
 use Rattle.std.proofs.lemmas.Bool.{or_from}
 use Rattle.std.specs.List.{list_any, reduce}
 use Rattle.std.specs.Option.{option_map_or}
@@ -12,6 +12,7 @@ use Rattle.tw_model.specs.declared.memory.OrMemory.{OrMemory}
 use Rattle.tw_model.specs.declared.memory.OrMemory.TheVariants.{Fault, Memory}
 use Rattle.tw_model.specs.Case.{Case, IsCase, simulation}
 use Rattle.tw_rule.proofs.Least.{none_told}
+use Rattle.tw_rule.proofs.Places.{all_at, get_map}
 use Rattle.tw_rule.proofs.Visits.{may_stay, may_visit, report_late, stands_from, tells_all, unsent_late}
 use Rattle.tw_rule.specs.Board as rule
 use Rattle.tw_rule.specs.Board.{IsVisit, least_report, times_among}
@@ -23,7 +24,7 @@ use Rattle.tw_sim.specs.Simulation.{IsLawful, Simulation, one}
 use Rattle.tw_table.proofs.Visiting.{is_visit}
 use Rattle.tw_table.specs.declared.seat.Held.{Held}
 use Rattle.tw_table.specs.Seats.{IsSameSeat}
-use Rattle.tw_table.specs.Shares.{MayBeGiven, Share, board_of, place_of}
+use Rattle.tw_table.specs.Shares.{IsRuled, MayBeGiven, Share, board_of, place_of}
 use Rattle.tw_table.specs.Views.{IsMet}
 use Rattle.tw_workers.proofs.Moves.{of_one_sign}
 use Rattle.tw_workers.proofs.Places.{before_no}
@@ -160,6 +161,21 @@ work_given x y stop s t is_case same may =
       case = subst IsCase (sym may.case) is_case;
       place = subst (λ (c : Case). IsPlace (simulation c) stop (place_of t)) (sym may.case) place;
       late = subst (λ (c : Case). IsFrom (simulation c) t.shard.bound (place_of t)) (sym may.case) late;
+    }
+
+-- ---- each worker of a table is at work
+
+pub at_work : (case : Case) (x : Board) (shares : List Share) (i : ℕ) (s : Share) → IsRuled case x shares → slice_get shares i ≡ Some s → IsAtWork x.stop s
+at_work case x shares i s ruled place =
+    let who = owner (workers x) in
+    let same = all_at (λ (t : Share). t.shard.case ≡ case) shares i s place ruled.cases in
+    let stands = all_at (Stands (simulation case) who (board_of x)) (map place_of shares) i (place_of s) (get_map place_of shares i s place) ruled.rule.each in
+    let at = here_at case x s same ruled.is_case ruled.rule.board stands in
+    let m = simulation s.shard.case in
+    record {
+      case = at.is_case;
+      place = at.stands.place;
+      late = sooner m x.bound s.shard.bound (place_of s) at.stands.bound (stands_from m (lawful s.shard.case at.is_case) who (board_of x) (place_of s) at.board at.stands);
     }
 
 -- ---- why a visit is refused

@@ -21,6 +21,8 @@ pub record IsAtWork (stop : ℕ) (s : Share) : Type 0 where
 -- what calls at a worker, to this stop, keep of its share
 pub record Kept (stop : ℕ) (s t : Share) : Type 0 where
   pub case : t.shard.case ≡ s.shard.case
+  -- there are as many workers
+  pub workers : t.shard.workers ≡ s.shard.workers
   pub place : Keeps (simulation s.shard.case) stop (place_of s) (place_of t)
 
 -- what a worker has kept since any share, it still has later

@@ -22,6 +22,7 @@ impl<'a> Worker<'a> {
             → (core 0 self.new.share.shard).done r ≡ self.new.share.shard.bound) }
         ensures mail { self.new.share.mail ≡ self.old.share.mail }
         ensures unsent { self.new.share.unsent ≡ self.old.share.unsent }
+        ensures outgoing { self.new.share.shard.outgoing ≡ self.old.share.shard.outgoing }
         ensures stop { self.new.stop ≡ self.old.stop }
     {
         for router in 0..MOST_ROUTERS {

@@ -9,12 +9,17 @@
 
 mod committing;
 mod delivering;
+mod gate;
 mod handling;
+pub mod laws;
 mod meeting;
 mod policy;
 mod worker;
+mod working;
 
+pub use gate::{Gate, OpenGate};
 pub use meeting::Meeting;
 pub use tw_handlers::CounterFull;
 pub use tw_model::OrMemory;
 pub use worker::Worker;
+pub use working::Leaving;

@@ -18,6 +18,10 @@ const WIDEST_WINDOW: u64 = LONGEST_DELAY;
 /// window costs more than handling a few events twice.
 const HANDLED_FOR_EACH_UNDONE: u64 = 20;
 
+/// A commit looks at each router number, 1,024 of them: once in so many events that costs nothing, and what
+/// undoing these would need is a few MiB.
+const HANDLED_FOR_EACH_COMMIT: u64 = 65_536;
+
 /// How a worker paces itself.
 #[derive(Clone, Copy, Debug)]
 pub(crate) struct Pace {
@@ -26,6 +30,8 @@ pub(crate) struct Pace {
     // Since the window was set last.
     handled: u64,
     undone: u64,
+    // Since the latest commit.
+    uncommitted: u64,
 }
 
 impl Pace {
@@ -38,6 +44,7 @@ impl Pace {
             window: FIRST_WINDOW,
             handled: 0,
             undone: 0,
+            uncommitted: 0,
         }
     }
 
@@ -54,6 +61,19 @@ impl Pace {
     /// An event was handled.
     pub(crate) fn count_handled(&mut self) {
         self.handled = self.handled.saturating_add(1);
+        self.uncommitted = self.uncommitted.saturating_add(1);
+    }
+
+    /// Whether a worker commits that knows this bound: at the end, and once in a while before.
+    pub(crate) fn is_commit_due(&self, bound: u64, stop: u64) -> bool {
+        bound == stop || self.uncommitted >= HANDLED_FOR_EACH_COMMIT
+    }
+
+    /// All before the bound are committed.
+    pub(crate) fn count_commit(&mut self)
+        ensures { self.new.batch ≡ self.old.batch }
+    {
+        self.uncommitted = 0;
     }
 
     /// So many events were undone.

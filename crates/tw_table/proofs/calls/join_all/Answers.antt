@@ -53,3 +53,6 @@ returns-clause-shares c =
     let left = into_iter_items c.loop-seat.seat-iterator in
     all_joined c.args.table.now c.args.seats.items c.loop-seat.pass left
     (subst (IsJoined c.args.table.now c.args.seats.items c.loop-seat.pass left) c.in-None.ensures.steps.0 c.loop-seat.invariant)
+
+pub returns-clause-first : goal.returns-clause-first
+returns-clause-first c = c.loop-seat.invariant.first

@@ -1,5 +1,6 @@
+use Rattle.std.proofs.Common.{◌∙◌}
 use Rattle.tw_table.specs.Shares.{share}
-use Rattle.tw_workers.proofs.Commits.{all_done, done_more, kept_committed}
+use Rattle.tw_workers.proofs.Commits.{all_done, done_more, kept_committed, same_outgoing}
 use Rattle.tw_workers.proofs.Places.{kept_both, work_kept}
 use Rattle.tw_workers.proofs.worker.Worker.commit.Goals as goal
 
@@ -18,6 +19,7 @@ loop-router-preserved c =
       done = done_more r inside.shard c.commit_at.new.shard is.done c.commit_at.ensures.same (told.own 0) told.other;
       mail = is.mail;
       unsent = is.unsent;
+      outgoing = same_outgoing r inside.shard c.commit_at.new.shard (told.own 0) told.other ∙ is.outgoing;
       stop = is.stop;
       latest = is.latest;
       none = is.none;

@@ -14,6 +14,7 @@ invariant-loop-router l =
       done : AreDone l.router l.self-inside.shard;
       mail : s.mail ≡ l.fn.self.share.mail;
       unsent : s.unsent ≡ l.fn.self.share.unsent;
+      outgoing : s.shard.outgoing ≡ l.fn.self.share.shard.outgoing;
       stop : l.self-inside.stop ≡ l.fn.self.stop;
       latest : l.self-inside.stop ≤ LATEST;
       none : l.self-inside.outgoing.items ≡ [];

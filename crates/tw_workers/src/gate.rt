@@ -1,0 +1,27 @@
+use std::sync::Wait;
+use tw_table::Seat;
+
+/// What is told of the turns of each worker, and may hold a worker between them. Turns are numbered from 1.
+/// No promise rests on it.
+pub trait Gate {
+    /// The worker is about to handle events, and doesn't have the exchange. It goes on when this returns.
+    fn handling<R: Wait>(&self, rt: &R, worker: u32, turn: u64);
+
+    /// The worker is about to take the exchange. It goes on when this returns.
+    fn enter<R: Wait>(&self, rt: &R, worker: u32, turn: u64);
+
+    /// The worker has given the exchange back, and has this seat.
+    fn turned(&self, seat: &Seat, turn: u64);
+}
+
+/// A gate that never holds a worker.
+#[derive(Clone, Copy, Debug)]
+pub struct OpenGate;
+
+impl Gate for OpenGate {
+    fn handling<R: Wait>(&self, _rt: &R, _worker: u32, _turn: u64) {}
+
+    fn enter<R: Wait>(&self, _rt: &R, _worker: u32, _turn: u64) {}
+
+    fn turned(&self, _seat: &Seat, _turn: u64) {}
+}

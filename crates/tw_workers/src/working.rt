@@ -1,0 +1,183 @@
+//! A worker takes turn after turn, until it may leave.
+ghost use Rattle.std.specs.Prelude.{◌≡◌, ◌≤◌, [], ℕ, Err, IsErrOf, OnOk, Some, true};
+ghost use Rattle.tw_core.specs.declared.refusal.Refusal.TheVariants as refusal;
+ghost use Rattle.tw_shard.specs.Shard.{handling};
+ghost use Rattle.tw_table.specs.Seats.{IsSeatOf, bound_at, share_at, stop_at};
+ghost use Rattle.tw_workers.specs.declared.meeting.Meeting.TheVariants as meetings;
+ghost use Rattle.tw_workers.specs.declared.working.Leaving.TheVariants as leaving;
+ghost use Rattle.tw_workers.specs.Work.{IsAtWork, Kept, StillKeeps};
+
+use crate::gate::Gate;
+use crate::meeting::Meeting;
+use crate::worker::Worker;
+use std::sync::Wait;
+use tw_model::OrMemory;
+use tw_table::{Seat, Table};
+
+/// Why a worker takes no further turn.
+#[derive(Clone, Copy, PartialEq, Eq, Debug)]
+pub enum Leaving {
+    /// The bound is the stop, and its routers have committed all before it.
+    Settled,
+    /// The workers were told to take no further turn.
+    Halted,
+    /// Memory was refused.
+    Memory,
+    /// A counter of one of its routers would pass its limit.
+    CounterFull,
+}
+
+impl<'a> Worker<'a> {
+    /// The worker takes turns, until the bound is the stop and it has committed all before it, or until it
+    /// can't go on, or another worker can't. In a turn it delivers its hand and handles events, and then
+    /// meets the table, where it gives its shard and hand. The seat is its own, at this table, with its
+    /// shard and hand as they are.
+    ///
+    /// Where it can't go on, it tells all workers to take no further turn, and gives its shard and hand as
+    /// they are then.
+    pub fn work<G: Gate, R: Wait>(
+        &mut self,
+        rt: &R,
+        table: &Table,
+        gate: &G,
+        seat: Seat,
+    ) -> (Seat, Leaving)
+        requires seat { IsSeatOf table.now seat }
+        requires share { share_at seat ≡ self.old.share }
+        requires stop { stop_at seat ≡ self.old.stop }
+        ensures seat { IsSeatOf table.now result.0 }
+        ensures share { share_at result.0 ≡ self.new.share }
+        ensures stop { self.new.stop ≡ self.old.stop }
+        ensures seat_stop { stop_at result.0 ≡ self.new.stop }
+        ensures bound { bound_at seat ≤ bound_at result.0 }
+        ensures case { self.new.share.shard.case ≡ self.old.share.shard.case }
+        ensures worker { self.new.share.shard.worker ≡ self.old.share.shard.worker }
+        ensures workers { self.new.share.shard.workers ≡ self.old.share.shard.workers }
+        ensures settled { result.1 ≡ leaving.Settled → bound_at result.0 ≡ self.new.stop }
+        ensures full { result.1 ≡ leaving.CounterFull → (r : ℕ) × (handling self.new.stop self.new.share.shard r ≡ Err refusal.CounterFull) }
+    {
+        let mut seat = seat;
+        let mut turn: u64 = 0;
+        for _ in rt.forever() {
+            turn = turn.saturating_add(1);
+            let (next, leaving) = self.take_turn(rt, table, gate, seat, turn);
+            if let Some(leaving) = leaving {
+                return (next, leaving);
+            }
+            seat = next;
+        }
+        unreachable!()
+    }
+
+    /// The worker takes a turn, and is told whether it leaves.
+    fn take_turn<G: Gate, R: Wait>(
+        &mut self,
+        rt: &R,
+        table: &Table,
+        gate: &G,
+        seat: Seat,
+        turn: u64,
+    ) -> (Seat, Option<Leaving>)
+        requires seat { IsSeatOf table.now seat }
+        requires share { share_at seat ≡ self.old.share }
+        requires stop { stop_at seat ≡ self.old.stop }
+        ensures seat { IsSeatOf table.now result.0 }
+        ensures share { share_at result.0 ≡ self.new.share }
+        ensures stop { self.new.stop ≡ self.old.stop }
+        ensures seat_stop { stop_at result.0 ≡ self.new.stop }
+        ensures bound { bound_at seat ≤ bound_at result.0 }
+        ensures case { self.new.share.shard.case ≡ self.old.share.shard.case }
+        ensures worker { self.new.share.shard.worker ≡ self.old.share.shard.worker }
+        ensures workers { self.new.share.shard.workers ≡ self.old.share.shard.workers }
+        ensures settled { result.1 ≡ Some leaving.Settled → bound_at result.0 ≡ self.new.stop }
+        ensures full { result.1 ≡ Some leaving.CounterFull → (r : ℕ) × (handling self.new.stop self.new.share.shard r ≡ Err refusal.CounterFull) }
+    {
+        if let Err(leaving) = self.prepare(rt, gate, seat.worker(), turn) {
+            return (self.leave(rt, table, seat), Some(leaving));
+        }
+        // A bound that is first told at this meeting leaves events that are not committed yet.
+        let last = self.shard.bound() == self.stop;
+        gate.enter(rt, seat.worker(), turn);
+        let (seat, meeting) = self.meet(rt, table, seat);
+        gate.turned(&seat, turn);
+        (seat, leaving_after(meeting, last))
+    }
+
+    /// The worker does all that it does in a turn before it takes the exchange. Where it can't, it is told
+    /// why.
+    fn prepare<G: Gate, R: Wait>(
+        &mut self,
+        rt: &R,
+        gate: &G,
+        worker: u32,
+        turn: u64,
+    ) -> Result<(), Leaving>
+        ensures kept { StillKeeps self.old self.new }
+        ensures mail { OnOk result (self.new.share.mail ≡ []) }
+        ensures sorted { OnOk result (self.new.share.shard.outgoing ≡ []) }
+        ensures stop { self.new.stop ≡ self.old.stop }
+        ensures work { IsAtWork self.old.stop self.old.share }
+        ensures settled { IsErrOf result leaving.Settled → ⊥ }
+        ensures full { IsErrOf result leaving.CounterFull → (r : ℕ) × (handling self.new.stop self.new.share.shard r ≡ Err refusal.CounterFull) }
+    {
+        // What a worker keeps is told by a read of it.
+        let _ = &self.shard;
+        if self.deliver().is_err() {
+            return Err(Leaving::Memory);
+        }
+        gate.handling(rt, worker, turn);
+        self.handle_more()?;
+        self.commit_where_due()
+    }
+
+    /// Its routers handle events, as many as they may. Where they can't, it is told why.
+    fn handle_more(&mut self) -> Result<(), Leaving>
+        ensures kept { StillKeeps self.old self.new }
+        ensures mail { OnOk result (self.new.share.mail ≡ []) }
+        ensures sorted { OnOk result (self.new.share.shard.outgoing ≡ []) }
+        ensures stop { self.new.stop ≡ self.old.stop }
+        ensures settled { IsErrOf result leaving.Settled → ⊥ }
+        ensures full { IsErrOf result leaving.CounterFull → (r : ℕ) × (handling self.new.stop self.new.share.shard r ≡ Err refusal.CounterFull) }
+    {
+        match self.handle_some() {
+            Ok(()) => Ok(()),
+            Err(OrMemory::Memory) => Err(Leaving::Memory),
+            Err(OrMemory::Fault(_)) => Err(Leaving::CounterFull),
+        }
+    }
+
+    /// It commits where it knows that the bound is the stop, and now and then before.
+    fn commit_where_due(&mut self) -> Result<(), Leaving>
+        ensures kept { StillKeeps self.old self.new }
+        ensures mail { self.new.share.mail ≡ self.old.share.mail }
+        ensures sorted { self.new.share.shard.outgoing ≡ self.old.share.shard.outgoing }
+        ensures stop { self.new.stop ≡ self.old.stop }
+        ensures err { IsErrOf result leaving.Settled → ⊥ }
+        ensures err_full { IsErrOf result leaving.CounterFull → ⊥ }
+    {
+        if !self.pace.is_commit_due(self.shard.bound(), self.stop) {
+            return Ok(());
+        }
+        if self.commit().is_err() {
+            return Err(Leaving::Memory);
+        }
+        self.pace.count_commit();
+        Ok(())
+    }
+}
+
+/// Whether a worker leaves after a meeting, where it was told this. The last is one that it entered when
+/// it knew that the bound is the stop.
+fn leaving_after(meeting: Meeting, last: bool) -> Option<Leaving>
+    ensures settled { result ≡ Some leaving.Settled → (meeting ≡ meetings.Settled) × (last ≡ true) }
+    ensures halted { result ≡ Some leaving.Halted → meeting ≡ meetings.Halted }
+    ensures memory { result ≡ Some leaving.Memory → meeting ≡ meetings.Refused }
+    ensures full { result ≡ Some leaving.CounterFull → ⊥ }
+{
+    match meeting {
+        Meeting::Settled if last => Some(Leaving::Settled),
+        Meeting::Settled | Meeting::Open => None,
+        Meeting::Halted => Some(Leaving::Halted),
+        Meeting::Refused => Some(Leaving::Memory),
+    }
+}
