@@ -43,7 +43,7 @@ pub(crate) fn workers_of<'a>(
     requires hands { length hands.items ≡ length shards.items }
     requires stop { stop ≤ LATEST }
     requires work { AllByRecursion (IsAtWork stop) (shares_of shards.items hands.items) }
-    ensures shares { map (λ w. w.share) result.items ≡ shares_of shards.items hands.items }
+    ensures shares { map (λ w. w.share) result.items ≡ shares_of shards.entry.items hands.items }
     ensures stops { AllByRecursion (λ w. w.stop ≡ stop) result.items }
 {
     let mut workers = workers;
@@ -66,7 +66,7 @@ pub(crate) fn parts_of<'a>(
     requires shards { (shards.items ≡ []) × (length workers.items ≤ vec_capacity shards) }
     requires hands { (hands.items ≡ []) × (length workers.items ≤ vec_capacity hands) }
     ensures count { length result.1.items ≡ length result.0.items }
-    ensures shares { shares_of result.0.items result.1.items ≡ map (λ w. w.share) workers.items }
+    ensures shares { shares_of result.0.items result.1.items ≡ map (λ w. w.share) workers.entry.items }
 {
     let mut shards = shards;
     let mut hands = hands;

@@ -17,6 +17,7 @@ use std::thread::Threads;
 use thiserror::Error;
 use tw_table::Table;
 use tw_threads::{Cause, Gate, run_all};
+use tw_workers::laws::shares_are_at_work;
 
 /// How the workers of a run work.
 #[derive(Clone, Copy, PartialEq, Eq, Debug)]
@@ -78,12 +79,7 @@ pub fn run_until<'a, G: Gate + Sync, R: Threads + Wait + Sync>(
 {
     let mut sim = sim;
     if sim.raise_stop(stop).is_err() {
-        let bound = sim.bound();
-        return Err(Ended {
-            sim,
-            bound,
-            cause: EndCause::StopLower,
-        });
+        return Err(ended(sim, EndCause::StopLower));
     }
     run(rt, sim, options.batch.max(1), gate)
 }
@@ -113,15 +109,20 @@ fn run<'a, G: Gate + Sync, R: Threads + Wait + Sync>(
         let (next, cause) = run_once(rt, sim, batch, gate);
         sim = next;
         if let Some(cause) = cause {
-            let bound = sim.bound();
-            return Err(Ended {
-                sim,
-                bound,
-                cause: end_cause(cause),
-            });
+            return Err(ended(sim, end_cause(cause)));
         }
     }
     unreachable!()
+}
+
+/// A run that ended for this.
+fn ended<'a>(sim: Sim<'a>, cause: EndCause) -> Ended<'a>
+    ensures run { result.sim ≡ sim.entry }
+    ensures bound { result.bound ≡ sim.entry.board.bound }
+    ensures cause { result.cause ≡ cause }
+{
+    let bound = sim.bound();
+    Ended { sim, bound, cause }
 }
 
 /// Why a run ended whose workers ended for this.
@@ -195,6 +196,7 @@ fn run_at_table<'a, G: Gate + Sync, R: Threads + Wait + Sync>(
             return (parts, Some(Cause::Memory));
         }
     };
+    shares_are_at_work();
     let workers = workers_of(shards, hands, stop, batch, room.workers);
     let ran = run_all(rt, alloc, table, workers, seats, gate);
     let (shards, hands) = parts_of(ran.workers, room.shards, room.hands);

@@ -3,14 +3,14 @@ use Rattle.std.proofs.Common.{◌≡◌, ℕ, suc, zero, ◌<◌, ◌≤◌, Lis
 use Rattle.std.proofs.lemmas.Option.{none-some, same_Some, slice_get-map}
 use Rattle.std.specs.List.{AllByRecursion, AllZip}
 use Rattle.std.specs.Option.{option_map}
-use Rattle.tw_table.specs.Seats.{IsSeatOf, bound_at, share_at, stop_at}
+use Rattle.tw_table.specs.Seats.{IsSeatOf, bound_at, share_at, stop_at, workers_at}
 use Rattle.tw_table.specs.Shares.{Share}
 use Rattle.tw_table.specs.declared.seat.Seat.{Seat}
 use Rattle.tw_table.specs.declared.table.Table.{Table}
 use Rattle.tw_threads.specs.Left.{HasLeft, IsFull, IsFullAhead}
 use Rattle.tw_threads.specs.Started.{IsSomeFull}
 
-mapped : {A B C : Type 0} (f : A → B) (g : B → C) (xs : List A) → map (λ x. g (f x)) xs ≡ map g (map f xs)
+pub mapped : {A B C : Type 0} (f : A → B) (g : B → C) (xs : List A) → map (λ x. g (f x)) xs ≡ map g (map f xs)
 mapped f g [] = refl
 mapped f g (x ∷ xs) = ap (λ ys. g (f x) ∷ ys) (mapped f g xs)
 
@@ -92,3 +92,10 @@ full_after share t stop before after are left now stops h =
       there = slice_get-map share_at after h.at ∙ ap (option_map share_at) h.there;
       full = subst (λ n. IsFull n (share_at h.seat).shard) same h.full;
     }
+
+-- as many have left as the table has workers
+pub all_left : (t : Table) (before after : List Seat) (n : ℕ) → AllZip (HasLeft t) before after → length before ≡ n → n ≡ workers_at t → length after ≡ workers_at t
+all_left t before after n left long all = as_many t before after left ∙ (long ∙ all)
+
+pub some_left : (t : Table) (before after : List Seat) (n : ℕ) → AllZip (HasLeft t) before after → length before ≡ n → n ≡ workers_at t → 0 < length after
+some_left t before after n left long all = let some : 0 < workers_at t = t.some in let many = all_left t before after n left long all in omega (arith, some, many)

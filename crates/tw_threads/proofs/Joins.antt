@@ -12,8 +12,8 @@ use Rattle.tw_threads.specs.Started.{HaveLeft, IsSomeFull, IsStarted}
 use Rattle.tw_threads.specs.declared.joining.Cause.{Cause}
 use Rattle.tw_threads.specs.declared.joining.Cause.TheVariants as cause
 use Rattle.tw_threads.specs.declared.starting.Started.{Started}
-use Rattle.tw_threads.specs.declared.gate.Leaving.{Leaving}
-use Rattle.tw_threads.specs.declared.gate.Leaving.TheVariants as leaving
+use Rattle.tw_workers.specs.declared.working.Leaving.{Leaving}
+use Rattle.tw_workers.specs.declared.working.Leaving.TheVariants as leaving
 
 module _ {X : Type 0} where
   -- an element is where it was

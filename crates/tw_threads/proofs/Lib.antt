@@ -1,3 +1,3 @@
-mod Starts
-mod Joins
-mod Ends
+pub mod Starts
+pub mod Joins
+pub mod Ends

@@ -7,8 +7,8 @@ use Rattle.tw_table.specs.Seats.{IsSeatOf, bound_at, share_at, stop_at}
 use Rattle.tw_table.specs.Shares.{Share}
 use Rattle.tw_table.specs.declared.seat.Seat.{Seat}
 use Rattle.tw_table.specs.declared.table.Table.{Table}
-use Rattle.tw_threads.specs.declared.gate.Leaving.{Leaving}
-use Rattle.tw_threads.specs.declared.gate.Leaving.TheVariants.{CounterFull}
+use Rattle.tw_workers.specs.declared.working.Leaving.{Leaving}
+use Rattle.tw_workers.specs.declared.working.Leaving.TheVariants.{CounterFull}
 
 -- the seat that a worker had at a table, and the one that it leaves
 pub record HasLeft (t : Table) (before after : Seat) : Type 0 where

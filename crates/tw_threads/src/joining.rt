@@ -6,13 +6,13 @@ ghost use Rattle.tw_table.specs.declared.table.Table.{Table as ATable};
 ghost use Rattle.tw_threads.specs.Left.{IsLeft};
 ghost use Rattle.tw_threads.specs.Started.{HaveLeft, IsStarted};
 ghost use Rattle.tw_threads.specs.declared.joining.Cause.TheVariants as cause;
-ghost use Rattle.tw_threads.specs.declared.gate.Leaving.TheVariants as leaving;
+ghost use Rattle.tw_workers.specs.declared.working.Leaving.TheVariants as leaving;
 
 use crate::starting::{Left, Started};
 use crate::work::Work;
 use std::thread::Threads;
 use tw_table::Seat;
-use crate::gate::Leaving;
+use tw_workers::Leaving;
 
 /// Why a run of workers ended before its stop.
 #[derive(Clone, Copy, PartialEq, Eq, Debug)]

@@ -7,7 +7,7 @@ ghost use Rattle.tw_threads.specs.Left.{IsFullAhead};
 ghost use Rattle.tw_threads.specs.Started.{HaveLeft, IsStarted};
 ghost use Rattle.tw_threads.specs.declared.joining.Cause.TheVariants as cause;
 
-use crate::gate::Gate;
+use tw_workers::Gate;
 use crate::joining::{Cause, Gathered, join_all};
 use crate::starting::{Started, start_all};
 use crate::work::Work;

@@ -11,7 +11,7 @@ use std::sync::Wait;
 use std::sync::atomic::{AtomicBool, Ordering};
 use std::thread::{Promise, PromisedHandle, Scope, Threads};
 use tw_table::{Seat, Table};
-use crate::gate::{Gate, Leaving};
+use tw_workers::{Gate, Leaving};
 
 /// What a worker leaves.
 #[derive(Drop)]

@@ -2,11 +2,11 @@ ghost use Rattle.std.specs.Prelude.{◌≡◌, ℕ};
 ghost use Rattle.tw_table.specs.Seats.{IsSeatOf, share_at, stop_at};
 ghost use Rattle.tw_table.specs.Shares.{Share};
 ghost use Rattle.tw_threads.specs.Left.{HasLeft, IsFull};
-ghost use Rattle.tw_threads.specs.declared.gate.Leaving.TheVariants.{CounterFull};
+ghost use Rattle.tw_workers.specs.declared.working.Leaving.TheVariants.{CounterFull};
 
 use std::sync::Wait;
 use tw_table::{Seat, Table};
-use crate::gate::{Gate, Leaving};
+use tw_workers::{Gate, Leaving};
 
 /// A worker, as a thread knows it.
 pub trait Work {

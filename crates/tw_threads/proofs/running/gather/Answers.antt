@@ -18,7 +18,7 @@ returns-in_default-with_capacity-2 g c =
     have_stayed g.W.Work.share _ _ _ _ _ _ (ap (λ v. v.items) told.seats) (ap (λ v. v.items) told.workers) told.cause c.requires.seats c.requires.shares
 
 pub returns-then-into_inner : goal.returns-then-into_inner
-returns-then-into_inner g c = with_no_thread g.W.Work.share _ _ _ _ _ (c.join_all-gathered.ensures c.args.table.now c.args.seats.items c.scoped-started.ensures.1.started)
+returns-then-into_inner g c = with_no_thread g.W.Work.share _ _ _ _ _ (c.join_all-gathered.ensures c.args.table.now c.args.seats.items c.scoped-started.ensures.1.1)
 
 pub returns-else-into_inner : goal.returns-else-into_inner
-returns-else-into_inner g c = c.join_all-gathered.ensures c.args.table.now c.args.seats.items c.scoped-started.ensures.1.started
+returns-else-into_inner g c = c.join_all-gathered.ensures c.args.table.now c.args.seats.items c.scoped-started.ensures.1.1

@@ -1,0 +1,9 @@
+use Rattle.std.proofs.Common.{sym, subst}
+use Rattle.tw_workers.proofs.Places.{kept_same}
+use Rattle.tw_workers.specs.Work.{Kept}
+use Rattle.tw_threads.proofs.workers.WorkerWork.leave.Goals as goal
+
+pub leave-requires-clause-kept : goal.leave-requires-clause-kept
+leave-requires-clause-kept g c =
+    let worker = c.args.self.now in
+    subst (λ s. Kept worker.stop s worker.share) (sym c.requires.share) (kept_same worker.stop worker.share c.shard.ensures.work)
