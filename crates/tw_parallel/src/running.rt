@@ -79,7 +79,7 @@ pub fn run_until<'a, G: Gate + Sync, R: Threads + Wait + Sync>(
 {
     let mut sim = sim;
     if sim.raise_stop(stop).is_err() {
-        return Err(ended(sim, EndCause::StopLower));
+        return Err(end_with(sim, EndCause::StopLower));
     }
     run(rt, sim, options.batch.max(1), gate)
 }
@@ -109,28 +109,32 @@ fn run<'a, G: Gate + Sync, R: Threads + Wait + Sync>(
         let (next, cause) = run_once(rt, sim, batch, gate);
         sim = next;
         if let Some(cause) = cause {
-            return Err(ended(sim, end_cause(cause)));
+            return Err(end_with(sim, told_by(cause)));
         }
     }
     unreachable!()
 }
 
 /// A run that ended for this.
-fn ended<'a>(sim: Sim<'a>, cause: EndCause) -> Ended<'a>
+fn end_with<'a>(sim: Sim<'a>, why: EndCause) -> Ended<'a>
     ensures run { result.sim ≡ sim.entry }
     ensures bound { result.bound ≡ sim.entry.board.bound }
-    ensures cause { result.cause ≡ cause }
+    ensures cause { result.cause ≡ why }
 {
     let bound = sim.bound();
-    Ended { sim, bound, cause }
+    Ended {
+        sim,
+        bound,
+        cause: why,
+    }
 }
 
 /// Why a run ended whose workers ended for this.
-fn end_cause(cause: Cause) -> EndCause
+fn told_by(why: Cause) -> EndCause
     ensures lower { result ≡ end_cause.StopLower → ⊥ }
-    ensures full { result ≡ end_cause.CounterFull → cause ≡ cause.CounterFull }
+    ensures full { result ≡ end_cause.CounterFull → why ≡ cause.CounterFull }
 {
-    match cause {
+    match why {
         Cause::Memory => EndCause::Memory,
         Cause::CounterFull => EndCause::CounterFull,
         Cause::NoThread => EndCause::NoThread,
