@@ -1,11 +1,15 @@
 -- A run after its workers have left a table.
-use Rattle.std.proofs.Common.{◌≡◌, ℕ, suc, ◌<◌, List, [], ◌∷◌, length, map, refl, ap, sym, ◌∙◌, subst, arith, slice_index_or}
+use Rattle.std.proofs.Common.{◌≡◌, ℕ, suc, ◌<◌, ◌≤◌, List, [], ◌∷◌, length, map, refl, ap, sym, ◌∙◌, subst, arith, slice_index_or}
 use Rattle.std.proofs.lemmas.List.{length-map}
 use Rattle.std.specs.List.{AllByRecursion, range_with_len}
 use Rattle.tw_exchange.specs.Board.{Board, workers}
 use Rattle.tw_model.specs.Case.{Case}
 use Rattle.tw_parallel.specs.Sim.{IsSim, Sim}
-use Rattle.tw_table.specs.Shares.{IsRuled, IsWhole, Share}
+use Rattle.tw_shard.specs.Shard.{Shard}
+use Rattle.tw_table.specs.Seats.{bound_at}
+use Rattle.tw_table.specs.Shares.{IsRuled, IsWhole, Share, shares_of}
+use Rattle.tw_table.specs.declared.hand.Hand.{Hand}
+use Rattle.tw_table.specs.declared.seat.Seat.{Seat}
 
 -- there is one case, told by any share
 one_case : (c d : Case) (xs ys : List Share) → 0 < length xs → map (λ s. s.shard.case) xs ≡ map (λ s. s.shard.case) ys
@@ -37,3 +41,16 @@ same_numbers f g n [] [] e h k = refl
 same_numbers f g n [] (y ∷ ys) e h k = absurd (omega (arith, e))
 same_numbers f g n (x ∷ xs) [] e h k = absurd (omega (arith, e))
 same_numbers f g n (x ∷ xs) (y ∷ ys) e h k = λ i. (h.0 ∙ sym k.0) i ∷ same_numbers f g n xs ys (omega (arith, e)) h.1 k.1 i
+
+pub as_many : {A B : Type 0} (f : A → B) (xs ys : List A) → map f xs ≡ map f ys → length xs ≡ length ys
+as_many f xs ys e = sym (length-map xs f) ∙ (ap length e ∙ length-map ys f)
+
+pub long_shares : (shards : List Shard) (hands : List Hand) → length hands ≡ length shards → length (shares_of shards hands) ≡ length shards
+long_shares [] [] e = refl
+long_shares [] (h ∷ hands) e = absurd (omega (arith, e))
+long_shares (s ∷ shards) [] e = absurd (omega (arith, e))
+long_shares (s ∷ shards) (h ∷ hands) e = ap suc (long_shares shards hands (omega (arith, e)))
+
+pub not_above : (n : ℕ) (seats : List Seat) → AllByRecursion (λ s. bound_at s ≡ n) seats → AllByRecursion (λ s. n ≤ bound_at s) seats
+not_above n [] h = tt
+not_above n (s ∷ seats) h = (let e : bound_at s ≡ n = h.0 in omega (arith, e), not_above n seats h.1)

@@ -29,9 +29,9 @@ loop-worker-preserved c =
     let all = c.args.workers.items in
     record {
       apart = one_apart all c.in-Some.worker (into_iter_items c.next.new.self) c.loop-worker.shards.items c.push_reserved.new.self.items
-          c.loop-worker.hands.items c.push_reserved-in-loop-worker.new.self.items c.into_parts.result.0 c.into_parts.result.1
+          c.loop-worker.hands.items c.push_reserved-in-loop-worker.new.self.items c.into_parts-shard.result.0 c.into_parts-shard.result.1
           (subst (λ ws. AreApart all ws c.loop-worker.shards.items c.loop-worker.hands.items) step.0 was.apart)
-          c.into_parts.ensures shard.items hand.items;
+          c.into_parts-shard.ensures shard.items hand.items;
       shards = omega (arith, was.shards, step.1, shard.len, shard.capacity);
       hands = omega (arith, was.hands, step.1, hand.len, hand.capacity);
       rest = (let long = ap length step.0 in omega (arith, was.rest, step.1, long));
