@@ -20,7 +20,7 @@ workers_of-workers-requires-clause-work g c =
     (all_at_work parts.exchange.stop all (λ i s e. c.shares_are_at_work.ensures parts.case.now parts.exchange all i s c.requires.sim.ruled e))
 
 pub run_all-ran-requires-clause-stops : goal.run_all-ran-requires-clause-stops
-run_all-ran-requires-clause-stops g c =
+run_all-ran-requires-clause-stops g c = λ places.
     let n = c.args.parts.exchange.stop in
     let seats = c.in-Ok.opened.1.items in
     let workers = c.workers_of-workers.result.items in
@@ -30,17 +30,21 @@ run_all-ran-requires-clause-stops g c =
     same_numbers stop_at (λ (w : Worker). w.stop) n seats workers long c.in-Ok.ensures.stops
     (subst (λ m. AllByRecursion (λ (w : Worker). w.stop ≡ m) workers) c.stop-stop.ensures.value c.workers_of-workers.ensures.stops)
 
-as_before : (g : goal.Over) (c : goal.After-run_all-ran g) → length c.run_all-ran.result.workers.items ≡ length c.args.parts.shards.items
-as_before g c =
-    let old = c.workers_of-workers.result.items in
-    as_many (λ (w : Worker). w.share.shard.case) c.run_all-ran.result.workers.items old c.run_all-ran.ensures.cases
-    ∙ (sym (length-map old (λ (w : Worker). w.share)) ∙ (ap length c.workers_of-workers.ensures.shares ∙ long_shares c.args.parts.shards.items c.args.parts.hands.items c.requires.hands))
-
 pub parts_of-shards-requires-clause-shards : goal.parts_of-shards-requires-clause-shards
-parts_of-shards-requires-clause-shards g c = (c.requires.room.shards.0, let n = as_before g c in let m = c.requires.room.shards.1 in omega (arith, n, m))
+parts_of-shards-requires-clause-shards g c =
+    let old = c.workers_of-workers.result.items in
+    let n = as_many (λ (w : Worker). w.share.shard.case) c.run_all-ran.result.workers.items old c.run_all-ran.ensures.cases
+        ∙ (sym (length-map old (λ (w : Worker). w.share)) ∙ (ap length c.workers_of-workers.ensures.shares ∙ long_shares c.args.parts.shards.items c.args.parts.hands.items c.requires.hands)) in
+    let m = c.requires.room.shards.1 in
+    (c.requires.room.shards.0, omega (arith, n, m))
 
 pub parts_of-shards-requires-clause-hands : goal.parts_of-shards-requires-clause-hands
-parts_of-shards-requires-clause-hands g c = (c.requires.room.hands.0, let n = as_before g c in let m = c.requires.room.hands.1 in omega (arith, n, m))
+parts_of-shards-requires-clause-hands g c =
+    let old = c.workers_of-workers.result.items in
+    let n = as_many (λ (w : Worker). w.share.shard.case) c.run_all-ran.result.workers.items old c.run_all-ran.ensures.cases
+        ∙ (sym (length-map old (λ (w : Worker). w.share)) ∙ (ap length c.workers_of-workers.ensures.shares ∙ long_shares c.args.parts.shards.items c.args.parts.hands.items c.requires.hands)) in
+    let m = c.requires.room.hands.1 in
+    (c.requires.room.hands.0, omega (arith, n, m))
 
 pub returns-clause-stop : goal.returns-clause-stop
 returns-clause-stop g c = c.run_all-ran.ensures.stop c.args.parts.exchange.stop c.in-Ok.ensures.stops
