@@ -20,7 +20,7 @@ workers_of-workers-requires-clause-work g c =
     (all_at_work parts.exchange.stop all (λ i s e. c.shares_are_at_work.ensures parts.case.now parts.exchange all i s c.requires.sim.ruled e))
 
 pub run_all-ran-requires-clause-stops : goal.run_all-ran-requires-clause-stops
-run_all-ran-requires-clause-stops g c = λ places.
+run_all-ran-requires-clause-stops g c = λ places within.
     let n = c.args.parts.exchange.stop in
     let seats = c.in-Ok.opened.1.items in
     let workers = c.workers_of-workers.result.items in
