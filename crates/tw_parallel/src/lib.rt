@@ -10,11 +10,15 @@
 
 mod collecting;
 mod counts;
+mod crew;
 mod ending;
 mod opening;
+mod running;
 mod sim;
 
 pub use ending::{Ending, NotSettled};
+pub use running::{EndCause, Ended, Options, run_until};
 pub use sim::{Parts, Sim};
 pub use tw_model::OrMemory;
+pub use tw_threads::{Gate, OpenGate};
 pub use tw_warp::StopLower;

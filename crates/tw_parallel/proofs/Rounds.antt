@@ -1,0 +1,56 @@
+-- A run after its workers have left a table.
+use Rattle.std.proofs.Common.{◌≡◌, ℕ, suc, ◌<◌, ◌≤◌, List, [], ◌∷◌, length, map, refl, ap, sym, ◌∙◌, subst, arith, slice_index_or}
+use Rattle.std.proofs.lemmas.List.{length-map}
+use Rattle.std.specs.List.{AllByRecursion, range_with_len}
+use Rattle.tw_exchange.specs.Board.{Board, workers}
+use Rattle.tw_model.specs.Case.{Case}
+use Rattle.tw_parallel.specs.Sim.{IsSim, Sim}
+use Rattle.tw_shard.specs.Shard.{Shard}
+use Rattle.tw_table.specs.Seats.{bound_at}
+use Rattle.tw_table.specs.Shares.{IsRuled, IsWhole, Share, shares_of}
+use Rattle.tw_table.specs.declared.hand.Hand.{Hand}
+use Rattle.tw_table.specs.declared.seat.Seat.{Seat}
+
+-- there is one case, told by any share
+one_case : (c d : Case) (xs ys : List Share) → 0 < length xs → map (λ s. s.shard.case) xs ≡ map (λ s. s.shard.case) ys
+    → AllByRecursion (λ s. s.shard.case ≡ c) xs → AllByRecursion (λ s. s.shard.case ≡ d) ys → c ≡ d
+one_case c d [] ys some same h k = absurd (omega (arith, some))
+one_case c d (x ∷ xs) [] some same h k = absurd (let long = ap length same in omega (arith, long))
+one_case c d (x ∷ xs) (y ∷ ys) some same h k = sym h.0 ∙ (ap (λ cs. slice_index_or cs 0 y.shard.case) same ∙ k.0)
+
+as_long : {A : Type 0} (f : Share → A) (xs ys : List Share) → map f xs ≡ map f ys → length xs ≡ length ys
+as_long f xs ys e = sym (length-map xs f) ∙ (ap length e ∙ length-map ys f)
+
+pub goes_on : (s : Sim) (y : Board) (shares : List Share) → IsSim s → IsWhole y shares → map (λ t. t.shard.case) shares ≡ map (λ t. t.shard.case) s.shares
+    → map (λ t. t.shard.worker) shares ≡ map (λ t. t.shard.worker) s.shares → y.stop ≡ s.board.stop → IsSim (record { case = s.case; board = y; shares = shares })
+goes_on s y shares is whole cases numbers stop =
+    let long = as_long (λ t. t.shard.case) shares s.shares cases in
+    let same : workers y ≡ workers s.board = sym whole.ruled.count ∙ (long ∙ is.ruled.count) in
+    let some : 0 < length shares = (let n = is.some in let m = long ∙ is.ruled.count in omega (arith, n, m)) in
+    let case = one_case whole.case s.case shares s.shares some cases whole.ruled.cases is.ruled.cases in
+    record {
+      some = (let n = is.some in omega (arith, n, same));
+      order = numbers ∙ (is.order ∙ ap (range_with_len 0) (sym same));
+      ruled = subst (λ c. IsRuled c y shares) case whole.ruled;
+      stop = (let n = is.stop in omega (arith, n, stop));
+    }
+
+pub same_numbers : {A B : Type 0} (f : A → ℕ) (g : B → ℕ) (n : ℕ) (xs : List A) (ys : List B) → length xs ≡ length ys → AllByRecursion (λ x. f x ≡ n) xs
+    → AllByRecursion (λ y. g y ≡ n) ys → map f xs ≡ map g ys
+same_numbers f g n [] [] e h k = refl
+same_numbers f g n [] (y ∷ ys) e h k = absurd (omega (arith, e))
+same_numbers f g n (x ∷ xs) [] e h k = absurd (omega (arith, e))
+same_numbers f g n (x ∷ xs) (y ∷ ys) e h k = λ i. (h.0 ∙ sym k.0) i ∷ same_numbers f g n xs ys (omega (arith, e)) h.1 k.1 i
+
+pub as_many : {A B : Type 0} (f : A → B) (xs ys : List A) → map f xs ≡ map f ys → length xs ≡ length ys
+as_many f xs ys e = sym (length-map xs f) ∙ (ap length e ∙ length-map ys f)
+
+pub long_shares : (shards : List Shard) (hands : List Hand) → length hands ≡ length shards → length (shares_of shards hands) ≡ length shards
+long_shares [] [] e = refl
+long_shares [] (h ∷ hands) e = absurd (omega (arith, e))
+long_shares (s ∷ shards) [] e = absurd (omega (arith, e))
+long_shares (s ∷ shards) (h ∷ hands) e = ap suc (long_shares shards hands (omega (arith, e)))
+
+pub not_above : (n : ℕ) (seats : List Seat) → AllByRecursion (λ s. bound_at s ≡ n) seats → AllByRecursion (λ s. n ≤ bound_at s) seats
+not_above n [] h = tt
+not_above n (s ∷ seats) h = (let e : bound_at s ≡ n = h.0 in omega (arith, e), not_above n seats h.1)

@@ -1,0 +1,9 @@
+use Rattle.std.proofs.Common.{◌≡◌, ◌≤◌}
+use Rattle.tw_parallel.proofs.running.run.Given as goal
+
+abbrev pub invariant-loop : goal.invariant-loop
+invariant-loop g l = record {
+  case : l.sim.case ≡ l.fn.sim.case;
+  stop : l.sim.board.stop ≡ l.fn.sim.board.stop;
+  bound : l.fn.sim.board.bound ≤ l.sim.board.bound;
+}

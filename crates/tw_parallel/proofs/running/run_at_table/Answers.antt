@@ -1,0 +1,75 @@
+use Rattle.std.proofs.Common.{◌≡◌, ◌≤◌, List, length, map, ap, sym, ◌∙◌, subst, arith}
+use Rattle.std.proofs.lemmas.List.{length-map}
+use Rattle.std.specs.List.{AllByRecursion}
+use Rattle.tw_parallel.proofs.Crews.{all_at_work}
+use Rattle.tw_parallel.proofs.Rounds.{as_many, goes_on, long_shares, not_above, same_numbers}
+use Rattle.tw_parallel.specs.Inside.{run_of}
+use Rattle.tw_parallel.specs.Sim.{IsSim}
+use Rattle.tw_table.specs.Seats.{share_at, stop_at}
+use Rattle.tw_table.specs.Shares.{Share, shares_of}
+use Rattle.tw_threads.proofs.Ends.{mapped}
+use Rattle.tw_threads.specs.Left.{IsFullAhead}
+use Rattle.tw_workers.specs.Work.{IsAtWork, Worker}
+use Rattle.tw_parallel.proofs.running.run_at_table.Goals as goal
+
+pub workers_of-workers-requires-clause-work : goal.workers_of-workers-requires-clause-work
+workers_of-workers-requires-clause-work g c =
+    let parts = c.args.parts in
+    let all = shares_of parts.shards.items parts.hands.items in
+    subst (λ n. AllByRecursion (IsAtWork n) all) (sym c.stop-stop.ensures.value)
+    (all_at_work parts.exchange.stop all (λ i s e. c.shares_are_at_work.ensures parts.case.now parts.exchange all i s c.requires.sim.ruled e))
+
+pub run_all-ran-requires-clause-stops : goal.run_all-ran-requires-clause-stops
+run_all-ran-requires-clause-stops g c = λ places within.
+    let n = c.args.parts.exchange.stop in
+    let seats = c.in-Ok.opened.1.items in
+    let workers = c.workers_of-workers.result.items in
+    let shares : map share_at seats ≡ map (λ (w : Worker). w.share) workers
+    = c.in-Ok.ensures.shares ∙ ((λ i. shares_of (c.deref.ensures.value i) (c.deref-2.ensures.value i)) ∙ sym c.workers_of-workers.ensures.shares) in
+    let long : length seats ≡ length workers = sym (length-map seats share_at) ∙ (ap length shares ∙ length-map workers (λ (w : Worker). w.share)) in
+    same_numbers stop_at (λ (w : Worker). w.stop) n seats workers long c.in-Ok.ensures.stops
+    (subst (λ m. AllByRecursion (λ (w : Worker). w.stop ≡ m) workers) c.stop-stop.ensures.value c.workers_of-workers.ensures.stops)
+
+pub parts_of-shards-requires-clause-shards : goal.parts_of-shards-requires-clause-shards
+parts_of-shards-requires-clause-shards g c =
+    let old = c.workers_of-workers.result.items in
+    let n = as_many (λ (w : Worker). w.share.shard.case) c.run_all-ran.result.workers.items old c.run_all-ran.ensures.cases
+        ∙ (sym (length-map old (λ (w : Worker). w.share)) ∙ (ap length c.workers_of-workers.ensures.shares ∙ long_shares c.args.parts.shards.items c.args.parts.hands.items c.requires.hands)) in
+    let m = c.requires.room.shards.1 in
+    (c.requires.room.shards.0, omega (arith, n, m))
+
+pub parts_of-shards-requires-clause-hands : goal.parts_of-shards-requires-clause-hands
+parts_of-shards-requires-clause-hands g c =
+    let old = c.workers_of-workers.result.items in
+    let n = as_many (λ (w : Worker). w.share.shard.case) c.run_all-ran.result.workers.items old c.run_all-ran.ensures.cases
+        ∙ (sym (length-map old (λ (w : Worker). w.share)) ∙ (ap length c.workers_of-workers.ensures.shares ∙ long_shares c.args.parts.shards.items c.args.parts.hands.items c.requires.hands)) in
+    let m = c.requires.room.hands.1 in
+    (c.requires.room.hands.0, omega (arith, n, m))
+
+pub returns-clause-stop : goal.returns-clause-stop
+returns-clause-stop g c = c.run_all-ran.ensures.stop c.args.parts.exchange.stop c.in-Ok.ensures.stops
+
+pub returns-clause-sim : goal.returns-clause-sim
+returns-clause-sim g c =
+    let ran = c.run_all-ran.ensures in
+    let old = c.workers_of-workers.result.items in
+    let new = c.run_all-ran.result.workers.items in
+    let share : Worker → Share = λ w. w.share in
+    let made = c.workers_of-workers.ensures.shares in
+    let parts = c.args.parts in
+    subst (λ (ss : List Share). IsSim (record { case = parts.case.now; board = c.run_all-ran.result.exchange; shares = ss })) (sym c.parts_of-shards.ensures.shares)
+    (goes_on (run_of parts) c.run_all-ran.result.exchange (map share new) c.requires.sim ran.whole
+    (sym (mapped share (λ s. s.shard.case) new) ∙ (ran.cases ∙ (mapped share (λ s. s.shard.case) old ∙ ap (map (λ (s : Share). s.shard.case)) made)))
+    (sym (mapped share (λ s. s.shard.worker) new) ∙ (ran.numbers ∙ (mapped share (λ s. s.shard.worker) old ∙ ap (map (λ (s : Share). s.shard.worker)) made)))
+    (ran.stop parts.exchange.stop c.in-Ok.ensures.stops))
+
+pub returns-clause-bound : goal.returns-clause-bound
+returns-clause-bound g c = c.run_all-ran.ensures.bound c.args.parts.exchange.bound (not_above c.args.parts.exchange.bound c.in-Ok.opened.1.items c.in-Ok.ensures.bounds)
+
+pub returns-clause-full : goal.returns-clause-full
+returns-clause-full g c = λ is.
+    let ran = c.run_all-ran.ensures in
+    let stop = c.args.parts.exchange.stop in
+    let new = map (λ (w : Worker). w.share) c.run_all-ran.result.workers.items in
+    subst (IsFullAhead c.run_all-ran.result.exchange.stop) (sym c.parts_of-shards.ensures.shares)
+    (subst (λ n. IsFullAhead n new) (sym (ran.stop stop c.in-Ok.ensures.stops)) (ran.full stop c.in-Ok.ensures.stops is))
