@@ -1,7 +1,7 @@
 -- A program whose command never gets stuck never stops by a full counter.
 use Rattle.std.proofs.Common.{ℕ, Bool, List, Option, Result, Ok, Err, inl, inr}
 use Rattle.tw_commands.specs.declared.cause.Cause.{Cause}
-use Rattle.tw_commands.specs.declared.cause.Cause.TheVariants.{Memory, CounterFull, Device}
+use Rattle.tw_commands.specs.declared.cause.Cause.TheVariants.{Memory, CounterFull, NoThread, Device}
 use Rattle.tw_commands.specs.declared.cause.Status.{Status}
 use Rattle.tw_commands.specs.ForCase.{StuckFor}
 use Rattle.tw_commands.specs.Output.{Answers, Leaves, Output}
@@ -16,6 +16,7 @@ leaves_weaker : (result : Result Status Cause) (output : Output) (stuck other : 
 leaves_weaker (Ok status) output stuck other old new failed f h = h
 leaves_weaker (Err Memory) output stuck other old new failed f h = h
 leaves_weaker (Err CounterFull) output stuck other old new failed f h = (f h.0, h.1)
+leaves_weaker (Err NoThread) output stuck other old new failed f h = h
 leaves_weaker (Err Device) output stuck other old new failed f h = h
 
 pub answers_never : {I : Type 0} (result : Result Status Cause) (output : List ℕ → Output) (read : List ℕ → Result I TextFault) (known old new : Option (List ℕ)) (reader writer : Bool)

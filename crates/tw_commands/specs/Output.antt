@@ -2,7 +2,7 @@
 use Rattle.std.specs.Prelude.{ℕ, ◌≡◌, ◌⊎◌, Bool, false, true, List, Option, Result, Ok, Err}
 use Rattle.std.specs.Io.KnownBytes.{Appends, Keeps}
 use Rattle.tw_commands.specs.declared.cause.Cause.{Cause}
-use Rattle.tw_commands.specs.declared.cause.Cause.TheVariants.{Memory, CounterFull, Device}
+use Rattle.tw_commands.specs.declared.cause.Cause.TheVariants.{Memory, CounterFull, NoThread, Device}
 use Rattle.tw_commands.specs.declared.cause.Status.{Status}
 use Rattle.tw_device.specs.Sink.{Begins}
 use Rattle.tw_device.specs.Source.{IsInput}
@@ -33,6 +33,7 @@ abbrev pub Leaves : Result Status Cause → Output → Type 0 → Option (List �
 Leaves (Ok status) output stuck old new failed = IsDone status output old new failed
 Leaves (Err Memory) output stuck old new failed = IsUntouched old new failed
 Leaves (Err CounterFull) output stuck old new failed = stuck × IsUntouched old new failed
+Leaves (Err NoThread) output stuck old new failed = IsUntouched old new failed
 Leaves (Err Device) output stuck old new failed = IsCutOff output.text old new failed
 
 -- the source failed, and nothing was written

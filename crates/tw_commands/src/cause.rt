@@ -18,6 +18,9 @@ pub enum Cause {
     /// A counter of a router would have passed its limit.
     #[error("stopped counter")]
     CounterFull,
+    /// A thread could not be started.
+    #[error("stopped thread")]
+    NoThread,
     /// The source or the sink failed.
     #[error("stopped device")]
     Device,

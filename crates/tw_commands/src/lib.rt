@@ -24,6 +24,7 @@ pub use cause::{Cause, Status};
 pub use check::check_io;
 pub use command::{Command, answer_io};
 pub use input::{Input, Script};
+pub use refusal::refuse;
 pub use replay::replay_io;
 pub use seq::seq_io;
 pub use trail::trail_io;

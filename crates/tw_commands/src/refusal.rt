@@ -10,7 +10,7 @@ use tw_report::put_line;
 use tw_text::TextFault;
 
 /// Writes where and why a text is refused.
-pub(crate) fn refuse<W: Sink>(sink: &mut W, fault: TextFault) -> Result<Status, Cause>
+pub fn refuse<W: Sink>(sink: &mut W, fault: TextFault) -> Result<Status, Cause>
     requires { W.failed sink.old ≡ false }
     ensures { Leaves result (refusal_output (refusal_text fault ++ 10 ∷ [])) ⊥ (W.written sink.old) (W.written sink.new) (W.failed sink.new) }
 {

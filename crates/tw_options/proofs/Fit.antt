@@ -15,8 +15,9 @@ use Rattle.clap.specs.Walk.{Row, Rule, Text, Walk, answers_to, finished, nothing
 use Rattle.clap.specs.Words.{HasMatchesOf, fault_of, subcommand_of, subcommand_rows_of}
 use Rattle.clap.specs.declared.parser.matches.ArgMatches.{ArgMatches}
 use Rattle.tw_model.specs.declared.limits.TheConstants.{LATEST, MOST_ROUTERS, MOST_WORKERS}
-use Rattle.tw_options.specs.App.{check_app, number_rule, replay_app, seq_app, trail_app, twarp_app}
-use Rattle.tw_options.specs.Fit.{Fits, HasNumber, HasNumberIfGiven, HasReplay, HasSeq, HasTrail, IsFit}
+use Rattle.tw_options.specs.App.{check_app, number_rule, replay_app, run_app, seq_app, trail_app, twarp_app}
+use Rattle.tw_options.specs.declared.number.TheConstants.{MOST_BATCH}
+use Rattle.tw_options.specs.Fit.{Fits, HasNumber, HasNumberIfGiven, HasReplay, HasRun, HasSeq, HasTrail, IsFit}
 use Rattle.tw_options.proofs.Kept.{Fits as FitsRule, GoodRows, accepted, found_has, given_good, good_level, none_of_both, taken_text}
 use Rattle.tw_options.proofs.Stop.{IsNoHelp, no_help}
 
@@ -25,10 +26,11 @@ abbrev leaf : Shape → Shape
 leaf s = built_leaf (inherited (with_leaf_noted (marked_built twarp_app.top)) s)
 
 abbrev IsOurs : Shape → Type 0
-IsOurs s = (s ≡ leaf check_app.top) ⊎ ((s ≡ leaf seq_app.top) ⊎ ((s ≡ leaf trail_app.top) ⊎ ((s ≡ leaf replay_app.top) ⊎ (s ≡ built_leaf help_shape))))
+IsOurs s =
+    (s ≡ leaf check_app.top) ⊎ ((s ≡ leaf seq_app.top) ⊎ ((s ≡ leaf run_app.top) ⊎ ((s ≡ leaf trail_app.top) ⊎ ((s ≡ leaf replay_app.top) ⊎ (s ≡ built_leaf help_shape)))))
 
 all_ours : AllByRecursion IsOurs (built twarp_app).subs
-all_ours = (inl refl, (inr (inl refl), (inr (inr (inl refl)), (inr (inr (inr (inl refl))), (inr (inr (inr (inr refl))), tt)))))
+all_ours = (inl refl, (inr (inl refl), (inr (inr (inl refl)), (inr (inr (inr (inl refl))), (inr (inr (inr (inr (inl refl)))), (inr (inr (inr (inr (inr refl)))), tt))))))
 
 -- an option, as the parser builds it
 abbrev option_rule : Text → Bool → ℕ → ℕ → Rule
@@ -69,6 +71,33 @@ module _ (words : List Text) where
       let stop = first_given (is_given (codes "stop") rows) _ s.1 in record {
         stop = has_number (codes "stop") 1 LATEST rows s.0 stop.0;
         every = has_number_if_given (codes "every") 1 LATEST rows e.0;
+      }
+
+  run_stop_fits : AllByRecursion (FitsRule (option_rule (codes "stop") true 1 LATEST)) (leaf run_app.top).rules
+  run_stop_fits = (((λ _. refl), tt), (((λ e. cc), tt), (((λ e. cc), tt), (((λ e. cc), tt), (((λ e. cc), tt), (((λ e. cc), tt), tt))))))
+
+  run_every_fits : AllByRecursion (FitsRule (option_rule (codes "every") false 1 LATEST)) (leaf run_app.top).rules
+  run_every_fits = (((λ e. cc), tt), (((λ _. refl), tt), (((λ e. cc), tt), (((λ e. cc), tt), (((λ e. cc), tt), (((λ e. cc), tt), tt))))))
+
+  run_workers_fits : AllByRecursion (FitsRule (option_rule (codes "workers") false 1 MOST_WORKERS)) (leaf run_app.top).rules
+  run_workers_fits = (((λ e. cc), tt), (((λ e. cc), tt), (((λ e. cc), tt), (((λ _. refl), tt), (((λ e. cc), tt), (((λ e. cc), tt), tt))))))
+
+  run_batch_fits : AllByRecursion (FitsRule (option_rule (codes "batch") false 1 MOST_BATCH)) (leaf run_app.top).rules
+  run_batch_fits = (((λ e. cc), tt), (((λ e. cc), tt), (((λ e. cc), tt), (((λ e. cc), tt), (((λ _. refl), tt), (((λ e. cc), tt), tt))))))
+
+  run_level : level_fault (leaf run_app.top) [] nothing_held words false [] ≡ []
+      → HasRun (rows_after (leaf run_app.top).rules [] words)
+  run_level f =
+      let rows = rows_after (leaf run_app.top).rules [] words in
+      let s = good_level (option_rule (codes "stop") true 1 LATEST) (record { one = refl; no_default = refl }) (leaf run_app.top) run_stop_fits refl [] words false [] f in
+      let e = good_level (option_rule (codes "every") false 1 LATEST) (record { one = refl; no_default = refl }) (leaf run_app.top) run_every_fits refl [] words false [] f in
+      let w = good_level (option_rule (codes "workers") false 1 MOST_WORKERS) (record { one = refl; no_default = refl }) (leaf run_app.top) run_workers_fits refl [] words false [] f in
+      let b = good_level (option_rule (codes "batch") false 1 MOST_BATCH) (record { one = refl; no_default = refl }) (leaf run_app.top) run_batch_fits refl [] words false [] f in
+      let stop = first_given (is_given (codes "stop") rows) _ s.1 in record {
+        stop = has_number (codes "stop") 1 LATEST rows s.0 stop.0;
+        every = has_number_if_given (codes "every") 1 LATEST rows e.0;
+        workers = has_number_if_given (codes "workers") 1 MOST_WORKERS rows w.0;
+        batch = has_number_if_given (codes "batch") 1 MOST_BATCH rows b.0;
       }
 
   router_fits : AllByRecursion (FitsRule (option_rule (codes "router") true 0 (MOST_ROUTERS - 1))) (leaf trail_app.top).rules
@@ -131,6 +160,7 @@ leaf_fit p s ours named other f = elim ours [
       (record {
         known = inl refl;
         seq = λ e. absurd (differ (codes "check") (codes "seq") refl e);
+        run = λ e. absurd (differ (codes "check") (codes "run") refl e);
         trail = λ e. absurd (differ (codes "check") (codes "trail") refl e);
         replay = λ e. absurd (differ (codes "check") (codes "replay") refl e);
       })
@@ -138,24 +168,35 @@ leaf_fit p s ours named other f = elim ours [
       (record {
         known = inr (inl refl);
         seq = λ e. seq_level p.1 (subst (λ (x : Shape). level_fault x [] nothing_held p.1 false [] ≡ []) is f);
+        run = λ e. absurd (differ (codes "seq") (codes "run") refl e);
         trail = λ e. absurd (differ (codes "seq") (codes "trail") refl e);
         replay = λ e. absurd (differ (codes "seq") (codes "replay") refl e);
       })
   | inr (inr (inl is)) ↦ subst (λ (x : Shape). Fits x.name (rows_after x.rules [] p.1)) (sym is)
       (record {
         known = inr (inr (inl refl));
-        seq = λ e. absurd (differ (codes "trail") (codes "seq") refl e);
-        trail = λ e. trail_level p.1 (subst (λ (x : Shape). level_fault x [] nothing_held p.1 false [] ≡ []) is f);
-        replay = λ e. absurd (differ (codes "trail") (codes "replay") refl e);
+        seq = λ e. absurd (differ (codes "run") (codes "seq") refl e);
+        run = λ e. run_level p.1 (subst (λ (x : Shape). level_fault x [] nothing_held p.1 false [] ≡ []) is f);
+        trail = λ e. absurd (differ (codes "run") (codes "trail") refl e);
+        replay = λ e. absurd (differ (codes "run") (codes "replay") refl e);
       })
   | inr (inr (inr (inl is))) ↦ subst (λ (x : Shape). Fits x.name (rows_after x.rules [] p.1)) (sym is)
       (record {
-        known = inr (inr (inr refl));
+        known = inr (inr (inr (inl refl)));
+        seq = λ e. absurd (differ (codes "trail") (codes "seq") refl e);
+        run = λ e. absurd (differ (codes "trail") (codes "run") refl e);
+        trail = λ e. trail_level p.1 (subst (λ (x : Shape). level_fault x [] nothing_held p.1 false [] ≡ []) is f);
+        replay = λ e. absurd (differ (codes "trail") (codes "replay") refl e);
+      })
+  | inr (inr (inr (inr (inl is)))) ↦ subst (λ (x : Shape). Fits x.name (rows_after x.rules [] p.1)) (sym is)
+      (record {
+        known = inr (inr (inr (inr refl)));
         seq = λ e. absurd (differ (codes "replay") (codes "seq") refl e);
+        run = λ e. absurd (differ (codes "replay") (codes "run") refl e);
         trail = λ e. absurd (differ (codes "replay") (codes "trail") refl e);
         replay = λ e. replay_level p.1 (subst (λ (x : Shape). level_fault x [] nothing_held p.1 false [] ≡ []) is f);
       })
-  | inr (inr (inr (inr is))) ↦
+  | inr (inr (inr (inr (inr is)))) ↦
       let help : answers_to p.0 (label_of (built_leaf help_shape)) ≡ true = subst (λ (x : Shape). answers_to p.0 (label_of x) ≡ true) is named in
       absurd (not_both p.0 help other)
 ]

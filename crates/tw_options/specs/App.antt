@@ -4,6 +4,7 @@ use Rattle.clap.specs.Words.{App, Rule, Text, new_app, new_rule, with_rule, with
 use Rattle.clap.specs.declared.builder.action.ArgAction.TheVariants.{Set, SetTrue}
 use Rattle.clap.specs.declared.builder.value_parser.ValueParser.TheVariants as vp
 use Rattle.tw_model.specs.declared.limits.TheConstants.{LATEST, MOST_ROUTERS, MOST_WORKERS}
+use Rattle.tw_options.specs.declared.number.TheConstants.{MOST_BATCH}
 
 -- an option `--id`, which may be required, that takes a number from least to most
 abbrev pub number_rule : Text → Bool → ℕ → ℕ → Rule
@@ -39,6 +40,10 @@ keep_rule = number_rule (codes "keep") true 0 LATEST
 abbrev pub workers_rule : Rule
 workers_rule = number_rule (codes "workers") false 1 MOST_WORKERS
 
+-- `--batch B`: how many events a worker handles at most between two meetings
+abbrev pub batch_rule : Rule
+batch_rule = number_rule (codes "batch") false 1 MOST_BATCH
+
 -- `twarp check`
 abbrev pub check_app : App
 check_app = new_app (codes "check")
@@ -46,6 +51,14 @@ check_app = new_app (codes "check")
 -- `twarp seq --stop N [--every T] [--log]`
 abbrev pub seq_app : App
 seq_app = with_rule (with_rule (with_rule (new_app (codes "seq")) stop_rule) every_rule) log_rule
+
+-- `twarp run` with the options of `seq`
+abbrev pub run_app_alone : App
+run_app_alone = with_rule (with_rule (with_rule (new_app (codes "run")) stop_rule) every_rule) log_rule
+
+-- `twarp run --stop N [--every T] [--log] [--workers W] [--batch B]`
+abbrev pub run_app : App
+run_app = with_rule (with_rule run_app_alone workers_rule) batch_rule
 
 -- `twarp trail --router R --stop S --keep K`
 abbrev pub trail_app : App
@@ -59,10 +72,10 @@ replay_app = with_rule (with_rule (new_app (codes "replay")) stop_rule) workers_
 abbrev pub top_app : App
 top_app = let a = new_app (codes "twarp") in record a { top = record a.top { subcommand_required = true; has_version = true } }
 
--- `twarp` with the subcommands whose input is a case alone
-abbrev pub case_app : App
-case_app = with_subcommand (with_subcommand (with_subcommand top_app check_app.top) seq_app.top) trail_app.top
+-- `twarp` with the subcommands that check a case and report its run
+abbrev pub report_app : App
+report_app = with_subcommand (with_subcommand (with_subcommand top_app check_app.top) seq_app.top) run_app.top
 
 -- `twarp` with its subcommands
 abbrev pub twarp_app : App
-twarp_app = with_subcommand case_app replay_app.top
+twarp_app = with_subcommand (with_subcommand report_app trail_app.top) replay_app.top

@@ -3,6 +3,7 @@ use Rattle.std.specs.Prelude.{◌≡◌, ◌⊎◌, ◌-◌, ℕ, List, Option, 
 use Rattle.clap.specs.Values.{IsUnsignedIn}
 use Rattle.clap.specs.Words.{Row, Text, one_of}
 use Rattle.tw_model.specs.declared.limits.TheConstants.{LATEST, MOST_ROUTERS, MOST_WORKERS}
+use Rattle.tw_options.specs.declared.number.TheConstants.{MOST_BATCH}
 
 -- the option id has a text, which is a numeral for a number in the bounds
 abbrev pub HasNumber : Text → ℕ → ℕ → List Row → Type 0
@@ -17,6 +18,13 @@ pub record HasSeq (rows : List Row) : Type 0 where
   pub stop : HasNumber (codes "stop") 1 LATEST rows
   pub every : HasNumberIfGiven (codes "every") 1 LATEST rows
 
+-- the numbers that `run` takes
+pub record HasRun (rows : List Row) : Type 0 where
+  pub stop : HasNumber (codes "stop") 1 LATEST rows
+  pub every : HasNumberIfGiven (codes "every") 1 LATEST rows
+  pub workers : HasNumberIfGiven (codes "workers") 1 MOST_WORKERS rows
+  pub batch : HasNumberIfGiven (codes "batch") 1 MOST_BATCH rows
+
 -- the numbers that `trail` takes
 pub record HasTrail (rows : List Row) : Type 0 where
   pub router : HasNumber (codes "router") 0 (MOST_ROUTERS - 1) rows
@@ -30,8 +38,9 @@ pub record HasReplay (rows : List Row) : Type 0 where
 
 -- a subcommand of ours was matched, with each option that it requires
 pub record Fits (name : Text) (rows : List Row) : Type 0 where
-  pub known : (name ≡ codes "check") ⊎ ((name ≡ codes "seq") ⊎ ((name ≡ codes "trail") ⊎ (name ≡ codes "replay")))
+  pub known : (name ≡ codes "check") ⊎ ((name ≡ codes "seq") ⊎ ((name ≡ codes "run") ⊎ ((name ≡ codes "trail") ⊎ (name ≡ codes "replay"))))
   pub seq : name ≡ codes "seq" → HasSeq rows
+  pub run : name ≡ codes "run" → HasRun rows
   pub trail : name ≡ codes "trail" → HasTrail rows
   pub replay : name ≡ codes "replay" → HasReplay rows
 

@@ -3,8 +3,9 @@ use Rattle.std.specs.Prelude.{◌≡◌, ◌⊎◌, ◌≤◌, ◌↔◌, ◌-�
 use Rattle.std.specs.Str.Parse.{IsNumeral, digits_value, without_leading_plus}
 use Rattle.clap.specs.Words.{Row, Text, one_of}
 use Rattle.tw_model.specs.declared.limits.TheConstants.{LATEST, MOST_ROUTERS, MOST_WORKERS}
+use Rattle.tw_options.specs.declared.number.TheConstants.{MOST_BATCH}
 use Rattle.tw_options.specs.declared.command_line.CommandLine.{CommandLine}
-use Rattle.tw_options.specs.declared.command_line.CommandLine.TheVariants.{Check, Seq, Trail, Replay}
+use Rattle.tw_options.specs.declared.command_line.CommandLine.TheVariants.{Check, Seq, Run, Trail, Replay}
 
 -- n is the number given for the option id: its text is a decimal numeral for n, and n lies in the bounds
 pub record IsNumberGiven (id : Text) (least most : ℕ) (rows : List Row) (n : ℕ) : Type 0 where
@@ -35,6 +36,10 @@ Says (Some found) Check = found.0 ≡ codes "check"
 Says (Some found) (Seq stop every log) =
     (found.0 ≡ codes "seq") × IsNumberGiven (codes "stop") 1 LATEST found.1 stop
     × IsNumberIfGiven (codes "every") 1 LATEST found.1 every × Sets (codes "log") found.1 log
+Says (Some found) (Run stop every log workers batch) =
+    (found.0 ≡ codes "run") × IsNumberGiven (codes "stop") 1 LATEST found.1 stop
+    × IsNumberIfGiven (codes "every") 1 LATEST found.1 every × Sets (codes "log") found.1 log
+    × IsNumberOr (codes "workers") 1 MOST_WORKERS 4 found.1 workers × IsNumberOr (codes "batch") 1 MOST_BATCH 64 found.1 batch
 Says (Some found) (Trail router stop keep) =
     (found.0 ≡ codes "trail") × IsNumberGiven (codes "router") 0 (MOST_ROUTERS - 1) found.1 router
     × IsNumberGiven (codes "stop") 1 LATEST found.1 stop × IsNumberGiven (codes "keep") 0 LATEST found.1 keep

@@ -1,10 +1,10 @@
 ghost use Rattle.std.specs.Prelude.{IfOk, ◌≡◌, false};
 ghost use Rattle.clap.specs.Words.{app_of, rule_of};
 ghost use Rattle.clap.specs.declared.builder.command.Command.TheViews.{out-Command as fields_of};
-ghost use Rattle.tw_options.specs.App.{case_app, check_app, log_rule, replay_app, seq_app, top_app, trail_app, twarp_app};
+ghost use Rattle.tw_options.specs.App.{check_app, log_rule, replay_app, report_app, run_app, run_app_alone, seq_app, top_app, trail_app, twarp_app};
 
 use crate::help;
-use crate::number::{EVERY, KEEP, ROUTER, STOP, WORKERS};
+use crate::number::{BATCH, EVERY, KEEP, ROUTER, STOP, THREADS, WORKERS};
 use clap::{Arg, ArgAction, Command};
 use std::alloc::{AllocError, Global};
 
@@ -12,18 +12,20 @@ use std::alloc::{AllocError, Global};
 pub(crate) fn twarp<'a>(alloc: Global) -> Result<Command<'a>, AllocError>
     ensures { IfOk result (λ command. app_of command ≡ twarp_app) }
 {
-    case_commands(alloc)?.subcommand(replay(alloc)?)
+    reports(alloc)?
+        .subcommand(trail(alloc)?)?
+        .subcommand(replay(alloc)?)
 }
 
-/// The command with the subcommands whose input is a case alone.
-fn case_commands<'a>(alloc: Global) -> Result<Command<'a>, AllocError>
-    ensures app { IfOk result (λ command. app_of command ≡ case_app) }
+/// The command with the subcommands that check a case and report its run.
+fn reports<'a>(alloc: Global) -> Result<Command<'a>, AllocError>
+    ensures app { IfOk result (λ command. app_of command ≡ report_app) }
     ensures local { IfOk result (λ command. (fields_of command).has_globals ≡ false) }
 {
     top(alloc)
         .subcommand(check(alloc))?
         .subcommand(seq(alloc)?)?
-        .subcommand(trail(alloc)?)
+        .subcommand(run(alloc)?)
 }
 
 fn top<'a>(alloc: Global) -> Command<'a>
@@ -58,6 +60,30 @@ fn seq<'a>(alloc: Global) -> Result<Command<'a>, AllocError>
         .after_help(help::STATUSES)
         .arg(STOP.arg(alloc))?
         .arg(EVERY.arg(alloc).long_help(help::EVERY_LONG))?
+        .arg(log(alloc))
+}
+
+fn run<'a>(alloc: Global) -> Result<Command<'a>, AllocError>
+    ensures app { IfOk result (λ command. app_of command ≡ run_app) }
+    ensures local { IfOk result (λ command. (fields_of command).has_globals ≡ false) }
+{
+    run_alone(alloc)?
+        .arg(THREADS.arg(alloc))?
+        .arg(BATCH.arg(alloc))
+}
+
+/// `run` with the options that it shares with `seq`.
+fn run_alone<'a>(alloc: Global) -> Result<Command<'a>, AllocError>
+    ensures app { IfOk result (λ command. app_of command ≡ run_app_alone) }
+    ensures local { IfOk result (λ command. (fields_of command).has_globals ≡ false) }
+{
+    let every = EVERY.arg(alloc).long_help(help::EVERY_LONG);
+    Command::new(alloc, "run")
+        .about(help::RUN)
+        .long_about(help::RUN_LONG)
+        .after_help(help::STATUSES)
+        .arg(STOP.arg(alloc))?
+        .arg(every)?
         .arg(log(alloc))
 }
 

@@ -1,9 +1,9 @@
 ghost use Rattle.std.specs.Prelude.{Some, codes};
 ghost use Rattle.clap.specs.Words.{found_of, rows_of, subcommand_rows_of};
-ghost use Rattle.tw_options.specs.Fit.{HasReplay, HasSeq, HasTrail, IsFit};
+ghost use Rattle.tw_options.specs.Fit.{HasReplay, HasRun, HasSeq, HasTrail, IsFit};
 ghost use Rattle.tw_options.specs.Says.{Says, Sets};
 
-use crate::number::{EVERY, KEEP, ROUTER, STOP, WORKERS};
+use crate::number::{BATCH, EVERY, KEEP, ROUTER, STOP, THREADS, WORKERS};
 use clap::ArgMatches;
 
 /// What a command line asks for. The input comes from standard input, and times are in ticks.
@@ -20,6 +20,19 @@ pub enum CommandLine {
         every: Option<u64>,
         /// Whether the report lists the events.
         log: bool,
+    },
+    /// The same report, by workers that run ahead of one another.
+    Run {
+        /// From 1 to 1,000,000,000.
+        stop: u64,
+        /// As of `Seq`.
+        every: Option<u64>,
+        /// Whether the report lists the events.
+        log: bool,
+        /// How many workers share the routers, from 1 to 16; each is a thread.
+        workers: u32,
+        /// How many events a worker handles at most between two meetings, from 1 to 4,096.
+        batch: u32,
     },
     /// One router's events of the run of a case below `stop`, the last ones undone.
     Trail {
@@ -48,6 +61,7 @@ pub(crate) fn command_line_of(matches: &ArgMatches<'_>) -> CommandLine
     match name {
         "check" => CommandLine::Check,
         "seq" => seq_of(given),
+        "run" => run_of(given),
         "trail" => trail_of(given),
         "replay" => replay_of(given),
         _ => unreachable!(),
@@ -62,6 +76,20 @@ fn seq_of(given: &ArgMatches<'_>) -> CommandLine
         stop: STOP.read(given),
         every: EVERY.read_if_given(given),
         log: is_set(given, "log"),
+    }
+}
+
+fn run_of(given: &ArgMatches<'_>) -> CommandLine
+    requires { HasRun (rows_of (found_of given.now)) }
+    ensures { Says (Some (codes "run", rows_of (found_of given.now))) result }
+{
+    let every = EVERY.read_if_given(given);
+    CommandLine::Run {
+        stop: STOP.read(given),
+        every,
+        log: is_set(given, "log"),
+        workers: THREADS.read_or(given, 4) as u32,
+        batch: BATCH.read_or(given, 64) as u32,
     }
 }
 

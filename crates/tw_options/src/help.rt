@@ -54,6 +54,24 @@ An oscillation is looked for where --every is given.
 Example:
   twarp seq --stop 20 --every 1 --log < case.txt";
 
+pub(crate) const RUN: &str = "Does the same with several threads, and reports the same";
+
+pub(crate) const RUN_LONG: &str = "\
+Does the same as seq with several threads, and reports the same.
+
+Reads a case text from standard input. The routers are dealt out to --workers workers, each a
+thread of its own. A worker handles its routers' events below --stop ahead of the others, up to
+--batch of them at a time; then it meets the others at a table, where messages change hands.
+Where a message comes late, its router rolls back. The report is that of seq, byte for byte,
+whatever the number of workers and the batch: each router's counters and path at the end of the
+run, and a verdict. `twarp seq --help` says what the verdicts mean.
+
+An oscillation is looked for where --every is given. The workers then come together at
+each checkpoint, so that a small --every makes them wait for one another often.
+
+Example:
+  twarp run --stop 20 --workers 2 --log < case.txt";
+
 pub(crate) const EVERY_LONG: &str = "\
 Look for a period at the multiples of this time, in ticks: 1 to 1000000000
 
@@ -126,6 +144,6 @@ Exit status:
   0  done
   1  the input was refused, or --router is none of its routers; one line on standard output
      says why
-  2  stopped for want of memory, by a full counter or by a failed device; one line on standard
-     error says which
+  2  stopped for want of memory or of a thread, by a full counter or by a failed device; one
+     line on standard error says which
   3  the command line was refused; standard error says why";

@@ -9,6 +9,9 @@ use clap::{Arg, ArgAction, ArgMatches};
 use std::alloc::Global;
 use tw_model::limits::{LATEST, MOST_ROUTERS, MOST_WORKERS};
 
+/// How many events a worker handles at most between two meetings.
+pub(crate) const MOST_BATCH: u32 = 4_096;
+
 /// An option `--id` that takes a number from `least` to `most`.
 #[derive(Clone, Copy)]
 pub(crate) struct NumberOption {
@@ -63,6 +66,20 @@ pub(crate) const WORKERS: NumberOption = NumberOption {
     least: 1,
     most: MOST_WORKERS as u64,
     help: "How many workers the routers are dealt out to: 1 to 16, and 1 where none is given",
+};
+
+pub(crate) const THREADS: NumberOption = NumberOption {
+    help: "How many workers share the routers, each a thread: 1 to 16, and 4 where none is given",
+    ..WORKERS
+};
+
+pub(crate) const BATCH: NumberOption = NumberOption {
+    id: "batch",
+    value_name: "COUNT",
+    is_required: false,
+    least: 1,
+    most: MOST_BATCH as u64,
+    help: "How many events a worker handles between two meetings at most: 1 to 4096, or else 64",
 };
 
 impl NumberOption {
