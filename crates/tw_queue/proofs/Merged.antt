@@ -1,6 +1,5 @@
 -- The events of a ring and of a heap together.
-use Rattle.std.proofs.Common.{◌≡◌, ◌<◌, ◌+◌, ◌++◌, ℕ, Bool, true, false, Option, Some, None, List, [], ◌∷◌, length, drop, slice_get, refl, ap, sym, ◌∙◌, subst, inl, inr, arith}
-use Rattle.std.specs.List.{AllByRecursion}
+use Rattle.std.proofs.Common.{◌≡◌, ◌<◌, ◌++◌, ℕ, true, false, Some, None, List, [], ◌∷◌, length, drop, slice_get, refl, ap, sym, ◌∙◌, subst, inl, inr, arith}
 use Rattle.std.specs.List.Sorted.{IsPermutation}
 use Rattle.std.specs.BinaryHeap.{IsUpperBound}
 use Rattle.std.specs.declared.cmp.Reverse.{Reverse}
@@ -9,14 +8,14 @@ use Rattle.std.proofs.lemmas.List.Sorted.{IsPermutation-map}
 use Rattle.std.proofs.lemmas.Option.{none-some}
 use Rattle.tw_event.specs.declared.event.Event.{Event}
 use Rattle.tw_event.specs.Order.{event_before, event_same}
-use Rattle.tw_sim.specs.Ordered.{insert, one, times}
+use Rattle.tw_sim.specs.Ordered.{insert, times}
 use Rattle.tw_sim.specs.Rising.{IsRising}
 use Rattle.tw_sim.proofs.Ordered.{all-insert, not_back, not_before, times-insert}
 use Rattle.tw_queue.specs.Heap.{heap_events}
 use Rattle.tw_queue.specs.InOrder.{in_order}
 use Rattle.tw_queue.specs.Queue.{AreFor, IsQueue}
 use Rattle.tw_queue.proofs.Ordered.{all-in_order, cases_zero, in_order-permutation, in_order-times, rising-in_order, times-in_order}
-use Rattle.tw_queue.proofs.Events.{IsLeast, event_law, first_is_least, first_of_least, first_popped, homes_popped, homes_pushed, least_is, later, none_first, same_some}
+use Rattle.tw_queue.proofs.Events.{IsLeast, event_law, first_is_least, first_of_least, first_popped, homes_popped, homes_pushed, later, none_first, same_some}
 use Rattle.tw_queue.proofs.Lists.{times-append}
 use Rattle.tw_queue.proofs.Tables.{in_order_rising, nothing}
 

@@ -1,5 +1,5 @@
 -- Events by time: the tick at hand, and later ticks, each in its bucket.
-use Rattle.std.proofs.Common.{◌≡◌, ◌≤◌, ◌<◌, ◌+◌, ◌++◌, ◌⊎◌, ℕ, suc, zero, true, false, Option, Some, None, List, [], ◌∷◌}
+use Rattle.std.proofs.Common.{◌≡◌, ◌≤◌, ◌<◌, ◌+◌, ◌++◌, ◌⊎◌, ℕ, suc, zero, false, Option, Some, None, List, [], ◌∷◌}
 use Rattle.std.proofs.Common.{length, map, drop, replicate, get_or, set, slice_get, refl, ap, sym, ◌∙◌, subst, inl, inr, arith, get_or-set_same, get_or-set_other}
 use Rattle.std.proofs.lemmas.Bool.{cases_Bool, cases_eq, cases_lt}
 use Rattle.std.proofs.lemmas.List.{get_or-map, get_or_past, get_or_read}
@@ -16,7 +16,7 @@ use Rattle.tw_queue.specs.Ring.{slot_at}
 use Rattle.tw_queue.specs.Table.{first_time, never}
 use Rattle.tw_queue.proofs.Ordered.{cases_zero, in_order-times, in_order_least, length-in_order, times-in_order}
 use Rattle.tw_queue.proofs.Events.{event_law, first_of_least, least_first, least_is, none_first, not_before_first}
-use Rattle.tw_queue.proofs.Lists.{placed-set, placed_inserted, times-append, times-placed, times-push, times-set, together_none}
+use Rattle.tw_queue.proofs.Lists.{placed-set, times-append, times-placed, times-push, times-set, together_none}
 use Rattle.tw_queue.proofs.Tables.{nothing, row_set}
 
 pub rising_rest : (xs : List Event) → IsRising event_before event_same xs → IsRising event_before event_same (drop 1 xs)

@@ -10,12 +10,14 @@ use Rattle.tw_commands.specs.Seq.{GetsStuckFor, seq_output}
 use Rattle.tw_commands.specs.Trail.{TrailGetsStuck, trail_output}
 use Rattle.tw_model.specs.declared.limits.TheConstants.{LATEST}
 use Rattle.tw_options.specs.declared.command_line.CommandLine.{CommandLine}
-use Rattle.tw_options.specs.declared.command_line.CommandLine.TheVariants.{Check, Seq, Trail, Replay}
+use Rattle.tw_options.specs.declared.command_line.CommandLine.TheVariants.{Check, Seq, Run, Trail, Replay}
+use Rattle.tw_run.specs.Full.{RunsFullFor}
 
 -- its stop and its checkpoints are within their limits, and there is a worker
 abbrev pub IsRunnable : CommandLine → Type 0
 IsRunnable Check = Unit {0}
 IsRunnable (Seq stop every log) = (stop ≤ LATEST) × IfSome every (λ n. (0 < n) × (n ≤ LATEST))
+IsRunnable (Run stop every log workers batch) = (stop ≤ LATEST) × IfSome every (λ n. (0 < n) × (n ≤ LATEST)) × (0 < workers)
 IsRunnable (Trail router stop keep) = stop ≤ LATEST
 IsRunnable (Replay stop workers) = (stop ≤ LATEST) × (0 < workers)
 
@@ -23,6 +25,7 @@ IsRunnable (Replay stop workers) = (stop ≤ LATEST) × (0 < workers)
 abbrev pub due : CommandLine → List ℕ → Output
 due Check = check_output
 due (Seq stop every log) = seq_output stop every log
+due (Run stop every log workers batch) = seq_output stop every log
 due (Trail router stop keep) = trail_output router stop keep
 due (Replay stop workers) = replay_output stop
 
@@ -36,5 +39,6 @@ status_number (Err cause) = 2
 abbrev pub StopsFull : CommandLine → List ℕ → Type 0
 StopsFull Check input = ⊥
 StopsFull (Seq stop every log) input = GetsStuckFor stop input
+StopsFull (Run stop every log workers batch) input = RunsFullFor input
 StopsFull (Trail router stop keep) input = TrailGetsStuck router stop input
 StopsFull (Replay stop workers) input = ⊥

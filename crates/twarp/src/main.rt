@@ -17,6 +17,8 @@ use perform::perform;
 use std::env;
 use std::io::{self, BufWriter, Write};
 use std::process::ExitCode;
+use std::sync::Wait;
+use std::thread::Threads;
 use tw_commands::{Cause, Status};
 use tw_device::{OverRead, OverWrite};
 use tw_options::{CommandLine, CommandLineFault, options};
@@ -53,7 +55,10 @@ fn main(rt: HostRuntime) -> ExitCode {
 }
 
 /// Does what the line asks, from standard input to standard output.
-fn run<R: Input + Print + Eprint + AllocGlobal>(rt: &R, line: CommandLine) -> ExitCode
+fn run<R: Input + Print + Eprint + AllocGlobal + Threads + Wait + Sync>(
+    rt: &R,
+    line: CommandLine,
+) -> ExitCode
     requires { IsRunnable line }
     ensures { exit_status result ≤ 2 }
 {
@@ -72,7 +77,10 @@ fn exit_with(rt: &impl Eprint, ended: Result<Status, Cause>) -> ExitCode
     }
 }
 
-fn answer<R: Input + Print + AllocGlobal>(rt: &R, line: CommandLine) -> Result<Status, Cause>
+fn answer<R: Input + Print + AllocGlobal + Threads + Wait + Sync>(
+    rt: &R,
+    line: CommandLine,
+) -> Result<Status, Cause>
     requires { IsRunnable line }
 {
     let alloc = rt.alloc();
@@ -81,7 +89,7 @@ fn answer<R: Input + Print + AllocGlobal>(rt: &R, line: CommandLine) -> Result<S
         Ok(writer) => writer,
         Err(_) => return Err(Cause::Memory),
     });
-    let status = perform(alloc, line, &mut source, &mut sink)?;
+    let status = perform(rt, alloc, line, &mut source, &mut sink)?;
     match sink.into_writer().flush() {
         Ok(()) => Ok(status),
         Err(_) => Err(Cause::Device),

@@ -4,13 +4,17 @@ ghost use Rattle.tw_device.specs.Source.{LosesInput, TakesInput};
 ghost use Rattle.twarp.specs.Due.{IsRunnable, StopsFull, due};
 
 use std::alloc::Global;
+use std::sync::Wait;
+use std::thread::Threads;
 use tw_commands::{Cause, Status, check_io, replay_io, seq_io, trail_io};
 use tw_device::{Sink, Source};
 use tw_options::CommandLine;
+use tw_run::run_io;
 
 /// Does what a command line asks: reads its input from the source and writes the answer that is due
 /// to the sink.
-pub(crate) fn perform<R: Source, W: Sink>(
+pub(crate) fn perform<X: Threads + Wait + Sync, R: Source, W: Sink>(
+    rt: &X,
     alloc: Global,
     line: CommandLine,
     source: &mut R,
@@ -27,6 +31,13 @@ pub(crate) fn perform<R: Source, W: Sink>(
     match line {
         CommandLine::Check => check_io(alloc, source, sink),
         CommandLine::Seq { stop, every, log } => seq_io(alloc, source, sink, stop, every, log),
+        CommandLine::Run {
+            stop,
+            every,
+            log,
+            workers,
+            batch,
+        } => run_io(rt, alloc, source, sink, stop, every, log, workers, batch),
         CommandLine::Trail { router, stop, keep } => {
             trail_io(alloc, source, sink, router, stop, keep)
         }

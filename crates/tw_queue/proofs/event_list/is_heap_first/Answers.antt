@@ -1,10 +1,9 @@
-use Rattle.std.proofs.Common.{◌≡◌, ◌++◌, ℕ, true, false, Some, [], length, slice_get, get_or, refl, ap, sym, ◌∙◌, arith, inl, inr}
+use Rattle.std.proofs.Common.{◌≡◌, refl, sym, ◌∙◌, arith, inl, inr}
 use Rattle.std.specs.BinaryHeap.{heap_items, heap_len}
 use Rattle.std.proofs.lemmas.Bool.{cases_Bool, false≢true}
 use Rattle.tw_event.specs.Order.{event_before}
 use Rattle.tw_sim.proofs.Counts.{none}
 use Rattle.tw_queue.specs.Heap.{heap_events}
-use Rattle.tw_queue.specs.InOrder.{in_order}
 use Rattle.tw_queue.proofs.Events.{first_of_heap, least_is}
 use Rattle.tw_queue.proofs.Merged.{empty_heap, least_left, least_of_rising, least_right, none_of, ring_alone}
 use Rattle.tw_queue.proofs.event_list.is_heap_first.Goals as goal

@@ -11,3 +11,6 @@ returns-in-Trail-clause-answer g c = rw c.in-Trail.is c.trail_io.ensures.answer
 
 pub returns-in-Replay-clause-answer : goal.returns-in-Replay-clause-answer
 returns-in-Replay-clause-answer g c = rw c.in-Replay.is c.replay_io.ensures.answer
+
+pub returns-in-Run-clause-answer : goal.returns-in-Run-clause-answer
+returns-in-Run-clause-answer g c = rw c.in-Run.is c.run_io.ensures.answer

@@ -1,4 +1,4 @@
-use Rattle.std.proofs.Common.{◌≡◌, ◌<◌, ◌++◌, ap, sym, ◌∙◌, subst, arith}
+use Rattle.std.proofs.Common.{◌≡◌, ◌++◌, ap, sym, ◌∙◌, subst, arith}
 use Rattle.std.specs.BinaryHeap.{heap_items}
 use Rattle.tw_event.specs.Order.{event_before}
 use Rattle.tw_sim.specs.Ordered.{insert}
@@ -30,9 +30,11 @@ invariant_of-self-2 c =
     let p = c.in_ok-push.ensures in
     let d = c.requires in
     let n = ap (λ q. q.routers) c.self.view_is in
-    let same : c.insert.new.self ≡ a.ring = c.if-insert.ensures.same in
-    (p.heap_order c.self.invariant.0, subst (λ ring. AreFor a.routers (ring ++ heap_events (heap_items c.push.new.self))) (sym same)
-    (homes_heap_more a.routers a.ring (record { 0 = c.args.event }) (heap_items a.heap) (heap_items c.push.new.self) p.permutation (omega arith) c.self.invariant.1))
+    let same : c.insert.new.self ≡ a.ring = c.if-insert.ensures.same in (
+      p.heap_order c.self.invariant.0,
+      subst (λ ring. AreFor a.routers (ring ++ heap_events (heap_items c.push.new.self))) (sym same)
+          (homes_heap_more a.routers a.ring (record { 0 = c.args.event }) (heap_items a.heap) (heap_items c.push.new.self) p.permutation (omega arith) c.self.invariant.1),
+    )
 
 pub returns-clause-ok : goal.returns-clause-ok
 returns-clause-ok c =

@@ -1,4 +1,4 @@
-use Rattle.std.proofs.Common.{◌≡◌, ◌<◌, ◌-◌, ◌++◌, Some, slice_get, ap, sym, ◌∙◌, subst}
+use Rattle.std.proofs.Common.{◌≡◌, ◌<◌, ◌-◌, ◌++◌, slice_get, ap, sym, ◌∙◌, subst}
 use Rattle.std.specs.BinaryHeap.{heap_items, heap_len, heap_capacity}
 use Rattle.tw_event.specs.Order.{event_before}
 use Rattle.tw_queue.specs.Heap.{heap_events}

@@ -1,4 +1,4 @@
-use Rattle.std.proofs.Common.{◌≡◌, ◌<◌, ◌≤◌, ◌+◌, ◌++◌, ℕ, None, List, [], drop, length, get_or, set, slice_get, refl, ap, sym, ◌∙◌, subst, arith, length-set}
+use Rattle.std.proofs.Common.{◌≡◌, ◌<◌, ◌≤◌, ◌++◌, ℕ, List, [], drop, length, get_or, set, slice_get, refl, ap, sym, ◌∙◌, subst, arith, length-set}
 use Rattle.std.proofs.lemmas.List.{drop_all, get_or_read}
 use Rattle.tw_event.specs.declared.event.Event.{Event}
 use Rattle.tw_event.specs.Order.{event_before, event_same}
@@ -7,7 +7,6 @@ use Rattle.tw_sim.specs.Rising.{IsRising}
 use Rattle.tw_queue.specs.Buckets.{together}
 use Rattle.tw_queue.specs.InOrder.{in_order}
 use Rattle.tw_queue.specs.Ring.{hand_of}
-use Rattle.tw_queue.specs.Table.{never}
 use Rattle.tw_queue.proofs.Events.{event_law}
 use Rattle.tw_queue.proofs.Ordered.{rising-in_order}
 use Rattle.tw_queue.proofs.Rings.{begin_after, begin_alike, begin_begun, begin_early, begin_order, begin_placed, begin_row, begin_some}

@@ -1,4 +1,4 @@
-use Rattle.std.proofs.Common.{ap, sym, ◌∙◌}
+use Rattle.std.proofs.Common.{ap, ◌∙◌}
 use Rattle.tw_event.specs.Order.{event_before}
 use Rattle.tw_queue.specs.InOrder.{in_order}
 use Rattle.tw_queue.proofs.Events.{sorted_list}

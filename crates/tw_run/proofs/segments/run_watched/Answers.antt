@@ -1,0 +1,42 @@
+use Rattle.std.proofs.Common.{◌≡◌, ◌/◌, subst, ◌∙◌, arith}
+use Rattle.tw_model.specs.Case.{IsCase}
+use Rattle.tw_seq.proofs.Checkpoints.{left_within, seen_every}
+use Rattle.tw_shape.proofs.Seeing.{seen_early, seen_found}
+use Rattle.tw_shape.specs.Verdict.{finding}
+use Rattle.tw_run.proofs.Watching.{on_the_way_begin, on_the_way_next}
+use Rattle.tw_run.proofs.segments.run_watched.Goals as goal
+
+pub loop-seen-init : goal.loop-seen-init
+loop-seen-init g c = (omega arith, on_the_way_begin c.args.every c.args.sim c.in_ok-watch.watch c.requires.opening c.in_ok-watch.ensures)
+
+pub push-seen-requires-clause-later : goal.push-seen-requires-clause-later
+push-seen-requires-clause-later g c =
+    let way = c.loop-seen.invariant.1 in
+    let told = c.in_ok-run.ensures in
+    let is : IsCase c.args.sim.case = subst IsCase (told.case ∙ way.case) told.sim.ruled.is_case in
+    seen_early c.args.sim.case is c.args.every c.requires.some c.loop-seen.seen c.loop-seen.watch way.shown
+
+pub push-seen-requires-clause-latest : goal.push-seen-requires-clause-latest
+push-seen-requires-clause-latest g c =
+    let way = c.loop-seen.invariant.1 in
+    let left = left_within c.loop-seen.seen c.args.stop c.args.every c.loop-seen-test.true in
+    rw (seen_every way.shown) (omega arith)
+
+pub loop-seen-preserved : goal.loop-seen-preserved
+loop-seen-preserved g c =
+    let run = c.in_ok-run.ensures in
+    let told = c.push-seen.ensures in (
+      omega (arith, told.within),
+      on_the_way_next c.args.every c.loop-seen.seen c.push-seen.result c.args.sim c.loop-seen.run c.in_ok-run.run' c.loop-seen.watch c.push-seen.new.self
+          c.in_ok-shape.shape c.loop-seen.invariant.1 run.case run.stop c.in_ok-shape.ensures told.gap told.step,
+    )
+
+pub returns-clause-found : goal.returns-clause-found
+returns-clause-found g c =
+    let told = c.in_ok-run-2.ensures in
+    let way = c.loop-seen.invariant.1 in
+    let is : IsCase c.args.sim.case = subst IsCase (told.case ∙ way.case) told.sim.ruled.is_case in
+    let all : c.loop-seen.seen ≡ c.args.stop / c.args.every = omega (arith, c.loop-seen.invariant.0, c.loop-seen-test.false) in
+    c.finding.ensures
+    ∙ subst (λ n. c.loop-seen.watch.found ≡ finding c.args.sim.case c.args.every n) all
+    (seen_found c.args.sim.case is c.args.every c.requires.some c.loop-seen.seen c.loop-seen.watch way.shown)

@@ -1,0 +1,10 @@
+use Rattle.std.proofs.Common.{◌≤◌, ◌-◌}
+use Rattle.tw_run.proofs.Watching.{IsOnTheWay}
+use Rattle.tw_run.proofs.segments.run_watched.Given as goal
+
+-- the watch has seen the checkpoints up to a number, and the run is not past the last of them
+abbrev pub invariant-loop-seen : goal.invariant-loop-seen
+invariant-loop-seen g l = (l.seen ≤ l.last) × IsOnTheWay l.every l.seen l.fn.sim l.run l.watch
+
+abbrev pub decreases-loop-seen : goal.decreases-loop-seen
+decreases-loop-seen g l = l.last - l.seen

@@ -1,0 +1,17 @@
+//! The program `run` as a call: it does what `seq` of `tw_commands` does, by workers in threads that run
+//! ahead of one another (after Jefferson, Virtual Time, 1985).
+//!
+//! It stands in a crate of its own, since it starts threads and may wait, and the other programs never do.
+//! Proved, for sources and sinks that tell their bytes: what is written is exactly the answer that `seq`
+//! gives to the text that was read, for every number of workers and every batch; or nothing where memory or
+//! a thread was refused or a counter was full, or a prefix where the sink failed. Not proved: that
+//! threads run side by side, that the run ends, and that neither memory nor a thread is refused.
+#![tactic(auto)]
+
+mod ending;
+mod run;
+mod segments;
+mod stopped;
+
+pub use run::run_io;
+pub use tw_commands::{Cause, Status};

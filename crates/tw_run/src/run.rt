@@ -1,0 +1,130 @@
+ghost use Rattle.std.specs.Prelude.{◌≡◌, ◌≤◌, ◌<◌, false, IfOk, IfSome, IsErrOf, OnOk};
+ghost use Rattle.tw_commands.specs.Output.{Answers, Leaves};
+ghost use Rattle.tw_commands.specs.Seq.{found_to, seq_output, seq_report, shown};
+ghost use Rattle.tw_device.specs.Source.{LosesInput, TakesInput};
+ghost use Rattle.tw_model.specs.Summary.{summary_of};
+ghost use Rattle.tw_model.specs.declared.limits.TheConstants.{LATEST};
+ghost use Rattle.tw_run.specs.Asked.{IsReady};
+ghost use Rattle.tw_run.specs.Full.{RunsFull, RunsFullFor};
+ghost use Rattle.tw_run.specs.declared.stopped.Stopped.TheVariants as stopped;
+ghost use Rattle.tw_seq.specs.Outcome.{outcome_of as outcome_of_run};
+ghost use Rattle.tw_seq.specs.Run.{complete_run};
+
+use crate::ending::outcome_of;
+use crate::segments::run_through;
+use crate::stopped::Stopped;
+use std::alloc::Global;
+use std::sync::Wait;
+use std::thread::Threads;
+use tw_commands::{Cause, Status, refuse};
+use tw_device::{Sink, Source, read_all};
+use tw_instance::Case;
+use tw_model::{OrMemory, Outcome};
+use tw_parallel::Sim;
+use tw_report::write_report;
+use tw_shape::{Finding, Verdict};
+use tw_text::read_case;
+
+/// The options of `run`.
+#[derive(Clone, Copy)]
+struct Asked {
+    stop: u64,
+    every: Option<u64>,
+    log: bool,
+    workers: u32,
+    batch: u32,
+}
+
+/// Reads a case, deals its routers out to so many workers, one at least, runs it by a thread for each of them to
+/// the stop, in ticks, and writes what `seq_io` writes: the report of the one-thread run, or where and why
+/// the text is refused.
+///
+/// A worker handles at most `batch` events between two meetings with the others. Neither number shows in
+/// what is written. With `every` the workers come together at checkpoints.
+pub fn run_io<X: Threads + Wait + Sync, R: Source, W: Sink>(
+    rt: &X,
+    alloc: Global,
+    source: &mut R,
+    sink: &mut W,
+    stop: u64,
+    every: Option<u64>,
+    log: bool,
+    workers: u32,
+    batch: u32,
+) -> Result<Status, Cause>
+    requires source { R.failed source.old ≡ false }
+    requires sink { W.failed sink.old ≡ false }
+    requires stop { stop ≤ LATEST }
+    requires every { IfSome every (λ n. (0 < n) × (n ≤ LATEST)) }
+    requires workers { 0 < workers }
+    ensures answer { Answers result (seq_output stop every log) RunsFullFor
+        (R.remaining source.old) (W.written sink.old) (W.written sink.new) (R.failed source.new) (W.failed sink.new) }
+    ensures read { OnOk result (LosesInput (R.remaining source.old) (R.remaining source.new)) }
+    ensures most { TakesInput (R.remaining source.old) (R.remaining source.new) }
+{
+    let text = read_all(alloc, source)?;
+    let asked = Asked {
+        stop,
+        every,
+        log,
+        workers,
+        batch,
+    };
+    answer_text(rt, alloc, &text, asked, sink)
+}
+
+fn answer_text<X: Threads + Wait + Sync, W: Sink>(
+    rt: &X,
+    alloc: Global,
+    text: &[u8],
+    asked: Asked,
+    sink: &mut W,
+) -> Result<Status, Cause>
+    requires open { W.failed sink.old ≡ false }
+    requires ready { IsReady asked }
+    ensures { Leaves result (seq_output asked.stop asked.every asked.log text.now) (RunsFullFor text.now)
+        (W.written sink.old) (W.written sink.new) (W.failed sink.new) }
+{
+    match read_case(alloc, text) {
+        Ok(case) => answer_case(rt, alloc, &case, asked, sink),
+        Err(OrMemory::Fault(fault)) => refuse(sink, fault),
+        Err(OrMemory::Memory) => Err(Cause::Memory),
+    }
+}
+
+/// Runs a case and writes the report.
+fn answer_case<X: Threads + Wait + Sync, W: Sink>(
+    rt: &X,
+    alloc: Global,
+    case: &Case,
+    asked: Asked,
+    sink: &mut W,
+) -> Result<Status, Cause>
+    requires open { W.failed sink.old ≡ false }
+    requires ready { IsReady asked }
+    ensures { Leaves result (seq_report asked.stop asked.every asked.log case.now) (RunsFull case.now)
+        (W.written sink.old) (W.written sink.new) (W.failed sink.new) }
+{
+    let (outcome, found) = run_case(rt, alloc, case, asked)?;
+    let verdict = Verdict::of(&outcome, found);
+    write_report(sink, case.instance(), &outcome, verdict, asked.log)?;
+    Ok(Status::Done)
+}
+
+/// What a run to the stop leaves, with its events where they are to be logged, and what was found at its
+/// checkpoints.
+fn run_case<X: Threads + Wait + Sync>(
+    rt: &X,
+    alloc: Global,
+    case: &Case,
+    asked: Asked,
+) -> Result<(Outcome, Option<Finding>), Stopped>
+    requires ready { IsReady asked }
+    ensures outcome { IfOk result (λ left. summary_of left.0 ≡ shown asked.log (outcome_of_run (complete_run case.now asked.stop))) }
+    ensures found { IfOk result (λ left. left.1 ≡ found_to case.now asked.stop asked.every) }
+    ensures full { IsErrOf result stopped.CounterFull → RunsFull case.now }
+{
+    let sim = Sim::open(alloc, case, asked.workers)?;
+    let (sim, found) = run_through(rt, alloc, sim, asked.stop, asked.every, asked.batch)?;
+    Ok((outcome_of(&sim, asked.log)?, found))
+}
