@@ -13,7 +13,7 @@ fn asked(alloc: Global, words: &[&str]) -> Result<CommandLine, CommandLineFault>
 
 #[test]
 fn numbers_left_out_or_out_of_range_are_refused(rt: HostRuntime) {
-    let refused: [&[&str]; 9] = [
+    let refused: [&[&str]; 14] = [
         &["twarp", "seq"],
         &["twarp", "seq", "--stop", "0"],
         &["twarp", "seq", "--stop", "1000000001"],
@@ -21,6 +21,11 @@ fn numbers_left_out_or_out_of_range_are_refused(rt: HostRuntime) {
         &[
             "twarp", "trail", "--router", "1024", "--stop", "20", "--keep", "0",
         ],
+        &["twarp", "run", "--workers", "2"],
+        &["twarp", "run", "--stop", "20", "--workers", "0"],
+        &["twarp", "run", "--stop", "20", "--workers", "17"],
+        &["twarp", "run", "--stop", "20", "--batch", "0"],
+        &["twarp", "run", "--stop", "20", "--batch", "4097"],
         &["twarp", "replay"],
         &["twarp", "replay", "--stop", "0"],
         &["twarp", "replay", "--stop", "20", "--workers", "0"],
@@ -99,4 +104,38 @@ fn a_replay_has_one_worker_where_no_number_is_given(rt: HostRuntime) {
             "{words:?}"
         );
     }
+}
+
+#[test]
+fn a_run_has_four_workers_and_a_batch_of_sixty_four_where_none_are_given(rt: HostRuntime) {
+    let words = ["twarp", "run", "--stop", "20"];
+    let line = CommandLine::Run {
+        stop: 20,
+        every: None,
+        log: false,
+        workers: 4,
+        batch: 64,
+    };
+    assert!(rt; matches!(asked(rt.alloc(), &words), Ok(found) if found == line));
+    let words = [
+        "twarp",
+        "run",
+        "--log",
+        "--batch",
+        "4096",
+        "--workers",
+        "16",
+        "--every",
+        "2",
+        "--stop",
+        "1000000000",
+    ];
+    let line = CommandLine::Run {
+        stop: 1_000_000_000,
+        every: Some(2),
+        log: true,
+        workers: 16,
+        batch: 4096,
+    };
+    assert!(rt; matches!(asked(rt.alloc(), &words), Ok(found) if found == line));
 }

@@ -38,4 +38,6 @@ mod steps;
 #[cfg(test)]
 mod texts;
 #[cfg(test)]
+mod threads;
+#[cfg(test)]
 mod verdicts;

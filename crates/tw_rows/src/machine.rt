@@ -208,11 +208,16 @@ fn has_committed(warp: &Warp<'_>, letters: &str) -> bool {
         Err(_) => warp.committed(),
         found => found,
     };
-    let Ok(events) = found else {
-        return false;
-    };
+    match found {
+        Ok(events) => are_of(&events, letters),
+        Err(_) => false,
+    }
+}
+
+/// Whether these are the start of the origin and the events of these letters, in this order.
+pub(crate) fn are_of(events: &[Event], letters: &str) -> bool {
     let letters = letters.as_bytes();
-    match events.as_slice() {
+    match events {
         [first, rest @ ..] => {
             *first == Event::default()
                 && rest.len() == letters.len()

@@ -151,6 +151,7 @@ fn each_cause_to_stop_is_shown_in_two_words(rt: HostRuntime) {
     let texts = [
         (Cause::Memory, "stopped memory"),
         (Cause::CounterFull, "stopped counter"),
+        (Cause::NoThread, "stopped thread"),
         (Cause::Device, "stopped device"),
     ];
     for (cause, text) in texts {

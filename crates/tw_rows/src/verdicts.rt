@@ -6,7 +6,7 @@ use std::alloc::Global;
 use tw_commands::Status;
 
 /// DISAGREE with all delays 1.
-const DISAGREE_AT_ONCE: &str = "\
+pub(crate) const DISAGREE_AT_ONCE: &str = "\
 spp 1
 nodes 3
 link 0 1 1
@@ -20,7 +20,7 @@ end
 ";
 
 /// The paths repeat from checkpoint 2, but what was heard differs there; the shapes at 3 and 5 are one.
-const DISAGREE_AT_ONCE_TO_SIX: &str = "\
+pub(crate) const DISAGREE_AT_ONCE_TO_SIX: &str = "\
 spp-report 1
 stop 6
 bound 6
@@ -31,7 +31,7 @@ verdict oscillates from 3 period 2
 ";
 
 /// Three routers in a ring, each of which prefers the path through the next.
-const RING: &str = "\
+pub(crate) const RING: &str = "\
 spp 1
 nodes 4
 link 0 1 1
@@ -50,7 +50,7 @@ end
 ";
 
 /// DISAGREE whose two routers hear each other after 32 ticks.
-const FAR: &str = "\
+pub(crate) const FAR: &str = "\
 spp 1
 nodes 3
 link 0 1 1
@@ -64,7 +64,7 @@ end
 ";
 
 /// The same after 33 ticks.
-const FARTHER: &str = "\
+pub(crate) const FARTHER: &str = "\
 spp 1
 nodes 3
 link 0 1 1
@@ -78,7 +78,7 @@ end
 ";
 
 /// DISAGREE with all delays 1, and an exchange at time 9 that changes nothing.
-const WITH_EXCHANGE: &str = "\
+pub(crate) const WITH_EXCHANGE: &str = "\
 spp 1
 nodes 3
 link 0 1 1

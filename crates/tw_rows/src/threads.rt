@@ -1,0 +1,435 @@
+//! Parallel runs by threads.
+
+ghost use Rattle.std.specs.Prelude.{◌≡◌, IfOk};
+
+use crate::devices::{AMPLE, ShortPage, Tape};
+use crate::handlers::case;
+use crate::machine::are_of;
+use crate::texts::{
+    ALONE, ALONE_LOG, DISAGREE, DISAGREE_LOG, DISAGREE_TO_SEVEN, FAILURE_AND_REPAIR,
+    FAILURE_AND_REPAIR_LOG,
+};
+use crate::verdicts::{
+    DISAGREE_AT_ONCE, DISAGREE_AT_ONCE_TO_SIX, FAR, FARTHER, RING, WITH_EXCHANGE,
+};
+use std::alloc::{AllocError, Global};
+use std::sync::Wait;
+use std::sync::atomic::{AtomicBool, AtomicU64, Ordering};
+use std::thread::{self, Threads};
+use tw_commands::{Cause, Status};
+use tw_instance::Case;
+use tw_parallel::{EndCause, Ended, Gate, OpenGate, Options, Sim, run_until};
+use tw_run::run_io;
+use tw_table::Seat;
+
+/// The options of `run`; with `every` 0 there are no checkpoints.
+#[derive(Clone, Copy, Debug)]
+struct Asked {
+    stop: u16,
+    every: u16,
+    log: bool,
+    workers: u8,
+}
+
+/// How `run` ends on a text, with the page that it wrote. It is run once more where memory or a thread was
+/// refused.
+fn answer<X: Threads + Wait + Sync>(
+    rt: &X,
+    alloc: Global,
+    asked: Asked,
+    text: &str,
+) -> Option<(Result<Status, Cause>, ShortPage)> {
+    let every = match asked.every {
+        0 => None,
+        ticks => Some(u64::from(ticks)),
+    };
+    for _ in 0..2 {
+        let Ok(mut page) = ShortPage::new(alloc, AMPLE, AMPLE) else {
+            continue;
+        };
+        let mut tape = Tape::new(text.as_bytes(), usize::MAX);
+        let (stop, workers) = (u64::from(asked.stop), u32::from(asked.workers.max(1)));
+        match run_io(
+            rt, alloc, &mut tape, &mut page, stop, every, asked.log, workers, 64,
+        ) {
+            Err(Cause::Memory | Cause::NoThread) => {}
+            ended => return Some((ended, page)),
+        }
+    }
+    None
+}
+
+/// Whether `run` writes just this.
+fn writes<X: Threads + Wait + Sync>(
+    rt: &X,
+    alloc: Global,
+    asked: Asked,
+    text: &str,
+    written: &str,
+) -> bool {
+    match answer(rt, alloc, asked, text) {
+        Some((ended, page)) => ended == Ok(Status::Done) && page.bytes() == written.as_bytes(),
+        None => false,
+    }
+}
+
+/// Whether what `run` writes, without the events, ends so.
+fn ends<X: Threads + Wait + Sync>(
+    rt: &X,
+    alloc: Global,
+    asked: Asked,
+    text: &str,
+    verdict: &str,
+) -> bool {
+    match answer(rt, alloc, asked, text) {
+        Some((ended, page)) => {
+            ended == Ok(Status::Done) && page.bytes().ends_with(verdict.as_bytes())
+        }
+        None => false,
+    }
+}
+
+#[test]
+fn the_report_is_that_of_one_thread(rt: HostRuntime) {
+    let rows = [
+        (DISAGREE, 20, true, DISAGREE_LOG),
+        (DISAGREE, 7, false, DISAGREE_TO_SEVEN),
+        (FAILURE_AND_REPAIR, 20, true, FAILURE_AND_REPAIR_LOG),
+        (ALONE, 10, true, ALONE_LOG),
+    ];
+    for (text, stop, log, written) in rows {
+        for workers in [1, 2, 3, 16] {
+            let asked = Asked {
+                stop,
+                every: 0,
+                log,
+                workers,
+            };
+            assert!(rt; writes(&rt, rt.alloc(), asked, text, written), "{asked:?}");
+        }
+    }
+}
+
+/// The report of a ring to stop 6.
+const RING_TO_SIX: &str = "\
+spp-report 1
+stop 6
+bound 6
+router 0 sent 3 handled 13 dropped 0 changed 1 rib (0)
+router 1 sent 15 handled 9 dropped 0 changed 5 rib (1 0)
+router 2 sent 15 handled 9 dropped 0 changed 5 rib (2 0)
+router 3 sent 15 handled 9 dropped 0 changed 5 rib (3 0)
+verdict oscillates from 4 period 2
+";
+
+#[test]
+fn checkpoints_show_the_same(rt: HostRuntime) {
+    let rows = [
+        (DISAGREE_AT_ONCE, 1, DISAGREE_AT_ONCE_TO_SIX),
+        (RING, 2, RING_TO_SIX),
+    ];
+    for (text, every, written) in rows {
+        for workers in [1, 2, 5] {
+            let asked = Asked {
+                stop: 6,
+                every,
+                log: false,
+                workers,
+            };
+            assert!(rt; writes(&rt, rt.alloc(), asked, text, written), "{asked:?}");
+        }
+    }
+}
+
+#[test]
+fn the_verdict_is_the_same(rt: HostRuntime) {
+    let rows = [
+        (RING, 6, 1, "verdict oscillates from 3 period 2\n"),
+        (RING, 6, 0, "verdict open\n"),
+        (FAR, 97, 1, "verdict open\n"),
+        (FAR, 98, 1, "verdict oscillates from 34 period 64\n"),
+        (FARTHER, 200, 1, "verdict open\n"),
+        (FARTHER, 102, 2, "verdict oscillates from 36 period 66\n"),
+        (WITH_EXCHANGE, 11, 1, "verdict open\n"),
+        (
+            WITH_EXCHANGE,
+            12,
+            1,
+            "verdict oscillates from 10 period 2\n",
+        ),
+    ];
+    for (text, stop, every, verdict) in rows {
+        for workers in [1, 2, 5] {
+            let asked = Asked {
+                stop,
+                every,
+                log: false,
+                workers,
+            };
+            assert!(rt; ends(&rt, rt.alloc(), asked, text, verdict), "{asked:?}");
+        }
+    }
+}
+
+/// The run of a case as it begins, with two workers.
+fn sim<'a>(alloc: Global, case: &'a Case) -> Result<Sim<'a>, AllocError>
+    ensures { IfOk result (λ sim. sim.case ≡ case.now) }
+{
+    match Sim::open(alloc, case, 2) {
+        Err(_) => Sim::open(alloc, case, 2),
+        made => made,
+    }
+}
+
+/// Runs on to a stop, once more where memory or a thread was refused.
+fn run_on<'a, X: Threads + Wait + Sync>(
+    rt: &X,
+    sim: Sim<'a>,
+    stop: u64,
+) -> Result<Sim<'a>, Ended<'a>> {
+    let options = Options { batch: 64 };
+    match run_until(rt, sim, stop, options, &OpenGate) {
+        Err(
+            Ended {
+                sim,
+                cause: EndCause::Memory | EndCause::NoThread,
+                ..
+            },
+        ) => run_until(rt, sim, stop, options, &OpenGate),
+        ended => ended,
+    }
+}
+
+/// Whether the start of the origin and the events of these letters are committed, in this order.
+fn has_committed(sim: &Sim<'_>, letters: &str) -> bool {
+    let found = match sim.committed() {
+        Err(_) => sim.committed(),
+        found => found,
+    };
+    match found {
+        Ok(events) => are_of(&events, letters),
+        Err(_) => false,
+    }
+}
+
+#[test]
+fn a_run_goes_on_to_later_stops_and_to_no_earlier_one(rt: HostRuntime) {
+    let alloc = rt.alloc();
+    let Ok(case) = case(alloc, DISAGREE) else {
+        panic!(rt; "the case is refused")
+    };
+    let Ok(mut sim) = sim(alloc, &case) else {
+        panic!(rt; "no memory")
+    };
+    for (stop, letters) in [(3, "mcd"), (7, "mcdfn"), (20, "mcdfne")] {
+        sim = match run_on(&rt, sim, stop) {
+            Ok(sim) => sim,
+            Err(ended) => panic!(rt; "{:?}", ended.cause),
+        };
+        assert!(rt; sim.is_settled() && has_committed(&sim, letters), "{stop}");
+    }
+    match run_on(&rt, sim, 19) {
+        Ok(_) => panic!(rt; "the stop falls"),
+        Err(ended) => {
+            assert!(rt; ended.cause == EndCause::StopLower && ended.bound == 20);
+            assert!(rt; ended.sim.stop() == 20 && has_committed(&ended.sim, "mcdfne"));
+        }
+    }
+}
+
+/// How often a worker looks for another before it goes on without it.
+const MOST_LOOKS: u32 = 1_000_000;
+
+/// Whether a flag is raised while it is looked at.
+fn is_raised(flag: &AtomicBool) -> bool {
+    for _ in 0..MOST_LOOKS {
+        if flag.load(Ordering::SeqCst) {
+            return true;
+        }
+        thread::yield_now();
+    }
+    false
+}
+
+/// The bounds that the seats of two workers showed last, and that of worker 1 after its first turn.
+#[derive(Drop)]
+struct Bounds {
+    last_of_0: AtomicU64,
+    last_of_1: AtomicU64,
+    first_of_1: AtomicU64,
+}
+
+impl Bounds {
+    fn new() -> Bounds {
+        Bounds {
+            last_of_0: AtomicU64::new(0),
+            last_of_1: AtomicU64::new(0),
+            first_of_1: AtomicU64::new(0),
+        }
+    }
+
+    fn note(&self, seat: &Seat, turn: u64) {
+        let bound = seat.bound();
+        if seat.worker() == 0 {
+            self.last_of_0.store(bound, Ordering::SeqCst);
+            return;
+        }
+        self.last_of_1.store(bound, Ordering::SeqCst);
+        if turn == 1 {
+            self.first_of_1.store(bound, Ordering::SeqCst);
+        }
+    }
+
+    fn ended_at(&self, stop: u64) -> bool {
+        self.last_of_0.load(Ordering::SeqCst) == stop
+            && self.last_of_1.load(Ordering::SeqCst) == stop
+    }
+}
+
+/// Worker 0 before it takes the table for the second time and worker 1 before it does for the first wait
+/// for each other there.
+#[derive(Drop)]
+struct Crossing {
+    has_come_0: AtomicBool,
+    has_come_1: AtomicBool,
+    has_missed: AtomicBool,
+    bounds: Bounds,
+}
+
+impl Crossing {
+    fn new() -> Crossing {
+        Crossing {
+            has_come_0: AtomicBool::new(false),
+            has_come_1: AtomicBool::new(false),
+            has_missed: AtomicBool::new(false),
+            bounds: Bounds::new(),
+        }
+    }
+
+    fn meet(&self, own: &AtomicBool, other: &AtomicBool) {
+        own.store(true, Ordering::SeqCst);
+        if !is_raised(other) {
+            self.has_missed.store(true, Ordering::SeqCst);
+        }
+    }
+}
+
+impl Gate for Crossing {
+    fn handling<R: Wait>(&self, _rt: &R, _worker: u32, _turn: u64) {}
+
+    fn enter<R: Wait>(&self, _rt: &R, worker: u32, turn: u64) {
+        match (worker, turn) {
+            (0, 2) => self.meet(&self.has_come_0, &self.has_come_1),
+            (1, 1) => self.meet(&self.has_come_1, &self.has_come_0),
+            _ => {}
+        }
+    }
+
+    fn turned(&self, seat: &Seat, turn: u64) {
+        self.bounds.note(seat, turn);
+    }
+}
+
+/// Worker 0 handles nothing before worker 1 has had its second turn, and worker 1 nothing before worker 0
+/// is about to.
+#[derive(Drop)]
+struct Overtaking {
+    has_begun_0: AtomicBool,
+    has_turned_1: AtomicBool,
+    has_missed: AtomicBool,
+    bounds: Bounds,
+}
+
+impl Overtaking {
+    fn new() -> Overtaking {
+        Overtaking {
+            has_begun_0: AtomicBool::new(false),
+            has_turned_1: AtomicBool::new(false),
+            has_missed: AtomicBool::new(false),
+            bounds: Bounds::new(),
+        }
+    }
+
+    fn wait_for(&self, flag: &AtomicBool) {
+        if !is_raised(flag) {
+            self.has_missed.store(true, Ordering::SeqCst);
+        }
+    }
+}
+
+impl Gate for Overtaking {
+    fn handling<R: Wait>(&self, _rt: &R, worker: u32, turn: u64) {
+        match (worker, turn) {
+            (0, 1) => {
+                self.has_begun_0.store(true, Ordering::SeqCst);
+                self.wait_for(&self.has_turned_1);
+            }
+            (1, 1) => self.wait_for(&self.has_begun_0),
+            _ => {}
+        }
+    }
+
+    fn enter<R: Wait>(&self, _rt: &R, _worker: u32, _turn: u64) {}
+
+    fn turned(&self, seat: &Seat, turn: u64) {
+        self.bounds.note(seat, turn);
+        if seat.worker() == 1 && turn == 2 {
+            self.has_turned_1.store(true, Ordering::SeqCst);
+        }
+    }
+}
+
+/// Whether two workers take a case to stop 20 at this gate; `None` where memory or a thread was refused.
+fn passes<G: Gate + Sync, X: Threads + Wait + Sync>(
+    rt: &X,
+    alloc: Global,
+    case: &Case,
+    gate: &G,
+) -> Option<bool> {
+    let Ok(sim) = Sim::open(alloc, case, 2) else {
+        return None;
+    };
+    match run_until(rt, sim, 20, Options { batch: 64 }, gate) {
+        Ok(sim) => Some(sim.bound() == 20),
+        Err(
+            Ended {
+                cause: EndCause::Memory | EndCause::NoThread,
+                ..
+            },
+        ) => None,
+        Err(_) => Some(false),
+    }
+}
+
+#[test]
+fn workers_overlap(rt: HostRuntime) {
+    let Ok(case) = case(rt.alloc(), DISAGREE) else {
+        panic!(rt; "the case is refused")
+    };
+    for _ in 0..2 {
+        let gate = Crossing::new();
+        if let Some(has_passed) = passes(&rt, rt.alloc(), &case, &gate) {
+            assert!(rt; has_passed && !gate.has_missed.load(Ordering::SeqCst));
+            assert!(rt; gate.bounds.ended_at(20));
+            assert!(rt; gate.bounds.first_of_1.load(Ordering::SeqCst) == 1);
+            return;
+        }
+    }
+    panic!(rt; "no memory")
+}
+
+#[test]
+fn handling_happens_off_the_table(rt: HostRuntime) {
+    let Ok(case) = case(rt.alloc(), DISAGREE) else {
+        panic!(rt; "the case is refused")
+    };
+    for _ in 0..2 {
+        let gate = Overtaking::new();
+        if let Some(has_passed) = passes(&rt, rt.alloc(), &case, &gate) {
+            assert!(rt; has_passed && !gate.has_missed.load(Ordering::SeqCst));
+            assert!(rt; gate.bounds.ended_at(20));
+            return;
+        }
+    }
+    panic!(rt; "no memory")
+}
