@@ -9,6 +9,7 @@ Rows of crates/tw_rows show full counters by calls.
 import os
 import re
 import resource
+import shutil
 import signal
 import tempfile
 
@@ -17,9 +18,13 @@ from common import CASES, DISAGREE, PROGRAM, REPLAYED, REPORT, STRAGGLER, Refuse
 NOTHING = os.devnull
 
 SEQ = ["seq", "--stop", "20", "--log"]
+RUN = ["run", "--stop", "20", "--log", "--workers", "2"]
 TRAIL = ["trail", "--router", "1", "--stop", "20", "--keep", "0"]
 REPLAY = ["replay", "--stop", "20", "--workers", "2"]
-COMMANDS = [["check"], SEQ, TRAIL, REPLAY]
+COMMANDS = [["check"], SEQ, RUN, TRAIL, REPLAY]
+
+# A user that has no process of its own.
+NOBODY = 54321
 
 FOLLOWED = b"""\
 spp-trail 1
@@ -30,9 +35,18 @@ router 2 sent 1 handled 2 dropped 0 changed 0 rib ()
 
 # What a line of the help begins with, for each command.
 HELP = {
-    "": ["Usage: twarp ", "  check ", "  seq ", "  trail ", "  replay ", "Exit status:", "  0  ", "  1  ", "  2  ", "  3  "],
+    "": ["Usage: twarp ", "  check ", "  seq ", "  run ", "  trail ", "  replay ", "Exit status:", "  0  ", "  1  ", "  2  ", "  3  "],
     "check": ["Usage: twarp check", "Exit status:"],
     "seq": ["Usage: twarp seq ", "      --stop <TICKS>", "      --log", "Exit status:"],
+    "run": [
+        "Usage: twarp run ",
+        "      --stop <TICKS>",
+        "      --every <TICKS>",
+        "      --log",
+        "      --workers <COUNT>",
+        "      --batch <COUNT>",
+        "Exit status:",
+    ],
     "trail": [
         "Usage: twarp trail ",
         "      --router <NUMBER>",
@@ -43,9 +57,10 @@ HELP = {
     "replay": ["Usage: twarp replay ", "      --stop <TICKS>", "      --workers <COUNT>", "Exit status:"],
 }
 
-# What the help of a command says somewhere: the ranges of its numbers.
+# What the help of a command says somewhere: the ranges of its numbers, and what they are where none is given.
 RANGES = {
     "seq": ["1 to 1000000000"],
+    "run": ["1 to 1000000000", "1 to 16, and 4", "1 to 4096, or else 64"],
     "trail": ["0 to 1023", "1 to 1000000000", "0 to 1000000000"],
     "replay": ["1 to 1000000000", "1 to 16"],
 }
@@ -74,6 +89,12 @@ BAD_LINES = {
     "no worker": ["replay", "--stop", "20", "--workers", "0"],
     "a worker too many": ["replay", "--stop", "20", "--workers", "17"],
     "a replay that is to be logged": ["replay", "--stop", "20", "--log"],
+    "no stop of a run": ["run", "--workers", "2"],
+    "a run by no worker": ["run", "--stop", "20", "--workers", "0"],
+    "a run by a worker too many": ["run", "--stop", "20", "--workers", "17"],
+    "a batch of 0": ["run", "--stop", "20", "--batch", "0"],
+    "a batch past its limit": ["run", "--stop", "20", "--batch", "4097"],
+    "a batch of one thread": ["seq", "--stop", "20", "--batch", "64"],
     "a word that is no UTF-8": ["seq", "--stop", b"\xff"],
 }
 
@@ -104,6 +125,10 @@ def check_done(tally):
         tally.add(f"check of {case.name}", differs(done, 0, stated(case.read_text(encoding="ascii")), b""))
     done = run([PROGRAM, *SEQ], DISAGREE)
     tally.add(name_of(SEQ), differs(done, 0, REPORT.read_bytes(), b""))
+    for more in [], ["--workers", "1"], ["--workers", "3", "--batch", "1"], ["--workers", "16", "--batch", "4096"]:
+        words = ["run", "--stop", "20", "--log", *more]
+        done = run([PROGRAM, *words], DISAGREE)
+        tally.add(name_of(words), differs(done, 0, REPORT.read_bytes(), b""))
     words = ["trail", "--router", "2", "--stop", "8", "--keep", "2"]
     done = run([PROGRAM, *words], CASES / "failure-and-repair.spp")
     tally.add(name_of(words), differs(done, 0, FOLLOWED, b""))
@@ -135,6 +160,27 @@ def check_memory(tally, folder):
         done = refuser.run(1, [PROGRAM, *words], input_of(words))
         wrong = done is None or differs(done, 2, b"", b"stopped memory\n")
         tally.add(f"{name_of(words)} without memory", wrong)
+
+
+def check_thread(tally, folder):
+    """A user that may start no thread."""
+    program = folder / "twarp"
+    shutil.copy(PROGRAM, program)
+    program.chmod(0o755)
+    folder.chmod(0o755)
+
+    def limit():
+        resource.setrlimit(resource.RLIMIT_NPROC, (1, 1))
+        # The limit does not hold for root.
+        if os.getuid() == 0:
+            os.setgroups([])
+            os.setgid(NOBODY)
+            os.setuid(NOBODY)
+
+    done = run([program, *RUN], DISAGREE, preexec_fn=limit)
+    tally.add(f"{name_of(RUN)} without threads", differs(done, 2, b"", b"stopped thread\n"))
+    done = run([program, *SEQ], DISAGREE, preexec_fn=limit)
+    tally.add(f"{name_of(SEQ)} without threads", differs(done, 0, REPORT.read_bytes(), b""))
 
 
 def check_output(tally, folder):
@@ -217,6 +263,7 @@ def main():
         check_done(tally)
         check_refused(tally, folder)
         check_memory(tally, folder)
+        check_thread(tally, folder)
         check_output(tally, folder)
     check_input(tally)
     check_help(tally)
