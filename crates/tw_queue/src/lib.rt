@@ -1,7 +1,7 @@
 //! The events that are pending, of which the least is always at hand.
 //!
 //! [`Pending`] keeps them by router, for a shard: its calls ask for the events of one router, and take an
-//! event out wherever it stands. [`EventList`] keeps them in a heap, for a run that takes the least of all
+//! event out wherever it stands. [`EventList`] keeps them by time, for a run that takes the least of all
 //! again and again.
 #![tactic(auto)]
 
