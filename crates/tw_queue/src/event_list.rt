@@ -110,6 +110,7 @@ impl EventList {
             return self.ring.take_least();
         }
         let event = self.heap.pop()?;
+        self.ring.go_to(event.0.time);
         Some(event.0)
     }
 

@@ -29,6 +29,9 @@ pub(crate) struct Ring {
     hand: Tick,
     taken: usize,
     tick: u64,
+    // The time of the event taken out last. Only events of the 64 ticks after it have a bucket: one far
+    // ahead would keep its bucket from nearer ticks.
+    from: u64,
     buckets: [Tick; 64],
     times: [u64; 64],
 }
@@ -54,18 +57,22 @@ impl Ring {
             hand: Tick::new(alloc),
             taken: 0,
             tick: 0,
+            from: 0,
             buckets: array::from_fn(|_| Tick::new(alloc)),
             times: [u64::MAX; 64],
         }
     }
 
-    /// Adds an event where it is later than the tick at hand, its bucket has no event of another tick, and
-    /// memory is not refused, and tells whether it did.
+    /// Adds an event where it is later than the tick at hand and soon, its bucket has no event of another
+    /// tick, and memory is not refused, and tells whether it did.
     pub(crate) fn insert(&mut self, event: Event) -> bool
         ensures added { OnTrue result (self.new ≡ insert event_before event self.old) }
         ensures same { OnFalse result (self.new ≡ self.old) }
     {
         let time = event.time;
+        if !is_near(time, self.from) {
+            return false;
+        }
         if !is_later(time, self.tick) {
             return false;
         }
@@ -97,6 +104,14 @@ impl Ring {
         self.taken
     }
 
+    /// An event at this time, in ticks, was taken out elsewhere, so that the next ticks may have buckets. No
+    /// promise rests on it.
+    pub(crate) fn go_to(&mut self, time: u64)
+        ensures { self.new ≡ self.old }
+    {
+        self.from = time;
+    }
+
     /// Takes out the least event.
     pub(crate) fn take_least(&mut self) -> Option<Event>
         ensures first { result ≡ slice_get self.old 0 }
@@ -116,6 +131,7 @@ impl Ring {
         self.hand.take_over(bucket);
         self.taken = 1;
         self.tick = time;
+        self.from = time;
         self.times[place] = u64::MAX;
         self.hand.events().first().copied()
     }
@@ -154,6 +170,11 @@ fn slot_of(time: u64) -> usize
     ensures { result ≡ slot_at time }
 {
     (time % BUCKETS) as usize
+}
+
+// Whether an event at `time` has a bucket, where the latest one was at `from`.
+fn is_near(time: u64, from: u64) -> bool {
+    time.saturating_sub(from) <= BUCKETS
 }
 
 // Whether a time is later than a tick, and not the last one, which stands for no event.

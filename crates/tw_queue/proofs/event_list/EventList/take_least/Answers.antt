@@ -17,7 +17,7 @@ pub invariant_of-self-2 : goal.invariant_of-self-2
 invariant_of-self-2 c =
     let a = c.self.inside in
     let p = c.in_ok-event.ensures in
-    ((p.heap_order c.self.invariant.0).0, (homes_heap_less a.routers a.ring c.in_ok-event.event (heap_items a.heap) (heap_items c.pop.new.self) p.permutation c.self.invariant.1).1)
+    rw c.go_to.ensures (((p.heap_order c.self.invariant.0).0, (homes_heap_less a.routers a.ring c.in_ok-event.event (heap_items a.heap) (heap_items c.pop.new.self) p.permutation c.self.invariant.1).1))
 
 pub returns-clause-first : goal.returns-clause-first
 returns-clause-first c =
@@ -31,7 +31,7 @@ returns-clause-events c =
     let a = c.self.inside in
     let p = c.in_ok-event.ensures in
     let first : slice_get (in_order event_before (a.ring ++ heap_events (heap_items a.heap))) 0 ≡ slice_get (in_order event_before (heap_events (heap_items a.heap))) 0 = c.if-not-is_heap_first.ensures.heap in
-    heap_taken a.ring c.in_ok-event.event (heap_items a.heap) (heap_items c.pop.new.self) p.permutation (p.below_top c.self.invariant.0) first ∙ ap (λ q. drop 1 q.events) c.self.view_is
+    rw c.go_to.ensures (heap_taken a.ring c.in_ok-event.event (heap_items a.heap) (heap_items c.pop.new.self) p.permutation (p.below_top c.self.invariant.0) first ∙ ap (λ q. drop 1 q.events) c.self.view_is)
 
 pub returns-clause-home : goal.returns-clause-home
 returns-clause-home c =
