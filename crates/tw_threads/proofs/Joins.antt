@@ -75,14 +75,14 @@ module _ {W : Type 0} (share : W → Share) where
       → AreJoined t before rest (workers ++ w ∷ []) (seats ++ seat ∷ []) later
   next_joined t before [] one rest workers seats why w seat reason later each left shares full is told = absurd each
   next_joined t before (s ∷ waiting) one rest workers seats why w seat reason later each left shares full is told =
-    let mine : IsLeft (share w) t s seat reason = is s each.0 in
-    record {
-      waiting = waiting;
-      each = each.1;
-      left = λ more h. subst (AllZip (HasLeft t) before) (sym (append_assoc seats (seat ∷ []) more)) (left (seat ∷ more) (mine.left, h));
-      shares = map-append share_at seats (seat ∷ []) ∙ ((λ i. shares i ++ mine.share i ∷ []) ∙ sym (map-append share workers (w ∷ [])));
-      full = next_full t s seats (share w) seat reason why later mine told full;
-    }
+      let mine : IsLeft (share w) t s seat reason = is s each.0 in
+      record {
+        waiting = waiting;
+        each = each.1;
+        left = λ more h. subst (AllZip (HasLeft t) before) (sym (append_assoc seats (seat ∷ []) more)) (left (seat ∷ more) (mine.left, h));
+        shares = map-append share_at seats (seat ∷ []) ∙ ((λ i. shares i ++ mine.share i ∷ []) ∙ sym (map-append share workers (w ∷ [])));
+        full = next_full t s seats (share w) seat reason why later mine told full;
+      }
 
   pub one_joined : (t : Table) (before : List Seat) (one : Started W) (rest : List (Started W)) (workers next : List W) (seats after : List Seat) (why : Option Cause)
       (w : W) (seat : Seat) (reason : Leaving) (later : Option Cause)
@@ -92,9 +92,9 @@ module _ {W : Type 0} (share : W → Share) where
       → (later ≡ Some cause.CounterFull → (why ≡ Some cause.CounterFull) ⊎ (reason ≡ leaving.CounterFull))
       → AreJoined t before rest next after later
   one_joined t before one rest workers next seats after why w seat reason later h to too is told =
-    subst (λ ws. AreJoined t before rest ws after later) (sym to)
-    (subst (λ ss. AreJoined t before rest (workers ++ w ∷ []) ss later) (sym too)
-    (next_joined t before h.waiting one rest workers seats why w seat reason later h.each h.left h.shares h.full is told))
+      subst (λ ws. AreJoined t before rest ws after later) (sym to)
+      (subst (λ ss. AreJoined t before rest (workers ++ w ∷ []) ss later) (sym too)
+      (next_joined t before h.waiting one rest workers seats why w seat reason later h.each h.left h.shares h.full is told))
 
   all_waited : (t : Table) (before waiting seats : List Seat) → AllZip (IsStarted share t) waiting []
       → ((more : List Seat) → AllZip (HasLeft t) waiting more → AllZip (HasLeft t) before (seats ++ more)) → AllZip (HasLeft t) before seats

@@ -6,13 +6,13 @@
 //! order, where memory or a thread is refused too. Nothing here promises that a thread runs or ends.
 #![tactic(auto)]
 
-mod workers;
 mod joining;
 mod running;
 mod starting;
 mod work;
+mod workers;
 
-pub use tw_workers::{Gate, Leaving, OpenGate};
 pub use joining::Cause;
 pub use running::{Ran, run_all};
+pub use tw_workers::{Gate, Leaving, OpenGate};
 pub use work::Work;

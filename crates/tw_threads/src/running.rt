@@ -7,7 +7,6 @@ ghost use Rattle.tw_threads.specs.Left.{IsFullAhead};
 ghost use Rattle.tw_threads.specs.Started.{HaveLeft, IsStarted};
 ghost use Rattle.tw_threads.specs.declared.joining.Cause.TheVariants as cause;
 
-use tw_workers::Gate;
 use crate::joining::{Cause, Gathered, join_all};
 use crate::starting::{Started, start_all};
 use crate::work::Work;
@@ -18,6 +17,7 @@ use std::thread;
 use std::thread::Threads;
 use tw_exchange::Exchange;
 use tw_table::{Seat, Table};
+use tw_workers::Gate;
 
 /// What a run of workers leaves.
 #[derive(Drop)]
@@ -109,9 +109,7 @@ fn gather<W: Work + Send + Drop, G: Gate + Sync, R: Threads + Wait + Sync>(
             requires stops { map stop_at seats.items ≡ map W.stop workers.items }
             ensures count { vec_len result ≡ vec_len workers }
             ensures started { AllZip (IsStarted W.share table.entry.now) seats.items result.items }
-        {
-            start_all(scope, rt, table, gate, told, workers, seats, started)
-        },
+        { start_all(scope, rt, table, gate, told, workers, seats, started) },
     );
     let mut gathered = join_all(rt, started, back, left);
     if refused.into_inner() {

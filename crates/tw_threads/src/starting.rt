@@ -80,13 +80,7 @@ pub(crate) fn start_all<
 }
 
 /// A thread for a worker. Where it is refused, all workers are told so, and this one leaves.
-fn start<
-    's,
-    E,
-    W: Work + Send + Drop + 's,
-    G: Gate + Sync + 's,
-    R: Threads + Wait + Sync + 's,
->(
+fn start<'s, E, W: Work + Send + Drop + 's, G: Gate + Sync + 's, R: Threads + Wait + Sync + 's>(
     scope: &'s Scope<'s, E>,
     rt: &'s R,
     table: &'s Table,
@@ -109,9 +103,7 @@ fn start<
         requires share { share_at seat ≡ W.share worker }
         requires stop { stop_at seat ≡ W.stop worker }
         ensures { IsLeft (W.share result.worker) table.entry.now seat result.seat result.why }
-    {
-        run(rt, table, gate, refused, worker, seat)
-    };
+    { run(rt, table, gate, refused, worker, seat) };
     match scope.spawn_with(promise, turns) {
         Ok(handle) => Started::Running(handle),
         Err(back) => {

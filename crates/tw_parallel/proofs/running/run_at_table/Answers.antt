@@ -34,7 +34,7 @@ pub parts_of-shards-requires-clause-shards : goal.parts_of-shards-requires-claus
 parts_of-shards-requires-clause-shards g c =
     let old = c.workers_of-workers.result.items in
     let n = as_many (λ (w : Worker). w.share.shard.case) c.run_all-ran.result.workers.items old c.run_all-ran.ensures.cases
-        ∙ (sym (length-map old (λ (w : Worker). w.share)) ∙ (ap length c.workers_of-workers.ensures.shares ∙ long_shares c.args.parts.shards.items c.args.parts.hands.items c.requires.hands)) in
+    ∙ (sym (length-map old (λ (w : Worker). w.share)) ∙ (ap length c.workers_of-workers.ensures.shares ∙ long_shares c.args.parts.shards.items c.args.parts.hands.items c.requires.hands)) in
     let m = c.requires.room.shards.1 in
     (c.requires.room.shards.0, omega (arith, n, m))
 
@@ -42,7 +42,7 @@ pub parts_of-shards-requires-clause-hands : goal.parts_of-shards-requires-clause
 parts_of-shards-requires-clause-hands g c =
     let old = c.workers_of-workers.result.items in
     let n = as_many (λ (w : Worker). w.share.shard.case) c.run_all-ran.result.workers.items old c.run_all-ran.ensures.cases
-        ∙ (sym (length-map old (λ (w : Worker). w.share)) ∙ (ap length c.workers_of-workers.ensures.shares ∙ long_shares c.args.parts.shards.items c.args.parts.hands.items c.requires.hands)) in
+    ∙ (sym (length-map old (λ (w : Worker). w.share)) ∙ (ap length c.workers_of-workers.ensures.shares ∙ long_shares c.args.parts.shards.items c.args.parts.hands.items c.requires.hands)) in
     let m = c.requires.room.hands.1 in
     (c.requires.room.hands.0, omega (arith, n, m))
 
