@@ -22,6 +22,7 @@ LONG = [
     "programs::a_sink_that_fails_has_a_prefix",
     "refusals::every_prefix_of_a_case_is_refused_near_its_end",
     "refusals::the_first_bad_line_and_its_lowest_fault_are_named",
+    "threads::the_verdict_is_the_same",
 ]
 
 LINES = [
