@@ -5,7 +5,7 @@
 
 Each test of crates/tw_rows, or each that is named, runs once for each of its allocations, with just that one refused;
 it tries the call once more and must pass. The tests of LONG are left out where none is named: they call a program
-hundreds of times, with no allocation that the others do not make.
+hundreds of times, with no allocation that the others do not make, or start threads, which takes many minutes.
 Each command of the program runs in the same way, on DISAGREE or on the replay of a straggler, and so do its help and a line that it does not accept.
 Refused memory must end it with status 2 and the line `stopped memory`, with nothing on standard output; or, where the
 standard library then asks for less and gets it, it must end as it does with all its memory.
@@ -22,7 +22,12 @@ LONG = [
     "programs::a_sink_that_fails_has_a_prefix",
     "refusals::every_prefix_of_a_case_is_refused_near_its_end",
     "refusals::the_first_bad_line_and_its_lowest_fault_are_named",
+    "threads::a_run_goes_on_to_later_stops_and_to_no_earlier_one",
+    "threads::checkpoints_show_the_same",
+    "threads::handling_happens_off_the_table",
+    "threads::the_report_is_that_of_one_thread",
     "threads::the_verdict_is_the_same",
+    "threads::workers_overlap",
 ]
 
 LINES = [
