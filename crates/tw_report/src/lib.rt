@@ -7,6 +7,7 @@
 //! no call takes memory. Not proved: what a terminal or a file then holds.
 #![tactic(auto)]
 
+mod gathering;
 mod lines;
 mod replay;
 mod report;

@@ -42,7 +42,7 @@ pub struct Counts {
 
 /// Writes the replay of a list of steps: a line for each step, the bound, the counts, and a line for
 /// each committed event and each router. Takes no memory: hand it a sink with a buffer, for it puts
-/// word by word.
+/// line by line.
 ///
 /// The paths of the replay are paths of the instance.
 pub fn write_replay<S: Sink>(

@@ -17,7 +17,7 @@ use tw_model::{Outcome, RouterEnd};
 use tw_shape::Verdict;
 
 /// Writes the report of a run, with a line for each event where `log` says so. Takes no memory: hand
-/// it a sink with a buffer, for it puts word by word.
+/// it a sink with a buffer, for it puts line by line.
 ///
 /// The paths of the outcome are paths of the instance.
 pub fn write_report<S: Sink>(

@@ -4,6 +4,8 @@ ghost use Rattle.std.specs.List.{flat_map};
 ghost use Rattle.tw_device.specs.Sink.{Puts};
 ghost use Rattle.tw_report.specs.Words.{line, path_text, with_spaces, spaced_number, spaced_word, word_text};
 
+use crate::gathering::gather_line;
+use arrayvec::ArrayVec;
 use itoa::Buffer;
 use tw_device::{Failed, Sink, put_all};
 
@@ -22,6 +24,19 @@ pub enum Word<'a> {
 
 /// Puts a line of these words, with a space between each two and LF at its end. Takes no memory.
 pub fn put_line<S: Sink>(sink: &mut S, words: &[Word<'_>]) -> Result<(), Failed>
+    requires open { S.failed sink.old ≡ false }
+    ensures { Puts result (S.written sink.old) (S.written sink.new) (S.failed sink.new) (line (map word_text words.now)) }
+{
+    let mut text = ArrayVec::new();
+    if gather_line(&mut text, words) {
+        put_all(sink, text.as_slice())
+    } else {
+        put_long_line(sink, words)
+    }
+}
+
+/// Puts a line of these words word by word.
+fn put_long_line<S: Sink>(sink: &mut S, words: &[Word<'_>]) -> Result<(), Failed>
     requires open { S.failed sink.old ≡ false }
     ensures { Puts result (S.written sink.old) (S.written sink.new) (S.failed sink.new) (line (map word_text words.now)) }
 {

@@ -19,3 +19,5 @@ pub mod StepLines
 pub mod StepTold
 pub mod Told
 pub mod ReplayTold
+pub mod Digits
+pub mod PathLines

@@ -30,13 +30,13 @@ apart : (c : ℕ) (p : ℕ → Bool) → ((b : ℕ) → p b ≡ true → (b == c
 apart c p f [] h = tt
 apart c p f (b ∷ w) h = let v = and_parts (p b) (list_all p w) h in (f b v.0, apart c p f w v.1)
 
-no_space : (w : List ℕ) → list_all is_sign w ≡ true → All (λ b. (b == 32) ≡ false) w
+pub no_space : (w : List ℕ) → list_all is_sign w ≡ true → All (λ b. (b == 32) ≡ false) w
 no_space w h = All-from_recursion (λ b. (b == 32) ≡ false) w (apart 32 is_sign (λ b s. grind (arith, nat_tests)) w h)
 
 no_line_feed : (l : List ℕ) → list_all is_plain l ≡ true → All (λ b. (b == 10) ≡ false) l
 no_line_feed l h = All-from_recursion (λ b. (b == 10) ≡ false) l (apart 10 is_plain (λ b s. grind (arith, nat_tests)) l h)
 
-all_plain : (w : List ℕ) → list_all is_sign w ≡ true → list_all is_plain w ≡ true
+pub all_plain : (w : List ℕ) → list_all is_sign w ≡ true → list_all is_plain w ≡ true
 all_plain = weaker is_sign is_plain (λ b h. rw h (or-true (b == 32)))
 
 pub digits_are_signs : (w : List ℕ) → list_all is_ascii_digit w ≡ true → list_all is_sign w ≡ true

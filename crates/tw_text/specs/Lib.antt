@@ -8,3 +8,4 @@ pub mod Reading
 pub mod Text
 pub mod StepText
 pub mod ReplayText
+pub mod PathLine

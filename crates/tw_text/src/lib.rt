@@ -18,6 +18,7 @@ mod keyword;
 pub mod laws;
 mod line;
 mod line_reader;
+mod path_line;
 mod read;
 mod replay_text;
 mod step_list;

@@ -1,7 +1,7 @@
 use Rattle.std.proofs.Common.{[], ◌∷◌, map}
 use Rattle.tw_device.proofs.Puts.{puts_then}
 use Rattle.tw_report.specs.Words.{with_spaces, word_text}
-use Rattle.tw_report.proofs.words.put_line.Goals as goal
+use Rattle.tw_report.proofs.words.put_long_line.Goals as goal
 
 pub returns : goal.returns
 returns g c =
