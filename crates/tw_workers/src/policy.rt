@@ -27,6 +27,10 @@ const HANDLED_FOR_EACH_COMMIT: u64 = 65_536;
 pub(crate) struct Pace {
     batch: u32,
     window: u64,
+    // The time of the event handled last.
+    tick: u64,
+    // Whether nothing was handled between the last two meetings.
+    idle: bool,
     // Since the window was set last.
     handled: u64,
     undone: u64,
@@ -42,6 +46,8 @@ impl Pace {
         Pace {
             batch,
             window: FIRST_WINDOW,
+            tick: 0,
+            idle: false,
             handled: 0,
             undone: 0,
             uncommitted: 0,
@@ -58,8 +64,19 @@ impl Pace {
         cmp::min(stop, bound.saturating_add(self.window))
     }
 
-    /// An event was handled.
-    pub(crate) fn count_handled(&mut self) {
+    /// Whether an event is one of the tick that is handled.
+    pub(crate) fn is_of_tick(&self, event: Option<Event>) -> bool {
+        event.is_some_and(|event| event.time == self.tick)
+    }
+
+    /// Whether nothing was handled between the last two meetings.
+    pub(crate) fn is_idle(&self) -> bool {
+        self.idle
+    }
+
+    /// An event of this time was handled.
+    pub(crate) fn count_handled(&mut self, time: u64) {
+        self.tick = time;
         self.handled = self.handled.saturating_add(1);
         self.uncommitted = self.uncommitted.saturating_add(1);
     }
@@ -92,6 +109,7 @@ impl Pace {
             let wider = self.window.saturating_add(self.window / 4 + 1);
             self.window = cmp::min(WIDEST_WINDOW, wider);
         }
+        self.idle = self.handled == 0;
         self.handled = 0;
         self.undone = 0;
     }
