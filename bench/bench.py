@@ -12,7 +12,8 @@ runs.
 
 `threads` prints for each case and number of events how long `twarp seq` takes, and for each number of workers and each
 batch how long `twarp run` takes, how many times that of `seq` this is, events per second, and the greatest memory. It stops
-where the two reports differ. Times are the least of five runs in turns.
+where the two reports differ. Times are the least of five runs in turns. Where crates/tw_bench is built (`rt run` there), a
+further run is counted: turns of all workers, and events undone for each event that is committed.
 """
 import argparse
 import pathlib
@@ -22,7 +23,9 @@ import subprocess
 import sys
 import tempfile
 
-PROGRAM = pathlib.Path(__file__).resolve().parent.parent / "crates/twarp/out/twarp"
+CRATES = pathlib.Path(__file__).resolve().parent.parent / "crates"
+PROGRAM = CRATES / "twarp/out/twarp"
+COUNTER = CRATES / "tw_bench/out/tw_bench"
 
 
 def text(nodes, links, paths, scenes=()):
@@ -175,6 +178,16 @@ def run(program, name, seed, wanted):
             print(f"{name}: stop {stop}, {count} events in {seconds:.2f} s, {count / seconds / 1e6:.2f} million per second, {memory / 1024:.0f} MiB, {per:.1f} bytes per event", flush=True)
 
 
+def counts(case, words, committed):
+    """What the workers of a run do, as text: nothing where the program that counts is not there."""
+    if not COUNTER.exists():
+        return ""
+    with open(case, "rb") as source:
+        done = subprocess.run([COUNTER, *words], stdin=source, capture_output=True, check=True, text=True)
+    turns, _handled, undone = map(int, re.findall(r"\d+", done.stdout))
+    return f", {turns} turns, {undone / committed:.3f} undone"
+
+
 def threads(program, name, seed, wanted, workers, batches):
     with tempfile.NamedTemporaryFile("w", suffix=".spp") as file:
         file.write(CASES[name](random.Random(seed)))
@@ -192,7 +205,7 @@ def threads(program, name, seed, wanted, workers, batches):
             for words, (seconds, memory, report) in zip(lines, best):
                 if report != expected:
                     sys.exit(f"{name}: twarp {' '.join(words)} differs from twarp seq")
-                print(f"{name}: {count} events, {' '.join(words)}: {seconds:.3f} s, {seconds / best[0][0]:.2f} times seq, {count / seconds / 1e6:.2f} million per second, {memory / 1024:.0f} MiB", flush=True)
+                print(f"{name}: {count} events, {' '.join(words)}: {seconds:.3f} s, {seconds / best[0][0]:.2f} times seq, {count / seconds / 1e6:.2f} million per second, {memory / 1024:.0f} MiB" + (counts(file.name, words[2::2], count) if words[0] == "run" else ""), flush=True)
 
 
 def main():

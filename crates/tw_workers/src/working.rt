@@ -69,6 +69,7 @@ impl<'a> Worker<'a> {
             }
             seat = next;
             self.pause(&waiting);
+            self.pace.begin_turn();
         }
         unreachable!()
     }
@@ -76,7 +77,7 @@ impl<'a> Worker<'a> {
     /// Waits a little where nothing was handled in a turn and nothing has come, longer each time: the others
     /// get on sooner where a worker that has nothing to do leaves them the exchange and the processor.
     fn pause(&self, waiting: &Backoff) {
-        if self.pace.is_idle() && self.hand.mail.is_empty() {
+        if self.pace.turn().handled == 0 && self.hand.mail.is_empty() {
             waiting.snooze();
         } else {
             waiting.reset();
@@ -110,6 +111,8 @@ impl<'a> Worker<'a> {
         if let Err(leaving) = self.prepare(rt, gate, seat.worker(), turn) {
             return (self.leave(rt, table, seat), Some(leaving));
         }
+        let work = self.pace.turn();
+        gate.worked(seat.worker(), work.handled, work.undone);
         // A bound that is first told at this meeting leaves events that are not committed yet.
         let last = self.shard.bound() == self.stop;
         gate.enter(rt, seat.worker(), turn);
