@@ -28,12 +28,12 @@ pub record IsCutOff (text : List ℕ) (old new : Option (List ℕ)) (failed : Bo
   pub prefix : Begins old new text
   pub closed : failed ≡ true
 
--- what a program that is to write this output leaves at its sink; stuck says whether a counter would pass its limit
+-- what a program that starts no thread and is to write this output leaves at its sink; stuck says whether a counter would pass its limit
 abbrev pub Leaves : Result Status Cause → Output → Type 0 → Option (List ℕ) → Option (List ℕ) → Bool → Type 0
 Leaves (Ok status) output stuck old new failed = IsDone status output old new failed
 Leaves (Err Memory) output stuck old new failed = IsUntouched old new failed
 Leaves (Err CounterFull) output stuck old new failed = stuck × IsUntouched old new failed
-Leaves (Err NoThread) output stuck old new failed = IsUntouched old new failed
+Leaves (Err NoThread) output stuck old new failed = ⊥
 Leaves (Err Device) output stuck old new failed = IsCutOff output.text old new failed
 
 -- the source failed, and nothing was written

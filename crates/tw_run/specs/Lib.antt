@@ -1,3 +1,4 @@
 pub mod Asked
 pub mod Stopped
 pub mod Full
+pub mod Threaded

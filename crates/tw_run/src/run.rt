@@ -1,11 +1,11 @@
 ghost use Rattle.std.specs.Prelude.{◌≡◌, ◌≤◌, ◌<◌, false, IfOk, IfSome, IsErrOf, OnOk};
-ghost use Rattle.tw_commands.specs.Output.{Answers, Leaves};
 ghost use Rattle.tw_commands.specs.Seq.{found_to, seq_output, seq_report, shown};
 ghost use Rattle.tw_device.specs.Source.{LosesInput, TakesInput};
 ghost use Rattle.tw_model.specs.Summary.{summary_of};
 ghost use Rattle.tw_model.specs.declared.limits.TheConstants.{LATEST};
 ghost use Rattle.tw_run.specs.Asked.{IsReady};
 ghost use Rattle.tw_run.specs.Full.{RunsFull, RunsFullFor};
+ghost use Rattle.tw_run.specs.Threaded.{AnswersThreaded, LeavesThreaded};
 ghost use Rattle.tw_run.specs.declared.stopped.Stopped.TheVariants as stopped;
 ghost use Rattle.tw_seq.specs.Outcome.{outcome_of as outcome_of_run};
 ghost use Rattle.tw_seq.specs.Run.{complete_run};
@@ -57,7 +57,7 @@ pub fn run_io<X: Threads + Wait + Sync, R: Source, W: Sink>(
     requires stop { stop ≤ LATEST }
     requires every { IfSome every (λ n. (0 < n) × (n ≤ LATEST)) }
     requires workers { 0 < workers }
-    ensures answer { Answers result (seq_output stop every log) RunsFullFor
+    ensures answer { AnswersThreaded result (seq_output stop every log) RunsFullFor
         (R.remaining source.old) (W.written sink.old) (W.written sink.new) (R.failed source.new) (W.failed sink.new) }
     ensures read { OnOk result (LosesInput (R.remaining source.old) (R.remaining source.new)) }
     ensures most { TakesInput (R.remaining source.old) (R.remaining source.new) }
@@ -82,7 +82,7 @@ fn answer_text<X: Threads + Wait + Sync, W: Sink>(
 ) -> Result<Status, Cause>
     requires open { W.failed sink.old ≡ false }
     requires ready { IsReady asked }
-    ensures { Leaves result (seq_output asked.stop asked.every asked.log text.now) (RunsFullFor text.now)
+    ensures { LeavesThreaded result (seq_output asked.stop asked.every asked.log text.now) (RunsFullFor text.now)
         (W.written sink.old) (W.written sink.new) (W.failed sink.new) }
 {
     match read_case(alloc, text) {
@@ -102,7 +102,7 @@ fn answer_case<X: Threads + Wait + Sync, W: Sink>(
 ) -> Result<Status, Cause>
     requires open { W.failed sink.old ≡ false }
     requires ready { IsReady asked }
-    ensures { Leaves result (seq_report asked.stop asked.every asked.log case.now) (RunsFull case.now)
+    ensures { LeavesThreaded result (seq_report asked.stop asked.every asked.log case.now) (RunsFull case.now)
         (W.written sink.old) (W.written sink.new) (W.failed sink.new) }
 {
     let (outcome, found) = run_case(rt, alloc, case, asked)?;

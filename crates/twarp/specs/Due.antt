@@ -1,10 +1,10 @@
 -- What is due for a command line (own).
-use Rattle.std.specs.Prelude.{ℕ, ◌<◌, ◌≤◌, IfSome, List, Result, Ok, Err}
+use Rattle.std.specs.Prelude.{ℕ, ◌≡◌, ◌<◌, ◌≤◌, ◌⊎◌, Bool, false, IfSome, List, Option, Result, Ok, Err}
 use Rattle.tw_commands.specs.declared.cause.Cause.{Cause}
 use Rattle.tw_commands.specs.declared.cause.Status.{Status}
 use Rattle.tw_commands.specs.declared.cause.Status.TheVariants.{Done, Refused}
 use Rattle.tw_commands.specs.Check.{check_output}
-use Rattle.tw_commands.specs.Output.{Output}
+use Rattle.tw_commands.specs.Output.{Answers, Output}
 use Rattle.tw_commands.specs.Replay.{replay_output}
 use Rattle.tw_commands.specs.Seq.{GetsStuckFor, seq_output}
 use Rattle.tw_commands.specs.Trail.{TrailGetsStuck, trail_output}
@@ -12,6 +12,7 @@ use Rattle.tw_model.specs.declared.limits.TheConstants.{LATEST}
 use Rattle.tw_options.specs.declared.command_line.CommandLine.{CommandLine}
 use Rattle.tw_options.specs.declared.command_line.CommandLine.TheVariants.{Check, Seq, Run, Trail, Replay}
 use Rattle.tw_run.specs.Full.{RunsFullFor}
+use Rattle.tw_run.specs.Threaded.{LacksThread}
 
 -- its stop and its checkpoints are within their limits, and there is a worker
 abbrev pub IsRunnable : CommandLine → Type 0
@@ -42,3 +43,17 @@ StopsFull (Seq stop every log) input = GetsStuckFor stop input
 StopsFull (Run stop every log workers batch) input = RunsFullFor input
 StopsFull (Trail router stop keep) input = TrailGetsStuck router stop input
 StopsFull (Replay stop workers) input = ⊥
+
+-- it starts threads
+abbrev pub StartsThreads : CommandLine → Type 0
+StartsThreads Check = ⊥
+StartsThreads (Seq stop every log) = ⊥
+StartsThreads (Run stop every log workers batch) = Unit {0}
+StartsThreads (Trail router stop keep) = ⊥
+StartsThreads (Replay stop workers) = ⊥
+
+-- what the program leaves for a command line: what is due, or nothing where it starts threads and one is refused
+abbrev pub Performs : CommandLine → Result Status Cause → Option (List ℕ) → Option (List ℕ) → Option (List ℕ) → Bool → Bool → Type 0
+Performs line result known old new reader writer =
+    Answers result (due line) (StopsFull line) known old new reader writer
+    ⊎ (StartsThreads line × (reader ≡ false) × LacksThread result old new writer)

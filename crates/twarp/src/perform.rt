@@ -1,7 +1,6 @@
 ghost use Rattle.std.specs.Prelude.{◌≡◌, false, OnOk};
-ghost use Rattle.tw_commands.specs.Output.{Answers};
 ghost use Rattle.tw_device.specs.Source.{LosesInput, TakesInput};
-ghost use Rattle.twarp.specs.Due.{IsRunnable, StopsFull, due};
+ghost use Rattle.twarp.specs.Due.{IsRunnable, Performs};
 
 use std::alloc::Global;
 use std::sync::Wait;
@@ -23,7 +22,7 @@ pub(crate) fn perform<X: Threads + Wait + Sync, R: Source, W: Sink>(
     requires line { IsRunnable line }
     requires source { R.failed source.old ≡ false }
     requires sink { W.failed sink.old ≡ false }
-    ensures answer { Answers result (due line) (StopsFull line)
+    ensures answer { Performs line result
         (R.remaining source.old) (W.written sink.old) (W.written sink.new) (R.failed source.new) (W.failed sink.new) }
     ensures read { OnOk result (LosesInput (R.remaining source.old) (R.remaining source.new)) }
     ensures most { TakesInput (R.remaining source.old) (R.remaining source.new) }

@@ -1,4 +1,4 @@
-use Rattle.std.proofs.Common.{ap, refl, subst, Err}
+use Rattle.std.proofs.Common.{ap, inl, refl, subst, Err}
 use Rattle.std.specs.Io.KnownBytes.{Appends}
 use Rattle.std.proofs.lemmas.Result.{err_from_is_err_and}
 use Rattle.tw_device.specs.Sink.{Begins}
@@ -23,11 +23,11 @@ returns-in_err-write_report g c =
     let told = c.in_err-write_report.ensures in
     let text = shown_report c.args.case.now c.instance.result.now c.args.asked.stop c.args.asked.every c.args.asked.log (summary_of c.in_ok-outcome.outcome) c.in_ok-outcome.found
     c.of-verdict.result c.instance.ensures.value c.in_ok-outcome.ensures.outcome c.in_ok-outcome.ensures.found c.of-verdict.ensures in
-    rw (p.1, p.2) (record { prefix = subst (Begins _ _) text told.0; closed = told.1 })
+    rw (p.1, p.2) (inl (record { prefix = subst (Begins _ _) text told.0; closed = told.1 }))
 
 pub returns : goal.returns
 returns g c =
     let told = c.in_ok-write_report.ensures in
     let text = shown_report c.args.case.now c.instance.result.now c.args.asked.stop c.args.asked.every c.args.asked.log (summary_of c.in_ok-outcome.outcome) c.in_ok-outcome.found
     c.of-verdict.result c.instance.ensures.value c.in_ok-outcome.ensures.outcome c.in_ok-outcome.ensures.found c.of-verdict.ensures in
-    record { as_told = refl; whole = subst (Appends _ _) text told.0; still = told.1 }
+    inl (record { as_told = refl; whole = subst (Appends _ _) text told.0; still = told.1 })
