@@ -3,11 +3,17 @@
 
     bench.py make NAME [--seed N] > case.spp     one of: hierarchy gadgets mesh limits
     bench.py run [NAME ..] [--seed N] [--events N ..] [--program FILE]
+    bench.py threads [NAME ..] [--seed N] [--events N ..] [--workers N ..] [--batch N ..] [--program FILE]
 
 `run` prints for each case the bytes read per second, and for each number of events: the stop, events handled, seconds,
 events per second, the greatest memory in use, and memory per event beside that of a run to stop 1.
 The stop for a number of events is found by doubling, and then once more by proportion. Times are the least of three
 runs.
+
+`threads` prints for each case and number of events how long `twarp seq` takes, and for each number of workers and each
+batch how long `twarp run` takes, how many times that of `seq` this is, events per second, and the greatest memory. It stops
+where the two reports differ. Times are the least of five runs in turns. Where crates/tw_bench is built (`rt run` there), a
+further run is counted: turns of all workers, and events undone for each event that is committed.
 """
 import argparse
 import pathlib
@@ -17,7 +23,9 @@ import subprocess
 import sys
 import tempfile
 
-PROGRAM = pathlib.Path(__file__).resolve().parent.parent / "crates/twarp/out/twarp"
+CRATES = pathlib.Path(__file__).resolve().parent.parent / "crates"
+PROGRAM = CRATES / "twarp/out/twarp"
+COUNTER = CRATES / "tw_bench/out/tw_bench"
 
 
 def text(nodes, links, paths, scenes=()):
@@ -170,19 +178,54 @@ def run(program, name, seed, wanted):
             print(f"{name}: stop {stop}, {count} events in {seconds:.2f} s, {count / seconds / 1e6:.2f} million per second, {memory / 1024:.0f} MiB, {per:.1f} bytes per event", flush=True)
 
 
+def counts(case, words, committed):
+    """What the workers of a run do, as text: nothing where the program that counts is not there."""
+    if not COUNTER.exists():
+        return ""
+    with open(case, "rb") as source:
+        done = subprocess.run([COUNTER, *words], stdin=source, capture_output=True, check=True, text=True)
+    turns, _handled, undone = map(int, re.findall(r"\d+", done.stdout))
+    return f", {turns} turns, {undone / committed:.3f} undone"
+
+
+def threads(program, name, seed, wanted, workers, batches):
+    with tempfile.NamedTemporaryFile("w", suffix=".spp") as file:
+        file.write(CASES[name](random.Random(seed)))
+        file.flush()
+        for events in wanted:
+            stop = str(find_stop(program, file.name, events))
+            lines = [["seq", "--stop", stop]]
+            lines += [["run", "--stop", stop, "--workers", str(n), "--batch", str(batch)] for n in workers for batch in batches]
+            best = [[float("inf"), 0, ""] for _ in lines]
+            for _ in range(5):
+                for words, row in zip(lines, best):
+                    row[2], seconds, row[1] = measure(program, words, file.name)
+                    row[0] = min(row[0], seconds)
+            expected, count = best[0][2], handled(best[0][2])
+            for words, (seconds, memory, report) in zip(lines, best):
+                if report != expected:
+                    sys.exit(f"{name}: twarp {' '.join(words)} differs from twarp seq")
+                print(f"{name}: {count} events, {' '.join(words)}: {seconds:.3f} s, {seconds / best[0][0]:.2f} times seq, {count / seconds / 1e6:.2f} million per second, {memory / 1024:.0f} MiB" + (counts(file.name, words[2::2], count) if words[0] == "run" else ""), flush=True)
+
+
 def main():
     parser = argparse.ArgumentParser(description=__doc__, formatter_class=argparse.RawDescriptionHelpFormatter)
-    parser.add_argument("what", choices=["make", "run"])
+    parser.add_argument("what", choices=["make", "run", "threads"])
     parser.add_argument("names", nargs="*", choices=[*CASES, []])
     parser.add_argument("--seed", type=int, default=1)
     parser.add_argument("--events", type=int, nargs="*", default=[10**5, 10**6, 10**7])
+    parser.add_argument("--workers", type=int, nargs="*", default=[1, 2, 4])
+    parser.add_argument("--batch", type=int, nargs="*", default=[64])
     parser.add_argument("--program", default=str(PROGRAM))
     line = parser.parse_args()
     if line.what == "make":
         sys.stdout.write(CASES[line.names[0]](random.Random(line.seed)))
         return
     for name in line.names or CASES:
-        run(line.program, name, line.seed, line.events)
+        if line.what == "run":
+            run(line.program, name, line.seed, line.events)
+        elif name != "limits":
+            threads(line.program, name, line.seed, line.events, line.workers, line.batch)
 
 
 if __name__ == "__main__":

@@ -41,6 +41,53 @@ module _ (times : List ℕ) (group start end : ℕ) (start_is : start ≡ group 
             (start + i, omega arith, omega arith, sym same ∙ sym value);
       }
 
+-- a time changes: the least time of its group where that is the new one, and where it stays
+module _ (times : List ℕ) (place : ℕ) (within : place < length times) (time least : ℕ) (old : IsLeastOfGroup times (place / 32) least) where
+  new_at : (k : ℕ) → k < length times → (k ≡ place → ⊥) → get_or (set times place time) k 0 ≡ get_or times k 0
+  new_at k l n = get_or-set_other times place k time 0 n
+
+  long_as : length (set times place time) ≡ length times
+  long_as = length-set times place time
+
+  pub lowered : time ≤ least → IsLeastOfGroup (set times place time) (place / 32) time
+  lowered le =
+      let long = long_as in
+      record {
+        bound = λ k l g.
+            elim (cases_eq k place) [
+              | inl q ↦
+                  let same = ap (λ n. get_or (set times place time) n 0) q ∙ get_or-set_same times place time 0 within in
+                  omega arith
+              | inr n ↦
+                  let same = new_at k (omega arith) n in
+                  let low = old.bound k (omega arith) g in
+                  omega arith
+            ];
+        reached = (place, omega arith, refl, get_or-set_same times place time 0 within);
+      }
+
+  pub stayed : least < time → least < get_or times place 0 → IsLeastOfGroup (set times place time) (place / 32) least
+  stayed lt more =
+      let long = long_as in
+      record {
+        bound = λ k l g.
+            elim (cases_eq k place) [
+              | inl q ↦
+                  let same = ap (λ n. get_or (set times place time) n 0) q ∙ get_or-set_same times place time 0 within in
+                  omega arith
+              | inr n ↦
+                  let same = new_at k (omega arith) n in
+                  let low = old.bound k (omega arith) g in
+                  omega arith
+            ];
+        reached =
+            let r = old.reached in
+            let a = r.1 in
+            let b = r.3 in
+            let apart : r.0 ≡ place → ⊥ = λ q. let same = ap (λ n. get_or times n 0) q in omega arith in
+            (r.0, omega arith, r.2, new_at r.0 (omega arith) apart ∙ b);
+      }
+
 -- a time changes, and with it its group's least time
 module _ (times groups : List ℕ) (number : length groups ≡ (length times + 31) / 32)
     (least : (group : ℕ) → group < length groups → IsLeastOfGroup times group (get_or groups group 0)) (place : ℕ) (within : place < length times) (time v : ℕ)

@@ -2,8 +2,7 @@ pub mod Ordered
 pub mod Events
 pub mod Places
 pub mod Lists
-pub mod Earliest
-pub mod Buckets
+pub mod Rows
 pub mod Groups
 pub mod Tables
 pub mod Spares

@@ -103,7 +103,7 @@ module _ {E : Type 0} (before same : E → E → Bool) where
               ]
         ]
 
-    not_same : (x e : E) → before x e ≡ true → same e x ≡ false
+    pub not_same : (x e : E) → before x e ≡ true → same e x ≡ false
     not_same x e h =
         elim (cases_Bool (same e x)) [
           | inl b ↦ absurd (false≢true (sym (law.not_self x) ∙ subst (λ y. before x y ≡ true) (law.same_is e x b) h))

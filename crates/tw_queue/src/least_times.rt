@@ -43,9 +43,10 @@ impl LeastTimes {
         requires { place < length self.old }
         ensures { self.new ≡ slice_set self.old place time }
     {
+        let old = self.times[place];
         self.times[place] = time;
         let group = place / GROUP;
-        self.groups[group] = least_of_group(&self.times, group);
+        self.groups[group] = least_after(&self.times, group, self.groups[group], old, time);
     }
 
     /// The first place of the least time, and `None` for an empty row.
@@ -66,6 +67,23 @@ fn nevers(alloc: Global, count: usize) -> Result<Vec<u64>, AllocError>
     ensures { IfOk result (λ times. times.items ≡ replicate count never) }
 {
     vec![in alloc; u64::MAX; count]
+}
+
+// The least time of a group in which a time took the place of an old one, from what it was before: the
+// group is passed over only where the old time was the least one.
+fn least_after(times: &[u64], group: usize, least: u64, old: u64, time: u64) -> u64
+    requires within { group * 32 < length times.now }
+    requires lower { time ≤ least → IsLeastOfGroup times.now group time }
+    requires stays { least < time → least < old → IsLeastOfGroup times.now group least }
+    ensures { IsLeastOfGroup times.now group result }
+{
+    if time <= least {
+        return time;
+    }
+    if least < old {
+        return least;
+    }
+    least_of_group(times, group)
 }
 
 // The least time of a group.

@@ -5,7 +5,6 @@
 //! again and again.
 #![tactic(auto)]
 
-mod bucket;
 mod event_list;
 mod least_times;
 mod pending;

@@ -144,6 +144,9 @@ impl Pending {
         ensures routers { self.new.routers ≡ self.old.routers }
         ensures room { self.old.room ≤ self.new.room }
     {
+        if self.len == 0 {
+            return false;
+        }
         let removed = take_from(&mut self.table, &mut self.spare, event);
         if removed {
             self.len -= 1;

@@ -1,40 +1,38 @@
-// The events of one router, in buckets by time.
-ghost use Rattle.std.specs.Prelude.{◌≡◌, ◌<◌, ◌+◌, ◌++◌, ◌↔◌, ◌^◌, IsTrue, [], OnErr, OnOk, Some, false, slice_get};
+// The events of one router, in order.
+ghost use Rattle.std.specs.Prelude.{◌≡◌, ◌<◌, ◌↔◌, ◌^◌, ◌+◌, IsTrue, [], OnErr, OnOk, false, length, slice_get, slice_index_or, true};
+ghost use Rattle.std.specs.Bool.{OnFalse, OnTrue};
 ghost use Rattle.tw_event.specs.declared.event.Event.{Event};
 ghost use Rattle.tw_event.specs.Order.{event_before, event_same};
-ghost use Rattle.tw_queue.specs.Buckets.{IsPlaced, bucket_at, earliest, lesser, together};
-ghost use Rattle.tw_queue.specs.InOrder.{in_order};
+ghost use Rattle.tw_queue.specs.InOrder.{IsPlace};
 ghost use Rattle.tw_sim.specs.Ordered.{insert, take_out, times};
 ghost use Rattle.tw_sim.specs.Rising.{IsRising};
 
-use crate::bucket::Bucket;
-use crate::search::{count_of, earlier, least_of};
+use crate::search::{comes_before, count_of};
 use std::alloc::{AllocError, Global};
-use std::array;
+use std::collections::VecDeque;
 use std::marker::Model;
 use tw_event::Event;
 
-/// The events that are pending for one router, and the least of them.
+/// The events that are pending for one router, in rising order.
 ///
-/// They lie in 16 buckets: an event at time t, in ticks, in the one with the number (t div 64) mod 16.
+/// The least is the first, which comes out fast; and an event that comes is nearly always later than all
+/// the others, and goes to the end.
 #[derive(Drop)]
 pub(crate) struct RouterQueue {
-    buckets: [Bucket; 16],
-    least: Option<Event>,
+    events: VecDeque<Event>,
 }
 
 impl Model for RouterQueue {
-    ghost use Rattle.std.specs.Prelude.{◌≡◌, List, length, slice_get};
+    ghost use Rattle.std.specs.Prelude.{List};
     ghost use Rattle.tw_event.specs.declared.event.Event.{Event};
-    ghost use Rattle.tw_event.specs.Order.{event_before};
-    ghost use Rattle.tw_queue.specs.Buckets.{IsPlaced, bucket_at, together};
-    ghost use Rattle.tw_queue.specs.InOrder.{in_order};
+    ghost use Rattle.tw_event.specs.Order.{event_before, event_same};
+    ghost use Rattle.tw_sim.specs.Rising.{IsRising};
 
     ghost Value = { List Event };
 
-    ghost view = { λ a. in_order event_before (together a.buckets) };
+    ghost view = { λ a. a.events.items };
 
-    ghost invariant = { λ a. IsPlaced (λ e. bucket_at e.time) a.buckets × (length a.buckets ≡ 16) × (a.least ≡ slice_get (in_order event_before (together a.buckets)) 0) };
+    ghost invariant = { λ a. IsRising event_before event_same a.events.items };
 }
 
 impl RouterQueue {
@@ -43,8 +41,7 @@ impl RouterQueue {
         ensures { result ≡ [] }
     {
         RouterQueue {
-            buckets: array::from_fn(|_| Bucket::new(alloc)),
-            least: None,
+            events: VecDeque::new(alloc),
         }
     }
 
@@ -53,8 +50,8 @@ impl RouterQueue {
         ensures ok { OnOk result (self.new ≡ insert event_before event self.old) }
         ensures err { OnErr result (self.new ≡ self.old) }
     {
-        self.buckets[bucket_of(event.time)].push(event)?;
-        self.least = Some(earlier(event, self.least));
+        let place = place_of(&self.events, &event);
+        self.events.insert(place, event)?;
         Ok(())
     }
 
@@ -63,9 +60,12 @@ impl RouterQueue {
         ensures found { IsTrue result ↔ (0 < times event_same event.now self.old) }
         ensures events { self.new ≡ take_out event_same event.now self.old }
     {
-        let removed = self.buckets[bucket_of(event.time)].remove(event);
-        self.least = least_without(event, self.least, &self.buckets);
-        removed
+        let place = place_of(&self.events, event);
+        if !is_at(&self.events, place, event) {
+            return false;
+        }
+        self.events.remove(place);
+        true
     }
 
     /// How often an event is pending.
@@ -73,7 +73,8 @@ impl RouterQueue {
         ensures times { result ≡ times event_same event.now self.now }
         ensures bound { result < 2 ^ 63 }
     {
-        count_of(self.buckets[bucket_of(event.time)].events(), event)
+        let (first, second) = self.events.as_slices();
+        count_of(first, event) + count_of(second, event)
     }
 
     /// The least event.
@@ -81,74 +82,63 @@ impl RouterQueue {
         ensures first { result ≡ slice_get self.now 0 }
         ensures rising { IsRising event_before event_same self.now }
     {
-        self.least
+        self.events.front().copied()
     }
 
     /// Puts its events at the end of a list.
     pub(crate) fn append_to(&self, events: &mut Vec<Event>) -> Result<(), AllocError>
         ensures ok { OnOk result ((e : Event) → times event_same e events.new.items ≡ times event_same e self.now + times event_same e events.old.items) }
     {
-        append_all(&self.buckets, events)?;
+        let (first, second) = self.events.as_slices();
+        events.extend_from_slice(first)?;
+        events.extend_from_slice(second)?;
         Ok(())
     }
 }
 
-// Puts the events of buckets at the end of a list.
-fn append_all(buckets: &[Bucket], events: &mut Vec<Event>) -> Result<(), AllocError>
-    ensures { OnOk result (events.new.items ≡ events.old.items ++ together buckets.now) }
+// The place of an event among events in rising order: how many of them come before it.
+fn place_of(events: &VecDeque<Event>, event: &Event) -> usize
+    requires { IsRising event_before event_same events.now.items }
+    ensures { IsPlace event.now events.now.items result }
 {
-    for bucket in buckets {
-        events.extend_from_slice(bucket.events())?;
+    if starts_at(events, event) {
+        return 0;
     }
-    Ok(())
+    if ends_before(events, event) {
+        return events.len();
+    }
+    events.partition_point(|other| comes_before(other, event))
 }
 
-// The number of the bucket for a time, in ticks.
-fn bucket_of(time: u64) -> usize
-    ensures { result ≡ bucket_at time }
+// Whether the first of some events in rising order does not come before an event.
+fn starts_at(events: &VecDeque<Event>, event: &Event) -> bool
+    requires { IsRising event_before event_same events.now.items }
+    ensures { OnTrue result (IsPlace event.now events.now.items 0) }
 {
-    (time / 64 % 16) as usize
-}
-
-// The least event of 16 buckets, from which an event was taken out: the least one before, unless it is this
-// event.
-fn least_without(event: &Event, least: Option<Event>, buckets: &[Bucket; 16]) -> Option<Event>
-    requires placed { IsPlaced (λ e. bucket_at e.time) buckets.now }
-    requires stays { (e : Event) → least ≡ Some e → event_same e event.now ≡ false → slice_get (in_order event_before (together buckets.now)) 0 ≡ Some e }
-    ensures { result ≡ slice_get (in_order event_before (together buckets.now)) 0 }
-{
-    match least {
-        Some(other) if other != *event => least,
-        _ => least_in(buckets),
+    match events.front() {
+        Some(first) => !comes_before(first, event),
+        None => true,
     }
 }
 
-// The least event of 16 buckets.
-fn least_in(buckets: &[Bucket; 16]) -> Option<Event>
-    requires { IsPlaced (λ e. bucket_at e.time) buckets.now }
-    ensures { result ≡ slice_get (in_order event_before (together buckets.now)) 0 }
+// Whether the last of some events in rising order comes before an event.
+fn ends_before(events: &VecDeque<Event>, event: &Event) -> bool
+    requires { IsRising event_before event_same events.now.items }
+    ensures { OnTrue result (IsPlace event.now events.now.items (length events.now.items)) }
 {
-    let time = earliest_of(buckets)?;
-    least_of(None, buckets[bucket_of(time)].events())
-}
-
-// The least time of the buckets.
-fn earliest_of(buckets: &[Bucket]) -> Option<u64>
-    ensures { result ≡ earliest (together buckets.now) }
-{
-    let mut least = None;
-    for bucket in buckets {
-        least = lesser(least, bucket.least_time());
+    match events.back() {
+        Some(last) => comes_before(last, event),
+        None => false,
     }
-    least
 }
 
-// The lesser of two times.
-fn lesser(one: Option<u64>, other: Option<u64>) -> Option<u64>
-    ensures { result ≡ lesser one other }
+// Whether an event stands at a place.
+fn is_at(events: &VecDeque<Event>, place: usize, event: &Event) -> bool
+    ensures there { OnTrue result ((place < length events.now.items) × (event_same event.now (slice_index_or events.now.items place event.now) ≡ true)) }
+    ensures other { OnFalse result (place < length events.now.items → event_same event.now (slice_index_or events.now.items place event.now) ≡ false) }
 {
-    match (one, other) {
-        (Some(one), Some(other)) => Some(one.min(other)),
-        (None, time) | (time, None) => time,
+    match events.get(place) {
+        Some(other) => *event == *other,
+        None => false,
     }
 }

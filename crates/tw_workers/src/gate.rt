@@ -7,6 +7,10 @@ pub trait Gate {
     /// The worker is about to handle events, and doesn't have the exchange. It goes on when this returns.
     fn handling<R: Wait>(&self, rt: &R, worker: u32, turn: u64);
 
+    /// Since its last meeting the worker has handled so many events, and undone about so many, which may be
+    /// handled once more.
+    fn worked(&self, _worker: u32, _handled: u64, _undone: u64) {}
+
     /// The worker is about to take the exchange. It goes on when this returns.
     fn enter<R: Wait>(&self, rt: &R, worker: u32, turn: u64);
 

@@ -43,7 +43,8 @@ impl<'a> Worker<'a> {
     }
 
     /// Its routers handle a batch of events that are before a time, and it is answered whether the batch
-    /// ended since none was left.
+    /// ended since none was left. What they send to one another comes when the events of a tick are
+    /// handled: messages take a tick at least.
     fn handle_until(&mut self, limit: u64) -> Result<bool, OrMemory<CounterFull>>
         requires { self.old.share.mail ≡ [] }
         ensures kept { StillKeeps self.old self.new }
@@ -53,12 +54,28 @@ impl<'a> Worker<'a> {
         ensures stop { self.new.stop ≡ self.old.stop }
     {
         for _ in 0..self.pace.batch() {
-            self.receive_own()?;
-            if !self.handle_least(limit)? {
+            let least = self.receive_where_due()?;
+            if !self.handle_before(least, limit)? {
                 return Ok(true);
             }
         }
         Ok(false)
+    }
+
+    /// The least pending event of all, once its routers have received what they sent one another before
+    /// its tick.
+    fn receive_where_due(&mut self) -> Result<Option<Event>, AllocError>
+        requires { self.old.share.mail ≡ [] }
+        ensures kept { StillKeeps self.old self.new }
+        ensures empty { OnOk result (self.new.share.mail ≡ []) }
+        ensures stop { self.new.stop ≡ self.old.stop }
+    {
+        let least = self.shard.pending().least();
+        if self.shard.outgoing().is_empty() || self.pace.is_of_tick(least) {
+            return Ok(least);
+        }
+        self.receive_own()?;
+        Ok(self.shard.pending().least())
     }
 
     /// What its routers have sent is sorted: what is for them comes to them.
@@ -103,31 +120,42 @@ impl<'a> Worker<'a> {
         Ok(())
     }
 
-    /// A router handles the least pending event of all, if it is before a time that is not beyond the stop,
-    /// and is not the event that the router handled last, which then waits for its antimessage.
-    fn handle_least(&mut self, limit: u64) -> Result<bool, OrMemory<CounterFull>>
+    /// Where an event is before a time, its router handles.
+    fn handle_before(
+        &mut self,
+        least: Option<Event>,
+        limit: u64,
+    ) -> Result<bool, OrMemory<CounterFull>>
         ensures kept { StillKeeps self.old self.new }
         ensures full { IsErrOf result (or_memory.Fault counter_full)
             → (r : ℕ) × (handling self.new.stop self.new.share.shard r ≡ Err refusal.CounterFull) }
         ensures mail { self.new.share.mail ≡ self.old.share.mail }
         ensures stop { self.new.stop ≡ self.old.stop }
     {
-        match self.shard.pending().least() {
-            Some(event) if event.time < limit => {
-                let stop = self.stop;
-                match self.shard.handle_next(event.dst, stop) {
-                    Ok(()) => {
-                        self.pace.count_handled();
-                        Ok(true)
-                    }
-                    Err(OrMemory::Memory) => Err(OrMemory::Memory),
-                    Err(OrMemory::Fault(Refusal::CounterFull)) => {
-                        Err(OrMemory::Fault(CounterFull))
-                    }
-                    Err(OrMemory::Fault(_)) => Ok(false),
-                }
-            }
+        match least {
+            Some(event) if event.time < limit => self.handle_at(event),
             _ => Ok(false),
+        }
+    }
+
+    /// The router of an event handles its first pending event, if that is before the stop and is not the
+    /// event that it handled last, which then waits for its antimessage.
+    fn handle_at(&mut self, event: Event) -> Result<bool, OrMemory<CounterFull>>
+        ensures kept { StillKeeps self.old self.new }
+        ensures full { IsErrOf result (or_memory.Fault counter_full)
+            → (r : ℕ) × (handling self.new.stop self.new.share.shard r ≡ Err refusal.CounterFull) }
+        ensures mail { self.new.share.mail ≡ self.old.share.mail }
+        ensures stop { self.new.stop ≡ self.old.stop }
+    {
+        let stop = self.stop;
+        match self.shard.handle_next(event.dst, stop) {
+            Ok(()) => {
+                self.pace.count_handled(event.time);
+                Ok(true)
+            }
+            Err(OrMemory::Memory) => Err(OrMemory::Memory),
+            Err(OrMemory::Fault(Refusal::CounterFull)) => Err(OrMemory::Fault(CounterFull)),
+            Err(OrMemory::Fault(_)) => Ok(false),
         }
     }
 }

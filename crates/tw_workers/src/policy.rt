@@ -22,15 +22,40 @@ const HANDLED_FOR_EACH_UNDONE: u64 = 20;
 /// undoing these would need is a few MiB.
 const HANDLED_FOR_EACH_COMMIT: u64 = 65_536;
 
+/// Where the window has fallen it stays for so many turns that end at it before it grows again: where no
+/// wider one serves, few turns try one.
+const TURNS_BEFORE_GROWTH: u64 = 8;
+
+/// How many events were handled, and how many undone.
+#[derive(Clone, Copy, Debug)]
+pub(crate) struct Work {
+    pub(crate) handled: u64,
+    pub(crate) undone: u64,
+}
+
+impl Work {
+    const NONE: Work = Work {
+        handled: 0,
+        undone: 0,
+    };
+
+    fn has_much_undone(self) -> bool {
+        self.undone.saturating_mul(HANDLED_FOR_EACH_UNDONE) > self.handled
+    }
+}
+
 /// How a worker paces itself.
 #[derive(Clone, Copy, Debug)]
 pub(crate) struct Pace {
     batch: u32,
     window: u64,
-    // Since the window was set last.
-    handled: u64,
-    undone: u64,
-    // Since the latest commit.
+    // The time of the event handled last.
+    tick: u64,
+    // Since the latest meeting.
+    turn: Work,
+    // That ended at the window since it fell.
+    turns: u64,
+    // Handled since the latest commit.
     uncommitted: u64,
 }
 
@@ -42,8 +67,9 @@ impl Pace {
         Pace {
             batch,
             window: FIRST_WINDOW,
-            handled: 0,
-            undone: 0,
+            tick: 0,
+            turn: Work::NONE,
+            turns: TURNS_BEFORE_GROWTH,
             uncommitted: 0,
         }
     }
@@ -58,9 +84,25 @@ impl Pace {
         cmp::min(stop, bound.saturating_add(self.window))
     }
 
-    /// An event was handled.
-    pub(crate) fn count_handled(&mut self) {
-        self.handled = self.handled.saturating_add(1);
+    /// Whether an event is one of the tick that is handled.
+    pub(crate) fn is_of_tick(&self, event: Option<Event>) -> bool {
+        event.is_some_and(|event| event.time == self.tick)
+    }
+
+    /// What was done since the latest meeting.
+    pub(crate) fn turn(&self) -> Work {
+        self.turn
+    }
+
+    /// A meeting is over.
+    pub(crate) fn begin_turn(&mut self) {
+        self.turn = Work::NONE;
+    }
+
+    /// An event of this time was handled.
+    pub(crate) fn count_handled(&mut self, time: u64) {
+        self.tick = time;
+        self.turn.handled = self.turn.handled.saturating_add(1);
         self.uncommitted = self.uncommitted.saturating_add(1);
     }
 
@@ -80,20 +122,22 @@ impl Pace {
 
     /// So many events were undone.
     pub(crate) fn count_undone(&mut self, events: usize) {
-        self.undone = self.undone.saturating_add(events as u64);
+        self.turn.undone = self.turn.undone.saturating_add(events as u64);
     }
 
-    /// A batch is over: whether it ended at the window.
+    /// A batch is over: whether it ended at the window. The window falls where much was undone, and grows
+    /// where it kept the worker from handling more.
     pub(crate) fn adapt(&mut self, at_window: bool) {
-        let much = self.undone.saturating_mul(HANDLED_FOR_EACH_UNDONE) > self.handled;
-        if much {
+        if self.turn.has_much_undone() {
             self.window = cmp::max(FIRST_WINDOW, self.window / 2);
-        } else if at_window {
-            let wider = self.window.saturating_add(self.window / 4 + 1);
-            self.window = cmp::min(WIDEST_WINDOW, wider);
+            self.turns = 0;
+        } else if at_window && self.turn.handled > 0 {
+            self.turns = self.turns.saturating_add(1);
+            if self.turns > TURNS_BEFORE_GROWTH {
+                let wider = self.window.saturating_add(self.window / 4 + 1);
+                self.window = cmp::min(WIDEST_WINDOW, wider);
+            }
         }
-        self.handled = 0;
-        self.undone = 0;
     }
 }
 

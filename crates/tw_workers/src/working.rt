@@ -10,6 +10,7 @@ ghost use Rattle.tw_workers.specs.Work.{HasCommitted, IsAtWork, StillKeeps};
 use crate::gate::Gate;
 use crate::meeting::Meeting;
 use crate::worker::Worker;
+use crossbeam_utils::Backoff;
 use std::sync::Wait;
 use tw_model::OrMemory;
 use tw_table::{Seat, Table};
@@ -59,6 +60,7 @@ impl<'a> Worker<'a> {
     {
         let mut seat = seat;
         let mut turn: u64 = 0;
+        let waiting = Backoff::new();
         for _ in rt.forever() {
             turn = turn.saturating_add(1);
             let (next, leaving) = self.take_turn(rt, table, gate, seat, turn);
@@ -66,8 +68,20 @@ impl<'a> Worker<'a> {
                 return (next, leaving);
             }
             seat = next;
+            self.pause(&waiting);
+            self.pace.begin_turn();
         }
         unreachable!()
+    }
+
+    /// Waits a little where nothing was handled in a turn and nothing has come, longer each time: the others
+    /// get on sooner where a worker that has nothing to do leaves them the exchange and the processor.
+    fn pause(&self, waiting: &Backoff) {
+        if self.pace.turn().handled == 0 && self.hand.mail.is_empty() {
+            waiting.snooze();
+        } else {
+            waiting.reset();
+        }
     }
 
     /// The worker takes a turn, and is told whether it leaves.
@@ -97,6 +111,8 @@ impl<'a> Worker<'a> {
         if let Err(leaving) = self.prepare(rt, gate, seat.worker(), turn) {
             return (self.leave(rt, table, seat), Some(leaving));
         }
+        let work = self.pace.turn();
+        gate.worked(seat.worker(), work.handled, work.undone);
         // A bound that is first told at this meeting leaves events that are not committed yet.
         let last = self.shard.bound() == self.stop;
         gate.enter(rt, seat.worker(), turn);

@@ -1,19 +1,18 @@
-use Rattle.std.proofs.Common.{ap, arith}
-use Rattle.tw_event.specs.Order.{event_before, event_same}
+use Rattle.std.proofs.Common.{ap, sym, ◌∙◌, arith}
+use Rattle.tw_event.specs.Order.{event_same}
 use Rattle.tw_sim.specs.Ordered.{times}
-use Rattle.tw_queue.specs.Buckets.{together}
-use Rattle.tw_queue.proofs.Events.{event_law}
 use Rattle.tw_queue.proofs.Lists.{times-append}
-use Rattle.tw_queue.proofs.Ordered.{times-in_order}
 use Rattle.tw_queue.proofs.router_queue.RouterQueue.append_to.Goals as goal
 
 pub returns : goal.returns
 returns c = record {
   ok = λ e.
-      let all = together c.self.inside.buckets in
-      let a = ap (times event_same e) c.in_ok-append_all.ensures in
-      let b = times-append e c.args.events.now.items all in
-      let d = times-in_order event_before event_same event_law e all in
-      let f = ap (times event_same e) c.self.view_is in
+      let first = c.as_slices.result.0.now in
+      let second = c.as_slices.result.1.now in
+      let old = c.args.events.now.items in
+      let one = ap (times event_same e) c.in_ok-extend_from_slice.ensures.items ∙ times-append e old first in
+      let other = ap (times event_same e) c.in_ok-extend_from_slice-2.ensures.items ∙ times-append e c.extend_from_slice.new.self.items second in
+      let parts = times-append e first second in
+      let all = ap (times event_same e) (c.as_slices.ensures.items ∙ c.self.view_is) in
       omega arith;
 }

@@ -1,14 +1,17 @@
-use Rattle.std.proofs.Common.{count_by, ap, sym, ◌∙◌}
+use Rattle.std.proofs.Common.{◌+◌, ap, sym, ◌∙◌, arith}
 use Rattle.tw_event.specs.Order.{event_same}
 use Rattle.tw_sim.specs.Ordered.{times}
-use Rattle.tw_queue.proofs.Buckets.{bucket_times}
-use Rattle.tw_queue.proofs.Places.{count_times, equals}
+use Rattle.tw_queue.proofs.Lists.{times-append}
+use Rattle.tw_queue.proofs.Places.{count_times}
 use Rattle.tw_queue.proofs.router_queue.RouterQueue.count.Goals as goal
 
 pub returns-clause-times : goal.returns-clause-times
 returns-clause-times c =
-    let v = c.self.invariant in
     let e = c.args.event.now in
-    let seen = c.events.ensures ∙ sym c.index-self-bucket_of.is in
-    let n = bucket_times c.self.inside.buckets v.1 v.0 e c.bucket_of.result c.bucket_of.ensures c.index-self-bucket_of.result c.index-self-bucket_of.is in
-    c.count_of.ensures ∙ ap (count_by (equals e)) seen ∙ count_times e _ ∙ n ∙ ap (times event_same e) c.self.view_is
+    let first = c.as_slices.result.0.now in
+    let second = c.as_slices.result.1.now in
+    let one = c.count_of.ensures ∙ count_times e first in
+    let other = c.count_of-2.ensures ∙ count_times e second in
+    let parts = times-append e first second in
+    let all = ap (times event_same e) (c.as_slices.ensures.items ∙ c.self.view_is) in
+    omega arith

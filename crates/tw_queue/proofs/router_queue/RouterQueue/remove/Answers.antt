@@ -1,42 +1,48 @@
-use Rattle.std.proofs.Common.{◌<◌, ap, sym, ◌∙◌, subst, length-set}
-use Rattle.tw_event.specs.Order.{event_same}
+use Rattle.std.proofs.Common.{◌≡◌, ◌<◌, ap, sym, ◌∙◌, subst, refl, arith}
+use Rattle.std.specs.List.{remove}
+use Rattle.std.proofs.lemmas.Bool.{false≢true}
+use Rattle.tw_event.specs.Order.{event_before, event_same}
 use Rattle.tw_sim.specs.Ordered.{take_out, times}
-use Rattle.tw_queue.proofs.Buckets.{bucket_times, first_left, left, placed_left}
+use Rattle.tw_sim.specs.Rising.{IsRising}
+use Rattle.tw_queue.proofs.Events.{event_law}
+use Rattle.tw_queue.proofs.Ordered.{take_out_none}
+use Rattle.tw_queue.proofs.Rows.{is_absent, is_there, out_of, rising-take_out}
 use Rattle.tw_queue.proofs.router_queue.RouterQueue.remove.Goals as goal
 
-pub least_without-self-inside-requires-clause-placed : goal.least_without-self-inside-requires-clause-placed
-least_without-self-inside-requires-clause-placed c =
-    let v = c.self.invariant in
-    placed_left c.self.inside.buckets v.1 v.0 c.args.event.now c.bucket_of.result c.bucket_of.ensures c.index-self-bucket_of.result c.index-self-bucket_of.is
-    c.remove-removed.new.self c.remove-removed.ensures.events
+absent : (c : goal.Then-not-is_at) → times event_same c.args.event.now c.args.self.now ≡ 0
+absent c =
+    let e = c.args.event.now in
+    let xs = c.self.inside.events.items in
+    ap (times event_same e) (sym c.self.view_is) ∙ is_absent e xs c.self.invariant c.place_of-place.result c.place_of-place.ensures c.if-not-is_at.ensures.other
 
-pub least_without-self-inside-requires-clause-stays : goal.least_without-self-inside-requires-clause-stays
-least_without-self-inside-requires-clause-stays c =
-    let v = c.self.invariant in
-    first_left c.self.inside.buckets v.1 v.0 c.args.event.now c.bucket_of.result c.bucket_of.ensures c.index-self-bucket_of.result c.index-self-bucket_of.is
-    c.remove-removed.new.self c.remove-removed.ensures.events c.self.inside.least v.2
+pub returns-then-not-is_at-clause-found : goal.returns-then-not-is_at-clause-found
+returns-then-not-is_at-clause-found c =
+    let n = absent c in
+    (λ u. absurd (false≢true u), λ l. absurd (omega arith))
+
+pub returns-then-not-is_at-clause-events : goal.returns-then-not-is_at-clause-events
+returns-then-not-is_at-clause-events c =
+    sym (take_out_none event_before event_same event_law c.args.event.now c.args.self.now (absent c))
+
+left : (c : goal.After-remove) → c.remove.new.self.items ≡ take_out event_same c.args.event.now c.self.inside.events.items
+left c =
+    let e = c.args.event.now in
+    let xs = c.self.inside.events.items in
+    let at = c.if-not-is_at.ensures.there in
+    let some = c.remove.ensures.succeeds e (omega (arith, at.0, c.self.inside.events.ok.0)) in
+    let gone = rw some at c.remove.ensures.items in
+    gone ∙ sym (out_of e xs c.self.invariant c.place_of-place.result c.place_of-place.ensures at.0 at.1)
 
 pub invariant_of-self : goal.invariant_of-self
 invariant_of-self c =
-    let v = c.self.invariant in
-    let lists = c.self.inside.buckets in
-    let new = c.remove-removed.new.self in
-    let placed = placed_left lists v.1 v.0 c.args.event.now c.bucket_of.result c.bucket_of.ensures c.index-self-bucket_of.result c.index-self-bucket_of.is new c.remove-removed.ensures.events in
-    (placed, length-set lists c.bucket_of.result new ∙ v.1, c.least_without-self-inside.ensures)
-
-pub returns-clause-events : goal.returns-clause-events
-returns-clause-events c =
-    let v = c.self.invariant in
-    let e = c.args.event.now in
-    left c.self.inside.buckets v.1 v.0 e c.bucket_of.result c.bucket_of.ensures c.index-self-bucket_of.result c.index-self-bucket_of.is c.remove-removed.new.self
-    c.remove-removed.ensures.events ∙ ap (take_out event_same e) c.self.view_is
+    subst (IsRising event_before event_same) (sym (left c)) (rising-take_out c.args.event.now c.self.inside.events.items c.self.invariant)
 
 pub returns-clause-found : goal.returns-clause-found
 returns-clause-found c =
-    let v = c.self.invariant in
     let e = c.args.event.now in
-    let f = c.remove-removed.ensures.found in
-    let k = sym c.index-self-bucket_of.is in
-    let n = ap (times event_same e) k ∙ bucket_times c.self.inside.buckets v.1 v.0 e c.bucket_of.result c.bucket_of.ensures c.index-self-bucket_of.result c.index-self-bucket_of.is
-    ∙ ap (times event_same e) c.self.view_is in
-    (λ b. subst (λ m. 0 < m) n (f.0 b), λ l. f.1 (subst (λ m. 0 < m) (sym n) l))
+    let at = c.if-not-is_at.ensures.there in
+    let h = is_there e c.self.inside.events.items c.self.invariant c.place_of-place.result c.place_of-place.ensures at.0 at.1 in
+    (λ u. subst (λ xs. 0 < times event_same e xs) c.self.view_is h, λ l. refl)
+
+pub returns-clause-events : goal.returns-clause-events
+returns-clause-events c = left c ∙ ap (take_out event_same c.args.event.now) c.self.view_is

@@ -1,18 +1,18 @@
-use Rattle.std.proofs.Common.{◌≡◌, Err, refl, ap, sym, ◌∙◌, subst}
+use Rattle.std.proofs.Common.{rules, ◌≡◌, Err, refl, ap, sym, ◌∙◌, subst}
 use Rattle.tw_core.specs.declared.refusal.Refusal.TheVariants as refusal
 use Rattle.tw_model.specs.declared.memory.OrMemory.TheVariants as or_memory
 use Rattle.tw_shard.specs.Shard.{handling}
 use Rattle.tw_table.specs.Shares.{share}
 use Rattle.tw_workers.proofs.Places.{kept_both, kept_handled, work_kept}
 use Rattle.tw_workers.specs.Work.{Kept, Worker}
-use Rattle.tw_workers.proofs.worker.Worker.handle_least.Goals as goal
+use Rattle.tw_workers.proofs.worker.Worker.handle_at.Goals as goal
 
 pub invariant_of-self : goal.invariant_of-self
 invariant_of-self c =
     let inside = c.self.inside in
     let s = share inside.shard inside.hand in
     let t = share c.handle_next.new.self inside.hand in
-    let kept = kept_handled inside.stop c.in-Some.event.dst s t c.self.invariant.work c.in-Ok.ensures.same c.in-Ok.ensures.ok refl refl in
+    let kept = kept_handled inside.stop c.args.event.dst s t c.self.invariant.work c.in-Ok.ensures.same c.in-Ok.ensures.ok refl refl in
     record {
       work = work_kept inside.stop s t c.self.invariant.work kept;
       stop = c.self.invariant.stop;
@@ -24,12 +24,12 @@ returns-in-Ok-clause-kept c = λ since before.
     let inside = c.self.inside in
     let s = share inside.shard inside.hand in
     let t = share c.handle_next.new.self inside.hand in
-    let kept = kept_handled inside.stop c.in-Some.event.dst s t c.self.invariant.work c.in-Ok.ensures.same c.in-Ok.ensures.ok refl refl in
+    let kept = kept_handled inside.stop c.args.event.dst s t c.self.invariant.work c.in-Ok.ensures.same c.in-Ok.ensures.ok refl refl in
     kept_both inside.stop since s t (subst (λ (w : Worker). Kept w.stop since w.share) (sym c.self.view_is) before) kept
 
 pub returns-in-Err-Fault-CounterFull-clause-full : goal.returns-in-Err-Fault-CounterFull-clause-full
 returns-in-Err-Fault-CounterFull-clause-full c = λ is.
     let arm = c.in-Err-Fault-CounterFull in
-    let told = arm.is ∙ ap (λ f. Err f) (arm.field-0-is ∙ ap (λ f. or_memory.Fault f) arm.field-0-0-is) in
-    let r = c.in-Some.event.dst in
+    let told : c.handle_next.result ≡ Err (or_memory.Fault refusal.CounterFull) = search rules in
+    let r = c.args.event.dst in
     (r, subst (λ s. handling c.self.inside.stop s r ≡ Err refusal.CounterFull) (sym arm.ensures.err) ((c.handle_next.ensures.refused refusal.CounterFull).0 told))

@@ -1,0 +1,70 @@
+//! The program `tw_bench`: runs the case on standard input by threads, and says what its workers did. It
+//! belongs to `bench/`; nothing rests on it.
+//!
+//!     tw_bench STOP WORKERS BATCH < case.spp
+//!
+//! It prints a line with the turns that the workers took, the events that they handled and those that they
+//! undid, and ends with status 1 where it can't.
+#![tactic(auto)]
+
+mod tally;
+
+use std::env;
+use std::process::ExitCode;
+use std::sync::Wait;
+use std::thread::Threads;
+use tally::Tally;
+use tw_device::{OverRead, read_all};
+use tw_parallel::{Options, Sim, run_until};
+use tw_text::read_case;
+
+/// What the command line asks for.
+#[derive(Clone, Copy)]
+struct Asked {
+    stop: u64,
+    workers: u32,
+    batch: u32,
+}
+
+fn main(rt: HostRuntime) -> ExitCode {
+    let tally = Tally::new();
+    match asked(&rt).and_then(|asked| run(&rt, asked, &tally)) {
+        Some(()) => {
+            let _ = println!(rt; "{tally}");
+            ExitCode::SUCCESS
+        }
+        None => ExitCode::FAILURE,
+    }
+}
+
+/// The three numbers of the command line.
+fn asked<R: Env + AllocGlobal>(rt: &R) -> Option<Asked> {
+    let mut words = env::args(rt).ok()?.skip(1);
+    let stop = words.next()?.parse().ok()?;
+    let workers = words.next()?.parse().ok()?;
+    let batch = words.next()?.parse().ok()?;
+    if workers == 0 {
+        return None;
+    }
+    Some(Asked {
+        stop,
+        workers,
+        batch,
+    })
+}
+
+/// Runs the case on standard input to the stop.
+fn run<R: Input + AllocGlobal + Threads + Wait + Sync>(
+    rt: &R,
+    asked: Asked,
+    tally: &Tally,
+) -> Option<()> {
+    let alloc = rt.alloc();
+    let mut source = OverRead::new(rt.reader());
+    let text = read_all(alloc, &mut source).ok()?;
+    let case = read_case(alloc, &text).ok()?;
+    let sim = Sim::open(alloc, &case, asked.workers).ok()?;
+    let options = Options { batch: asked.batch };
+    run_until(rt, sim, asked.stop, options, tally).ok()?;
+    Some(())
+}
