@@ -1,12 +1,13 @@
 ghost use Rattle.std.specs.Prelude.{◌≡◌, ◌↔◌, ◌+◌, ◌-◌, ◌<◌, ◌≤◌, ◌==◌, IfNone, IfOk, IfSome, IsOk, IsTrue, OnErr, OnOk};
 ghost use Rattle.std.specs.Prelude.{[], if◌then◌else◌, drop, filter, length, option_map, slice_get, vec_capacity, vec_len};
+ghost use Rattle.std.specs.Option.{option_copied};
 ghost use Rattle.tw_event.specs.Order.{event_before, event_same};
-ghost use Rattle.tw_queue.specs.InOrder.{least_with};
+ghost use Rattle.tw_queue.specs.InOrder.{earlier, least_with};
 ghost use Rattle.tw_queue.specs.Queue.{AreFor, IsInOrder, IsQueue};
 ghost use Rattle.tw_sim.specs.Ordered.{insert, insert_all, take_out, times};
 
 use crate::queue_table::QueueTable;
-use crate::search::{count_of, earlier, least_of, remove_from};
+use crate::search::{comes_before, count_of, least_of, remove_from};
 use std::alloc::{AllocError, Global};
 use std::marker::Model;
 use tw_event::Event;
@@ -160,7 +161,16 @@ impl Pending {
         ensures home { IfSome result (λ e. e.dst ≡ router) }
         ensures queue { IsQueue self.now }
     {
-        least_for(router, self.table.least_at(router), &self.spare)
+        self.first_at(router).copied()
+    }
+
+    /// The least event for this router, where it stands: reading it copies nothing.
+    pub fn first_at(&self, router: u32) -> Option<&Event>
+        ensures first { option_copied result ≡ slice_get (filter (λ e. e.dst == router) self.now.events) 0 }
+        ensures home { IfSome result (λ e. e.now.dst ≡ router) }
+        ensures queue { IsQueue self.now }
+    {
+        least_for(router, self.table.first_at(router), &self.spare)
     }
 
     /// All events, in rising order.
@@ -214,14 +224,24 @@ fn take_from(table: &mut QueueTable, spare: &mut Vec<Event>, event: &Event) -> b
 }
 
 // The least of an event, if there is one, and of those of these that are for the router.
-fn least_for(router: u32, first: Option<Event>, events: &[Event]) -> Option<Event>
-    ensures { result ≡ least_with first (filter (λ e. e.dst == router) events.now) }
+fn least_for<'a>(router: u32, first: Option<&'a Event>, events: &'a [Event]) -> Option<&'a Event>
+    ensures { option_copied result ≡ least_with (option_copied first.entry) (filter (λ e. e.dst == router) events.now) }
 {
     let mut least = first;
     for event in events {
         if event.dst == router {
-            least = Some(earlier(*event, least));
+            least = Some(sooner(event, least));
         }
     }
     least
+}
+
+// The one of the two events that comes first, where it stands.
+fn sooner<'a>(event: &'a Event, other: Option<&'a Event>) -> &'a Event
+    ensures { result.now ≡ earlier event.now (option_copied other.entry) }
+{
+    match other {
+        Some(other) if comes_before(other, event) => other,
+        _ => event,
+    }
 }

@@ -3,6 +3,7 @@ ghost use Rattle.std.specs.Prelude.{◌≡◌, ◌<◌, ◌+◌, ◌==◌, ◌�
 ghost use Rattle.tw_event.specs.Order.{event_before, event_same};
 ghost use Rattle.tw_queue.specs.Buckets.{together};
 ghost use Rattle.std.specs.Bool.{OnFalse, OnTrue};
+ghost use Rattle.std.specs.Option.{option_copied};
 ghost use Rattle.tw_event.specs.declared.event.Event.{Event};
 ghost use Rattle.tw_queue.specs.Queue.{IsInOrder};
 ghost use Rattle.tw_queue.specs.Table.{first_time, never};
@@ -111,10 +112,10 @@ impl QueueTable {
     }
 
     /// The least event of one router.
-    pub(crate) fn least_at(&self, router: u32) -> Option<Event>
-        ensures { result ≡ slice_get (filter (λ e. e.dst == router) self.now.events) 0 }
+    pub(crate) fn first_at(&self, router: u32) -> Option<&Event>
+        ensures { option_copied result ≡ slice_get (filter (λ e. e.dst == router) self.now.events) 0 }
     {
-        queue_of(&self.queues, router)?.least()
+        queue_of(&self.queues, router)?.first()
     }
 
     /// Puts its events at the end of a list.

@@ -1,6 +1,7 @@
 // The events of one router, in order.
 ghost use Rattle.std.specs.Prelude.{◌≡◌, ◌<◌, ◌↔◌, ◌^◌, ◌+◌, IsTrue, [], OnErr, OnOk, false, length, slice_get, slice_index_or, true};
 ghost use Rattle.std.specs.Bool.{OnFalse, OnTrue};
+ghost use Rattle.std.specs.Option.{option_copied};
 ghost use Rattle.tw_event.specs.declared.event.Event.{Event};
 ghost use Rattle.tw_event.specs.Order.{event_before, event_same};
 ghost use Rattle.tw_queue.specs.InOrder.{IsPlace};
@@ -78,11 +79,19 @@ impl RouterQueue {
     }
 
     /// The least event.
+    pub(crate) fn first(&self) -> Option<&Event>
+        ensures first { option_copied result ≡ slice_get self.now 0 }
+        ensures rising { IsRising event_before event_same self.now }
+    {
+        self.events.front()
+    }
+
+    /// The least event, which is copied.
     pub(crate) fn least(&self) -> Option<Event>
         ensures first { result ≡ slice_get self.now 0 }
         ensures rising { IsRising event_before event_same self.now }
     {
-        self.events.front().copied()
+        self.first().copied()
     }
 
     /// Puts its events at the end of a list.

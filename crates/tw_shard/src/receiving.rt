@@ -159,7 +159,7 @@ impl<'a> Shard<'a> {
         match self.timeline(event.dst).newest_ahead() {
             None => false,
             Some(newest) => match reach {
-                Reach::Later => event.is_before(&newest),
+                Reach::Later => event.is_before(newest),
                 Reach::From => !newest.is_before(event),
             },
         }

@@ -1,5 +1,6 @@
 ghost use Rattle.std.specs.Prelude.{◌≡◌, ◌≤◌, ◌<◌, ◌/◌, [], length, max, slice_get, slice_index_or, slice_set, true, false, ℕ, IfOk, IfNone, IfSome, IsErrOf, IsTrue, OnErr, OnOk, ◌↔◌, Err, Ok, ◌++◌, ◌∷◌, map, List};
 ghost use Rattle.tw_core.specs.declared.refusal.Refusal.{Refusal as ARefusal};
+ghost use Rattle.std.specs.Option.{option_copied};
 ghost use Rattle.std.specs.Result.{result_and};
 ghost use Rattle.tw_core.specs.Steps.{first_pending, with_commit};
 ghost use Rattle.tw_handlers.specs.Calls.{counter_full, is_full_at};
@@ -206,7 +207,7 @@ impl<'a> Shard<'a> {
         ensures same { IsSameShare self.old self.new }
     {
         let event = match self.next(router, stop) {
-            Ok(event) => event,
+            Ok(event) => *event,
             Err(refusal) => return Err(OrMemory::Fault(refusal)),
         };
         match self.step_on(router, &event) {
@@ -217,9 +218,9 @@ impl<'a> Shard<'a> {
     }
 
     /// The event that a router is to handle next, unless a counter is full.
-    fn next(&self, router: u32, stop: u64) -> Result<Event, Refusal>
+    fn next(&self, router: u32, stop: u64) -> Result<&Event, Refusal>
         ensures err { (f : ARefusal) → IsErrOf result f → handling stop self.now router ≡ Err f }
-        ensures ok { IfOk result (λ e. IsNext stop self.now router e) }
+        ensures ok { IfOk result (λ e. IsNext stop self.now router e.now) }
         ensures whole { IsWhole self.now }
     {
         if !self.owns(router) {
@@ -227,7 +228,7 @@ impl<'a> Shard<'a> {
         }
         match self.first_pending(router) {
             Some(event) if event.time < stop => {
-                if self.timeline(router).is_newest(&event) {
+                if self.timeline(router).is_newest(event) {
                     Err(Refusal::Double)
                 } else {
                     Ok(event)
@@ -238,16 +239,12 @@ impl<'a> Shard<'a> {
     }
 
     /// The first pending event of a router.
-    fn first_pending(&self, router: u32) -> Option<Event>
-        ensures value { result ≡ first_pending (simulation self.now.case) (core 0 self.now) router }
-        ensures suits { IfSome result (λ e. IsTrue (suits self.now.case.net router e)) }
+    fn first_pending(&self, router: u32) -> Option<&Event>
+        ensures value { option_copied result ≡ first_pending (simulation self.now.case) (core 0 self.now) router }
+        ensures suits { IfSome result (λ e. IsTrue (suits self.now.case.net router e.now)) }
         ensures whole { IsWhole self.now }
     {
-        // The events of a queue are in order, which this read tells.
-        if self.pending.len() == 0 {
-            return None;
-        }
-        self.pending.least_at(router)
+        self.pending.first_at(router)
     }
 
     /// An event becomes pending.

@@ -1,5 +1,6 @@
 ghost use Rattle.std.specs.Prelude.{◌≡◌, ◌+◌, ◌≤◌, ◌<◌, ◌↔◌, ◌++◌, ◌∷◌, ℕ, List, false, true, length, map, slice_get, vec_capacity, vec_len, IfOk, IsErrOf, IsTrue, OnErr, OnOk};
 ghost use Rattle.std.specs.List.{AllByRecursion, list_any};
+ghost use Rattle.std.specs.Option.{option_copied};
 ghost use Rattle.tw_event.specs.declared.event.Event.{Event as AnEvent};
 ghost use Rattle.tw_core.specs.Steps.{is_newest};
 ghost use Rattle.tw_model.specs.Case.{Case as ACase, simulation};
@@ -89,23 +90,23 @@ impl<'a> Timeline<'a> {
     }
 
     /// The event that it handled last and has not undone, whether committed or not.
-    pub(crate) fn newest(&self) -> Option<Event>
-        ensures value { result ≡ slice_get (history self.now) 0 }
+    pub(crate) fn newest(&self) -> Option<&Event>
+        ensures value { option_copied result ≡ slice_get (history self.now) 0 }
         ensures past { AllByRecursion (λ e. e.time < self.now.done) self.now.past }
     {
         match self.ahead.last() {
-            Some(handled) => Some(handled.event),
-            None => self.past.last().copied(),
+            Some(handled) => Some(&handled.event),
+            None => self.past.last(),
         }
     }
 
     /// The event that it handled last, where it can undo it.
-    pub(crate) fn newest_ahead(&self) -> Option<Event>
-        ensures value { result ≡ slice_get self.now.ahead 0 }
+    pub(crate) fn newest_ahead(&self) -> Option<&Event>
+        ensures value { option_copied result ≡ slice_get self.now.ahead 0 }
         ensures past { AllByRecursion (λ e. e.time < self.now.done) self.now.past }
     {
         let newest = self.ahead.last()?;
-        Some(newest.event)
+        Some(&newest.event)
     }
 
     /// Whether it has handled this event and can undo it.
@@ -121,7 +122,7 @@ impl<'a> Timeline<'a> {
         ensures { (case : ACase) → result ≡ is_newest (simulation case) event.now (history self.now) }
     {
         match self.newest() {
-            Some(newest) => *event == newest,
+            Some(newest) => *event == *newest,
             None => false,
         }
     }

@@ -1,4 +1,4 @@
-use Rattle.std.proofs.Common.{◌-◌, inl, inr, arith, ◌∙◌}
+use Rattle.std.proofs.Common.{inl, inr, arith, ◌∙◌}
 use Rattle.std.specs.VecDeque.{deque_len}
 use Rattle.std.proofs.lemmas.Bool.{cases_Bool}
 use Rattle.tw_event.specs.Order.{event_before}

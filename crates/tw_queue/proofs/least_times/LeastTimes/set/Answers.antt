@@ -1,4 +1,4 @@
-use Rattle.std.proofs.Common.{◌≡◌, ◌<◌, ◌+◌, ◌/◌, length, ap, sym, subst, ◌∙◌, arith, length-set}
+use Rattle.std.proofs.Common.{◌<◌, ◌+◌, ◌/◌, length, ap, sym, subst, ◌∙◌, arith, length-set}
 use Rattle.std.proofs.lemmas.List.{get_or_read}
 use Rattle.tw_queue.specs.Least.{IsLeastOfGroup}
 use Rattle.tw_queue.proofs.Groups.{grouped_set, lowered, stayed}

@@ -6,4 +6,4 @@ use Rattle.tw_shard.proofs.timeline.Timeline.is_newest.Goals as goal
 
 pub returns-in-Some : goal.returns-in-Some
 returns-in-Some c = λ case.
-    c.eq.ensures ∙ (event_eq c.args.event.now c.in-Some.newest ∙ newest_same case c.args.event.now c.in-Some.newest (history c.args.self.now) c.in-Some.ensures.value)
+    c.eq.ensures ∙ (event_eq c.args.event.now c.in-Some.newest.now ∙ newest_same case c.args.event.now c.in-Some.newest.now (history c.args.self.now) c.in-Some.ensures.value)

@@ -1,6 +1,7 @@
 use Rattle.std.proofs.Common.{◌==◌, [], filter, get_or, slice_get, sym, ap, ◌∙◌}
+use Rattle.std.specs.Option.{option_copied}
 use Rattle.tw_queue.proofs.Tables.{filter_queue}
-use Rattle.tw_queue.proofs.queue_table.QueueTable.least_at.Goals as goal
+use Rattle.tw_queue.proofs.queue_table.QueueTable.first_at.Goals as goal
 
 pub returns-in_err-queue_of : goal.returns-in_err-queue_of
 returns-in_err-queue_of c =
@@ -9,7 +10,7 @@ returns-in_err-queue_of c =
     let r = c.args.router in
     let none = ap (λ xs. get_or xs r []) (sym c.deref.ensures.value) ∙ c.in_err-queue_of.ensures.none in
     let same = filter_queue lists v.placed r (v.rising r) in
-    c.from_residual.ensures ∙ ap (λ xs. slice_get xs 0) (sym none ∙ sym same) ∙ ap (λ t. slice_get (filter (λ e. e.dst == r) t.events) 0) c.self.view_is
+    ap option_copied c.from_residual.ensures ∙ ap (λ xs. slice_get xs 0) (sym none ∙ sym same) ∙ ap (λ t. slice_get (filter (λ e. e.dst == r) t.events) 0) c.self.view_is
 
 pub returns : goal.returns
 returns c =
@@ -18,4 +19,4 @@ returns c =
     let r = c.args.router in
     let some = c.in_ok-queue_of.ensures.some ∙ ap (λ xs. get_or xs r []) c.deref.ensures.value in
     let same = filter_queue lists v.placed r (v.rising r) in
-    c.least.ensures.first ∙ ap (λ xs. slice_get xs 0) (some ∙ sym same) ∙ ap (λ t. slice_get (filter (λ e. e.dst == r) t.events) 0) c.self.view_is
+    c.first.ensures.first ∙ ap (λ xs. slice_get xs 0) (some ∙ sym same) ∙ ap (λ t. slice_get (filter (λ e. e.dst == r) t.events) 0) c.self.view_is
