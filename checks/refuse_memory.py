@@ -9,8 +9,9 @@ on from where it is, and one that wrote nothing and then its report. A test that
 further. The tests of LONG are left out where none is named: they call a program hundreds of times or start threads
 again and again, with no allocation that the others do not make.
 Each command of the program runs in the same way, on DISAGREE or on the replay of a straggler, and so do its help and a line that it does not accept.
-Refused memory must end it with status 2 and the line `stopped memory`, with nothing on standard output; or, where the
-standard library then asks for less and gets it, it must end as it does with all its memory.
+Refused memory must end it with status 2 and the line `stopped memory`, or `stopped thread` where a thread needed it, with
+nothing on standard output; or, where the standard library then asks for less and gets it, it must end as it does with all
+its memory.
 """
 import os
 import subprocess
@@ -40,11 +41,13 @@ LINES = [
     ["trail", "--router", "3", "--stop", "20", "--keep", "0"],
     ["replay", "--stop", "20"],
     ["replay", "--stop", "20", "--workers", "3"],
+    ["run", "--stop", "20", "--log", "--workers", "2"],
     ["--help"],
     ["seq", "--stop", "0"],
 ]
 
 STOPPED = (2, b"", b"stopped memory\n")
+NO_THREAD = (2, b"", b"stopped thread\n")
 
 
 def end(done):
@@ -75,7 +78,7 @@ def refuse_in_program(refuser, line):
     words, source = [PROGRAM, *line], input_of(line)
     whole = end(run(words, source))
     ends = {number: end(done) for number, done in refuser.each(words, source)}
-    failed = [number for number, found in ends.items() if found not in (STOPPED, whole)]
+    failed = [number for number, found in ends.items() if found not in (STOPPED, NO_THREAD, whole)]
     if STOPPED not in ends.values():
         return len(ends), "no refused allocation stopped it"
     return len(ends), failed and f"allocation {failed[0]}: {ends[failed[0]]}"
