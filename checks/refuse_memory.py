@@ -5,13 +5,13 @@
 
 Each test of crates/tw_rows, or each that is named, runs once for each of its allocations, with just that one refused;
 it tries the call once more and must pass. Among them are a run by the threads of two workers that ended early and goes
-on from where it is, and one that wrote nothing and then its report. A test that does not end has failed, and is tried no
-further. The tests of LONG are left out where none is named: they call a program hundreds of times or start threads
+on from where it is, and one that wrote nothing and then its report. A test that does not end has failed, and is tried
+no further. The tests of LONG are left out where none is named: they call a program hundreds of times or start threads
 again and again, with no allocation that the others do not make.
-Each command of the program runs in the same way, on DISAGREE or on the replay of a straggler, and so do its help and a line that it does not accept.
-Refused memory must end it with status 2 and the line `stopped memory`, or `stopped thread` where a thread needed it, with
-nothing on standard output; or, where the standard library then asks for less and gets it, it must end as it does with all
-its memory.
+Each command of the program runs in the same way, on DISAGREE or on the replay of a straggler, and so do its help and
+a line that it does not accept. Refused memory must end it with status 2 and the line `stopped memory`, or
+`stopped thread` where a thread needed it, with nothing on standard output; or, where the standard library then asks
+for less and gets it, it must end as it does with all its memory.
 """
 import os
 import subprocess
