@@ -125,19 +125,21 @@ class Refuser:
         subprocess.run([*compiler(), *words], check=True)
 
     def run(self, number, words, stdin):
-        """How the command ended with allocation `number`, from 1, refused; None where it makes fewer."""
+        """How the command ended with allocation `number`, from 1, refused; None where it ends and makes fewer."""
         mark = self.folder / f"refused-{next(self.marks)}"
         env = {"LD_PRELOAD": str(self.library), "REFUSE": str(number), "REFUSED": str(mark)}
         done = run(words, stdin, env=env)
         if not mark.exists():
-            return None
+            return done if done.returncode is None else None
         mark.unlink()
         return done
 
     def each(self, words, stdin):
-        """How the command ended with allocation 1, 2, .. refused, to the last."""
+        """How the command ended with allocation 1, 2, .. refused, to the last, or to one with which it does not end."""
         for number in itertools.count(1):
             done = self.run(number, words, stdin)
             if done is None:
                 return
             yield number, done
+            if done.returncode is None:
+                return
