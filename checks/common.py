@@ -60,8 +60,8 @@ class Tally:
         sys.exit(self.failed > 0)
 
 
-# Refuses allocation number REFUSE, from 1, and writes a byte to the file REFUSED where there was one.
-# It includes no header, so that any C compiler makes it.
+# Refuses allocation number REFUSE, from 1, of all threads together, and writes a byte to the file REFUSED where there
+# was one. It includes no header, so that any C compiler makes it.
 LIBRARY = r"""
 typedef unsigned long size_t;
 void *dlsym(void *handle, const char *name);
@@ -76,8 +76,7 @@ static unsigned long wanted, seen;
 static int refuses(void) {
     int handle;
     if (!wanted) return 0;
-    if (++seen != wanted) return 0;
-    wanted = 0;
+    if (__atomic_add_fetch(&seen, 1, __ATOMIC_SEQ_CST) != wanted) return 0;
     handle = open(getenv("REFUSED"), 0101, 0600);
     if (write(handle, "r", 1) != 1) _exit(99);
     close(handle);
@@ -126,19 +125,21 @@ class Refuser:
         subprocess.run([*compiler(), *words], check=True)
 
     def run(self, number, words, stdin):
-        """How the command ended with allocation `number`, from 1, refused; None where it makes fewer."""
+        """How the command ended with allocation `number`, from 1, refused; None where it ends and makes fewer."""
         mark = self.folder / f"refused-{next(self.marks)}"
         env = {"LD_PRELOAD": str(self.library), "REFUSE": str(number), "REFUSED": str(mark)}
         done = run(words, stdin, env=env)
         if not mark.exists():
-            return None
+            return done if done.returncode is None else None
         mark.unlink()
         return done
 
     def each(self, words, stdin):
-        """How the command ended with allocation 1, 2, .. refused, to the last."""
+        """How the command ended with allocation 1, 2, .. refused, to the last, or to one with which it does not end."""
         for number in itertools.count(1):
             done = self.run(number, words, stdin)
             if done is None:
                 return
             yield number, done
+            if done.returncode is None:
+                return

@@ -4,11 +4,14 @@
     refuse_memory.py [TEST ..]           after rt ci, or rt test in crates/tw_rows and rt run in crates/twarp
 
 Each test of crates/tw_rows, or each that is named, runs once for each of its allocations, with just that one refused;
-it tries the call once more and must pass. The tests of LONG are left out where none is named: they call a program
-hundreds of times, with no allocation that the others do not make, or start threads, which takes many minutes.
-Each command of the program runs in the same way, on DISAGREE or on the replay of a straggler, and so do its help and a line that it does not accept.
-Refused memory must end it with status 2 and the line `stopped memory`, with nothing on standard output; or, where the
-standard library then asks for less and gets it, it must end as it does with all its memory.
+it tries the call once more and must pass. Among them are a run by the threads of two workers that ended early and goes
+on from where it is, and one that wrote nothing and then its report. A test that does not end has failed, and is tried
+no further. The tests of LONG are left out where none is named: they call a program hundreds of times or start threads
+again and again, with no allocation that the others do not make.
+Each command of the program runs in the same way, on DISAGREE or on the replay of a straggler, and so do its help and
+a line that it does not accept. Refused memory must end it with status 2 and the line `stopped memory`, or
+`stopped thread` where a thread needed it, with nothing on standard output; or, where the standard library then asks
+for less and gets it, it must end as it does with all its memory.
 """
 import os
 import subprocess
@@ -16,7 +19,7 @@ import sys
 import tempfile
 from concurrent.futures import ThreadPoolExecutor
 
-from common import PROGRAM, TESTS, Refuser, Tally, input_of, need, run
+from common import LIMIT, PROGRAM, TESTS, Refuser, Tally, input_of, need, run
 
 LONG = [
     "programs::a_sink_that_fails_has_a_prefix",
@@ -38,11 +41,13 @@ LINES = [
     ["trail", "--router", "3", "--stop", "20", "--keep", "0"],
     ["replay", "--stop", "20"],
     ["replay", "--stop", "20", "--workers", "3"],
+    ["run", "--stop", "20", "--log", "--workers", "2"],
     ["--help"],
     ["seq", "--stop", "0"],
 ]
 
 STOPPED = (2, b"", b"stopped memory\n")
+NO_THREAD = (2, b"", b"stopped thread\n")
 
 
 def end(done):
@@ -56,11 +61,16 @@ def names_of_tests():
 
 def refuse_in_test(refuser, name):
     """How many allocations were refused, and what is wrong."""
-    statuses = {number: done.returncode for number, done in refuser.each([TESTS, name], os.devnull)}
-    failed = [number for number, status in statuses.items() if status != 0]
-    if not statuses:
+    count, failed = 0, []
+    for number, done in refuser.each([TESTS, name], os.devnull):
+        count += 1
+        if done.returncode is None:
+            return count, f"it does not end in {LIMIT} seconds where allocation {number} is refused"
+        if done.returncode != 0:
+            failed.append(number)
+    if not count:
         return 0, "no allocation was refused"
-    return len(statuses), failed and f"it fails where allocation {failed[0]} is refused, of {len(failed)} such"
+    return count, failed and f"it fails where allocation {failed[0]} is refused, of {len(failed)} such"
 
 
 def refuse_in_program(refuser, line):
@@ -68,7 +78,7 @@ def refuse_in_program(refuser, line):
     words, source = [PROGRAM, *line], input_of(line)
     whole = end(run(words, source))
     ends = {number: end(done) for number, done in refuser.each(words, source)}
-    failed = [number for number, found in ends.items() if found not in (STOPPED, whole)]
+    failed = [number for number, found in ends.items() if found not in (STOPPED, NO_THREAD, whole)]
     if STOPPED not in ends.values():
         return len(ends), "no refused allocation stopped it"
     return len(ends), failed and f"allocation {failed[0]}: {ends[failed[0]]}"

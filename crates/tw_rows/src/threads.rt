@@ -32,7 +32,7 @@ struct Asked {
 }
 
 /// How `run` ends on a text, with the page that it wrote. It is run once more where memory or a thread was
-/// refused.
+/// refused and it has written nothing.
 fn answer<X: Threads + Wait + Sync>(
     rt: &X,
     alloc: Global,
@@ -52,7 +52,7 @@ fn answer<X: Threads + Wait + Sync>(
         match run_io(
             rt, alloc, &mut tape, &mut page, stop, every, asked.log, workers, 64,
         ) {
-            Err(Cause::Memory | Cause::NoThread) => {}
+            Err(Cause::Memory | Cause::NoThread) if page.bytes().is_empty() => {}
             ended => return Some((ended, page)),
         }
     }
@@ -108,6 +108,17 @@ fn the_report_is_that_of_one_thread(rt: HostRuntime) {
             assert!(rt; writes(&rt, rt.alloc(), asked, text, written), "{asked:?}");
         }
     }
+}
+
+#[test]
+fn a_report_refused_once_is_written_whole(rt: HostRuntime) {
+    let asked = Asked {
+        stop: 20,
+        every: 0,
+        log: true,
+        workers: 2,
+    };
+    assert!(rt; writes(&rt, rt.alloc(), asked, DISAGREE, DISAGREE_LOG));
 }
 
 /// The report of a ring to stop 6.
@@ -235,6 +246,21 @@ fn a_run_goes_on_to_later_stops_and_to_no_earlier_one(rt: HostRuntime) {
             assert!(rt; ended.sim.stop() == 20 && has_committed(&ended.sim, "mcdfne"));
         }
     }
+}
+
+#[test]
+fn a_run_that_ended_early_goes_on_from_there(rt: HostRuntime) {
+    let alloc = rt.alloc();
+    let Ok(case) = case(alloc, DISAGREE) else {
+        panic!(rt; "the case is refused")
+    };
+    let Ok(sim) = sim(alloc, &case) else {
+        panic!(rt; "no memory")
+    };
+    let Ok(sim) = run_on(&rt, sim, 20) else {
+        panic!(rt; "the run ended twice")
+    };
+    assert!(rt; sim.is_settled() && sim.bound() == 20 && has_committed(&sim, "mcdfne"));
 }
 
 /// How often a worker looks for another before it goes on without it.
