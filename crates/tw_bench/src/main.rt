@@ -9,7 +9,7 @@
 
 mod tally;
 
-use std::env;
+use std::env::{self, Env};
 use std::process::ExitCode;
 use std::sync::Wait;
 use std::thread::Threads;
@@ -28,7 +28,7 @@ struct Asked {
 
 fn main(rt: HostRuntime) -> ExitCode {
     let tally = Tally::new();
-    match asked(&rt).and_then(|asked| run(&rt, asked, &tally)) {
+    match read_words(&rt).and_then(|asked| run(&rt, asked, &tally)) {
         Some(()) => {
             let _ = println!(rt; "{tally}");
             ExitCode::SUCCESS
@@ -38,14 +38,11 @@ fn main(rt: HostRuntime) -> ExitCode {
 }
 
 /// The three numbers of the command line.
-fn asked<R: Env + AllocGlobal>(rt: &R) -> Option<Asked> {
+fn read_words<R: Env + AllocGlobal>(rt: &R) -> Option<Asked> {
     let mut words = env::args(rt).ok()?.skip(1);
     let stop = words.next()?.parse().ok()?;
     let workers = words.next()?.parse().ok()?;
     let batch = words.next()?.parse().ok()?;
-    if workers == 0 {
-        return None;
-    }
     Some(Asked {
         stop,
         workers,
@@ -59,6 +56,9 @@ fn run<R: Input + AllocGlobal + Threads + Wait + Sync>(
     asked: Asked,
     tally: &Tally,
 ) -> Option<()> {
+    if asked.workers == 0 {
+        return None;
+    }
     let alloc = rt.alloc();
     let mut source = OverRead::new(rt.reader());
     let text = read_all(alloc, &mut source).ok()?;
