@@ -9,8 +9,8 @@ ghost use Rattle.tw_workers.specs.Work.{HasCommitted, IsAtWork, StillKeeps};
 
 use crate::gate::Gate;
 use crate::meeting::Meeting;
+use crate::policy::pause;
 use crate::worker::Worker;
-use crossbeam_utils::Backoff;
 use std::sync::Wait;
 use tw_model::OrMemory;
 use tw_table::{Seat, Table};
@@ -60,7 +60,7 @@ impl<'a> Worker<'a> {
     {
         let mut seat = seat;
         let mut turn: u64 = 0;
-        let waiting = Backoff::new();
+        let mut idle = 0;
         for _ in rt.forever() {
             turn = turn.saturating_add(1);
             let (next, leaving) = self.take_turn(rt, table, gate, seat, turn);
@@ -68,20 +68,21 @@ impl<'a> Worker<'a> {
                 return (next, leaving);
             }
             seat = next;
-            self.pause(&waiting);
+            idle = self.rest(idle);
             self.pace.begin_turn();
         }
         unreachable!()
     }
 
-    /// Waits a little where nothing was handled in a turn and nothing has come, longer each time: the others
-    /// get on sooner where a worker that has nothing to do leaves them the exchange and the processor.
-    fn pause(&self, waiting: &Backoff) {
-        if self.pace.turn().handled == 0 && self.hand.mail.is_empty() {
-            waiting.snooze();
-        } else {
-            waiting.reset();
+    /// How many turns in a row had nothing to do, where so many had before the latest one. It waits where
+    /// this one had nothing to do: the others get on sooner where the exchange and the processor are left
+    /// to them.
+    fn rest(&self, idle: u32) -> u32 {
+        if self.pace.turn().handled > 0 || !self.hand.mail.is_empty() {
+            return 0;
         }
+        pause(idle);
+        idle.saturating_add(1)
     }
 
     /// The worker takes a turn, and is told whether it leaves.
