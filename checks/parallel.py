@@ -21,7 +21,7 @@ WORKERS = [1, 2, 3, 4, 8, 16]
 BATCHES = [1, 64, 4096]
 
 # Seconds after which a run is ended.
-LIMIT = 20
+LIMIT = 60
 
 # The stops lead to about 10^5 events.
 MADE = {"hierarchy": (hierarchy, 57998), "gadgets": (gadgets, 50), "mesh": (mesh, 765)}
