@@ -1,16 +1,16 @@
 //! The table by calls: two workers of DISAGREE meet there.
 
-ghost use Rattle.std.specs.Prelude.{◌≡◌, ◌≤◌, [], IfSome, OnSome};
+ghost use Rattle.std.specs.Prelude.{◌≡◌, ◌≤◌, [], ◌∷◌, IfOk, IfSome, List, OnSome};
 ghost use Rattle.tw_exchange.specs.Board.{handed, visited};
-ghost use Rattle.tw_rows.specs.Sitting.{IsReady};
+ghost use Rattle.tw_rows.specs.Sitting.{IsBeginning, IsReady};
 ghost use Rattle.tw_table.specs.declared.table.Table.{Table as ATable};
 ghost use Rattle.tw_table.specs.Seats.{IsSameSeat, IsSeatOf, exchange_of, share_of};
-ghost use Rattle.tw_table.specs.Shares.{share};
+ghost use Rattle.tw_table.specs.Shares.{share, shares_of};
 
 use crate::handlers::case;
 use crate::messages::offers_of_origin;
 use crate::texts::DISAGREE;
-use std::alloc::Global;
+use std::alloc::{AllocError, Global};
 use std::sync::Wait;
 use tw_event::Event;
 use tw_instance::Case;
@@ -28,7 +28,34 @@ struct Sitting<'a> {
     hand: Hand,
 }
 
-/// A table with a new exchange to stop 20, and its two workers as they begin.
+/// The first two of a list.
+fn first_two<T: Drop>(list: Vec<T>) -> Option<(T, T)>
+    ensures { IfSome result (λ r. (others : List T) × (list.items ≡ r.0 ∷ r.1 ∷ others)) }
+{
+    let mut list = list.into_iter();
+    let first = list.next()?;
+    let second = list.next()?;
+    Some((first, second))
+}
+
+/// A new exchange to stop 20, and what its two workers have as they begin.
+fn begin<'a>(
+    alloc: Global,
+    case: &'a Case,
+) -> Result<(Exchange, Vec<Shard<'a>>, Vec<Hand>), AllocError>
+    ensures { IfOk result (λ r. IsBeginning case.now r.0 (shares_of r.1.items r.2.items)) }
+{
+    let exchange = Exchange::new(alloc, 2, 0, 20)?;
+    let first = Shard::open(alloc, case, 0, 2)?;
+    let second = Shard::open(alloc, case, 1, 2)?;
+    let shards = Vec::from_array(alloc, [first, second])?;
+    let hands = Vec::from_array(alloc, [Hand::new(alloc), Hand::new(alloc)])?;
+    // What a case keeps is told by a read of it.
+    let _ = case.instance();
+    Ok((exchange, shards, hands))
+}
+
+/// A table with that exchange, and its two workers.
 fn sit_down<'a, R: Wait>(
     rt: &R,
     alloc: Global,
@@ -37,26 +64,26 @@ fn sit_down<'a, R: Wait>(
     ensures first { IfSome result (λ r. IsReady r.0 r.1.seat (share r.1.shard r.1.hand)) }
     ensures second { IfSome result (λ r. IsReady r.0 r.2.seat (share r.2.shard r.2.hand)) }
 {
-    let exchange = Exchange::new(alloc, 2, 0, 20).ok()?;
-    let first = Shard::open(alloc, case, 0, 2).ok()?;
-    let second = Shard::open(alloc, case, 1, 2).ok()?;
-    let mut shards = Vec::from_array(alloc, [first, second]).ok()?;
-    let hands = [Hand::new(alloc), Hand::new(alloc)];
-    let mut hands = Vec::from_array(alloc, hands).ok()?;
-    // What a case keeps is told by a read of it.
-    let _ = case.instance();
+    let Ok((exchange, shards, hands)) = begin(alloc, case) else {
+        return None;
+    };
     new_is_ruled();
     shares_are_at_work();
-    let (table, mut seats) = Table::open(rt, alloc, exchange, &shards, &hands).ok()?;
-    let second = Sitting {
-        seat: seats.pop()?,
-        shard: shards.pop()?,
-        hand: hands.pop()?,
+    let Ok((table, seats)) = Table::open(rt, alloc, exchange, &shards, &hands) else {
+        return None;
     };
+    let seats = first_two(seats)?;
+    let shards = first_two(shards)?;
+    let hands = first_two(hands)?;
     let first = Sitting {
-        seat: seats.pop()?,
-        shard: shards.pop()?,
-        hand: hands.pop()?,
+        seat: seats.0,
+        shard: shards.0,
+        hand: hands.0,
+    };
+    let second = Sitting {
+        seat: seats.1,
+        shard: shards.1,
+        hand: hands.1,
     };
     Some((table, first, second))
 }

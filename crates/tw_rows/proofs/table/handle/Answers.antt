@@ -14,4 +14,4 @@ returns-in-Ok-handle_next c = λ t is.
     let w = c.args.worker in
     let old = c.handle_next.new.self in
     ready_handled t w.seat (share old w.hand) c.handle_next-2.new.self c.args.router (subst (λ s. IsReady t w.seat (share s w.hand)) (sym c.in-Err.ensures.err) is) c.handle_next-2.ensures.same
-    c.in-Ok.ensures.ok
+    c.in-Ok-handle_next.ensures.ok
