@@ -1,4 +1,4 @@
-use Rattle.std.proofs.Common.{◌≡◌, sym, subst}
+use Rattle.std.proofs.Common.{sym, subst}
 use Rattle.tw_rows.proofs.Sittings.{ready_handled}
 use Rattle.tw_rows.specs.Sitting.{IsReady}
 use Rattle.tw_table.specs.Shares.{share}

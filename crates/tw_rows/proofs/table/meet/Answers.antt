@@ -1,4 +1,4 @@
-use Rattle.std.proofs.Common.{◌≡◌, ◌++◌, map, max, min, ◌∙◌}
+use Rattle.std.proofs.Common.{◌++◌, map, max, min, ◌∙◌}
 use Rattle.std.specs.List.{reduce}
 use Rattle.tw_exchange.specs.Board.{handed, visited}
 use Rattle.tw_rows.proofs.Sittings.{may_give}
