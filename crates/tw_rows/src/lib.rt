@@ -36,6 +36,8 @@ mod shards;
 #[cfg(test)]
 mod steps;
 #[cfg(test)]
+mod table;
+#[cfg(test)]
 mod texts;
 #[cfg(test)]
 mod threads;
