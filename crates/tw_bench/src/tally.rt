@@ -6,14 +6,15 @@ use tw_table::Seat;
 
 /// What all workers have done together.
 #[derive(Drop)]
-pub struct Tally {
+pub(crate) struct Tally {
     turns: AtomicU64,
     handled: AtomicU64,
     undone: AtomicU64,
 }
 
 impl Tally {
-    pub fn new() -> Tally {
+    /// Nothing is done yet.
+    pub(crate) fn new() -> Tally {
         Tally {
             turns: AtomicU64::new(0),
             handled: AtomicU64::new(0),
