@@ -8,6 +8,7 @@ pub mod Hops
 pub mod Links
 pub mod Permitted
 pub mod Rows
+pub mod Matrix
 pub mod Facts
 pub mod Sound
 pub mod Indexed

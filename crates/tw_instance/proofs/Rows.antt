@@ -30,11 +30,11 @@ row_set rows F G v xs below table here others w =
 
 module _ {X Z : Type 0} where
   -- a write of other items is a write to the table
-  items-set : (rows : List (Vec X Z)) (i : ℕ) (v : Vec X Z) (xs : List X) → v.items ≡ xs → items (set rows i v) ≡ set (items rows) i xs
+  pub items-set : (rows : List (Vec X Z)) (i : ℕ) (v : Vec X Z) (xs : List X) → v.items ≡ xs → items (set rows i v) ≡ set (items rows) i xs
   items-set rows i v xs e = map-set (λ r. r.items) rows i v ∙ ap (λ ys. set (items rows) i ys) e
 
   -- the items of a row
-  row_at : (rows : List (Vec X Z)) (i : ℕ) (d : Vec X Z) → i < length rows → row rows i ≡ (get_or rows i d).items
+  pub row_at : (rows : List (Vec X Z)) (i : ℕ) (d : Vec X Z) → i < length rows → row rows i ≡ (get_or rows i d).items
   row_at rows i d h = get_or-map (λ r. r.items) rows i d [] h
 
   -- a row with the same items

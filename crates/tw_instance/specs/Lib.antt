@@ -1,3 +1,4 @@
+pub mod Adjacency
 pub mod Build
 pub mod Chains
 pub mod Extensions

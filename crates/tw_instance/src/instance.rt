@@ -5,7 +5,7 @@ ghost use Rattle.tw_event.specs.declared.event.PathNo.{PathNo as APathNo};
 ghost use Rattle.tw_model.specs.declared.limits.TheConstants.{LONGEST_DELAY, MOST_LINKS, MOST_PATHS, MOST_ROUTERS};
 ghost use Rattle.tw_model.specs.declared.rule.Rule.{Rule as ARule};
 ghost use Rattle.tw_model.specs.Net.{IsPath, empty_path, hops_of, is_own, origin_path, path, paths, paths_of, same_path};
-ghost use Rattle.tw_model.specs.Rules.{IsNet, link_fault, nodes_fault, path_fault};
+ghost use Rattle.tw_model.specs.Rules.{IsNet, is_linked, link_fault, nodes_fault, path_fault};
 ghost use Rattle.tw_model.specs.State.{has_peer, hop, slot as slot_of};
 ghost use Rattle.tw_instance.specs.Build.{TellsOf, judged_instance, judged_links, judged_paths};
 ghost use Rattle.tw_instance.specs.Hops.{AreDistinct, IsGoodHop};
@@ -13,7 +13,7 @@ ghost use Rattle.tw_instance.specs.Tables.{hash, tail_hash, tail_hashes_of};
 
 use crate::index::Index;
 use crate::refusal::{At, Item};
-use crate::{rules, tables};
+use crate::{adjacency, rules, tables};
 use std::alloc::{AllocError, Global};
 use std::marker::Model;
 use tw_event::PathNo;
@@ -30,6 +30,8 @@ pub struct Instance {
     paths: Vec<PermittedPath>,
     /// Of each router its neighbours, in ascending order.
     hops: Vec<Vec<Hop>>,
+    /// Of each router whether each router is its neighbour.
+    adjacency: Vec<Vec<bool>>,
     /// Of each router its permitted paths, best first.
     permitted: Vec<Vec<PathNo>>,
     /// Of each of them, in the same order, the hash of the path without its first node.
@@ -63,6 +65,7 @@ impl Instance {
             return Err(OrMemory::Fault(rule));
         }
         let hops = tables::empty_rows(alloc, nodes)?;
+        let adjacency = adjacency::empty(alloc, nodes)?;
         let permitted = tables::opening_rows(alloc, nodes, PathNo::ORIGIN)?;
         let tail_hashes = tables::opening_rows(alloc, nodes, tables::hash_of(&[]))?;
         let places = tables::opening_places(alloc)?;
@@ -71,6 +74,7 @@ impl Instance {
             links: Vec::new(alloc),
             paths: Vec::new(alloc),
             hops,
+            adjacency,
             permitted,
             tail_hashes,
             places,
@@ -90,6 +94,7 @@ impl Instance {
         }
         self.links.reserve(1)?;
         tables::join(&mut self.hops, &link)?;
+        adjacency::join(&mut self.adjacency, link.first, link.second);
         self.index.clear();
         self.links.push_reserved(link);
         Ok(())
@@ -222,6 +227,13 @@ impl Instance {
         ensures rising { IsStrictlyIncreasing (map (λ h. h.peer) result.now) }
     {
         tables::row_of(&self.hops, node)
+    }
+
+    /// Whether a link joins the two.
+    pub(crate) fn is_linked(&self, first: u32, second: u32) -> bool
+        ensures { result ≡ is_linked self.now.links first second }
+    {
+        adjacency::are_joined(&self.adjacency, first, second)
     }
 
     /// The numbers of a router's permitted paths, best first; none where there is no such router.

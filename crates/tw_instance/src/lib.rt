@@ -10,6 +10,7 @@
 //! look-up takes less time than a search of all paths, and what an error is shown as.
 #![tactic(auto)]
 
+mod adjacency;
 mod case;
 mod chains;
 mod extensions;

@@ -7,7 +7,7 @@ ghost use Rattle.tw_model.specs.Net as net;
 ghost use Rattle.tw_model.specs.Rules as defined;
 
 use crate::instance::Instance;
-use tw_model::{Hop, Link, PermittedPath, Rule, Scene, limits};
+use tw_model::{Link, PermittedPath, Rule, Scene, limits};
 
 /// The rules in ascending order of their codes. Of those that an item breaks the first decides.
 const RULES: [Rule; 13] = [
@@ -72,7 +72,7 @@ fn link_breaks(instance: &Instance, link: &Link, rule: Rule) -> bool
     match rule {
         Rule::Range => link.first >= instance.nodes() || link.second >= instance.nodes(),
         Rule::SelfLink => link.first == link.second,
-        Rule::TwiceLink => is_linked(instance, link.first, link.second),
+        Rule::TwiceLink => instance.is_linked(link.first, link.second),
         Rule::Delay => link.delay < 1 || limits::LONGEST_DELAY < link.delay,
         Rule::TooMany => has_all_links(instance, link.first)
             || has_all_links(instance, link.second),
@@ -128,7 +128,7 @@ fn names_no_link(instance: &Instance, scene: &Scene) -> bool
 {
     match *scene {
         Scene::Fail { first, second, .. } | Scene::Restore { first, second, .. } => {
-            !is_linked(instance, first, second)
+            !instance.is_linked(first, second)
         }
         Scene::Swap { .. } => false,
     }
@@ -186,19 +186,6 @@ fn is_given(instance: &Instance, owner: u32, nodes: &[u32]) -> bool
     ensures { result ≡ list_any (λ q. q.owner == owner && net.same_path q.nodes nodes.now) instance.now.permitted }
 {
     instance.number(nodes).is_some() && !is_misowned(owner, nodes)
-}
-
-/// Whether a link joins the two.
-fn is_linked(instance: &Instance, first: u32, second: u32) -> bool
-    ensures { result ≡ defined.is_linked instance.now.links first second }
-{
-    has_peer(instance.hops(first), second)
-}
-
-fn has_peer(hops: &[Hop], peer: u32) -> bool
-    ensures { result ≡ list_any (λ h. h.peer == peer) hops.now }
-{
-    hops.iter().any(|hop| hop.peer == peer)
 }
 
 fn are_below(nodes: &[u32], count: u32) -> bool
@@ -260,7 +247,7 @@ fn leaves_links_from(instance: &Instance, first: u32, rest: &[u32]) -> bool
 {
     let mut last = first;
     for node in rest {
-        if !is_linked(instance, last, *node) {
+        if !instance.is_linked(last, *node) {
             return true;
         }
         last = *node;

@@ -64,7 +64,8 @@ pub(crate) fn run_through<'a, X: Threads + Wait + Sync>(
 /// Runs to a stop, and shows a watch the shapes at the multiples of `every` up to it. The run is at its
 /// beginning.
 ///
-/// Workers come together at a checkpoint only where something was handled since the one before it.
+/// Workers come together at a checkpoint only where something was handled since the one before it, and at none
+/// once something is found, since the first finding decides.
 fn run_watched<'a, X: Threads + Wait + Sync>(
     rt: &X,
     alloc: Global,
@@ -87,7 +88,7 @@ fn run_watched<'a, X: Threads + Wait + Sync>(
     let last = stop / every;
     let mut run = sim;
     let mut seen = 0;
-    while seen < last {
+    while seen < last && watch.finding().is_none() {
         let time = (seen + 1) * every;
         run = run_to(rt, run, time, batch)?;
         let shape = shape_of(&run)?;

@@ -14,7 +14,8 @@ use tw_shape::Watch;
 /// Handles all events of a run before `stop`, in ticks, and shows a watch the shapes at the multiples of
 /// `every` up to the stop. The run is at its beginning.
 ///
-/// Where nothing is handled between checkpoints, they are shown at once.
+/// Where nothing is handled between checkpoints, they are shown at once. Once something is found, no further
+/// checkpoint is shown, since the first finding decides.
 pub fn run_watched<R: Running>(
     alloc: Global,
     run: &mut R,
@@ -33,7 +34,7 @@ pub fn run_watched<R: Running>(
     let mut watch = Watch::new(alloc, every)?;
     let last = stop / every;
     let mut seen = 0;
-    while seen < last {
+    while seen < last && watch.finding().is_none() {
         let time = (seen + 1) * every;
         run.run_to(time)?;
         let shape = run.shape()?;

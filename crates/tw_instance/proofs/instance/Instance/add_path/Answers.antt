@@ -42,6 +42,7 @@ invariant_of-self-in_err-push_path c =
     record {
       net = subst (λ ls. IsNet (record net { permitted = ls })) (sym c.in_ok-reserve.ensures.items) so.net;
       hops = table_as a.hops.items a.nodes so.hops (λ v. sym (hops_alike net c.reserve.new.self.items v));
+      adjacency = record { square = so.adjacency.square; cells = so.adjacency.cells };
       permitted = table_as _ a.nodes (table_in a.permitted numbers a.nodes (paths_of net) (paths_of net) so.permitted same_paths) kept;
       tail_hashes = table_as _ a.nodes (table_in a.tail_hashes hashes a.nodes (tail_hashes_of net) (tail_hashes_of net) so.tail_hashes same_hashes) hashes_alike;
       places = subst (ArePlaces (record net { permitted = c.reserve.new.self.items })) (sym c.in_ok-reserve-2.ensures.items)
@@ -80,6 +81,7 @@ invariant_of-self-2 c =
     record {
       net = more.kept;
       hops = table_as a.hops.items a.nodes so.hops (λ v. sym (hops_alike net paths v));
+      adjacency = record { square = so.adjacency.square; cells = so.adjacency.cells };
       permitted = table_in a.permitted numbers a.nodes (paths_of net) (paths_of (record net { permitted = paths })) so.permitted more.path_rows;
       tail_hashes = table_in a.tail_hashes hashes a.nodes (tail_hashes_of net) (tail_hashes_of (record net { permitted = paths })) so.tail_hashes more.hash_rows;
       places = places;

@@ -1,4 +1,4 @@
-use Rattle.std.proofs.Common.{IfSome, ap, arith, length, refl, subst, ◌∙◌}
+use Rattle.std.proofs.Common.{ap, arith, length, refl, subst, ◌∙◌}
 use Rattle.std.specs.List.{slice_get}
 use Rattle.tw_model.specs.Net.{path}
 use Rattle.tw_model.specs.Rules.{IsNet}

@@ -1,4 +1,4 @@
-use Rattle.std.proofs.Common.{◌==◌, IfSome, ap, map, subst, ◌∙◌}
+use Rattle.std.proofs.Common.{◌==◌, ap, map, ◌∙◌}
 use Rattle.std.specs.List.{position}
 use Rattle.std.specs.List.{slice_get}
 use Rattle.tw_model.specs.Net.{hops_of}
