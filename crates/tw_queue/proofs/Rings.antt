@@ -2,7 +2,7 @@
 use Rattle.std.proofs.Common.{◌≡◌, ◌≤◌, ◌<◌, ◌+◌, ◌++◌, ◌⊎◌, ℕ, suc, zero, false, Option, Some, None, List, [], ◌∷◌}
 use Rattle.std.proofs.Common.{length, map, drop, replicate, get_or, set, slice_get, refl, ap, sym, ◌∙◌, subst, inl, inr, arith, get_or-set_same, get_or-set_other}
 use Rattle.std.proofs.lemmas.Bool.{cases_Bool, cases_eq, cases_lt}
-use Rattle.std.proofs.lemmas.List.{get_or-map, get_or_past, get_or_read}
+use Rattle.std.proofs.lemmas.List.{drop_all, get_or-map, get_or_past, get_or_read}
 use Rattle.tw_event.specs.declared.event.Event.{Event}
 use Rattle.tw_event.specs.Order.{event_before, event_same}
 use Rattle.tw_event.proofs.Order.{before_time}
@@ -361,3 +361,16 @@ empty_times zero (xs ∷ lists) l h = absurd (omega arith)
 empty_times (suc n) [] l h = absurd (omega arith)
 empty_times (suc n) (xs ∷ lists) l h =
     rw (h 0 (omega arith)) (ap (λ r. never ∷ r) (empty_times n lists (omega arith) (λ i k. h (suc i) (omega arith))))
+
+-- ---- a tick that is begun
+
+-- what the bucket had is at hand
+pub taken_over : (lists : List (List Event)) (p : ℕ) (bucket : List Event) → bucket ≡ get_or lists p bucket → bucket ≡ get_or lists p [] → (hand : List Event)
+    → hand ≡ in_order event_before (get_or lists p bucket) → hand ≡ in_order event_before (get_or lists p [])
+taken_over lists p bucket is read hand h = h ∙ ap (in_order event_before) (sym is ∙ read)
+
+-- the tick at hand is over: the rest is in the buckets
+pub later_ticks : (hand : List Event) (taken : ℕ) (lists : List (List Event)) (now : List Event) → length hand ≤ taken → in_order event_before (drop taken hand ++ together lists) ≡ now
+    → in_order event_before (together lists) ≡ now
+later_ticks hand taken lists now beyond h =
+    ap (λ xs. in_order event_before (xs ++ together lists)) (sym (drop_all taken hand beyond)) ∙ h

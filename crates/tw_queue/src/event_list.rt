@@ -1,6 +1,7 @@
 ghost use Rattle.std.specs.Prelude.{◌≡◌, ◌+◌, ◌++◌, ◌<◌, ◌≤◌, IfNone, IfOk, IfSome, IsOk, OnErr, OnOk, [], drop, length, slice_get};
 ghost use Rattle.std.specs.BinaryHeap.{heap_items, IsHeap};
 ghost use Rattle.std.specs.Bool.{OnFalse, OnTrue};
+ghost use Rattle.std.specs.Option.{option_copied};
 ghost use Rattle.tw_event.specs.Order.{event_before};
 ghost use Rattle.tw_queue.specs.Heap.{heap_events};
 ghost use Rattle.tw_queue.specs.InOrder.{in_order};
@@ -84,17 +85,17 @@ impl EventList {
         Ok(())
     }
 
-    /// The least event.
-    pub fn least(&self) -> Option<Event>
-        ensures first { result ≡ slice_get self.now.events 0 }
-        ensures home { IfSome result (λ e. e.dst < self.now.routers) }
+    /// The least event, where it stands: reading it copies nothing.
+    pub fn least(&self) -> Option<&Event>
+        ensures first { option_copied result ≡ slice_get self.now.events 0 }
+        ensures home { IfSome result (λ e. e.now.dst < self.now.routers) }
         ensures queue { IsQueue self.now }
     {
         if !is_heap_first(&self.ring, &self.heap) {
             return self.ring.least();
         }
         let event = self.heap.peek()?;
-        Some(event.0)
+        Some(&event.0)
     }
 
     /// Takes out the least event.
@@ -112,6 +113,18 @@ impl EventList {
         let event = self.heap.pop()?;
         self.ring.go_to(event.0.time);
         Some(event.0)
+    }
+
+    /// Puts the events of the next tick in order, where all before them are taken out, so that they come out
+    /// fast. Events of that tick that are inserted later come out less fast.
+    pub fn begin_tick(&mut self)
+        ensures { self.new ≡ self.old }
+    {
+        let latest = match self.heap.peek() {
+            Some(first) => first.0.time,
+            None => u64::MAX,
+        };
+        self.ring.begin_tick(latest);
     }
 
     /// All events, in rising order.
@@ -140,7 +153,7 @@ fn is_heap_first(ring: &Ring, heap: &BinaryHeap<Reverse<Event>>) -> bool
         return false;
     };
     match ring.least() {
-        Some(event) => comes_before(&top.0, &event),
+        Some(event) => comes_before(&top.0, event),
         None => true,
     }
 }

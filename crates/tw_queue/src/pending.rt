@@ -2,12 +2,12 @@ ghost use Rattle.std.specs.Prelude.{◌≡◌, ◌↔◌, ◌+◌, ◌-◌, ◌<
 ghost use Rattle.std.specs.Prelude.{[], if◌then◌else◌, drop, filter, length, option_map, slice_get, vec_capacity, vec_len};
 ghost use Rattle.std.specs.Option.{option_copied};
 ghost use Rattle.tw_event.specs.Order.{event_before, event_same};
-ghost use Rattle.tw_queue.specs.InOrder.{earlier, least_with};
+ghost use Rattle.tw_queue.specs.InOrder.{least_with};
 ghost use Rattle.tw_queue.specs.Queue.{AreFor, IsInOrder, IsQueue};
 ghost use Rattle.tw_sim.specs.Ordered.{insert, insert_all, take_out, times};
 
 use crate::queue_table::QueueTable;
-use crate::search::{comes_before, count_of, least_of, remove_from};
+use crate::search::{count_of, least_of, remove_from, sooner};
 use std::alloc::{AllocError, Global};
 use std::marker::Model;
 use tw_event::Event;
@@ -234,14 +234,4 @@ fn least_for<'a>(router: u32, first: Option<&'a Event>, events: &'a [Event]) -> 
         }
     }
     least
-}
-
-// The one of the two events that comes first, where it stands.
-fn sooner<'a>(event: &'a Event, other: Option<&'a Event>) -> &'a Event
-    ensures { result.now ≡ earlier event.now (option_copied other.entry) }
-{
-    match other {
-        Some(other) if comes_before(other, event) => other,
-        _ => event,
-    }
 }

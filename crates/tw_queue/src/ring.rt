@@ -1,6 +1,7 @@
 // Events by time, for a run that takes the least of them again and again.
 ghost use Rattle.std.specs.Prelude.{ℕ, ◌≡◌, ◌<◌, ◌≤◌, ◌+◌, ◌++◌, ◌⊎◌, [], drop, length, slice_get, slice_index_or, OnOk};
 ghost use Rattle.std.specs.Bool.{OnFalse, OnTrue};
+ghost use Rattle.std.specs.Option.{option_copied};
 ghost use Rattle.tw_event.specs.declared.event.Event.{Event};
 ghost use Rattle.tw_event.specs.Order.{event_before, event_same};
 ghost use Rattle.tw_queue.specs.Buckets.{together};
@@ -9,7 +10,7 @@ ghost use Rattle.tw_queue.specs.Table.{never};
 ghost use Rattle.tw_sim.specs.Ordered.{insert, times};
 ghost use Rattle.tw_sim.specs.Rising.{IsRising};
 
-use crate::search::least_of;
+use crate::search::first_of;
 use crate::tick::Tick;
 use std::alloc::{AllocError, Global};
 use std::array;
@@ -88,12 +89,12 @@ impl Ring {
     }
 
     /// The least event.
-    pub(crate) fn least(&self) -> Option<Event>
-        ensures { result ≡ slice_get self.now 0 }
+    pub(crate) fn least(&self) -> Option<&Event>
+        ensures { option_copied result ≡ slice_get self.now 0 }
     {
         match self.hand.events().get(self.taken) {
-            Some(event) => Some(*event),
-            None => least_of(None, self.buckets[first_place(&self.times)].events()),
+            Some(event) => Some(event),
+            None => first_of(self.buckets[first_place(&self.times)].events()),
         }
     }
 
@@ -110,6 +111,27 @@ impl Ring {
         ensures { self.new ≡ self.old }
     {
         self.from = time;
+    }
+
+    /// Puts the events of the next tick at hand, in order, where those at hand are all taken out, and that tick
+    /// is at `latest`, in ticks, at the latest.
+    pub(crate) fn begin_tick(&mut self, latest: u64)
+        ensures { self.new ≡ self.old }
+    {
+        if self.taken < self.hand.events().len() {
+            return;
+        }
+        let place = first_place(&self.times);
+        let time = self.times[place];
+        if time == u64::MAX || latest < time {
+            return;
+        }
+        let bucket = &mut self.buckets[place];
+        self.hand.take_over(bucket);
+        self.taken = 0;
+        self.tick = time;
+        self.from = time;
+        self.times[place] = u64::MAX;
     }
 
     /// Takes out the least event.

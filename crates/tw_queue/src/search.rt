@@ -1,5 +1,6 @@
 // Searches of a few events.
-ghost use Rattle.std.specs.Prelude.{◌≡◌, ◌<◌, ◌↔◌, IsTrue, count_by, position, vec_capacity};
+ghost use Rattle.std.specs.Option.{option_copied};
+ghost use Rattle.std.specs.Prelude.{◌≡◌, ◌<◌, ◌↔◌, None, IsTrue, count_by, position, vec_capacity};
 ghost use Rattle.tw_event.specs.Order.{event_before, event_same};
 ghost use Rattle.tw_queue.specs.InOrder.{earlier, least_with};
 ghost use Rattle.tw_sim.specs.Ordered.{take_out, times};
@@ -61,4 +62,25 @@ pub(crate) fn comes_before(event: &Event, other: &Event) -> bool
     ensures { result ≡ event_before event.now other.now }
 {
     event < other
+}
+
+// The least of these, where it stands.
+pub(crate) fn first_of(events: &[Event]) -> Option<&Event>
+    ensures { option_copied result ≡ least_with None events.now }
+{
+    let mut least = None;
+    for event in events {
+        least = Some(sooner(event, least));
+    }
+    least
+}
+
+// The one of the two events that comes first, where it stands.
+pub(crate) fn sooner<'a>(event: &'a Event, other: Option<&'a Event>) -> &'a Event
+    ensures { result.now ≡ earlier event.now (option_copied other.entry) }
+{
+    match other {
+        Some(other) if comes_before(other, event) => other,
+        _ => event,
+    }
 }

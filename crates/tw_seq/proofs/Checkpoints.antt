@@ -1,10 +1,14 @@
 -- A run with a watch, checkpoint by checkpoint.
-use Rattle.std.proofs.Common.{◌≡◌, ℕ, ◌+◌, ◌-◌, ◌*◌, ◌/◌, ◌<◌, ◌≤◌, max, refl, sym, ap, subst, ◌∙◌, arith}
+use Rattle.std.proofs.Common.{◌≡◌, ℕ, ◌+◌, ◌-◌, ◌*◌, ◌/◌, ◌<◌, ◌≤◌, max, true, Option, Some, None, is_some, refl, sym, ap, subst, ◌∙◌, arith}
+use Rattle.std.proofs.lemmas.Bool.{false≢true}
 use Rattle.std.proofs.Math.Nat.{div-mul-le_self, mul-le-mul_right}
 use Rattle.tw_model.specs.Case.{Case, simulation}
 use Rattle.tw_sim.specs.Seq.{begin}
 use Rattle.tw_sim.proofs.Seq.{turns_later}
 use Rattle.tw_shape.specs.Shape.{Shape, shape}
+use Rattle.tw_shape.specs.declared.verdict.Finding.{Finding}
+use Rattle.tw_shape.specs.Verdict.{finding}
+use Rattle.tw_shape.proofs.Findings.{finding_stays}
 use Rattle.tw_shape.specs.Watch.{HasSeen, IsGap, Watch, case_gap, fresh, gap, nothing, with_gap}
 use Rattle.tw_seq.specs.Run.{GetsStuck, IsBegun, IsStuck, Run, complete_run, opening_run}
 
@@ -25,6 +29,13 @@ on_the_way_begin every first watch opening new = record {
 pub seen_every : {case : Case} {every n : ℕ} {w : Watch} → HasSeen case every n w → w.every ≡ every
 seen_every nothing = refl
 seen_every (gap seen is) = seen_every seen
+
+-- what was found at some checkpoints is what is found at more
+pub found_stays : (case : Case) (every seen last : ℕ) (found : Option Finding) → seen ≤ last → found ≡ finding case every seen → is_some found ≡ true → found ≡ finding case every last
+found_stays case every seen last None fewer is some = absurd (false≢true some)
+found_stays case every seen last (Some f) fewer is some =
+    let sum : seen + (last - seen) ≡ last = omega arith in
+    sym (subst (λ n. finding case every n ≡ Some f) sum (finding_stays case every seen (last - seen) f (sym is)))
 
 -- the checkpoints that are left are not past the stop
 pub left_within : (seen stop every : ℕ) → seen < stop / every → (seen + 1) * every + (stop / every - seen - 1) * every ≤ stop

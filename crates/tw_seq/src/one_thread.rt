@@ -129,7 +129,7 @@ impl<'a> OneThread<'a> {
     {
         let event = self.pending.least()?;
         if event.time < self.stop {
-            Some(event)
+            Some(*event)
         } else {
             None
         }
@@ -151,6 +151,7 @@ impl<'a> OneThread<'a> {
         let note = handle_at(instance, &mut self.routers, event, &mut self.sends)?;
         self.pending.take_least();
         insert_each(&mut self.pending, &self.sends);
+        self.pending.begin_tick();
         self.sends.clear();
         if note.changed {
             self.last_change = event.time;

@@ -1,5 +1,6 @@
-use Rattle.std.proofs.Common.{◌≡◌, refl, sym, ◌∙◌, arith, inl, inr}
+use Rattle.std.proofs.Common.{◌≡◌, ap, refl, sym, ◌∙◌, arith, inl, inr}
 use Rattle.std.specs.BinaryHeap.{heap_items, heap_len}
+use Rattle.std.specs.Option.{option_copied}
 use Rattle.std.proofs.lemmas.Bool.{cases_Bool, false≢true}
 use Rattle.tw_event.specs.Order.{event_before}
 use Rattle.tw_sim.proofs.Counts.{none}
@@ -20,10 +21,10 @@ returns-in-Some-least-clause-heap c =
     let items = heap_items c.args.heap.now in
     let ring = c.args.ring.now in
     let p = c.in-Some.ensures in
-    let x = c.in-Some-least.event in
+    let x = c.in-Some-least.event.now in
     let y = c.in-Some.top.now in
     let top = first_of_heap y items p.item.3.0 p.item.1 (p.greatest c.requires) in
-    let first = sym c.least.ensures ∙ c.in-Some-least.is in
+    let first = sym c.least.ensures ∙ ap option_copied c.in-Some-least.is in
     elim (cases_Bool (event_before y.0 x)) [
       | inl b ↦
           rw (c.comes_before.ensures ∙ b) (least_right x y.0 ring (heap_events items) (least_of_rising x ring c.taken.ensures first) (least_is y.0 (heap_events items) top) b ∙ sym top)
@@ -35,10 +36,10 @@ returns-in-Some-least-clause-ring c =
     let items = heap_items c.args.heap.now in
     let ring = c.args.ring.now in
     let p = c.in-Some.ensures in
-    let x = c.in-Some-least.event in
+    let x = c.in-Some-least.event.now in
     let y = c.in-Some.top.now in
     let top = first_of_heap y items p.item.3.0 p.item.1 (p.greatest c.requires) in
-    let first = sym c.least.ensures ∙ c.in-Some-least.is in
+    let first = sym c.least.ensures ∙ ap option_copied c.in-Some-least.is in
     elim (cases_Bool (event_before y.0 x)) [
       | inl b ↦ rw (c.comes_before.ensures ∙ b) tt
       | inr b ↦
@@ -47,5 +48,5 @@ returns-in-Some-least-clause-ring c =
 
 pub returns-in-None-clause-heap : goal.returns-in-None-clause-heap
 returns-in-None-clause-heap c =
-    let none = none_of c.args.ring.now (sym c.least.ensures ∙ c.in-None.is) in
+    let none = none_of c.args.ring.now (sym c.least.ensures ∙ ap option_copied c.in-None.is) in
     rw none refl

@@ -1,12 +1,13 @@
-use Rattle.std.proofs.Common.{◌≡◌, ◌≤◌, ◌/◌, ap, sym, subst, ◌∙◌, arith, Err}
+use Rattle.std.proofs.Common.{◌≡◌, ◌≤◌, ◌/◌, ap, sym, subst, ◌∙◌, arith, is_some, true, Err}
 use Rattle.std.proofs.lemmas.Result.{err_from_is_err_and}
 use Rattle.tw_handlers.specs.Calls.{counter_full}
 use Rattle.tw_model.specs.Case.{IsCase}
 use Rattle.tw_model.specs.declared.memory.OrMemory.TheVariants.{Fault}
 use Rattle.tw_shape.specs.Verdict.{finding}
 use Rattle.tw_shape.proofs.Seeing.{seen_early, seen_found}
-use Rattle.tw_seq.proofs.Checkpoints.{left_within, on_the_way_begin, on_the_way_next, seen_every, stuck_later}
+use Rattle.tw_seq.proofs.Checkpoints.{found_stays, left_within, on_the_way_begin, on_the_way_next, seen_every, stuck_later}
 use Rattle.tw_seq.proofs.watched.run_watched.Goals as goal
+use Rattle.tw_seq.proofs.watched.run_watched.Goals.{then-loop-seen-test+else-is_none, else-loop-seen-test}
 
 pub loop-seen-init : goal.loop-seen-init
 loop-seen-init g c = (omega arith, on_the_way_begin c.args.every (g.R.Running.run c.args.run.now) c.in_ok-watch.watch c.requires.opening c.in_ok-watch.ensures)
@@ -47,7 +48,15 @@ pub returns-clause-found : goal.returns-clause-found
 returns-clause-found g c =
     let told = c.in_ok-run_to-2.ensures in
     let way = c.loop-seen.invariant.1 in
-    let is : IsCase (g.R.Running.run c.args.run.now).case = subst IsCase (told.case ∙ way.case) told.begun.case in
-    let all : c.loop-seen.seen ≡ c.args.stop / c.args.every = omega (arith, c.loop-seen.invariant.0, c.loop-seen-test.false) in
-    subst (λ n. c.loop-seen.watch.found ≡ finding (g.R.Running.run c.args.run.now).case c.args.every n) all
-    (seen_found (g.R.Running.run c.args.run.now).case is c.args.every c.requires.some c.loop-seen.seen c.loop-seen.watch way.shown)
+    let case = (g.R.Running.run c.args.run.now).case in
+    let every = c.args.every in
+    let last = c.args.stop / every in
+    let is : IsCase case = subst IsCase (told.case ∙ way.case) told.begun.case in
+    let so = seen_found case is every c.requires.some c.loop-seen.seen c.loop-seen.watch way.shown in
+    elim c.loop-seen-test.branch [
+      | then-loop-seen-test+else-is_none w ↦
+          found_stays case every c.loop-seen.seen last c.loop-seen.watch.found c.loop-seen.invariant.0 so (subst (λ o. is_some o ≡ true) w.finding.ensures w.if-is_none.ensures)
+      | else-loop-seen-test w ↦ (
+          let all : c.loop-seen.seen ≡ last = omega (arith, c.loop-seen.invariant.0, w.loop-seen-test.false) in
+          subst (λ n. c.loop-seen.watch.found ≡ finding case every n) all so)
+    ]

@@ -28,6 +28,6 @@ returns-in-None c =
     let bucket = c.index-self-first_place.result in
     let in_it : p < length a.buckets = omega (arith, place.within, v.number) in
     let seen = c.events-in-None.ensures ∙ sym c.index-self-first_place.is ∙ get_or_read a.buckets p bucket in_it c.index-self-first_place.is [] in
-    c.least_of.ensures ∙ ap (least_with None) seen
+    c.first_of.ensures ∙ ap (least_with None) seen
     ∙ first_of_place a.buckets v.number v.placed v.alike v.early a.times v.row p place.within place.least
     ∙ ap (λ hand. slice_get (in_order event_before (hand ++ together a.buckets)) 0) (sym none) ∙ ap (λ r. slice_get r 0) c.self.view_is

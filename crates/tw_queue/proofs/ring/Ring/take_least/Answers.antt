@@ -1,5 +1,5 @@
-use Rattle.std.proofs.Common.{◌≡◌, ◌<◌, ◌≤◌, ◌++◌, ℕ, List, [], drop, length, get_or, set, slice_get, refl, ap, sym, ◌∙◌, subst, arith, length-set}
-use Rattle.std.proofs.lemmas.List.{drop_all, get_or_read}
+use Rattle.std.proofs.Common.{◌≡◌, ◌<◌, ◌≤◌, ◌++◌, List, [], drop, length, get_or, set, slice_get, refl, ap, sym, ◌∙◌, subst, arith, length-set}
+use Rattle.std.proofs.lemmas.List.{get_or_read}
 use Rattle.tw_event.specs.declared.event.Event.{Event}
 use Rattle.tw_event.specs.Order.{event_before, event_same}
 use Rattle.tw_sim.specs.Ordered.{times}
@@ -10,13 +10,8 @@ use Rattle.tw_queue.specs.Ring.{hand_of}
 use Rattle.tw_queue.proofs.Events.{event_law}
 use Rattle.tw_queue.proofs.Ordered.{rising-in_order}
 use Rattle.tw_queue.proofs.Rings.{begin_after, begin_alike, begin_begun, begin_early, begin_order, begin_placed, begin_row, begin_some}
-use Rattle.tw_queue.proofs.Rings.{drop_more, first_taken, none_left, read_left, rest_taken, rising_rest, some_left, times_rest}
+use Rattle.tw_queue.proofs.Rings.{drop_more, first_taken, later_ticks, none_left, read_left, rest_taken, rising_rest, some_left, taken_over, times_rest}
 use Rattle.tw_queue.proofs.ring.Ring.take_least.Goals as goal
-
--- what the bucket had is at hand
-taken_over : (lists : List (List Event)) (p : ℕ) (bucket : List Event) → bucket ≡ get_or lists p bucket → bucket ≡ get_or lists p [] → (hand : List Event)
-    → hand ≡ in_order event_before (get_or lists p bucket) → hand ≡ in_order event_before (get_or lists p [])
-taken_over lists p bucket is read hand h = h ∙ ap (in_order event_before) (sym is ∙ read)
 
 pub invariant_of-self : goal.invariant_of-self
 invariant_of-self c =
@@ -53,12 +48,6 @@ returns-in-Some-clause-events c =
     ap (λ hand. in_order event_before (hand ++ together a.buckets)) (drop_more a.taken a.hand)
     ∙ rest_taken a.tick (together a.buckets) v.after (hand_of a) (some_left a.taken a.hand l) v.rising v.begun ∙ ap (drop 1) c.self.view_is
 
--- the tick at hand is over: the rest is in the buckets
-later : (hand : List Event) (taken : ℕ) (lists : List (List Event)) (now : List Event) → length hand ≤ taken → in_order event_before (drop taken hand ++ together lists) ≡ now
-    → in_order event_before (together lists) ≡ now
-later hand taken lists now beyond h =
-    ap (λ xs. in_order event_before (xs ++ together lists)) (sym (drop_all taken hand beyond)) ∙ h
-
 over : (lists : List (List Event)) (now : List Event) → in_order event_before (together lists) ≡ now → together lists ≡ [] → now ≡ []
 unfolding in_order
 over lists now h none = sym h ∙ ap (in_order event_before) none
@@ -70,7 +59,7 @@ returns-then-time-clause-first c =
     let place = c.first_place-place.ensures in
     let beyond : length a.hand ≤ a.taken = subst (λ xs. length xs ≤ a.taken) c.events.ensures c.in_default.ensures.lookup.3 in
     let none = none_left a.buckets v.number v.placed v.alike v.early a.times v.row c.first_place-place.result place.within place.least c.if-time.true in
-    ap (λ xs. slice_get xs 0) (sym (over a.buckets c.args.self.now (later a.hand a.taken a.buckets c.args.self.now beyond c.self.view_is) none))
+    ap (λ xs. slice_get xs 0) (sym (over a.buckets c.args.self.now (later_ticks a.hand a.taken a.buckets c.args.self.now beyond c.self.view_is) none))
 
 pub returns-then-time-clause-events : goal.returns-then-time-clause-events
 returns-then-time-clause-events c =
@@ -79,7 +68,7 @@ returns-then-time-clause-events c =
     let place = c.first_place-place.ensures in
     let beyond : length a.hand ≤ a.taken = subst (λ xs. length xs ≤ a.taken) c.events.ensures c.in_default.ensures.lookup.3 in
     let none = none_left a.buckets v.number v.placed v.alike v.early a.times v.row c.first_place-place.result place.within place.least c.if-time.true in
-    let z = over a.buckets c.args.self.now (later a.hand a.taken a.buckets c.args.self.now beyond c.self.view_is) none in
+    let z = over a.buckets c.args.self.now (later_ticks a.hand a.taken a.buckets c.args.self.now beyond c.self.view_is) none in
     z ∙ ap (drop 1) (sym z)
 
 pub invariant_of-self-2 : goal.invariant_of-self-2
@@ -124,7 +113,7 @@ returns-clause-first c =
     (in_order event_before (get_or a.buckets p [])) some (rising-in_order event_before event_same event_law (get_or a.buckets p []))
     (begin_begun a.buckets v.number v.placed v.alike v.early a.times v.row p place.within place.least)
     ∙ ap (λ xs. slice_get xs 0) (begin_order a.buckets v.number v.placed v.alike v.early a.times v.row p place.within place.least
-    ∙ later a.hand a.taken a.buckets c.args.self.now beyond c.self.view_is)
+    ∙ later_ticks a.hand a.taken a.buckets c.args.self.now beyond c.self.view_is)
 
 pub returns-clause-events : goal.returns-clause-events
 returns-clause-events c =
@@ -144,4 +133,4 @@ returns-clause-events c =
     (in_order event_before (get_or a.buckets p [])) some (rising-in_order event_before event_same event_law (get_or a.buckets p []))
     (begin_begun a.buckets v.number v.placed v.alike v.early a.times v.row p place.within place.least)
     ∙ ap (drop 1) (begin_order a.buckets v.number v.placed v.alike v.early a.times v.row p place.within place.least
-    ∙ later a.hand a.taken a.buckets c.args.self.now beyond c.self.view_is))
+    ∙ later_ticks a.hand a.taken a.buckets c.args.self.now beyond c.self.view_is))

@@ -66,7 +66,7 @@ fields c t = record {
   case = c.self.inside.case;
   stop = c.self.inside.stop;
   routers = with_items c.self.inside.routers c.handle_at.new.routers;
-  pending = c.insert_each.new.pending;
+  pending = c.begin_tick.new.self;
   sends = c.clear.new.self;
   last_change = t;
 }
@@ -80,9 +80,9 @@ renewed c t is =
       case = refl;
       stop = refl;
       routers = other_items c.self.inside.routers.len c.handle_at.new.routers _ (c.handle_at.auto.routers ∙ c.deref_mut.ensures.len) ∙ c.in_ok-note.ensures.routers;
-      homes = c.insert_each.ensures.routers ∙ (c.take_least.ensures.routers ∙ c.reserve.ensures.routers);
+      homes = ap (λ q. q.routers) c.begin_tick.ensures ∙ c.insert_each.ensures.routers ∙ (c.take_least.ensures.routers ∙ c.reserve.ensures.routers);
       pending =
-          c.insert_each.ensures.events
+          ap (λ q. q.events) c.begin_tick.ensures ∙ c.insert_each.ensures.events
           ∙ (ap (λ xs. insert_all event_before xs c.take_least.new.self.events) (c.deref.ensures ∙ sends)
           ∙ ap (insert_all event_before sent) (c.take_least.ensures.events ∙ ap (drop 1) c.reserve.ensures.events));
       sent = c.clear.ensures.items;
