@@ -41,7 +41,7 @@ returns-clause-found g c =
     let last = c.args.stop / every in
     let is : IsCase case = subst IsCase (told.case ∙ way.case) told.sim.ruled.is_case in
     let so = seen_found case is every c.requires.some c.loop-seen.seen c.loop-seen.watch way.shown in
-    c.finding.ensures ∙ elim c.loop-seen-test.branch [
+    c.finding-2.ensures ∙ elim c.loop-seen-test.branch [
       | then-loop-seen-test+else-is_none w ↦
           found_stays case every c.loop-seen.seen last c.loop-seen.watch.found c.loop-seen.invariant.0 so (subst (λ o. is_some o ≡ true) w.finding.ensures w.if-is_none.ensures)
       | else-loop-seen-test w ↦ (
