@@ -63,7 +63,7 @@ fn run<R: Input + AllocGlobal + Threads + Wait + Sync>(
     let mut source = OverRead::new(rt.reader());
     let text = read_all(alloc, &mut source).ok()?;
     let case = read_case(alloc, &text).ok()?;
-    let sim = Sim::open(alloc, &case, asked.workers).ok()?;
+    let sim = Sim::open(alloc, &case, asked.workers, false).ok()?;
     let options = Options { batch: asked.batch };
     run_until(rt, sim, asked.stop, options, tally).ok()?;
     Some(())

@@ -147,6 +147,7 @@ impl Ord for Event {
 
     ghost matches_eq = { λ x y. rank_ord.matches_eq-law (rank_of x) (rank_of y) };
 
+    #[inline]
     fn cmp(&self, other: &Event) -> Ordering {
         self.rank().cmp(&other.rank())
     }

@@ -15,6 +15,7 @@ use tw_router::Router;
 
 /// Takes the best path, tells each neighbour whose link is up where that is a change, and counts an
 /// event as handled. Answers whether the path changed.
+#[inline]
 pub(crate) fn settle(
     instance: &Instance,
     router: &mut Router<'_>,
@@ -49,6 +50,7 @@ pub(crate) fn settle(
 }
 
 /// Writes the row of a slot and settles. After an error the row is as it was.
+#[inline]
 pub(crate) fn settle_with_row(
     instance: &Instance,
     router: &mut Router<'_>,

@@ -86,4 +86,5 @@ has_row net t p h is = record {
   there = let n = h.long in omega arith;
   cut = h.cuts p is;
   alike = ap length h.nodes ∙ length-map t.numbers.items _;
+  placed = h.places.long;
 }

@@ -4,11 +4,13 @@ pub mod Chained
 pub mod Finding
 pub mod Hashes
 pub mod Extending
+pub mod ExtendedAt
 pub mod Hops
 pub mod Links
 pub mod Permitted
 pub mod Rows
 pub mod Matrix
+pub mod Marks
 pub mod Facts
 pub mod Sound
 pub mod Indexed

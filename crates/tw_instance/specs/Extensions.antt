@@ -1,21 +1,36 @@
 -- The table of the paths that are another path behind one more node (own).
-use Rattle.std.specs.Prelude.{ℕ, ◌≡◌, ◌+◌, ◌<◌, length, map}
+use Rattle.std.specs.Prelude.{ℕ, ◌≡◌, ◌+◌, ◌<◌, ◌∷◌, true, List, length, map, slice_get, slice_index_or, Some}
 use Rattle.std.specs.List.{All, Contains}
 use Rattle.tw_event.specs.declared.event.PathNo.{PathNo}
-use Rattle.tw_model.specs.Net.{Net, IsPath, paths}
+use Rattle.tw_model.specs.Net.{Net, IsPath, is_own, path, paths, paths_of}
 use Rattle.tw_instance.specs.Chains.{Extends, IsCut, cut, first_node}
 use Rattle.tw_instance.specs.declared.extensions.Extensions.{Extensions}
+
+-- at the router of path q, its place from 0 among the permitted paths is k
+abbrev pub IsPlaceOf : Net → PathNo → ℕ → Type 0
+IsPlaceOf net q k = (v : ℕ) → is_own net v q ≡ true → slice_get (paths_of net v) k ≡ Some q
+
+-- these are the places of these paths
+pub record ArePlacesOf (net : Net) (numbers : List PathNo) (places : List ℕ) : Type 0 where
+  pub long : length places ≡ length numbers
+  pub each : (i : ℕ) (d : PathNo) → i < length numbers → IsPlaceOf net (slice_index_or numbers i d) (slice_index_or places i 0)
+
+-- place k of the permitted paths of v is that of v followed by path p
+abbrev pub IsExtendedAt : Net → ℕ → PathNo → ℕ → Type 0
+IsExtendedAt net v p k = (q : PathNo) × (slice_get (paths_of net v) k ≡ Some q) × (path net q ≡ v ∷ path net p)
 
 -- row r of the table is there, and within it
 pub record HasRow (t : Extensions) (r : ℕ) : Type 0 where
   pub there : r + 1 < length t.starts.items
   pub cut : IsCut t.starts.items r (length t.numbers.items)
   pub alike : length t.nodes.items ≡ length t.numbers.items
+  pub placed : length t.places.items ≡ length t.numbers.items
 
--- in the table each path has a row: the numbers of the paths that extend it, and their first nodes
+-- in the table each path has a row: the numbers of the paths that extend it, their first nodes, and their places
 pub record HasExtensions (net : Net) (t : Extensions) : Type 0 where
   pub long : length t.starts.items ≡ length (paths net) + 1
   pub cuts : (p : PathNo) → IsPath net p → IsCut t.starts.items p.0 (length t.numbers.items)
   pub nodes : t.nodes.items ≡ map (first_node net) t.numbers.items
+  pub places : ArePlacesOf net t.numbers.items t.places.items
   pub sound : (p : PathNo) → IsPath net p → All (λ q. Extends net q p) (cut t.starts.items p.0 t.numbers.items)
   pub whole : (p q : PathNo) → IsPath net p → Extends net q p → Contains (cut t.starts.items p.0 t.numbers.items) q

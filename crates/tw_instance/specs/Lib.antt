@@ -5,6 +5,7 @@ pub mod Extensions
 pub mod Hops
 pub mod Index
 pub mod Instance
+pub mod Marks
 pub mod Opening
 pub mod Places
 pub mod Tables

@@ -1,10 +1,11 @@
 //! Which paths extend which: a path that is one node followed by another path extends that path.
 
-ghost use Rattle.std.specs.Prelude.{◌≡◌, ◌+◌, ◌<◌, ◌∷◌, length, map, slice_index_or, IfOk, IfSome};
+ghost use Rattle.std.specs.Prelude.{◌≡◌, ◌+◌, ◌<◌, ◌∷◌, length, map, slice_index_or, IfOk, IfSome, IsSome};
 ghost use Rattle.std.specs.List.{All};
 ghost use Rattle.tw_event.specs.declared.event.PathNo.{PathNo as APathNo};
 ghost use Rattle.tw_model.specs.Net.{IsPath, Net, path};
 ghost use Rattle.tw_instance.specs.Chains.{first_node as first_node_of};
+ghost use Rattle.tw_instance.specs.Extensions.{ArePlacesOf};
 ghost use Rattle.tw_instance.specs.Hops.{AreDistinct};
 
 use crate::chains::{Chains, rests_of};
@@ -22,10 +23,12 @@ pub struct Extensions {
     nodes: Vec<u32>,
     /// The number of each extension.
     numbers: Vec<PathNo>,
+    /// The place, from 0, of each extension among the permitted paths of its first node.
+    places: Vec<u32>,
 }
 
 impl Extensions {
-    ghost use Rattle.tw_instance.specs.Extensions.{HasExtensions, HasRow};
+    ghost use Rattle.tw_instance.specs.Extensions.{HasExtensions, HasRow, IsExtendedAt};
 
     /// The table of an instance.
     pub fn new(alloc: Global, instance: &Instance) -> Result<Extensions, AllocError>
@@ -34,10 +37,12 @@ impl Extensions {
         let chains = Chains::new(alloc, rests_of(alloc, instance)?)?;
         let (starts, numbers) = chains.rows(alloc)?;
         let nodes = first_nodes(alloc, instance, &numbers)?;
+        let places = places_of(alloc, instance, &numbers)?;
         Ok(Extensions {
             starts,
             nodes,
             numbers,
+            places,
         })
     }
 
@@ -49,11 +54,49 @@ impl Extensions {
         ensures only { (net : Net) → HasExtensions net self.now → IsPath net number → AreDistinct net
             → (q : APathNo) → path net q ≡ node ∷ path net number → result ≡ Some q }
     {
+        let index = self.position(node, number)?;
+        Some(self.numbers[index])
+    }
+
+    /// The place, from 0, among the permitted paths of `node` of the path that is `node` followed by the path
+    /// of this number, where there is one.
+    pub fn find_place(&self, node: u32, number: PathNo) -> Option<usize>
+        requires { HasRow self.now number.0 }
+        ensures some { (net : Net) → HasExtensions net self.now → IsPath net number
+            → IfSome result (IsExtendedAt net node number) }
+        ensures whole { (net : Net) → HasExtensions net self.now → IsPath net number
+            → (q : APathNo) → path net q ≡ node ∷ path net number → IsSome result }
+    {
+        let index = self.position(node, number)?;
+        Some(self.places[index] as usize)
+    }
+
+    /// Where in the table the path stands that is `node` followed by the path of this number.
+    fn position(&self, node: u32, number: PathNo) -> Option<usize>
+        requires { HasRow self.now number.0 }
+        ensures within { IfSome result (λ i. i < length self.now.numbers.items) }
+        ensures some { (net : Net) → HasExtensions net self.now → IsPath net number
+            → IfSome result (λ i. (x : APathNo) → x ≡ slice_index_or self.now.numbers.items i x → path net x ≡ node ∷ path net number) }
+        ensures none { (net : Net) → HasExtensions net self.now → IsPath net number
+            → (q : APathNo) → path net q ≡ node ∷ path net number → IsSome result }
+    {
         let row = number.0 as usize;
         let (start, end) = (self.starts[row], self.starts[row + 1]);
         let place = first_equal(&self.nodes[start..end], node)?;
-        Some(self.numbers[start + place])
+        Some(start + place)
     }
+}
+
+/// The place of each of these paths among the permitted paths of its router.
+fn places_of(alloc: Global, instance: &Instance, numbers: &[PathNo]) -> Result<Vec<u32>, AllocError>
+    requires { All (IsPath instance.now) numbers.now }
+    ensures { IfOk result (λ places. ArePlacesOf instance.now numbers.now places.items) }
+{
+    let mut places = Vec::with_capacity(alloc, numbers.len())?;
+    for number in numbers {
+        places.push(instance.kept_place(*number))?;
+    }
+    Ok(places)
 }
 
 /// The first node of each of these paths, and 0 of the empty path.

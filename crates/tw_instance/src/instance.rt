@@ -1,4 +1,4 @@
-ghost use Rattle.std.specs.Prelude.{◌≡◌, ◌↔◌, ℕ, ◌+◌, ◌-◌, ◌*◌, ◌==◌, ◌<◌, ◌≤◌, List, [], ◌∷◌, ◌++◌, length, true, IfOk, IfSome, OnErr, OnOk, SomeIff, IsTrue, slice_get, slice_index_or, map, drop};
+ghost use Rattle.std.specs.Prelude.{◌≡◌, ◌↔◌, ℕ, ◌+◌, ◌-◌, ◌*◌, ◌==◌, ◌<◌, ◌≤◌, List, [], ◌∷◌, ◌++◌, length, true, IfOk, IfSome, IsSome, OnErr, OnOk, SomeIff, IsTrue, slice_get, slice_index_or, map, drop};
 ghost use Rattle.std.specs.List.{All, find, position};
 ghost use Rattle.std.specs.List.Sorted.{IsStrictlyIncreasing};
 ghost use Rattle.tw_event.specs.declared.event.PathNo.{PathNo as APathNo};
@@ -8,6 +8,7 @@ ghost use Rattle.tw_model.specs.Net.{IsPath, empty_path, hops_of, is_own, origin
 ghost use Rattle.tw_model.specs.Rules.{IsNet, is_linked, link_fault, nodes_fault, path_fault};
 ghost use Rattle.tw_model.specs.State.{has_peer, hop, slot as slot_of};
 ghost use Rattle.tw_instance.specs.Build.{TellsOf, judged_instance, judged_links, judged_paths};
+ghost use Rattle.tw_instance.specs.Extensions.{IsExtendedAt, IsPlaceOf};
 ghost use Rattle.tw_instance.specs.Hops.{AreDistinct, IsGoodHop};
 ghost use Rattle.tw_instance.specs.Tables.{hash, tail_hash, tail_hashes_of};
 
@@ -306,7 +307,16 @@ impl Instance {
         ensures own { (v : ℕ) → IsTrue (is_own self.now v number) → slice_get (paths_of self.now v) result ≡ Some number }
         ensures empty { number ≡ empty_path → result ≡ 0 }
     {
-        self.places[number.0 as usize] as usize
+        self.kept_place(number) as usize
+    }
+
+    /// The place of a path, as it is kept.
+    pub(crate) fn kept_place(&self, number: PathNo) -> u32
+        requires { IsPath self.now number }
+        ensures own { IsPlaceOf self.now number result }
+        ensures empty { number ≡ empty_path → result ≡ 0 }
+    {
+        self.places[number.0 as usize]
     }
 
     /// How many numbers stand for paths: those of the empty path, of (0), and of the permitted paths.
@@ -344,6 +354,23 @@ impl Instance {
         match self.index.first() {
             Some(index) => index.extensions.find(node, number),
             None => self.number_at(node, self.path(number)),
+        }
+    }
+
+    /// The place, from 0, among the permitted paths of `node`, the best first, of the path that is `node`
+    /// followed by this path; `None` where it is not permitted there.
+    pub fn extended_place(&self, node: u32, number: PathNo) -> Option<usize>
+        requires { IsPath self.now number }
+        ensures some { IfSome result (IsExtendedAt self.now node number) }
+        ensures whole { (q : APathNo) → path self.now q ≡ node ∷ path self.now number → IsSome result }
+        ensures distinct { AreDistinct self.now }
+    {
+        match self.index.first() {
+            Some(index) => index.extensions.find_place(node, number),
+            None => {
+                let path = self.number_at(node, self.path(number))?;
+                Some(self.place(path))
+            }
         }
     }
 

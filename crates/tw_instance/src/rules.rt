@@ -1,10 +1,11 @@
 //! Items judged by the rules of an instance and of a scenario: the first rule that an item breaks.
 
-ghost use Rattle.std.specs.Prelude.{◌≡◌, ℕ, ◌∷◌, ◌==◌, ◌&&◌, ◌||◌, not, nat_le, nat_lt};
+ghost use Rattle.std.specs.Prelude.{◌≡◌, ℕ, ◌∷◌, ◌==◌, ◌&&◌, ◌||◌, not, nat_le, nat_lt, slice_set, true};
 ghost use Rattle.std.specs.List.{list_all, list_any};
 ghost use Rattle.tw_model.specs.declared.limits.TheConstants.{MOST_LINKS, MOST_PATHS};
 ghost use Rattle.tw_model.specs.Net as net;
 ghost use Rattle.tw_model.specs.Rules as defined;
+ghost use Rattle.tw_instance.specs.Marks.{is_met as is_met_of};
 
 use crate::instance::Instance;
 use tw_model::{Link, PermittedPath, Rule, Scene, limits};
@@ -224,12 +225,34 @@ fn ends_at_origin(nodes: &[u32]) -> bool
 fn repeats(nodes: &[u32]) -> bool
     ensures { result ≡ defined.repeats nodes.now }
 {
+    let mut marks = [false; limits::MOST_ROUTERS as usize];
     for (i, node) in nodes.iter().enumerate() {
-        if nodes[i + 1..].contains(node) {
+        if is_met(&marks, *node, &nodes[i + 1..]) {
             return true;
         }
+        set_mark(&mut marks, *node);
     }
     false
+}
+
+/// Whether a node is marked as met, or where no router has its number, stands among those behind it.
+fn is_met(marks: &[bool], node: u32, behind: &[u32]) -> bool
+    ensures { result ≡ is_met_of marks.now node behind.now }
+{
+    match marks.get(node as usize) {
+        Some(mark) => *mark,
+        None => behind.contains(&node),
+    }
+}
+
+/// Marks a node as met where a router has its number.
+fn set_mark(marks: &mut [bool], node: u32)
+    ensures { marks.new ≡ slice_set marks.old node true }
+{
+    let place = node as usize;
+    if place < marks.len() {
+        marks[place] = true;
+    }
 }
 
 /// Whether two neighbouring nodes of these have no link.

@@ -12,7 +12,7 @@ use Rattle.tw_model.specs.Case.{simulation}
 use Rattle.tw_model.specs.declared.limits.TheConstants.{LATEST}
 use Rattle.tw_parallel.proofs.Shares.{long_shares, share_there, worker_there}
 use Rattle.tw_parallel.specs.Ending.{ahead_of, change_of}
-use Rattle.tw_parallel.specs.Sim.{IsSim, Sim, machine, reopened}
+use Rattle.tw_parallel.specs.Sim.{IsSim, KeepsEvents, Sim, machine, reopened}
 use Rattle.tw_rule.proofs.Gives.{rule_reopens}
 use Rattle.tw_rule.proofs.Places.{all_at, get_map}
 use Rattle.tw_rule.proofs.Ruled.{done_of, good_of_rule, history_of, seq_of_rule}
@@ -32,6 +32,7 @@ pub record Has (s : Sim) (r : ℕ) (x : Shard) : Type 0 where
   pub own : owns x r ≡ true
   pub history : (core 0 x).history r ≡ (machine s).history r
   pub done : (core 0 x).done r ≡ (machine s).done r
+  pub keeps : KeepsEvents s → x.keeps ≡ true
 
 module _ (s : Sim) (is : IsSim s) where
   pub law : IsLawful (simulation s.case)
@@ -61,6 +62,7 @@ module _ (s : Sim) (is : IsSim s) where
         own = own;
         history = sym (history_of (simulation s.case) law (owner n) x ps (r % n) r (place_of t) is.ruled.rule place l own);
         done = sym (done_of (simulation s.case) law (owner n) x ps (r % n) r (place_of t) is.ruled.rule place l own);
+        keeps = λ all. all_at (λ (t : Share). t.shard.keeps ≡ true) s.shares (r % n) t there all;
       }
 
 -- so has the shard at that place

@@ -1,5 +1,5 @@
 -- A run after its workers have left a table.
-use Rattle.std.proofs.Common.{◌≡◌, ℕ, suc, ◌<◌, ◌≤◌, List, [], ◌∷◌, length, map, refl, ap, sym, ◌∙◌, subst, arith, slice_index_or}
+use Rattle.std.proofs.Common.{◌≡◌, ℕ, suc, ◌<◌, ◌≤◌, true, List, [], ◌∷◌, drop, length, map, refl, ap, sym, ◌∙◌, subst, arith, slice_index_or}
 use Rattle.std.proofs.lemmas.List.{length-map}
 use Rattle.std.specs.List.{AllByRecursion, range_with_len}
 use Rattle.tw_exchange.specs.Board.{Board, workers}
@@ -54,3 +54,11 @@ long_shares (s ∷ shards) (h ∷ hands) e = ap suc (long_shares shards hands (o
 pub not_above : (n : ℕ) (seats : List Seat) → AllByRecursion (λ s. bound_at s ≡ n) seats → AllByRecursion (λ s. n ≤ bound_at s) seats
 not_above n [] h = tt
 not_above n (s ∷ seats) h = (let e : bound_at s ≡ n = h.0 in omega (arith, e), not_above n seats h.1)
+
+-- shares that keep their events as others do keep them where these do
+pub still_keep : (xs ys : List Share) → map (λ (t : Share). t.shard.keeps) ys ≡ map (λ (t : Share). t.shard.keeps) xs → AllByRecursion (λ (t : Share). t.shard.keeps ≡ true) xs
+    → AllByRecursion (λ (t : Share). t.shard.keeps ≡ true) ys
+still_keep [] [] same h = tt
+still_keep [] (y ∷ ys) same h = absurd (let long = ap length same in omega (arith, long))
+still_keep (x ∷ xs) [] same h = tt
+still_keep (x ∷ xs) (y ∷ ys) same h = (ap (λ bs. slice_index_or bs 0 true) same ∙ h.0, still_keep xs ys (ap (drop 1) same) h.1)

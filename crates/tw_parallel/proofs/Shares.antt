@@ -1,9 +1,11 @@
 -- Shards with a hand each: the share of each worker.
-use Rattle.std.proofs.Common.{◌≡◌, ℕ, zero, suc, ◌+◌, ◌<◌, List, [], ◌∷◌, drop, get_or, length, map, slice_get, Some, refl, ap, arith}
-use Rattle.std.specs.List.{range_with_len}
+use Rattle.std.proofs.Common.{◌≡◌, ℕ, zero, suc, ◌+◌, ◌<◌, ◌↔◌, true, List, [], ◌∷◌, drop, get_or, length, map, slice_get, Some, refl, ap, arith}
+use Rattle.std.proofs.lemmas.Bool.{and_parts}
+use Rattle.std.specs.List.{AllByRecursion, list_all, range_with_len}
 use Rattle.tw_shard.specs.Shard.{Shard}
 use Rattle.tw_table.specs.declared.hand.Hand.{Hand}
 use Rattle.tw_table.specs.Shares.{Share, share, shares_of}
+use Rattle.tw_warp.specs.Warp.{no_shard}
 
 -- there are as many as shards
 pub long_shares : (ss : List Shard) (hs : List Hand) → length hs ≡ length ss → length (shares_of ss hs) ≡ length ss
@@ -30,3 +32,19 @@ worker_there from (suc n) zero (x ∷ ts) t order there =
     omega arith
 worker_there from (suc n) (suc k) (x ∷ ts) t order there =
     let more = worker_there (from + 1) n k ts t (ap (drop 1) order) there in omega arith
+
+-- shards that keep their events, with a hand each
+pub all_keep : (ss : List Shard) (hs : List Hand) → ((k : ℕ) → k < length ss → (get_or ss k no_shard).keeps ≡ true) → AllByRecursion (λ (t : Share). t.shard.keeps ≡ true) (shares_of ss hs)
+all_keep [] hs each = tt
+all_keep (s ∷ ss) [] each = tt
+all_keep (s ∷ ss) (h ∷ hs) each = (each 0 (omega arith), all_keep ss hs (λ k l. each (suc k) (omega arith)))
+
+-- all of them do where each shard does
+pub keep_all : (ss : List Shard) (hs : List Hand) → length hs ≡ length ss → (list_all (λ (s : Shard). s.keeps) ss ≡ true) ↔ AllByRecursion (λ (t : Share). t.shard.keeps ≡ true) (shares_of ss hs)
+keep_all [] hs same = ((λ h. tt), (λ h. refl))
+keep_all (s ∷ ss) [] same = absurd (omega arith)
+keep_all (s ∷ ss) (h ∷ hs) same =
+    let more = keep_all ss hs (omega arith) in (
+      λ all. (let parts = and_parts s.keeps (list_all (λ (s : Shard). s.keeps) ss) all in (parts.0, more.0 parts.1)),
+      λ each. rw each.0 (more.1 each.1),
+    )

@@ -1,6 +1,6 @@
 -- A parallel run between two runs of its workers: what they share, and what each of them has (own).
-use Rattle.std.specs.Prelude.{ℕ, ◌≡◌, ◌<◌, ◌≤◌, false, List, [], map}
-use Rattle.std.specs.List.{flat_map, range_with_len}
+use Rattle.std.specs.Prelude.{ℕ, ◌≡◌, ◌<◌, ◌≤◌, true, false, List, [], map}
+use Rattle.std.specs.List.{AllByRecursion, flat_map, range_with_len}
 use Rattle.tw_core.specs.Machine.{Core, committed}
 use Rattle.tw_event.specs.declared.event.Event.{Event}
 use Rattle.tw_event.specs.Order.{event_before}
@@ -31,6 +31,10 @@ pub record IsSim (s : Sim) : Type 0 where
   pub ruled : IsRuled s.case s.board s.shares
   -- the stop is one that a case may have
   pub stop : s.board.stop ≤ LATEST
+
+-- all routers keep their committed events
+abbrev pub KeepsEvents : Sim → Type 0
+KeepsEvents s = AllByRecursion (λ t. t.shard.keeps ≡ true) s.shares
 
 -- the committed events of all routers, in the order of events
 abbrev pub committed_events : Sim → List Event

@@ -6,7 +6,7 @@ ghost use Rattle.tw_core.specs.Run.{IsSeq};
 ghost use Rattle.tw_event.specs.Order.{event_before};
 ghost use Rattle.tw_model.specs.Case.{simulation};
 ghost use Rattle.tw_parallel.specs.Ending.{ahead_of};
-ghost use Rattle.tw_parallel.specs.Sim.{IsSim, committed_events, machine};
+ghost use Rattle.tw_parallel.specs.Sim.{IsSim, KeepsEvents, committed_events, machine};
 ghost use Rattle.tw_sim.specs.Ordered.{insert_all};
 ghost use Rattle.tw_warp.specs.Committed.{oldest};
 
@@ -17,8 +17,9 @@ use tw_shard::Shard;
 use tw_warp::add_committed;
 
 impl Sim<'_> {
-    /// The committed events of all routers, in their order.
+    /// The committed events of all routers, in their order, where these are kept.
     pub fn committed(&self) -> Result<Vec<Event>, AllocError>
+        requires { KeepsEvents self.now }
         ensures value { IfOk result (λ v. v.items ≡ committed_events self.now) }
         ensures seq { IsSeq (simulation self.now.case) (machine self.now) }
     {
@@ -29,6 +30,7 @@ impl Sim<'_> {
 
     /// The committed events of each router in turn.
     fn committed_by_router(&self) -> Result<Vec<Event>, AllocError>
+        requires { KeepsEvents self.now }
         ensures events { IfOk result (λ v. v.items ≡ flat_map (λ r. oldest self.now.case (machine self.now) r) (range_with_len 0 self.now.case.net.nodes)) }
         ensures sim { IsSim self.now }
     {

@@ -1,11 +1,11 @@
 //! What a parallel run leaves at its stop.
-ghost use Rattle.std.specs.Prelude.{◌≡◌, ◌↔◌, ◌++◌, [], map, IfOk, IsErrOf, IsTrue, OnOk};
+ghost use Rattle.std.specs.Prelude.{◌≡◌, ◌↔◌, ◌++◌, [], map, true, IfOk, IsErrOf, IsTrue, OnOk};
 ghost use Rattle.std.specs.List.{range_with_len};
 ghost use Rattle.tw_model.specs.Case.{simulation};
 ghost use Rattle.tw_model.specs.declared.memory.OrMemory.TheVariants as or_memory;
 ghost use Rattle.tw_model.specs.Quiet.{last_change};
 ghost use Rattle.tw_parallel.specs.Ending.{IsSettled, change_of, end_of, greatest, logged, not_settled, states_at, states_of};
-ghost use Rattle.tw_parallel.specs.Sim.{IsSim, machine};
+ghost use Rattle.tw_parallel.specs.Sim.{IsSim, KeepsEvents, machine};
 ghost use Rattle.tw_shape.specs.Shape.{bare, shape as shape_at};
 ghost use Rattle.tw_sim.specs.Seq.{log as run_log, rest};
 
@@ -67,8 +67,10 @@ impl Sim<'_> {
     }
 
     /// What the run leaves at its stop, its events only where `log` asks for them: all of it is that of the
-    /// one-thread run, whatever the number of workers. It is refused where the run has not come to its stop.
+    /// one-thread run, whatever the number of workers. A run of which they are asked keeps them. It is refused
+    /// where the run has not come to its stop.
     pub fn outcome(&self, log: bool) -> Result<Ending, OrMemory<NotSettled>>
+        requires { log ≡ true → KeepsEvents self.now }
         ensures settled { OnOk result (IsSettled self.now) }
         ensures refused { IsErrOf result (or_memory.Fault not_settled) ↔ (IsSettled self.now → ⊥) }
         ensures stop { IfOk result (λ e. e.stop ≡ self.now.board.stop) }
@@ -88,7 +90,8 @@ impl Sim<'_> {
 
     /// What a run leaves that has come to its stop.
     fn ending(&self, log: bool) -> Result<Ending, AllocError>
-        requires { IsSettled self.now }
+        requires settled { IsSettled self.now }
+        requires log { log ≡ true → KeepsEvents self.now }
         ensures stop { IfOk result (λ e. e.stop ≡ self.now.board.stop) }
         ensures events { IfOk result (λ e. e.events.items ≡ logged log self.now.case self.now.board.stop) }
         ensures routers { IfOk result (λ e. e.routers.items ≡ map end_of (states_at self.now.case self.now.board.stop)) }

@@ -5,7 +5,7 @@ ghost use Rattle.tw_model.specs.declared.limits.TheConstants.{LATEST};
 ghost use Rattle.tw_parallel.specs.Ending.{IsSettled};
 ghost use Rattle.tw_parallel.specs.Inside.{HasHands, run_of};
 ghost use Rattle.tw_parallel.specs.Crew.{HasRoom};
-ghost use Rattle.tw_parallel.specs.Sim.{IsSim};
+ghost use Rattle.tw_parallel.specs.Sim.{IsSim, KeepsEvents};
 ghost use Rattle.tw_parallel.specs.declared.running.EndCause.TheVariants as end_cause;
 ghost use Rattle.tw_threads.specs.Left.{IsFullAhead};
 ghost use Rattle.tw_threads.specs.declared.joining.Cause.TheVariants as cause;
@@ -70,6 +70,8 @@ pub fn run_until<'a, G: Gate + Sync, R: Threads + Wait + Sync>(
     ensures sim { IfOk result (λ s. IsSim s) }
     ensures case { IfOk result (λ s. s.case ≡ sim.entry.case) }
     ensures stop { IfOk result (λ s. s.board.stop ≡ stop) }
+    ensures keeps { KeepsEvents sim.entry → IfOk result (λ s. KeepsEvents s) }
+    ensures ended_keeps { KeepsEvents sim.entry → IfErr result (λ e. KeepsEvents e.sim) }
     ensures ended_sim { IfErr result (λ e. IsSim e.sim) }
     ensures ended_case { IfErr result (λ e. e.sim.case ≡ sim.entry.case) }
     ensures bound { IfErr result (λ e. (sim.entry.board.bound ≤ e.sim.board.bound) × (e.bound ≡ e.sim.board.bound)) }
@@ -95,6 +97,8 @@ fn run<'a, G: Gate + Sync, R: Threads + Wait + Sync>(
     ensures sim { IfOk result (λ s. IsSim s) }
     ensures case { IfOk result (λ s. s.case ≡ sim.entry.case) }
     ensures stop { IfOk result (λ s. s.board.stop ≡ sim.entry.board.stop) }
+    ensures keeps { KeepsEvents sim.entry → IfOk result (λ s. KeepsEvents s) }
+    ensures ended_keeps { KeepsEvents sim.entry → IfErr result (λ e. KeepsEvents e.sim) }
     ensures ended_sim { IfErr result (λ e. IsSim e.sim) }
     ensures ended_case { IfErr result (λ e. e.sim.case ≡ sim.entry.case) }
     ensures bound { IfErr result (λ e. (sim.entry.board.bound ≤ e.sim.board.bound) × (e.bound ≡ e.sim.board.bound)) }
@@ -151,6 +155,7 @@ fn run_once<'a, G: Gate + Sync, R: Threads + Wait + Sync>(
     ensures sim { IsSim result.0 }
     ensures case { result.0.case ≡ sim.entry.case }
     ensures stop { result.0.board.stop ≡ sim.entry.board.stop }
+    ensures keeps { KeepsEvents sim.entry → KeepsEvents result.0 }
     ensures bound { sim.entry.board.bound ≤ result.0.board.bound }
     ensures full { result.1 ≡ Some cause.CounterFull → IsFullAhead result.0.board.stop result.0.shares }
 {
@@ -177,6 +182,7 @@ fn run_at_table<'a, G: Gate + Sync, R: Threads + Wait + Sync>(
     ensures hands { HasHands result.0 }
     ensures case { (run_of result.0).case ≡ (run_of parts.entry).case }
     ensures stop { (run_of result.0).board.stop ≡ (run_of parts.entry).board.stop }
+    ensures keeps { KeepsEvents (run_of parts.entry) → KeepsEvents (run_of result.0) }
     ensures bound { (run_of parts.entry).board.bound ≤ (run_of result.0).board.bound }
     ensures full { result.1 ≡ Some cause.CounterFull → IsFullAhead (run_of result.0).board.stop (run_of result.0).shares }
 {

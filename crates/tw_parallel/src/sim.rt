@@ -1,11 +1,12 @@
-ghost use Rattle.std.specs.Prelude.{◌≡◌, ◌↔◌, ◌<◌, ◌≤◌, true, IfOk, IsOk, OnErr, OnOk, length};
+ghost use Rattle.std.specs.Prelude.{◌≡◌, ◌↔◌, ◌<◌, ◌≤◌, true, IfOk, IsOk, IsTrue, OnErr, OnOk, length};
+ghost use Rattle.std.specs.List.{list_all};
 ghost use Rattle.tw_core.specs.Machine.{IsOpening};
 ghost use Rattle.tw_core.specs.Run.{IsSeq};
 ghost use Rattle.tw_exchange.specs.Board.{opening, workers};
 ghost use Rattle.tw_model.specs.Case.{simulation};
 ghost use Rattle.tw_model.specs.declared.limits.TheConstants.{LATEST};
 ghost use Rattle.tw_parallel.specs.Inside.{HasHands, run_of};
-ghost use Rattle.tw_parallel.specs.Sim.{IsSim, machine, reopened};
+ghost use Rattle.tw_parallel.specs.Sim.{IsSim, KeepsEvents, machine, reopened};
 ghost use Rattle.tw_shard.specs.Shard.{core, owns};
 ghost use Rattle.tw_sim.specs.Simulation.{state};
 
@@ -55,15 +56,22 @@ impl<'a> Model for Sim<'a> {
 
 impl<'a> Sim<'a> {
     /// A case as it begins, with its routers dealt out to so many workers in turn: bound and stop are 0, and
-    /// nothing is handled. There is one worker at least. It fails for want of memory alone.
-    pub fn open(alloc: Global, case: &'a Case, workers: u32) -> Result<Sim<'a>, AllocError>
+    /// nothing is handled. There is one worker at least. Routers keep their committed events, or let them go.
+    /// It fails for want of memory alone.
+    pub fn open(
+        alloc: Global,
+        case: &'a Case,
+        workers: u32,
+        keeps: bool,
+    ) -> Result<Sim<'a>, AllocError>
         requires { 0 < workers }
         ensures case { IfOk result (λ sim. sim.case ≡ case.now) }
         ensures board { IfOk result (λ sim. sim.board ≡ opening workers 0 0) }
         ensures opens { IfOk result (λ sim. IsOpening (simulation case.now) (machine sim)) }
+        ensures keeps { keeps ≡ true → IfOk result (λ sim. KeepsEvents sim) }
     {
         let exchange = Exchange::new(alloc, workers, 0, 0)?;
-        let shards = open_shards(alloc, case, workers)?;
+        let shards = open_shards(alloc, case, workers, keeps)?;
         let hands = open_hands(alloc, workers)?;
         // What a case keeps is told by a read of it.
         let _ = case.instance();
@@ -157,6 +165,13 @@ impl<'a> Sim<'a> {
         self.exchange.workers()
     }
 
+    /// Whether all routers keep their committed events, so that these can be read.
+    pub fn keeps_events(&self) -> bool
+        ensures { IsTrue result ↔ KeepsEvents self.now }
+    {
+        do_all_keep(&self.shards)
+    }
+
     /// A router, as the events that it has handled and not undone leave it.
     pub fn router(&self, router: u32) -> &Router<'a>
         requires { router < self.now.case.net.nodes }
@@ -174,8 +189,16 @@ impl<'a> Sim<'a> {
         ensures own { owns result.now router ≡ true }
         ensures history { (core 0 result.now).history router ≡ (machine self.now).history router }
         ensures done { (core 0 result.now).done router ≡ (machine self.now).done router }
+        ensures keeps { KeepsEvents self.now → result.now.keeps ≡ true }
         ensures sim { IsSim self.now }
     {
         &self.shards[router as usize % self.shards.len()]
     }
+}
+
+/// Whether the routers of all these shards keep their committed events.
+fn do_all_keep(shards: &[Shard<'_>]) -> bool
+    ensures { result ≡ list_all (λ s. s.keeps) shards.now }
+{
+    shards.iter().all(|shard| shard.keeps())
 }

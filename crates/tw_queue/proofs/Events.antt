@@ -1,5 +1,5 @@
 -- What a heap of events holds, in rising order.
-use Rattle.std.proofs.Common.{IfSome, ◌==◌, ◌≤◌, Bool, true, None, ◌+◌, cond, filter, ◌≡◌, ℕ, ◌<◌, false}
+use Rattle.std.proofs.Common.{IfSome, ◌==◌, nat_lt, ◌≤◌, Bool, true, None, ◌+◌, cond, filter, ◌≡◌, ℕ, ◌<◌, false}
 use Rattle.std.proofs.Common.{Some, List, [], ◌∷◌, length, slice_get, get_or, drop, ◌+◌, refl, ap, sym, ◌∙◌, subst, inl, inr, arith}
 use Rattle.std.specs.BinaryHeap.{IsUpperBound}
 use Rattle.std.specs.List.{AllByRecursion}
@@ -10,7 +10,7 @@ use Rattle.std.specs.declared.cmp.Ordering.{Ordering}
 use Rattle.std.specs.declared.cmp.Ordering.TheVariants.{Less, Equal, Greater}
 use Rattle.std.proofs.lemmas.Cmp.{ranked}
 use Rattle.std.proofs.lemmas.Option.{none-some}
-use Rattle.std.proofs.lemmas.Bool.{cases_Bool, false≢true, eqb-true}
+use Rattle.std.proofs.lemmas.Bool.{cases_Bool, false≢true, eqb-true, le-ltb, lt-ltb}
 use Rattle.std.proofs.lemmas.List.Sorted.{IsPermutation-map}
 use Rattle.tw_event.specs.declared.event.Event.{Event}
 use Rattle.tw_event.specs.Order.{event_before, event_same}
@@ -237,6 +237,15 @@ not_sooner m n Greater e q h = omega (arith, ranked m n Greater e)
 
 pub not_earlier : (d e : Event) → event_before d e ≡ false → e.time ≤ d.time
 not_earlier d e h = not_sooner d.time e.time (nat_cmp d.time e.time) refl _ h
+
+-- of two events at different times the earlier one comes first
+by_time : (m n : ℕ) (o : Ordering) → o ≡ nat_cmp m n → (m ≡ n → ⊥) → (q : Ordering) → is_lt (ordering_then o q) ≡ nat_lt m n
+by_time m n Less e k q = sym (lt-ltb m n (omega (arith, ranked m n Less e)))
+by_time m n Equal e k q = absurd (k (omega (arith, ranked m n Equal e)))
+by_time m n Greater e k q = sym (le-ltb m n (omega (arith, ranked m n Greater e)))
+
+pub before_by_time : (d e : Event) → (d.time ≡ e.time → ⊥) → event_before d e ≡ nat_lt d.time e.time
+before_by_time d e k = by_time d.time e.time (nat_cmp d.time e.time) refl k _
 
 later_then : (m n : ℕ) (o : Ordering) → o ≡ nat_cmp m n → n ≤ m → (q : Ordering) → (m ≡ n → is_lt q ≡ false) → is_lt (ordering_then o q) ≡ false
 later_then m n Less e h q k = absurd (omega (arith, ranked m n Less e))

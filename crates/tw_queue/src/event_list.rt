@@ -50,10 +50,11 @@ impl EventList {
         ensures routers { IfOk result (λ q. q.routers ≡ routers) }
         ensures empty { IfOk result (λ q. q.events ≡ []) }
     {
+        let ring = Ring::new(alloc, routers)?;
         Ok(EventList {
             alloc,
             routers,
-            ring: Ring::new(alloc),
+            ring,
             heap: BinaryHeap::new(alloc),
         })
     }
@@ -70,9 +71,9 @@ impl EventList {
     }
 
     /// Adds an event, in its place in the order. It cannot fail where there is room.
-    pub fn insert(&mut self, event: Event) -> Result<(), AllocError>
-        requires { event.dst < self.old.routers }
-        ensures ok { OnOk result (self.new.events ≡ insert event_before event self.old.events) }
+    pub fn insert(&mut self, event: &Event) -> Result<(), AllocError>
+        requires { event.now.dst < self.old.routers }
+        ensures ok { OnOk result (self.new.events ≡ insert event_before event.now self.old.events) }
         ensures err { OnErr result (self.new.events ≡ self.old.events) }
         ensures succeeds { 0 < self.old.room → IsOk result }
         ensures routers { self.new.routers ≡ self.old.routers }
@@ -81,7 +82,7 @@ impl EventList {
         if self.ring.insert(event) {
             return Ok(());
         }
-        self.heap.push(Reverse(event))?;
+        self.heap.push(Reverse(*event))?;
         Ok(())
     }
 

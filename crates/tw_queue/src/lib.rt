@@ -8,6 +8,7 @@
 mod event_list;
 mod least_times;
 mod pending;
+mod policy;
 mod queue_table;
 mod ring;
 mod router_queue;

@@ -1,5 +1,5 @@
 // Events by time, for a run that takes the least of them again and again.
-ghost use Rattle.std.specs.Prelude.{ℕ, ◌≡◌, ◌<◌, ◌≤◌, ◌+◌, ◌++◌, ◌⊎◌, [], drop, length, slice_get, slice_index_or, OnOk};
+ghost use Rattle.std.specs.Prelude.{ℕ, ◌≡◌, ◌<◌, ◌≤◌, ◌+◌, ◌++◌, ◌⊎◌, [], drop, length, slice_get, slice_index_or, IfOk, OnOk};
 ghost use Rattle.std.specs.Bool.{OnFalse, OnTrue};
 ghost use Rattle.std.specs.Option.{option_copied};
 ghost use Rattle.tw_event.specs.declared.event.Event.{Event};
@@ -11,7 +11,7 @@ ghost use Rattle.tw_sim.specs.Ordered.{insert, times};
 ghost use Rattle.tw_sim.specs.Rising.{IsRising};
 
 use crate::search::first_of;
-use crate::tick::Tick;
+use crate::tick::{Tick, append_all};
 use std::alloc::{AllocError, Global};
 use std::array;
 use std::marker::Model;
@@ -35,6 +35,8 @@ pub(crate) struct Ring {
     from: u64,
     buckets: [Tick; 64],
     times: [u64; 64],
+    // A list for each router, for ticks that are put in order by receiver.
+    receivers: Vec<Tick>,
 }
 
 impl Model for Ring {
@@ -50,24 +52,27 @@ impl Model for Ring {
 }
 
 impl Ring {
-    /// No events.
-    pub(crate) fn new(alloc: Global) -> Ring
-        ensures { result ≡ [] }
+    /// No events, mostly for routers below `routers`.
+    pub(crate) fn new(alloc: Global, routers: u32) -> Result<Ring, AllocError>
+        ensures { IfOk result (λ events. events ≡ []) }
     {
-        Ring {
+        let receivers = (0..routers).map(|_| Tick::new(alloc)).collect(alloc)?;
+        Ok(Ring {
             hand: Tick::new(alloc),
             taken: 0,
             tick: 0,
             from: 0,
             buckets: array::from_fn(|_| Tick::new(alloc)),
             times: [u64::MAX; 64],
-        }
+            receivers,
+        })
     }
 
     /// Adds an event where it is later than the tick at hand and soon, its bucket has no event of another
     /// tick, and memory is not refused, and tells whether it did.
-    pub(crate) fn insert(&mut self, event: Event) -> bool
-        ensures added { OnTrue result (self.new ≡ insert event_before event self.old) }
+    #[inline]
+    pub(crate) fn insert(&mut self, event: &Event) -> bool
+        ensures added { OnTrue result (self.new ≡ insert event_before event.now self.old) }
         ensures same { OnFalse result (self.new ≡ self.old) }
     {
         let time = event.time;
@@ -81,6 +86,7 @@ impl Ring {
         if !is_free_for(time, self.times[slot]) {
             return false;
         }
+        reuse_memory(&mut self.buckets, slot_of(self.tick), slot);
         if let Err(_) = self.buckets[slot].push(event) {
             return false;
         }
@@ -89,6 +95,7 @@ impl Ring {
     }
 
     /// The least event.
+    #[inline]
     pub(crate) fn least(&self) -> Option<&Event>
         ensures { option_copied result ≡ slice_get self.now 0 }
     {
@@ -127,7 +134,7 @@ impl Ring {
             return;
         }
         let bucket = &mut self.buckets[place];
-        self.hand.take_over(bucket);
+        self.hand.take_over(bucket, &mut self.receivers);
         self.taken = 0;
         self.tick = time;
         self.from = time;
@@ -150,7 +157,7 @@ impl Ring {
             return None;
         }
         let bucket = &mut self.buckets[place];
-        self.hand.take_over(bucket);
+        self.hand.take_over(bucket, &mut self.receivers);
         self.taken = 1;
         self.tick = time;
         self.from = time;
@@ -162,10 +169,19 @@ impl Ring {
     pub(crate) fn append_to(&self, events: &mut Vec<Event>) -> Result<(), AllocError>
         ensures ok { OnOk result ((e : Event) → times event_same e events.new.items ≡ times event_same e self.now + times event_same e events.old.items) }
     {
+        events.reserve(count_all(&self.buckets))?;
         append_left(self.hand.events(), self.taken, events)?;
         append_all(&self.buckets, events)?;
         Ok(())
     }
+}
+
+// At least as many as there are events in these.
+fn count_all(ticks: &[Tick]) -> usize {
+    ticks.iter().fold(
+        0,
+        |count: usize, tick| count.saturating_add(tick.events().len()),
+    )
 }
 
 // Puts the events that are not taken out at the end of a list.
@@ -177,14 +193,19 @@ fn append_left(hand: &[Event], taken: usize, events: &mut Vec<Event>) -> Result<
     Ok(())
 }
 
-// Puts the events of buckets at the end of a list.
-fn append_all(buckets: &[Tick], events: &mut Vec<Event>) -> Result<(), AllocError>
-    ensures { OnOk result (events.new.items ≡ events.old.items ++ together buckets.now) }
+// Gives an empty bucket the memory of another empty one, as that of the tick at hand is: it is still in the
+// nearest caches, and so a run goes through the same memory again and again, and not through 64 buckets' in turn.
+fn reuse_memory(buckets: &mut [Tick; 64], from: usize, to: usize)
+    requires from { from < 64 }
+    requires to { to < 64 }
+    ensures { buckets.new ≡ buckets.old }
 {
-    for bucket in buckets {
-        events.extend_from_slice(bucket.events())?;
+    if !buckets[to].events().is_empty() {
+        return;
     }
-    Ok(())
+    if buckets[from].events().is_empty() {
+        buckets.swap(from, to);
+    }
 }
 
 // The number of the bucket for a time, in ticks.

@@ -61,6 +61,10 @@ pub(crate) fn earlier(event: Event, other: Option<Event>) -> Event
 pub(crate) fn comes_before(event: &Event, other: &Event) -> bool
     ensures { result ≡ event_before event.now other.now }
 {
+    // Times mostly differ.
+    if event.time != other.time {
+        return event.time < other.time;
+    }
     event < other
 }
 

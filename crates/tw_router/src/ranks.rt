@@ -1,16 +1,17 @@
-ghost use Rattle.std.specs.Prelude.{◌≡◌, ◌≢◌, ◌<◌, ◌≤◌, ◌-◌, ◌==◌, ◌↔◌, length, map, slice_set, IfSome, IsTrue};
+ghost use Rattle.std.specs.Prelude.{◌≡◌, ◌≢◌, ◌<◌, ◌≤◌, ◌-◌, ◌==◌, ◌↔◌, fold, length, map, max, slice_set, slice_get, IfSome, IsSome, IsTrue, Some};
 ghost use Rattle.std.specs.List.{All, AllPairs, position_or_len};
 ghost use Rattle.tw_event.specs.declared.event.PathNo.{PathNo as APathNo};
 ghost use Rattle.tw_model.specs.declared.limits.TheConstants.{MOST_PATHS};
-ghost use Rattle.tw_model.specs.Net.{IsPath, hops_of};
+ghost use Rattle.tw_model.specs.Net.{IsPath, hops_of, paths_of};
 ghost use Rattle.tw_model.specs.State.{offers};
-ghost use Rattle.tw_router.specs.Ranks.{rank};
+ghost use Rattle.tw_router.specs.Ranks.{IsOfferedAt, IsOrderOf, rank};
 
 use tw_event::PathNo;
 use tw_instance::Instance;
+use tw_lanes::best_rank;
 use tw_model::Row;
 
-/// Writes the rank of each slot anew.
+/// Writes the rank of each slot anew, of an order in which paths were exchanged.
 pub(crate) fn refresh(
     instance: &Instance,
     node: u32,
@@ -27,7 +28,7 @@ pub(crate) fn refresh(
     ensures { ranks.new ≡ map (rank instance.now node order.now) rows.now }
 {
     for (slot, row) in rows.iter().enumerate() {
-        refresh_slot(instance, node, slot, order, *row, ranks);
+        refresh_slot(instance, node, slot, order, true, *row, ranks);
     }
 }
 
@@ -37,6 +38,7 @@ pub(crate) fn refresh_slot(
     node: u32,
     slot: usize,
     order: &[PathNo],
+    exchanged: bool,
     row: Row,
     ranks: &mut [u32],
 )
@@ -44,54 +46,78 @@ pub(crate) fn refresh_slot(
     requires slot { slot < length (hops_of instance.now node) }
     requires rank { slot < length ranks.old }
     requires path { IsPath instance.now row.heard }
+    requires order { IsOrderOf instance.now node exchanged order.now }
     requires few { length order.now ≤ MOST_PATHS }
     requires distinct { AllPairs (λ p q. p ≢ q) order.now }
     ensures { ranks.new ≡ slice_set ranks.old slot (rank instance.now node order.now row) }
 {
-    ranks[slot] = rank_of(instance, node, slot, order, row);
+    ranks[slot] = rank_of(instance, node, order, exchanged, row);
 }
 
-/// The rank of the path that the neighbour of a slot offers, and 0 where it offers none.
-fn rank_of(instance: &Instance, node: u32, slot: usize, order: &[PathNo], row: Row) -> u32
+/// The greatest of the ranks, where that of one slot was another one before, and the greatest with it is
+/// known. They are sought through only where the greatest rank fell.
+pub(crate) fn greatest_after(greatest: u32, before: u32, ranks: &[u32], slot: usize) -> u32
+    requires slot { slot < length ranks.now }
+    requires greatest { greatest ≡ fold max 0 (slice_set ranks.now slot before) }
+    ensures { result ≡ fold max 0 ranks.now }
+{
+    let rank = ranks[slot];
+    if rank >= greatest {
+        rank
+    } else if before == greatest {
+        best_rank(ranks)
+    } else {
+        greatest
+    }
+}
+
+/// The rank of the path that a neighbour offers, and 0 where it offers none.
+fn rank_of(instance: &Instance, node: u32, order: &[PathNo], exchanged: bool, row: Row) -> u32
     requires router { node < instance.now.nodes }
-    requires slot { slot < length (hops_of instance.now node) }
     requires path { IsPath instance.now row.heard }
+    requires order { IsOrderOf instance.now node exchanged order.now }
     requires few { length order.now ≤ MOST_PATHS }
     requires distinct { AllPairs (λ p q. p ≢ q) order.now }
     ensures { result ≡ rank instance.now node order.now row }
 {
-    match offered_path(instance, node, slot, row) {
-        Some(path) => (order.len() - place_of(instance, order, path)) as u32,
+    match offered_place(instance, node, row) {
+        Some(place) => (order.len() - order_place(instance, node, order, exchanged, place)) as u32,
         None => 0,
     }
 }
 
-/// The permitted path that the neighbour of a slot offers: none where its link is down.
-fn offered_path(instance: &Instance, node: u32, slot: usize, row: Row) -> Option<PathNo>
-    requires router { node < instance.now.nodes }
-    requires slot { slot < length (hops_of instance.now node) }
-    requires path { IsPath instance.now row.heard }
-    ensures value { (q : APathNo) → IsTrue (offers instance.now node q row) ↔ (result ≡ Some q) }
-    ensures path { IfSome result (IsPath instance.now) }
+/// The place, from 0, among the permitted paths of the one that a neighbour offers: none where its link
+/// is down.
+fn offered_place(instance: &Instance, node: u32, row: Row) -> Option<usize>
+    requires { IsPath instance.now row.heard }
+    ensures some { IfSome result (IsOfferedAt instance.now node row) }
+    ensures none { (q : APathNo) → IsTrue (offers instance.now node q row) → IsSome result }
 {
     if !row.up || row.heard.0 == 0 {
         return None;
     }
-    instance.extend(node, slot, row.heard)
+    instance.extended_place(node, row.heard)
 }
 
-/// How many paths of the order stand before this one: all of them where it is not there.
-fn place_of(instance: &Instance, order: &[PathNo], path: PathNo) -> usize
-    requires path { IsPath instance.now path }
+/// How many paths of the order stand before the one at a place, from 0, of the permitted paths.
+fn order_place(
+    instance: &Instance,
+    node: u32,
+    order: &[PathNo],
+    exchanged: bool,
+    place: usize,
+) -> usize
+    requires place { place < length (paths_of instance.now node) }
+    requires order { IsOrderOf instance.now node exchanged order.now }
     requires distinct { AllPairs (λ p q. p ≢ q) order.now }
     ensures within { result ≤ length order.now }
-    ensures value { result ≡ position_or_len (λ q. q.0 == path.0) order.now }
+    ensures value { (q : APathNo) → slice_get (paths_of instance.now node) place ≡ Some q
+        → result ≡ position_or_len (λ p. p.0 == q.0) order.now }
 {
-    // A path stands where the instance has it, unless it was exchanged.
-    let place = instance.place(path);
-    match order.get(place) {
-        Some(other) if other.0 == path.0 => place,
-        _ => count_before(order, path),
+    if exchanged {
+        count_before(order, instance.permitted(node)[place])
+    } else {
+        place
     }
 }
 

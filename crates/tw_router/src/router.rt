@@ -1,5 +1,5 @@
-ghost use Rattle.std.specs.Prelude.{◌≡◌, ◌-◌, ◌≤◌, ◌<◌, ◌↔◌, map, length, IfOk, IsErrOf, IsTrue};
-ghost use Rattle.std.specs.List.{All, position};
+ghost use Rattle.std.specs.Prelude.{◌≡◌, ◌-◌, ◌≤◌, ◌<◌, ◌↔◌, fold, map, max, length, IfOk, IsErrOf, IsTrue};
+ghost use Rattle.std.specs.List.{All};
 ghost use Rattle.tw_model.specs.declared.memory.OrMemory.TheVariants.{Fault};
 ghost use Rattle.tw_model.specs.Net.{IsPath, path as path_of};
 ghost use Rattle.tw_model.specs.Rules.{IsNet};
@@ -8,13 +8,13 @@ ghost use Rattle.tw_model.specs.Effect.{with_swap, with_row};
 ghost use Rattle.tw_router.specs.Nodes.{best_nodes, heard_of, order_of};
 ghost use Rattle.tw_router.specs.Ranks.{rank_row as rank_row_of};
 
-use crate::ranks::{refresh, refresh_slot};
+use crate::ranks::{greatest_after, refresh, refresh_slot};
 use std::alloc::{AllocError, Global};
 use std::marker::Model;
 use thiserror::Error;
 use tw_event::PathNo;
 use tw_instance::Instance;
-use tw_lanes::{best_rank, first_equal};
+use tw_lanes::best_rank;
 use tw_model::limits::MOST_COUNTED;
 use tw_model::{Counters, Hop, OrMemory, Row};
 
@@ -40,6 +40,10 @@ pub struct Router<'a> {
     rows: Vec<Row>,
     order: Vec<PathNo>,
     ranks: Vec<u32>,
+    /// The greatest of the ranks, and 0 where there are none.
+    greatest: u32,
+    /// Whether paths of the order were ever exchanged. Where none were, it is the order of the instance.
+    exchanged: bool,
     counters: Counters,
 }
 
@@ -53,7 +57,7 @@ impl<'a> Model for Router<'a> {
 
     ghost invariant = { λ a. IsRanked
         (record { net = a.instance.now; node = a.node; state = record { rib = a.rib; rows = a.rows.items; order = a.order.items; counters = a.counters } })
-        a.ranks.items };
+        a.ranks.items a.greatest a.exchanged };
 }
 
 impl<'a> Router<'a> {
@@ -109,6 +113,8 @@ impl<'a> Router<'a> {
             rows: fresh_rows(alloc, hops)?,
             order: Vec::from_slice(alloc, instance.permitted(node))?,
             ranks: vec![in alloc; 0; hops.len()]?,
+            greatest: 0,
+            exchanged: false,
             counters,
         })
     }
@@ -143,7 +149,7 @@ impl<'a> Router<'a> {
         ensures value { result.now ≡ self.now.state.rows }
         ensures state { IsState self.now.net self.now.node self.now.state }
     {
-        &self.rows
+        self.rows.as_slice()
     }
 
     /// What it keeps of the neighbour of a slot.
@@ -188,7 +194,7 @@ impl<'a> Router<'a> {
         ensures value { result.now ≡ self.now.state.order }
         ensures state { IsState self.now.net self.now.node self.now.state }
     {
-        &self.order
+        self.order.as_slice()
     }
 
     /// The rank of each slot. Of a router with three permitted paths it is 3 where the neighbour offers the
@@ -220,24 +226,18 @@ impl<'a> Router<'a> {
         if node == 0 {
             return PathNo::ORIGIN;
         }
-        let (order, ranks) = (self.order(), self.rank_row());
-        match self.best_slot() {
-            Some(slot) => order[order.len() - ranks[slot] as usize],
-            None => PathNo::EMPTY,
+        let order = self.order();
+        match self.greatest_rank() {
+            0 => PathNo::EMPTY,
+            rank => order[order.len() - rank as usize],
         }
     }
 
-    /// The slot of the first neighbour that offers the best path, at a router other than the origin.
-    fn best_slot(&self) -> Option<usize>
-        requires { 0 < self.now.node }
-        ensures { result
-            ≡ position (offers self.now.net self.now.node (best_of self.now.net self.now.node self.now.state)) self.now.state.rows }
+    /// The greatest rank of a slot, and 0 where there are none.
+    fn greatest_rank(&self) -> u32
+        ensures { result ≡ fold max 0 (rank_row_of self.now) }
     {
-        let ranks = self.rank_row();
-        match best_rank(ranks) {
-            0 => None,
-            best => first_equal(ranks, best),
-        }
+        self.greatest
     }
 
     /// Changes the path that it uses.
@@ -249,6 +249,7 @@ impl<'a> Router<'a> {
     }
 
     /// Changes what it keeps of the neighbour of a slot. The instance is the router's own.
+    #[inline]
     pub fn set_row(&mut self, instance: &Instance, slot: usize, row: Row)
         requires own { instance.now ≡ self.old.net }
         requires slot { slot < length self.old.state.rows }
@@ -257,7 +258,17 @@ impl<'a> Router<'a> {
         ensures { self.new ≡ record self.old { state = with_row self.old.state slot row } }
     {
         let node = self.node;
-        refresh_slot(instance, node, slot, &self.order, row, &mut self.ranks);
+        let before = self.ranks[slot];
+        refresh_slot(
+            instance,
+            node,
+            slot,
+            &self.order,
+            self.exchanged,
+            row,
+            &mut self.ranks,
+        );
+        self.greatest = greatest_after(self.greatest, before, &self.ranks, slot);
         self.rows[slot] = row;
     }
 
@@ -270,8 +281,17 @@ impl<'a> Router<'a> {
         requires slot { slot < length self.old.state.rows }
         ensures { self.new ≡ self.old }
     {
+        let node = self.node;
         let row = self.row(slot);
-        refresh_slot(instance, self.node, slot, &self.order, row, &mut self.ranks);
+        refresh_slot(
+            instance,
+            node,
+            slot,
+            &self.order,
+            self.exchanged,
+            row,
+            &mut self.ranks,
+        );
     }
 
     /// Changes the path that was heard from the neighbour of a slot. The instance is the router's own.
@@ -324,7 +344,9 @@ impl<'a> Router<'a> {
     {
         self.order.swap(first as usize - 1, second as usize - 1);
         let node = self.node;
+        self.exchanged = true;
         refresh(instance, node, &self.order, &self.rows, &mut self.ranks);
+        self.greatest = best_rank(&self.ranks);
     }
 
     /// Changes what it counts.

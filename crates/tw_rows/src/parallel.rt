@@ -1,6 +1,7 @@
 //! A parallel run by calls, before its workers have taken a turn.
 
 ghost use Rattle.std.specs.Prelude.{◌≡◌, IfOk};
+ghost use Rattle.tw_parallel.specs.Sim.{KeepsEvents};
 
 use crate::handlers::case;
 use crate::texts::DISAGREE;
@@ -14,14 +15,16 @@ use tw_parallel::{Ending, NotSettled, OrMemory, Sim, StopLower};
 fn sim<'a>(alloc: Global, case: &'a Case) -> Result<Sim<'a>, AllocError>
     ensures { IfOk result (λ sim. sim.case ≡ case.now) }
 {
-    match Sim::open(alloc, case, 2) {
-        Err(_) => Sim::open(alloc, case, 2),
+    match Sim::open(alloc, case, 2, true) {
+        Err(_) => Sim::open(alloc, case, 2, true),
         made => made,
     }
 }
 
-/// What a run leaves, asked for once more where memory was refused.
-fn outcome(sim: &Sim<'_>) -> Result<Ending, OrMemory<NotSettled>> {
+/// What a run leaves that keeps its events, asked for once more where memory was refused.
+fn outcome(sim: &Sim<'_>) -> Result<Ending, OrMemory<NotSettled>>
+    requires { KeepsEvents sim.now }
+{
     match sim.outcome(true) {
         Err(OrMemory::Memory) => sim.outcome(true),
         answer => answer,
@@ -68,7 +71,7 @@ fn a_run_that_begins_is_settled_at_stop_0(rt: HostRuntime) {
         panic!(rt; "no memory")
     };
     assert!(rt; sim.workers() == 2 && sim.bound() == 0 && sim.stop() == 0 && sim.ahead() == 0);
-    assert!(rt; sim.is_settled());
+    assert!(rt; sim.is_settled() && sim.keeps_events());
     let Ok(ending) = outcome(&sim) else {
         panic!(rt; "not settled")
     };

@@ -1,6 +1,6 @@
 //! A shard by calls: the routers of DISAGREE, each the only one of its worker.
 
-ghost use Rattle.std.specs.Prelude.{◌<◌};
+ghost use Rattle.std.specs.Prelude.{◌≡◌, ◌<◌, true};
 
 use crate::handlers::case;
 use crate::messages::{
@@ -17,8 +17,8 @@ use tw_sim::Signed;
 fn shard<'a>(alloc: Global, case: &'a Case, worker: u32) -> Result<Shard<'a>, AllocError>
     requires { worker < 3 }
 {
-    match Shard::open(alloc, case, worker, 3) {
-        Err(_) => Shard::open(alloc, case, worker, 3),
+    match Shard::open(alloc, case, worker, 3, true) {
+        Err(_) => Shard::open(alloc, case, worker, 3, true),
         made => made,
     }
 }
@@ -52,8 +52,10 @@ fn receive(shard: &mut Shard<'_>, message: Signed<Event>) -> Result<(), Returned
     }
 }
 
-/// Commits, once more where memory was refused.
-fn commit(shard: &mut Shard<'_>, router: u32) -> Result<(), OrMemory<Refusal>> {
+/// Commits and keeps, once more where memory was refused.
+fn commit(shard: &mut Shard<'_>, router: u32) -> Result<(), OrMemory<Refusal>>
+    requires { shard.old.keeps ≡ true }
+{
     match shard.commit(router) {
         Err(OrMemory::Memory) => shard.commit(router),
         answer => answer,
@@ -94,7 +96,9 @@ fn router_1_is_heard(shard: &mut Shard<'_>) -> bool {
 /// What is committed is not undone.
 fn the_offer_is_committed(shard: &mut Shard<'_>) -> bool {
     shard.raise_bound(3);
-    commit(shard, 2) == Ok(()) && undo(shard, 2) == Err(OrMemory::Fault(Refusal::Committed))
+    shard.keeps()
+        && commit(shard, 2) == Ok(())
+        && undo(shard, 2) == Err(OrMemory::Fault(Refusal::Committed))
 }
 
 /// What lies before the bound comes back.
@@ -135,7 +139,7 @@ fn a_shard_tells_what_it_has_handled(rt: HostRuntime) {
     };
     let [_, offer] = offers_of_origin();
     assert!(rt; the_origin_is_heard(&mut shard));
-    assert!(rt; shard.owns(2) && !shard.owns(1));
+    assert!(rt; shard.owns(2) && !shard.owns(1) && shard.keeps());
     assert!(rt; shard.router(2).rib() == PathNo(5));
     assert!(rt; shard.handled(2, 0) == Some(offer.event) && shard.handled(2, 1) == None);
     assert!(rt; shard.committed(2) == 0 && shard.ahead(2) == 1);
@@ -155,7 +159,7 @@ fn a_shard_tells_what_it_has_committed(rt: HostRuntime) {
     let [_, offer] = offers_of_1();
     assert!(rt; the_origin_is_heard(&mut shard) && the_router_is_rolled_back(&mut shard));
     assert!(rt; router_1_is_heard(&mut shard) && the_offer_is_committed(&mut shard));
-    assert!(rt; shard.owns(2) && shard.router(2).rib() == PathNo(4));
+    assert!(rt; shard.owns(2) && shard.keeps() && shard.router(2).rib() == PathNo(4));
     assert!(rt; shard.handled(2, 0) == Some(offer.event) && shard.handled(2, 1) == None);
     assert!(rt; shard.committed(2) == 1 && shard.ahead(2) == 0);
     assert!(rt; shard.done(2) == 3 && shard.bound() == 3);

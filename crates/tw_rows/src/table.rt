@@ -46,8 +46,8 @@ fn begin<'a>(
     ensures { IfOk result (λ r. IsBeginning case.now r.0 (shares_of r.1.items r.2.items)) }
 {
     let exchange = Exchange::new(alloc, 2, 0, 20)?;
-    let first = Shard::open(alloc, case, 0, 2)?;
-    let second = Shard::open(alloc, case, 1, 2)?;
+    let first = Shard::open(alloc, case, 0, 2, true)?;
+    let second = Shard::open(alloc, case, 1, 2, true)?;
     let shards = Vec::from_array(alloc, [first, second])?;
     let hands = Vec::from_array(alloc, [Hand::new(alloc), Hand::new(alloc)])?;
     // What a case keeps is told by a read of it.

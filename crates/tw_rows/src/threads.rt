@@ -186,8 +186,8 @@ fn the_verdict_is_the_same(rt: HostRuntime) {
 fn sim<'a>(alloc: Global, case: &'a Case) -> Result<Sim<'a>, AllocError>
     ensures { IfOk result (λ sim. sim.case ≡ case.now) }
 {
-    match Sim::open(alloc, case, 2) {
-        Err(_) => Sim::open(alloc, case, 2),
+    match Sim::open(alloc, case, 2, true) {
+        Err(_) => Sim::open(alloc, case, 2, true),
         made => made,
     }
 }
@@ -213,6 +213,9 @@ fn run_on<'a, X: Threads + Wait + Sync>(
 
 /// Whether the start of the origin and the events of these letters are committed, in this order.
 fn has_committed(sim: &Sim<'_>, letters: &str) -> bool {
+    if !sim.keeps_events() {
+        return false;
+    }
     let found = match sim.committed() {
         Err(_) => sim.committed(),
         found => found,
@@ -412,7 +415,7 @@ fn passes<G: Gate + Sync, X: Threads + Wait + Sync>(
     case: &Case,
     gate: &G,
 ) -> Option<bool> {
-    let Ok(sim) = Sim::open(alloc, case, 2) else {
+    let Ok(sim) = Sim::open(alloc, case, 2, true) else {
         return None;
     };
     match run_until(rt, sim, 20, Options { batch: 64 }, gate) {

@@ -1,9 +1,9 @@
 -- What the rule gives: the machine put together is good.
-use Rattle.std.proofs.Common.{◌≡◌, ℕ, ◌<◌, cond, true, List, [], ◌∷◌, ◌++◌, map, Some, flat_map, slice_get, refl, ap, sym, ◌∙◌, subst, inl, inr, arith}
+use Rattle.std.proofs.Common.{◌≡◌, ℕ, ◌<◌, ◌≤◌, cond, true, List, [], ◌∷◌, ◌++◌, map, Some, flat_map, slice_get, refl, ap, sym, ◌∙◌, subst, inl, inr, arith}
 use Rattle.std.proofs.lemmas.Bool.{cases_eq, eq-eqb, ne_eqb}
 use Rattle.std.specs.List.{AllByRecursion}
 use Rattle.std.specs.Option.{option_map_or}
-use Rattle.tw_core.proofs.Headline.{at_end, good_is_seq}
+use Rattle.tw_core.proofs.Headline.{at_end, good_is_seq, good_log}
 use Rattle.tw_core.proofs.Owners.{owner_is}
 use Rattle.tw_core.proofs.Parts.{good_assembled}
 use Rattle.tw_core.proofs.Sums.{all_map}
@@ -14,7 +14,7 @@ use Rattle.tw_rule.proofs.Calls.{part_from}
 use Rattle.tw_rule.proofs.Places.{all_at, all_in_map, get_map, total_map}
 use Rattle.tw_rule.proofs.Visits.{stands_from}
 use Rattle.tw_rule.specs.Board.{Board, IsBoard}
-use Rattle.tw_rule.specs.Place.{Place, in_hand, part_of, whole}
+use Rattle.tw_rule.specs.Place.{IsRunBefore, Place, in_hand, part_of, whole}
 use Rattle.tw_rule.specs.Rule.{Rule, Stands, assembled, is_at, owning, shared}
 use Rattle.tw_sim.proofs.Unique.{all_below}
 use Rattle.tw_sim.specs.Seq.{log}
@@ -93,6 +93,11 @@ module _ {S E : Type 0} (m : Simulation S E) (law : IsLawful m) (who : ℕ → �
       let events = (seq_of_rule numbered x ps rule).events r in
       subst (λ t. below m t (p.history r) ≡ only m r (log m t)) (done_of x ps i r p rule place l mine)
       (subst (λ xs. below m ((assembled x ps).done r) xs ≡ only m r (log m ((assembled x ps).done r))) (history_of x ps i r p rule place l mine) events)
+
+  -- before the bound and each earlier time, what a place has handled is that run
+  pub before_of : IsNumbered m → (x : Board E) (ps : List (Place E)) (i t : ℕ) (p : Place E) → Rule m who x ps → slice_get ps i ≡ Some p → t ≤ x.bound → IsRunBefore m t p
+  before_of numbered x ps i t p rule place le = λ r l mine.
+      ap (below m t) (sym (history_of x ps i r p rule place l mine)) ∙ good_log m law numbered (assembled x ps) (good_of_rule x ps rule) t le r
 
   -- where the bound is the stop, a router has handled its events of the whole run
   pub handled_of : IsNumbered m → (x : Board E) (ps : List (Place E)) (i r : ℕ) (p : Place E) → Rule m who x ps → slice_get ps i ≡ Some p → r < m.routers → p.owns r ≡ true

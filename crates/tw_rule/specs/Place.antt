@@ -7,7 +7,8 @@ use Rattle.tw_core.specs.Machine.{Core, times_loose}
 use Rattle.tw_core.specs.Parts.{Part, SameSurplus}
 use Rattle.tw_rule.specs.Board.{least_report, times_among}
 use Rattle.tw_sim.specs.declared.machine.Signed.{Signed}
-use Rattle.tw_sim.specs.Simulation.{Simulation, times}
+use Rattle.tw_sim.specs.Seq.{log}
+use Rattle.tw_sim.specs.Simulation.{Simulation, below, only, times}
 
 -- a worker's routers with what waits for them, and the messages in its hand
 pub record Place (E : Type 0) : Type 0 where
@@ -89,6 +90,10 @@ module _ {S E : Type 0} (m : Simulation S E) where
   -- nothing loose at a place is before t
   abbrev pub IsFrom : ℕ → Place E → Type 0
   IsFrom t p = (e : E) → 0 < times_loose m (whole 0 p) e → t ≤ m.time e
+
+  -- before t, the routers of a place have handled what the one-thread run has
+  abbrev pub IsRunBefore : ℕ → Place E → Type 0
+  IsRunBefore t p = (r : ℕ) → r < m.routers → p.owns r ≡ true → below m t (p.history r) ≡ only m r (log m t)
 
   -- what a call at a place keeps
   pub record Keeps (stop : ℕ) (p q : Place E) : Type 0 where

@@ -9,7 +9,7 @@ ghost use Rattle.tw_core.specs.Parts.{total};
 ghost use Rattle.tw_core.specs.Run.{IsAtEnd, IsSeq};
 ghost use Rattle.tw_core.specs.Steps.{IsRolledBack, after_arrival, first_pending, handle, with_commit};
 ghost use Rattle.tw_rule.specs.Board.{Board, IsBoard, IsVisit, times_among};
-ghost use Rattle.tw_rule.specs.Place.{IsPlace, Keeps, Place, Tells, after_visit, core, in_hand, report_time, with_core, with_unsent};
+ghost use Rattle.tw_rule.specs.Place.{IsFrom, IsPlace, IsRunBefore, Keeps, Place, Tells, after_visit, core, in_hand, report_time, with_core, with_unsent};
 ghost use Rattle.tw_rule.specs.Rule.{AreOpeningPlaces, IsOpeningBoard, MayGive, Rule, Stands, assembled, owning};
 ghost use Rattle.tw_sim.specs.declared.machine.Signed.{Signed};
 ghost use Rattle.tw_sim.specs.Seq.{log};
@@ -31,7 +31,8 @@ pub fn running_is_seq<S, E>()
 {}
 
 /// Each router has one owner among the places, and what that place has of it is what the whole machine
-/// has. So what any place has committed at a router of its own is the one-thread run.
+/// has. So what any place has committed at a router of its own is the one-thread run, and so is what its
+/// routers have handled before the board's bound, or any earlier time.
 pub fn routers_have_owners<S, E>()
     ensures once { (m : Simulation S E) → IsLawful m → (who : ℕ → ℕ) (x : Board E) (ps : List (Place E)) (r : ℕ) → Rule m who x ps → r < m.routers
         → total (owning r) ps ≡ 1 }
@@ -39,6 +40,8 @@ pub fn routers_have_owners<S, E>()
         → slice_get ps i ≡ Some p → r < m.routers → p.owns r ≡ true → (assembled x ps).history r ≡ p.history r }
     ensures committed { (m : Simulation S E) → IsLawful m → IsNumbered m → (who : ℕ → ℕ) (x : Board E) (ps : List (Place E)) (i r : ℕ) (p : Place E) → Rule m who x ps
         → slice_get ps i ≡ Some p → r < m.routers → p.owns r ≡ true → below m (p.done r) (p.history r) ≡ only m r (log m (p.done r)) }
+    ensures before { (m : Simulation S E) → IsLawful m → IsNumbered m → (who : ℕ → ℕ) (x : Board E) (ps : List (Place E)) (i t : ℕ) (p : Place E) → Rule m who x ps
+        → slice_get ps i ≡ Some p → t ≤ x.bound → IsRunBefore m t p }
 {}
 
 /// Where there is no mail, every hand is empty and the bound is the stop, the places are at the end of the
@@ -54,7 +57,8 @@ pub fn settled_is_end<S, E>()
 /// What is done at a place, to the board's stop, keeps it: an event is handled; a message of the hand is
 /// received, with all that its receiver then undoes; only some of this is undone and the message is still
 /// in the hand, as where memory is refused; a commit; and messages move between those that are outgoing
-/// and those that are unsent. What is kept by one call and then by another is kept by both.
+/// and those that are unsent. What is kept by one call and then by another is kept by both. What is kept
+/// leaves what was handled before a time before which nothing is loose.
 pub fn calls_keep_places<S, E>()
     ensures same { (m : Simulation S E) (stop : ℕ) (p : Place E) → IsPlace m stop p → Keeps m stop p p }
     ensures both { (m : Simulation S E) (stop : ℕ) (p q r : Place E) → Keeps m stop p q → Keeps m stop q r → Keeps m stop p r }
@@ -69,6 +73,8 @@ pub fn calls_keep_places<S, E>()
         → ((e : E) → messages m e unsent + messages m e outgoing ≡ messages m e p.unsent + messages m e p.outgoing)
         → ((e : E) → antimessages m e unsent + antimessages m e outgoing ≡ antimessages m e p.unsent + antimessages m e p.outgoing)
         → Keeps m stop p (with_unsent unsent outgoing p) }
+    ensures before { (m : Simulation S E) → IsLawful m → (stop t : ℕ) (p q : Place E) → IsPlace m stop p → IsFrom m t p → Keeps m stop p q
+        → (r : ℕ) → below m t (q.history r) ≡ below m t (p.history r) }
 {}
 
 /// What a worker may give back: what calls have kept, without a visit, as where one was refused; and

@@ -1,7 +1,8 @@
-ghost use Rattle.std.specs.Prelude.{◌≡◌, IfOk};
+ghost use Rattle.std.specs.Prelude.{◌≡◌, true, IfOk};
 ghost use Rattle.tw_commands.specs.Seq.{shown};
 ghost use Rattle.tw_model.specs.Summary.{summary_of};
 ghost use Rattle.tw_parallel.specs.Ending.{IsSettled};
+ghost use Rattle.tw_parallel.specs.Sim.{KeepsEvents};
 ghost use Rattle.tw_seq.specs.Outcome.{outcome_of as outcome_of_run};
 ghost use Rattle.tw_seq.specs.Run.{complete_run};
 
@@ -9,10 +10,11 @@ use std::alloc::AllocError;
 use tw_model::Outcome;
 use tw_parallel::{Ending, NotSettled, OrMemory, Sim};
 
-/// What a run leaves that has come to its stop, its events only where `log` asks for them: it is what the
-/// one-thread run leaves.
+/// What a run leaves that has come to its stop, its events only where `log` asks for them, which it keeps then:
+/// it is what the one-thread run leaves.
 pub(crate) fn outcome_of(sim: &Sim<'_>, log: bool) -> Result<Outcome, AllocError>
-    requires { IsSettled sim.now }
+    requires settled { IsSettled sim.now }
+    requires log { log ≡ true → KeepsEvents sim.now }
     ensures { IfOk result (λ outcome. summary_of outcome ≡ shown log (outcome_of_run (complete_run sim.now.case sim.now.board.stop))) }
 {
     match sim.outcome(log) {

@@ -124,7 +124,7 @@ fn run_case<X: Threads + Wait + Sync>(
     ensures found { IfOk result (λ left. left.1 ≡ found_to case.now asked.stop asked.every) }
     ensures full { IsErrOf result stopped.CounterFull → RunsFull case.now }
 {
-    let sim = Sim::open(alloc, case, asked.workers)?;
+    let sim = Sim::open(alloc, case, asked.workers, asked.log)?;
     let (sim, found) = run_through(rt, alloc, sim, asked.stop, asked.every, asked.batch)?;
     Ok((outcome_of(&sim, asked.log)?, found))
 }

@@ -2,7 +2,7 @@ ghost use Rattle.std.specs.Prelude.{◌≡◌, ◌≤◌, ◌<◌, ◌/◌, IfOk
 ghost use Rattle.tw_commands.specs.Seq.{found_to};
 ghost use Rattle.tw_model.specs.declared.limits.TheConstants.{LATEST};
 ghost use Rattle.tw_parallel.specs.Ending.{IsSettled};
-ghost use Rattle.tw_parallel.specs.Sim.{IsSim};
+ghost use Rattle.tw_parallel.specs.Sim.{IsSim, KeepsEvents};
 ghost use Rattle.tw_run.specs.Full.{RunsFull};
 ghost use Rattle.tw_run.specs.declared.stopped.Stopped.TheVariants as stopped;
 ghost use Rattle.tw_shape.specs.Shape.{shape as shape_at};
@@ -28,6 +28,7 @@ fn run_to<'a, X: Threads + Wait + Sync>(
     ensures sim { IfOk result (λ s. IsSim s) }
     ensures case { IfOk result (λ s. s.case ≡ sim.entry.case) }
     ensures stop { IfOk result (λ s. s.board.stop ≡ stop) }
+    ensures keeps { KeepsEvents sim.entry → IfOk result (λ s. KeepsEvents s) }
     ensures full { IsErrOf result stopped.CounterFull → RunsFull sim.entry.case }
 {
     match run_until(rt, sim, stop, Options { batch }, &OpenGate) {
@@ -52,6 +53,7 @@ pub(crate) fn run_through<'a, X: Threads + Wait + Sync>(
     ensures settled { IfOk result (λ left. IsSettled left.0) }
     ensures case { IfOk result (λ left. left.0.case ≡ sim.entry.case) }
     ensures stop { IfOk result (λ left. left.0.board.stop ≡ stop) }
+    ensures keeps { KeepsEvents sim.entry → IfOk result (λ left. KeepsEvents left.0) }
     ensures found { IfOk result (λ left. left.1 ≡ found_to sim.entry.case stop every) }
     ensures full { IsErrOf result stopped.CounterFull → RunsFull sim.entry.case }
 {
@@ -81,6 +83,7 @@ fn run_watched<'a, X: Threads + Wait + Sync>(
     ensures settled { IfOk result (λ left. IsSettled left.0) }
     ensures case { IfOk result (λ left. left.0.case ≡ sim.entry.case) }
     ensures stop { IfOk result (λ left. left.0.board.stop ≡ stop) }
+    ensures keeps { KeepsEvents sim.entry → IfOk result (λ left. KeepsEvents left.0) }
     ensures found { IfOk result (λ left. left.1 ≡ finding sim.entry.case every (stop / every)) }
     ensures full { IsErrOf result stopped.CounterFull → RunsFull sim.entry.case }
 {

@@ -122,6 +122,7 @@ impl<'a> OneThread<'a> {
     }
 
     /// The least pending event, where it is before the stop.
+    #[inline]
     pub(crate) fn next(&self) -> Option<Event>
         ensures some { IfSome result (λ e. IsNext self.now e) }
         ensures none { IfNone result (NoneBefore self.now.stop self.now.pending) }
@@ -136,6 +137,7 @@ impl<'a> OneThread<'a> {
     }
 
     /// Handles the least pending event. An error leaves the run as it was.
+    #[inline]
     pub(crate) fn handle_next(&mut self, event: &Event) -> Result<(), OrMemory<CounterFull>>
         requires { IsNext self.old event.now }
         ensures ok { OnOk result (IsNextRun self.old self.new) }

@@ -21,6 +21,7 @@ use tw_router::Router;
 
 /// Handles an event at its router, puts what it sends at the end of `sends`, and answers what undoing it
 /// needs. An error leaves all unchanged.
+#[inline]
 pub(crate) fn handle_at(
     instance: &Instance,
     routers: &mut [Router<'_>],
@@ -69,6 +70,7 @@ pub(crate) fn undo_at(
 }
 
 /// Adds events for which there is room, each in its place.
+#[inline]
 pub(crate) fn insert_each(pending: &mut EventList, events: &[Event])
     requires homes { AreFor pending.old.routers events.now }
     requires room { length events.now ≤ pending.old.room }
@@ -76,7 +78,7 @@ pub(crate) fn insert_each(pending: &mut EventList, events: &[Event])
     ensures routers { pending.new.routers ≡ pending.old.routers }
 {
     for event in events {
-        pending.insert(*event).unwrap();
+        pending.insert(event).unwrap();
     }
 }
 

@@ -22,7 +22,7 @@ pending_shard a q is routers suit = record {
   whole = record {
     case = is.whole.case;
     worker = is.whole.worker;
-    routers = λ r own. let at = is.whole.routers r own in record { within = at.within; net = at.net; node = at.node; done = at.done };
+    routers = λ r own. let at = is.whole.routers r own in record { within = at.within; net = at.net; node = at.node; done = at.done; case = at.case; keeps = at.keeps };
     pending = suit;
   };
   pending = routers ∙ is.pending;

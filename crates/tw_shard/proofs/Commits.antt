@@ -110,26 +110,23 @@ change_now net v past steps time h is =
     ap (noted_change time) (sym (reverse-reverse steps)) ∙ changed_by net v past (reverse steps) time h is
 
 -- and in what is committed, with the first steps
-pub change_committed : (net : Net) (v n : ℕ) (past : List Event) (steps : List HandledEvent) (time : ℕ) → AreNoted net v (reverse past) (reverse steps)
-    → time ≡ last_change_at net v (reverse past) → noted_change time (take n steps) ≡ last_change_at net v (reverse (past ++ events_of (take n steps)))
+pub change_committed : (net : Net) (v n : ℕ) (past : List Event) (steps : List HandledEvent) (time : ℕ) → AreNoted net v past (reverse steps)
+    → time ≡ last_change_at net v past → noted_change time (take n steps) ≡ last_change_at net v (events_of (reverse (take n steps)) ++ past)
 change_committed net v n past steps time h is =
-    let older = noted_before net v (reverse past) (reverse (drop n steps)) (reverse (take n steps)) (subst (AreNoted net v (reverse past)) (parted n steps) h) in
-    change_now net v (reverse past) (take n steps) time older is ∙ ap (last_change_at net v) (sym (past_events past (take n steps)))
+    let older = noted_before net v past (reverse (drop n steps)) (reverse (take n steps)) (subst (AreNoted net v past) (parted n steps) h) in
+    change_now net v past (take n steps) time older is
 
-pub noted_left : (net : Net) (v n : ℕ) (past : List Event) (steps : List HandledEvent) → AreNoted net v (reverse past) (reverse steps)
-    → AreNoted net v (reverse (past ++ events_of (take n steps))) (reverse (drop n steps))
-noted_left net v n past steps h =
-    subst (λ l. AreNoted net v l (reverse (drop n steps))) (sym (past_events past (take n steps)))
-    (noted_after net v (reverse past) (reverse (drop n steps)) (reverse (take n steps)) (subst (AreNoted net v (reverse past)) (parted n steps) h))
+pub noted_left : (net : Net) (v n : ℕ) (past : List Event) (steps : List HandledEvent) → AreNoted net v past (reverse steps)
+    → AreNoted net v (events_of (reverse (take n steps)) ++ past) (reverse (drop n steps))
+noted_left net v n past steps h = noted_after net v past (reverse (drop n steps)) (reverse (take n steps)) (subst (AreNoted net v past) (parted n steps) h)
 
 -- the history is the same
 pub same_history : (n : ℕ) (past : List Event) (steps : List HandledEvent)
-    → events_of (reverse (drop n steps)) ++ reverse (past ++ events_of (take n steps)) ≡ events_of (reverse steps) ++ reverse past
+    → events_of (reverse (drop n steps)) ++ (events_of (reverse (take n steps)) ++ past) ≡ events_of (reverse steps) ++ past
 same_history n past steps =
     let newer = events_of (reverse (drop n steps)) in
     let older = events_of (reverse (take n steps)) in
-    ap (λ l. newer ++ l) (past_events past (take n steps))
-    ∙ (sym (append_assoc newer older (reverse past)) ∙ ap (λ l. l ++ reverse past) (sym (events_parted n steps)))
+    sym (append_assoc newer older past) ∙ ap (λ l. l ++ past) (sym (events_parted n steps))
 
 all-append : {X : Type 0} (P : X → Type 0) (xs ys : List X) → AllByRecursion P xs → AllByRecursion P ys → AllByRecursion P (xs ++ ys)
 all-append P [] ys h k = k
@@ -139,7 +136,7 @@ all-reverse : {X : Type 0} (P : X → Type 0) (xs : List X) → AllByRecursion P
 all-reverse P [] h = tt
 all-reverse P (x ∷ xs) h = subst (AllByRecursion P) (sym (reverse-append (x ∷ []) xs)) (all-append P (reverse xs) (x ∷ []) (all-reverse P xs h.1) (h.0, tt))
 
-all_early : (time : ℕ) (steps : List HandledEvent)
+pub all_early : (time : ℕ) (steps : List HandledEvent)
     → AllByRecursion (λ e. e.time < time) (events_of (take (prefix_len (λ d. nat_lt d.event.time time) steps) steps))
 all_early time [] = tt
 all_early time (d ∷ steps) =
@@ -153,20 +150,19 @@ all_early time (d ∷ steps) =
 
 -- all that is committed is before the bound
 pub past_early : (done time n : ℕ) (past : List Event) (steps : List HandledEvent) → done ≤ time → n ≡ prefix_len (λ d. nat_lt d.event.time time) steps
-    → AllByRecursion (λ e. e.time < done) (reverse past) → AllByRecursion (λ e. e.time < time) (reverse (past ++ events_of (take n steps)))
+    → AllByRecursion (λ e. e.time < done) past → AllByRecursion (λ e. e.time < time) (events_of (reverse (take n steps)) ++ past)
 past_early done time n past steps later is old =
-    let new : AllByRecursion (λ e. e.time < time) (events_of (take n steps)) =
-    subst (λ k. AllByRecursion (λ e. e.time < time) (events_of (take k steps))) (sym is) (all_early time steps) in
-    let before : AllByRecursion (λ e. e.time < time) (reverse past) = all_map (λ (e : Event). e.time < done) (λ e. e.time < time) (λ e h. omega arith) (reverse past) old in
-    subst (AllByRecursion (λ (e : Event). e.time < time)) (sym (reverse-append past (events_of (take n steps))))
-    (all-append (λ (e : Event). e.time < time) (reverse (events_of (take n steps))) (reverse past) (all-reverse (λ (e : Event). e.time < time) (events_of (take n steps)) new) before)
+    let early = λ (e : Event). e.time < time in
+    let new : AllByRecursion early (events_of (take n steps)) = subst (λ k. AllByRecursion early (events_of (take k steps))) (sym is) (all_early time steps) in
+    let newest : AllByRecursion early (events_of (reverse (take n steps))) =
+    subst (AllByRecursion early) (ap reverse (sym (events-reverse (take n steps))) ∙ reverse-reverse (events_of (reverse (take n steps)))) (all-reverse early (events_of (take n steps)) new) in
+    all-append early (events_of (reverse (take n steps))) past newest (all_map (λ (e : Event). e.time < done) early (λ e h. omega arith) past old)
 
 -- ---- reads
 
 -- the events, the oldest first
-pub oldest_first : (past : List Event) (steps : List HandledEvent) → reverse (events_of (reverse steps) ++ reverse past) ≡ past ++ events_of steps
-oldest_first past steps =
-    reverse-append (events_of (reverse steps)) (reverse past) ∙ ap₂ (λ xs ys. xs ++ ys) (reverse-reverse past) (events-reverse steps)
+pub oldest_first : (past : List Event) (steps : List HandledEvent) → reverse (events_of (reverse steps) ++ past) ≡ reverse past ++ events_of steps
+oldest_first past steps = reverse-append (events_of (reverse steps)) past ∙ ap (λ ys. reverse past ++ ys) (events-reverse steps)
 
 slice_get-append : {A : Type 0} (xs ys : List A) (k : ℕ) → slice_get (xs ++ ys) (length xs + k) ≡ slice_get ys k
 slice_get-append [] ys k = ap (slice_get ys) (omega arith)
@@ -176,10 +172,11 @@ slice_get-append (x ∷ xs) ys k =
 
 -- an event that can be undone stands after the committed ones
 pub ahead_at : (past : List Event) (steps : List HandledEvent) (k : ℕ) → length past ≤ k
-    → slice_get (events_of steps) (k - length past) ≡ slice_get (reverse (events_of (reverse steps) ++ reverse past)) k
+    → slice_get (events_of steps) (k - length past) ≡ slice_get (reverse (events_of (reverse steps) ++ past)) k
 ahead_at past steps k after =
-    let place : length past + (k - length past) ≡ k = omega arith in
-    sym (slice_get-append past (events_of steps) (k - length past)) ∙ ap₂ slice_get (sym (oldest_first past steps)) place
+    let long = length-reverse past in
+    let place : length (reverse past) + (k - length past) ≡ k = omega arith in
+    sym (slice_get-append (reverse past) (events_of steps) (k - length past)) ∙ ap₂ slice_get (sym (oldest_first past steps)) place
 
 slice_get-front : {A : Type 0} (xs ys : List A) (k : ℕ) → k < length xs → slice_get (xs ++ ys) k ≡ slice_get xs k
 slice_get-front [] ys k h = absurd (omega arith)
@@ -187,10 +184,11 @@ slice_get-front (x ∷ xs) ys zero h = refl
 slice_get-front (x ∷ xs) ys (suc k) h = slice_get-front xs ys k (omega arith)
 
 pub past_at : (past : List Event) (steps : List HandledEvent) (k : ℕ) → k < length past
-    → slice_get past k ≡ slice_get (reverse (events_of (reverse steps) ++ reverse past)) k
-past_at past steps k within = sym (slice_get-front past (events_of steps) k within) ∙ ap (λ l. slice_get l k) (sym (oldest_first past steps))
+    → slice_get (reverse past) k ≡ slice_get (reverse (events_of (reverse steps) ++ past)) k
+past_at past steps k within =
+    sym (slice_get-front (reverse past) (events_of steps) k (let long = length-reverse past in omega arith)) ∙ ap (λ l. slice_get l k) (sym (oldest_first past steps))
 
-all_pass : (time : ℕ) (events : List Event) → AllByRecursion (λ e. e.time < time) events → filter (λ e. nat_lt e.time time) events ≡ events
+pub all_pass : (time : ℕ) (events : List Event) → AllByRecursion (λ e. e.time < time) events → filter (λ e. nat_lt e.time time) events ≡ events
 all_pass time [] h = refl
 all_pass time (e ∷ events) h = rw (lt-ltb e.time time h.0) (ap (λ l. e ∷ l) (all_pass time events h.1))
 
@@ -207,12 +205,12 @@ counted p (d ∷ steps) =
     omega arith
 
 -- how many are before a time that all committed ones are before
-pub count_early : (time : ℕ) (past : List Event) (steps : List HandledEvent) → AllByRecursion (λ e. e.time < time) (reverse past)
-    → length past + count_by (λ d. nat_lt d.event.time time) steps ≡ length (filter (λ e. nat_lt e.time time) (events_of (reverse steps) ++ reverse past))
+pub count_early : (time : ℕ) (past : List Event) (steps : List HandledEvent) → AllByRecursion (λ e. e.time < time) past
+    → length past + count_by (λ d. nat_lt d.event.time time) steps ≡ length (filter (λ e. nat_lt e.time time) (events_of (reverse steps) ++ past))
 count_early time past steps early =
     let p = λ (e : Event). nat_lt e.time time in
-    let split = ap length (filter-append p (events_of (reverse steps)) (reverse past)) ∙ length-append (filter p (events_of (reverse steps))) (filter p (reverse past)) in
-    let old = ap length (all_pass time (reverse past) early) ∙ length-reverse past in
+    let split = ap length (filter-append p (events_of (reverse steps)) past) ∙ length-append (filter p (events_of (reverse steps))) (filter p past) in
+    let old = ap length (all_pass time past early) in
     let new = length-filter p (events_of (reverse steps)) ∙ counted p steps in
     omega arith
 

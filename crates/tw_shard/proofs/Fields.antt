@@ -37,13 +37,14 @@ pub record IsChanged (a b : Inside) (r : ℕ) (t : Timeline) : Type 0 where
   pub timelines : b.timelines.items ≡ set a.timelines.items (place (shard_of a) r) t
   pub kept : b.kept.events ≡ a.kept.events
   pub bound : b.bound ≡ a.bound
+  pub keeps : b.keeps ≡ a.keeps
   pub pending_routers : b.pending.routers ≡ a.pending.routers
   pub kept_routers : b.kept.routers ≡ a.kept.routers
 
 pub changed_shard : (a b : Inside) (r : ℕ) (t : Timeline) → IsShard a → owns (shard_of a) r ≡ true → IsChanged a b r t
-    → t.net ≡ (shard_of a).case.net → t.node ≡ r → t.done ≤ a.bound
+    → t.net ≡ (shard_of a).case.net → t.node ≡ r → t.done ≤ a.bound → t.case ≡ (shard_of a).case → t.keeps ≡ (shard_of a).keeps
     → AllByRecursion (λ e. suits (shard_of a).case.net e.dst e ≡ true) b.pending.events → IsShard b
-changed_shard a b r t is mine h net node done suit = record {
+changed_shard a b r t is mine h net node done case keeps suit = record {
   whole =
       subst IsWhole (λ i. record {
         case = sym h.case i;
@@ -54,7 +55,8 @@ changed_shard a b r t is mine h net node done suit = record {
         kept = sym h.kept i;
         outgoing = b.outgoing.items;
         bound = sym h.bound i;
-      }) (whole_after (shard_of a) r t b.pending.events b.outgoing.items is.whole mine net node done suit);
+        keeps = sym h.keeps i;
+      }) (whole_after (shard_of a) r t b.pending.events b.outgoing.items is.whole mine net node done case keeps suit);
   pending = h.pending_routers ∙ (is.pending ∙ ap (λ c. c.net.nodes) (sym h.case));
   kept = h.kept_routers ∙ (is.kept ∙ ap (λ c. c.net.nodes) (sym h.case));
 }

@@ -3,6 +3,7 @@ pub mod Comings
 pub mod Commits
 pub mod Fields
 pub mod Histories
+pub mod LettingGo
 pub mod Openings
 pub mod Queues
 pub mod Reports

@@ -52,20 +52,20 @@ one_more f n xs ys x pushed old new = pushed ∙ (ap₂ (λ l y. l ++ y ∷ []) 
 pub record IsBegun (s : Shard) : Type 0 where
   pub case : IsCase s.case
   pub worker : s.worker < s.workers
-  pub timelines : s.timelines ≡ map (λ k. opening_timeline s.case.net (s.worker + s.workers * k)) (range_with_len 0 (div_ceil (s.case.net.nodes - s.worker) s.workers))
+  pub timelines : s.timelines ≡ map (λ k. opening_timeline s.case s.keeps (s.worker + s.workers * k)) (range_with_len 0 (div_ceil (s.case.net.nodes - s.worker) s.workers))
   pub pending : s.pending ≡ insert_all event_before (filter (λ e. e.dst % s.workers == s.worker) (opening_events s.case.scenes)) []
   pub kept : s.kept ≡ []
   pub outgoing : s.outgoing ≡ []
   pub bound : s.bound ≡ 0
 
-pub begun : (s : Shard) (net : Net) → net ≡ s.case.net → IsCase s.case → s.worker < s.workers
-    → s.timelines ≡ map (λ k. opening_timeline net (s.worker + s.workers * k)) (range_with_len 0 (div_ceil (net.nodes - s.worker) s.workers))
+pub begun : (s : Shard) → IsCase s.case → s.worker < s.workers
+    → s.timelines ≡ map (λ k. opening_timeline s.case s.keeps (s.worker + s.workers * k)) (range_with_len 0 (div_ceil (s.case.net.nodes - s.worker) s.workers))
     → s.pending ≡ insert_all event_before (filter (λ e. e.dst % s.workers == s.worker) (opening_events s.case.scenes)) []
     → s.kept ≡ [] → s.outgoing ≡ [] → s.bound ≡ 0 → IsBegun s
-begun s net same case worker timelines pending kept outgoing bound = record {
+begun s case worker timelines pending kept outgoing bound = record {
   case = case;
   worker = worker;
-  timelines = timelines ∙ ap (λ (net : Net). map (λ k. opening_timeline net (s.worker + s.workers * k)) (range_with_len 0 (div_ceil (net.nodes - s.worker) s.workers))) same;
+  timelines = timelines;
   pending = pending;
   kept = kept;
   outgoing = outgoing;
@@ -93,14 +93,14 @@ module _ (s : Shard) (is : IsBegun s) where
       ]
 
   -- each of them is as it begins
-  pub opened : (r : ℕ) → owns s r ≡ true → timeline s r ≡ opening_timeline s.case.net r
+  pub opened : (r : ℕ) → owns s r ≡ true → timeline s r ≡ opening_timeline s.case s.keeps r
   opened r mine =
-      let f = λ (k : ℕ). opening_timeline s.case.net (s.worker + s.workers * k) in
+      let f = λ (k : ℕ). opening_timeline s.case s.keeps (s.worker + s.workers * k) in
       ap (λ l. get_or l (place s r) no_timeline) is.timelines
-      ∙ (get_or-map-range_with_len f 0 count (place s r) (place s r) no_timeline (place_within r mine) (omega arith) ∙ ap (opening_timeline s.case.net) (router_at r mine))
+      ∙ (get_or-map-range_with_len f 0 count (place s r) (place s r) no_timeline (place_within r mine) (omega arith) ∙ ap (opening_timeline s.case s.keeps) (router_at r mine))
 
   -- what is read of each router is what is there where there is none
-  read_opened : {A : Type 0} (read : Timeline → A) (none : A) → ((r : ℕ) → read (opening_timeline s.case.net r) ≡ none)
+  read_opened : {A : Type 0} (read : Timeline → A) (none : A) → ((r : ℕ) → read (opening_timeline s.case s.keeps r) ≡ none)
       → ◌≡◌ {A = ℕ → A} (λ r. if owns s r then read (timeline s r) else none) (λ r. none)
   read_opened read none same =
       fun_ext (λ r. elim (cases_Bool (owns s r)) [
@@ -115,11 +115,13 @@ module _ (s : Shard) (is : IsBegun s) where
     routers = λ r mine. record {
       within =
           let place = place_within r mine in
-          let long = ap length is.timelines ∙ length-map-range_with_len (λ (k : ℕ). opening_timeline s.case.net (s.worker + s.workers * k)) 0 count in
+          let long = ap length is.timelines ∙ length-map-range_with_len (λ (k : ℕ). opening_timeline s.case s.keeps (s.worker + s.workers * k)) 0 count in
           omega arith;
       net = ap (λ t. t.net) (opened r mine);
       node = ap (λ t. t.node) (opened r mine);
       done = let done = ap (λ t. t.done) (opened r mine) in omega arith;
+      case = ap (λ t. t.case) (opened r mine);
+      keeps = ap (λ t. t.keeps) (opened r mine);
     };
     pending =
         let P = λ (e : Event). suits s.case.net e.dst e ≡ true in

@@ -69,8 +69,8 @@ module _ (s : Shard) (r : ℕ) (t : Timeline) (pending : List Event) (outgoing :
       ])
 
   -- the shard stays whole
-  pub whole_after : t.net ≡ s.case.net → t.node ≡ r → t.done ≤ s.bound → AllByRecursion (λ e. suits s.case.net e.dst e ≡ true) pending → IsWhole after
-  whole_after net node done suit = record {
+  pub whole_after : t.net ≡ s.case.net → t.node ≡ r → t.done ≤ s.bound → t.case ≡ s.case → t.keeps ≡ s.keeps → AllByRecursion (λ e. suits s.case.net e.dst e ≡ true) pending → IsWhole after
+  whole_after net node done case keeps suit = record {
     case = whole.case;
     worker = whole.worker;
     routers = λ q ours. record {
@@ -78,6 +78,8 @@ module _ (s : Shard) (r : ℕ) (t : Timeline) (pending : List Event) (outgoing :
       net = each_timeline (λ p t. t.net ≡ s.case.net) net (λ p h. (whole.routers p h).net) q ours;
       node = each_timeline (λ p t. t.node ≡ p) node (λ p h. (whole.routers p h).node) q ours;
       done = each_timeline (λ p t. t.done ≤ s.bound) done (λ p h. (whole.routers p h).done) q ours;
+      case = each_timeline (λ p t. t.case ≡ s.case) case (λ p h. (whole.routers p h).case) q ours;
+      keeps = each_timeline (λ p t. t.keeps ≡ s.keeps) keeps (λ p h. (whole.routers p h).keeps) q ours;
     };
     pending = suit;
   }

@@ -14,6 +14,7 @@ shard_of a = record {
   kept = a.kept.events;
   outgoing = a.outgoing.items;
   bound = a.bound;
+  keeps = a.keeps;
 }
 
 -- it is whole, and what waits is for routers of the case

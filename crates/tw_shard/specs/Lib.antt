@@ -1,5 +1,6 @@
 pub mod Arrival
 pub mod Commit
 pub mod Inside
+pub mod Past
 pub mod Shard
 pub mod Timeline

@@ -9,9 +9,11 @@ use Rattle.tw_event.specs.declared.event.Event.{Event}
 use Rattle.tw_event.specs.Order.{event_before, event_same}
 use Rattle.tw_model.specs.Case.{Case, IsCase, opening_events, simulation}
 use Rattle.tw_model.specs.Effect.{suits}
+use Rattle.tw_shard.specs.Past.{run_of}
 use Rattle.tw_shard.specs.Timeline.{Timeline, history, sends_after, signed}
 use Rattle.tw_sim.specs.declared.machine.Signed.{Signed}
 use Rattle.tw_sim.specs.Ordered.{insert, insert_all, take_out}
+use Rattle.tw_sim.specs.Simulation.{IsFalling, below}
 
 -- the routers of one of so many workers, with what waits for them and what they have sent
 pub record Shard : Type 0 where
@@ -26,6 +28,8 @@ pub record Shard : Type 0 where
   -- what waits to be sent, in order
   pub outgoing : List (Signed Event)
   pub bound : ℕ
+  -- whether its routers keep their committed events
+  pub keeps : Bool
 
 -- whether r is one of its routers: routers are dealt out to workers in turn
 abbrev pub owns : Shard → ℕ → Bool
@@ -37,7 +41,15 @@ place s r = r / s.workers
 
 -- what stands where there is no router
 abbrev pub no_timeline : Timeline
-no_timeline = record { net = record { nodes = 0; links = []; permitted = [] }; node = 0; ahead = []; past = []; done = 0 }
+no_timeline = record {
+  net = record { nodes = 0; links = []; permitted = [] };
+  node = 0;
+  ahead = [];
+  past = [];
+  done = 0;
+  case = record { net = record { nodes = 0; links = []; permitted = [] }; scenes = [] };
+  keeps = true;
+}
 
 -- router r, which is one of its own
 abbrev pub timeline : Shard → ℕ → Timeline
@@ -79,11 +91,12 @@ handling stop s r = let m = simulation s.case in at_own s r (handle m (core stop
 abbrev pub undoing : ℕ → Shard → ℕ → Result (Core Event) Refusal
 undoing stop s r = let m = simulation s.case in at_own s r (undo m (core stop s) r ((core stop s).history r))
 
--- the later shard has the same case, and is the same worker's
+-- the later shard has the same case, is the same worker's, and keeps as much
 pub record IsSameShare (s t : Shard) : Type 0 where
   pub case : t.case ≡ s.case
   pub worker : t.worker ≡ s.worker
   pub workers : t.workers ≡ s.workers
+  pub keeps : t.keeps ≡ s.keeps
 
 -- with another timeline of router r
 abbrev pub with_timeline : Shard → ℕ → Timeline → Shard
@@ -128,6 +141,13 @@ pub record IsOwn (s : Shard) (r : ℕ) : Type 0 where
   pub net : (timeline s r).net ≡ s.case.net
   pub node : (timeline s r).node ≡ r
   pub done : (timeline s r).done ≤ s.bound
+  pub case : (timeline s r).case ≡ s.case
+  pub keeps : (timeline s r).keeps ≡ s.keeps
+
+-- the history of router r is in order, and before the bound it is that of the one-thread run
+pub record HasRun (s : Shard) (r : ℕ) : Type 0 where
+  pub falling : IsFalling (simulation s.case) ((core 0 s).history r)
+  pub run : below (simulation s.case) s.bound ((core 0 s).history r) ≡ run_of s.case r s.bound
 
 -- each of its routers is there, and what is pending suits its receiver
 pub record IsWhole (s : Shard) : Type 0 where

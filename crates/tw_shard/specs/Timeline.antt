@@ -3,12 +3,15 @@ use Rattle.std.specs.Prelude.{ℕ, ◌≡◌, ◌<◌, ◌==◌, Bool, not, List
 use Rattle.std.specs.List.{AllByRecursion}
 use Rattle.tw_event.specs.declared.event.Event.{Event}
 use Rattle.tw_handlers.specs.Record.{IsHandled}
+use Rattle.tw_model.specs.Case.{Case, IsCase, simulation}
 use Rattle.tw_model.specs.Effect.{effect}
 use Rattle.tw_model.specs.Net.{Net}
 use Rattle.tw_model.specs.State.{Router, State, opening}
 use Rattle.tw_shard.specs.declared.timeline.HandledEvent.{HandledEvent}
 use Rattle.tw_shard.specs.declared.timeline.Timeline.TheInside.{Inside}
+use Rattle.tw_shard.specs.Past.{run_of}
 use Rattle.tw_sim.specs.declared.machine.Signed.{Signed}
+use Rattle.tw_sim.specs.Simulation.{IsFalling, below}
 
 -- the router of this number, the events that it can undo and those that are committed, the newest first, and the bound at its latest commit
 pub record Timeline : Type 0 where
@@ -17,6 +20,10 @@ pub record Timeline : Type 0 where
   pub ahead : List Event
   pub past : List Event
   pub done : ℕ
+  -- the case that it is a router of
+  pub case : Case
+  -- whether it keeps its committed events, or lets them go
+  pub keeps : Bool
 
 -- all that the router has handled and not undone
 abbrev pub history : Timeline → List Event
@@ -41,8 +48,8 @@ abbrev pub router_of : Timeline → Router
 router_of t = record { net = t.net; node = t.node; state = known t.net t.node (history t) }
 
 -- nothing is handled
-abbrev pub opening_timeline : Net → ℕ → Timeline
-opening_timeline net v = record { net = net; node = v; ahead = []; past = []; done = 0 }
+abbrev pub opening_timeline : Case → Bool → ℕ → Timeline
+opening_timeline case keeps v = record { net = case.net; node = v; ahead = []; past = []; done = 0; case = case; keeps = keeps }
 
 -- what e sends, or sent, after this history
 abbrev pub sends_after : Timeline → List Event → Event → List Event
@@ -73,14 +80,23 @@ timeline_of a = record {
   net = a.router.net;
   node = a.router.node;
   ahead = events_of (reverse a.ahead.items);
-  past = reverse a.past.items;
-  done = a.done;
+  past = a.past.events;
+  done = a.past.done;
+  case = a.past.case;
+  keeps = a.past.keeps;
 }
 
 -- the router and the records are those of the history, committed events are before the bound at the latest commit, and the time of
 -- the last change is theirs
 pub record IsTimeline (a : Inside) : Type 0 where
   pub state : a.router.state ≡ known a.router.net a.router.node (history (timeline_of a))
-  pub noted : AreNoted a.router.net a.router.node (reverse a.past.items) (reverse a.ahead.items)
-  pub past : AllByRecursion (λ e. e.time < a.done) (reverse a.past.items)
-  pub change : a.past_change ≡ last_change_at a.router.net a.router.node (reverse a.past.items)
+  pub noted : AreNoted a.router.net a.router.node a.past.events (reverse a.ahead.items)
+  pub past : AllByRecursion (λ e. e.time < a.past.done) a.past.events
+  pub change : a.past_change ≡ last_change_at a.router.net a.router.node a.past.events
+  pub node : a.past.node ≡ a.router.node
+  pub is_case : IsCase a.past.case
+
+-- the history is in order, and before this time it is that of the one-thread run
+pub record IsRunBefore (time : ℕ) (t : Timeline) : Type 0 where
+  pub falling : IsFalling (simulation t.case) (history t)
+  pub run : below (simulation t.case) time (history t) ≡ run_of t.case t.node time

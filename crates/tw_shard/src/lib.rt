@@ -9,6 +9,7 @@
 #![tactic(auto)]
 
 pub mod laws;
+mod past;
 mod receiving;
 mod rejection;
 mod shard;

@@ -45,6 +45,7 @@ pub struct Shard<'a> {
     outgoing: Vec<Signed<Event>>,
     sends: SmallVec<Event, 8>,
     bound: u64,
+    keeps: bool,
 }
 
 impl<'a> Model for Shard<'a> {
@@ -129,6 +130,13 @@ impl<'a> Shard<'a> {
         ensures { result ≡ self.now.bound }
     {
         self.bound
+    }
+
+    /// Whether its routers keep their committed events, so that these can be read.
+    pub fn keeps(&self) -> bool
+        ensures { result ≡ self.now.keeps }
+    {
+        self.keeps
     }
 
     /// One of its routers, as the events that it has handled left it.

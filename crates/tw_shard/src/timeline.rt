@@ -16,12 +16,13 @@ ghost use Rattle.tw_shard.specs.Timeline.{history, opening_timeline, router_of a
 
 mod committing;
 
+use crate::past::Past;
 use smallvec::SmallVec;
 use std::alloc::{AllocError, Global};
 use std::marker::Model;
 use tw_event::Event;
 use tw_handlers::{CounterFull, UndoRecord, handle_fitting, undo};
-use tw_instance::Instance;
+use tw_instance::{Case, Instance};
 use tw_model::OrMemory;
 use tw_model::limits::MOST_LINKS;
 use tw_router::Router;
@@ -30,7 +31,7 @@ use tw_sim::Signed;
 /// An event that was handled, and what undoing it needs.
 #[derive(Clone, Copy)]
 pub(crate) struct HandledEvent {
-    event: Event,
+    pub(crate) event: Event,
     note: UndoRecord,
 }
 
@@ -39,9 +40,8 @@ pub(crate) struct HandledEvent {
 #[derive(Drop)]
 pub(crate) struct Timeline<'a> {
     router: Router<'a>,
-    past: Vec<Event>,
+    past: Past<'a>,
     ahead: Vec<HandledEvent>,
-    done: u64,
     // The time of the last event of `past` that changed the router's path, or 0.
     past_change: u64,
 }
@@ -57,20 +57,21 @@ impl<'a> Model for Timeline<'a> {
 }
 
 impl<'a> Timeline<'a> {
-    /// The router of this number before it has handled anything.
+    /// The router of this number before it has handled anything, which keeps its committed events or lets
+    /// them go.
     pub(crate) fn open(
         alloc: Global,
-        instance: &'a Instance,
+        case: &'a Case,
         node: u32,
+        keeps: bool,
     ) -> Result<Timeline<'a>, AllocError>
-        requires { node < instance.now.nodes }
-        ensures { IfOk result (λ timeline. timeline ≡ opening_timeline instance.now node) }
+        requires { node < case.now.net.nodes }
+        ensures { IfOk result (λ timeline. timeline ≡ opening_timeline case.now keeps node) }
     {
         Ok(Timeline {
-            router: Router::new(alloc, instance, node)?,
-            past: Vec::new(alloc),
+            router: Router::new(alloc, case.instance(), node)?,
+            past: Past::new(alloc, case, node, keeps),
             ahead: Vec::new(alloc),
-            done: 0,
             past_change: 0,
         })
     }
@@ -86,7 +87,7 @@ impl<'a> Timeline<'a> {
     pub(crate) fn done(&self) -> u64
         ensures { result ≡ self.now.done }
     {
-        self.done
+        self.past.done()
     }
 
     /// The event that it handled last and has not undone, whether committed or not.

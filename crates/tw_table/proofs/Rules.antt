@@ -1,5 +1,5 @@
 -- The rule over shares: they may stand in any order, and one of them is given.
-use Rattle.std.proofs.Common.{◌≡◌, ℕ, ◌+◌, List, [], ◌∷◌, length, map, refl, ap, sym, ◌∙◌, subst, arith}
+use Rattle.std.proofs.Common.{◌≡◌, ℕ, ◌+◌, ◌≤◌, List, [], ◌∷◌, length, map, Some, slice_get, refl, ap, sym, ◌∙◌, subst, arith}
 use Rattle.std.specs.List.{AllByRecursion}
 use Rattle.tw_core.specs.Good.{times_there}
 use Rattle.tw_core.specs.Parts.{times_wanted, total}
@@ -8,8 +8,9 @@ use Rattle.tw_exchange.specs.Board.{Board, owner, workers}
 use Rattle.tw_model.proofs.Lawful.{lawful, numbered}
 use Rattle.tw_model.specs.Case.{Case, simulation}
 use Rattle.tw_rule.proofs.Gives.{rule_gives}
-use Rattle.tw_rule.proofs.Ruled.{good_of_rule, seq_of_rule}
-use Rattle.tw_rule.specs.Place.{Place, whole}
+use Rattle.tw_rule.proofs.Places.{all_at, get_map}
+use Rattle.tw_rule.proofs.Ruled.{before_of, good_of_rule, seq_of_rule}
+use Rattle.tw_rule.specs.Place.{IsRunBefore, Place, whole}
 use Rattle.tw_rule.specs.Rule.{MayGive, Rule, Stands, is_at}
 use Rattle.tw_table.specs.Shares.{IsRuled, IsWhole, MayBeGiven, Share, board_of, place_of}
 
@@ -83,3 +84,12 @@ whole_of case x shares ruled = record {
   good = good_of_rule (simulation case) (lawful case ruled.is_case) (owner (workers x)) (board_of x) (map place_of shares) ruled.rule;
   seq = seq_of_rule (simulation case) (lawful case ruled.is_case) (owner (workers x)) (numbered case ruled.is_case) (board_of x) (map place_of shares) ruled.rule;
 }
+
+-- before the bound of the exchange, and each earlier time, what a worker's routers have handled is the one-thread run
+pub run_before : (case : Case) (x : Board) (shares : List Share) (i t : ℕ) (s : Share) → IsRuled case x shares → slice_get shares i ≡ Some s → t ≤ x.bound
+    → IsRunBefore (simulation s.shard.case) t (place_of s)
+run_before case x shares i t s ruled there le =
+    let same : s.shard.case ≡ case = all_at (λ (z : Share). z.shard.case ≡ case) shares i s there ruled.cases in
+    subst (λ (c : Case). IsRunBefore (simulation c) t (place_of s)) (sym same)
+    (before_of (simulation case) (lawful case ruled.is_case) (owner (workers x)) (numbered case ruled.is_case) (board_of x) (map place_of shares) i t (place_of s) ruled.rule
+    (get_map place_of shares i s there) le)

@@ -1,5 +1,5 @@
 -- What a worker has beside the exchange, and the rule over all workers (own, after Jefferson, Virtual Time, 1985).
-use Rattle.std.specs.Prelude.{◌≡◌, List, [], drop, length, map, zip}
+use Rattle.std.specs.Prelude.{◌≡◌, true, List, [], drop, length, map, zip}
 use Rattle.std.specs.List.{AllByRecursion}
 use Rattle.tw_core.specs.Good.{IsGood}
 use Rattle.tw_core.specs.Run.{IsSeq}
@@ -41,6 +41,7 @@ no_share = record {
     kept = [];
     outgoing = [];
     bound = 0;
+    keeps = true;
   };
   mail = [];
   unsent = [];

@@ -1,14 +1,15 @@
 //! Laws of the table, over its definitions alone. Each function does nothing; its contract is the law.
 
-ghost use Rattle.std.specs.Prelude.{ℕ, ◌≡◌, ◌<◌, false, List, Option, length, map};
+ghost use Rattle.std.specs.Prelude.{ℕ, ◌≡◌, ◌<◌, ◌≤◌, false, List, Option, Some, length, map, slice_get};
 ghost use Rattle.std.specs.List.{range_with_len};
 ghost use Rattle.tw_event.specs.declared.event.Event.{Event};
 ghost use Rattle.tw_exchange.specs.Board.{Board, IsBoard, handed, is_early, opening, owner, visited, workers};
 ghost use Rattle.tw_model.specs.Case.{Case, IsCase, simulation};
 ghost use Rattle.tw_rule.specs.Board.{IsVisit};
+ghost use Rattle.tw_rule.specs.Place.{IsRunBefore};
 ghost use Rattle.tw_sim.specs.declared.machine.Signed.{Signed};
 ghost use Rattle.tw_table.specs.Openings.{AreNew};
-ghost use Rattle.tw_table.specs.Shares.{IsRuled, Share, board_of};
+ghost use Rattle.tw_table.specs.Shares.{IsRuled, Share, board_of, place_of};
 
 /// A new exchange, and for each of its workers in turn a shard as it opens and an empty hand, keep the
 /// rule. So a table can be opened with them.
@@ -23,4 +24,11 @@ pub fn new_is_ruled()
 pub fn visits_are_exact()
     ensures { (case : Case) (x : Board) (w : ℕ) (out : List (Signed Event)) (report : Option ℕ) → IsCase case → IsBoard x → w < workers x → is_early out report x ≡ false
         → IsVisit (simulation case) (owner (workers x)) w out report (handed w out x) (board_of x) (board_of (visited w out report x)) }
+{}
+
+/// Where the exchange and the shares of all workers keep the rule, each worker's routers have handled what
+/// the one-thread run has, before the bound of the exchange and each earlier time.
+pub fn shares_are_the_run()
+    ensures { (case : Case) (x : Board) (shares : List Share) (i t : ℕ) (s : Share) → IsRuled case x shares → slice_get shares i ≡ Some s → t ≤ x.bound
+        → IsRunBefore (simulation s.shard.case) t (place_of s) }
 {}

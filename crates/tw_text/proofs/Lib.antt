@@ -21,3 +21,4 @@ pub mod Told
 pub mod ReplayTold
 pub mod Digits
 pub mod PathLines
+pub mod FirstBytes

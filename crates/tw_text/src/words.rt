@@ -6,6 +6,7 @@ ghost use Rattle.tw_text.specs.Statements.{number_of};
 ghost use Rattle.tw_text.specs.Words.{is_plain, line_feed, words};
 
 use crate::text_fault::LineFault;
+use memchr::memchr;
 use std::alloc::{AllocError, Global};
 use tw_model::limits::MOST_DIGITS;
 
@@ -33,7 +34,7 @@ pub(crate) fn split_words(alloc: Global, line: &[u8]) -> Result<Vec<&[u8]>, Allo
 pub(crate) fn line_end(text: &[u8]) -> Option<usize>
     ensures { result ≡ position (λ b. b == line_feed) text.now }
 {
-    text.iter().position(|byte| *byte == b'\n')
+    memchr(b'\n', text)
 }
 
 /// The number that a word is: at most ten digits, with no zero in front.

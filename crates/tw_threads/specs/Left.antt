@@ -19,6 +19,8 @@ pub record HasLeft (t : Table) (before after : Seat) : Type 0 where
   pub case : (share_at after).shard.case ≡ (share_at before).shard.case
   pub worker : (share_at after).shard.worker ≡ (share_at before).shard.worker
   pub workers : (share_at after).shard.workers ≡ (share_at before).shard.workers
+  -- and its routers keep their committed events, or let them go, as before
+  pub keeps : (share_at after).shard.keeps ≡ (share_at before).shard.keeps
 
 -- a counter of one of a shard's routers would pass its limit at its next event
 abbrev pub IsFull : ℕ → Shard → Type 0

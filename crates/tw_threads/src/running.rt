@@ -51,6 +51,7 @@ pub fn run_all<W: Work + Send + Drop, G: Gate + Sync, R: Threads + Wait + Sync>(
     ensures cases { map (λ w. (W.share w).shard.case) result.workers.items ≡ map (λ w. (W.share w).shard.case) workers.items }
     ensures numbers { map (λ w. (W.share w).shard.worker) result.workers.items ≡ map (λ w. (W.share w).shard.worker) workers.items }
     ensures counts { map (λ w. (W.share w).shard.workers) result.workers.items ≡ map (λ w. (W.share w).shard.workers) workers.items }
+    ensures keeps { map (λ w. (W.share w).shard.keeps) result.workers.items ≡ map (λ w. (W.share w).shard.keeps) workers.items }
     ensures stop { (stop : ℕ) → AllByRecursion (λ s. stop_at s ≡ stop) seats.items → result.exchange.stop ≡ stop }
     ensures bound { (bound : ℕ) → AllByRecursion (λ s. bound ≤ bound_at s) seats.items → bound ≤ result.exchange.bound }
     ensures full { (stop : ℕ) → AllByRecursion (λ s. stop_at s ≡ stop) seats.items → result.cause ≡ Some cause.CounterFull

@@ -185,6 +185,7 @@ module _ (w : Warp) (is : IsWarp w) (bound : ℕ) where
               worker = old.worker;
               workers = old.workers ∙ sym same;
               bound = omega arith;
+              keeps = old.keeps;
               outgoing = old.outgoing;
               own = own;
             });

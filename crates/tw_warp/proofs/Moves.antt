@@ -186,6 +186,7 @@ next_is w is k s flight within same bound own good =
               worker = same.worker ∙ ((is.shares k within).worker ∙ sym here);
               workers = same.workers ∙ ((is.shares k within).workers ∙ sym count);
               bound = bound;
+              keeps = same.keeps ∙ (is.shares k within).keeps;
               outgoing = refl;
               own = own_as w.case j (length w.shards) (length (set w.shards k next)) (share.core w.stop next) (sym count)
                   (subst (λ i. IsOwn (simulation w.case) (λ r. worker_of w r == i) (share.core w.stop next)) (sym here) (record { history = own.history; waiting = own.waiting }));
@@ -198,6 +199,7 @@ next_is w is k s flight within same bound own good =
               worker = old.worker;
               workers = old.workers ∙ sym count;
               bound = old.bound;
+              keeps = old.keeps;
               outgoing = old.outgoing;
               own = own_as w.case j (length w.shards) (length (set w.shards k next)) (share.core w.stop (shard_of w j)) (sym count) old.own;
             }))

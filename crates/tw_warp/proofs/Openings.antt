@@ -1,5 +1,5 @@
 -- A machine whose shards begin is one that begins.
-use Rattle.std.proofs.Common.{◌≡◌, ℕ, suc, ◌+◌, ◌<◌, ◌≤◌, ◌==◌, ◌%◌, cond, List, [], ◌∷◌, ◌++◌, filter, flat_map, get_or, length, refl, ap, sym, ◌∙◌, subst, inl, inr, arith}
+use Rattle.std.proofs.Common.{◌≡◌, ℕ, suc, ◌+◌, ◌<◌, ◌≤◌, ◌==◌, ◌%◌, true, cond, List, [], ◌∷◌, ◌++◌, filter, flat_map, get_or, length, refl, ap, sym, ◌∙◌, subst, inl, inr, arith}
 use Rattle.std.proofs.lemmas.Bool.{cases_Bool, cases_eq, eq-eqb, ne_eqb}
 use Rattle.tw_core.specs.Machine.{Core, IsOpening}
 use Rattle.tw_core.specs.Parts.{IsOwn}
@@ -106,8 +106,8 @@ module _ (w : Warp) (is : IsCase w.case) (some : 0 < length w.shards) (each : (k
         stop = w.stop;
       }
 
-  pub opened_is : w.stop ≤ LATEST → IsWarp w
-  opened_is most =
+  pub opened_is : ((k : ℕ) → k < length w.shards → (shard_of w k).keeps ≡ true) → w.stop ≤ LATEST → IsWarp w
+  opened_is keeps most =
       let m = simulation w.case in
       record {
         case = is;
@@ -119,6 +119,7 @@ module _ (w : Warp) (is : IsCase w.case) (some : 0 < length w.shards) (each : (k
               worker = at.worker;
               workers = at.count;
               bound = ap (λ (C : Core Event). C.bound) (at.core_is 0) ∙ sym bound;
+              keeps = keeps k within;
               outgoing = ap (λ (C : Core Event). C.flight) (at.core_is 0);
               own = subst (IsOwn m (λ r. worker_of w r == k)) (sym (at.core_is w.stop)) (record {
                 history = λ r e none. absurd (omega arith);

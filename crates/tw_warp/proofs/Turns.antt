@@ -155,7 +155,7 @@ module _ (w : Warp) (is : IsWarp w) (k : ℕ) (within : k < length w.shards) whe
     none = back.outgoing ∙ (is.shares k within).outgoing
 
     here : IsSameShare (shard_of w k) s → IsSameShare (shard_of w k) (behind s flight)
-    here same = record { case = same.case; worker = same.worker; workers = same.workers }
+    here same = record { case = same.case; worker = same.worker; workers = same.workers; keeps = same.keeps }
 
     did : IsSameShare (shard_of w k) s → call (lent w k) ≡ Ok (share.core w.stop (behind s flight)) → step (simulation w.case) (core w) x ≡ Ok (core (given_back w k (behind s flight)))
     did same ok =
@@ -211,6 +211,7 @@ later_stop w stop is rises most = record {
     worker = old.worker;
     workers = old.workers;
     bound = old.bound;
+    keeps = old.keeps;
     outgoing = old.outgoing;
     own = record { history = old.own.history; waiting = old.own.waiting };
   });

@@ -1,5 +1,5 @@
 -- All routers of a case, dealt out to workers, as one machine (after Jefferson, Virtual Time, 1985).
-use Rattle.std.specs.Prelude.{ℕ, zero, suc, ◌≡◌, ◌<◌, ◌≤◌, ◌%◌, ◌==◌, List, [], length, slice_get, slice_index_or, Option, Some, None}
+use Rattle.std.specs.Prelude.{ℕ, zero, suc, ◌≡◌, ◌<◌, ◌≤◌, ◌%◌, ◌==◌, true, List, [], length, slice_get, slice_index_or, Option, Some, None}
 use Rattle.std.specs.List.{flat_map}
 use Rattle.tw_core.specs.Good.{IsGood}
 use Rattle.tw_core.specs.Machine.{Core}
@@ -37,6 +37,7 @@ no_shard = record {
   kept = [];
   outgoing = [];
   bound = 0;
+  keeps = true;
 }
 
 -- the shard of this worker
@@ -67,6 +68,8 @@ pub record IsShare (w : Warp) (k : ℕ) (s : Shard) : Type 0 where
   pub workers : s.workers ≡ length w.shards
   -- with the bound of all
   pub bound : s.bound ≡ w.bound
+  -- its routers keep their committed events
+  pub keeps : s.keeps ≡ true
   -- what its routers have sent is in flight
   pub outgoing : s.outgoing ≡ []
   -- what waits there is for its routers

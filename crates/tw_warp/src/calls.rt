@@ -1,5 +1,5 @@
 //! Calls at one worker's shard, which sends behind all messages on their way.
-ghost use Rattle.std.specs.Prelude.{◌≡◌, ◌≤◌, ◌<◌, ◌↔◌, ℕ, Ok, Err, [], length, slice_index_or, slice_set, IsErrOf, OnErr, OnOk};
+ghost use Rattle.std.specs.Prelude.{◌≡◌, ◌≤◌, ◌<◌, ◌↔◌, ℕ, Ok, Err, [], length, slice_index_or, slice_set, true, IsErrOf, OnErr, OnOk};
 ghost use Rattle.tw_core.specs.declared.refusal.Refusal.{Refusal as ARefusal};
 ghost use Rattle.tw_model.specs.declared.limits.TheConstants.{LATEST};
 ghost use Rattle.tw_model.specs.declared.memory.OrMemory.TheVariants as or_memory;
@@ -86,12 +86,13 @@ pub(crate) fn deliver_on(
     }
 }
 
-/// A router of a shard commits its events before the bound.
+/// A router of a shard commits its events before the bound, and keeps them.
 pub(crate) fn commit_on(
     shard: &mut Shard<'_>,
     flight: &mut Flight,
     router: u32,
 ) -> Result<(), OrMemory<Refusal>>
+    requires keeps { shard.old.keeps ≡ true }
     ensures ok { (stop : ℕ) → OnOk result (committing stop (behind shard.old flight.old) router ≡ Ok (core stop (behind shard.new flight.new))) }
     ensures refused { (stop : ℕ) (f : ARefusal) → IsErrOf result (or_memory.Fault f) ↔ (committing stop (behind shard.old flight.old) router ≡ Err f) }
     ensures err { OnErr result (shard.new ≡ shard.old) }

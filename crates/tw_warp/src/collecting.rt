@@ -8,13 +8,15 @@ use std::alloc::AllocError;
 use tw_event::Event;
 use tw_shard::Shard;
 
-/// Adds as many of a router's events, the oldest first, as are committed. The router is one of the shard's.
+/// Adds as many of a router's events, the oldest first, as are committed. The router is one of the shard's,
+/// which keeps committed events.
 pub fn add_committed(
     shard: &Shard<'_>,
     router: u32,
     events: &mut Vec<Event>,
 ) -> Result<(), AllocError>
-    requires { owns shard.now router ≡ true }
+    requires own { owns shard.now router ≡ true }
+    requires keeps { shard.now.keeps ≡ true }
     ensures { OnOk result (events.new.items ≡ events.old.items
         ++ take (length (committed (simulation shard.now.case) (core 0 shard.now) router)) (reverse ((core 0 shard.now).history router))) }
 {

@@ -87,7 +87,7 @@ impl<'a> Warp<'a> {
         ensures workers { IfOk result (λ warp. length warp.shards ≡ workers) }
         ensures stop { IfOk result (λ warp. warp.stop ≡ stop) }
     {
-        let shards = open_shards(alloc, case, workers)?;
+        let shards = open_shards(alloc, case, workers, true)?;
         // What a case keeps is told by a read of it.
         let _ = case.instance();
         Ok(Warp {
@@ -261,6 +261,7 @@ impl<'a> Warp<'a> {
         requires { router < self.now.case.net.nodes }
         ensures value { result.now ≡ shard_of self.now (worker_of self.now router) }
         ensures own { owns result.now router ≡ true }
+        ensures keeps { result.now.keeps ≡ true }
         ensures machine { IsWarp self.now }
     {
         &self.shards[self.worker_of(router)]

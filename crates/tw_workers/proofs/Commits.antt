@@ -10,7 +10,8 @@ use Rattle.tw_model.specs.Case.{IsCase, simulation}
 use Rattle.tw_rule.specs.Place as place
 use Rattle.tw_rule.specs.Place.{IsPlace, Keeps, Place, with_core}
 use Rattle.tw_shard.specs.Commit.{committing}
-use Rattle.tw_shard.specs.Shard.{IsSameShare, Shard, core, owns}
+use Rattle.tw_shard.proofs.Shares.{owns_parts}
+use Rattle.tw_shard.specs.Shard.{HasRun, IsSameShare, Shard, core, owns}
 use Rattle.tw_sim.specs.Simulation.{Simulation}
 use Rattle.tw_table.specs.Shares.{Share, place_of}
 use Rattle.tw_workers.proofs.Places.{kept_same, place_after}
@@ -55,9 +56,13 @@ kept_committed stop r s t work same own other =
           let m = simulation s.shard.case in
           let made : with_core (with_commit m (core stop s.shard) r) (place_of s) ≡ place_of (record s { shard = t })
           = (λ i. with_core (sym (own mine) i) (place_of s)) ∙ sym (place_after stop s (record s { shard = t }) same refl refl) in
-          record { case = same.case; workers = same.workers; place = subst (Keeps m stop (place_of s)) made (keeps_commit m stop r (place_of s) work.place) }
+          record { case = same.case; workers = same.workers; keeping = same.keeps; place = subst (Keeps m stop (place_of s)) made (keeps_commit m stop r (place_of s) work.place) }
       | inr not_mine ↦ subst (λ u. Kept stop s (record s { shard = u })) (sym (other not_mine)) (kept_same stop s work)
     ]
+
+-- what one of its routers has handled before the bound is the run
+pub has_run : (stop : ℕ) (s : Share) → IsAtWork stop s → (r : ℕ) → owns s.shard r ≡ true → HasRun s.shard r
+has_run stop s work r mine = record { falling = work.place.good.falling r; run = work.run r (owns_parts s.shard r mine).0 mine }
 
 -- the routers before r have committed
 abbrev pub AreDone : ℕ → Shard → Type 0

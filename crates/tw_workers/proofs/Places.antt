@@ -8,8 +8,9 @@ use Rattle.tw_event.specs.declared.event.Event.{Event}
 use Rattle.tw_model.proofs.Lawful.{lawful}
 use Rattle.tw_model.specs.Case.{Case, IsCase, simulation}
 use Rattle.tw_model.specs.Effect.{suits}
+use Rattle.tw_rule.proofs.Before.{kept_before}
 use Rattle.tw_rule.proofs.Calls.{hand_is_loose, hand_is_own, keeps_handle, keeps_receive, keeps_roll_back}
-use Rattle.tw_rule.specs.Place.{IsFrom, IsPlace, Keeps, with_core}
+use Rattle.tw_rule.specs.Place.{IsFrom, IsPlace, IsRunBefore, Keeps, with_core}
 use Rattle.std.specs.Result.{result_and}
 use Rattle.tw_shard.specs.Arrival.{receiving, refusing}
 use Rattle.tw_shard.specs.Shard.{IsSameShare, Shard, core, handling, owns}
@@ -47,7 +48,7 @@ keeps_same stop s work = record {
 }
 
 pub kept_same : (stop : ℕ) (s : Share) → IsAtWork stop s → Kept stop s s
-kept_same stop s work = record { case = refl; workers = refl; place = keeps_same stop s work }
+kept_same stop s work = record { case = refl; workers = refl; keeping = refl; place = keeps_same stop s work }
 
 pub kept_both : (stop : ℕ) (s t u : Share) → Kept stop s t → Kept stop t u → Kept stop s u
 kept_both stop s t u one two =
@@ -57,6 +58,7 @@ kept_both stop s t u one two =
     record {
       case = two.case ∙ one.case;
       workers = two.workers ∙ one.workers;
+      keeping = two.keeping ∙ one.keeping;
       place = record {
         worker = second.worker ∙ first.worker;
         owns = second.owns ∙ first.owns;
@@ -68,6 +70,15 @@ kept_both stop s t u one two =
       };
     }
 
+-- what its routers have handled before the bound stays the run
+run_kept : (stop : ℕ) (s t : Share) → IsAtWork stop s → Kept stop s t → IsRunBefore (simulation s.shard.case) t.shard.bound (place_of t)
+run_kept stop s t work kept =
+    let m = simulation s.shard.case in
+    subst (λ b. IsRunBefore m b (place_of t)) (sym kept.place.bound)
+    (λ r l mine.
+    kept_before m (lawful s.shard.case work.case) stop s.shard.bound (place_of s) (place_of t) work.place work.late kept.place r
+    ∙ work.run r l (sym (ap (λ owns. owns r) kept.place.owns) ∙ mine))
+
 -- a worker stays at work
 pub work_kept : (stop : ℕ) (s t : Share) → IsAtWork stop s → Kept stop s t → IsAtWork stop t
 work_kept stop s t work kept =
@@ -77,6 +88,7 @@ work_kept stop s t work kept =
       case = subst IsCase (sym kept.case) work.case;
       place = subst (λ (c : Case). IsPlace (simulation c) stop (place_of t)) (sym kept.case) kept.place.place;
       late = subst (λ (c : Case). IsFrom (simulation c) t.shard.bound (place_of t)) (sym kept.case) late;
+      run = subst (λ (c : Case). IsRunBefore (simulation c) t.shard.bound (place_of t)) (sym kept.case) (run_kept stop s t work kept);
     }
 
 -- ---- messages of the hand
@@ -130,7 +142,7 @@ kept_received stop s t x rest work first same came mail unsent =
     let arrived : with_core (after_arrival m (core stop s.shard) x) (record (place_of s) { mail = remove s.mail 0 }) ≡ with_core (core stop t.shard) (place_of mid)
     = λ i. with_core (came i) (record (place_of s) { mail = left i }) in
     let made = arrived ∙ sym (place_after stop mid t same mail unsent) in
-    record { case = same.case; workers = same.workers; place = subst (Keeps m stop (place_of s)) made keeps }
+    record { case = same.case; workers = same.workers; keeping = same.keeps; place = subst (Keeps m stop (place_of s)) made keeps }
 
 -- some of what it undoes is undone, and it is in the hand still
 pub kept_rolled_back : (stop : ℕ) (s t : Share) (x : Signed Event) (rest : List (Signed Event)) → IsAtWork stop s → s.mail ≡ x ∷ rest → IsSameShare s.shard t.shard
@@ -139,7 +151,7 @@ kept_rolled_back stop s t x rest work first same back mail unsent =
     let m = simulation s.shard.case in
     let there : slice_get s.mail 0 ≡ Some x = ap (λ l. slice_get l 0) first in
     let keeps = keeps_roll_back m (lawful s.shard.case work.case) stop 0 (place_of s) x (core stop t.shard) work.place there back in
-    record { case = same.case; workers = same.workers; place = subst (Keeps m stop (place_of s)) (sym (place_after stop s t same mail unsent)) keeps }
+    record { case = same.case; workers = same.workers; keeping = same.keeps; place = subst (Keeps m stop (place_of s)) (sym (place_after stop s t same mail unsent)) keeps }
 
 -- ---- a router handles
 
@@ -162,4 +174,4 @@ kept_handled stop r s t work same done mail unsent =
     let own = own_of stop r s.shard t.shard done in
     let at_own : next ≡ Ok (core stop t.shard) = sym (ap (λ b. if b then next else Err NotMine) own) ∙ done in
     let keeps = keeps_handle m (lawful s.shard.case work.case) stop r (place_of s) (core stop t.shard) work.place at_own in
-    record { case = same.case; workers = same.workers; place = subst (Keeps m stop (place_of s)) (sym (place_after stop s t same mail unsent)) keeps }
+    record { case = same.case; workers = same.workers; keeping = same.keeps; place = subst (Keeps m stop (place_of s)) (sym (place_after stop s t same mail unsent)) keeps }

@@ -16,11 +16,12 @@ use Rattle.tw_rule.proofs.Places.{all_at, get_map}
 use Rattle.tw_rule.proofs.Visits.{may_stay, may_visit, report_late, stands_from, tells_all, unsent_late}
 use Rattle.tw_rule.specs.Board as rule
 use Rattle.tw_rule.specs.Board.{IsVisit, least_report, times_among}
-use Rattle.tw_rule.specs.Place.{IsFrom, IsPlace, Keeps, Place, Tells, after_visit, report_time}
+use Rattle.tw_rule.specs.Place.{IsFrom, Keeps, Place, Tells, after_visit, report_time}
 use Rattle.tw_rule.specs.Rule.{MayGive, Stands}
 use Rattle.tw_sim.proofs.Counts.{one_self}
 use Rattle.tw_sim.specs.declared.machine.Signed.{Signed}
 use Rattle.tw_sim.specs.Simulation.{IsLawful, Simulation, one}
+use Rattle.tw_table.proofs.Rules.{given_one, run_before}
 use Rattle.tw_table.proofs.Visiting.{is_visit}
 use Rattle.tw_table.specs.declared.seat.Held.{Held}
 use Rattle.tw_table.specs.Seats.{IsSameSeat}
@@ -143,25 +144,8 @@ visited_given x y stop s q t met board same kept none sorted rises is =
       give = subst (MayGive m who (board_of x) (place_of s) (board_of y)) (place_told x y s q t is none) may;
     }
 
--- ---- a worker that has given is at work
-
 sooner : {S : Type 0} (m : Simulation S Event) (a b : ℕ) (p : Place Event) → b ≤ a → IsFrom m a p → IsFrom m b p
 sooner m a b p le from e h = let old = from e h in omega arith
-
-pub work_given : (x y : Board) (stop : ℕ) (s t : Share) → IsCase s.shard.case → x.stop ≡ stop → MayBeGiven x s y t → IsAtWork stop t
-work_given x y stop s t is_case same may =
-    let m = simulation s.shard.case in
-    let law = lawful s.shard.case is_case in
-    let who = owner (workers x) in
-    let give = may.give in
-    let place : IsPlace m stop (place_of t) = subst (λ n. IsPlace m n (place_of t)) (give.steps.stop ∙ same) give.stands.place in
-    let late : IsFrom m t.shard.bound (place_of t) =
-    sooner m y.bound t.shard.bound (place_of t) give.stands.bound (stands_from m law who (board_of y) (place_of t) give.steps.board give.stands) in
-    record {
-      case = subst IsCase (sym may.case) is_case;
-      place = subst (λ (c : Case). IsPlace (simulation c) stop (place_of t)) (sym may.case) place;
-      late = subst (λ (c : Case). IsFrom (simulation c) t.shard.bound (place_of t)) (sym may.case) late;
-    }
 
 -- ---- each worker of a table is at work
 
@@ -176,7 +160,13 @@ at_work case x shares i s ruled place =
       case = at.is_case;
       place = at.stands.place;
       late = sooner m x.bound s.shard.bound (place_of s) at.stands.bound (stands_from m (lawful s.shard.case at.is_case) who (board_of x) (place_of s) at.board at.stands);
+      run = run_before case x shares i s.shard.bound s ruled place at.stands.bound;
     }
+
+-- and so is a worker that has given what it may
+pub work_given : (x y : Board) (stop : ℕ) (s t : Share) → IsMet (s ∷ []) x → x.stop ≡ stop → MayBeGiven x s y t → IsAtWork stop t
+work_given x y stop s t met same may =
+    subst (λ n. IsAtWork n t) (may.give.steps.stop ∙ same) (at_work met.case y (t ∷ met.others) 0 t (given_one met.case x y s t met.others met.ruled may) refl)
 
 -- ---- why a visit is refused
 

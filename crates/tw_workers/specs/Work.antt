@@ -1,7 +1,7 @@
 -- A worker at its work, and what each call at it keeps (own, after Jefferson, Virtual Time, 1985).
 use Rattle.std.specs.Prelude.{ℕ, ◌≡◌, true}
 use Rattle.tw_model.specs.Case.{IsCase, simulation}
-use Rattle.tw_rule.specs.Place.{IsFrom, IsPlace, Keeps}
+use Rattle.tw_rule.specs.Place.{IsFrom, IsPlace, IsRunBefore, Keeps}
 use Rattle.tw_shard.specs.Shard.{core, owns}
 use Rattle.tw_table.specs.Shares.{Share, place_of}
 
@@ -18,12 +18,16 @@ pub record IsAtWork (stop : ℕ) (s : Share) : Type 0 where
   pub place : IsPlace (simulation s.shard.case) stop (place_of s)
   -- nothing of its own that is loose is before the bound that it knows
   pub late : IsFrom (simulation s.shard.case) s.shard.bound (place_of s)
+  -- and before it, its routers have handled what the one-thread run has
+  pub run : IsRunBefore (simulation s.shard.case) s.shard.bound (place_of s)
 
 -- what calls at a worker, to this stop, keep of its share
 pub record Kept (stop : ℕ) (s t : Share) : Type 0 where
   pub case : t.shard.case ≡ s.shard.case
   -- there are as many workers
   pub workers : t.shard.workers ≡ s.shard.workers
+  -- its routers keep their committed events, or let them go, as before
+  pub keeping : t.shard.keeps ≡ s.shard.keeps
   pub place : Keeps (simulation s.shard.case) stop (place_of s) (place_of t)
 
 -- its routers have committed all before its stop

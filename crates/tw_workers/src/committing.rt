@@ -2,7 +2,7 @@
 ghost use Rattle.std.specs.Prelude.{ℕ, ◌≡◌, false, true, OnErr, OnOk};
 ghost use Rattle.tw_core.specs.Steps.{with_commit};
 ghost use Rattle.tw_model.specs.Case.{simulation};
-ghost use Rattle.tw_shard.specs.Shard.{IsSameShare, core, owns};
+ghost use Rattle.tw_shard.specs.Shard.{HasRun, IsSameShare, core, owns};
 ghost use Rattle.tw_workers.specs.Work.{StillKeeps};
 
 use crate::worker::Worker;
@@ -13,7 +13,8 @@ use tw_shard::Shard;
 
 impl<'a> Worker<'a> {
     /// The events of its routers that are before the bound become committed: they can be undone no more,
-    /// and what undoing them would need is let go.
+    /// and what undoing them would need is let go. So are the events themselves, where its routers don't keep
+    /// them.
     ///
     /// For want of memory it is broken off, and those of some routers are committed.
     pub fn commit(&mut self) -> Result<(), AllocError>
@@ -32,8 +33,9 @@ impl<'a> Worker<'a> {
     }
 }
 
-/// A router commits its events before the bound, if it is one of the shard's.
+/// A router commits its events before the bound, which are the one-thread run, if it is one of the shard's.
 fn commit_at(shard: &mut Shard<'_>, router: u32) -> Result<(), AllocError>
+    requires run { owns shard.old router ≡ true → HasRun shard.old router }
     ensures own { (stop : ℕ) → OnOk result (owns shard.old router ≡ true → core stop shard.new ≡ with_commit (simulation shard.old.case) (core stop shard.old) router) }
     ensures other { OnOk result (owns shard.old router ≡ false → shard.new ≡ shard.old) }
     ensures err { OnErr result (shard.new ≡ shard.old) }

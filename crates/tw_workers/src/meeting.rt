@@ -44,6 +44,7 @@ impl<'a> Worker<'a> {
         ensures case { self.new.share.shard.case ≡ self.old.share.shard.case }
         ensures worker { self.new.share.shard.worker ≡ self.old.share.shard.worker }
         ensures workers { self.new.share.shard.workers ≡ self.old.share.shard.workers }
+        ensures keeps { self.new.share.shard.keeps ≡ self.old.share.shard.keeps }
         ensures done { (r : ℕ) → (core 0 self.new.share.shard).done r ≡ (core 0 self.old.share.shard).done r }
         ensures stop { self.new.stop ≡ self.old.stop }
         ensures seat_stop { stop_at result.0 ≡ self.new.stop }
@@ -93,6 +94,7 @@ fn visit(held: &mut Held, shard: &mut Shard<'_>, hand: &mut Hand, stop: u64) -> 
     ensures case { shard.new.case ≡ shard.old.case }
     ensures worker { shard.new.worker ≡ shard.old.worker }
     ensures workers { shard.new.workers ≡ shard.old.workers }
+    ensures keeps { shard.new.keeps ≡ shard.old.keeps }
     ensures done { (r : ℕ) → (core 0 shard.new).done r ≡ (core 0 shard.old).done r }
     ensures rises { (taken_by held.old).bound ≤ (exchange_of held.new).bound }
     ensures told { (result ≡ Refused → ⊥) → shard.new.bound ≡ (exchange_of held.new).bound }

@@ -54,6 +54,7 @@ impl<'a> Worker<'a> {
         ensures case { self.new.share.shard.case ≡ self.old.share.shard.case }
         ensures worker { self.new.share.shard.worker ≡ self.old.share.shard.worker }
         ensures workers { self.new.share.shard.workers ≡ self.old.share.shard.workers }
+        ensures keeps { self.new.share.shard.keeps ≡ self.old.share.shard.keeps }
         ensures settled { result.1 ≡ leaving.Settled → bound_at result.0 ≡ self.new.stop }
         ensures committed { result.1 ≡ leaving.Settled → HasCommitted self.new }
         ensures full { result.1 ≡ leaving.CounterFull → (r : ℕ) × (handling self.new.stop self.new.share.shard r ≡ Err refusal.CounterFull) }
@@ -105,6 +106,7 @@ impl<'a> Worker<'a> {
         ensures case { self.new.share.shard.case ≡ self.old.share.shard.case }
         ensures worker { self.new.share.shard.worker ≡ self.old.share.shard.worker }
         ensures workers { self.new.share.shard.workers ≡ self.old.share.shard.workers }
+        ensures keeps { self.new.share.shard.keeps ≡ self.old.share.shard.keeps }
         ensures settled { result.1 ≡ Some leaving.Settled → bound_at result.0 ≡ self.new.stop }
         ensures committed { result.1 ≡ Some leaving.Settled → HasCommitted self.new }
         ensures full { result.1 ≡ Some leaving.CounterFull → (r : ℕ) × (handling self.new.stop self.new.share.shard r ≡ Err refusal.CounterFull) }

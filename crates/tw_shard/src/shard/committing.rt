@@ -1,12 +1,12 @@
-ghost use Rattle.std.specs.Prelude.{◌≡◌, ◌-◌, ◌≤◌, ◌<◌, ◌↔◌, ◌++◌, ℕ, length, map, min, reverse, slice_get, slice_index_or, slice_set, true, IsErrOf, IsOk, OnErr, OnOk, Ok, Err};
+ghost use Rattle.std.specs.Prelude.{◌≡◌, ◌-◌, ◌≤◌, ◌<◌, ◌↔◌, ◌++◌, ℕ, length, map, min, reverse, slice_get, slice_index_or, slice_set, false, true, IsErrOf, IsOk, OnErr, OnOk, Ok, Err};
 ghost use Rattle.std.specs.List.{reduce};
 ghost use Rattle.tw_core.specs.declared.refusal.Refusal.{Refusal as ARefusal};
 ghost use Rattle.tw_core.specs.Machine.{committed};
 ghost use Rattle.tw_model.specs.Case.{simulation};
 ghost use Rattle.tw_model.specs.declared.memory.OrMemory.TheVariants as or_memory;
 ghost use Rattle.tw_shard.specs.Commit.{HasNothingToCommit, committed_at, committed_to, committing, count_left};
-ghost use Rattle.tw_shard.specs.Shard.{IsSameShare, core, no_timeline, owns, timeline};
-ghost use Rattle.tw_shard.specs.Timeline.{history, last_change_at};
+ghost use Rattle.tw_shard.specs.Shard.{HasRun, IsSameShare, core, no_timeline, owns, timeline};
+ghost use Rattle.tw_shard.specs.Timeline.{IsRunBefore, history, last_change_at};
 
 use super::Shard;
 use crate::timeline::Timeline;
@@ -19,9 +19,13 @@ impl<'a> Shard<'a> {
     /// The events of a router that are before the bound become committed: they can be undone no more, and
     /// what undoing them would need is let go.
     ///
+    /// Where the shard's routers don't keep their committed events, what this one has handled before the
+    /// bound is the one-thread run.
+    ///
     /// It is refused as `NotMine` where the router is none of the shard's. After a refusal and for want
     /// of memory nothing has changed. Where no event becomes committed, it takes no memory.
     pub fn commit(&mut self, router: u32) -> Result<(), OrMemory<Refusal>>
+        requires run { self.old.keeps ≡ false → owns self.old router ≡ true → HasRun self.old router }
         ensures ok { (stop : ℕ) → OnOk result (committing stop self.old router ≡ Ok (core stop self.new)) }
         ensures events { OnOk result (self.new ≡ committed_at self.old router) }
         ensures refused { (stop : ℕ) (f : ARefusal) → IsErrOf result (or_memory.Fault f) ↔ (committing stop self.old router ≡ Err f) }
@@ -39,6 +43,7 @@ impl<'a> Shard<'a> {
     /// One of its routers commits its events before the bound.
     fn commit_own(&mut self, router: u32) -> Result<(), AllocError>
         requires own { owns self.old router ≡ true }
+        requires run { self.old.keeps ≡ false → HasRun self.old router }
         ensures ok { OnOk result (self.new ≡ committed_at self.old router) }
         ensures err { OnErr result (self.new ≡ self.old) }
         ensures free { HasNothingToCommit self.old router → IsOk result }
@@ -48,9 +53,10 @@ impl<'a> Shard<'a> {
         Ok(())
     }
 
-    /// How many events of one of its routers are committed.
+    /// How many events of one of its routers are committed, where these are kept.
     pub fn committed(&self, router: u32) -> usize
-        requires { owns self.now router ≡ true }
+        requires own { owns self.now router ≡ true }
+        requires keeps { self.now.keeps ≡ true }
         ensures { result ≡ length (committed (simulation self.now.case) (core 0 self.now) router) }
     {
         self.timeline(router).committed()
@@ -74,9 +80,10 @@ impl<'a> Shard<'a> {
     }
 
     /// Event number `k`, from 0, of those that one of its routers has handled and not undone, the oldest
-    /// first. `None` past the last.
+    /// first, where committed ones are kept. `None` past the last.
     pub fn handled(&self, router: u32, k: usize) -> Option<Event>
-        requires { owns self.now router ≡ true }
+        requires own { owns self.now router ≡ true }
+        requires keeps { self.now.keeps ≡ true }
         ensures { result ≡ slice_get (reverse (history (timeline self.now router))) k }
     {
         self.timeline(router).handled(k)
@@ -100,6 +107,7 @@ impl<'a> Shard<'a> {
 fn commit_at(timelines: &mut [Timeline<'_>], place: usize, bound: u64) -> Result<(), AllocError>
     requires within { place < length timelines.old }
     requires done { (slice_index_or timelines.old place no_timeline).done ≤ bound }
+    requires run { let t = slice_index_or timelines.old place no_timeline in t.keeps ≡ false → IsRunBefore bound t }
     ensures ok { OnOk result
         (timelines.new ≡ slice_set timelines.old place (committed_to bound (slice_index_or timelines.old place no_timeline))) }
     ensures err { OnErr result (timelines.new ≡ timelines.old) }

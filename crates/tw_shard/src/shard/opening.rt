@@ -13,28 +13,31 @@ use crate::timeline::Timeline;
 use smallvec::SmallVec;
 use std::alloc::{AllocError, Global};
 use tw_event::Event;
-use tw_instance::{Case, Instance};
+use tw_instance::Case;
 use tw_queue::Pending;
 
 impl<'a> Shard<'a> {
     /// What one worker of so many has of a case, where routers are dealt out to workers in turn: its
     /// routers as they begin, and the opening events for them. Workers have numbers from 0 on; one past
-    /// the last router has none. It fails for want of memory alone.
+    /// the last router has none. Routers keep their committed events, or let them go. It fails for want of
+    /// memory alone.
     pub fn open(
         alloc: Global,
         case: &'a Case,
         worker: u32,
         workers: u32,
+        keeps: bool,
     ) -> Result<Shard<'a>, AllocError>
         requires { worker < workers }
         ensures core { IfOk result (λ shard. (stop : ℕ) → core stop shard ≡ opening_core case.now worker workers stop) }
-        ensures routers { IfOk result (λ shard. (r : ℕ) → owns shard r ≡ true → timeline shard r ≡ opening_timeline case.now.net r) }
+        ensures routers { IfOk result (λ shard. (r : ℕ) → owns shard r ≡ true → timeline shard r ≡ opening_timeline case.now keeps r) }
         ensures case { IfOk result (λ shard. shard.case ≡ case.now) }
         ensures worker { IfOk result (λ shard. shard.worker ≡ worker) }
         ensures workers { IfOk result (λ shard. shard.workers ≡ workers) }
+        ensures keeps { IfOk result (λ shard. shard.keeps ≡ keeps) }
     {
         let instance = case.instance();
-        let timelines = opening_timelines(alloc, instance, worker, workers)?;
+        let timelines = opening_timelines(alloc, case, worker, workers, keeps)?;
         let pending = opening_queue(alloc, case, worker, workers)?;
         let kept = Pending::new(alloc, instance.nodes())?;
         Ok(Shard {
@@ -47,6 +50,7 @@ impl<'a> Shard<'a> {
             outgoing: Vec::new(alloc),
             sends: SmallVec::new(alloc),
             bound: 0,
+            keeps,
         })
     }
 }
@@ -54,19 +58,24 @@ impl<'a> Shard<'a> {
 /// The timelines of a worker's routers as they begin, by rising number.
 fn opening_timelines<'a>(
     alloc: Global,
-    instance: &'a Instance,
+    case: &'a Case,
     worker: u32,
     workers: u32,
+    keeps: bool,
 ) -> Result<Vec<Timeline<'a>>, AllocError>
     requires { 0 < workers }
     ensures { IfOk result (λ timelines. timelines.items
-        ≡ map (λ k. opening_timeline instance.now (worker + workers * k)) (range_with_len 0 (div_ceil (instance.now.nodes - worker) workers))) }
+        ≡ map (λ k. opening_timeline case.now keeps (worker + workers * k)) (range_with_len 0 (div_ceil (case.now.net.nodes - worker) workers))) }
 {
-    let count = instance.nodes().saturating_sub(worker).div_ceil(workers);
+    let count = case
+        .instance()
+        .nodes()
+        .saturating_sub(worker)
+        .div_ceil(workers);
     let mut timelines = Vec::new(alloc);
     for place in 0..count {
         let node = worker + workers * place;
-        timelines.push(Timeline::open(alloc, instance, node)?)?;
+        timelines.push(Timeline::open(alloc, case, node, keeps)?)?;
     }
     Ok(timelines)
 }

@@ -1,7 +1,7 @@
-ghost use Rattle.std.specs.Prelude.{◌≡◌, ◌+◌, ◌-◌, ◌≤◌, ◌++◌, drop, count_by, filter, length, nat_lt, reverse, slice_get, take, vec_capacity, vec_len, IsOk, OnErr, OnOk};
+ghost use Rattle.std.specs.Prelude.{◌≡◌, ◌+◌, ◌-◌, ◌≤◌, count_by, drop, false, filter, length, nat_lt, reverse, slice_get, true, IsOk, OnErr, OnOk};
 ghost use Rattle.std.specs.List.{prefix_len};
 ghost use Rattle.tw_shard.specs.Commit.{committed_to, count_left};
-ghost use Rattle.tw_shard.specs.Timeline.{events_of, history, last_change_at, noted_change};
+ghost use Rattle.tw_shard.specs.Timeline.{IsRunBefore, events_of, history, last_change_at, noted_change};
 
 use super::{HandledEvent, Timeline};
 use std::alloc::AllocError;
@@ -9,34 +9,37 @@ use tw_event::Event;
 
 impl Timeline<'_> {
     /// Commits the oldest events that can be undone, as far as all of them are before the bound: they
-    /// keep no record. Where there are none, it takes no memory.
+    /// keep no record. Where there are none, it takes no memory. Where committed events aren't kept, what was
+    /// handled before the bound is the one-thread run.
     pub(crate) fn commit(&mut self, bound: u64) -> Result<(), AllocError>
-        requires { self.old.done ≤ bound }
+        requires done { self.old.done ≤ bound }
+        requires run { self.old.keeps ≡ false → IsRunBefore bound self.old }
         ensures ok { OnOk result (self.new ≡ committed_to bound self.old) }
         ensures err { OnErr result (self.new ≡ self.old) }
         ensures free { count_left bound self.old.ahead ≡ length self.old.ahead → IsOk result }
     {
         let count = first_before(&self.ahead, bound);
         let change = last_change_of(&self.ahead[..count], self.past_change);
-        commit_first(&mut self.ahead, &mut self.past, count)?;
+        self.past.add(&self.ahead[..count], bound)?;
+        drop_first(&mut self.ahead, count);
         self.past_change = change;
-        self.done = bound;
         Ok(())
     }
 
     /// How many of its events are before the bound at the latest commit.
     pub(crate) fn committed(&self) -> usize
+        requires { self.now.keeps ≡ true }
         ensures { result ≡ length (filter (λ e. nat_lt e.time self.now.done) (history self.now)) }
     {
         // A commit leaves what was handled after an event that is not before the bound.
-        self.past.len() + all_before(&self.ahead, self.done)
+        self.past.len() + all_before(&self.ahead, self.past.done())
     }
 
     /// How many of its events are not before the bound at the latest commit.
     pub(crate) fn ahead_len(&self) -> usize
         ensures { result ≡ length (history self.now) - length (filter (λ e. nat_lt e.time self.now.done) (history self.now)) }
     {
-        self.ahead.len() - all_before(&self.ahead, self.done)
+        self.ahead.len() - all_before(&self.ahead, self.past.done())
     }
 
     /// The time, in ticks, of the last event that changed the router's path, of those that it has handled
@@ -49,10 +52,11 @@ impl Timeline<'_> {
 
     /// Event number `k` of those that it has handled and not undone, from 0, the oldest first.
     pub(crate) fn handled(&self, k: usize) -> Option<Event>
+        requires { self.now.keeps ≡ true }
         ensures { result ≡ slice_get (reverse (history self.now)) k }
     {
         if k < self.past.len() {
-            Some(self.past[k])
+            self.past.event(k)
         } else {
             event_at(&self.ahead, k - self.past.len())
         }
@@ -97,34 +101,10 @@ fn last_change_of(steps: &[HandledEvent], time: u64) -> u64
     last
 }
 
-/// Moves the events of the first `count` steps to `past`, and drops their records.
-fn commit_first(
-    ahead: &mut Vec<HandledEvent>,
-    past: &mut Vec<Event>,
-    count: usize,
-) -> Result<(), AllocError>
-    requires { count ≤ length ahead.old.items }
-    ensures ahead { OnOk result (ahead.new.items ≡ drop count ahead.old.items) }
-    ensures past { OnOk result (past.new.items ≡ past.old.items ++ events_of (take count ahead.old.items)) }
-    ensures err { OnErr result (ahead.new.items ≡ ahead.old.items) }
-    ensures unmoved { OnErr result (past.new.items ≡ past.old.items) }
-    ensures free { count ≡ 0 → IsOk result }
+/// Drops the first steps, of which there are at least so many.
+fn drop_first(steps: &mut Vec<HandledEvent>, count: usize)
+    requires { count ≤ length steps.old.items }
+    ensures { steps.new.items ≡ drop count steps.old.items }
 {
-    if count == 0 {
-        return Ok(());
-    }
-    past.reserve(count)?;
-    add_events(past, &ahead[..count]);
-    ahead.drain(..count);
-    Ok(())
-}
-
-/// Adds the events of steps, for which there is room.
-fn add_events(events: &mut Vec<Event>, steps: &[HandledEvent])
-    requires { vec_len events.old + length steps.now ≤ vec_capacity events.old }
-    ensures { events.new.items ≡ events.old.items ++ events_of steps.now }
-{
-    for step in steps {
-        events.push_reserved(step.event);
-    }
+    steps.drain(..count);
 }

@@ -1,8 +1,8 @@
-use Rattle.std.proofs.Common.{◌≡◌, ◌≤◌, List, length, map, ap, sym, ◌∙◌, subst, arith}
+use Rattle.std.proofs.Common.{◌≡◌, ◌≤◌, Bool, true, List, length, map, ap, sym, ◌∙◌, subst, arith}
 use Rattle.std.proofs.lemmas.List.{length-map}
 use Rattle.std.specs.List.{AllByRecursion}
 use Rattle.tw_parallel.proofs.Crews.{all_at_work}
-use Rattle.tw_parallel.proofs.Rounds.{as_many, goes_on, long_shares, not_above, same_numbers}
+use Rattle.tw_parallel.proofs.Rounds.{as_many, goes_on, long_shares, not_above, same_numbers, still_keep}
 use Rattle.tw_parallel.specs.Inside.{run_of}
 use Rattle.tw_parallel.specs.Sim.{IsSim}
 use Rattle.tw_table.specs.Seats.{share_at, stop_at}
@@ -62,6 +62,17 @@ returns-clause-sim g c =
     (sym (mapped share (λ s. s.shard.case) new) ∙ (ran.cases ∙ (mapped share (λ s. s.shard.case) old ∙ ap (map (λ (s : Share). s.shard.case)) made)))
     (sym (mapped share (λ s. s.shard.worker) new) ∙ (ran.numbers ∙ (mapped share (λ s. s.shard.worker) old ∙ ap (map (λ (s : Share). s.shard.worker)) made)))
     (ran.stop parts.exchange.stop c.in-Ok.ensures.stops))
+
+pub returns-clause-keeps : goal.returns-clause-keeps
+returns-clause-keeps g c = λ kept.
+    let old = c.workers_of-workers.result.items in
+    let new = c.run_all-ran.result.workers.items in
+    let share : Worker → Share = λ w. w.share in
+    let keeps : Share → Bool = λ s. s.shard.keeps in
+    let all = shares_of c.args.parts.shards.items c.args.parts.hands.items in
+    let same : map keeps (map share new) ≡ map keeps all =
+    sym (mapped share keeps new) ∙ (c.run_all-ran.ensures.keeps ∙ (mapped share keeps old ∙ ap (map keeps) c.workers_of-workers.ensures.shares)) in
+    subst (AllByRecursion (λ (s : Share). s.shard.keeps ≡ true)) (sym c.parts_of-shards.ensures.shares) (still_keep all (map share new) same kept)
 
 pub returns-clause-bound : goal.returns-clause-bound
 returns-clause-bound g c = c.run_all-ran.ensures.bound c.args.parts.exchange.bound (not_above c.args.parts.exchange.bound c.in-Ok.opened.1.items c.in-Ok.ensures.bounds)

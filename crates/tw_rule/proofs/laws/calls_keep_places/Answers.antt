@@ -1,3 +1,4 @@
+use Rattle.tw_rule.proofs.Before.{kept_before}
 use Rattle.tw_rule.proofs.Calls.{keeps_handle, keeps_receive, keeps_roll_back, keeps_unsent}
 use Rattle.tw_rule.proofs.laws.calls_keep_places.Goals as goal
 
@@ -12,3 +13,6 @@ returns-clause-roll_back c = λ start m law stop k p s D place there h. keeps_ro
 
 pub returns-clause-unsent : goal.returns-clause-unsent
 returns-clause-unsent c = λ start m law stop p unsent outgoing place plus minus. keeps_unsent m law stop p unsent outgoing place plus minus
+
+pub returns-clause-before : goal.returns-clause-before
+returns-clause-before c = λ start m law stop t p q place from keeps. kept_before m law stop t p q place from keeps

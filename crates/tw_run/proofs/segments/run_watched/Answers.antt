@@ -29,7 +29,7 @@ loop-seen-preserved g c =
     let told = c.push-seen.ensures in (
       omega (arith, told.within),
       on_the_way_next c.args.every c.loop-seen.seen c.push-seen.result c.args.sim c.loop-seen.run c.in_ok-run.run' c.loop-seen.watch c.push-seen.new.self
-          c.in_ok-shape.shape c.loop-seen.invariant.1 run.case run.stop c.in_ok-shape.ensures told.gap told.step,
+          c.in_ok-shape.shape c.loop-seen.invariant.1 run.case run.stop run.keeps c.in_ok-shape.ensures told.gap told.step,
     )
 
 pub returns-clause-found : goal.returns-clause-found
@@ -48,3 +48,6 @@ returns-clause-found g c =
           let all : c.loop-seen.seen ≡ last = omega (arith, c.loop-seen.invariant.0, w.loop-seen-test.false) in
           subst (λ n. c.loop-seen.watch.found ≡ finding case every n) all so)
     ]
+
+pub returns-clause-keeps : goal.returns-clause-keeps
+returns-clause-keeps g c = λ all. c.in_ok-run-2.ensures.keeps (c.loop-seen.invariant.1.keeps all)

@@ -27,6 +27,11 @@ returns-clause-counts g c =
     let h = c.gather-gathered.ensures in
     workers_keep g.W.Work.share (λ s. s.shard.workers) c.args.table _ _ _ _ (λ s u is. is.workers) h.left c.requires.shares h.shares
 
+pub returns-clause-keeps : goal.returns-clause-keeps
+returns-clause-keeps g c =
+    let h = c.gather-gathered.ensures in
+    workers_keep g.W.Work.share (λ s. s.shard.keeps) c.args.table _ _ _ _ (λ s u is. is.keeps) h.left c.requires.shares h.shares
+
 pub returns-clause-stop : goal.returns-clause-stop
 returns-clause-stop g c = λ stop stops.
     let left = c.gather-gathered.ensures.left in

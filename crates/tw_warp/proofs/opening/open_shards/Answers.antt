@@ -1,4 +1,4 @@
-use Rattle.std.proofs.Common.{◌∷◌, [], get_or, length, ap, sym, ◌∙◌, subst, arith}
+use Rattle.std.proofs.Common.{◌≡◌, ◌∷◌, [], get_or, length, ap, sym, ◌∙◌, subst, arith}
 use Rattle.std.proofs.lemmas.List.{length-append}
 use Rattle.tw_warp.specs.Openings.{IsOpened}
 use Rattle.tw_warp.specs.Warp.{no_shard}
@@ -8,7 +8,7 @@ use Rattle.tw_warp.proofs.opening.open_shards.Goals as goal
 pub loop-worker-init : goal.loop-worker-init
 loop-worker-init c =
     let capacity = c.in_ok-shards.ensures.capacity in
-    record { count = ap length c.in_ok-shards.ensures.items; room = omega arith; each = λ k none. absurd (omega arith) }
+    record { count = ap length c.in_ok-shards.ensures.items; room = omega arith; each = λ k none. absurd (omega arith); keeps = λ k none. absurd (omega arith) }
 
 pub push_reserved-requires : goal.push_reserved-requires
 push_reserved-requires c =
@@ -34,6 +34,9 @@ loop-worker-preserved c =
           subst (λ xs. IsOpened c.args.case.now k c.args.workers (get_or xs k no_shard)) (sym c.push_reserved.ensures.items)
           (one_more (λ k s. IsOpened c.args.case.now k c.args.workers s) items s no_shard c.loop-worker.worker count c.loop-worker.invariant.each
           (record { core_is = opened.core; case_is = opened.case; worker = opened.worker; count = opened.workers }) k h);
+      keeps = λ k h.
+          subst (λ xs. (get_or xs k no_shard).keeps ≡ c.args.keeps) (sym c.push_reserved.ensures.items)
+          (one_more (λ k s. s.keeps ≡ c.args.keeps) items s no_shard c.loop-worker.worker count c.loop-worker.invariant.keeps opened.keeps k h);
     }
 
 pub returns-clause-count : goal.returns-clause-count
@@ -45,3 +48,6 @@ returns-clause-count c =
 
 pub returns-clause-each : goal.returns-clause-each
 returns-clause-each c = λ k h. c.loop-worker.invariant.each k (let past = c.loop-worker-test.false in omega arith)
+
+pub returns-clause-keeps : goal.returns-clause-keeps
+returns-clause-keeps c = λ k h. c.loop-worker.invariant.keeps k (let past = c.loop-worker-test.false in omega arith)

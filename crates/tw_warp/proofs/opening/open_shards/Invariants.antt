@@ -9,4 +9,5 @@ invariant-loop-worker l = record {
   count : length l.shards.items ≡ l.worker;
   room : l.workers ≤ vec_capacity l.shards;
   each : (k : ℕ) → k < l.worker → IsOpened l.case k l.workers (get_or l.shards.items k no_shard);
+  keeps : (k : ℕ) → k < l.worker → (get_or l.shards.items k no_shard).keeps ≡ l.keeps;
 }

@@ -1,6 +1,5 @@
 use Rattle.std.proofs.Common.{◌≡◌, ◌≤◌, ◌<◌, false, length, max, ap, sym, ◌∙◌, subst}
 use Rattle.tw_exchange.specs.Board.{handed, is_early, visited}
-use Rattle.tw_model.specs.Case.{IsCase}
 use Rattle.tw_table.specs.Seats.{exchange_of, share_of, taken_by}
 use Rattle.tw_table.specs.Shares.{MayBeGiven, board_of, share}
 use Rattle.tw_workers.proofs.Places.{drop_none}
@@ -31,8 +30,7 @@ returns-in-Ok-clause-given c =
 pub returns-in-Ok-clause-work : goal.returns-in-Ok-clause-work
 returns-in-Ok-clause-work c =
     let t = share c.raise_bound.new.self (record { mail = c.in-Ok.visit.mail; next = 0; out = c.replace-out.new.dest }) in
-    work_given (taken_by c.args.held.now) (exchange_of c.visit.new.self) c.args.stop (share_of c.args.held.now) t (subst IsCase c.requires.kept.case c.requires.work.case) c.requires.stop
-    (returns-in-Ok-clause-given c)
+    work_given (taken_by c.args.held.now) (exchange_of c.visit.new.self) c.args.stop (share_of c.args.held.now) t c.requires.met c.requires.stop (returns-in-Ok-clause-given c)
 
 pub returns-in-Err-clause-seat : goal.returns-in-Err-clause-seat
 returns-in-Err-clause-seat c = same_seat c.args.held.now c.visit.new.self c.halt.new.self c.visit.ensures.same c.halt.ensures.same

@@ -11,7 +11,7 @@ loop-router-preserved c =
     let told = c.shard_for.ensures in
     let fits = c.loop-router.invariant.fits in
     let most = c.ahead.type_inv in
-    let here = c.ahead.ensures ∙ ahead_there s r c.shard_for.result.now (record { case = told.case; own = told.own; history = told.history; done = told.done }) in
+    let here = c.ahead.ensures ∙ ahead_there s r c.shard_for.result.now (record { case = told.case; own = told.own; history = told.history; done = told.done; keeps = told.keeps }) in
     record {
       count = ap (λ n. c.loop-router.count + n) here ∙ one_counted (λ r. ahead_of s r) r c.loop-router.count c.loop-router.invariant.count;
       fits = omega arith;

@@ -9,4 +9,4 @@ loop-router-preserved c =
     let r = c.loop-router.router in
     let told = c.shard_for.ensures in
     one_gathered s.case (machine s) r c.loop-router.events.items c.add_committed.new.events.items _ c.loop-router.invariant c.in_ok-add_committed.ensures
-    (oldest_there s r c.shard_for.result.now (record { case = told.case; own = told.own; history = told.history; done = told.done }))
+    (oldest_there s r c.shard_for.result.now (record { case = told.case; own = told.own; history = told.history; done = told.done; keeps = told.keeps }))

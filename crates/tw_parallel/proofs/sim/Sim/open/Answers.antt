@@ -1,8 +1,9 @@
-use Rattle.std.proofs.Common.{◌≡◌, length, sym, ◌∙◌, subst}
+use Rattle.std.proofs.Common.{◌≡◌, length, sym, ◌∙◌, subst, arith}
 use Rattle.tw_core.specs.Machine.{IsOpening}
 use Rattle.tw_exchange.specs.Board.{Board}
 use Rattle.tw_model.specs.Case.{simulation}
 use Rattle.tw_parallel.proofs.Openings.{new_is, new_opens}
+use Rattle.tw_parallel.proofs.Shares.{all_keep}
 use Rattle.tw_parallel.specs.Sim.{IsSim, Sim, machine}
 use Rattle.tw_table.specs.Shares.{shares_of}
 use Rattle.tw_parallel.proofs.sim.Sim.open.Goals as goal
@@ -26,3 +27,8 @@ returns-clause-opens c =
     subst (λ x. IsOpening (simulation c.args.case.now) (machine (with c x))) (sym c.in_ok-exchange.ensures)
     (new_opens c.args.case.now c.instance.ensures.case c.args.workers c.requires c.in_ok-shards.shards.items c.in_ok-hands.hands.items
     c.in_ok-shards.ensures.count (same c) c.in_ok-shards.ensures.each c.in_ok-hands.ensures.empty)
+
+pub returns-clause-keeps : goal.returns-clause-keeps
+returns-clause-keeps c = λ is.
+    let shards = c.in_ok-shards.shards.items in
+    all_keep shards c.in_ok-hands.hands.items (λ k h. c.in_ok-shards.ensures.keeps k (let many = c.in_ok-shards.ensures.count in omega arith) ∙ is)

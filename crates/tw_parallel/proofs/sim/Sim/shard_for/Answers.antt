@@ -20,3 +20,6 @@ returns-clause-history c = (has c).history
 
 pub returns-clause-done : goal.returns-clause-done
 returns-clause-done c = (has c).done
+
+pub returns-clause-keeps : goal.returns-clause-keeps
+returns-clause-keeps c = (has c).keeps

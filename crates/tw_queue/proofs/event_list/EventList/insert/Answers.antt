@@ -11,7 +11,7 @@ use Rattle.tw_queue.proofs.event_list.EventList.insert.Goals as goal
 pub invariant_of-self : goal.invariant_of-self
 invariant_of-self c =
     let a = c.self.inside in
-    let e = c.args.event in
+    let e = c.args.event.now in
     let n = ap (λ q. q.routers) c.self.view_is in
     let d = c.requires in
     let more : c.insert.new.self ≡ insert event_before e a.ring = c.if-insert.ensures.added in
@@ -20,7 +20,7 @@ invariant_of-self c =
 pub returns-then-insert-clause-ok : goal.returns-then-insert-clause-ok
 returns-then-insert-clause-ok c =
     let a = c.self.inside in
-    let e = c.args.event in
+    let e = c.args.event.now in
     let more : c.insert.new.self ≡ insert event_before e a.ring = c.if-insert.ensures.added in
     ring_more e a.ring c.insert.new.self (heap_events (heap_items a.heap)) more ∙ ap (λ q. insert event_before e q.events) c.self.view_is
 
@@ -33,13 +33,13 @@ invariant_of-self-2 c =
     let same : c.insert.new.self ≡ a.ring = c.if-insert.ensures.same in (
       p.heap_order c.self.invariant.0,
       subst (λ ring. AreFor a.routers (ring ++ heap_events (heap_items c.push.new.self))) (sym same)
-          (homes_heap_more a.routers a.ring (record { 0 = c.args.event }) (heap_items a.heap) (heap_items c.push.new.self) p.permutation (omega arith) c.self.invariant.1),
+          (homes_heap_more a.routers a.ring (record { 0 = c.args.event.now }) (heap_items a.heap) (heap_items c.push.new.self) p.permutation (omega arith) c.self.invariant.1),
     )
 
 pub returns-clause-ok : goal.returns-clause-ok
 returns-clause-ok c =
     let a = c.self.inside in
-    let e = c.args.event in
+    let e = c.args.event.now in
     let same : c.insert.new.self ≡ a.ring = c.if-insert.ensures.same in
     ap (λ ring. in_order event_before (ring ++ heap_events (heap_items c.push.new.self))) same
     ∙ heap_more a.ring (record { 0 = e }) (heap_items a.heap) (heap_items c.push.new.self) c.in_ok-push.ensures.permutation ∙ ap (λ q. insert event_before e q.events) c.self.view_is

@@ -10,36 +10,38 @@ pub invariant_of-self-2 : goal.invariant_of-self-2
 invariant_of-self-2 c =
     let a = c.self.inside in
     let v = c.self.invariant in
-    let e = c.args.event in
+    let e = c.args.event.now in
     let i = c.slot_of-slot.result in
     let later : (a.tick < e.time) × (e.time < never) = rw c.if-not-is_later.false at c.is_later.ensures in
     let free : (get_or a.times i 0 ≡ e.time) ⊎ (get_or a.times i 0 ≡ never) = rw c.if-not-is_free_for.false at c.is_free_for.ensures in
     let xs = c.index-self-slot.result in
     let qs = c.push.new.self in
-    let pushed : qs ≡ get_or a.buckets i xs ++ e ∷ [] = c.in_default.ensures.ok in
-    let more = pushed ∙ ap (λ b. b ++ e ∷ []) (sym c.index-self-slot.is) in
-    record {
+    let is : xs ≡ get_or a.buckets i xs = rw c.reuse_memory.ensures at c.index-self-slot.is in
+    let pushed : qs ≡ get_or a.buckets i xs ++ e ∷ [] = rw c.reuse_memory.ensures at c.in_default.ensures.ok in
+    let more = pushed ∙ ap (λ b. b ++ e ∷ []) (sym is) in
+    rw c.reuse_memory.ensures (record {
       taken = v.taken;
       rising = v.rising;
       begun = v.begun;
       number = length-set a.buckets i c.push.new.self ∙ v.number;
-      placed = new_placed a.buckets v.number v.placed v.alike v.early a.times v.row e i c.slot_of-slot.ensures later.1 free xs c.index-self-slot.is qs more;
-      alike = new_alike a.buckets v.number v.placed v.alike v.early a.times v.row e i c.slot_of-slot.ensures later.1 free xs c.index-self-slot.is qs more;
-      row = new_row a.buckets v.number v.placed v.alike v.early a.times v.row e i c.slot_of-slot.ensures later.1 free xs c.index-self-slot.is qs more _ refl;
-      after = new_after a.buckets v.number v.placed v.alike v.early a.times v.row e i c.slot_of-slot.ensures later.1 free xs c.index-self-slot.is qs more a.tick later.0 v.after;
-      early = new_early a.buckets v.number v.placed v.alike v.early a.times v.row e i c.slot_of-slot.ensures later.1 free xs c.index-self-slot.is qs more;
-    }
+      placed = new_placed a.buckets v.number v.placed v.alike v.early a.times v.row e i c.slot_of-slot.ensures later.1 free xs is qs more;
+      alike = new_alike a.buckets v.number v.placed v.alike v.early a.times v.row e i c.slot_of-slot.ensures later.1 free xs is qs more;
+      row = new_row a.buckets v.number v.placed v.alike v.early a.times v.row e i c.slot_of-slot.ensures later.1 free xs is qs more _ refl;
+      after = new_after a.buckets v.number v.placed v.alike v.early a.times v.row e i c.slot_of-slot.ensures later.1 free xs is qs more a.tick later.0 v.after;
+      early = new_early a.buckets v.number v.placed v.alike v.early a.times v.row e i c.slot_of-slot.ensures later.1 free xs is qs more;
+    })
 
 pub returns-clause-added : goal.returns-clause-added
 returns-clause-added c =
     let a = c.self.inside in
     let v = c.self.invariant in
-    let e = c.args.event in
+    let e = c.args.event.now in
     let i = c.slot_of-slot.result in
     let later : (a.tick < e.time) × (e.time < never) = rw c.if-not-is_later.false at c.is_later.ensures in
     let free : (get_or a.times i 0 ≡ e.time) ⊎ (get_or a.times i 0 ≡ never) = rw c.if-not-is_free_for.false at c.is_free_for.ensures in
     let xs = c.index-self-slot.result in
-    let pushed : c.push.new.self ≡ get_or a.buckets i xs ++ e ∷ [] = c.in_default.ensures.ok in
-    let more = pushed ∙ ap (λ b. b ++ e ∷ []) (sym c.index-self-slot.is) in
-    new_order a.buckets v.number v.placed v.alike v.early a.times v.row e i c.slot_of-slot.ensures later.1 free c.index-self-slot.result c.index-self-slot.is c.push.new.self more
-    (hand_of a) ∙ ap (insert event_before e) c.self.view_is
+    let is : xs ≡ get_or a.buckets i xs = rw c.reuse_memory.ensures at c.index-self-slot.is in
+    let pushed : c.push.new.self ≡ get_or a.buckets i xs ++ e ∷ [] = rw c.reuse_memory.ensures at c.in_default.ensures.ok in
+    let more = pushed ∙ ap (λ b. b ++ e ∷ []) (sym is) in
+    rw c.reuse_memory.ensures (new_order a.buckets v.number v.placed v.alike v.early a.times v.row e i c.slot_of-slot.ensures later.1 free xs is c.push.new.self more
+    (hand_of a) ∙ ap (insert event_before e) c.self.view_is)

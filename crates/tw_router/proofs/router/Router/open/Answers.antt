@@ -1,10 +1,11 @@
-use Rattle.std.proofs.Common.{ap, ◌≤◌, ◌∙◌, List, subst, true, ◌≡◌, map, length, sym, rules}
+use Rattle.std.proofs.Common.{ap, ◌≤◌, ◌∙◌, List, fold, max, subst, true, ◌≡◌, map, length, sym, rules}
 use Rattle.std.specs.List.{All}
 use Rattle.tw_event.specs.declared.event.PathNo.{PathNo}
 use Rattle.tw_model.specs.declared.limits.TheConstants.{MOST_PATHS}
 use Rattle.tw_model.specs.Net.{is_own}
 use Rattle.tw_model.specs.State.{fresh_row}
 use Rattle.tw_router.specs.Ranks.{rank}
+use Rattle.tw_router.proofs.Greatest.{of_zeros}
 use Rattle.tw_router.proofs.Opening.{IsState-opening}
 use Rattle.tw_router.proofs.Ranking.{rank_fresh}
 use Rattle.tw_router.proofs.router.Router.open.Goals as goal
@@ -26,4 +27,6 @@ invariant_of-result c =
       ranks = c.in_ok-vec.ensures.items_if_clones_equal (search rules)
           ∙ (rank_fresh c.args.instance.now c.args.node order c.hops-hops.result.now
           ∙ sym (ap (map (rank c.args.instance.now c.args.node order)) c.in_ok-fresh_rows.ensures));
+      greatest = of_zeros (length c.hops-hops.result.now) ∙ ap (fold max 0) (sym (c.in_ok-vec.ensures.items_if_clones_equal (search rules)));
+      order = λ h. c.in_ok-from_slice.ensures.items ∙ c.permitted.ensures.value;
     }

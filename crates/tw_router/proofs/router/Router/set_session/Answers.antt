@@ -11,4 +11,6 @@ invariant_of-self c =
       few = c.self.invariant.few;
       ranks = c.self.invariant.ranks
           ∙ sym (map-set_same (rank a.instance.now a.node a.order.items) a.rows.items c.args.slot _ _ (ap (rank a.instance.now a.node a.order.items) c.index_mut.ensures.value));
+      greatest = c.self.invariant.greatest;
+      order = c.self.invariant.order;
     }

@@ -1,4 +1,4 @@
-use Rattle.std.proofs.Common.{◌≡◌, ◌≢◌, ◌-◌, ap, ap₂, sym, ◌∙◌, ◌≤◌, ℕ, arith, length, map, subst, List}
+use Rattle.std.proofs.Common.{◌≡◌, ◌≢◌, ◌-◌, ap, ap₂, sym, ◌∙◌, ◌≤◌, ℕ, arith, fold, length, map, max, subst, List}
 use Rattle.std.proofs.lemmas.Grind.{elements}
 use Rattle.std.proofs.lemmas.List.Edits.{length-swap}
 use Rattle.std.specs.List.{AllPairs}
@@ -36,4 +36,6 @@ invariant_of-self c =
           ∙ (c.refresh.ensures
           ∙ (ap₂ (λ net order. map (rank net c.self.inside.node order) c.deref-2.result.now) (c.requires.own ∙ ap (λ (x : ARouter). x.net) (sym c.self.view_is)) c.deref.ensures.value
           ∙ ap (map (rank c.self.inside.instance.now c.self.inside.node c.swap.new.self.items)) c.deref-2.ensures.value));
+      greatest = c.best_rank-self-inside.ensures.value ∙ ap (fold max 0) c.deref-3.ensures.value;
+      order = λ h. cc;
     }

@@ -14,10 +14,11 @@ invariant_of-result c =
       kept = c.in_ok-kept.kept.events;
       outgoing = c.new-2.result.items;
       bound = 0;
+      keeps = c.args.keeps;
     } in
     let net = c.instance-instance in
     let is =
-    begun s net.result.now net.ensures.value net.ensures.case c.requires
+    begun s net.ensures.case c.requires
     c.in_ok-timelines.ensures c.in_ok-pending.ensures.events c.in_ok-kept.ensures.empty c.new-2.ensures.items refl in
     record {
       whole = whole_begun s is;
@@ -36,10 +37,11 @@ returns-clause-core c =
       kept = c.in_ok-kept.kept.events;
       outgoing = c.new-2.result.items;
       bound = 0;
+      keeps = c.args.keeps;
     } in
     let net = c.instance-instance in
     let is =
-    begun s net.result.now net.ensures.value net.ensures.case c.requires
+    begun s net.ensures.case c.requires
     c.in_ok-timelines.ensures c.in_ok-pending.ensures.events c.in_ok-kept.ensures.empty c.new-2.ensures.items refl in
     core_begun s is
 
@@ -54,9 +56,10 @@ returns-clause-routers c =
       kept = c.in_ok-kept.kept.events;
       outgoing = c.new-2.result.items;
       bound = 0;
+      keeps = c.args.keeps;
     } in
     let net = c.instance-instance in
     let is =
-    begun s net.result.now net.ensures.value net.ensures.case c.requires
+    begun s net.ensures.case c.requires
     c.in_ok-timelines.ensures c.in_ok-pending.ensures.events c.in_ok-kept.ensures.empty c.new-2.ensures.items refl in
     opened s is

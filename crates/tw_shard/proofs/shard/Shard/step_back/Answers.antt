@@ -35,9 +35,10 @@ invariant_of-self-3 c =
           ∙ (undone.2 ∙ λ i. set (c.deref_mut.ensures.value i) (at i) (record (there i) { ahead = undone.0 }));
       kept = refl;
       bound = refl;
+      keeps = refl;
       pending_routers = c.insert.ensures.routers ∙ c.reserve.ensures.routers;
       kept_routers = refl;
-    }) own.net own.node own.done
+    }) own.net own.node own.done own.case own.keeps
     (subst (AllByRecursion (λ x. suits s.case.net x.dst x ≡ true)) (sym pending)
     (all-insert event_before (λ x. suits s.case.net x.dst x ≡ true) e a.pending.events suit c.self.invariant.whole.pending))
 
@@ -69,6 +70,7 @@ returns-clause-ok c =
       outgoing = c.undo_at.new.outgoing;
       sends = c.undo_at.new.sends;
       bound = a.bound;
+      keeps = a.keeps;
     }))) c.self.view_is (
       e,
       undone.0,
@@ -83,5 +85,6 @@ returns-clause-ok c =
         kept = a.kept.events;
         outgoing = outgoing i;
         bound = a.bound;
+        keeps = a.keeps;
       },
     )

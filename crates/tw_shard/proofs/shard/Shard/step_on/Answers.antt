@@ -26,8 +26,9 @@ invariant_of-self-2 c =
           ∙ (c.in_ok-handle_at.ensures.ok ∙ λ i. set (c.deref_mut.ensures.value i) (at i) (record (there i) { ahead = e ∷ (there i).ahead }));
       kept = refl;
       bound = refl;
+      keeps = refl;
       pending_routers = c.remove_one.ensures.routers;
       kept_routers = refl;
-    }) own.net own.node own.done
+    }) own.net own.node own.done own.case own.keeps
     (subst (AllByRecursion (λ x. suits s.case.net x.dst x ≡ true)) (sym c.remove_one.ensures.events)
     (suit_without s.case.net e a.pending.events c.self.invariant.whole.pending))

@@ -5,4 +5,4 @@ use Rattle.tw_shard.proofs.shard.opening.opening_timelines.Given as goal
 
 abbrev pub invariant-loop-place : goal.invariant-loop-place
 invariant-loop-place l =
-    l.timelines.items ≡ map (λ k. opening_timeline l.instance (l.worker + l.workers * k)) (range_with_len 0 l.place)
+    l.timelines.items ≡ map (λ k. opening_timeline l.case l.keeps (l.worker + l.workers * k)) (range_with_len 0 l.place)

@@ -1,40 +1,73 @@
-use Rattle.std.proofs.Common.{◌≡◌, ◌≤◌, ◌++◌, drop, nat_lt, reverse, take, ap, sym, ◌∙◌, subst}
-use Rattle.std.specs.List.{prefix_len}
+use Rattle.std.proofs.Common.{◌≡◌, ◌<◌, ◌≤◌, ◌++◌, false, nat_lt, reverse, take, ap, sym, ◌∙◌, subst}
+use Rattle.std.specs.List.{AllByRecursion, prefix_len}
+use Rattle.tw_model.specs.Case.{IsCase}
 use Rattle.tw_shard.specs.Commit.{committed_to}
-use Rattle.tw_shard.specs.Timeline.{Timeline, events_of, known, last_change_at, noted_change}
-use Rattle.tw_shard.proofs.Commits.{change_committed, gone_events, left_events, noted_left, past_early, past_events, same_history}
+use Rattle.tw_shard.specs.Past.{Past, run_of}
+use Rattle.tw_shard.specs.Timeline.{AreNoted, IsRunBefore, IsTimeline, Timeline, events_of, known, last_change_at, noted_change, timeline_of}
+use Rattle.tw_shard.proofs.Commits.{change_committed, gone_events, left_events, noted_left, past_early, same_history}
+use Rattle.tw_shard.proofs.LettingGo.{all_committed}
 use Rattle.tw_shard.proofs.timeline.Timeline.commit.Goals as goal
+
+pub add-requires : goal.add-requires
+add-requires c = λ lets_go.
+    let a = c.self.inside in
+    let bound = c.args.bound in
+    let n = c.first_before-count.result in
+    let first = c.first_before-count.ensures.value ∙ ap (prefix_len (λ d. nat_lt d.event.time bound)) c.deref.ensures.value in
+    let later : a.past.done ≤ bound = subst (λ (t : Timeline). t.done ≤ bound) (sym c.self.view_is) c.requires.done in
+    let run : IsRunBefore bound (timeline_of a) = subst (IsRunBefore bound) (sym c.self.view_is) (c.requires.run (ap (λ (t : Timeline). t.keeps) (sym c.self.view_is) ∙ lets_go)) in
+    ap (λ steps. events_of (reverse (take n steps)) ++ a.past.events) c.deref-3.ensures.value
+    ∙ (sym (all_committed a.past.case c.self.invariant.is_case bound a.past.done n a.past.events a.ahead.items later first c.self.invariant.past run.falling)
+    ∙ (run.run ∙ ap (λ v. run_of a.past.case v bound) (sym c.self.invariant.node)))
+
+pub invariant_of-self : goal.invariant_of-self
+invariant_of-self c =
+    let a = c.self.inside in
+    subst (λ (p : Past). IsTimeline (record { router = a.router; past = p; ahead = a.ahead; past_change = a.past_change })) (sym c.in_err-add.ensures.err) c.self.invariant
+
+-- the committed events afterwards
+past_now : (c : goal.After-self-1) → c.add.new.self ≡ record c.self.inside.past { events = events_of (reverse (take c.first_before-count.result c.self.inside.ahead.items)) ++ c.self.inside.past.events; done = c.args.bound }
+past_now c =
+    let a = c.self.inside in
+    c.in_ok-add.ensures.ok
+    ∙ ap (λ steps. record a.past { events = events_of (reverse (take c.first_before-count.result steps)) ++ a.past.events; done = c.args.bound }) c.deref-3.ensures.value
 
 pub invariant_of-self-2 : goal.invariant_of-self-2
 invariant_of-self-2 c =
     let a = c.self.inside in
+    let net = a.router.net in
+    let node = a.router.node in
+    let bound = c.args.bound in
     let n = c.first_before-count.result in
-    let first = c.first_before-count.ensures.value ∙ ap (prefix_len (λ d. nat_lt d.event.time c.args.bound)) c.deref.ensures.value in
-    let later : a.done ≤ c.args.bound = subst (λ (t : Timeline). t.done ≤ c.args.bound) (sym c.self.view_is) c.requires in
-    let ahead : c.commit_first.new.ahead.items ≡ drop n a.ahead.items = c.in_ok-commit_first.ensures.ahead in
-    let past : c.commit_first.new.past.items ≡ a.past.items ++ events_of (take n a.ahead.items) = c.in_ok-commit_first.ensures.past in
+    let items = a.ahead.items in
+    let is = c.self.invariant in
+    let first = c.first_before-count.ensures.value ∙ ap (prefix_len (λ d. nat_lt d.event.time bound)) c.deref.ensures.value in
+    let later : a.past.done ≤ bound = subst (λ (t : Timeline). t.done ≤ bound) (sym c.self.view_is) c.requires.done in
+    let past = past_now c in
+    let ahead = c.drop_first.ensures in
     record {
-      state =
-          c.self.invariant.state
-          ∙ ap (known a.router.net a.router.node) (sym (same_history n a.past.items a.ahead.items) ∙ sym (λ i. events_of (reverse (ahead i)) ++ reverse (past i)));
-      noted = rw (ahead, past) (noted_left a.router.net a.router.node n a.past.items a.ahead.items c.self.invariant.noted);
-      past = rw past (past_early a.done c.args.bound n a.past.items a.ahead.items later first c.self.invariant.past);
+      state = is.state ∙ ap (known net node) (sym (same_history n a.past.events items) ∙ sym (λ i. events_of (reverse (ahead i)) ++ (past i).events));
+      noted =
+          subst (λ (p : Past). AreNoted net node p.events (reverse c.drop_first.new.steps.items)) (sym past)
+          (subst (λ l. AreNoted net node (events_of (reverse (take n items)) ++ a.past.events) (reverse l)) (sym ahead) (noted_left net node n a.past.events items is.noted));
+      past = subst (λ (p : Past). AllByRecursion (λ e. e.time < p.done) p.events) (sym past) (past_early a.past.done bound n a.past.events items later first is.past);
       change =
           c.last_change_of-change.ensures
           ∙ (ap (λ steps. noted_change a.past_change (take n steps)) c.deref-2.ensures.value
-          ∙ (change_committed a.router.net a.router.node n a.past.items a.ahead.items a.past_change c.self.invariant.noted c.self.invariant.change
-          ∙ ap (λ events. last_change_at a.router.net a.router.node (reverse events)) (sym past)));
+          ∙ (change_committed net node n a.past.events items a.past_change is.noted is.change ∙ ap (λ (p : Past). last_change_at net node p.events) (sym past)));
+      node = ap (λ (p : Past). p.node) past ∙ is.node;
+      is_case = subst (λ (p : Past). IsCase p.case) (sym past) is.is_case;
     }
 
 pub returns-clause-ok : goal.returns-clause-ok
 returns-clause-ok c =
     let a = c.self.inside in
     let n = c.first_before-count.result in
-    let first = c.first_before-count.ensures.value ∙ ap (prefix_len (λ d. nat_lt d.event.time c.args.bound)) c.deref.ensures.value in
-    let all = events_of (reverse a.ahead.items) in
+    let items = a.ahead.items in
     let bound = c.args.bound in
-    let left = ap (λ l. events_of (reverse l)) c.in_ok-commit_first.ensures.ahead ∙ sym (left_events bound n a.ahead.items first) in
-    let gone =
-    ap reverse c.in_ok-commit_first.ensures.past
-    ∙ (past_events a.past.items (take n a.ahead.items) ∙ ap (λ l. l ++ reverse a.past.items) (sym (gone_events bound n a.ahead.items first))) in
-    (λ i. record { net = a.router.net; node = a.router.node; ahead = left i; past = gone i; done = bound }) ∙ ap (committed_to bound) c.self.view_is
+    let first = c.first_before-count.ensures.value ∙ ap (prefix_len (λ d. nat_lt d.event.time bound)) c.deref.ensures.value in
+    let past = past_now c in
+    let left = ap (λ l. events_of (reverse l)) c.drop_first.ensures ∙ sym (left_events bound n items first) in
+    let gone = ap (λ (p : Past). p.events) past ∙ ap (λ l. l ++ a.past.events) (sym (gone_events bound n items first)) in
+    (λ i. record { net = a.router.net; node = a.router.node; ahead = left i; past = gone i; done = (past i).done; case = (past i).case; keeps = (past i).keeps })
+    ∙ ap (committed_to bound) c.self.view_is

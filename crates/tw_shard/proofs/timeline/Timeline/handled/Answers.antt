@@ -6,10 +6,11 @@ use Rattle.tw_shard.proofs.timeline.Timeline.handled.Goals as goal
 pub returns-else-k-len : goal.returns-else-k-len
 returns-else-k-len c =
     let a = c.self.inside in
-    let past = length a.past.items in
-    let after : past ≤ c.args.k = omega (arith, a.past.ok.0) in
-    let place : c.args.k - c.len-else-k-len.result ≡ c.args.k - past = omega (arith, a.past.ok.0) in
+    let first = c.len.ensures.value in
+    let second = c.len-else-k-len.ensures.value in
+    let after : length a.past.events ≤ c.args.k = omega (arith, first) in
+    let place : c.args.k - c.len-else-k-len.result ≡ c.args.k - length a.past.events = omega (arith, second) in
     c.event_at.ensures
     ∙ (ap₂ (λ steps k. slice_get (events_of steps) k) c.deref.ensures.value place
-    ∙ (ahead_at a.past.items a.ahead.items c.args.k after
+    ∙ (ahead_at a.past.events a.ahead.items c.args.k after
     ∙ ap (λ (t : Timeline). slice_get (reverse (history t)) c.args.k) c.self.view_is))

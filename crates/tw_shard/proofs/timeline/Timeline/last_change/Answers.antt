@@ -8,5 +8,5 @@ returns c =
     let a = c.self.inside in
     c.last_change_of.ensures
     ∙ (ap (noted_change a.past_change) c.deref.ensures.value
-    ∙ (change_now a.router.net a.router.node (reverse a.past.items) a.ahead.items a.past_change c.self.invariant.noted c.self.invariant.change
+    ∙ (change_now a.router.net a.router.node a.past.events a.ahead.items a.past_change c.self.invariant.noted c.self.invariant.change
     ∙ ap (λ (t : Timeline). last_change_at t.net t.node (history t)) c.self.view_is))

@@ -17,7 +17,9 @@ some : (c : goal.After-new) → 0 < length c.in_ok-shards.shards.items
 some c = let count = c.in_ok-shards.ensures.count in let more = c.requires.some in omega arith
 
 pub invariant_of-result : goal.invariant_of-result
-invariant_of-result c = opened_is _ c.instance.ensures.case (some c) (each c) c.new.ensures refl c.requires.stop
+invariant_of-result c =
+    let count = c.in_ok-shards.ensures.count in
+    opened_is _ c.instance.ensures.case (some c) (each c) c.new.ensures refl (λ k h. c.in_ok-shards.ensures.keeps k (omega arith)) c.requires.stop
 
 pub returns-clause-opens : goal.returns-clause-opens
 returns-clause-opens c = opens _ c.instance.ensures.case (some c) (each c) c.new.ensures refl

@@ -1,8 +1,13 @@
 use Rattle.std.proofs.Common.{◌∙◌}
 use Rattle.tw_table.specs.Shares.{share}
-use Rattle.tw_workers.proofs.Commits.{all_done, done_more, kept_committed, same_outgoing}
+use Rattle.tw_workers.proofs.Commits.{all_done, done_more, has_run, kept_committed, same_outgoing}
 use Rattle.tw_workers.proofs.Places.{kept_both, work_kept}
 use Rattle.tw_workers.proofs.worker.Worker.commit.Goals as goal
+
+pub commit_at-requires : goal.commit_at-requires
+commit_at-requires c =
+    let inside = c.loop-router.self-inside in
+    record { run = has_run inside.stop (share inside.shard inside.hand) c.loop-router.invariant.work c.loop-router.router }
 
 pub loop-router-preserved : goal.loop-router-preserved
 loop-router-preserved c =

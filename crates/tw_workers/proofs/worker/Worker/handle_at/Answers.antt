@@ -1,4 +1,4 @@
-use Rattle.std.proofs.Common.{rules, ◌≡◌, Err, refl, ap, sym, ◌∙◌, subst}
+use Rattle.std.proofs.Common.{rules, ◌≡◌, Err, refl, sym, subst}
 use Rattle.tw_core.specs.declared.refusal.Refusal.TheVariants as refusal
 use Rattle.tw_model.specs.declared.memory.OrMemory.TheVariants as or_memory
 use Rattle.tw_shard.specs.Shard.{handling}

@@ -13,4 +13,5 @@ invariant-loop g l = record {
   case : l.self.share.shard.case ≡ l.fn.self.share.shard.case;
   worker : l.self.share.shard.worker ≡ l.fn.self.share.shard.worker;
   workers : l.self.share.shard.workers ≡ l.fn.self.share.shard.workers;
+  keeps : l.self.share.shard.keeps ≡ l.fn.self.share.shard.keeps;
 }

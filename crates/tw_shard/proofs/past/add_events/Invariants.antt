@@ -1,7 +1,7 @@
 use Rattle.std.proofs.Common.{◌≡◌, ◌+◌, ◌≤◌, ◌++◌, drop, length}
 use Rattle.std.specs.Prelude.{vec_capacity, vec_len}
 use Rattle.tw_shard.specs.Timeline.{events_of}
-use Rattle.tw_shard.proofs.timeline.committing.add_events.Given as goal
+use Rattle.tw_shard.proofs.past.add_events.Given as goal
 
 abbrev pub invariant-loop-step : goal.invariant-loop-step
 invariant-loop-step l = record {

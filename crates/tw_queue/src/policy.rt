@@ -1,0 +1,12 @@
+//! Numbers that no clause sees: another one costs time alone.
+
+// A tick with fewer events is sorted as soon as it would be dealt.
+const FEWEST_EVENTS: usize = 64;
+
+// Dealing goes through the lists of all receivers, so there is at least one event for so many of them.
+const RECEIVERS_FOR_ONE_EVENT: usize = 4;
+
+/// Whether a tick of so many events is dealt to so many receivers before it is sorted.
+pub(crate) fn is_full(events: usize, receivers: usize) -> bool {
+    events >= FEWEST_EVENTS && events >= receivers / RECEIVERS_FOR_ONE_EVENT
+}

@@ -1,0 +1,102 @@
+-- What a timeline lets go is the one-thread run's.
+use Rattle.std.proofs.Common.{◌≡◌, ◌⊎◌, ℕ, suc, ◌+◌, ◌<◌, ◌≤◌, Bool, true, false, List, [], ◌∷◌, ◌++◌, Option, Some, None, refl, ap, ap₂, sym, ◌∙◌, subst, inl, inr, arith, nat_lt, if◌then◌else◌}
+use Rattle.std.proofs.Common.{append_assoc, drop, filter, reverse, slice_get, take}
+use Rattle.std.proofs.lemmas.Bool.{cases_Bool, le-ltb, ltb-false}
+use Rattle.std.proofs.lemmas.List.{map-append, reverse-append}
+use Rattle.std.proofs.lemmas.List.Elements.{filter-append}
+use Rattle.std.specs.List.{AllByRecursion, prefix_len}
+use Rattle.tw_core.proofs.Counts.{none_there}
+use Rattle.tw_event.specs.declared.event.Event.{Event}
+use Rattle.tw_model.proofs.Lawful.{lawful, numbered}
+use Rattle.tw_model.specs.Case.{Case, IsCase, simulation}
+use Rattle.tw_shard.proofs.Commits.{all_pass, past_early, past_events, same_history}
+use Rattle.tw_shard.specs.declared.timeline.HandledEvent.{HandledEvent}
+use Rattle.tw_shard.specs.Past.{run_of}
+use Rattle.tw_shard.specs.Timeline.{events_of}
+use Rattle.tw_sim.proofs.Closed.{log_closed}
+use Rattle.tw_sim.proofs.Counts.{none, one_self, times-append}
+use Rattle.tw_sim.specs.Seq.{log}
+use Rattle.tw_sim.specs.Simulation.{IsFalling, below, only, times}
+
+-- nothing is before the first tick
+pub run_none : (case : Case) → IsCase case → (r : ℕ) → run_of case r 0 ≡ []
+run_none case is r =
+    let m = simulation case in
+    let law = lawful case is in
+    let closed = log_closed m law (numbered case is) 0 in
+    ap (only m r) (none_there m law (log m 0) (λ e. none (times m e (log m 0)) (λ h. (let soon = ((closed.exact e).0 h).0 in absurd (omega arith)))))
+
+-- nothing is committed at first
+pub none_past : (case : Case) → IsCase case → (r : ℕ) (keeps : Bool) (items : List Event) → items ≡ [] → (if keeps then reverse items else run_of case r 0) ≡ []
+none_past case is r keeps items none =
+    elim (cases_Bool keeps) [
+      | inl stays ↦ rw stays (ap reverse none)
+      | inr goes ↦ rw goes (run_none case is r)
+    ]
+
+-- the first steps end where one is not before a time
+abbrev StopsAt : ℕ → List HandledEvent → Type 0
+StopsAt time steps = (steps ≡ []) ⊎ ((d : HandledEvent) × (more : List HandledEvent) × (steps ≡ d ∷ more) × (time ≤ d.event.time))
+
+stops_at : (time : ℕ) (steps : List HandledEvent) → StopsAt time (drop (prefix_len (λ d. nat_lt d.event.time time) steps) steps)
+stops_at time [] = inl refl
+stops_at time (d ∷ steps) =
+    elim (cases_Bool (nat_lt d.event.time time)) [
+      | inl early ↦ rw early
+          (let n = prefix_len (λ (d : HandledEvent). nat_lt d.event.time time) steps in
+          let more : suc n ≡ 1 + n = omega arith in
+          subst (λ k. StopsAt time (drop k (d ∷ steps))) more (stops_at time steps))
+      | inr late ↦ rw late (inr (d, steps, refl, ltb-false d.event.time time late))
+    ]
+
+module _ (case : Case) (is : IsCase case) (time : ℕ) where
+  -- what stands in front of an event that is not before a time is not before it either
+  late_front : (newer older : List Event) (e : Event) → IsFalling (simulation case) (newer ++ e ∷ older) → time ≤ e.time → below (simulation case) time (newer ++ e ∷ []) ≡ []
+  late_front [] older e falling late = rw (le-ltb e.time time late) refl
+  late_front (x ∷ newer) older e falling late =
+      let m = simulation case in
+      let law = lawful case is in
+      let there : 0 < times m e (newer ++ e ∷ older) = (let count = times-append m e newer (e ∷ older) in let self = one_self m law e in omega arith) in
+      let no_later : e.time ≤ x.time = law.timely e x (falling.0 e there) in
+      rw (le-ltb x.time time (omega arith)) (late_front newer older e falling.1 late)
+
+  none_early : (steps : List HandledEvent) (older : List Event) → StopsAt time steps → IsFalling (simulation case) (events_of (reverse steps) ++ older)
+      → below (simulation case) time (events_of (reverse steps)) ≡ []
+  none_early steps older (inl none) falling = ap (λ l. below (simulation case) time (events_of (reverse l))) none
+  none_early steps older (inr at) falling =
+      let m = simulation case in
+      let newer = events_of (reverse at.1) in
+      let split : events_of (reverse steps) ≡ newer ++ at.0.event ∷ [] =
+      ap (λ l. events_of (reverse l)) at.2
+      ∙ (ap events_of (reverse-append (at.0 ∷ []) at.1) ∙ map-append (λ (d : HandledEvent). d.event) (reverse at.1) (at.0 ∷ [])) in
+      let parted : IsFalling m (newer ++ at.0.event ∷ older) =
+      subst (IsFalling m) (append_assoc newer (at.0.event ∷ []) older) (subst (λ l. IsFalling m (l ++ older)) split falling) in
+      ap (below m time) split ∙ late_front newer older at.0.event parted at.3
+
+  -- what becomes committed is all that is handled before the bound
+  pub all_committed : (done n : ℕ) (past : List Event) (steps : List HandledEvent) → done ≤ time → n ≡ prefix_len (λ d. nat_lt d.event.time time) steps
+      → AllByRecursion (λ e. e.time < done) past → IsFalling (simulation case) (events_of (reverse steps) ++ past)
+      → below (simulation case) time (events_of (reverse steps) ++ past) ≡ events_of (reverse (take n steps)) ++ past
+  all_committed done n past steps later first early falling =
+      let m = simulation case in
+      let p = λ (e : Event). nat_lt e.time time in
+      let newer = events_of (reverse (drop n steps)) in
+      let older = events_of (reverse (take n steps)) ++ past in
+      let same = same_history n past steps in
+      let stops : StopsAt time (drop n steps) = subst (λ k. StopsAt time (drop k steps)) (sym first) (stops_at time steps) in
+      let none_left : below m time newer ≡ [] = none_early (drop n steps) older stops (subst (IsFalling m) (sym same) falling) in
+      ap (below m time) (sym same)
+      ∙ (filter-append p newer older
+      ∙ ap₂ (λ xs ys. xs ++ ys) none_left (all_pass time older (past_early done time n past steps later first early)))
+
+-- ---- the committed events, and some more
+
+-- where the newest are added to those that are kept, or else the run goes as far
+pub added : (keeps : Bool) (items more run further : List Event) (steps : List HandledEvent) → (keeps ≡ true → more ≡ items ++ events_of steps)
+    → (keeps ≡ false → events_of (reverse steps) ++ (if keeps then reverse items else run) ≡ further)
+    → (if keeps then reverse more else further) ≡ events_of (reverse steps) ++ (if keeps then reverse items else run)
+added keeps items more run further steps kept gone =
+    elim (cases_Bool keeps) [
+      | inl stays ↦ rw stays (ap reverse (kept stays) ∙ past_events items steps)
+      | inr goes ↦ rw goes (sym (ap (λ (b : Bool). events_of (reverse steps) ++ (if b then reverse items else run)) (sym goes) ∙ gone goes))
+    ]

@@ -1,0 +1,131 @@
+//! The committed events of a router.
+ghost use Rattle.std.specs.Prelude.{◌≡◌, ◌+◌, ◌≤◌, ◌<◌, ◌^◌, ◌++◌, [], List, false, true, length, reverse, slice_get, vec_capacity, vec_len, IsOk, OnErr, OnOk};
+ghost use Rattle.std.specs.Option.{option_copied};
+ghost use Rattle.tw_event.specs.declared.event.Event.{Event as AnEvent};
+ghost use Rattle.tw_shard.specs.Past.{run_of};
+ghost use Rattle.tw_shard.specs.Timeline.{events_of};
+
+use crate::timeline::HandledEvent;
+use std::alloc::{AllocError, Global};
+use std::marker::Model;
+use tw_event::Event;
+use tw_instance::Case;
+
+/// The committed events of a router. Where they aren't kept, they are those of the one-thread run, and
+/// only the newest one stays.
+#[derive(Drop)]
+pub(crate) struct Past<'a> {
+    case: &'a Case,
+    node: u32,
+    keeps: bool,
+    events: Vec<Event>,
+    last: Option<Event>,
+    done: u64,
+}
+
+impl<'a> Model for Past<'a> {
+    ghost use Rattle.tw_shard.specs.Past as spec;
+
+    ghost Value = { spec.Past };
+
+    ghost view = { spec.past_of };
+
+    ghost invariant = { spec.IsPast };
+}
+
+impl<'a> Past<'a> {
+    /// Nothing is committed at this router of a case.
+    pub(crate) fn new(alloc: Global, case: &'a Case, node: u32, keeps: bool) -> Past<'a>
+        ensures { result ≡ record { case = case.now; node = node; keeps = keeps; events = []; done = 0 } }
+    {
+        // What a case keeps is told by a read of it.
+        let _ = case.instance();
+        Past {
+            case,
+            node,
+            keeps,
+            events: Vec::new(alloc),
+            last: None,
+            done: 0,
+        }
+    }
+
+    /// The bound at the latest commit.
+    pub(crate) fn done(&self) -> u64
+        ensures { result ≡ self.now.done }
+    {
+        self.done
+    }
+
+    /// The newest one.
+    pub(crate) fn last(&self) -> Option<&Event>
+        ensures { option_copied result ≡ slice_get self.now.events 0 }
+    {
+        self.last.as_ref()
+    }
+
+    /// How many there are.
+    pub(crate) fn len(&self) -> usize
+        requires { self.now.keeps ≡ true }
+        ensures value { result ≡ length self.now.events }
+        ensures most { result < 2 ^ 63 }
+    {
+        self.events.len()
+    }
+
+    /// Event number `k`, from 0, the oldest first.
+    pub(crate) fn event(&self, k: usize) -> Option<Event>
+        requires { self.now.keeps ≡ true }
+        ensures { result ≡ slice_get (reverse self.now.events) k }
+    {
+        self.events.get(k).copied()
+    }
+
+    /// The events of these steps, the oldest first, become committed, to this bound. Where they aren't kept,
+    /// all to this bound are those of the one-thread run. It takes memory only for events that are kept.
+    pub(crate) fn add(&mut self, steps: &[HandledEvent], bound: u64) -> Result<(), AllocError>
+        requires { self.old.keeps ≡ false → events_of (reverse steps.now) ++ self.old.events ≡ run_of self.old.case self.old.node bound }
+        ensures ok { OnOk result (self.new ≡ record self.old { events = events_of (reverse steps.now) ++ self.old.events; done = bound }) }
+        ensures err { OnErr result (self.new ≡ self.old) }
+        ensures free { length steps.now ≡ 0 → IsOk result }
+    {
+        keep(&mut self.events, steps, self.keeps)?;
+        self.last = newest(steps, self.last);
+        self.done = bound;
+        Ok(())
+    }
+}
+
+/// The event of the last one of some steps, or `older` where there is none.
+fn newest(steps: &[HandledEvent], older: Option<Event>) -> Option<Event>
+    ensures { (events : List AnEvent) → older ≡ slice_get events 0 → result ≡ slice_get (events_of (reverse steps.now) ++ events) 0 }
+{
+    match steps.last() {
+        Some(step) => Some(step.event),
+        None => older,
+    }
+}
+
+/// Adds the events of steps where they are kept.
+fn keep(events: &mut Vec<Event>, steps: &[HandledEvent], keeps: bool) -> Result<(), AllocError>
+    ensures ok { OnOk result (keeps ≡ true → events.new.items ≡ events.old.items ++ events_of steps.now) }
+    ensures err { OnErr result (events.new.items ≡ events.old.items) }
+    ensures free { length steps.now ≡ 0 → IsOk result }
+{
+    if !keeps || steps.is_empty() {
+        return Ok(());
+    }
+    events.reserve(steps.len())?;
+    add_events(events, steps);
+    Ok(())
+}
+
+/// Adds the events of steps, for which there is room.
+fn add_events(events: &mut Vec<Event>, steps: &[HandledEvent])
+    requires { vec_len events.old + length steps.now ≤ vec_capacity events.old }
+    ensures { events.new.items ≡ events.old.items ++ events_of steps.now }
+{
+    for step in steps {
+        events.push_reserved(step.event);
+    }
+}
