@@ -97,6 +97,6 @@ pub record IsTimeline (a : Inside) : Type 0 where
   pub is_case : IsCase a.past.case
 
 -- the history is in order, and before this time it is that of the one-thread run
-pub record IsRunBefore (time : ℕ) (t : Timeline) : Type 0 where
+pub record IsRunUntil (time : ℕ) (t : Timeline) : Type 0 where
   pub falling : IsFalling (simulation t.case) (history t)
   pub run : below (simulation t.case) time (history t) ≡ run_of t.case t.node time

@@ -6,7 +6,7 @@ ghost use Rattle.tw_model.specs.Case.{simulation};
 ghost use Rattle.tw_model.specs.declared.memory.OrMemory.TheVariants as or_memory;
 ghost use Rattle.tw_shard.specs.Commit.{HasNothingToCommit, committed_at, committed_to, committing, count_left};
 ghost use Rattle.tw_shard.specs.Shard.{HasRun, IsSameShare, core, no_timeline, owns, timeline};
-ghost use Rattle.tw_shard.specs.Timeline.{IsRunBefore, history, last_change_at};
+ghost use Rattle.tw_shard.specs.Timeline.{IsRunUntil, history, last_change_at};
 
 use super::Shard;
 use crate::timeline::Timeline;
@@ -107,7 +107,7 @@ impl<'a> Shard<'a> {
 fn commit_at(timelines: &mut [Timeline<'_>], place: usize, bound: u64) -> Result<(), AllocError>
     requires within { place < length timelines.old }
     requires done { (slice_index_or timelines.old place no_timeline).done ≤ bound }
-    requires run { let t = slice_index_or timelines.old place no_timeline in t.keeps ≡ false → IsRunBefore bound t }
+    requires run { let t = slice_index_or timelines.old place no_timeline in t.keeps ≡ false → IsRunUntil bound t }
     ensures ok { OnOk result
         (timelines.new ≡ slice_set timelines.old place (committed_to bound (slice_index_or timelines.old place no_timeline))) }
     ensures err { OnErr result (timelines.new ≡ timelines.old) }

@@ -1,7 +1,7 @@
 ghost use Rattle.std.specs.Prelude.{◌≡◌, ◌+◌, ◌-◌, ◌≤◌, count_by, drop, false, filter, length, nat_lt, reverse, slice_get, true, IsOk, OnErr, OnOk};
 ghost use Rattle.std.specs.List.{prefix_len};
 ghost use Rattle.tw_shard.specs.Commit.{committed_to, count_left};
-ghost use Rattle.tw_shard.specs.Timeline.{IsRunBefore, events_of, history, last_change_at, noted_change};
+ghost use Rattle.tw_shard.specs.Timeline.{IsRunUntil, events_of, history, last_change_at, noted_change};
 
 use super::{HandledEvent, Timeline};
 use std::alloc::AllocError;
@@ -13,7 +13,7 @@ impl Timeline<'_> {
     /// handled before the bound is the one-thread run.
     pub(crate) fn commit(&mut self, bound: u64) -> Result<(), AllocError>
         requires done { self.old.done ≤ bound }
-        requires run { self.old.keeps ≡ false → IsRunBefore bound self.old }
+        requires run { self.old.keeps ≡ false → IsRunUntil bound self.old }
         ensures ok { OnOk result (self.new ≡ committed_to bound self.old) }
         ensures err { OnErr result (self.new ≡ self.old) }
         ensures free { count_left bound self.old.ahead ≡ length self.old.ahead → IsOk result }

@@ -3,7 +3,7 @@ use Rattle.std.specs.List.{AllByRecursion, prefix_len}
 use Rattle.tw_model.specs.Case.{IsCase}
 use Rattle.tw_shard.specs.Commit.{committed_to}
 use Rattle.tw_shard.specs.Past.{Past, run_of}
-use Rattle.tw_shard.specs.Timeline.{AreNoted, IsRunBefore, IsTimeline, Timeline, events_of, known, last_change_at, noted_change, timeline_of}
+use Rattle.tw_shard.specs.Timeline.{AreNoted, IsRunUntil, IsTimeline, Timeline, events_of, known, last_change_at, noted_change, timeline_of}
 use Rattle.tw_shard.proofs.Commits.{change_committed, gone_events, left_events, noted_left, past_early, same_history}
 use Rattle.tw_shard.proofs.LettingGo.{all_committed}
 use Rattle.tw_shard.proofs.timeline.Timeline.commit.Goals as goal
@@ -15,7 +15,7 @@ add-requires c = λ lets_go.
     let n = c.first_before-count.result in
     let first = c.first_before-count.ensures.value ∙ ap (prefix_len (λ d. nat_lt d.event.time bound)) c.deref.ensures.value in
     let later : a.past.done ≤ bound = subst (λ (t : Timeline). t.done ≤ bound) (sym c.self.view_is) c.requires.done in
-    let run : IsRunBefore bound (timeline_of a) = subst (IsRunBefore bound) (sym c.self.view_is) (c.requires.run (ap (λ (t : Timeline). t.keeps) (sym c.self.view_is) ∙ lets_go)) in
+    let run : IsRunUntil bound (timeline_of a) = subst (IsRunUntil bound) (sym c.self.view_is) (c.requires.run (ap (λ (t : Timeline). t.keeps) (sym c.self.view_is) ∙ lets_go)) in
     ap (λ steps. events_of (reverse (take n steps)) ++ a.past.events) c.deref-3.ensures.value
     ∙ (sym (all_committed a.past.case c.self.invariant.is_case bound a.past.done n a.past.events a.ahead.items later first c.self.invariant.past run.falling)
     ∙ (run.run ∙ ap (λ v. run_of a.past.case v bound) (sym c.self.invariant.node)))
