@@ -13,7 +13,6 @@ use Rattle.tw_event.specs.declared.event.Event.{Event}
 use Rattle.tw_event.specs.Order.{event_before, event_same}
 use Rattle.tw_model.specs.Case.{Case, IsCase, opening_events, simulation}
 use Rattle.tw_model.specs.Effect.{suits}
-use Rattle.tw_model.specs.Net.{Net}
 use Rattle.tw_model.proofs.Lawful.{lawful}
 use Rattle.tw_model.proofs.Within.{suits_within}
 use Rattle.tw_queue.proofs.Ordered.{all-filter}

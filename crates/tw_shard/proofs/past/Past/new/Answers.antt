@@ -1,6 +1,4 @@
-use Rattle.std.proofs.Common.{◌≡◌, [], List, Bool, None, ap, sym, ◌∙◌, reverse, slice_get, inl, inr, if◌then◌else◌}
-use Rattle.std.proofs.lemmas.Bool.{cases_Bool}
-use Rattle.tw_event.specs.declared.event.Event.{Event}
+use Rattle.std.proofs.Common.{ap, sym, slice_get}
 use Rattle.tw_shard.proofs.LettingGo.{none_past}
 use Rattle.tw_shard.proofs.past.Past.new.Goals as goal
 

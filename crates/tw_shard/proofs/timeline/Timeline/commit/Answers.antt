@@ -1,4 +1,4 @@
-use Rattle.std.proofs.Common.{◌≡◌, ◌<◌, ◌≤◌, ◌++◌, false, nat_lt, reverse, take, ap, sym, ◌∙◌, subst}
+use Rattle.std.proofs.Common.{◌≡◌, ◌<◌, ◌≤◌, ◌++◌, nat_lt, reverse, take, ap, sym, ◌∙◌, subst}
 use Rattle.std.specs.List.{AllByRecursion, prefix_len}
 use Rattle.tw_model.specs.Case.{IsCase}
 use Rattle.tw_shard.specs.Commit.{committed_to}

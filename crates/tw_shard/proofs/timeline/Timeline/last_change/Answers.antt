@@ -1,4 +1,4 @@
-use Rattle.std.proofs.Common.{reverse, ap, ◌∙◌}
+use Rattle.std.proofs.Common.{ap, ◌∙◌}
 use Rattle.tw_shard.specs.Timeline.{Timeline, history, last_change_at, noted_change}
 use Rattle.tw_shard.proofs.Commits.{change_now}
 use Rattle.tw_shard.proofs.timeline.Timeline.last_change.Goals as goal
