@@ -2,7 +2,7 @@ pub mod Ordered
 pub mod Events
 pub mod Places
 pub mod Lists
-pub mod Deals
+pub mod Updates
 pub mod Rows
 pub mod Groups
 pub mod Tables

@@ -40,10 +40,10 @@ some_left i [] l = absurd (omega arith)
 some_left zero (x ∷ xs) l = l
 some_left (suc i) (x ∷ xs) l = some_left i xs (omega arith)
 
-pub read_left : (i : ℕ) (xs : List Event) (x : Event) → i < length xs → x ≡ get_or xs i x → Some x ≡ slice_get (drop i xs) 0
-read_left i [] x l h = absurd (omega arith)
-read_left zero (y ∷ ys) x l h = ap Some h
-read_left (suc i) (y ∷ ys) x l h = read_left i ys x (omega arith) h
+pub slice_left : (i : ℕ) (xs : List Event) → slice_get xs i ≡ slice_get (drop i xs) 0
+slice_left zero xs = refl
+slice_left (suc i) [] = refl
+slice_left (suc i) (x ∷ xs) = slice_left i xs
 
 -- the tick at hand comes first
 module _ (tick : ℕ) (later : List Event) (after : (e : Event) → 0 < times event_same e later → tick < e.time) where
@@ -243,6 +243,13 @@ module _ (lists : List (List Event)) (number : length lists ≡ 64) (placed : Is
         let a = alike p e (omega arith) in
         let s = stamp p within in
         omega arith
+
+  -- the time in the row of a bucket that has a time or is empty
+  pub free_slot : (t i : ℕ) → i ≡ slot_at t → (xs : List Event) → xs ≡ get_or lists i xs → (first_time xs ≡ t) ⊎ (first_time xs ≡ never) → (get_or row i 0 ≡ t) ⊎ (get_or row i 0 ≡ never)
+  free_slot t i i_is xs xs_is h =
+      let below = slot_below t in
+      let at = stamp i (omega arith) ∙ ap first_time (sym (get_or_read lists i xs (omega arith) xs_is [])) in
+      elim h [ inl q ↦ inl (at ∙ q) | inr q ↦ inr (at ∙ q) ]
 
   -- an event goes in
   module _ (e : Event) (i : ℕ) (i_is : i ≡ slot_at e.time) (soon : e.time < never) (free : (get_or row i 0 ≡ e.time) ⊎ (get_or row i 0 ≡ never))

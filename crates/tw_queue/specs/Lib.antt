@@ -6,3 +6,4 @@ pub mod Table
 pub mod Least
 pub mod Pending
 pub mod Ring
+pub mod Update

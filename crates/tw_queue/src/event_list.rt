@@ -1,7 +1,6 @@
-ghost use Rattle.std.specs.Prelude.{◌≡◌, ◌+◌, ◌++◌, ◌<◌, ◌≤◌, IfNone, IfOk, IfSome, IsOk, OnErr, OnOk, [], drop, length, slice_get};
+ghost use Rattle.std.specs.Prelude.{◌≡◌, ◌+◌, ◌++◌, ◌<◌, ◌≤◌, IfNone, IfOk, IfSome, IsOk, OnErr, OnOk, Some, [], drop, length, option_map, slice_get};
 ghost use Rattle.std.specs.BinaryHeap.{heap_items, IsHeap};
 ghost use Rattle.std.specs.Bool.{OnFalse, OnTrue};
-ghost use Rattle.std.specs.Option.{option_copied};
 ghost use Rattle.tw_event.specs.Order.{event_before};
 ghost use Rattle.tw_queue.specs.Heap.{heap_events};
 ghost use Rattle.tw_queue.specs.InOrder.{in_order};
@@ -18,8 +17,8 @@ use tw_event::Event;
 
 /// Events that wait to be handled, each as often as it was inserted.
 ///
-/// The least one comes out fast. Events of the next 64 ticks stand in buckets of one tick, which is put in
-/// order when it is begun, and all others in a heap. [`Pending`](crate::Pending) also answers for one
+/// The least one comes out fast. Paths that arrive in the next 64 ticks stand in buckets of one tick, which is
+/// put in order when it is begun, and all other events in a heap. [`Pending`](crate::Pending) also answers for one
 /// router, and takes an event out wherever it stands.
 #[derive(Drop)]
 pub struct EventList {
@@ -71,6 +70,7 @@ impl EventList {
     }
 
     /// Adds an event, in its place in the order. It cannot fail where there is room.
+    #[inline]
     pub fn insert(&mut self, event: &Event) -> Result<(), AllocError>
         requires { event.now.dst < self.old.routers }
         ensures ok { OnOk result (self.new.events ≡ insert event_before event.now self.old.events) }
@@ -86,17 +86,58 @@ impl EventList {
         Ok(())
     }
 
-    /// The least event, where it stands: reading it copies nothing.
-    pub fn least(&self) -> Option<&Event>
-        ensures first { option_copied result ≡ slice_get self.now.events 0 }
-        ensures home { IfSome result (λ e. e.now.dst < self.now.routers) }
+    /// The least event.
+    pub fn least(&self) -> Option<Event>
+        ensures first { result ≡ slice_get self.now.events 0 }
+        ensures home { IfSome result (λ e. e.dst < self.now.routers) }
+        ensures queue { IsQueue self.now }
+    {
+        let mut event = Event::default();
+        if self.copy_least(&mut event) {
+            Some(event)
+        } else {
+            None
+        }
+    }
+
+    /// The time of the least event, in ticks.
+    pub fn least_time(&self) -> Option<u64>
+        ensures { result ≡ option_map (λ e. e.time) (slice_get self.now.events 0) }
+    {
+        self.least().map(|event| event.time)
+    }
+
+    /// Copies the least event, where there is one, and tells whether there is: without one the event stays as
+    /// it was.
+    #[inline]
+    pub fn copy_least(&self, event: &mut Event) -> bool
+        ensures some { OnTrue result (Some event.new ≡ slice_get self.now.events 0) }
+        ensures home { OnTrue result (event.new.dst < self.now.routers) }
+        ensures empty { OnFalse result (self.now.events ≡ []) }
+        ensures none { OnFalse result (event.new ≡ event.old) }
         ensures queue { IsQueue self.now }
     {
         if !is_heap_first(&self.ring, &self.heap) {
-            return self.ring.least();
+            return self.ring.copy_least(event);
         }
-        let event = self.heap.peek()?;
-        Some(&event.0)
+        copy_top(&self.heap, event)
+    }
+
+    /// Takes out the least event, where there is one.
+    #[inline]
+    pub fn skip_least(&mut self)
+        ensures events { self.new.events ≡ drop 1 self.old.events }
+        ensures routers { self.new.routers ≡ self.old.routers }
+        ensures room { self.old.room ≤ self.new.room }
+    {
+        if !is_heap_first(&self.ring, &self.heap) {
+            self.ring.skip_least();
+            return;
+        }
+        let Some(event) = self.heap.pop() else {
+            return;
+        };
+        self.ring.go_to(event.0.time);
     }
 
     /// Takes out the least event.
@@ -108,16 +149,14 @@ impl EventList {
         ensures room { self.old.room ≤ self.new.room }
         ensures none { IfNone result (self.new ≡ self.old) }
     {
-        if !is_heap_first(&self.ring, &self.heap) {
-            return self.ring.take_least();
-        }
-        let event = self.heap.pop()?;
-        self.ring.go_to(event.0.time);
-        Some(event.0)
+        let event = self.least()?;
+        self.skip_least();
+        Some(event)
     }
 
     /// Puts the events of the next tick in order, where all before them are taken out, so that they come out
     /// fast. Events of that tick that are inserted later come out less fast.
+    #[inline]
     pub fn begin_tick(&mut self)
         ensures { self.new ≡ self.old }
     {
@@ -141,6 +180,7 @@ impl EventList {
 }
 
 // Whether the least event of all is that of the heap, and not that of the ring.
+#[inline]
 fn is_heap_first(ring: &Ring, heap: &BinaryHeap<Reverse<Event>>) -> bool
     requires { IsHeap ⟦<Reverse<Event> as Ord>⟧.cmp (heap_items heap.now) }
     ensures heap { OnTrue result
@@ -153,10 +193,26 @@ fn is_heap_first(ring: &Ring, heap: &BinaryHeap<Reverse<Event>>) -> bool
     let Some(top) = heap.peek() else {
         return false;
     };
-    match ring.least() {
-        Some(event) => comes_before(&top.0, event),
-        None => true,
+    let mut event = Event::default();
+    if !ring.copy_least(&mut event) {
+        return true;
     }
+    comes_before(&top.0, &event)
+}
+
+// Copies the least event of a heap, where there is one, and tells whether there is.
+#[inline(never)]
+fn copy_top(heap: &BinaryHeap<Reverse<Event>>, event: &mut Event) -> bool
+    requires { IsHeap ⟦<Reverse<Event> as Ord>⟧.cmp (heap_items heap.now) }
+    ensures some { OnTrue result (Some event.new ≡ slice_get (in_order event_before (heap_events (heap_items heap.now))) 0) }
+    ensures beyond { OnFalse result (heap_items heap.now ≡ []) }
+    ensures none { OnFalse result (event.new ≡ event.old) }
+{
+    let Some(top) = heap.peek() else {
+        return false;
+    };
+    *event = top.0;
+    true
 }
 
 // The events of a heap's items.

@@ -14,6 +14,7 @@ mod ring;
 mod router_queue;
 mod search;
 mod tick;
+mod update;
 
 pub use event_list::EventList;
 pub use pending::Pending;

@@ -1,7 +1,6 @@
 // Events by time, for a run that takes the least of them again and again.
-ghost use Rattle.std.specs.Prelude.{ℕ, ◌≡◌, ◌<◌, ◌≤◌, ◌+◌, ◌++◌, ◌⊎◌, [], drop, length, slice_get, slice_index_or, IfOk, OnOk};
+ghost use Rattle.std.specs.Prelude.{ℕ, ◌≡◌, ◌<◌, ◌≤◌, ◌+◌, ◌++◌, None, Some, [], drop, slice_get, slice_index_or, IfOk, OnOk};
 ghost use Rattle.std.specs.Bool.{OnFalse, OnTrue};
-ghost use Rattle.std.specs.Option.{option_copied};
 ghost use Rattle.tw_event.specs.declared.event.Event.{Event};
 ghost use Rattle.tw_event.specs.Order.{event_before, event_same};
 ghost use Rattle.tw_queue.specs.Buckets.{together};
@@ -10,8 +9,8 @@ ghost use Rattle.tw_queue.specs.Table.{never};
 ghost use Rattle.tw_sim.specs.Ordered.{insert, times};
 ghost use Rattle.tw_sim.specs.Rising.{IsRising};
 
-use crate::search::first_of;
 use crate::tick::{Tick, append_all};
+use crate::update::Update;
 use std::alloc::{AllocError, Global};
 use std::array;
 use std::marker::Model;
@@ -68,8 +67,8 @@ impl Ring {
         })
     }
 
-    /// Adds an event where it is later than the tick at hand and soon, its bucket has no event of another
-    /// tick, and memory is not refused, and tells whether it did.
+    /// Adds an event where it is a path that arrives, later than the tick at hand and soon, its bucket has no
+    /// event of another tick, and memory is not refused, and tells whether it did.
     #[inline]
     pub(crate) fn insert(&mut self, event: &Event) -> bool
         ensures added { OnTrue result (self.new ≡ insert event_before event.now self.old) }
@@ -82,27 +81,29 @@ impl Ring {
         if !is_later(time, self.tick) {
             return false;
         }
-        let slot = slot_of(time);
-        if !is_free_for(time, self.times[slot]) {
+        let Some(update) = Update::of(event) else {
             return false;
-        }
+        };
+        let slot = slot_of(time);
         reuse_memory(&mut self.buckets, slot_of(self.tick), slot);
-        if let Err(_) = self.buckets[slot].push(event) {
+        if !self.buckets[slot].push(time, &update) {
             return false;
         }
         self.times[slot] = time;
         true
     }
 
-    /// The least event.
+    /// Copies the least event, where there is one, and tells whether there is.
     #[inline]
-    pub(crate) fn least(&self) -> Option<&Event>
-        ensures { option_copied result ≡ slice_get self.now 0 }
+    pub(crate) fn copy_least(&self, event: &mut Event) -> bool
+        ensures some { OnTrue result (Some event.new ≡ slice_get self.now 0) }
+        ensures beyond { OnFalse result (slice_get self.now 0 ≡ None) }
+        ensures none { OnFalse result (event.new ≡ event.old) }
     {
-        match self.hand.events().get(self.taken) {
-            Some(event) => Some(event),
-            None => first_of(self.buckets[first_place(&self.times)].events()),
+        if self.hand.copy(self.taken, event) {
+            return true;
         }
+        self.buckets[first_place(&self.times)].copy_least(event)
     }
 
     /// How many events of the tick at hand are taken out. The events are in order.
@@ -122,10 +123,11 @@ impl Ring {
 
     /// Puts the events of the next tick at hand, in order, where those at hand are all taken out, and that tick
     /// is at `latest`, in ticks, at the latest.
+    #[inline]
     pub(crate) fn begin_tick(&mut self, latest: u64)
         ensures { self.new ≡ self.old }
     {
-        if self.taken < self.hand.events().len() {
+        if self.taken < self.hand.len() {
             return;
         }
         let place = first_place(&self.times);
@@ -141,20 +143,19 @@ impl Ring {
         self.times[place] = u64::MAX;
     }
 
-    /// Takes out the least event.
-    pub(crate) fn take_least(&mut self) -> Option<Event>
-        ensures first { result ≡ slice_get self.old 0 }
-        ensures events { self.new ≡ drop 1 self.old }
+    /// Takes out the least event, where there is one.
+    #[inline]
+    pub(crate) fn skip_least(&mut self)
+        ensures { self.new ≡ drop 1 self.old }
     {
-        if let Some(event) = self.hand.events().get(self.taken) {
-            let event = *event;
+        if self.taken < self.hand.len() {
             self.taken += 1;
-            return Some(event);
+            return;
         }
         let place = first_place(&self.times);
         let time = self.times[place];
         if time == u64::MAX {
-            return None;
+            return;
         }
         let bucket = &mut self.buckets[place];
         self.hand.take_over(bucket, &mut self.receivers);
@@ -162,7 +163,6 @@ impl Ring {
         self.tick = time;
         self.from = time;
         self.times[place] = u64::MAX;
-        self.hand.events().first().copied()
     }
 
     /// Puts its events at the end of a list.
@@ -170,7 +170,7 @@ impl Ring {
         ensures ok { OnOk result ((e : Event) → times event_same e events.new.items ≡ times event_same e self.now + times event_same e events.old.items) }
     {
         events.reserve(count_all(&self.buckets))?;
-        append_left(self.hand.events(), self.taken, events)?;
+        self.hand.append_from(self.taken, events)?;
         append_all(&self.buckets, events)?;
         Ok(())
     }
@@ -178,32 +178,23 @@ impl Ring {
 
 // At least as many as there are events in these.
 fn count_all(ticks: &[Tick]) -> usize {
-    ticks.iter().fold(
-        0,
-        |count: usize, tick| count.saturating_add(tick.events().len()),
-    )
-}
-
-// Puts the events that are not taken out at the end of a list.
-fn append_left(hand: &[Event], taken: usize, events: &mut Vec<Event>) -> Result<(), AllocError>
-    requires { taken ≤ length hand.now }
-    ensures { OnOk result (events.new.items ≡ events.old.items ++ drop taken hand.now) }
-{
-    events.extend_from_slice(&hand[taken..])?;
-    Ok(())
+    ticks
+        .iter()
+        .fold(0, |count: usize, tick| count.saturating_add(tick.len()))
 }
 
 // Gives an empty bucket the memory of another empty one, as that of the tick at hand is: it is still in the
 // nearest caches, and so a run goes through the same memory again and again, and not through 64 buckets' in turn.
+#[inline]
 fn reuse_memory(buckets: &mut [Tick; 64], from: usize, to: usize)
     requires from { from < 64 }
     requires to { to < 64 }
     ensures { buckets.new ≡ buckets.old }
 {
-    if !buckets[to].events().is_empty() {
+    if buckets[to].len() != 0 {
         return;
     }
-    if buckets[from].events().is_empty() {
+    if buckets[from].len() == 0 {
         buckets.swap(from, to);
     }
 }
@@ -227,14 +218,8 @@ fn is_later(time: u64, tick: u64) -> bool
     tick < time && time < u64::MAX
 }
 
-// Whether a bucket with this time may take an event at `time`.
-fn is_free_for(time: u64, bucket: u64) -> bool
-    ensures { OnTrue result ((bucket ≡ time) ⊎ (bucket ≡ never)) }
-{
-    bucket == time || bucket == u64::MAX
-}
-
 // A place of the least of the times.
+#[inline(never)]
 fn first_place(times: &[u64; 64]) -> usize
     ensures within { result < 64 }
     ensures least { (k : ℕ) → k < 64 → slice_index_or times.now result 0 ≤ slice_index_or times.now k 0 }

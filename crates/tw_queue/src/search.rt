@@ -68,17 +68,6 @@ pub(crate) fn comes_before(event: &Event, other: &Event) -> bool
     event < other
 }
 
-// The least of these, where it stands.
-pub(crate) fn first_of(events: &[Event]) -> Option<&Event>
-    ensures { option_copied result ≡ least_with None events.now }
-{
-    let mut least = None;
-    for event in events {
-        least = Some(sooner(event, least));
-    }
-    least
-}
-
 // The one of the two events that comes first, where it stands.
 pub(crate) fn sooner<'a>(event: &'a Event, other: Option<&'a Event>) -> &'a Event
     ensures { result.now ≡ earlier event.now (option_copied other.entry) }

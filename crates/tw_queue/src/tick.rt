@@ -1,31 +1,36 @@
 // Events of one tick.
-ghost use Rattle.std.specs.Prelude.{◌≡◌, ◌+◌, ◌++◌, [], ◌∷◌, OnErr, OnOk, length};
-ghost use Rattle.std.specs.Bool.{OnTrue};
+ghost use Rattle.std.specs.Prelude.{◌≡◌, ◌==◌, ◌+◌, ◌++◌, ◌<◌, ◌≤◌, ◌⊎◌, [], ◌∷◌, None, OnOk, Some, drop, length, slice_get};
+ghost use Rattle.std.specs.Bool.{OnFalse, OnTrue};
 ghost use Rattle.tw_event.specs.declared.event.Event.{Event as AnEvent};
 ghost use Rattle.tw_event.specs.Order.{event_before, event_same};
 ghost use Rattle.tw_queue.specs.Buckets.{together};
-ghost use Rattle.tw_queue.specs.InOrder.{in_order};
+ghost use Rattle.tw_queue.specs.InOrder.{in_order, least_with};
+ghost use Rattle.tw_queue.specs.Table.{first_time, never};
+ghost use Rattle.tw_queue.specs.Update.{event_at, events_at};
 ghost use Rattle.tw_sim.specs.Ordered.{times};
 
 use crate::policy::is_full;
+use crate::update::{Update, append_at, first_of};
 use std::alloc::{AllocError, Global};
 use std::marker::Model;
 use std::mem::swap;
 use tw_event::Event;
 
-/// Events in the order in which they were put in, until they are sorted.
+/// Events of one time in the order in which they were put in, until they are sorted.
 #[derive(Drop)]
 pub(crate) struct Tick {
-    events: Vec<Event>,
+    time: u64,
+    updates: Vec<Update>,
 }
 
 impl Model for Tick {
     ghost use Rattle.std.specs.Prelude.{List};
     ghost use Rattle.tw_event.specs.declared.event.Event.{Event};
+    ghost use Rattle.tw_queue.specs.Update.{events_at};
 
     ghost Value = { List Event };
 
-    ghost view = { λ a. a.events.items };
+    ghost view = { λ a. events_at a.time a.updates.items };
 }
 
 impl Tick {
@@ -34,63 +39,130 @@ impl Tick {
         ensures { result ≡ [] }
     {
         Tick {
-            events: Vec::new(alloc),
+            time: 0,
+            updates: Vec::new(alloc),
         }
     }
 
-    /// The events.
-    pub(crate) fn events(&self) -> &[Event]
-        ensures { result.now ≡ self.now }
+    /// How many events there are.
+    #[inline]
+    pub(crate) fn len(&self) -> usize
+        ensures { result ≡ length self.now }
     {
-        &self.events
+        self.updates.len()
     }
 
-    /// Puts an event in.
+    /// Puts an update of this time, in ticks, in where all others are of this time too and memory is not
+    /// refused, and tells whether it did.
     #[inline]
-    pub(crate) fn push(&mut self, event: &Event) -> Result<(), AllocError>
-        ensures ok { OnOk result (self.new ≡ self.old ++ event.now ∷ []) }
-        ensures err { OnErr result (self.new ≡ self.old) }
+    pub(crate) fn push(&mut self, time: u64, update: &Update) -> bool
+        ensures added { OnTrue result (self.new ≡ self.old ++ event_at time update.now ∷ []) }
+        ensures same { OnFalse result (self.new ≡ self.old) }
+        ensures alike { OnTrue result ((first_time self.old ≡ time) ⊎ (first_time self.old ≡ never)) }
     {
-        self.events.push(*event)?;
-        Ok(())
+        if self.updates.is_empty() {
+            self.time = time;
+        }
+        if self.time != time {
+            return false;
+        }
+        self.updates.push(*update).is_ok()
+    }
+
+    /// Copies the event at a place, where there is one, and tells whether there is.
+    #[inline]
+    pub(crate) fn copy(&self, place: usize, event: &mut Event) -> bool
+        ensures some { OnTrue result (Some event.new ≡ slice_get self.now place) }
+        ensures within { OnTrue result (place < length self.now) }
+        ensures beyond { OnFalse result (length self.now ≤ place) }
+        ensures none { OnFalse result (event.new ≡ event.old) }
+    {
+        let Some(update) = self.updates.get(place) else {
+            return false;
+        };
+        *event = update.at(self.time);
+        true
+    }
+
+    /// Copies the least event, where there is one, and tells whether there is.
+    #[inline(never)]
+    pub(crate) fn copy_least(&self, event: &mut Event) -> bool
+        ensures some { OnTrue result (Some event.new ≡ least_with None self.now) }
+        ensures beyond { OnFalse result (least_with None self.now ≡ None) }
+        ensures none { OnFalse result (event.new ≡ event.old) }
+    {
+        let Some(update) = first_of(&self.updates) else {
+            return false;
+        };
+        *event = update.at(self.time);
+        true
+    }
+
+    /// Puts its events, but for the first `start`, at the end of a list.
+    pub(crate) fn append_from(
+        &self,
+        start: usize,
+        events: &mut Vec<Event>,
+    ) -> Result<(), AllocError>
+        requires { start ≤ length self.now }
+        ensures { OnOk result (events.new.items ≡ events.old.items ++ drop start self.now) }
+    {
+        append_at(self.time, &self.updates[start..], events)
+    }
+
+    // Puts its updates at the end of a list of updates of this time, in ticks, and tells whether it did: not
+    // where its own are of another time, nor where memory is refused.
+    fn append_updates(&self, time: u64, updates: &mut Vec<Update>) -> bool
+        ensures { OnTrue result (events_at time updates.new.items ≡ events_at time updates.old.items ++ self.now) }
+    {
+        if self.updates.is_empty() {
+            return true;
+        }
+        if time != self.time {
+            return false;
+        }
+        updates.extend_from_slice(&self.updates).is_ok()
     }
 
     /// Takes all events out. The memory is kept.
     fn clear(&mut self)
         ensures { self.new ≡ [] }
     {
-        self.events.clear();
+        self.updates.clear();
     }
 
     /// Takes the events of another list in the place of its own, and puts them in order. Where they are many,
     /// they are dealt to `receivers` first, a list for each router, which leaves little to sort.
+    #[inline(never)]
     pub(crate) fn take_over(&mut self, other: &mut Tick, receivers: &mut [Tick])
         ensures events { self.new ≡ in_order event_before other.old }
         ensures empty { other.new ≡ [] }
     {
-        if self.deal(&other.events, receivers) {
+        if self.deal(other, receivers) {
             other.clear();
         } else {
             self.clear();
-            swap(&mut self.events, &mut other.events);
+            self.time = other.time;
+            swap(&mut self.updates, &mut other.updates);
         }
-        self.events.sort_unstable();
+        self.updates.sort_unstable();
     }
 
-    // Takes events in the place of its own, by rising receiver, and tells whether it did: not where they are
-    // few for so many receivers, nor where memory is refused.
-    fn deal(&mut self, events: &[Event], receivers: &mut [Tick]) -> bool
-        ensures { OnTrue result ((e : AnEvent) → times event_same e self.new ≡ times event_same e events.now) }
+    // Takes the events of another list in the place of its own, by rising receiver, and tells whether it did:
+    // not where they are few for so many receivers, nor where memory is refused.
+    fn deal(&mut self, other: &Tick, receivers: &mut [Tick]) -> bool
+        ensures { OnTrue result ((e : AnEvent) → times event_same e self.new ≡ times event_same e other.now) }
     {
-        if !is_full(events.len(), receivers.len()) {
+        if !is_full(other.updates.len(), receivers.len()) {
             return false;
         }
         clear_all(receivers);
-        if !put_by_receiver(events, receivers) {
+        if !put_by_receiver(other.time, &other.updates, receivers) {
             return false;
         }
         self.clear();
-        append_all(receivers, &mut self.events).is_ok()
+        self.time = other.time;
+        gather(other.time, receivers, &mut self.updates)
     }
 }
 
@@ -99,9 +171,22 @@ pub(crate) fn append_all(ticks: &[Tick], events: &mut Vec<Event>) -> Result<(), 
     ensures { OnOk result (events.new.items ≡ events.old.items ++ together ticks.now) }
 {
     for tick in ticks {
-        events.extend_from_slice(tick.events())?;
+        tick.append_from(0, events)?;
     }
     Ok(())
+}
+
+// Puts the updates of ticks at the end of a list of updates of this time, and tells whether it did: not where
+// one of theirs is of another time, nor where memory is refused.
+fn gather(time: u64, ticks: &[Tick], updates: &mut Vec<Update>) -> bool
+    ensures { OnTrue result (events_at time updates.new.items ≡ events_at time updates.old.items ++ together ticks.now) }
+{
+    for tick in ticks {
+        if !tick.append_updates(time, updates) {
+            return false;
+        }
+    }
+    true
 }
 
 // Takes all events out of ticks.
@@ -113,18 +198,18 @@ fn clear_all(ticks: &mut [Tick])
     }
 }
 
-// Puts each event at the end of its receiver's list, and tells whether each went in: not where an event is for
-// no receiver of these, nor where memory is refused.
-fn put_by_receiver(events: &[Event], receivers: &mut [Tick]) -> bool
+// Puts each update of a time at the end of its receiver's list, and tells whether each went in: not where one
+// is for no receiver of these, nor where memory is refused.
+fn put_by_receiver(time: u64, updates: &[Update], receivers: &mut [Tick]) -> bool
     ensures { OnTrue result ((e : AnEvent)
-        → times event_same e (together receivers.new) ≡ times event_same e events.now + times event_same e (together receivers.old)) }
+        → times event_same e (together receivers.new) ≡ times event_same e (events_at time updates.now) + times event_same e (together receivers.old)) }
 {
-    for event in events {
-        let receiver = event.dst as usize;
+    for update in updates {
+        let receiver = update.dst as usize;
         if receiver >= receivers.len() {
             return false;
         }
-        if let Err(_) = receivers[receiver].push(event) {
+        if !receivers[receiver].push(time, update) {
             return false;
         }
     }

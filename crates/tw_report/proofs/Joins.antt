@@ -1,5 +1,5 @@
 -- Words with a space between each two: the first, and then each with a space before it.
-use Rattle.std.proofs.Common.{◌≡◌, ℕ, ◌-◌, ◌≤◌, Bool, true, false, List, [], ◌∷◌, ◌++◌, length, map, get_or, take, drop, sym, ap, ◌∙◌, append-nil, append_assoc, arith}
+use Rattle.std.proofs.Common.{◌≡◌, ℕ, zero, suc, ◌-◌, ◌≤◌, Bool, true, false, List, [], ◌∷◌, ◌++◌, length, map, get_or, take, drop, refl, sym, ap, ◌∙◌, append-nil, append_assoc, arith}
 use Rattle.std.specs.Bool.{OnTrue}
 use Rattle.std.proofs.lemmas.List.{take_all}
 use Rattle.std.specs.List.{flat_map}
@@ -21,3 +21,23 @@ spaced_first text (w ∷ more) d h =
 pub added_both : (done : Bool) (old one two first second whole : List ℕ) → one ≡ old ++ first → OnTrue done (two ≡ one ++ second) → whole ≡ first ++ second → OnTrue done (two ≡ old ++ whole)
 added_both true old one two first second whole h k e = k ∙ (ap (λ bs. bs ++ second) h ∙ (append_assoc old first second ∙ ap (λ bs. old ++ bs) (sym e)))
 added_both false old one two first second whole h k e = tt
+
+-- two texts that were written one after the other
+pub spelled_both : (old one two first second whole : List ℕ) → one ≡ old ++ first → two ≡ one ++ second → whole ≡ first ++ second → two ≡ old ++ whole
+spelled_both old one two first second whole h k e = k ∙ (ap (λ bs. bs ++ second) h ∙ (append_assoc old first second ∙ ap (λ bs. old ++ bs) (sym e)))
+
+pub spelled_then : (old one two first rest : List ℕ) → one ≡ old ++ first → two ≡ one ++ rest → two ≡ old ++ (first ++ rest)
+spelled_then old one two first rest h k = spelled_both old one two first rest (first ++ rest) h k refl
+
+-- the texts of a list are those of its first elements, and then those of the others
+pub in_parts : {A : Type 0} (text : A → List ℕ) (n : ℕ) (xs : List A) → flat_map text xs ≡ flat_map text (take n xs) ++ flat_map text (drop n xs)
+in_parts text zero xs = refl
+in_parts text (suc n) [] = refl
+in_parts text (suc n) (x ∷ xs) = ap (λ bs. text x ++ bs) (in_parts text n xs) ∙ sym (append_assoc (text x) (flat_map text (take n xs)) (flat_map text (drop n xs)))
+
+-- as a slice pattern has the first and the others
+pub first_of : {A : Type 0} (text : A → List ℕ) (xs : List A) (d : A) → 1 ≤ length xs → flat_map text xs ≡ text (get_or xs 0 d) ++ flat_map text (take (length xs - 1) (drop 1 xs))
+first_of text [] d h = absurd (omega arith)
+first_of text (x ∷ xs) d h =
+    let less : length (x ∷ xs) - 1 ≡ length xs = omega arith in
+    rw (less, take_all (length xs) xs (omega arith)) refl

@@ -1,1 +1,2 @@
 pub mod Joins
+pub mod Pieces

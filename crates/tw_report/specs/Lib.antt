@@ -1,4 +1,5 @@
 pub mod Words
 pub mod Lines
+pub mod Pieces
 pub mod Report
 pub mod ReplayText

@@ -7,10 +7,13 @@
 //! no call takes memory. Not proved: what a terminal or a file then holds.
 #![tactic(auto)]
 
+mod event_page;
 mod gathering;
 mod lines;
 mod replay;
 mod report;
+mod short_numbers;
+mod spelled;
 mod words;
 
 pub use lines::{put_event, put_router};

@@ -3,7 +3,8 @@ ghost use Rattle.tw_device.specs.Sink.{Puts};
 ghost use Rattle.tw_report.specs.ReplayText.{ShowsPaths, refusal_label, replay_text, replayed_of, standing_lines, step_lines, step_words, told_lines};
 ghost use Rattle.tw_report.specs.Words.{line};
 
-use crate::report::{put_events, put_routers};
+use crate::event_page::put_events;
+use crate::report::put_routers;
 use crate::words::Word::{Count, Name, Number};
 use crate::words::put_line;
 use tw_core::Refusal;

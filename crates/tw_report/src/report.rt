@@ -4,10 +4,11 @@ ghost use Rattle.tw_device.specs.Sink.{Puts};
 ghost use Rattle.tw_model.specs.Net.{IsPath};
 ghost use Rattle.tw_model.specs.Summary.{summary_of};
 ghost use Rattle.tw_report.specs.Lines.{NamesPath};
-ghost use Rattle.tw_report.specs.Report.{HasPaths, event_lines, head_lines, logged_lines, report_text, router_lines, verdict_words};
+ghost use Rattle.tw_report.specs.Report.{HasPaths, head_lines, logged_lines, report_text, router_lines, verdict_words};
 ghost use Rattle.tw_report.specs.Words.{line};
 
-use crate::lines::{put_event, put_router};
+use crate::event_page::put_events;
+use crate::lines::put_router;
 use crate::words::Word::{Name, Number};
 use crate::words::put_line;
 use tw_device::{Failed, Sink};
@@ -63,22 +64,6 @@ fn put_log<S: Sink>(
     } else {
         Ok(())
     }
-}
-
-/// Puts the line of each event.
-pub(crate) fn put_events<S: Sink>(
-    sink: &mut S,
-    instance: &Instance,
-    events: &[Event],
-) -> Result<(), Failed>
-    requires paths { All (λ e. NamesPath instance.now e.body) events.now }
-    requires open { S.failed sink.old ≡ false }
-    ensures { Puts result (S.written sink.old) (S.written sink.new) (S.failed sink.new) (event_lines instance.now events.now) }
-{
-    for event in events {
-        put_event(sink, instance, event)?;
-    }
-    Ok(())
 }
 
 /// Puts the line of each router, numbered from 0.

@@ -112,7 +112,8 @@ impl Running for LoggedRun<'_> {
 
     fn run_to(&mut self, stop: u64) -> Result<(), OrMemory<CounterFull>> {
         self.run.raise_stop(stop);
-        while let Some(event) = self.run.next() {
+        let mut event = Event::default();
+        while self.run.copy_next(&mut event) {
             self.handle_next(&event)?;
         }
         Ok(())

@@ -1,4 +1,5 @@
-ghost use Rattle.std.specs.Prelude.{◌≡◌, ◌≤◌, ◌<◌, [], max, IfNone, IfOk, IfSome, OnErr, OnOk, IsErrOf};
+ghost use Rattle.std.specs.Prelude.{◌≡◌, ◌≤◌, ◌<◌, [], max, IfOk, OnErr, OnOk, IsErrOf};
+ghost use Rattle.std.specs.Bool.{OnFalse, OnTrue};
 ghost use Rattle.tw_model.specs.Summary.{summary_of};
 ghost use Rattle.tw_model.specs.declared.limits.TheConstants.{LATEST};
 ghost use Rattle.tw_model.specs.declared.memory.OrMemory.TheVariants as or_memory;
@@ -103,11 +104,11 @@ impl<'a> OneThread<'a> {
     fn bound(&self) -> u64
         ensures { result ≡ least self.now.pending self.now.stop }
     {
-        let stop = self.stop;
-        match self.next() {
-            Some(event) => event.time,
-            None => stop,
+        let mut event = Event::default();
+        if self.copy_next(&mut event) {
+            return event.time;
         }
+        self.stop
     }
 
     /// The stop becomes the greater of itself and `stop`.
@@ -121,19 +122,17 @@ impl<'a> OneThread<'a> {
         }
     }
 
-    /// The least pending event, where it is before the stop.
+    /// Copies the least pending event, and tells whether it is before the stop.
     #[inline]
-    pub(crate) fn next(&self) -> Option<Event>
-        ensures some { IfSome result (λ e. IsNext self.now e) }
-        ensures none { IfNone result (NoneBefore self.now.stop self.now.pending) }
+    pub(crate) fn copy_next(&self, event: &mut Event) -> bool
+        ensures some { OnTrue result (IsNext self.now event.new) }
+        ensures none { OnFalse result (NoneBefore self.now.stop self.now.pending) }
         ensures begun { IsBegun self.now }
     {
-        let event = self.pending.least()?;
-        if event.time < self.stop {
-            Some(*event)
-        } else {
-            None
+        if !self.pending.copy_least(event) {
+            return false;
         }
+        event.time < self.stop
     }
 
     /// Handles the least pending event. An error leaves the run as it was.
@@ -151,7 +150,7 @@ impl<'a> OneThread<'a> {
         };
         let instance = self.case.instance();
         let note = handle_at(instance, &mut self.routers, event, &mut self.sends)?;
-        self.pending.take_least();
+        self.pending.skip_least();
         insert_each(&mut self.pending, &self.sends);
         self.pending.begin_tick();
         self.sends.clear();
@@ -188,7 +187,8 @@ impl Running for OneThread<'_> {
 
     fn run_to(&mut self, stop: u64) -> Result<(), OrMemory<CounterFull>> {
         self.raise_stop(stop);
-        while let Some(event) = self.next() {
+        let mut event = Event::default();
+        while self.copy_next(&mut event) {
             self.handle_next(&event)?;
         }
         Ok(())

@@ -1,6 +1,5 @@
-use Rattle.std.proofs.Common.{◌≡◌, ap, refl, sym, ◌∙◌, arith, inl, inr}
+use Rattle.std.proofs.Common.{◌≡◌, refl, sym, ◌∙◌, arith, inl, inr}
 use Rattle.std.specs.BinaryHeap.{heap_items, heap_len}
-use Rattle.std.specs.Option.{option_copied}
 use Rattle.std.proofs.lemmas.Bool.{cases_Bool, false≢true}
 use Rattle.tw_event.specs.Order.{event_before}
 use Rattle.tw_sim.proofs.Counts.{none}
@@ -16,37 +15,37 @@ returns-in_default-clause-ring c =
     let n : heap_len heap ≡ 0 = none (heap_len heap) (λ h. false≢true (v.1 h)) in
     ring_alone c.args.ring.now (heap_events (heap_items heap)) (empty_heap (heap_items heap) (omega (arith, heap.data.ok.0))) c.taken.ensures
 
-pub returns-in-Some-least-clause-heap : goal.returns-in-Some-least-clause-heap
-returns-in-Some-least-clause-heap c =
+pub returns-clause-heap : goal.returns-clause-heap
+returns-clause-heap c =
     let items = heap_items c.args.heap.now in
     let ring = c.args.ring.now in
     let p = c.in-Some.ensures in
-    let x = c.in-Some-least.event.now in
+    let x = c.copy_least.new.event in
     let y = c.in-Some.top.now in
     let top = first_of_heap y items p.item.3.0 p.item.1 (p.greatest c.requires) in
-    let first = sym c.least.ensures ∙ ap option_copied c.in-Some-least.is in
+    let first = sym c.if-not-copy_least.ensures.some in
     elim (cases_Bool (event_before y.0 x)) [
       | inl b ↦
           rw (c.comes_before.ensures ∙ b) (least_right x y.0 ring (heap_events items) (least_of_rising x ring c.taken.ensures first) (least_is y.0 (heap_events items) top) b ∙ sym top)
       | inr b ↦ rw (c.comes_before.ensures ∙ b) tt
     ]
 
-pub returns-in-Some-least-clause-ring : goal.returns-in-Some-least-clause-ring
-returns-in-Some-least-clause-ring c =
+pub returns-clause-ring : goal.returns-clause-ring
+returns-clause-ring c =
     let items = heap_items c.args.heap.now in
     let ring = c.args.ring.now in
     let p = c.in-Some.ensures in
-    let x = c.in-Some-least.event.now in
+    let x = c.copy_least.new.event in
     let y = c.in-Some.top.now in
     let top = first_of_heap y items p.item.3.0 p.item.1 (p.greatest c.requires) in
-    let first = sym c.least.ensures ∙ ap option_copied c.in-Some-least.is in
+    let first = sym c.if-not-copy_least.ensures.some in
     elim (cases_Bool (event_before y.0 x)) [
       | inl b ↦ rw (c.comes_before.ensures ∙ b) tt
       | inr b ↦
           rw (c.comes_before.ensures ∙ b) (least_left x y.0 ring (heap_events items) (least_of_rising x ring c.taken.ensures first) (least_is y.0 (heap_events items) top) b ∙ sym first)
     ]
 
-pub returns-in-None-clause-heap : goal.returns-in-None-clause-heap
-returns-in-None-clause-heap c =
-    let none = none_of c.args.ring.now (sym c.least.ensures ∙ ap option_copied c.in-None.is) in
+pub returns-then-not-copy_least-clause-heap : goal.returns-then-not-copy_least-clause-heap
+returns-then-not-copy_least-clause-heap c =
+    let none = none_of c.args.ring.now c.if-not-copy_least.ensures.beyond in
     rw none refl

@@ -1,4 +1,4 @@
-use Rattle.std.proofs.Common.{◌++◌, drop, ap, ◌∙◌, arith}
+use Rattle.std.proofs.Common.{◌++◌, ap, ◌∙◌, arith}
 use Rattle.tw_event.specs.Order.{event_before, event_same}
 use Rattle.tw_sim.specs.Ordered.{times}
 use Rattle.tw_queue.specs.Buckets.{together}
@@ -15,8 +15,8 @@ returns c = record {
       let hand = hand_of inside in
       let all = together inside.buckets in
       let a = ap (times event_same e) c.in_ok-append_all.ensures in
-      let b = times-append e c.append_left.new.events.items all in
-      let j = ap (times event_same e) (c.in_ok-append_left.ensures ∙ ap (λ xs. xs ++ drop inside.taken c.events.result.now) c.reserve.ensures.items ∙ ap (λ xs. c.args.events.now.items ++ drop inside.taken xs) c.events.ensures) in
+      let b = times-append e c.append_from.new.events.items all in
+      let j = ap (times event_same e) (c.in_ok-append_from.ensures ∙ ap (λ xs. xs ++ hand) c.reserve.ensures.items) in
       let g = times-append e c.args.events.now.items hand in
       let i = times-append e hand all in
       let d = times-in_order event_before event_same event_law e (hand ++ all) in

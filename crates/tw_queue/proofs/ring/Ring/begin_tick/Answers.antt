@@ -1,4 +1,4 @@
-use Rattle.std.proofs.Common.{◌<◌, ◌≤◌, [], length, get_or, refl, ◌∙◌, subst, arith, length-set}
+use Rattle.std.proofs.Common.{◌<◌, [], length, get_or, refl, ◌∙◌, arith, length-set}
 use Rattle.std.proofs.lemmas.List.{get_or_read}
 use Rattle.tw_event.specs.Order.{event_before, event_same}
 use Rattle.tw_queue.proofs.Events.{event_law}
@@ -39,4 +39,4 @@ returns c =
     let read = get_or_read a.buckets p bucket in_it c.index-self-place.is [] in
     let filled = taken_over a.buckets p bucket c.index-self-place.is read c.take_over.new.self c.take_over.ensures.events in
     rw (filled, c.take_over.ensures.empty) (begin_order a.buckets v.number v.placed v.alike v.early a.times v.row p place.within place.least
-    ∙ later_ticks a.hand a.taken a.buckets c.args.self.now (subst (λ xs. length xs ≤ a.taken) c.events.ensures c.if-self-events.false) c.self.view_is)
+    ∙ later_ticks a.hand a.taken a.buckets c.args.self.now (omega (arith, c.len.ensures, c.if-self-len.false)) c.self.view_is)

@@ -6,8 +6,8 @@ use Rattle.tw_seq.proofs.logged_run.LoggedRunRunning.run_to.Goals as goal
 pub loop-event-smaller : goal.loop-event-smaller
 loop-event-smaller c =
     let same = c.self-in-loop-event.view_is in
-    weight_next c.loop-event.self c.handle_next.new.self c.in-Some.event (subst IsBegun same c.in-Some.ensures.begun)
-    (subst (λ run. IsNext run c.in-Some.event) same c.in-Some.ensures.some) c.in_ok-handle_next.ensures.ok
+    weight_next c.loop-event.self c.handle_next.new.self c.copy_next.new.event (subst IsBegun same c.loop-event-test.ensures.begun)
+    (subst (λ run. IsNext run c.copy_next.new.event) same c.loop-event-test.ensures.some) c.in_ok-handle_next.ensures.ok
 
 pub loop-event-preserved : goal.loop-event-preserved
 loop-event-preserved c =
@@ -21,5 +21,5 @@ loop-event-preserved c =
 pub returns-clause-ok : goal.returns-clause-ok
 returns-clause-ok c =
     let same = c.self-in-loop-event.view_is in
-    complete_at c.loop-event.self (subst IsBegun same c.in_default.ensures.begun) (subst (λ run. NoneBefore run.stop run.pending) same c.in_default.ensures.none)
+    complete_at c.loop-event.self (subst IsBegun same c.loop-event-test.ensures.begun) (subst (λ run. NoneBefore run.stop run.pending) same c.loop-event-test.ensures.none)
     ∙ λ i. complete_run (c.loop-event.invariant.case i) (c.loop-event.invariant.stop i)

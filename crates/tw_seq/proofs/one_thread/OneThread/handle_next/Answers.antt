@@ -51,14 +51,14 @@ sends_are c = c.deref.ensures ∙ from_empty _ _ _ c.in_ok-note.ensures.sends c.
 
 pub insert_each-requires-clause-homes : goal.insert_each-requires-clause-homes
 insert_each-requires-clause-homes c =
-    next_homes (ready (goal.at.insert_each-requires-clause-homes c).After-deref_mut) c.deref.result.now c.take_least.new.self.routers
+    next_homes (ready (goal.at.insert_each-requires-clause-homes c).After-deref_mut) c.deref.result.now c.skip_least.new.self.routers
     (sends_are (goal.at.insert_each-requires-clause-homes c).After-deref)
-    (c.take_least.ensures.routers ∙ (c.reserve.ensures.routers ∙ c.self.invariant.homes))
+    (c.skip_least.ensures.routers ∙ (c.reserve.ensures.routers ∙ c.self.invariant.homes))
 
 pub insert_each-requires-clause-room : goal.insert_each-requires-clause-room
 insert_each-requires-clause-room c =
     let few = next_few (ready (goal.at.insert_each-requires-clause-room c).After-deref_mut) c.deref.result.now (sends_are (goal.at.insert_each-requires-clause-room c).After-deref) in
-    omega (arith, c.in-Ok.ensures.ok, c.take_least.ensures.room)
+    omega (arith, c.in-Ok.ensures.ok, c.skip_least.ensures.room)
 
 -- the fields of the run afterwards
 abbrev fields : After-clear → ℕ → Inside
@@ -80,11 +80,11 @@ renewed c t is =
       case = refl;
       stop = refl;
       routers = other_items c.self.inside.routers.len c.handle_at.new.routers _ (c.handle_at.auto.routers ∙ c.deref_mut.ensures.len) ∙ c.in_ok-note.ensures.routers;
-      homes = ap (λ q. q.routers) c.begin_tick.ensures ∙ c.insert_each.ensures.routers ∙ (c.take_least.ensures.routers ∙ c.reserve.ensures.routers);
+      homes = ap (λ q. q.routers) c.begin_tick.ensures ∙ c.insert_each.ensures.routers ∙ (c.skip_least.ensures.routers ∙ c.reserve.ensures.routers);
       pending =
           ap (λ q. q.events) c.begin_tick.ensures ∙ c.insert_each.ensures.events
-          ∙ (ap (λ xs. insert_all event_before xs c.take_least.new.self.events) (c.deref.ensures ∙ sends)
-          ∙ ap (insert_all event_before sent) (c.take_least.ensures.events ∙ ap (drop 1) c.reserve.ensures.events));
+          ∙ (ap (λ xs. insert_all event_before xs c.skip_least.new.self.events) (c.deref.ensures ∙ sends)
+          ∙ ap (insert_all event_before sent) (c.skip_least.ensures.events ∙ ap (drop 1) c.reserve.ensures.events));
       sent = c.clear.ensures.items;
       is_change = c.in_ok-note.ensures.changed;
       change = is;

@@ -4,7 +4,7 @@ use Rattle.tw_seq.proofs.Going.{complete_at, continues_next, weight_next}
 use Rattle.tw_seq.proofs.one_thread.OneThreadRunning.run_to.Goals as goal
 
 pub loop-event-smaller : goal.loop-event-smaller
-loop-event-smaller c = weight_next c.loop-event.self c.handle_next.new.self c.in-Some.event c.in-Some.ensures.begun c.in-Some.ensures.some c.in_ok-handle_next.ensures.ok
+loop-event-smaller c = weight_next c.loop-event.self c.handle_next.new.self c.copy_next.new.event c.loop-event-test.ensures.begun c.loop-event-test.ensures.some c.in_ok-handle_next.ensures.ok
 
 pub loop-event-preserved : goal.loop-event-preserved
 loop-event-preserved c =
@@ -17,5 +17,5 @@ loop-event-preserved c =
 
 pub returns-clause-ok : goal.returns-clause-ok
 returns-clause-ok c =
-    complete_at c.loop-event.self c.in_default.ensures.begun c.in_default.ensures.none
+    complete_at c.loop-event.self c.loop-event-test.ensures.begun c.loop-event-test.ensures.none
     ∙ λ i. complete_run (c.loop-event.invariant.case i) (c.loop-event.invariant.stop i)

@@ -1,7 +1,0 @@
-use Rattle.std.proofs.Common.{◌≡◌, None, drop}
-use Rattle.std.specs.Option.{option_copied}
-use Rattle.tw_queue.specs.InOrder.{least_with}
-use Rattle.tw_queue.proofs.search.first_of.Given as goal
-
-abbrev pub invariant-loop-event : goal.invariant-loop-event
-invariant-loop-event l = least_with (option_copied l.least) (drop l.event-index l.events) ≡ least_with None l.events

@@ -1,0 +1,36 @@
+use Rattle.tw_report.proofs.Joins.{spelled_both}
+use Rattle.tw_report.proofs.Pieces.{line_in_pieces, tail_text}
+use Rattle.tw_report.specs.Pieces.{head_text, update_text}
+use Rattle.tw_report.proofs.event_page.spell_event.Goals as goal
+
+pub returns-in-Start-clause-text : goal.returns-in-Start-clause-text
+returns-in-Start-clause-text c =
+    let e = c.args.event.now in
+    let net = c.args.instance.now in
+    spelled_both _ _ _ (head_text e) (tail_text net e e.body) _ c.spell_head-end.ensures.text (rw c.in-Start.is c.spell.ensures.text) (line_in_pieces net e e.body)
+
+pub returns-in-Fail-clause-text : goal.returns-in-Fail-clause-text
+returns-in-Fail-clause-text c =
+    let e = c.args.event.now in
+    let net = c.args.instance.now in
+    spelled_both _ _ _ (head_text e) (tail_text net e e.body) _ c.spell_head-end.ensures.text (rw c.in-Fail.is c.spell_link.ensures.text) (line_in_pieces net e e.body)
+
+pub returns-in-Restore-clause-text : goal.returns-in-Restore-clause-text
+returns-in-Restore-clause-text c =
+    let e = c.args.event.now in
+    let net = c.args.instance.now in
+    spelled_both _ _ _ (head_text e) (tail_text net e e.body) _ c.spell_head-end.ensures.text (rw c.in-Restore.is c.spell_link-in-Restore.ensures.text) (line_in_pieces net e e.body)
+
+pub returns-in-Swap-clause-text : goal.returns-in-Swap-clause-text
+returns-in-Swap-clause-text c =
+    let e = c.args.event.now in
+    let net = c.args.instance.now in
+    spelled_both _ _ _ (head_text e) (tail_text net e e.body) _ c.spell_head-end.ensures.text (rw c.in-Swap.is c.spell_swap.ensures.text) (line_in_pieces net e e.body)
+
+pub returns-in-Update-clause-text : goal.returns-in-Update-clause-text
+unfolding update_text
+returns-in-Update-clause-text c =
+    let e = c.args.event.now in
+    let net = c.args.instance.now in
+    let told = rw c.path.ensures.value at c.spell_update.ensures.text in
+    spelled_both _ _ _ (head_text e) (tail_text net e e.body) _ c.spell_head-end.ensures.text (rw c.in-Update.is told) (line_in_pieces net e e.body)

@@ -1,0 +1,33 @@
+-- The line of an event in pieces, as they stand one after the other (own).
+use Rattle.std.specs.Prelude.{ℕ, List, [], ◌∷◌, ◌++◌, codes}
+use Rattle.std.specs.Fmt.{decimal}
+use Rattle.tw_event.specs.declared.event.Body.{Body}
+use Rattle.tw_event.specs.declared.event.Body.TheVariants.{Start, Fail, Restore, Swap, Update}
+use Rattle.tw_event.specs.declared.event.Event.{Event}
+use Rattle.tw_model.specs.Net.{Net, path}
+use Rattle.tw_report.specs.Words.{path_text, spaced_number}
+
+-- the path that the line of an event shows
+abbrev pub shown_path : Net → Body → List ℕ
+shown_path net Start = []
+shown_path net (Fail w) = []
+shown_path net (Restore w) = []
+shown_path net (Swap i j) = []
+shown_path net (Update q n) = path net q
+
+-- with its time and its receiver
+unfoldable pub head_text : Event → List ℕ
+head_text e = codes "event " ++ (decimal e.time ++ spaced_number e.dst)
+
+-- a failure or a repair, with the space before its name
+unfoldable pub link_text : List ℕ → ℕ → ℕ → List ℕ
+link_text name w seq = name ++ (spaced_number w ++ (spaced_number seq ++ 10 ∷ []))
+
+-- an exchange of ranks
+unfoldable pub swap_text : ℕ → ℕ → ℕ → List ℕ
+swap_text seq i j = codes " swap" ++ (spaced_number seq ++ (spaced_number i ++ (spaced_number j ++ 10 ∷ [])))
+
+-- an update
+unfoldable pub update_text : Event → ℕ → List ℕ → List ℕ
+update_text e session nodes =
+    codes " update" ++ (spaced_number e.src ++ (spaced_number e.seq ++ (spaced_number session ++ (32 ∷ path_text nodes ++ 10 ∷ []))))

@@ -1,0 +1,152 @@
+//! Lines of events, gathered on a page so that many of them are put at once.
+
+ghost use Rattle.std.specs.Prelude.{◌≡◌, ◌+◌, ◌≤◌, ◌++◌, false, length, nat_le, take};
+ghost use Rattle.std.specs.List.{All};
+ghost use Rattle.tw_device.specs.Sink.{Puts};
+ghost use Rattle.tw_report.specs.Lines.{NamesPath, event_words};
+ghost use Rattle.tw_report.specs.Pieces.{head_text, link_text, shown_path, swap_text, update_text};
+ghost use Rattle.tw_report.specs.Report.{event_lines};
+ghost use Rattle.tw_report.specs.Words.{line};
+
+use crate::lines::put_event;
+use crate::spelled::{PAGE, spell, spell_next, spell_number, spell_path};
+use tw_device::{Failed, Sink, put_all};
+use tw_event::{Body, Event};
+use tw_instance::Instance;
+use tw_model::limits::MOST_NODES;
+
+/// Puts the line of each event.
+///
+/// The first event, and each one whose line might not fit on what is left of a page, goes by itself, and
+/// the lines after it go page by page.
+pub(crate) fn put_events<S: Sink>(
+    sink: &mut S,
+    instance: &Instance,
+    events: &[Event],
+) -> Result<(), Failed>
+    requires paths { All (λ e. NamesPath instance.now e.body) events.now }
+    requires open { S.failed sink.old ≡ false }
+    ensures { Puts result (S.written sink.old) (S.written sink.new) (S.failed sink.new) (event_lines instance.now events.now) }
+{
+    let mut page = [0; PAGE];
+    let mut rest = events;
+    while let [first, more @ ..] = rest {
+        put_event(sink, instance, first)?;
+        let (count, end) = fill_page(&mut page, instance, more);
+        put_all(sink, &page[..end])?;
+        rest = more.split_at(count).1;
+    }
+    Ok(())
+}
+
+/// How many bytes a line on a page has at most: `event`, ` update` and the space before the path have 13,
+/// five numbers 21 each with the space before them, the path 2 and 21 for each of its nodes, and LF is one.
+const LINE: usize = 13 + 5 * 21 + 2 + 21 * MOST_NODES + 1;
+
+/// Writes the lines of events onto a page, until one might not fit. Answers how many events these are,
+/// and where the last line ends.
+fn fill_page(page: &mut [u8; PAGE], instance: &Instance, events: &[Event]) -> (usize, usize)
+    requires paths { All (λ e. NamesPath instance.now e.body) events.now }
+    ensures count { result.0 ≤ length events.now }
+    ensures end { result.1 ≤ length page.new }
+    ensures text { take result.1 page.new ≡ event_lines instance.now (take result.0 events.now) }
+{
+    let mut end = 0;
+    for (count, event) in events.iter().enumerate() {
+        if end > PAGE - LINE || !is_short(instance, event) {
+            return (count, end);
+        }
+        end = spell_event(page, end, instance, event);
+    }
+    (events.len(), end)
+}
+
+/// Whether the path of an event has no more nodes than a line has room for.
+fn is_short(instance: &Instance, event: &Event) -> bool
+    requires path { NamesPath instance.now event.now.body }
+    ensures { result ≡ nat_le (length (shown_path instance.now event.now.body)) 32 }
+{
+    match event.body {
+        Body::Update { path, .. } => instance.path(path).len() <= MOST_NODES,
+        _ => true,
+    }
+}
+
+/// Writes the line of an event.
+fn spell_event(page: &mut [u8; PAGE], at: usize, instance: &Instance, event: &Event) -> usize
+    requires path { NamesPath instance.now event.now.body }
+    requires short { length (shown_path instance.now event.now.body) ≤ 32 }
+    requires room { at + 793 ≤ length page.old }
+    ensures end { result ≤ at + 793 }
+    ensures text { take result page.new ≡ take at page.old ++ line (event_words instance.now event.now) }
+{
+    let end = spell_head(page, at, event);
+    match event.body {
+        Body::Start => spell(page, end, b" start\n"),
+        Body::Fail(peer) => spell_link(page, end, b" fail", peer, event.seq),
+        Body::Restore(peer) => spell_link(page, end, b" restore", peer, event.seq),
+        Body::Swap(i, j) => spell_swap(page, end, event.seq, i, j),
+        Body::Update { path, session } => {
+            spell_update(page, end, event, session, instance.path(path))
+        }
+    }
+}
+
+/// Writes `event`, its time and its receiver.
+fn spell_head(page: &mut [u8; PAGE], at: usize, event: &Event) -> usize
+    requires room { at + 47 ≤ length page.old }
+    ensures end { result ≤ at + 47 }
+    ensures text { take result page.new ≡ take at page.old ++ head_text event.now }
+{
+    let named = spell(page, at, b"event ");
+    let timed = spell_number(page, named, event.time);
+    spell_next(page, timed, u64::from(event.dst))
+}
+
+/// Writes the rest of the line of a failure or a repair, which this name tells.
+fn spell_link(page: &mut [u8; PAGE], at: usize, name: &[u8], peer: u32, seq: u64) -> usize
+    requires name { length name.now ≤ 8 }
+    requires room { at + 51 ≤ length page.old }
+    ensures end { result ≤ at + 51 }
+    ensures text { take result page.new ≡ take at page.old ++ link_text name.now peer seq }
+{
+    let named = spell(page, at, name);
+    let told = spell_next(page, named, u64::from(peer));
+    let numbered = spell_next(page, told, seq);
+    spell(page, numbered, b"\n")
+}
+
+/// Writes the rest of the line of an exchange of ranks.
+fn spell_swap(page: &mut [u8; PAGE], at: usize, seq: u64, i: u32, j: u32) -> usize
+    requires room { at + 69 ≤ length page.old }
+    ensures end { result ≤ at + 69 }
+    ensures text { take result page.new ≡ take at page.old ++ swap_text seq i j }
+{
+    let named = spell(page, at, b" swap");
+    let numbered = spell_next(page, named, seq);
+    let first = spell_next(page, numbered, u64::from(i));
+    let second = spell_next(page, first, u64::from(j));
+    spell(page, second, b"\n")
+}
+
+/// Writes the rest of the line of an update.
+fn spell_update(
+    page: &mut [u8; PAGE],
+    at: usize,
+    event: &Event,
+    session: u64,
+    nodes: &[u32],
+) -> usize
+    requires short { length nodes.now ≤ 32 }
+    requires room { at + 746 ≤ length page.old }
+    ensures end { result ≤ at + 746 }
+    ensures text { take result page.new ≡ take at page.old ++ update_text event.now session nodes.now }
+{
+    let named = spell(page, at, b" update");
+    let sent = spell_next(page, named, u64::from(event.src));
+    let numbered = spell_next(page, sent, event.seq);
+    let dated = spell_next(page, numbered, session);
+    let parted = spell(page, dated, b" ");
+    let shown = spell_path(page, parted, nodes);
+    spell(page, shown, b"\n")
+}

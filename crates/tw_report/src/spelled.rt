@@ -1,0 +1,86 @@
+//! Numbers, paths and other pieces of text, written onto a page one after the other.
+//!
+//! Each of these writes at a place, leaves what stands before it, and answers the place after it.
+
+ghost use Rattle.std.specs.Prelude.{◌≡◌, ◌+◌, ◌*◌, ◌≤◌, ◌++◌, length, take, map};
+ghost use Rattle.std.specs.Fmt.{decimal};
+ghost use Rattle.std.specs.List.{flat_map};
+ghost use Rattle.tw_report.specs.Words.{path_text, with_spaces, spaced_number};
+
+use crate::short_numbers::spell_short;
+use itoa::Buffer;
+
+/// How many bytes a page has.
+pub const PAGE: usize = 8_192;
+
+/// Writes these bytes.
+pub fn spell(page: &mut [u8; PAGE], at: usize, text: &[u8]) -> usize
+    requires room { at + length text.now ≤ length page.old }
+    ensures end { result ≡ at + length text.now }
+    ensures text { take result page.new ≡ take at page.old ++ text.now }
+{
+    let end = at + text.len();
+    page[at..end].copy_from_slice(text);
+    end
+}
+
+/// Writes a number in decimal, which has 20 digits at most.
+pub fn spell_number(page: &mut [u8; PAGE], at: usize, number: u64) -> usize
+    requires room { at + 20 ≤ length page.old }
+    ensures end { result ≤ at + 20 }
+    ensures text { take result page.new ≡ take at page.old ++ decimal number }
+{
+    if number < 10_000 {
+        spell_short(page, at, number)
+    } else {
+        spell(page, at, Buffer::new().format(number).as_bytes())
+    }
+}
+
+/// Writes a space and a number.
+pub fn spell_next(page: &mut [u8; PAGE], at: usize, number: u64) -> usize
+    requires room { at + 21 ≤ length page.old }
+    ensures end { result ≤ at + 21 }
+    ensures text { take result page.new ≡ take at page.old ++ spaced_number number }
+{
+    page[at] = b' ';
+    spell_number(page, at + 1, number)
+}
+
+/// Writes a path in parentheses.
+pub fn spell_path(page: &mut [u8; PAGE], at: usize, nodes: &[u32]) -> usize
+    requires room { at + 2 + 21 * length nodes.now ≤ length page.old }
+    ensures end { result ≤ at + 2 + 21 * length nodes.now }
+    ensures text { take result page.new ≡ take at page.old ++ path_text nodes.now }
+{
+    page[at] = b'(';
+    let end = spell_nodes(page, at + 1, nodes);
+    page[end] = b')';
+    end + 1
+}
+
+/// Writes numbers with a space between each two.
+fn spell_nodes(page: &mut [u8; PAGE], at: usize, nodes: &[u32]) -> usize
+    requires room { at + 21 * length nodes.now ≤ length page.old }
+    ensures end { result ≤ at + 21 * length nodes.now }
+    ensures text { take result page.new ≡ take at page.old ++ with_spaces (map decimal nodes.now) }
+{
+    let [first, more @ ..] = nodes else {
+        return at;
+    };
+    let end = spell_number(page, at, u64::from(*first));
+    spell_more_nodes(page, end, more)
+}
+
+/// Writes each number with a space before it.
+fn spell_more_nodes(page: &mut [u8; PAGE], at: usize, nodes: &[u32]) -> usize
+    requires room { at + 21 * length nodes.now ≤ length page.old }
+    ensures end { result ≤ at + 21 * length nodes.now }
+    ensures text { take result page.new ≡ take at page.old ++ flat_map spaced_number nodes.now }
+{
+    let mut end = at;
+    for node in nodes {
+        end = spell_next(page, end, u64::from(*node));
+    }
+    end
+}
