@@ -1,5 +1,5 @@
 -- A run that has come to its stop leaves what the one-thread run leaves.
-use Rattle.std.proofs.Common.{◌≡◌, ℕ, zero, suc, ◌+◌, ◌<◌, ◌≤◌, ◌==◌, Bool, IsTrue, true, List, [], ◌∷◌, ◌++◌, append_assoc, drop, filter, flat_map, length, map, nat_lt, reverse, slice_index, refl, ap, sym, ◌∙◌, inl, inr, arith}
+use Rattle.std.proofs.Common.{◌≡◌, ℕ, zero, suc, ◌+◌, ◌<◌, ◌≤◌, ◌==◌, Bool, IsTrue, true, List, [], ◌∷◌, ◌++◌, append_assoc, drop, filter, flat_map, length, map, nat_lt, reverse, slice_index, refl, ap, sym, ◌∙◌, subst, inl, inr, arith}
 use Rattle.std.proofs.Math.Path.{fun_ext}
 use Rattle.std.proofs.lemmas.Bool.{cases_Bool, cases_eq, eq-eqb, ltb-false, ltb-true, ne_eqb}
 use Rattle.std.proofs.lemmas.List.{length-append, map-append, reverse-append}
@@ -26,7 +26,8 @@ use Rattle.tw_shape.specs.Shape.{Draft, Shape, bare, seen_from, shape}
 use Rattle.tw_shard.specs.Shard.{Shard}
 use Rattle.tw_shard.specs.Timeline.{last_change_at}
 use Rattle.tw_sim.proofs.Closed.{log_closed}
-use Rattle.tw_sim.proofs.Counts.{in_head, is_order, none, times-append, times-filter-no, times-filter-yes}
+use Rattle.tw_sim.proofs.Counts.{in_head, is_order, none, times-append, times-filter-no, times-filter-yes, times-insert_all}
+use Rattle.tw_sim.proofs.Rising.{IsRising, rising-insert_all, same_rising}
 use Rattle.tw_sim.proofs.Ordered.{not_back}
 use Rattle.tw_sim.specs.Seq.{insert_all, log}
 use Rattle.tw_sim.specs.Simulation.{Simulation, IsFalling, IsLawful, only, times}
@@ -233,12 +234,16 @@ module _ (s : Sim) (is : IsSim s) (settled : IsSettled s) where
 pub settled_shape : (s : Sim) → IsSim s → IsSettled s → (fresh draft : Draft) → fresh ≡ record { time = s.board.stop; routers = []; sent = [] }
     → draft ≡ record fresh { routers = fresh.routers ++ map bare (states_of s); sent = fresh.sent ++ map (λ known. known.counters.sent) (states_of s) }
     → (pending : List Event) → pending ≡ insert_all (simulation s.case) (machine s).pending [] → (made : Shape)
-    → made ≡ record { routers = draft.routers; pending = map (λ e. seen_from draft.time (slice_index draft.sent e.src) e) pending }
+    → made ≡ record { routers = draft.routers; pending = map (λ e. seen_from draft.time (slice_index draft.sent e.src) e) (insert_all (simulation s.case) pending []) }
     → made ≡ shape s.case s.board.stop
 settled_shape s is settled fresh draft is_fresh is_draft pending is_pending made is_made =
     let states = all_states s is settled in
     let as_draft = rw (is_fresh, states) at is_draft in
-    let waiting = is_pending ∙ (ended s is settled).pending in
+    let m = simulation s.case in
+    let again : insert_all m pending [] ≡ pending
+    = same_rising m (law s is) (insert_all m pending []) pending (rising-insert_all m (law s is) pending [] tt)
+    (subst (λ es. IsRising m es) (sym is_pending) (rising-insert_all m (law s is) (machine s).pending [] tt)) (λ e. let n = times-insert_all m e pending [] in omega arith) in
+    let waiting = again ∙ is_pending ∙ (ended s is settled).pending in
     rw (as_draft, waiting) at is_made ∙ sym (gathered s.case is.ruled.is_case s.board.stop)
 
 -- one more router is read

@@ -5,7 +5,7 @@ ghost use Rattle.tw_event.specs.Order.{event_before};
 ghost use Rattle.tw_queue.specs.Heap.{heap_events};
 ghost use Rattle.tw_queue.specs.InOrder.{in_order};
 ghost use Rattle.tw_queue.specs.Queue.{IsQueue};
-ghost use Rattle.tw_sim.specs.Ordered.{insert};
+ghost use Rattle.tw_sim.specs.Ordered.{insert, insert_all};
 
 use crate::ring::Ring;
 use crate::search::comes_before;
@@ -167,13 +167,22 @@ impl EventList {
         self.ring.begin_tick(latest);
     }
 
+    /// All events, in any order.
+    pub fn events(&self) -> Result<Vec<Event>, AllocError>
+        ensures events { IfOk result (λ v. insert_all event_before v.items [] ≡ self.now.events) }
+        ensures queue { IsQueue self.now }
+    {
+        let mut events = collect_events(self.alloc, self.heap.as_slice())?;
+        self.ring.append_to(&mut events)?;
+        Ok(events)
+    }
+
     /// All events, in rising order.
     pub fn list(&self) -> Result<Vec<Event>, AllocError>
         ensures events { IfOk result (λ v. v.items ≡ self.now.events) }
         ensures queue { IsQueue self.now }
     {
-        let mut events = collect_events(self.alloc, self.heap.as_slice())?;
-        self.ring.append_to(&mut events)?;
+        let mut events = self.events()?;
         events.sort_unstable();
         Ok(events)
     }

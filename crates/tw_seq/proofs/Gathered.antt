@@ -5,6 +5,8 @@ use Rattle.std.proofs.lemmas.List.{reverse-reverse}
 use Rattle.tw_event.specs.declared.event.Event.{Event}
 use Rattle.tw_model.specs.Case.{Case, IsCase, simulation}
 use Rattle.tw_model.specs.State.{Router}
+use Rattle.tw_event.specs.Order.{event_before}
+use Rattle.tw_sim.specs.Ordered.{insert_all}
 use Rattle.tw_sim.specs.Seq.{at, log}
 use Rattle.tw_sim.specs.Simulation.{only, state}
 use Rattle.tw_shape.specs.Shape.{Draft, Shape, bare, seen_from, shape}
@@ -30,8 +32,8 @@ module _ (case : Case) (t : ℕ) (events : List Event) (whole : reverse events �
 pub shape_of_run : (run : Run) → IsCase run.case → run ≡ complete_run run.case run.stop → (routers : List Router) → routers ≡ routers_after run.case run.events
     → (fresh draft : Draft) → fresh ≡ record { time = run.stop; routers = []; sent = [] }
     → draft ≡ record fresh { routers = fresh.routers ++ map (λ r. bare r.state) routers; sent = fresh.sent ++ map (λ r. r.state.counters.sent) routers }
-    → (pending : List Event) → pending ≡ run.pending → (s : Shape)
-    → s ≡ record { routers = draft.routers; pending = map (λ e. seen_from draft.time (slice_index draft.sent e.src) e) pending }
+    → (pending : List Event) → insert_all event_before pending [] ≡ run.pending → (s : Shape)
+    → s ≡ record { routers = draft.routers; pending = map (λ e. seen_from draft.time (slice_index draft.sent e.src) e) (insert_all event_before pending []) }
     → s ≡ shape run.case run.stop
 shape_of_run run is whole routers are fresh draft is_fresh is_draft pending is_pending s made =
     let m = simulation run.case in

@@ -197,6 +197,6 @@ impl Running for OneThread<'_> {
     fn shape(&self) -> Result<Shape, AllocError> {
         let mut builder = ShapeBuilder::new(*self.routers.allocator(), self.stop);
         gather(&mut builder, &self.routers)?;
-        Ok(builder.finish(self.pending.list()?))
+        Ok(builder.finish(self.pending.events()?))
     }
 }

@@ -3,6 +3,7 @@ pub mod Alike
 pub mod Waiting
 pub mod Repeating
 pub mod Sameness
+pub mod Multiset
 pub mod Hashing
 pub mod Packing
 pub mod Looking

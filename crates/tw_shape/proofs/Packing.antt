@@ -1,5 +1,5 @@
--- Shapes as they are stored: what is stored is the same exactly where the shapes are.
-use Rattle.std.proofs.Common.{◌≡◌, ℕ, suc, zero, ◌+◌, ◌-◌, ◌≤◌, ◌==◌, Bool, false, ◌&&◌, not, List, [], ◌∷◌, ◌++◌, drop, length, map, take, min, refl, ap, sym, ◌∙◌, subst, ◌⊎◌, inl, inr, arith}
+-- Shapes as they are stored: routers are stored alike exactly where they are the same, and pending events in any order.
+use Rattle.std.proofs.Common.{◌≡◌, ℕ, suc, zero, ◌+◌, ◌-◌, ◌≤◌, ◌==◌, Bool, false, true, ◌&&◌, not, slice_index, List, [], ◌∷◌, ◌++◌, drop, length, map, take, min, refl, ap, sym, ◌∙◌, subst, ◌⊎◌, inl, inr, arith}
 use lib.Pointwise.{pointwise, pointwise_decides}
 use Rattle.std.specs.Bool.{Decides, one_answer}
 use Rattle.std.specs.Cmp.{unsigned_Decides}
@@ -12,19 +12,22 @@ use Rattle.std.proofs.lemmas.List.{length-append, length-map, with_items_is}
 use Rattle.std.proofs.lemmas.List.Folds.{list_all-map}
 use Rattle.tw_event.specs.declared.event.Event.{Event}
 use Rattle.tw_event.specs.declared.event.PathNo.{PathNo}
-use Rattle.tw_event.specs.contracts.event.EventPartialEq.TheImpl as event_eqs
-use Rattle.tw_event.proofs.Order.{event_eq}
+use Rattle.tw_event.specs.Order.{event_before, event_same}
 use Rattle.tw_model.specs.declared.state.Row.{Row}
-use Rattle.tw_sim.proofs.Members.{In, all_from_in, in_from_all, in_map, in_mapped}
+use Rattle.tw_sim.proofs.Members.{In, all_from_in, in_from_all}
 use Rattle.tw_shape.specs.contracts.shape.SpanPartialEq.TheImpl as span_eqs
 use Rattle.tw_shape.specs.contracts.shape.PartsPartialEq.TheImpl as parts_eqs
 use Rattle.tw_shape.specs.declared.shape.Parts.{Parts}
 use Rattle.tw_shape.specs.declared.shape.Span.{Span}
-use Rattle.tw_shape.specs.Shape.{IsStill, RouterShape, Shape, can_repeat, is_update, later, sooner}
-use Rattle.tw_shape.specs.Same.{same_path, same_row, same_shape}
-use Rattle.tw_shape.specs.Packed.{Covers, later_by, hash_by, least_time, routers_of}
-use Rattle.tw_shape.specs.Storage.{IsPacked, unpack}
-use Rattle.tw_shape.proofs.Sameness.{both_decide, event_decides, path_decides, row_decides, shape_decides}
+use Rattle.tw_shape.specs.Shape.{IsStill, RouterShape, Shape, can_repeat, is_update, later, seen_from, sooner}
+use Rattle.tw_shape.specs.Same.{same_path, same_router, same_row, same_shape}
+use Rattle.tw_shape.specs.declared.shape.Shape.TheInside.{Inside}
+use Rattle.tw_shape.specs.Packed.{Covers, hash_by, in_order, least_time, routers_of, seen}
+use Rattle.tw_shape.specs.Storage.{IsHashed, routers_in, shape_of}
+use Rattle.tw_shape.proofs.Multiset.{all_in-insert_all, from_in_order, in_order_again, to_in_order}
+use Rattle.tw_shape.proofs.Hashing.{hash_in_order}
+use Rattle.tw_shape.proofs.Sameness.{both_decide, path_decides, router_decides, row_decides}
+use Rattle.tw_sim.proofs.Ordered.{length-insert_all}
 
 -- ---- the code's equality of parts
 
@@ -40,29 +43,21 @@ span_decides r s =
     (λ p q. let all : span_of r.rib r.rows r.order ≡ span_of s.rib s.rows s.order = (let a = q.0 in let b = q.1 in cc) in all)
     (λ e. (ap (λ x. x.rib) e, (ap (λ x. x.rows) e, ap (λ x. x.order) e)))
 
-stored_decides : (d e : Event) → Decides (event_eqs.ghosts.eq d e) (d ≡ e)
-stored_decides d e = subst (λ b. Decides b (d ≡ e)) (sym (event_eq d e)) (event_decides d e)
-
--- two shapes are stored alike
+-- two shapes' routers are stored alike
 pub record AreStoredAlike (p q : Parts) : Type 0 where
   pub spans : p.spans.items ≡ q.spans.items
   pub rows : p.rows.items ≡ q.rows.items
   pub order : p.order.items ≡ q.order.items
-  pub pending : p.pending.items ≡ q.pending.items
 
-pub parts_decide : (p q : Parts) → Decides (parts_eqs.ghosts.eq p q) (AreStoredAlike p q)
+parts_decide : (p q : Parts) → Decides (parts_eqs.ghosts.eq p q) (AreStoredAlike p q)
 parts_decide p q =
-    both_decide (pointwise span_eqs.ghosts.eq p.spans.items q.spans.items)
-    (pointwise same_row p.rows.items q.rows.items && (pointwise same_path p.order.items q.order.items && pointwise event_eqs.ghosts.eq p.pending.items q.pending.items))
+    both_decide (pointwise span_eqs.ghosts.eq p.spans.items q.spans.items) (pointwise same_row p.rows.items q.rows.items && pointwise same_path p.order.items q.order.items)
     (pointwise_decides span_decides p.spans.items q.spans.items)
-    (both_decide {R = (p.rows.items ≡ q.rows.items) × (p.order.items ≡ q.order.items) × (p.pending.items ≡ q.pending.items)} (pointwise same_row p.rows.items q.rows.items)
-    (pointwise same_path p.order.items q.order.items && pointwise event_eqs.ghosts.eq p.pending.items q.pending.items) (pointwise_decides row_decides p.rows.items q.rows.items)
-    (both_decide {R = (p.order.items ≡ q.order.items) × (p.pending.items ≡ q.pending.items)} (pointwise same_path p.order.items q.order.items)
-    (pointwise event_eqs.ghosts.eq p.pending.items q.pending.items) (pointwise_decides path_decides p.order.items q.order.items)
-    (pointwise_decides stored_decides p.pending.items q.pending.items) (λ a b. (a, b)) (λ r. (r.0, r.1)))
-    (λ a b. (a, b.0, b.1)) (λ r. (r.0, (r.1, r.2))))
-    (λ a b. record { spans = a; rows = b.0; order = b.1; pending = b.2 })
-    (λ r. (r.spans, (r.rows, r.order, r.pending)))
+    (both_decide {R = (p.rows.items ≡ q.rows.items) × (p.order.items ≡ q.order.items)} (pointwise same_row p.rows.items q.rows.items)
+    (pointwise same_path p.order.items q.order.items) (pointwise_decides row_decides p.rows.items q.rows.items) (pointwise_decides path_decides p.order.items q.order.items)
+    (λ a b. (a, b)) (λ r. (r.0, r.1)))
+    (λ a b. record { spans = a; rows = b.0; order = b.1 })
+    (λ r. (r.spans, (r.rows, r.order)))
 
 -- ---- the routers
 
@@ -99,6 +94,17 @@ routers_back (s ∷ ss) (t ∷ ts) rs qs os ps c d h =
       span_same : (s t : Span) → s.rib ≡ t.rib → s.rows ≡ t.rows → s.order ≡ t.order → s ≡ t
       span_same s t a b e = λ i. record { rib = a i; rows = b i; order = e i }
 
+-- the code's equality of parts is the definition's of routers
+pub routers_same : (p q : Parts) → Covers p.spans.items p.rows.items p.order.items → Covers q.spans.items q.rows.items q.order.items
+    → parts_eqs.ghosts.eq p q ≡ pointwise same_router (routers_in p) (routers_in q)
+routers_same p q a b =
+    let k = pointwise_decides router_decides (routers_in p) (routers_in q) in
+    one_answer (parts_eqs.ghosts.eq p q) (pointwise same_router (routers_in p) (routers_in q)) (parts_decide p q) (
+      (λ h. let r = routers_back p.spans.items q.spans.items p.rows.items q.rows.items p.order.items q.order.items a b (k.0 h) in
+          record { spans = r.0; rows = r.1; order = r.2 }),
+      (λ h. k.1 (λ i. routers_of (h.spans i) (h.rows i) (h.order i))),
+    )
+
 -- ---- the pending events
 
 abbrev least_from : ℕ → List Event → ℕ
@@ -134,139 +140,6 @@ least_below a (x ∷ xs) =
         | inr k ↦ r.1 e k
       ]),
     )
-
-least_from-later_by : (d a : ℕ) (xs : List Event) → least_from (a + d) (map (later_by d) xs) ≡ least_from a xs + d
-least_from-later_by d a [] = refl
-least_from-later_by d a (x ∷ xs) =
-    let head : min (a + d) (x.time + d) ≡ min a x.time + d = omega arith in
-    ap (λ t. least_from t (map (later_by d) xs)) head ∙ least_from-later_by d (min a x.time) xs
-
-least-later_by : (d : ℕ) (x : Event) (xs : List Event) → least_time (map (later_by d) (x ∷ xs)) ≡ least_time (x ∷ xs) + d
-least-later_by d x xs = least_from-later_by d x.time xs
-
-undelayed : (d : ℕ) (xs ys : List Event) → map (later_by d) xs ≡ map (later_by d) ys → xs ≡ ys
-undelayed d [] [] h = refl
-undelayed d [] (y ∷ ys) h = cc
-undelayed d (x ∷ xs) [] h = cc
-undelayed d (x ∷ xs) (y ∷ ys) h =
-    let head : later_by d x ≡ later_by d y = cc in
-    let time : x.time + d ≡ y.time + d = ap (λ e. e.time) head in
-    let first = same x y (omega arith) (ap (λ e. e.dst) head) (ap (λ e. e.src) head) (ap (λ e. e.seq) head) (ap (λ e. e.body) head) in
-    let others = undelayed d xs ys (let k : map (later_by d) xs ≡ map (later_by d) ys = cc in k) in
-    cc where
-      same : (a b : Event) → a.time ≡ b.time → a.dst ≡ b.dst → a.src ≡ b.src → a.seq ≡ b.seq → a.body ≡ b.body → a ≡ b
-      same a b t r s n o = λ i. record { time = t i; dst = r i; src = s i; seq = n i; body = o i }
-
-sooner_delayed : (t d : ℕ) (xs : List Event) → t ≤ d → map (sooner t) (map (later_by d) xs) ≡ map (later_by (d - t)) xs
-sooner_delayed t d [] le = refl
-sooner_delayed t d (x ∷ xs) le =
-    let time : x.time + d - t ≡ x.time + (d - t) = omega arith in
-    rw time (ap (λ l. record x { time = x.time + (d - t) } ∷ l) (sooner_delayed t d xs le))
-
--- where nothing is due for so many ticks, the first pending event isn't
-still_due : (t d : ℕ) (x : Event) (xs : List Event) → least_time (x ∷ xs) ≡ 0 → All (λ e. t ≤ e.time) (map (later_by d) (x ∷ xs)) → t ≤ d
-still_due t d x xs least still =
-    let e = least_stands x xs in
-    let time = e.2 in
-    let here : t ≤ e.0.time + d = in_from_all (λ y. t ≤ y.time) (map (later_by d) (x ∷ xs)) still (later_by d e.0) (in_mapped (later_by d) e.0 (x ∷ xs) e.1) in
-    omega arith
-
-later_pending : (t d : ℕ) (xs : List Event) → least_time xs ≡ 0 → All (λ e. t ≤ e.time) (map (later_by d) xs) → map (sooner t) (map (later_by d) xs) ≡ map (later_by (d - t)) xs
-later_pending t d [] least still = refl
-later_pending t d (x ∷ xs) least still = sooner_delayed t d (x ∷ xs) (still_due t d x xs least still)
-
--- a shape so many ticks later has the same parts, that much less due
-pub later_unpacked : (t d : ℕ) (p : Parts) → IsPacked p d → IsStill t (unpack p d) → later t (unpack p d) ≡ unpack p (d - t)
-later_unpacked t d p is still =
-    let pending = later_pending t d p.pending.items is.least still in
-    λ i. record { routers = routers_of p.spans.items p.rows.items p.order.items; pending = pending i }
-
-pending_back : (d e : ℕ) (xs ys : List Event) → least_time xs ≡ 0 → least_time ys ≡ 0 → (xs ≡ [] → d ≡ 0) → (ys ≡ [] → e ≡ 0)
-    → map (later_by d) xs ≡ map (later_by e) ys → (d ≡ e) × (xs ≡ ys)
-pending_back d e [] [] a b f g h = (f refl ∙ sym (g refl), refl)
-pending_back d e [] (y ∷ ys) a b f g h = cc
-pending_back d e (x ∷ xs) [] a b f g h = cc
-pending_back d e (x ∷ xs) (y ∷ ys) a b f g h =
-    let one = least-later_by d x xs in
-    let two = least-later_by e y ys in
-    let same : d ≡ e = (let k = ap least_time h in omega arith) in
-    (same, undelayed d (x ∷ xs) (y ∷ ys) (h ∙ ap (λ k. map (later_by k) (y ∷ ys)) (sym same)))
-
--- ---- shapes
-
-pub unpacked_back : (d e : ℕ) (p q : Parts) → IsPacked p d → IsPacked q e → unpack p d ≡ unpack q e → (d ≡ e) × AreStoredAlike p q
-unpacked_back d e p q a b h =
-    let r = routers_back p.spans.items q.spans.items p.rows.items q.rows.items p.order.items q.order.items a.covers b.covers (ap (λ s. s.routers) h) in
-    let w = pending_back d e p.pending.items q.pending.items a.least b.least a.none b.none (ap (λ s. s.pending) h) in
-    (w.0, record { spans = r.0; rows = r.1; order = r.2; pending = w.1 })
-
-unpacked_along : (d e : ℕ) (p q : Parts) → d ≡ e → AreStoredAlike p q → unpack p d ≡ unpack q e
-unpacked_along d e p q k h =
-    λ i. record { routers = routers_of (h.spans i) (h.rows i) (h.order i); pending = map (later_by (k i)) (h.pending i) }
-
-less_packed : (t d : ℕ) (p : Parts) → IsPacked p d → IsPacked p (d - t)
-less_packed t d p is = record { covers = is.covers; least = is.least; none = λ h. let k = is.none h in omega arith }
-
--- what is stored alike has the same hash
-pub same_hash : (f : Span → HashWrites) (g : Event → HashWrites) (p q : Parts) (h k : ℕ) → h ≡ hash_by f g p.spans.items p.pending.items → k ≡ hash_by f g q.spans.items q.pending.items
-    → AreStoredAlike p q → h ≡ k
-same_hash f g p q h k a b alike = a ∙ (λ i. hash_by f g (alike.spans i) (alike.pending i)) ∙ sym b
-
--- two shapes by their parts, so many ticks later
-module _ (t u d e : ℕ) (p q : Parts) (a : IsPacked p d) (b : IsPacked q e) where
-  unpacked_meet : IsStill t (unpack p d) → IsStill u (unpack q e) → (r : Bool) → Decides r ((d - t ≡ e - u) × AreStoredAlike p q) → r ≡ same_shape (later t (unpack p d)) (later u (unpack q e))
-  unpacked_meet still too r is =
-      let one = later_unpacked t d p a still in
-      let two = later_unpacked u e q b too in
-      let both = one_answer r (same_shape (unpack p (d - t)) (unpack q (e - u))) is
-      (let s = shape_decides (unpack p (d - t)) (unpack q (e - u)) in
-      ((λ h. unpacked_back (d - t) (e - u) p q (less_packed t d p a) (less_packed u e q b) (s.0 h)), (λ h. s.1 (unpacked_along (d - t) (e - u) p q h.0 h.1)))) in
-      both ∙ ap (λ s. same_shape s (unpack q (e - u))) (sym one) ∙ ap (same_shape (later t (unpack p d))) (sym two)
-
-  module _ (s w : Shape) (first : unpack p d ≡ s) (second : unpack q e ≡ w) (still : IsStill t s) (too : IsStill u w) where
-    meet : (r : Bool) → Decides r ((d - t ≡ e - u) × AreStoredAlike p q) → r ≡ same_shape (later t s) (later u w)
-    meet r is =
-        unpacked_meet (subst (IsStill t) (sym first) still) (subst (IsStill u) (sym second) too) r is
-        ∙ ap (λ x. same_shape (later t x) (later u (unpack q e))) first ∙ ap (λ x. same_shape (later t s) (later u x)) second
-
-    -- what is to be answered where the times are alike
-    pub meets_alike : (r : Bool) → d - t ≡ e - u → r ≡ parts_eqs.ghosts.eq p q → r ≡ same_shape (later t s) (later u w)
-    meets_alike r times is = meet r (let k = parts_decide p q in ((λ h. (times, k.0 (sym is ∙ h))), (λ h. is ∙ k.1 h.1)))
-
-    -- and where they are not, or the parts differ
-    pub meets_apart : ((d - t ≡ e - u) → AreStoredAlike p q → ⊥) → false ≡ same_shape (later t s) (later u w)
-    meets_apart apart = meet false ((λ h. cc), (λ h. absurd (apart h.0 h.1)))
-
--- whether a shape can repeat, by its parts
-pub can_repeat_unpacked : (p : Parts) (d : ℕ) (s : Shape) → unpack p d ≡ s → (not (length p.pending.items == 0) && list_all (λ e. is_update e.body) p.pending.items) ≡ can_repeat s
-can_repeat_unpacked p d s view =
-    ap (λ b. not (length p.pending.items == 0) && b) (sym (list_all-map (λ e. is_update e.body) (later_by d) p.pending.items))
-    ∙ ap (λ n. not (n == 0) && list_all (λ e. is_update e.body) (map (later_by d) p.pending.items)) (sym (length-map p.pending.items (later_by d)))
-    ∙ ap can_repeat view
-
--- nothing pending is due before the first
-pub still_first : (p : Parts) (d : ℕ) (s : Shape) → unpack p d ≡ s → IsStill d s
-still_first p d s view =
-    subst (IsStill d) view (all_from_in (λ e. d ≤ e.time) (map (later_by d) p.pending.items) (λ e h.
-    let r = in_map (later_by d) e p.pending.items h in
-    let time : e.time ≡ r.0.time + d = ap (λ x. x.time) r.1 in
-    omega arith))
-
--- and where something is pending, the first is due then
-pub still_longest : (p : Parts) (d : ℕ) (s : Shape) → unpack p d ≡ s → IsPacked p d → (length p.pending.items ≡ 0 → ⊥) → (k : ℕ) → IsStill k s → k ≤ d
-still_longest p d s view is some k still = go p.pending.items is.least some (subst (IsStill k) (sym view) still) where
-  go : (xs : List Event) → least_time xs ≡ 0 → (length xs ≡ 0 → ⊥) → All (λ e. k ≤ e.time) (map (later_by d) xs) → k ≤ d
-  go [] least some all = absurd (some refl)
-  go (x ∷ xs) least some all = still_due k d x xs least all
-
-pub still_less : (d e : ℕ) (s : Shape) → d ≤ e → IsStill e s → IsStill d s
-still_less d e s le still = λ k x l. let h = still k x l in omega arith
-
-pub later_none : (s : Shape) → later 0 s ≡ s
-later_none s = λ i. record { routers = s.routers; pending = same s.pending i } where
-  same : (xs : List Event) → map (sooner 0) xs ≡ xs
-  same [] = refl
-  same (x ∷ xs) = let now : x.time - 0 ≡ x.time = omega arith in rw now (ap (λ l. x ∷ l) (same xs))
 
 -- ---- gathering routers
 
@@ -325,40 +198,173 @@ least-sooner : (d : ℕ) (xs : List Event) → least_time (map (sooner d) xs) �
 least-sooner d [] = omega arith
 least-sooner d (x ∷ xs) = least_from-sooner d x.time xs
 
-delayed_sooner : (d : ℕ) (xs : List Event) → ((e : Event) → In e xs → d ≤ e.time) → map (later_by d) (map (sooner d) xs) ≡ map (later_by 0) xs
-delayed_sooner d [] h = refl
-delayed_sooner d (x ∷ xs) h =
-    let le = h x (inl refl) in
-    let time : x.time - d + d ≡ x.time + 0 = omega arith in
-    rw time (ap (λ l. later_by 0 x ∷ l) (delayed_sooner d xs (λ e k. h e (inr k))))
-
 least_all : (xs : List Event) (e : Event) → In e xs → least_time xs ≤ e.time
 least_all [] e h = absurd h
 least_all (x ∷ xs) e (inl is) = subst (λ z. least_time (x ∷ xs) ≤ z.time) (sym is) (least_below x.time xs).0
 least_all (x ∷ xs) e (inr k) = (least_below x.time xs).1 e k
 
--- events that are counted from their least time on
-pub record AreCounted (xs ys : List Event) (due : ℕ) : Type 0 where
-  pub view : map (later_by due) ys ≡ map (later_by 0) xs
-  pub least : least_time ys ≡ 0
-  pub none : ys ≡ [] → due ≡ 0
+-- lists with the same events have the same least time
+least_same : (xs ys : List Event) → ((e : Event) → In e xs → In e ys) → ((e : Event) → In e ys → In e xs) → least_time xs ≡ least_time ys
+least_same [] [] a b = refl
+least_same [] (y ∷ ys) a b = absurd (b y (inl refl))
+least_same (x ∷ xs) [] a b = absurd (a x (inl refl))
+least_same (x ∷ xs) (y ∷ ys) a b =
+    let l = least_stands x xs in
+    let m = least_stands y ys in
+    let first = least_all (y ∷ ys) l.0 (a l.0 l.1) in
+    let second = least_all (x ∷ xs) m.0 (b m.0 m.1) in
+    let one = l.2 in
+    let two = m.2 in
+    omega arith
 
-pub are_counted : (xs ys : List Event) (due : ℕ) → due ≡ least_time xs → ys ≡ map (sooner due) xs → AreCounted xs ys due
-are_counted xs ys due d y =
-    record {
-      view = ap (map (later_by due)) y ∙ delayed_sooner due xs (λ e h. let k = least_all xs e h in omega arith);
-      least = ap least_time y ∙ least-sooner due xs ∙ (let k : least_time xs - due ≡ 0 = omega arith in k);
-      none = λ e. none xs d (sym y ∙ e);
-    } where
-      none : (zs : List Event) → due ≡ least_time zs → map (sooner due) zs ≡ [] → due ≡ 0
-      none [] e h = e
-      none (z ∷ zs) e h = cc
+least_from-seen : (t a : ℕ) (n : List ℕ) (xs : List Event) → least_from (a - t) (seen t n xs) ≡ least_from a xs - t
+least_from-seen t a n [] = refl
+least_from-seen t a n (x ∷ xs) =
+    let head : min (a - t) (x.time - t) ≡ min a x.time - t = omega arith in
+    ap (λ k. least_from k (seen t n xs)) head ∙ least_from-seen t (min a x.time) n xs
 
-pub undelayed_none : (xs : List Event) → map (later_by 0) xs ≡ xs
-undelayed_none [] = refl
-undelayed_none (x ∷ xs) = let time : x.time + 0 ≡ x.time = omega arith in rw time (ap (λ l. x ∷ l) (undelayed_none xs))
+least-seen : (t : ℕ) (n : List ℕ) (xs : List Event) → least_time (seen t n xs) ≡ least_time xs - t
+least-seen t n [] = omega arith
+least-seen t n (x ∷ xs) = least_from-seen t x.time n xs
 
--- events of a Vec that is written over
-pub rewritten : (v : Vec Event) (now new : List Event) (f : Event → Event) → now ≡ v.items → new ≡ map f now → (with_items v new).items ≡ map f v.items
-rewritten v now new f a b =
-    with_items_is v new (ap length (b ∙ ap (map f) a) ∙ length-map v.items f ∙ sym v.ok.0) ∙ b ∙ ap (map f) a
+-- when the first is due, whatever their order
+pub due_in_order : (t d : ℕ) (n : List ℕ) (xs : List Event) → d ≡ least_time xs - t → d ≡ least_time (seen t n (in_order xs))
+due_in_order t d n xs is =
+    is ∙ ap (λ k. k - t) (least_same xs (in_order xs) (λ e h. to_in_order e xs h) (λ e h. from_in_order e xs h)) ∙ sym (least-seen t n (in_order xs))
+
+sooner_twice : (a b : ℕ) (xs : List Event) → map (sooner b) (map (sooner a) xs) ≡ map (sooner (a + b)) xs
+sooner_twice a b [] = refl
+sooner_twice a b (x ∷ xs) =
+    let time : x.time - a - b ≡ x.time - (a + b) = omega arith in
+    rw time (ap (λ l. sooner (a + b) x ∷ l) (sooner_twice a b xs))
+
+-- seen from when the first is due, events are the same later, as long as none is handled
+moved : (d : ℕ) (xs : List Event) → All (λ e. d ≤ e.time) xs → map (sooner (least_time (map (sooner d) xs))) (map (sooner d) xs) ≡ map (sooner (least_time xs)) xs
+moved d xs still =
+    ap (λ k. map (sooner k) (map (sooner d) xs)) (least-sooner d xs) ∙ sooner_twice d (least_time xs - d) xs ∙ whole_way xs still where
+      whole_way : (ys : List Event) → All (λ e. d ≤ e.time) ys → map (sooner (d + (least_time ys - d))) ys ≡ map (sooner (least_time ys)) ys
+      whole_way [] h = refl
+      whole_way (y ∷ ys) h =
+          let l = least_stands y ys in
+          let time = l.2 in
+          let far : d ≤ l.0.time = in_from_all (λ e. d ≤ e.time) (y ∷ ys) h l.0 l.1 in
+          let sum : d + (least_time (y ∷ ys) - d) ≡ least_time (y ∷ ys) = omega arith in
+          ap (λ k. map (sooner k) (y ∷ ys)) sum
+
+-- ---- shapes
+
+-- two shapes that are the same later have the same hash
+pub hash_alike : (f : Span → HashWrites) (g : Event → HashWrites) (a b : Inside) → IsHashed f g a → IsHashed f g b → (s w : Shape) → shape_of a ≡ s → shape_of b ≡ w
+    → (d e : ℕ) → IsStill d s → IsStill e w → later d s ≡ later e w → a.hash ≡ b.hash
+hash_alike f g a b p q s w one two d e still too same =
+    let both : later d (shape_of a) ≡ later e (shape_of b) = ap (later d) one ∙ same ∙ sym (ap (later e) two) in
+    let spans = (routers_back a.parts.spans.items b.parts.spans.items a.parts.rows.items b.parts.rows.items a.parts.order.items b.parts.order.items
+    p.covers q.covers (ap (λ z. z.routers) both)).0 in
+    let first = moved d (shape_of a).pending (subst (IsStill d) (sym one) still) in
+    let second = moved e (shape_of b).pending (subst (IsStill e) (sym two) too) in
+    let events : map (sooner a.due) (shape_of a).pending ≡ map (sooner b.due) (shape_of b).pending
+    = ap (λ k. map (sooner k) (shape_of a).pending) p.due ∙ sym first ∙ ap (λ l. map (sooner (least_time l)) l) (ap (λ z. z.pending) both)
+    ∙ second ∙ sym (ap (λ k. map (sooner k) (shape_of b).pending) q.due) in
+    p.hash ∙ (λ i. hash_by f g (spans i) (events i)) ∙ sym q.hash
+
+pub seen_later : (t u : ℕ) (n : List ℕ) (xs : List Event) → map (λ e. sooner u (seen_from t (slice_index n e.src) e)) xs ≡ map (sooner u) (seen t n xs)
+seen_later t u n [] = refl
+seen_later t u n (x ∷ xs) = ap (λ l. sooner u (seen_from t (slice_index n x.src) x) ∷ l) (seen_later t u n xs)
+
+-- events in order are seen alike where the pending events of the shapes are
+pub alike_later : (a b : Inside) (xs ys : List Event) → xs ≡ in_order a.pending.events.items → ys ≡ in_order b.pending.events.items → (d e : ℕ)
+    → pointwise event_same (map (λ x. sooner d (seen_from a.pending.time (slice_index a.pending.sent.items x.src) x)) xs)
+    (map (λ x. sooner e (seen_from b.pending.time (slice_index b.pending.sent.items x.src) x)) ys)
+    ≡ pointwise event_same (later d (shape_of a)).pending (later e (shape_of b)).pending
+alike_later a b xs ys one two d e =
+    (λ i. pointwise event_same (seen_later a.pending.time d a.pending.sent.items xs i) (seen_later b.pending.time e b.pending.sent.items ys i))
+    ∙ (λ i. pointwise event_same (map (sooner d) (seen a.pending.time a.pending.sent.items (one i))) (map (sooner e) (seen b.pending.time b.pending.sent.items (two i))))
+
+length_seen : (a : Inside) → length (shape_of a).pending ≡ length a.pending.events.items
+length_seen a =
+    let n = length-insert_all event_before a.pending.events.items [] in
+    length-map (in_order a.pending.events.items) (λ e. seen_from a.pending.time (slice_index a.pending.sent.items e.src) e) ∙ (let k : length (in_order a.pending.events.items) ≡ length a.pending.events.items = omega arith in k)
+
+-- the hash of events in any order is that of the events in order
+pub hash_stored : (f : Span → HashWrites) (g : Event → HashWrites) (spans : List Span) (t u : ℕ) (n : List ℕ) (xs : List Event) (r : ℕ)
+    → r ≡ hash_by f g spans (map (sooner u) (seen t n xs)) → r ≡ hash_by f g spans (map (sooner u) (seen t n (in_order xs)))
+hash_stored f g spans t u n xs r is =
+    is ∙ ap (hash_by f g spans) (sym (seen_later t u n xs)) ∙ sym (hash_in_order f g spans (λ e. sooner u (seen_from t (slice_index n e.src) e)) xs)
+    ∙ ap (hash_by f g spans) (seen_later t u n (in_order xs))
+
+-- events that are put in order
+pub put : (v : Vec Event) (now new : List Event) → now ≡ v.items → new ≡ in_order now → (with_items v new).items ≡ in_order v.items
+put v now new a b =
+    let n = length-insert_all event_before v.items [] in
+    with_items_is v new (ap length (b ∙ ap in_order a) ∙ (let k : length (in_order v.items) ≡ length v.items = omega arith in k) ∙ sym v.ok.0) ∙ b ∙ ap in_order a
+
+abbrev pub with_events : Inside → Vec Event → Inside
+with_events a v = record { parts = a.parts; pending = record { time = a.pending.time; sent = a.pending.sent; events = v }; due = a.due; hash = a.hash }
+
+module _ (a : Inside) (v : Vec Event) (is : v.items ≡ in_order a.pending.events.items) where
+  pending_kept : (shape_of (with_events a v)).pending ≡ (shape_of a).pending
+  pending_kept = ap (seen a.pending.time a.pending.sent.items) (ap in_order is ∙ in_order_again a.pending.events.items)
+
+  -- the shape is the same
+  pub view_kept : shape_of (with_events a v) ≡ shape_of a
+  view_kept = λ i. record { routers = routers_in a.parts; pending = pending_kept i }
+
+  pub hashed_kept : (f : Span → HashWrites) (g : Event → HashWrites) → IsHashed f g a → IsHashed f g (with_events a v)
+  hashed_kept f g h = record {
+    covers = h.covers;
+    due = h.due ∙ ap least_time (sym pending_kept);
+    hash = h.hash ∙ ap (λ l. hash_by f g a.parts.spans.items (map (sooner a.due) l)) (sym pending_kept);
+  }
+
+-- whether two shapes are the same later, by their parts and their pending events
+module _ (f : Span → HashWrites) (g : Event → HashWrites) (a b : Inside) (p : IsHashed f g a) (q : IsHashed f g b) (s w : Shape) (one : shape_of a ≡ s) (two : shape_of b ≡ w) (d e : ℕ) where
+  whole_shapes : same_shape (later d (shape_of a)) (later e (shape_of b)) ≡ same_shape (later d s) (later e w)
+  whole_shapes = λ i. same_shape (later d (one i)) (later e (two i))
+
+  pub meets_then : (m : Bool) → parts_eqs.ghosts.eq a.parts b.parts ≡ true → m ≡ pointwise event_same (later d (shape_of a)).pending (later e (shape_of b)).pending
+      → m ≡ same_shape (later d s) (later e w)
+  meets_then m alike is =
+      is ∙ ap (λ x. x && pointwise event_same (later d (shape_of a)).pending (later e (shape_of b)).pending) (sym alike ∙ routers_same a.parts b.parts p.covers q.covers) ∙ whole_shapes
+
+  pub meets_else : parts_eqs.ghosts.eq a.parts b.parts ≡ false → false ≡ same_shape (later d s) (later e w)
+  meets_else apart =
+      ap (λ x. x && pointwise event_same (later d (shape_of a)).pending (later e (shape_of b)).pending) (sym apart ∙ routers_same a.parts b.parts p.covers q.covers) ∙ whole_shapes
+
+-- nothing pending is due before the first
+pub still_first : (f : Span → HashWrites) (g : Event → HashWrites) (a : Inside) (s : Shape) → shape_of a ≡ s → IsHashed f g a → IsStill a.due s
+still_first f g a s view is =
+    subst (IsStill a.due) view (all_from_in (λ e. a.due ≤ e.time) (shape_of a).pending (λ e h. let k = least_all (shape_of a).pending e h in let due = is.due in omega arith))
+
+-- and where something is pending, the first is due then
+pub still_longest : (f : Span → HashWrites) (g : Event → HashWrites) (a : Inside) (s : Shape) → shape_of a ≡ s → IsHashed f g a → (length a.pending.events.items ≡ 0 → ⊥)
+    → (k : ℕ) → IsStill k s → k ≤ a.due
+still_longest f g a s view is some k still = go (shape_of a).pending refl (subst (IsStill k) (sym view) still) where
+  go : (xs : List Event) → (shape_of a).pending ≡ xs → All (λ e. k ≤ e.time) xs → k ≤ a.due
+  go [] e all = absurd (some (let n = length_seen a in let z : length (shape_of a).pending ≡ 0 = ap length e in omega arith))
+  go (x ∷ xs) e all =
+      let l = least_stands x xs in
+      let time = l.2 in
+      let far : k ≤ l.0.time = in_from_all (λ z. k ≤ z.time) (x ∷ xs) all l.0 l.1 in
+      let due : a.due ≡ least_time (x ∷ xs) = is.due ∙ ap least_time e in
+      omega arith
+
+-- whether a shape can repeat, by its events in any order
+pub can_repeat_stored : (a : Inside) (s : Shape) → shape_of a ≡ s → (not (length a.pending.events.items == 0) && list_all (λ e. is_update e.body) a.pending.events.items) ≡ can_repeat s
+can_repeat_stored a s view =
+    let xs = a.pending.events.items in
+    let all : list_all (λ e. is_update e.body) xs ≡ list_all (λ e. is_update e.body) (shape_of a).pending
+    = sym (and_true (list_all (λ e. is_update e.body) xs)) ∙ sym (all_in-insert_all event_before (λ e. is_update e.body) xs [])
+    ∙ sym (list_all-map (λ e. is_update e.body) (λ e. seen_from a.pending.time (slice_index a.pending.sent.items e.src) e) (in_order xs)) in
+    (λ i. not (sym (length_seen a) i == 0) && all i) ∙ ap can_repeat view where
+      and_true : (b : Bool) → (b && true) ≡ b
+      and_true true = refl
+      and_true false = refl
+
+pub still_less : (d e : ℕ) (s : Shape) → d ≤ e → IsStill e s → IsStill d s
+still_less d e s le still = λ k x l. let h = still k x l in omega arith
+
+pub later_none : (s : Shape) → later 0 s ≡ s
+later_none s = λ i. record { routers = s.routers; pending = same s.pending i } where
+  same : (xs : List Event) → map (sooner 0) xs ≡ xs
+  same [] = refl
+  same (x ∷ xs) = let now : x.time - 0 ≡ x.time = omega arith in rw now (ap (λ l. x ∷ l) (same xs))

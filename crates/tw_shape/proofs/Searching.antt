@@ -1,5 +1,5 @@
 -- A search through the gaps of a watch, the oldest first.
-use Rattle.std.proofs.Common.{◌≡◌, ℕ, suc, zero, ◌-◌, Bool, false, true, List, [], ◌∷◌, ◌++◌, drop, length, Option, Some, None, refl, ap, sym, ◌∙◌, subst, inl, inr}
+use Rattle.std.proofs.Common.{◌≡◌, ℕ, suc, zero, ◌-◌, Bool, false, true, List, [], ◌∷◌, ◌++◌, drop, get_or, length, set, Option, Some, None, refl, ap, sym, ◌∙◌, subst, inl, inr, ◌<◌, arith}
 use Rattle.std.specs.List.{All, find, flat_map}
 use Rattle.std.specs.Option.{is_some, option_map, option_or}
 use Rattle.std.proofs.lemmas.List.Folds.{find-append}
@@ -93,3 +93,19 @@ apart_more s gaps all left x step first rest more =
       | inl is ↦ subst (λ z. NeverMeet z.shape s) (sym is) first
       | inr k ↦ in_from_all (λ z. NeverMeet z.shape s) left more g k
     ])))
+
+-- an item, and then those that are left
+pub drop_next : {X : Type 0} (xs : List X) (i : ℕ) (x : X) → i < length xs → x ≡ get_or xs i x → drop i xs ≡ x ∷ drop (suc i) xs
+drop_next [] i x l h = absurd (omega arith)
+drop_next (y ∷ ys) zero x l h = ap (λ z. z ∷ ys) (sym h)
+drop_next (y ∷ ys) (suc i) x l h = drop_next ys i x (omega arith) h
+
+-- an item that is written over itself
+pub set_same : {X : Type 0} (xs : List X) (i : ℕ) (x : X) → i < length xs → x ≡ get_or xs i x → set xs i x ≡ xs
+set_same [] i x l h = absurd (omega arith)
+set_same (y ∷ ys) zero x l h = ap (λ z. z ∷ ys) h
+set_same (y ∷ ys) (suc i) x l h = ap (λ zs. y ∷ zs) (set_same ys i x (omega arith) h)
+
+-- those that are left of timely gaps
+pub timely_left : (every i : ℕ) (gaps : List Gap) → All (IsTimely every) gaps → All (IsTimely every) (drop i gaps)
+timely_left every i gaps all = all_from_in (IsTimely every) (drop i gaps) (λ g h. in_from_all (IsTimely every) gaps all g (in_drop g i gaps h))

@@ -1,27 +1,24 @@
 -- What the fields of a shape say, and what holds of them (own).
-use Rattle.std.specs.Prelude.{ℕ, ◌≡◌, [], map}
+use Rattle.std.specs.Prelude.{◌≡◌, List, map}
 use Rattle.std.specs.Hash.{HashWrites}
 use Rattle.tw_event.specs.declared.event.Event.{Event}
 use Rattle.tw_shape.specs.declared.shape.Parts.{Parts}
 use Rattle.tw_shape.specs.declared.shape.Shape.TheInside.{Inside}
 use Rattle.tw_shape.specs.declared.shape.Span.{Span}
-use Rattle.tw_shape.specs.Packed.{Covers, later_by, hash_by, least_time, routers_of}
-use Rattle.tw_shape.specs.Shape.{Shape}
+use Rattle.tw_shape.specs.Packed.{Covers, hash_by, in_order, least_time, routers_of, seen}
+use Rattle.tw_shape.specs.Shape.{RouterShape, Shape, sooner}
 
--- the shape of these parts, whose first pending event is due in so many ticks
-abbrev pub unpack : Parts → ℕ → Shape
-unpack p due = record { routers = routers_of p.spans.items p.rows.items p.order.items; pending = map (later_by due) p.pending.items }
-
--- every row and path is some router's, and the least pending time is 0; where nothing is pending, nothing is due
-pub record IsPacked (p : Parts) (due : ℕ) : Type 0 where
-  pub covers : Covers p.spans.items p.rows.items p.order.items
-  pub least : least_time p.pending.items ≡ 0
-  pub none : p.pending.items ≡ [] → due ≡ 0
+-- the routers of these parts
+abbrev pub routers_in : Parts → List RouterShape
+routers_in p = routers_of p.spans.items p.rows.items p.order.items
 
 -- the shape that the fields say
 abbrev pub shape_of : Inside → Shape
-shape_of a = unpack a.parts a.due
+shape_of a = record { routers = routers_in a.parts; pending = seen a.pending.time a.pending.sent.items (in_order a.pending.events.items) }
 
--- the hash is that of the spans and the pending events
-abbrev pub IsHashed : (Span → HashWrites) → (Event → HashWrites) → Inside → Type 0
-IsHashed span event a = IsPacked a.parts a.due × (a.hash ≡ hash_by span event a.parts.spans.items a.parts.pending.items)
+-- every row and path is some router's, the first pending event is due then, and the hash is that of the spans and of the pending
+-- events, seen from when the first is due
+pub record IsHashed (span : Span → HashWrites) (event : Event → HashWrites) (a : Inside) : Type 0 where
+  pub covers : Covers a.parts.spans.items a.parts.rows.items a.parts.order.items
+  pub due : a.due ≡ least_time (shape_of a).pending
+  pub hash : a.hash ≡ hash_by span event a.parts.spans.items (map (sooner a.due) (shape_of a).pending)

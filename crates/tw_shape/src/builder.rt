@@ -1,10 +1,13 @@
 ghost use Rattle.std.specs.Prelude.{◌≡◌, [], ◌∷◌, ◌++◌, map, slice_index, OnErr, OnOk};
+ghost use Rattle.tw_event.specs.Order.{event_before};
 ghost use Rattle.tw_shape.specs.Shape.{seen_from};
+ghost use Rattle.tw_sim.specs.Ordered.{insert_all};
 
+use crate::seen::Seen;
 use crate::shape::{Parts, Shape, Span};
 use std::alloc::{AllocError, Global};
 use std::marker::Model;
-use tw_event::{Body, Event, PathNo};
+use tw_event::{Event, PathNo};
 use tw_model::Row;
 
 /// Gathers a run's routers, in ascending order, and then its pending events, into the shape at a time.
@@ -69,41 +72,23 @@ impl ShapeBuilder {
         Ok(())
     }
 
-    /// The shape, with these events pending.
-    pub fn finish(self, mut pending: Vec<Event>) -> Shape
-        ensures { result
-            ≡ record { routers = self.routers; pending = map (λ e. seen_from self.time (slice_index self.sent e.src) e) pending.items } }
+    /// The shape, with these events pending, in any order.
+    pub fn finish(self, pending: Vec<Event>) -> Shape
+        ensures { result ≡ record {
+          routers = self.routers;
+          pending = map (λ e. seen_from self.time (slice_index self.sent e.src) e) (insert_all event_before pending.items []);
+        } }
     {
-        see_from(&mut pending, self.time, &self.sent);
-        Shape::of_parts(Parts {
+        let parts = Parts {
             spans: self.spans,
             rows: self.rows,
             order: self.order,
-            pending,
-        })
-    }
-}
-
-/// The events as they are seen from `time`, when each router has sent so many messages.
-fn see_from(events: &mut [Event], time: u64, sent: &[u64])
-    ensures { events.new ≡ map (λ e. seen_from time (slice_index sent.now e.src) e) events.old }
-{
-    for i in 0..events.len() {
-        events[i] = seen_from(events[i], time, sent);
-    }
-}
-
-fn seen_from(event: Event, time: u64, sent: &[u64]) -> Event
-    ensures { result ≡ seen_from time (slice_index sent.now event.src) event }
-{
-    let sent = sent.get(event.src as usize).copied().unwrap_or(0);
-    let seq = match event.body {
-        Body::Update { .. } => sent.saturating_sub(event.seq),
-        _ => event.seq,
-    };
-    Event {
-        time: event.time.saturating_sub(time),
-        seq,
-        ..event
+        };
+        let pending = Seen {
+            time: self.time,
+            sent: self.sent,
+            events: pending,
+        };
+        Shape::of_parts(parts, pending)
     }
 }

@@ -9,6 +9,7 @@
 
 mod builder;
 pub mod laws;
+mod seen;
 mod shape;
 mod verdict;
 mod watch;

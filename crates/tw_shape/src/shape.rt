@@ -1,13 +1,12 @@
-ghost use Rattle.std.specs.Prelude.{◌≡◌, ◌≤◌, ◌<◌, ◌-◌, ◌*◌, ℕ, false, [], IfNone, IfSome, map};
-ghost use Rattle.std.specs.List.{list_all};
-ghost use Rattle.tw_shape.specs.Packed.{Covers, hash_by, least_time};
-ghost use Rattle.tw_shape.specs.Storage.{unpack};
-ghost use Rattle.tw_shape.specs.Shape.{IsStill, can_repeat, is_update, later, sooner};
+ghost use Rattle.std.specs.Prelude.{◌≡◌, ◌≤◌, ◌<◌, ◌-◌, ◌*◌, ℕ, false, [], IfNone, IfSome};
+ghost use Rattle.tw_shape.specs.Packed.{Covers, in_order, routers_of, seen};
+ghost use Rattle.tw_shape.specs.Shape.{IsStill, can_repeat, later};
 ghost use Rattle.tw_shape.specs.Same.{NeverMeet, same_shape};
 
-use std::hash::{FoldHasher, Hash, Hasher};
+use crate::seen::{Seen, all_updates, are_alike, hash_of, least_time, put_in_order};
+use std::hash::Hash;
 use std::marker::Model;
-use tw_event::{Body, Event, PathNo};
+use tw_event::{Event, PathNo};
 use tw_model::Row;
 
 /// A router's path, and how many of the rows and paths that follow are its own.
@@ -18,27 +17,27 @@ pub(crate) struct Span {
     pub(crate) order: usize,
 }
 
-/// The routers, whose rows and paths lie one after the other, and the pending events, whose times are
-/// counted from the least of them.
+/// The routers, whose rows and paths lie one after the other.
 #[derive(PartialEq, Eq, Drop, Debug)]
 pub(crate) struct Parts {
     pub(crate) spans: Vec<Span>,
     pub(crate) rows: Vec<Row>,
     pub(crate) order: Vec<PathNo>,
-    pub(crate) pending: Vec<Event>,
 }
 
 /// What a run looks like at a time, when all events before it are handled: every router without its
 /// counters, and the pending events, each with the ticks until it is handled and, in an update, how
 /// many messages ago its sender sent it.
 ///
-/// Two times of one run that have the same shape have the same future.
+/// Two times of one run that have the same shape have the same future. The pending events are kept in any
+/// order, and put in order only where a hash says that two shapes may be the same.
 #[derive(Drop, Debug)]
 pub struct Shape {
     parts: Parts,
+    pending: Seen,
     /// In how many ticks the first pending event is handled, or 0.
     due: u64,
-    /// Of the spans and the pending events.
+    /// Of the spans and the pending events, whatever their order.
     hash: u64,
 }
 
@@ -59,19 +58,26 @@ impl Shape {
     pub(crate) fn can_repeat(&self) -> bool
         ensures { result ≡ can_repeat self.now }
     {
-        let pending = self.parts.pending.as_slice();
-        !pending.is_empty() && all_updates(pending)
+        let events = self.pending.events.as_slice();
+        !events.is_empty() && all_updates(events)
     }
 
-    /// The shape of these parts, whose pending times are ticks from then on.
-    pub(crate) fn of_parts(mut parts: Parts) -> Shape
+    /// The shape of these routers and pending events, which may stand in any order.
+    pub(crate) fn of_parts(parts: Parts, pending: Seen) -> Shape
         requires { Covers parts.spans.items parts.rows.items parts.order.items }
-        ensures { result ≡ unpack parts 0 }
+        ensures { result ≡ record {
+          routers = routers_of parts.spans.items parts.rows.items parts.order.items;
+          pending = seen pending.time pending.sent.items (in_order pending.events.items);
+        } }
     {
-        let due = least_time(&parts.pending);
-        bring_forward(&mut parts.pending, due);
-        let hash = hash_of(&parts.spans, &parts.pending);
-        Shape { parts, due, hash }
+        let due = least_time(&pending.events).saturating_sub(pending.time);
+        let hash = hash_of(&parts.spans, &pending, due);
+        Shape {
+            parts,
+            pending,
+            due,
+            hash,
+        }
     }
 
     /// In how many ticks the first pending event is handled.
@@ -80,8 +86,8 @@ impl Shape {
         ensures still { IfSome result (λ ticks. IsStill ticks self.now) }
         ensures longest { IfSome result (λ ticks. (d : ℕ) → IsStill d self.now → d ≤ ticks) }
     {
-        let pending = self.parts.pending.as_slice();
-        if pending.is_empty() {
+        let events = self.pending.events.as_slice();
+        if events.is_empty() {
             None
         } else {
             Some(self.due)
@@ -112,75 +118,30 @@ impl Shape {
         self.hash == other.hash
     }
 
+    /// Whether the two shapes are the same. It puts the pending events of both in order, which changes
+    /// nothing that is told of them.
+    pub fn is_same(&mut self, other: &mut Shape) -> bool
+        ensures value { result ≡ same_shape self.old other.old }
+        ensures same { self.new ≡ self.old }
+        ensures other_same { other.new ≡ other.old }
+    {
+        self.meets(0, other, 0)
+    }
+
     /// Whether this shape `ticks` later is the other one `other_ticks` later, where nothing is handled
     /// meanwhile.
-    pub(crate) fn meets(&self, ticks: u64, other: &Shape, other_ticks: u64) -> bool
-        requires still { IsStill ticks self.now }
-        requires other_still { IsStill other_ticks other.now }
-        ensures { result ≡ same_shape (later ticks self.now) (later other_ticks other.now) }
+    pub(crate) fn meets(&mut self, ticks: u64, other: &mut Shape, other_ticks: u64) -> bool
+        requires still { IsStill ticks self.old }
+        requires other_still { IsStill other_ticks other.old }
+        ensures value { result ≡ same_shape (later ticks self.old) (later other_ticks other.old) }
+        ensures same { self.new ≡ self.old }
+        ensures other_same { other.new ≡ other.old }
     {
         if !self.may_meet(other) {
             return false;
         }
-        let left = self.due.saturating_sub(ticks);
-        let other_left = other.due.saturating_sub(other_ticks);
-        left == other_left && self.parts == other.parts
+        put_in_order(&mut self.pending.events);
+        put_in_order(&mut other.pending.events);
+        self.parts == other.parts && are_alike(&self.pending, ticks, &other.pending, other_ticks)
     }
-}
-
-impl PartialEq for Shape {
-    ghost use Rattle.std.specs.Cmp.{partial_equiv_from_equiv};
-    ghost use Rattle.tw_shape.specs.Same.{shape_equiv};
-
-    ghost eq = { same_shape };
-
-    ghost laws = { partial_equiv_from_equiv shape_equiv };
-
-    fn eq(&self, other: &Shape) -> bool {
-        self.meets(0, other, 0)
-    }
-}
-
-impl Eq for Shape {
-    ghost use Rattle.tw_shape.specs.Same.{shape_equiv};
-
-    ghost laws = { shape_equiv };
-}
-
-/// The least time of the events, or 0.
-fn least_time(events: &[Event]) -> u64
-    ensures { result ≡ least_time events.now }
-{
-    let [first, rest @ ..] = events else {
-        return 0;
-    };
-    rest.iter()
-        .fold(first.time, |least, event| least.min(event.time))
-}
-
-/// Counts the times of the events from `ticks` on.
-fn bring_forward(events: &mut [Event], ticks: u64)
-    ensures { events.new ≡ map (sooner ticks) events.old }
-{
-    for i in 0..events.len() {
-        events[i].time = events[i].time.saturating_sub(ticks);
-    }
-}
-
-fn all_updates(events: &[Event]) -> bool
-    ensures { result ≡ list_all (λ e. is_update e.body) events.now }
-{
-    events
-        .iter()
-        .all(|event| matches!(event.body, Body::Update { .. }))
-}
-
-/// A hash of the spans and the pending events.
-fn hash_of(spans: &[Span], pending: &[Event]) -> u64
-    ensures { result ≡ hash_by ⟦<Span as Hash>⟧.hash_input ⟦<Event as Hash>⟧.hash_input spans.now pending.now }
-{
-    let mut hasher = FoldHasher::default();
-    spans.hash(&mut hasher);
-    pending.hash(&mut hasher);
-    hasher.finish()
 }

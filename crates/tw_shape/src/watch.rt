@@ -1,11 +1,13 @@
 ghost use Rattle.std.specs.Prelude.{◌≡◌, ◌≤◌, ◌<◌, ◌+◌, ◌-◌, ◌*◌, false, true, find, option_map, IfOk};
 ghost use Rattle.std.specs.Option.{option_or};
-ghost use Rattle.std.specs.List.{All};
+ghost use Rattle.std.specs.List.{All, flat_map};
 ghost use Rattle.tw_model.specs.declared.limits.TheConstants.{LATEST};
 ghost use Rattle.tw_model.specs.Summary.{summary_of};
 ghost use Rattle.tw_shape.specs.Same.{NeverMeet};
 ghost use Rattle.tw_shape.specs.Shape.{IsStill, can_repeat};
 ghost use Rattle.tw_shape.specs.Verdict.{first_found, is_again, verdict_of};
+ghost use Rattle.tw_shape.specs.Watch.{IsGap, after_first, fresh, gap_checkpoints, checkpoints_in, with_gap};
+ghost use Rattle.tw_shape.specs.Windows.{IsTimely};
 
 use crate::shape::Shape;
 use crate::verdict::{Finding, Verdict};
@@ -24,19 +26,18 @@ pub(crate) struct Gap {
 }
 
 impl Gap {
-    ghost use Rattle.tw_shape.specs.Watch.{IsGap, after_first, gap_checkpoints};
-    ghost use Rattle.tw_shape.specs.Windows.{IsTimely};
-
     /// The time of the checkpoint of this gap that shows the shape of the other gap `ticks` after its
     /// first, and comes not too long before it.
-    fn time_of(&self, every: u64, other: &Gap, ticks: u64) -> Option<u64>
+    fn time_of(&mut self, every: u64, other: &mut Gap, ticks: u64) -> Option<u64>
         requires every { 0 < every }
         requires most { every ≤ LATEST }
-        requires self_timely { IsTimely every self.now }
-        requires other_timely { IsTimely every other.now }
-        requires ticks { ticks ≤ (other.now.count - 1) * every }
-        requires can { can_repeat other.now.shape ≡ true }
-        ensures { result ≡ option_map (λ c. c.time) (find (is_again every (after_first other.now ticks)) (gap_checkpoints every self.now)) }
+        requires self_timely { IsTimely every self.old }
+        requires other_timely { IsTimely every other.old }
+        requires ticks { ticks ≤ (other.old.count - 1) * every }
+        requires can { can_repeat other.old.shape ≡ true }
+        ensures value { result ≡ option_map (λ c. c.time) (find (is_again every (after_first other.old ticks)) (gap_checkpoints every self.old)) }
+        ensures same { self.new ≡ self.old }
+        ensures other_same { other.new ≡ other.old }
     {
         let left = other.shape.ticks_left()? - ticks;
         let since = self.shape.ticks_left()?.checked_sub(left)?;
@@ -45,7 +46,7 @@ impl Gap {
         }
         let time = self.time + since;
         let is_near = other.time + ticks <= time + WINDOW as u64 * every;
-        if is_near && self.shape.meets(since, &other.shape, ticks) {
+        if is_near && self.shape.meets(since, &mut other.shape, ticks) {
             Some(time)
         } else {
             None
@@ -78,9 +79,6 @@ impl Model for Watch {
 }
 
 impl Watch {
-    ghost use Rattle.tw_shape.specs.Watch.{IsGap, after_first, fresh, gap_checkpoints, checkpoints_in, with_gap};
-    ghost use Rattle.tw_shape.specs.Windows.{IsTimely};
-
     /// A watch that has seen no checkpoint, with a checkpoint every so many ticks, 1 to 1,000,000,000.
     pub fn new(alloc: Global, every: u64) -> Result<Watch, AllocError>
         requires some { 0 < every }
@@ -109,8 +107,8 @@ impl Watch {
         ensures step { self.new ≡ with_gap self.old (record { time = time; count = result; shape = shape }) }
     {
         let count = shape.still_times(self.every, most);
-        let gap = Gap { time, count, shape };
-        self.found = self.found_with(&gap);
+        let mut gap = Gap { time, count, shape };
+        self.found = self.found_with(&mut gap);
         self.window.push_back(gap);
         count
     }
@@ -130,10 +128,12 @@ impl Watch {
     }
 
     /// What is found first, with the checkpoints of one more gap.
-    fn found_with(&self, gap: &Gap) -> Option<Finding>
-        requires timely { IsTimely self.now.every gap.now }
-        requires later { All (λ c. c.time < gap.now.time) (checkpoints_in self.now) }
-        ensures { result ≡ option_or self.now.found (first_found self.now.every (checkpoints_in self.now) (gap_checkpoints self.now.every gap.now)) }
+    fn found_with(&mut self, gap: &mut Gap) -> Option<Finding>
+        requires timely { IsTimely self.old.every gap.old }
+        requires later { All (λ c. c.time < gap.old.time) (checkpoints_in self.old) }
+        ensures value { result ≡ option_or self.old.found (first_found self.old.every (checkpoints_in self.old) (gap_checkpoints self.old.every gap.old)) }
+        ensures same { self.new ≡ self.old }
+        ensures gap_same { gap.new ≡ gap.old }
     {
         match self.found {
             Some(finding) => Some(finding),
@@ -142,10 +142,12 @@ impl Watch {
     }
 
     /// What is found first at the checkpoints of the gap.
-    fn find(&self, gap: &Gap) -> Option<Finding>
-        requires timely { IsTimely self.now.every gap.now }
-        requires later { All (λ c. c.time < gap.now.time) (checkpoints_in self.now) }
-        ensures { result ≡ first_found self.now.every (checkpoints_in self.now) (gap_checkpoints self.now.every gap.now) }
+    fn find(&mut self, gap: &mut Gap) -> Option<Finding>
+        requires timely { IsTimely self.old.every gap.old }
+        requires later { All (λ c. c.time < gap.old.time) (checkpoints_in self.old) }
+        ensures value { result ≡ first_found self.old.every (checkpoints_in self.old) (gap_checkpoints self.old.every gap.old) }
+        ensures same { self.new ≡ self.old }
+        ensures gap_same { gap.new ≡ gap.old }
     {
         if !gap.shape.can_repeat() {
             return None;
@@ -153,14 +155,7 @@ impl Watch {
         if !self.may_have(&gap.shape) {
             return None;
         }
-        for number in 0..gap.count.min(WINDOW as u64) {
-            let ticks = number * self.every;
-            if let Some(from) = self.earlier(gap, ticks) {
-                let period = gap.time + ticks - from;
-                return Some(Finding { from, period });
-            }
-        }
-        None
+        first_finding(self.window.make_contiguous(), self.every, gap)
     }
 
     /// Whether a checkpoint shown may have a shape that this one is later: where it answers no, none has.
@@ -176,22 +171,48 @@ impl Watch {
         }
         false
     }
+}
 
-    /// The time of the first checkpoint shown, not too long before it, with the shape that the gap has
-    /// `ticks` after its first one.
-    fn earlier(&self, gap: &Gap, ticks: u64) -> Option<u64>
-        requires timely { IsTimely self.now.every gap.now }
-        requires ticks { ticks ≤ (gap.now.count - 1) * self.now.every }
-        requires can { can_repeat gap.now.shape ≡ true }
-        ensures { result ≡ option_map (λ c. c.time) (find (is_again self.now.every (after_first gap.now ticks)) (checkpoints_in self.now)) }
-    {
-        let every = self.every;
-        for old in &self.window {
-            let time = old.time_of(every, gap, ticks);
-            if time.is_some() {
-                return time;
-            }
+/// What is found first at the checkpoints of the gap, after those of other gaps.
+fn first_finding(gaps: &mut [Gap], every: u64, gap: &mut Gap) -> Option<Finding>
+    requires every { 0 < every }
+    requires most { every ≤ LATEST }
+    requires gaps_timely { All (IsTimely every) gaps.old }
+    requires timely { IsTimely every gap.old }
+    requires later { All (λ c. c.time < gap.old.time) (flat_map (gap_checkpoints every) gaps.old) }
+    requires can { can_repeat gap.old.shape ≡ true }
+    ensures value { result ≡ first_found every (flat_map (gap_checkpoints every) gaps.old) (gap_checkpoints every gap.old) }
+    ensures same { gaps.new ≡ gaps.old }
+    ensures gap_same { gap.new ≡ gap.old }
+{
+    for number in 0..gap.count.min(WINDOW as u64) {
+        let ticks = number * every;
+        if let Some(from) = first_time(gaps, every, gap, ticks) {
+            let period = gap.time + ticks - from;
+            return Some(Finding { from, period });
         }
-        None
     }
+    None
+}
+
+/// The time of the first checkpoint of these gaps, not too long before it, with the shape that the other gap
+/// has `ticks` after its first one.
+fn first_time(gaps: &mut [Gap], every: u64, gap: &mut Gap, ticks: u64) -> Option<u64>
+    requires every { 0 < every }
+    requires most { every ≤ LATEST }
+    requires gaps_timely { All (IsTimely every) gaps.old }
+    requires timely { IsTimely every gap.old }
+    requires ticks { ticks ≤ (gap.old.count - 1) * every }
+    requires can { can_repeat gap.old.shape ≡ true }
+    ensures value { result ≡ option_map (λ c. c.time) (find (is_again every (after_first gap.old ticks)) (flat_map (gap_checkpoints every) gaps.old)) }
+    ensures same { gaps.new ≡ gaps.old }
+    ensures gap_same { gap.new ≡ gap.old }
+{
+    for i in 0..gaps.len() {
+        let time = gaps[i].time_of(every, gap, ticks);
+        if time.is_some() {
+            return time;
+        }
+    }
+    None
 }

@@ -11,5 +11,5 @@ returns c =
     let routers = rw c.deref.ensures.value at c.in_ok-gather.ensures in
     let whole : run_of a ≡ complete_run (run_of a).case (run_of a).stop = subst (λ run. run ≡ complete_run run.case run.stop) (sym c.self.view_is) c.requires in
     let made = shape_of_run (run_of a) c.self.invariant.begun.case whole a.routers.items c.self.invariant.routers _ _
-    c.new-builder.ensures (c.builder.view_is ∙ routers) _ c.in_ok-list.ensures.events _ c.finish.ensures in
+    c.new-builder.ensures (c.builder.view_is ∙ routers) c.in_ok-events.field-0.items c.in_ok-events.ensures.events _ c.finish.ensures in
     subst (λ run. c.finish.result ≡ shape run.case run.stop) c.self.view_is made
