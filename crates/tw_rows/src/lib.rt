@@ -32,6 +32,8 @@ mod replays;
 #[cfg(test)]
 mod runs;
 #[cfg(test)]
+mod shapes;
+#[cfg(test)]
 mod shards;
 #[cfg(test)]
 mod steps;
