@@ -2,11 +2,8 @@
 use Rattle.std.specs.Prelude.{ℕ, ◌≡◌, ◌==◌, Bool, false, ◌&&◌}
 use lib.Pointwise.{pointwise}
 use Rattle.std.specs.Bool.{beq}
-use Rattle.std.specs.Cmp.{IsEquivalence, and_equiv, bool_eq_equiv, eq_by_cmp_equiv, nat_eq_equiv, on_equiv}
-use Rattle.std.specs.Cmp.Lexicographic.{lists_equiv}
 use Rattle.tw_event.specs.declared.event.PathNo.{PathNo}
 use Rattle.tw_event.specs.Order.{event_same}
-use Rattle.tw_event.proofs.Order.{event_total}
 use Rattle.tw_model.specs.declared.state.Row.{Row}
 use Rattle.tw_shape.specs.Shape.{IsStill, RouterShape, Shape, later}
 
@@ -29,16 +26,3 @@ same_shape s t = pointwise same_router s.routers t.routers && pointwise event_sa
 -- the two are not the same at any two times later, as long as nothing is handled
 abbrev pub NeverMeet : Shape → Shape → Type 0
 NeverMeet s t = (d e : ℕ) → IsStill d s → IsStill e t → same_shape (later d s) (later e t) ≡ false
-
-router_equiv : IsEquivalence same_router
-router_equiv =
-    and_equiv (on_equiv (λ r. r.rib) path_equiv) (and_equiv (on_equiv (λ r. r.rows) (lists_equiv row_equiv)) (on_equiv (λ r. r.order) (lists_equiv path_equiv))) where
-      path_equiv : IsEquivalence same_path
-      path_equiv = on_equiv (λ p. p.0) nat_eq_equiv
-
-      row_equiv : IsEquivalence same_row
-      row_equiv = and_equiv (on_equiv (λ r. r.heard) path_equiv) (and_equiv (on_equiv (λ r. r.up) bool_eq_equiv) (on_equiv (λ r. r.session) nat_eq_equiv))
-
--- the law of the equality of shapes
-pub shape_equiv : IsEquivalence same_shape
-shape_equiv = and_equiv (on_equiv (λ s. s.routers) (lists_equiv router_equiv)) (on_equiv (λ s. s.pending) (lists_equiv (eq_by_cmp_equiv event_total)))
