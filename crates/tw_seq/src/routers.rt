@@ -1,5 +1,5 @@
-ghost use Rattle.std.specs.Prelude.{◌≡◌, ◌++◌, map, IfOk, OnOk};
-ghost use Rattle.std.specs.List.{range_with_len};
+ghost use Rattle.std.specs.Prelude.{◌≡◌, ◌+◌, ◌-◌, ◌^◌, ◌++◌, length, map, min, IfOk, OnOk};
+ghost use Rattle.std.specs.List.{fold, range_with_len};
 ghost use Rattle.tw_model.specs.State.{opening};
 ghost use Rattle.tw_seq.specs.Outcome.{end_of};
 ghost use Rattle.tw_shape.specs.Shape.{bare};
@@ -43,13 +43,32 @@ pub(crate) fn router_ends(
     Ok(ends)
 }
 
-/// Adds each router to a shape.
+/// How many rows the routers keep, or the greatest number where that is more.
+fn count_rows(routers: &[Router<'_>]) -> usize
+    ensures { result ≡ fold (λ n r. min (n + length r.state.rows) (2 ^ 64 - 1)) 0 routers.now }
+{
+    routers.iter().fold(0, |count: usize, router| {
+        count.saturating_add(router.rows().len())
+    })
+}
+
+/// How many paths stand in the routers' orders, or the greatest number where that is more.
+fn count_paths(routers: &[Router<'_>]) -> usize
+    ensures { result ≡ fold (λ n r. min (n + length r.state.order) (2 ^ 64 - 1)) 0 routers.now }
+{
+    routers.iter().fold(0, |count: usize, router| {
+        count.saturating_add(router.order().len())
+    })
+}
+
+/// Adds each router to a shape. It takes room for all of them first.
 pub(crate) fn gather(builder: &mut ShapeBuilder, routers: &[Router<'_>]) -> Result<(), AllocError>
     ensures { OnOk result (builder.new ≡ record builder.old {
       routers = builder.old.routers ++ map (λ r. bare r.state) routers.now;
       sent = builder.old.sent ++ map (λ r. r.state.counters.sent) routers.now;
     }) }
 {
+    builder.reserve(routers.len(), count_rows(routers), count_paths(routers))?;
     for router in routers {
         let sent = router.counters().sent;
         builder.add_router(router.rib(), router.rows(), router.order(), sent)?;

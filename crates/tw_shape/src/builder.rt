@@ -45,6 +45,17 @@ impl ShapeBuilder {
         }
     }
 
+    /// Takes room for so many routers, rows and paths of orders before they are added, so that no list
+    /// grows while they are. It adds nothing.
+    pub fn reserve(&mut self, routers: usize, rows: usize, paths: usize) -> Result<(), AllocError>
+        ensures { self.new ≡ self.old }
+    {
+        self.spans.reserve(routers)?;
+        self.rows.reserve(rows)?;
+        self.order.reserve(paths)?;
+        self.sent.reserve(routers)
+    }
+
     /// Adds the next router: its path, its rows, its order, and how many messages it has sent. An error
     /// changes nothing.
     pub fn add_router(
