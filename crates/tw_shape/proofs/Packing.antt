@@ -3,7 +3,6 @@ use Rattle.std.proofs.Common.{◌≡◌, ℕ, suc, zero, ◌+◌, ◌-◌, ◌�
 use lib.Pointwise.{pointwise, pointwise_decides}
 use Rattle.std.specs.Bool.{Decides, one_answer}
 use Rattle.std.specs.Cmp.{unsigned_Decides}
-use Rattle.std.specs.Hash.{HashWrites}
 use Rattle.std.specs.List.{All, fold, list_all}
 use Rattle.std.specs.Global.{Vec}
 use Rattle.std.specs.Vec.{with_items}
@@ -254,9 +253,9 @@ moved d xs still =
 -- ---- shapes
 
 -- two shapes that are the same later have the same hash
-pub hash_alike : (f : Span → HashWrites) (g : Event → HashWrites) (a b : Inside) → IsHashed f g a → IsHashed f g b → (s w : Shape) → shape_of a ≡ s → shape_of b ≡ w
+pub hash_alike : (a b : Inside) → IsHashed a → IsHashed b → (s w : Shape) → shape_of a ≡ s → shape_of b ≡ w
     → (d e : ℕ) → IsStill d s → IsStill e w → later d s ≡ later e w → a.hash ≡ b.hash
-hash_alike f g a b p q s w one two d e still too same =
+hash_alike a b p q s w one two d e still too same =
     let both : later d (shape_of a) ≡ later e (shape_of b) = ap (later d) one ∙ same ∙ sym (ap (later e) two) in
     let spans = (routers_back a.parts.spans.items b.parts.spans.items a.parts.rows.items b.parts.rows.items a.parts.order.items b.parts.order.items
     p.covers q.covers (ap (λ z. z.routers) both)).0 in
@@ -265,7 +264,7 @@ hash_alike f g a b p q s w one two d e still too same =
     let events : map (sooner a.due) (shape_of a).pending ≡ map (sooner b.due) (shape_of b).pending
     = ap (λ k. map (sooner k) (shape_of a).pending) p.due ∙ sym first ∙ ap (λ l. map (sooner (least_time l)) l) (ap (λ z. z.pending) both)
     ∙ second ∙ sym (ap (λ k. map (sooner k) (shape_of b).pending) q.due) in
-    p.hash ∙ (λ i. hash_by f g (spans i) (events i)) ∙ sym q.hash
+    p.hash ∙ (λ i. hash_by (spans i) (events i)) ∙ sym q.hash
 
 pub seen_later : (t u : ℕ) (n : List ℕ) (xs : List Event) → map (λ e. sooner u (seen_from t (slice_index n e.src) e)) xs ≡ map (sooner u) (seen t n xs)
 seen_later t u n [] = refl
@@ -286,11 +285,11 @@ length_seen a =
     length-map (in_order a.pending.events.items) (λ e. seen_from a.pending.time (slice_index a.pending.sent.items e.src) e) ∙ (let k : length (in_order a.pending.events.items) ≡ length a.pending.events.items = omega arith in k)
 
 -- the hash of events in any order is that of the events in order
-pub hash_stored : (f : Span → HashWrites) (g : Event → HashWrites) (spans : List Span) (t u : ℕ) (n : List ℕ) (xs : List Event) (r : ℕ)
-    → r ≡ hash_by f g spans (map (sooner u) (seen t n xs)) → r ≡ hash_by f g spans (map (sooner u) (seen t n (in_order xs)))
-hash_stored f g spans t u n xs r is =
-    is ∙ ap (hash_by f g spans) (sym (seen_later t u n xs)) ∙ sym (hash_in_order f g spans (λ e. sooner u (seen_from t (slice_index n e.src) e)) xs)
-    ∙ ap (hash_by f g spans) (seen_later t u n (in_order xs))
+pub hash_stored : (spans : List Span) (t u : ℕ) (n : List ℕ) (xs : List Event) (r : ℕ)
+    → r ≡ hash_by spans (map (sooner u) (seen t n xs)) → r ≡ hash_by spans (map (sooner u) (seen t n (in_order xs)))
+hash_stored spans t u n xs r is =
+    is ∙ ap (hash_by spans) (sym (seen_later t u n xs)) ∙ sym (hash_in_order spans (λ e. sooner u (seen_from t (slice_index n e.src) e)) xs)
+    ∙ ap (hash_by spans) (seen_later t u n (in_order xs))
 
 -- events that are put in order
 pub put : (v : Vec Event) (now new : List Event) → now ≡ v.items → new ≡ in_order now → (with_items v new).items ≡ in_order v.items
@@ -309,15 +308,15 @@ module _ (a : Inside) (v : Vec Event) (is : v.items ≡ in_order a.pending.event
   pub view_kept : shape_of (with_events a v) ≡ shape_of a
   view_kept = λ i. record { routers = routers_in a.parts; pending = pending_kept i }
 
-  pub hashed_kept : (f : Span → HashWrites) (g : Event → HashWrites) → IsHashed f g a → IsHashed f g (with_events a v)
-  hashed_kept f g h = record {
+  pub hashed_kept : IsHashed a → IsHashed (with_events a v)
+  hashed_kept h = record {
     covers = h.covers;
     due = h.due ∙ ap least_time (sym pending_kept);
-    hash = h.hash ∙ ap (λ l. hash_by f g a.parts.spans.items (map (sooner a.due) l)) (sym pending_kept);
+    hash = h.hash ∙ ap (λ l. hash_by a.parts.spans.items (map (sooner a.due) l)) (sym pending_kept);
   }
 
 -- whether two shapes are the same later, by their parts and their pending events
-module _ (f : Span → HashWrites) (g : Event → HashWrites) (a b : Inside) (p : IsHashed f g a) (q : IsHashed f g b) (s w : Shape) (one : shape_of a ≡ s) (two : shape_of b ≡ w) (d e : ℕ) where
+module _ (a b : Inside) (p : IsHashed a) (q : IsHashed b) (s w : Shape) (one : shape_of a ≡ s) (two : shape_of b ≡ w) (d e : ℕ) where
   whole_shapes : same_shape (later d (shape_of a)) (later e (shape_of b)) ≡ same_shape (later d s) (later e w)
   whole_shapes = λ i. same_shape (later d (one i)) (later e (two i))
 
@@ -331,14 +330,14 @@ module _ (f : Span → HashWrites) (g : Event → HashWrites) (a b : Inside) (p 
       ap (λ x. x && pointwise event_same (later d (shape_of a)).pending (later e (shape_of b)).pending) (sym apart ∙ routers_same a.parts b.parts p.covers q.covers) ∙ whole_shapes
 
 -- nothing pending is due before the first
-pub still_first : (f : Span → HashWrites) (g : Event → HashWrites) (a : Inside) (s : Shape) → shape_of a ≡ s → IsHashed f g a → IsStill a.due s
-still_first f g a s view is =
+pub still_first : (a : Inside) (s : Shape) → shape_of a ≡ s → IsHashed a → IsStill a.due s
+still_first a s view is =
     subst (IsStill a.due) view (all_from_in (λ e. a.due ≤ e.time) (shape_of a).pending (λ e h. let k = least_all (shape_of a).pending e h in let due = is.due in omega arith))
 
 -- and where something is pending, the first is due then
-pub still_longest : (f : Span → HashWrites) (g : Event → HashWrites) (a : Inside) (s : Shape) → shape_of a ≡ s → IsHashed f g a → (length a.pending.events.items ≡ 0 → ⊥)
+pub still_longest : (a : Inside) (s : Shape) → shape_of a ≡ s → IsHashed a → (length a.pending.events.items ≡ 0 → ⊥)
     → (k : ℕ) → IsStill k s → k ≤ a.due
-still_longest f g a s view is some k still = go (shape_of a).pending refl (subst (IsStill k) (sym view) still) where
+still_longest a s view is some k still = go (shape_of a).pending refl (subst (IsStill k) (sym view) still) where
   go : (xs : List Event) → (shape_of a).pending ≡ xs → All (λ e. k ≤ e.time) xs → k ≤ a.due
   go [] e all = absurd (some (let n = length_seen a in let z : length (shape_of a).pending ≡ 0 = ap length e in omega arith))
   go (x ∷ xs) e all =

@@ -1,12 +1,13 @@
 -- How a shape is stored: the rows and the orders of all routers one after the other, and the pending events in any order (own).
-use Rattle.std.specs.Prelude.{ℕ, ◌≡◌, ◌≤◌, ◌+◌, ◌%◌, ◌^◌, List, [], ◌∷◌, drop, length, map, min, slice_index, take}
-use Rattle.std.specs.Hash.{HashWrites, slice}
-use Rattle.std.specs.Hash.FoldHasher as folding
-use Rattle.std.specs.List.{fold}
+use Rattle.std.specs.Prelude.{ℕ, ◌≡◌, ◌≤◌, ◌+◌, ◌*◌, ◌%◌, ◌^◌, List, [], ◌∷◌, drop, length, map, min, slice_index, take}
+use Rattle.std.specs.List.{fold, sum_by}
+use Rattle.tw_event.specs.declared.event.Body.{Body}
+use Rattle.tw_event.specs.declared.event.Body.TheVariants.{Start, Fail, Restore, Swap, Update}
 use Rattle.tw_event.specs.declared.event.Event.{Event}
 use Rattle.tw_event.specs.declared.event.PathNo.{PathNo}
 use Rattle.tw_event.specs.Order.{event_before}
 use Rattle.tw_model.specs.declared.state.Row.{Row}
+use Rattle.tw_shape.specs.declared.seen.TheConstants.{MULTIPLIER}
 use Rattle.tw_shape.specs.declared.shape.Span.{Span}
 use Rattle.tw_shape.specs.Shape.{RouterShape, seen_from}
 use Rattle.tw_sim.specs.Ordered.{insert_all}
@@ -35,18 +36,26 @@ abbrev pub least_time : List Event → ℕ
 least_time [] = 0
 least_time (e ∷ es) = fold (λ t x. min t x.time) e.time es
 
--- the hash of spans, by what each of them feeds
-unfoldable pub spans_by : (Span → HashWrites) → List Span → ℕ
-spans_by span spans = folding.finish (fold folding.write folding.initial (slice span spans))
+-- the number of the path that an update tells, or 0
+abbrev pub path_in : Body → ℕ
+path_in Start = 0
+path_in (Fail w) = 0
+path_in (Restore w) = 0
+path_in (Swap i j) = 0
+path_in (Update q n) = q.0
 
--- the hash of an event, by what it feeds
-unfoldable pub word_by : (Event → HashWrites) → Event → ℕ
-word_by event e = folding.finish (fold folding.write folding.initial (event e))
+-- a hash with one more number, by Horner's rule
+abbrev pub next_hash : ℕ → ℕ → ℕ
+next_hash h n = (h * MULTIPLIER + n) % 2 ^ 64
 
--- a sum and an event's hash, as a number of 64 bits
-abbrev pub add_word : (Event → HashWrites) → ℕ → Event → ℕ
-add_word event sum e = (sum + word_by event e) % 2 ^ 64
+-- the hash of the paths of spans
+unfoldable pub hash_spans : List Span → ℕ
+hash_spans spans = fold (λ h s. next_hash h s.rib.0) 0 spans
+
+-- what an event adds to a hash: the square of a hash of its time, its receiver, its sender and its path
+unfoldable pub word : Event → ℕ
+word e = let h = next_hash (next_hash (next_hash e.time e.dst) e.src) (path_in e.body) in (h * h) % 2 ^ 64
 
 -- the hash of spans and events: a sum over the events
-unfoldable pub hash_by : (Span → HashWrites) → (Event → HashWrites) → List Span → List Event → ℕ
-hash_by span event spans events = fold (add_word event) (spans_by span spans) events
+unfoldable pub hash_by : List Span → List Event → ℕ
+hash_by spans events = (hash_spans spans + sum_by word events) % 2 ^ 64

@@ -1,10 +1,7 @@
 -- What the fields of a shape say, and what holds of them (own).
 use Rattle.std.specs.Prelude.{◌≡◌, List, map}
-use Rattle.std.specs.Hash.{HashWrites}
-use Rattle.tw_event.specs.declared.event.Event.{Event}
 use Rattle.tw_shape.specs.declared.shape.Parts.{Parts}
 use Rattle.tw_shape.specs.declared.shape.Shape.TheInside.{Inside}
-use Rattle.tw_shape.specs.declared.shape.Span.{Span}
 use Rattle.tw_shape.specs.Packed.{Covers, hash_by, in_order, least_time, routers_of, seen}
 use Rattle.tw_shape.specs.Shape.{RouterShape, Shape, sooner}
 
@@ -18,7 +15,7 @@ shape_of a = record { routers = routers_in a.parts; pending = seen a.pending.tim
 
 -- every row and path is some router's, the first pending event is due then, and the hash is that of the spans and of the pending
 -- events, seen from when the first is due
-pub record IsHashed (span : Span → HashWrites) (event : Event → HashWrites) (a : Inside) : Type 0 where
+pub record IsHashed (a : Inside) : Type 0 where
   pub covers : Covers a.parts.spans.items a.parts.rows.items a.parts.order.items
   pub due : a.due ≡ least_time (shape_of a).pending
-  pub hash : a.hash ≡ hash_by span event a.parts.spans.items (map (sooner a.due) (shape_of a).pending)
+  pub hash : a.hash ≡ hash_by a.parts.spans.items (map (sooner a.due) (shape_of a).pending)

@@ -2,11 +2,10 @@ ghost use Rattle.std.specs.Prelude.{◌≡◌, map, slice_index};
 ghost use Rattle.std.specs.List.{list_all};
 ghost use lib.Pointwise.{pointwise};
 ghost use Rattle.tw_event.specs.Order.{event_same};
-ghost use Rattle.tw_shape.specs.Packed.{hash_by, in_order, least_time, seen, spans_by, word_by};
+ghost use Rattle.tw_shape.specs.Packed.{hash_by, hash_spans, in_order, least_time, next_hash, path_in, seen, word};
 ghost use Rattle.tw_shape.specs.Shape.{is_update, seen_from, sooner};
 
 use crate::shape::Span;
-use std::hash::{FoldHasher, Hash, Hasher};
 use tw_event::{Body, Event};
 
 /// Pending events, in any order, the time from which they are seen, and how many messages each router had
@@ -28,6 +27,28 @@ impl Seen {
             time: event.time.saturating_sub(ticks),
             ..event
         }
+    }
+
+    /// What the event adds to a hash, as it is seen so many ticks later. How many messages ago it was sent
+    /// is left out, and the session of an update: they are seldom all that tells two shapes apart.
+    #[tactic(auto, unfolding(crate::specs::Packed::word))]
+    fn word_of(&self, event: &Event, ticks: u64) -> u64
+        ensures { result ≡ word (sooner ticks (seen_from self.now.time (slice_index self.now.sent.items event.now.src) event.now)) }
+    {
+        let left = event.time.saturating_sub(self.time).saturating_sub(ticks);
+        let link = next_hash(next_hash(left, u64::from(event.dst)), u64::from(event.src));
+        let hash = next_hash(link, path_of(event.body));
+        hash.wrapping_mul(hash)
+    }
+}
+
+/// The number of the path that an update tells, or 0.
+fn path_of(body: Body) -> u64
+    ensures { result ≡ path_in body }
+{
+    match body {
+        Body::Update { path, .. } => u64::from(path.0),
+        _ => 0,
     }
 }
 
@@ -92,33 +113,36 @@ pub(crate) fn all_updates(events: &[Event]) -> bool
         .all(|event| matches!(event.body, Body::Update { .. }))
 }
 
+/// What a hash is multiplied by before one more number is added to it: the odd number next to 2^64 over
+/// the golden ratio. Odd, so that no number before is lost; and with ones and zeros in all parts, so that
+/// small numbers count in the high bits too.
+const MULTIPLIER: u64 = 0x9E37_79B9_7F4A_7C15;
+
 /// A hash of the spans and the pending events, seen so many ticks later. It is a sum over the events, so
 /// that their order does not count.
 pub(crate) fn hash_of(spans: &[Span], pending: &Seen, ticks: u64) -> u64
-    ensures { result ≡ hash_by ⟦<Span as Hash>⟧.hash_input ⟦<Event as Hash>⟧.hash_input spans.now
+    ensures { result ≡ hash_by spans.now
         (map (sooner ticks) (seen pending.now.time pending.now.sent.items pending.now.events.items)) }
 {
-    let events = pending.events.as_slice();
     let mut sum = hash_of_spans(spans);
-    for i in 0..events.len() {
-        sum = sum.wrapping_add(word_of(&pending.see(events[i], ticks)));
+    for event in &pending.events {
+        sum = sum.wrapping_add(pending.word_of(event, ticks));
     }
     sum
 }
 
+#[tactic(auto, unfolding(crate::specs::Packed::hash_spans))]
 fn hash_of_spans(spans: &[Span]) -> u64
-    ensures { result ≡ spans_by ⟦<Span as Hash>⟧.hash_input spans.now }
+    ensures { result ≡ hash_spans spans.now }
 {
-    let mut hasher = FoldHasher::default();
-    spans.hash(&mut hasher);
-    hasher.finish()
+    spans
+        .iter()
+        .fold(0, |hash, span| next_hash(hash, u64::from(span.rib.0)))
 }
 
-/// What an event adds to a hash.
-fn word_of(event: &Event) -> u64
-    ensures { result ≡ word_by ⟦<Event as Hash>⟧.hash_input event.now }
+/// The hash with one more number.
+fn next_hash(hash: u64, number: u64) -> u64
+    ensures { result ≡ next_hash hash number }
 {
-    let mut hasher = FoldHasher::default();
-    event.hash(&mut hasher);
-    hasher.finish()
+    hash.wrapping_mul(MULTIPLIER).wrapping_add(number)
 }

@@ -4,13 +4,12 @@ ghost use Rattle.tw_shape.specs.Shape.{IsStill, can_repeat, later};
 ghost use Rattle.tw_shape.specs.Same.{NeverMeet, same_shape};
 
 use crate::seen::{Seen, all_updates, are_alike, hash_of, least_time, put_in_order};
-use std::hash::Hash;
 use std::marker::Model;
-use tw_event::{Event, PathNo};
+use tw_event::PathNo;
 use tw_model::Row;
 
 /// A router's path, and how many of the rows and paths that follow are its own.
-#[derive(Clone, Copy, PartialEq, Eq, Hash, Debug)]
+#[derive(Clone, Copy, PartialEq, Eq, Debug)]
 pub(crate) struct Span {
     pub(crate) rib: PathNo,
     pub(crate) rows: usize,
@@ -37,7 +36,7 @@ pub struct Shape {
     pending: Seen,
     /// In how many ticks the first pending event is handled, or 0.
     due: u64,
-    /// Of the spans and the pending events, whatever their order.
+    /// Of the routers' paths and the pending events, whatever their order.
     hash: u64,
 }
 
@@ -50,7 +49,7 @@ impl Model for Shape {
 
     ghost view = { shape_of };
 
-    ghost invariant = { IsHashed ⟦<Span as Hash>⟧.hash_input ⟦<Event as Hash>⟧.hash_input };
+    ghost invariant = { IsHashed };
 }
 
 impl Shape {

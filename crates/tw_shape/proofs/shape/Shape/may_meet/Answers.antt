@@ -9,5 +9,5 @@ pub returns : goal.returns
 returns c h d e still too =
     false_from_ne_true (same_shape (later d c.args.self.now) (later e c.args.other.now)) (λ same.
     eqb-false c.self.inside.hash c.other.inside.hash h
-    (hash_alike _ _ c.self.inside c.other.inside c.self.invariant c.other.invariant c.args.self.now c.args.other.now c.self.view_is c.other.view_is d e still too
+    (hash_alike c.self.inside c.other.inside c.self.invariant c.other.invariant c.args.self.now c.args.other.now c.self.view_is c.other.view_is d e still too
     ((shape_decides (later d c.args.self.now) (later e c.args.other.now)).0 same)))
