@@ -1,6 +1,6 @@
 -- Events by time: the tick at hand, and later ticks, each in its bucket.
 use Rattle.std.proofs.Common.{◌≡◌, ◌≤◌, ◌<◌, ◌+◌, ◌++◌, ◌⊎◌, ℕ, suc, zero, false, Option, Some, None, List, [], ◌∷◌}
-use Rattle.std.proofs.Common.{length, map, drop, replicate, get_or, set, slice_get, refl, ap, sym, ◌∙◌, subst, inl, inr, arith, get_or-set_same, get_or-set_other}
+use Rattle.std.proofs.Common.{IfSome, length, map, drop, replicate, get_or, set, slice_get, refl, ap, sym, ◌∙◌, subst, inl, inr, arith, get_or-set_same, get_or-set_other}
 use Rattle.std.proofs.lemmas.Bool.{cases_Bool, cases_eq, cases_lt}
 use Rattle.std.proofs.lemmas.List.{drop_all, get_or-map, get_or_past, get_or_read}
 use Rattle.tw_event.specs.declared.event.Event.{Event}
@@ -45,6 +45,20 @@ slice_left zero xs = refl
 slice_left (suc i) [] = refl
 slice_left (suc i) (x ∷ xs) = slice_left i xs
 
+-- the time that a first event tells
+abbrev told : Option Event → ℕ
+told None = never
+told (Some e) = e.time
+
+first_told : (xs : List Event) → first_time xs ≡ told (slice_get xs 0)
+first_told [] = refl
+first_told (x ∷ xs) = refl
+
+pub time_left : (t : ℕ) (xs : List Event) (i : ℕ) → i < length xs → IfSome (slice_get xs i) (λ e. e.time ≡ t) → t ≡ first_time (drop i xs)
+time_left t [] i l h = absurd (omega arith)
+time_left t (x ∷ xs) zero l h = sym h
+time_left t (x ∷ xs) (suc i) l h = time_left t xs i (omega arith) h
+
 -- the tick at hand comes first
 module _ (tick : ℕ) (later : List Event) (after : (e : Event) → 0 < times event_same e later → tick < e.time) where
   pub hand_first : (hand : List Event) → IsRising event_before event_same hand → ((e : Event) → 0 < times event_same e hand → e.time ≤ tick)
@@ -77,6 +91,9 @@ module _ (tick : ℕ) (later : List Event) (after : (e : Event) → 0 < times ev
   module _ (hand : List Event) (some : 0 < length hand) (rising : IsRising event_before event_same hand) (begun : (e : Event) → 0 < times event_same e hand → e.time ≤ tick) where
     pub first_taken : slice_get hand 0 ≡ slice_get (in_order event_before (hand ++ later)) 0
     first_taken = first_shown hand some ∙ ap (λ r. slice_get r 0) (sym (hand_first hand rising begun))
+
+    pub time_taken : first_time hand ≡ first_time (in_order event_before (hand ++ later))
+    time_taken = first_told hand ∙ ap told first_taken ∙ sym (first_told (in_order event_before (hand ++ later)))
 
     pub rest_taken : in_order event_before (drop 1 hand ++ later) ≡ drop 1 (in_order event_before (hand ++ later))
     rest_taken =
@@ -168,6 +185,15 @@ module _ (lists : List (List Event)) (number : length lists ≡ 64) (placed : Is
     -- the least of that bucket is the least of all
     pub first_of_place : least_with None (get_or lists p []) ≡ slice_get (in_order event_before (together lists)) 0
     first_of_place = least_first (get_or lists p []) ∙ sym (first_ring _ refl)
+
+    slot_time : (o : Option Event) → slice_get (in_order event_before (get_or lists p [])) 0 ≡ o → first_time (get_or lists p []) ≡ told o
+    slot_time None h = ap first_time (nothing (get_or lists p []) (none_first (get_or lists p []) h))
+    slot_time (Some m) h = sym (alike p m (least_is m (get_or lists p []) h).there)
+
+    -- the time in the row is that of the least of all
+    pub time_of_place : get_or row p 0 ≡ first_time (in_order event_before (together lists))
+    time_of_place =
+        stamp p within ∙ slot_time _ refl ∙ ap told (sym (first_ring _ refl)) ∙ sym (first_told (in_order event_before (together lists)))
 
     -- the bucket is taken over
     inside : p < length lists
