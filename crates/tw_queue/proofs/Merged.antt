@@ -1,10 +1,10 @@
 -- The events of a ring and of a heap together.
-use Rattle.std.proofs.Common.{◌≡◌, ◌<◌, ◌++◌, ℕ, Bool, true, false, Some, None, List, [], ◌∷◌, length, drop, slice_get, refl, ap, sym, ◌∙◌, subst, inl, inr, arith}
+use Rattle.std.proofs.Common.{IfNone, IfSome, IsTrue, ◌≡◌, ◌<◌, ◌≤◌, ◌++◌, nat_lt, ℕ, Bool, true, false, Some, None, List, [], ◌∷◌, length, drop, slice_get, refl, ap, sym, ◌∙◌, subst, inl, inr, arith}
 use Rattle.std.specs.List.Sorted.{IsPermutation}
 use Rattle.std.specs.BinaryHeap.{IsUpperBound}
 use Rattle.std.specs.Bool.{OnFalse, OnTrue}
 use Rattle.std.specs.declared.cmp.Reverse.{Reverse}
-use Rattle.std.proofs.lemmas.Bool.{cases_Bool, false≢true}
+use Rattle.std.proofs.lemmas.Bool.{cases_Bool, false≢true, lt-ltb}
 use Rattle.std.proofs.lemmas.List.Sorted.{IsPermutation-map}
 use Rattle.std.proofs.lemmas.Option.{none-some}
 use Rattle.tw_event.specs.declared.event.Event.{Event}
@@ -15,8 +15,9 @@ use Rattle.tw_sim.proofs.Ordered.{all-insert, not_back, not_before, times-insert
 use Rattle.tw_queue.specs.Heap.{heap_events}
 use Rattle.tw_queue.specs.InOrder.{in_order}
 use Rattle.tw_queue.specs.Queue.{AreFor, IsQueue}
+use Rattle.tw_queue.specs.Table.{first_time, never}
 use Rattle.tw_queue.proofs.Ordered.{all-in_order, cases_zero, in_order-permutation, in_order-times, rising-in_order, times-in_order}
-use Rattle.tw_queue.proofs.Events.{IsLeast, event_law, first_is_least, first_of_least, first_popped, homes_popped, homes_pushed, later, none_first, same_some}
+use Rattle.tw_queue.proofs.Events.{IsLeast, before_by_time, event_law, first_is_least, first_of_least, first_popped, homes_popped, homes_pushed, later, least_is, none_first, same_some}
 use Rattle.tw_queue.proofs.Lists.{times-append}
 use Rattle.tw_queue.proofs.Tables.{in_order_rising, nothing}
 
@@ -55,6 +56,30 @@ module _ (x y : Event) (ring heap : List Event) where
               | inr l ↦ k.first z l
             ];
       })
+
+-- an event and the first of a ring, by their times
+pub first_by_time : (top : Event) (ring : List Event) → (top.time ≡ first_time ring → ⊥) → IfSome (slice_get ring 0) (λ e. nat_lt top.time (first_time ring) ≡ event_before top e)
+first_by_time top [] k = tt
+first_by_time top (x ∷ xs) k = sym (before_by_time top x k)
+
+pub none_by_time : (top : Event) (ring : List Event) → top.time ≤ never → (top.time ≡ first_time ring → ⊥) → IfNone (slice_get ring 0) (IsTrue (nat_lt top.time (first_time ring)))
+none_by_time top [] l k = lt-ltb top.time never (omega arith)
+none_by_time top (x ∷ xs) l k = tt
+
+-- which of ring and heap has the least of all, where it is told whether the heap's least is before that of the ring
+pub heap_told : (top : Event) (ring heap : List Event) → IsRising event_before event_same ring → slice_get (in_order event_before heap) 0 ≡ Some top
+    → (told : Bool) → IfSome (slice_get ring 0) (λ e. told ≡ event_before top e) → OnTrue told (slice_get (in_order event_before (ring ++ heap)) 0 ≡ slice_get (in_order event_before heap) 0)
+heap_told top ring heap rising least false h = tt
+heap_told top [] heap rising least true h = refl
+heap_told top (x ∷ xs) heap rising least true h =
+    least_right x top (x ∷ xs) heap (least_of_rising x (x ∷ xs) rising refl) (least_is top heap least) (sym h) ∙ sym least
+
+pub ring_told : (top : Event) (ring heap : List Event) → IsRising event_before event_same ring → slice_get (in_order event_before heap) 0 ≡ Some top
+    → (told : Bool) → IfSome (slice_get ring 0) (λ e. told ≡ event_before top e) → IfNone (slice_get ring 0) (IsTrue told) → OnFalse told (slice_get (in_order event_before (ring ++ heap)) 0 ≡ slice_get ring 0)
+ring_told top ring heap rising least true h k = tt
+ring_told top [] heap rising least false h k = absurd (false≢true k)
+ring_told top (x ∷ xs) heap rising least false h k =
+    least_left x top (x ∷ xs) heap (least_of_rising x (x ∷ xs) rising refl) (least_is top heap least) (sym h)
 
 pub append_none : (xs : List Event) → xs ++ [] ≡ xs
 append_none [] = refl

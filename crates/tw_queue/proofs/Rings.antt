@@ -1,6 +1,6 @@
 -- Events by time: the tick at hand, and later ticks, each in its bucket.
 use Rattle.std.proofs.Common.{◌≡◌, ◌≤◌, ◌<◌, ◌+◌, ◌++◌, ◌⊎◌, ℕ, suc, zero, false, Option, Some, None, List, [], ◌∷◌}
-use Rattle.std.proofs.Common.{length, map, drop, replicate, get_or, set, slice_get, refl, ap, sym, ◌∙◌, subst, inl, inr, arith, get_or-set_same, get_or-set_other}
+use Rattle.std.proofs.Common.{IfSome, length, map, drop, replicate, get_or, set, slice_get, refl, ap, sym, ◌∙◌, subst, inl, inr, arith, get_or-set_same, get_or-set_other, length-set}
 use Rattle.std.proofs.lemmas.Bool.{cases_Bool, cases_eq, cases_lt}
 use Rattle.std.proofs.lemmas.List.{drop_all, get_or-map, get_or_past, get_or_read}
 use Rattle.tw_event.specs.declared.event.Event.{Event}
@@ -12,20 +12,31 @@ use Rattle.tw_sim.proofs.Counts.{none}
 use Rattle.tw_sim.proofs.Ordered.{all_counted, one_cases, one_self}
 use Rattle.tw_queue.specs.Buckets.{IsPlaced, together}
 use Rattle.tw_queue.specs.InOrder.{in_order, least_with}
-use Rattle.tw_queue.specs.Ring.{slot_at}
+use Rattle.tw_queue.specs.Ring.{IsRing, slot_at}
 use Rattle.tw_queue.specs.Table.{first_time, never}
-use Rattle.tw_queue.proofs.Ordered.{cases_zero, in_order-times, in_order_least, length-in_order, times-in_order}
+use Rattle.tw_queue.specs.declared.ring.Ring.TheInside.{Inside}
+use Rattle.tw_queue.proofs.Ordered.{cases_zero, in_order-times, in_order_least, length-in_order, rising-in_order, times-in_order}
 use Rattle.tw_queue.proofs.Events.{event_law, first_of_least, least_first, least_is, none_first, not_before_first}
 use Rattle.tw_queue.proofs.Lists.{placed-set, times-append, times-placed, times-push, times-set, together_none}
 use Rattle.tw_queue.proofs.Tables.{nothing, row_set}
 
+rising_left : (i : ℕ) (xs : List Event) → IsRising event_before event_same xs → IsRising event_before event_same (drop i xs)
+rising_left zero xs h = h
+rising_left (suc i) [] h = tt
+rising_left (suc i) (x ∷ xs) h = rising_left i xs h.1
+
+times_left : (i : ℕ) (e : Event) (xs : List Event) → 0 < times event_same e (drop i xs) → 0 < times event_same e xs
+times_left zero e xs h = h
+times_left (suc i) e [] h = h
+times_left (suc i) e (x ∷ xs) h =
+    let l = times_left i e xs h in
+    omega arith
+
 pub rising_rest : (xs : List Event) → IsRising event_before event_same xs → IsRising event_before event_same (drop 1 xs)
-rising_rest [] h = tt
-rising_rest (x ∷ xs) h = h.1
+rising_rest xs h = rising_left 1 xs h
 
 pub times_rest : (e : Event) (xs : List Event) → 0 < times event_same e (drop 1 xs) → 0 < times event_same e xs
-times_rest e [] h = h
-times_rest e (x ∷ xs) h = omega arith
+times_rest e xs h = times_left 1 e xs h
 
 suc_more : (i : ℕ) → suc (i + 1) ≡ suc i + 1
 suc_more i = omega arith
@@ -44,6 +55,20 @@ pub slice_left : (i : ℕ) (xs : List Event) → slice_get xs i ≡ slice_get (d
 slice_left zero xs = refl
 slice_left (suc i) [] = refl
 slice_left (suc i) (x ∷ xs) = slice_left i xs
+
+-- the time that a first event tells
+abbrev told : Option Event → ℕ
+told None = never
+told (Some e) = e.time
+
+first_told : (xs : List Event) → first_time xs ≡ told (slice_get xs 0)
+first_told [] = refl
+first_told (x ∷ xs) = refl
+
+pub time_left : (t : ℕ) (xs : List Event) (i : ℕ) → i < length xs → IfSome (slice_get xs i) (λ e. e.time ≡ t) → t ≡ first_time (drop i xs)
+time_left t [] i l h = absurd (omega arith)
+time_left t (x ∷ xs) zero l h = sym h
+time_left t (x ∷ xs) (suc i) l h = time_left t xs i (omega arith) h
 
 -- the tick at hand comes first
 module _ (tick : ℕ) (later : List Event) (after : (e : Event) → 0 < times event_same e later → tick < e.time) where
@@ -77,6 +102,9 @@ module _ (tick : ℕ) (later : List Event) (after : (e : Event) → 0 < times ev
   module _ (hand : List Event) (some : 0 < length hand) (rising : IsRising event_before event_same hand) (begun : (e : Event) → 0 < times event_same e hand → e.time ≤ tick) where
     pub first_taken : slice_get hand 0 ≡ slice_get (in_order event_before (hand ++ later)) 0
     first_taken = first_shown hand some ∙ ap (λ r. slice_get r 0) (sym (hand_first hand rising begun))
+
+    pub time_taken : first_time hand ≡ first_time (in_order event_before (hand ++ later))
+    time_taken = first_told hand ∙ ap told first_taken ∙ sym (first_told (in_order event_before (hand ++ later)))
 
     pub rest_taken : in_order event_before (drop 1 hand ++ later) ≡ drop 1 (in_order event_before (hand ++ later))
     rest_taken =
@@ -168,6 +196,15 @@ module _ (lists : List (List Event)) (number : length lists ≡ 64) (placed : Is
     -- the least of that bucket is the least of all
     pub first_of_place : least_with None (get_or lists p []) ≡ slice_get (in_order event_before (together lists)) 0
     first_of_place = least_first (get_or lists p []) ∙ sym (first_ring _ refl)
+
+    slot_time : (o : Option Event) → slice_get (in_order event_before (get_or lists p [])) 0 ≡ o → first_time (get_or lists p []) ≡ told o
+    slot_time None h = ap first_time (nothing (get_or lists p []) (none_first (get_or lists p []) h))
+    slot_time (Some m) h = sym (alike p m (least_is m (get_or lists p []) h).there)
+
+    -- the time in the row is that of the least of all
+    pub time_of_place : get_or row p 0 ≡ first_time (in_order event_before (together lists))
+    time_of_place =
+        stamp p within ∙ slot_time _ refl ∙ ap told (sym (first_ring _ refl)) ∙ sym (first_told (in_order event_before (together lists)))
 
     -- the bucket is taken over
     inside : p < length lists
@@ -372,9 +409,28 @@ empty_times (suc n) (xs ∷ lists) l h =
 -- ---- a tick that is begun
 
 -- what the bucket had is at hand
-pub taken_over : (lists : List (List Event)) (p : ℕ) (bucket : List Event) → bucket ≡ get_or lists p bucket → bucket ≡ get_or lists p [] → (hand : List Event)
+pub taken_over : (lists : List (List Event)) → length lists ≡ 64 → (p : ℕ) → p < 64 → (bucket : List Event) → bucket ≡ get_or lists p bucket → (hand : List Event)
     → hand ≡ in_order event_before (get_or lists p bucket) → hand ≡ in_order event_before (get_or lists p [])
-taken_over lists p bucket is read hand h = h ∙ ap (in_order event_before) (sym is ∙ read)
+taken_over lists number p within bucket is hand h =
+    h ∙ ap (in_order event_before) (sym is ∙ get_or_read lists p bucket (omega arith) is [])
+
+-- a ring b, whose hand is what the first bucket of a ring a had, some of it taken out
+pub begun_ring : (a b : Inside) → IsRing a → (p : ℕ) → p < 64 → ((k : ℕ) → k < 64 → get_or a.times p 0 ≤ get_or a.times k 0) → b.hand ≡ in_order event_before (get_or a.buckets p [])
+    → b.taken ≤ length b.hand → b.tick ≡ get_or a.times p 0 → b.buckets ≡ set a.buckets p [] → b.times ≡ set a.times p never → IsRing b
+begun_ring a b v p within least hand taken tick buckets times_are = record {
+  taken = taken;
+  rising =
+      rw hand (rising_left b.taken (in_order event_before (get_or a.buckets p [])) (rising-in_order event_before event_same event_law (get_or a.buckets p [])));
+  begun =
+      rw (hand, tick) (λ e there.
+      begin_begun a.buckets v.number v.placed v.alike v.early a.times v.row p within least e (times_left b.taken e (in_order event_before (get_or a.buckets p [])) there));
+  number = ap length buckets ∙ length-set a.buckets p [] ∙ v.number;
+  placed = rw buckets (begin_placed a.buckets v.number v.placed v.alike v.early a.times v.row p within least);
+  alike = rw buckets (begin_alike a.buckets v.number v.placed v.alike v.early a.times v.row p within least);
+  row = rw buckets (begin_row a.buckets v.number v.placed v.alike v.early a.times v.row p within least b.times times_are);
+  after = rw (buckets, tick) (begin_after a.buckets v.number v.placed v.alike v.early a.times v.row p within least);
+  early = rw buckets (begin_early a.buckets v.number v.placed v.alike v.early a.times v.row p within least);
+}
 
 -- the tick at hand is over: the rest is in the buckets
 pub later_ticks : (hand : List Event) (taken : ℕ) (lists : List (List Event)) (now : List Event) → length hand ≤ taken → in_order event_before (drop taken hand ++ together lists) ≡ now

@@ -1,5 +1,5 @@
 -- Updates, and the events that they are at a time.
-use Rattle.std.proofs.Common.{◌≡◌, ◌+◌, ◌-◌, ◌<◌, ◌++◌, ℕ, List, [], ◌∷◌, drop, length, take, get_or, set, refl, ap, sym, ◌∙◌, arith}
+use Rattle.std.proofs.Common.{IfSome, ◌≡◌, ◌+◌, ◌-◌, ◌<◌, ◌++◌, ℕ, suc, zero, slice_get, List, [], ◌∷◌, drop, length, take, get_or, set, refl, ap, sym, ◌∙◌, arith}
 use Rattle.std.proofs.lemmas.Cmp.{tied_itself, nat_cmp_total}
 use Rattle.std.proofs.lemmas.List.{drop_more, get_or-map, get_or_read, length-drop, length-map, take_all}
 use Rattle.std.proofs.lemmas.List.Sorted.{IsPermutation-map}
@@ -58,3 +58,10 @@ pub take_rest : {A : Type 0} (n : ℕ) (xs : List A) → take (length xs - n) (d
 take_rest n xs =
     let long = length-drop n xs in
     take_all (length xs - n) (drop n xs) (omega arith)
+
+-- all are at that time
+pub time_of : (time : ℕ) (us : List Update) (i : ℕ) → IfSome (slice_get (events_at time us) i) (λ e. e.time ≡ time)
+time_of time [] zero = tt
+time_of time [] (suc i) = tt
+time_of time (u ∷ us) zero = refl
+time_of time (u ∷ us) (suc i) = time_of time us i

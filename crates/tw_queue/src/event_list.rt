@@ -1,4 +1,4 @@
-ghost use Rattle.std.specs.Prelude.{◌≡◌, ◌+◌, ◌++◌, ◌<◌, ◌≤◌, IfNone, IfOk, IfSome, IsOk, OnErr, OnOk, Some, [], drop, length, option_map, slice_get};
+ghost use Rattle.std.specs.Prelude.{◌≡◌, ◌+◌, ◌++◌, ◌<◌, ◌≤◌, IfNone, IfOk, IfSome, IsOk, IsTrue, OnErr, OnOk, Some, [], drop, length, option_map, slice_get};
 ghost use Rattle.std.specs.BinaryHeap.{heap_items, IsHeap};
 ghost use Rattle.std.specs.Bool.{OnFalse, OnTrue};
 ghost use Rattle.tw_event.specs.Order.{event_before};
@@ -202,11 +202,22 @@ fn is_heap_first(ring: &Ring, heap: &BinaryHeap<Reverse<Event>>) -> bool
     let Some(top) = heap.peek() else {
         return false;
     };
-    let mut event = Event::default();
-    if !ring.copy_least(&mut event) {
-        return true;
+    // Times mostly differ, and cost less to compare than whole events.
+    let time = ring.least_time();
+    if top.0.time != time {
+        return top.0.time < time;
     }
-    comes_before(&top.0, &event)
+    comes_before_all(&top.0, ring)
+}
+
+// Whether an event comes before all events of a ring.
+#[inline(never)]
+fn comes_before_all(event: &Event, ring: &Ring) -> bool
+    ensures first { IfSome (slice_get ring.now 0) (λ e. result ≡ event_before event.now e) }
+    ensures none { IfNone (slice_get ring.now 0) (IsTrue result) }
+{
+    let mut least = Event::default();
+    !ring.copy_least(&mut least) || comes_before(event, &least)
 }
 
 // Copies the least event of a heap, where there is one, and tells whether there is.

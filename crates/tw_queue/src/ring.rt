@@ -5,7 +5,7 @@ ghost use Rattle.tw_event.specs.declared.event.Event.{Event};
 ghost use Rattle.tw_event.specs.Order.{event_before, event_same};
 ghost use Rattle.tw_queue.specs.Buckets.{together};
 ghost use Rattle.tw_queue.specs.Ring.{slot_at};
-ghost use Rattle.tw_queue.specs.Table.{never};
+ghost use Rattle.tw_queue.specs.Table.{first_time, never};
 ghost use Rattle.tw_sim.specs.Ordered.{insert, times};
 ghost use Rattle.tw_sim.specs.Rising.{IsRising};
 
@@ -104,6 +104,17 @@ impl Ring {
             return true;
         }
         self.buckets[first_place(&self.times)].copy_least(event)
+    }
+
+    /// The time of the least event, in ticks, and `u64::MAX` where there is none.
+    #[inline]
+    pub(crate) fn least_time(&self) -> u64
+        ensures { result ≡ first_time self.now }
+    {
+        if self.taken < self.hand.len() {
+            return self.hand.time();
+        }
+        self.times[first_place(&self.times)]
     }
 
     /// How many events of the tick at hand are taken out. The events are in order.

@@ -1,5 +1,5 @@
 // Events of one tick.
-ghost use Rattle.std.specs.Prelude.{◌≡◌, ◌==◌, ◌+◌, ◌++◌, ◌<◌, ◌≤◌, ◌⊎◌, [], ◌∷◌, None, OnOk, Some, drop, length, slice_get};
+ghost use Rattle.std.specs.Prelude.{ℕ, ◌≡◌, ◌==◌, ◌+◌, ◌++◌, ◌<◌, ◌≤◌, ◌⊎◌, [], ◌∷◌, None, IfSome, OnOk, Some, drop, length, slice_get};
 ghost use Rattle.std.specs.Bool.{OnFalse, OnTrue};
 ghost use Rattle.tw_event.specs.declared.event.Event.{Event as AnEvent};
 ghost use Rattle.tw_event.specs.Order.{event_before, event_same};
@@ -50,6 +50,14 @@ impl Tick {
         ensures { result ≡ length self.now }
     {
         self.updates.len()
+    }
+
+    /// The time, in ticks, of its events.
+    #[inline]
+    pub(crate) fn time(&self) -> u64
+        ensures { (place : ℕ) → IfSome (slice_get self.now place) (λ e. e.time ≡ result) }
+    {
+        self.time
     }
 
     /// Puts an update of this time, in ticks, in where all others are of this time too and memory is not

@@ -1,5 +1,4 @@
-use Rattle.std.proofs.Common.{◌≡◌, ◌<◌, ◌≤◌, ◌++◌, List, [], drop, length, get_or, set, refl, ap, sym, ◌∙◌, subst, arith, length-set}
-use Rattle.std.proofs.lemmas.List.{get_or_read}
+use Rattle.std.proofs.Common.{◌≡◌, ◌<◌, ◌≤◌, ◌++◌, List, [], drop, length, get_or, set, refl, ap, sym, ◌∙◌, subst, arith}
 use Rattle.tw_event.specs.declared.event.Event.{Event}
 use Rattle.tw_event.specs.Order.{event_before, event_same}
 use Rattle.tw_sim.specs.Ordered.{times}
@@ -9,7 +8,7 @@ use Rattle.tw_queue.specs.InOrder.{in_order}
 use Rattle.tw_queue.specs.Ring.{hand_of}
 use Rattle.tw_queue.proofs.Events.{event_law}
 use Rattle.tw_queue.proofs.Ordered.{rising-in_order}
-use Rattle.tw_queue.proofs.Rings.{begin_after, begin_alike, begin_begun, begin_early, begin_order, begin_placed, begin_row, begin_some}
+use Rattle.tw_queue.proofs.Rings.{begin_after, begin_begun, begin_order, begin_some, begun_ring}
 use Rattle.tw_queue.proofs.Rings.{drop_more, later_ticks, none_left, rest_taken, rising_rest, some_left, taken_over, times_rest}
 use Rattle.tw_queue.proofs.ring.Ring.skip_least.Goals as goal
 
@@ -59,23 +58,10 @@ invariant_of-self-2 c =
     let v = c.self.invariant in
     let p = c.first_place-place.result in
     let place = c.first_place-place.ensures in
-    let bucket = c.index-self-place.result in
-    let in_it : p < length a.buckets = omega (arith, place.within, v.number) in
-    let read = get_or_read a.buckets p bucket in_it c.index-self-place.is [] in
-    let filled = taken_over a.buckets p bucket c.index-self-place.is read c.take_over.new.self c.take_over.ensures.events in
-    let empty = c.take_over.ensures.empty in
+    let filled = taken_over a.buckets v.number p place.within c.index-self-place.result c.index-self-place.is c.take_over.new.self c.take_over.ensures.events in
     let some = begin_some a.buckets v.number v.placed v.alike v.early a.times v.row p place.within place.least c.if-time.false in
-    rw (filled, empty) (record {
-      taken = omega (arith, some);
-      rising = rising_rest (in_order event_before (get_or a.buckets p [])) (rising-in_order event_before event_same event_law (get_or a.buckets p []));
-      begun = λ e there. begin_begun a.buckets v.number v.placed v.alike v.early a.times v.row p place.within place.least e (times_rest e (in_order event_before (get_or a.buckets p [])) there);
-      number = length-set a.buckets p [] ∙ v.number;
-      placed = begin_placed a.buckets v.number v.placed v.alike v.early a.times v.row p place.within place.least;
-      alike = begin_alike a.buckets v.number v.placed v.alike v.early a.times v.row p place.within place.least;
-      row = begin_row a.buckets v.number v.placed v.alike v.early a.times v.row p place.within place.least _ refl;
-      after = begin_after a.buckets v.number v.placed v.alike v.early a.times v.row p place.within place.least;
-      early = begin_early a.buckets v.number v.placed v.alike v.early a.times v.row p place.within place.least;
-    })
+    let long = ap length filled in
+    begun_ring a _ v p place.within place.least filled (omega (arith, some)) refl (ap (set a.buckets p) c.take_over.ensures.empty) refl
 
 pub returns : goal.returns
 returns c =
@@ -83,14 +69,10 @@ returns c =
     let v = c.self.invariant in
     let p = c.first_place-place.result in
     let place = c.first_place-place.ensures in
-    let bucket = c.index-self-place.result in
-    let in_it : p < length a.buckets = omega (arith, place.within, v.number) in
-    let read = get_or_read a.buckets p bucket in_it c.index-self-place.is [] in
-    let filled = taken_over a.buckets p bucket c.index-self-place.is read c.take_over.new.self c.take_over.ensures.events in
-    let empty = c.take_over.ensures.empty in
+    let filled = taken_over a.buckets v.number p place.within c.index-self-place.result c.index-self-place.is c.take_over.new.self c.take_over.ensures.events in
     let some = begin_some a.buckets v.number v.placed v.alike v.early a.times v.row p place.within place.least c.if-time.false in
     let beyond : length a.hand ≤ a.taken = omega (arith, c.len.ensures, c.if-self-len.false) in
-    rw (filled, empty) (rest_taken (get_or a.times p 0) (together (set a.buckets p []))
+    rw (filled, c.take_over.ensures.empty) (rest_taken (get_or a.times p 0) (together (set a.buckets p []))
     (begin_after a.buckets v.number v.placed v.alike v.early a.times v.row p place.within place.least)
     (in_order event_before (get_or a.buckets p [])) some (rising-in_order event_before event_same event_law (get_or a.buckets p []))
     (begin_begun a.buckets v.number v.placed v.alike v.early a.times v.row p place.within place.least)
