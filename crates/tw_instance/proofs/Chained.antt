@@ -1,15 +1,15 @@
 -- The paths of one rest: as a chain from the last to the first, and as rows behind one another.
-use Rattle.std.proofs.Common.{◌≡◌, ℕ, suc, zero, ◌+◌, ◌-◌, ◌<◌, ◌≤◌, ◌==◌, List, [], ◌∷◌, ◌++◌, length, map, get_or, set, take, drop, arith}
+use Rattle.std.proofs.Common.{◌≡◌, ℕ, suc, zero, ◌+◌, ◌<◌, ◌≤◌, ◌==◌, List, [], ◌∷◌, ◌++◌, length, map, get_or, set, arith}
 use Rattle.std.proofs.Common.{Option, Some, None, refl, ap, sym, ◌∙◌, subst, inl, inr}
 use Rattle.std.specs.List.{All}
 use Rattle.std.proofs.lemmas.Bool.{cases_Bool, cases_eq, cases_lt, eqb-true, eq-eqb, ne_eqb}
-use Rattle.std.proofs.lemmas.List.{drop-append-le, get_or-set_other, get_or-set_same, get_or_append_left, get_or_default, get_or_push}
-use Rattle.std.proofs.lemmas.List.{length-append, length-drop, length-set, length_push, take-append-le, take_all}
+use Rattle.std.proofs.lemmas.List.{get_or-set_other, get_or-set_same, get_or_append_left, get_or_default, get_or_push}
+use Rattle.std.proofs.lemmas.List.{length-set, length_push}
 use Rattle.std.proofs.lemmas.List.Elements.{All-append, All-cons, All-map, All-nil, All-weaker}
-use Rattle.std.proofs.Math.Seq.{drop-append_seam}
 use Rattle.tw_event.specs.declared.event.PathNo.{PathNo}
 use Rattle.tw_model.specs.Net.{Net}
-use Rattle.tw_instance.specs.Chains.{AreChained, AreRests, AreRows, IsCut, IsRest, cut, first_of, places_of, row_of}
+use Rattle.tw_instance.specs.Chains.{AreChained, AreRests, AreRows, IsRest, first_of, places_of, row_of}
+use Rattle.tw_instance.proofs.Sparse.{cut_push, no_cuts}
 
 -- ---- rests
 
@@ -127,56 +127,14 @@ row_goes_on xs j x is = (
 
 pub no_rows : (xs : List ℕ) (starts : List ℕ) (numbers : List PathNo) → starts ≡ 0 ∷ [] → numbers ≡ [] → AreRows xs 0 starts numbers
 no_rows xs starts numbers one none = record {
-  long = ap length one;
-  end = ap (λ ss. get_or ss 0 0) one ∙ ap length (sym none);
-  cuts = λ r h. absurd (omega arith);
-  rows = λ r h. absurd (omega arith);
+  rows = no_cuts (row_of xs) starts numbers one none;
   few = subst (All (λ q. q.0 < length xs)) (sym none) (λ i d h. absurd (omega arith));
 }
 
--- a row that stands already stays
-cut_kept : {X : Type 0} (starts : List ℕ) (r n : ℕ) (xs ys : List X) → r + 1 < length starts → IsCut starts r (length xs) → cut (starts ++ n ∷ []) r (xs ++ ys) ≡ cut starts r xs
-cut_kept starts r n xs ys there within =
-    let low = get_or_append_left starts (n ∷ []) 0 r (omega arith) in
-    let high = get_or_append_left starts (n ∷ []) 0 (r + 1) there in
-    let s = get_or starts r 0 in
-    let m = get_or starts (r + 1) 0 in
-    let up : s ≤ m = within.rises in
-    let in' : m ≤ length xs = within.within in
-    rw (low, high) (ap (take (m - s)) (drop-append-le s xs ys (omega arith)) ∙ take-append-le (m - s) (drop s xs) ys (let l = length-drop s xs in omega arith))
-
 pub row_push : (xs : List ℕ) (k n : ℕ) (starts : List ℕ) (numbers row : List PathNo) → AreRows xs k starts numbers → row ≡ row_of xs k → n ≡ length (numbers ++ row)
     → AreRows xs (k + 1) (starts ++ n ∷ []) (numbers ++ row)
-row_push xs k n starts numbers row so is count =
-    let more = starts ++ n ∷ [] in
-    let longer : length more ≡ k + 1 + 1 = (let l = length_push starts n in let m = so.long in omega arith) in
-    let sum = length-append numbers row in
-    let before : (r : ℕ) → r ≤ k → get_or more r 0 ≡ get_or starts r 0 = λ r h. get_or_append_left starts (n ∷ []) 0 r (let m = so.long in omega arith) in
-    let end : get_or more (k + 1) 0 ≡ n = get_or_push starts n 0 (k + 1) (let m = so.long in omega arith) in
-    let begin : get_or more k 0 ≡ length numbers = before k (omega arith) ∙ so.end in
-    record {
-      long = longer;
-      end = end ∙ count;
-      cuts = λ r h. elim (cases_lt r k) [
-        | inl below ↦ (
-            let c = so.cuts r below in
-            let low = before r (omega arith) in
-            let high = before (r + 1) (omega arith) in
-            let up = c.rises in
-            let in' = c.within in
-            record { rises = omega arith; within = omega arith })
-        | inr at ↦ (
-            let e : r ≡ k = omega arith in
-            rw e record { rises = omega arith; within = omega arith })
-      ];
-      rows = λ r h. elim (cases_lt r k) [
-        | inl below ↦ (cut_kept starts r n numbers row (let m = so.long in omega arith) (so.cuts r below) ∙ so.rows r below)
-        | inr at ↦ (
-            let e : r ≡ k = omega arith in
-            let m : n - length numbers ≡ length row = omega arith in
-            let rest : drop (length numbers) (numbers ++ row) ≡ row = drop-append_seam numbers row in
-            rw e (rw (begin, end, m, rest) (take_all (length row) row (omega arith) ∙ is)))
-      ];
-      few = All-append (λ q. q.0 < length xs) numbers row so.few
-          (subst (All (λ q. q.0 < length xs)) (sym is) (All-map (λ (q : PathNo). q.0 < length xs) (λ j. record { 0 = j }) (places_of xs k (length xs)) (places_below xs k (length xs))));
-    }
+row_push xs k n starts numbers row so is count = record {
+  rows = cut_push (row_of xs) k n starts numbers row so.rows is count;
+  few = All-append (λ q. q.0 < length xs) numbers row so.few
+      (subst (All (λ q. q.0 < length xs)) (sym is) (All-map (λ (q : PathNo). q.0 < length xs) (λ j. record { 0 = j }) (places_of xs k (length xs)) (places_below xs k (length xs))));
+}

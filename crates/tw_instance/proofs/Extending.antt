@@ -2,13 +2,14 @@
 use Rattle.std.proofs.Common.{◌≡◌, ℕ, suc, zero, inl, inr, ◌+◌, ◌-◌, ◌<◌, ◌==◌, true, List, [], ◌∷◌, length, map, get_or, take, drop, arith, Some, None, refl, ap, sym, ◌∙◌, subst}
 use Rattle.std.specs.List.{All, Contains, position, position_or_len}
 use Rattle.std.proofs.lemmas.Bool.{both_ways, cases_Bool, cases_eq, eq-eqb, eqb-true}
-use Rattle.std.proofs.lemmas.List.{drop-map, get_or-drop, get_or-map, get_or_default, get_or-take, length-drop, length-map, length-take-le, take-map}
+use Rattle.std.proofs.lemmas.List.{drop-map, get_or-drop, get_or-map, get_or-take, length-drop, length-map, length-take-le, take-map}
 use Rattle.std.proofs.lemmas.List.Elements.{All-cons, All-map, All-nil}
 use Rattle.std.proofs.lemmas.List.Quantifiers.{position-Some}
 use Rattle.tw_event.specs.declared.event.PathNo.{PathNo}
 use Rattle.tw_model.specs.Net.{Net, IsPath, path, paths}
 use Rattle.tw_sim.proofs.Members.{In}
-use Rattle.tw_instance.specs.Chains.{AreRests, AreRows, Extends, cut, first_node, places_of, row_of}
+use Rattle.tw_instance.specs.Chains.{AreRests, AreRows, Extends, first_node, places_of, row_of}
+use Rattle.tw_instance.specs.Sparse.{cut}
 use Rattle.tw_instance.specs.Extensions.{ArePlacesOf, HasExtensions}
 use Rattle.tw_instance.specs.declared.extensions.Extensions.{Extensions}
 use Rattle.tw_instance.proofs.Chained.{places_below}
@@ -52,10 +53,10 @@ pub has_extensions : (net : Net) (rests : List ℕ) (t : Extensions) → AreRest
     → t.nodes.items ≡ map (first_node net) t.numbers.items → ArePlacesOf net t.numbers.items t.places.items → HasExtensions net t
 has_extensions net rests t so rows firsts placed =
     let n = so.long in
-    let row = λ (p : PathNo) (h : IsPath net p). rows.rows p.0 (let l = so.long in omega arith) in
+    let row = λ (p : PathNo) (h : IsPath net p). rows.rows.rows p.0 (let l = so.long in omega arith) in
     record {
-      long = let m = rows.long in omega arith;
-      cuts = λ p h. rows.cuts p.0 (let l = so.long in omega arith);
+      long = let m = rows.rows.long in omega arith;
+      cuts = λ p h. rows.rows.cuts p.0 (let l = so.long in omega arith);
       nodes = firsts;
       places = placed;
       sound = λ p h. subst (All (λ q. Extends net q p)) (sym (row p h))
@@ -85,16 +86,6 @@ holds_before v (k ∷ ks) i d low past e =
                 holds_before v ks (i - 1) d (omega arith) (omega arith) (ap (λ m. get_or (k ∷ ks) m d) (sym n) ∙ e))
           ])
     ]
-
--- where a row begins and ends, as it was read
-pub read_start : (starts : List ℕ) (r s : ℕ) → r < length starts → s ≡ get_or starts r s → s ≡ get_or starts r 0
-read_start starts r s low e = e ∙ get_or_default starts r s 0 low
-
-pub read_cut : (starts : List ℕ) (r s e : ℕ) (xs ys : List ℕ) → r + 1 < length starts → s ≡ get_or starts r s → e ≡ get_or starts (r + 1) e → xs ≡ ys → take (e - s) (drop s xs) ≡ cut starts r ys
-read_cut starts r s e xs ys low begin end same =
-    let b = read_start starts r s (omega arith) begin in
-    let f = read_start starts (r + 1) e low end in
-    ap (λ k. take (e - k) (drop k xs)) b ∙ (ap (λ k. take (k - get_or starts r 0) (drop (get_or starts r 0) xs)) f ∙ ap (cut starts r) same)
 
 module _ (net : Net) (t : Extensions) (h : HasExtensions net t) (p : PathNo) (is : IsPath net p) where
   abbrev row : List PathNo

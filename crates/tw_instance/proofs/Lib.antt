@@ -1,5 +1,6 @@
 pub mod Lists
 pub mod Paths
+pub mod Sparse
 pub mod Chained
 pub mod Finding
 pub mod Hashes

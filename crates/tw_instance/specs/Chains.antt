@@ -1,8 +1,9 @@
 -- The rest of each path, and the paths by their rest (own).
-use Rattle.std.specs.Prelude.{ℕ, ◌≡◌, ◌==◌, ◌+◌, ◌-◌, ◌<◌, ◌≤◌, cond, zero, suc, List, [], ◌∷◌, drop, length, map, slice_index_or, take, Option, Some, None}
+use Rattle.std.specs.Prelude.{ℕ, ◌≡◌, ◌==◌, ◌<◌, ◌≤◌, cond, zero, suc, List, [], ◌∷◌, length, map, slice_index_or, Option, Some, None}
 use Rattle.std.specs.List.{All}
 use Rattle.tw_event.specs.declared.event.PathNo.{PathNo}
 use Rattle.tw_model.specs.Net.{Net, IsPath, path, paths}
+use Rattle.tw_instance.specs.Sparse.{AreCut}
 
 -- the first node of a path, and 0 of the empty path
 abbrev pub first_node : Net → PathNo → ℕ
@@ -44,19 +45,7 @@ pub record AreChained (xs : List ℕ) (numbers k : ℕ) (last before : List (Opt
 abbrev pub row_of : List ℕ → ℕ → List PathNo
 row_of xs r = map (λ k. record { 0 = k }) (places_of xs r (length xs))
 
--- row r of a list that is cut at these places
-abbrev pub cut : {X : Type 0} → List ℕ → ℕ → List X → List X
-cut starts r xs = take (slice_index_or starts (r + 1) 0 - slice_index_or starts r 0) (drop (slice_index_or starts r 0) xs)
-
--- row r of a list of so many is within it, and begins before it ends
-pub record IsCut (starts : List ℕ) (r long : ℕ) : Type 0 where
-  pub rises : slice_index_or starts r 0 ≤ slice_index_or starts (r + 1) 0
-  pub within : slice_index_or starts (r + 1) 0 ≤ long
-
--- the rows of the first numbers, so many, stand behind one another
+-- the rows of the first numbers, so many, stand behind one another, and hold paths alone
 pub record AreRows (xs : List ℕ) (count : ℕ) (starts : List ℕ) (numbers : List PathNo) : Type 0 where
-  pub long : length starts ≡ count + 1
-  pub end : slice_index_or starts count 0 ≡ length numbers
-  pub cuts : (r : ℕ) → r < count → IsCut starts r (length numbers)
-  pub rows : (r : ℕ) → r < count → cut starts r numbers ≡ row_of xs r
+  pub rows : AreCut (row_of xs) count starts numbers
   pub few : All (λ q. q.0 < length xs) numbers

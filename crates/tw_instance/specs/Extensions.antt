@@ -3,7 +3,8 @@ use Rattle.std.specs.Prelude.{ℕ, ◌≡◌, ◌+◌, ◌<◌, ◌∷◌, true,
 use Rattle.std.specs.List.{All, Contains}
 use Rattle.tw_event.specs.declared.event.PathNo.{PathNo}
 use Rattle.tw_model.specs.Net.{Net, IsPath, is_own, path, paths, paths_of}
-use Rattle.tw_instance.specs.Chains.{Extends, IsCut, cut, first_node}
+use Rattle.tw_instance.specs.Chains.{Extends, first_node}
+use Rattle.tw_instance.specs.Sparse.{IsCut, cut}
 use Rattle.tw_instance.specs.declared.extensions.Extensions.{Extensions}
 
 -- at the router of path q, its place from 0 among the permitted paths is k

@@ -7,5 +7,7 @@ pub mod Index
 pub mod Instance
 pub mod Marks
 pub mod Opening
+pub mod Peers
 pub mod Places
+pub mod Sparse
 pub mod Tables

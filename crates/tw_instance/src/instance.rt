@@ -254,7 +254,7 @@ impl Instance {
         ensures { SomeIff result (IsTrue (has_peer self.now node peer)) (slot_of self.now node peer) }
     {
         match self.index.first() {
-            Some(index) => first_equal(tables::row_of(&index.peers, node), peer),
+            Some(index) => index.peers.slot(node, peer),
             None => slot_of_peer(self.hops(node), peer),
         }
     }

@@ -17,6 +17,7 @@ mod extensions;
 mod index;
 mod instance;
 mod opening;
+mod peers;
 mod refusal;
 mod rules;
 mod tables;

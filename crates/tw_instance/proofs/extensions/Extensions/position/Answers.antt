@@ -1,6 +1,7 @@
 use Rattle.std.proofs.Common.{arith, ◌+◌, ◌==◌, get_or, ap, sym, ◌∙◌}
 use Rattle.std.specs.List.{position}
-use Rattle.tw_instance.proofs.Extending.{finds_extension, finds_none, read_cut, read_start}
+use Rattle.tw_instance.proofs.Extending.{finds_extension, finds_none}
+use Rattle.tw_instance.proofs.Sparse.{read_cut, read_start}
 use Rattle.tw_instance.proofs.extensions.Extensions.position.Goals as goal
 
 pub returns-in_err-place-clause-none : goal.returns-in_err-place-clause-none

@@ -1,0 +1,123 @@
+//! The neighbours of each router, and the slot of a neighbour.
+
+ghost use Rattle.std.specs.Prelude.{◌≡◌, ◌+◌, ◌++◌, ◌<◌, ◌≤◌, ℕ, length, map, IfOk, IsTrue, OnOk, SomeIff};
+ghost use Rattle.tw_model.specs.declared.limits.TheConstants.{MOST_LINKS};
+ghost use Rattle.tw_model.specs.Net.{Net};
+ghost use Rattle.tw_model.specs.Rules.{IsNet};
+ghost use Rattle.tw_model.specs.State.{has_peer, slot as slot_of};
+ghost use Rattle.tw_instance.specs.Hops.{peers_of};
+ghost use Rattle.tw_instance.specs.Sparse.{AreCut, IsCut, cut};
+
+use crate::instance::Instance;
+use std::alloc::{AllocError, Global};
+use tw_lanes::first_equal;
+use tw_model::Hop;
+
+/// How many guesses are kept of each router: one for each neighbour that it may have, so that neighbours
+/// with consecutive numbers all have their own, and in bytes a line of the cache.
+const GUESSES: usize = 64;
+
+/// The neighbours of each router in ascending order, in compressed sparse rows, with guesses of their
+/// slots.
+#[derive(Drop, Debug)]
+pub struct Peers {
+    /// Where the row of each router begins, and behind these where the last one ends.
+    starts: Vec<u32>,
+    /// The neighbours, row by row.
+    neighbours: Vec<u32>,
+    /// Of each router, by the remainder of a neighbour's number, the slot where it is looked for first.
+    guesses: Vec<[u8; GUESSES]>,
+    ghost cuts: { (r : ℕ) → r + 1 < length starts.items → IsCut starts.items r (length neighbours.items) },
+    ghost guessed: { length starts.items ≡ length guesses.items + 1 },
+}
+
+impl Peers {
+    ghost use Rattle.tw_instance.specs.Peers.{HasPeers};
+
+    /// The neighbours of an instance's routers.
+    pub fn new(alloc: Global, instance: &Instance) -> Result<Peers, AllocError>
+        ensures { IfOk result (HasPeers instance.now) }
+    {
+        let (starts, neighbours) = rows_of(alloc, instance)?;
+        let guesses = guesses_of(alloc, instance)?;
+        Ok(Peers {
+            starts,
+            neighbours,
+            guesses,
+        })
+    }
+
+    /// The slot of a neighbour. `None` where the two are no neighbours.
+    #[inline]
+    pub fn slot(&self, node: u32, peer: u32) -> Option<usize>
+        ensures { (net : Net) → HasPeers net self.now → SomeIff result (IsTrue (has_peer net node peer)) (slot_of net node peer) }
+    {
+        let index = node as usize;
+        if index + 1 >= self.starts.len() {
+            return None;
+        }
+        let row = self.row(index);
+        let guess = self.guesses[index][peer as usize % GUESSES] as usize;
+        if guess < row.len() && row[guess] == peer {
+            return Some(guess);
+        }
+        first_equal(row, peer)
+    }
+
+    /// The neighbours of a router.
+    #[inline]
+    fn row(&self, index: usize) -> &[u32]
+        requires { index + 1 < length self.now.starts.items }
+        ensures { result.now ≡ cut self.now.starts.items index self.now.neighbours.items }
+    {
+        let (start, end) = (self.starts[index], self.starts[index + 1]);
+        &self.neighbours[start as usize..end as usize]
+    }
+}
+
+/// Where the row of each router begins, and the neighbours, row by row.
+fn rows_of(alloc: Global, instance: &Instance) -> Result<(Vec<u32>, Vec<u32>), AllocError>
+    ensures rows { IfOk result (λ rows. AreCut (peers_of instance.now) instance.now.nodes rows.0.items rows.1.items) }
+    ensures net { IsNet instance.now }
+{
+    let mut starts = Vec::with_capacity(alloc, instance.nodes() as usize + 1)?;
+    let mut neighbours = Vec::new(alloc);
+    starts.push(0)?;
+    for node in 0..instance.nodes() {
+        push_peers(&mut neighbours, instance.hops(node))?;
+        starts.push(neighbours.len() as u32)?;
+    }
+    Ok((starts, neighbours))
+}
+
+/// Puts the neighbours of a router behind others.
+fn push_peers(neighbours: &mut Vec<u32>, hops: &[Hop]) -> Result<(), AllocError>
+    ensures { OnOk result (neighbours.new.items ≡ neighbours.old.items ++ map (λ h. h.peer) hops.now) }
+{
+    for hop in hops {
+        neighbours.push(hop.peer)?;
+    }
+    Ok(())
+}
+
+/// The guesses of each router.
+fn guesses_of(alloc: Global, instance: &Instance) -> Result<Vec<[u8; GUESSES]>, AllocError>
+    ensures { IfOk result (λ guesses. length guesses.items ≡ instance.now.nodes) }
+{
+    let mut guesses = Vec::with_capacity(alloc, instance.nodes() as usize)?;
+    for node in 0..instance.nodes() {
+        guesses.push(slots_by_remainder(instance.hops(node)))?;
+    }
+    Ok(guesses)
+}
+
+/// By the remainder of a neighbour's number its slot, of several the last, and 0 where there is none.
+fn slots_by_remainder(hops: &[Hop]) -> [u8; GUESSES]
+    requires { length hops.now ≤ MOST_LINKS }
+{
+    let mut slots = [0; GUESSES];
+    for (slot, hop) in hops.iter().enumerate() {
+        slots[hop.peer as usize % GUESSES] = slot as u8;
+    }
+    slots
+}
