@@ -1,8 +1,8 @@
 -- The table of the paths that extend another: made of rows, and searched.
-use Rattle.std.proofs.Common.{◌≡◌, ℕ, suc, zero, inl, inr, ◌+◌, ◌-◌, ◌<◌, ◌==◌, true, List, [], ◌∷◌, length, map, get_or, take, drop, arith, Some, None, refl, ap, sym, ◌∙◌, subst}
+use Rattle.std.proofs.Common.{◌≡◌, ℕ, suc, zero, inl, inr, ◌+◌, ◌-◌, ◌<◌, ◌==◌, true, List, [], ◌∷◌, length, map, get_or, drop, arith, Some, None, refl, ap, sym, ◌∙◌, subst}
 use Rattle.std.specs.List.{All, Contains, position, position_or_len}
 use Rattle.std.proofs.lemmas.Bool.{both_ways, cases_Bool, cases_eq, eq-eqb, eqb-true}
-use Rattle.std.proofs.lemmas.List.{drop-map, get_or-drop, get_or-map, get_or-take, length-drop, length-map, length-take-le, take-map}
+use Rattle.std.proofs.lemmas.List.{get_or-drop, get_or-map, get_or-take, length-drop, length-map, length-take-le}
 use Rattle.std.proofs.lemmas.List.Elements.{All-cons, All-map, All-nil}
 use Rattle.std.proofs.lemmas.List.Quantifiers.{position-Some}
 use Rattle.tw_event.specs.declared.event.PathNo.{PathNo}
@@ -10,11 +10,13 @@ use Rattle.tw_model.specs.Net.{Net, IsPath, path, paths}
 use Rattle.tw_sim.proofs.Members.{In}
 use Rattle.tw_instance.specs.Chains.{AreRests, AreRows, Extends, first_node, places_of, row_of}
 use Rattle.tw_instance.specs.Sparse.{cut}
-use Rattle.tw_instance.specs.Extensions.{ArePlacesOf, HasExtensions}
+use Rattle.tw_instance.specs.Extensions.{ArePlacesOf, HasExtensions, nodes_in, places_in}
 use Rattle.tw_instance.specs.declared.extensions.Extensions.{Extensions}
 use Rattle.tw_instance.proofs.Chained.{places_below}
 use Rattle.tw_instance.proofs.Finding.{is_path}
 use Rattle.tw_instance.proofs.Hashes.{no_place}
+use Rattle.tw_instance.proofs.Lists.{position-map}
+use Rattle.tw_instance.proofs.Sparse.{cut_map}
 
 -- ---- made of rows
 
@@ -50,7 +52,7 @@ contains_from_in q (p ∷ qs) (inl e) = (0, omega arith, sym e)
 contains_from_in q (p ∷ qs) (inr k) = let c = contains_from_in q qs k in (suc c.0, let h = c.1 in omega arith, c.2)
 
 pub has_extensions : (net : Net) (rests : List ℕ) (t : Extensions) → AreRests net (length (paths net)) rests → AreRows rests (length rests) t.starts.items t.numbers.items
-    → t.nodes.items ≡ map (first_node net) t.numbers.items → ArePlacesOf net t.numbers.items t.places.items → HasExtensions net t
+    → nodes_in t.extensions.items ≡ map (first_node net) t.numbers.items → ArePlacesOf net t.numbers.items (places_in t.extensions.items) → HasExtensions net t
 has_extensions net rests t so rows firsts placed =
     let n = so.long in
     let row = λ (p : PathNo) (h : IsPath net p). rows.rows.rows p.0 (let l = so.long in omega arith) in
@@ -92,19 +94,20 @@ module _ (net : Net) (t : Extensions) (h : HasExtensions net t) (p : PathNo) (is
   row = cut t.starts.items p.0 t.numbers.items
 
   -- the first nodes of the row
-  pub row_nodes : cut t.starts.items p.0 t.nodes.items ≡ map (first_node net) row
-  row_nodes =
-      let s = get_or t.starts.items p.0 0 in
-      let m = get_or t.starts.items (p.0 + 1) 0 - s in
-      ap (λ ns. take m (drop s ns)) h.nodes ∙ (ap (take m) (drop-map (first_node net) s t.numbers.items) ∙ take-map (first_node net) m (drop s t.numbers.items))
+  row_nodes : nodes_in (cut t.starts.items p.0 t.extensions.items) ≡ map (first_node net) row
+  row_nodes = sym (cut_map (λ e. e.node) t.starts.items p.0 t.extensions.items) ∙ (ap (cut t.starts.items p.0) h.nodes ∙ cut_map (first_node net) t.starts.items p.0 t.numbers.items)
+
+  -- a search of the row is one of its first nodes
+  row_search : (v : ℕ) → position (λ e. e.node == v) (cut t.starts.items p.0 t.extensions.items) ≡ position (λ o. o == v) (map (first_node net) row)
+  row_search v = sym (position-map (λ e. e.node) v (cut t.starts.items p.0 t.extensions.items)) ∙ ap (position (λ o. o == v)) row_nodes
 
   -- the place of a node in the row is that of an extension by it
-  pub finds_extension : (v i : ℕ) (x : PathNo) → position (λ o. o == v) (cut t.starts.items p.0 t.nodes.items) ≡ Some i
+  pub finds_extension : (v i : ℕ) (x : PathNo) → position (λ e. e.node == v) (cut t.starts.items p.0 t.extensions.items) ≡ Some i
       → x ≡ get_or t.numbers.items (get_or t.starts.items p.0 0 + i) x → path net x ≡ v ∷ path net p
   finds_extension v i x found e =
       let s = get_or t.starts.items p.0 0 in
       let m = get_or t.starts.items (p.0 + 1) 0 - s in
-      let at = position-Some (λ o. o == v) (map (first_node net) row) i (first_node net x) (ap (position (λ o. o == v)) (sym row_nodes) ∙ found) in
+      let at = position-Some (λ o. o == v) (map (first_node net) row) i (first_node net x) (sym (row_search v) ∙ found) in
       let below : i < length row = (let n = length-map row (first_node net) in let l = at.0 in omega arith) in
       let c = h.cuts p is in
       let up = c.rises in
@@ -119,12 +122,12 @@ module _ (net : Net) (t : Extensions) (h : HasExtensions net t) (p : PathNo) (is
       sound ∙ ap (λ k. k ∷ path net p) (eqb-true (first_node net x) v passes)
 
   -- where the node is not in the row, no path is such an extension
-  pub finds_none : (v : ℕ) (q : PathNo) → position (λ o. o == v) (cut t.starts.items p.0 t.nodes.items) ≡ None → path net q ≡ v ∷ path net p → ⊥
+  pub finds_none : (v : ℕ) (q : PathNo) → position (λ e. e.node == v) (cut t.starts.items p.0 t.extensions.items) ≡ None → path net q ≡ v ∷ path net p → ⊥
   finds_none v q none e =
       let first : first_node net q ≡ v = ap (λ ns. get_or ns 0 0) e in
       let extends : Extends net q p = e ∙ ap (λ k. k ∷ path net p) (sym first) in
       let c = h.whole p q is extends in
-      let past = no_place (λ o. o == v) (map (first_node net) row) (sym none ∙ ap (position (λ o. o == v)) row_nodes) in
+      let past = no_place (λ o. o == v) (map (first_node net) row) (sym none ∙ row_search v) in
       let here : first_node net (get_or row c.0 q) ≡ v = ap (first_node net) c.2 ∙ first in
       let low = c.1 in
       let n = length-map row (first_node net) in

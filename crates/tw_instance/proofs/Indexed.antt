@@ -1,6 +1,6 @@
 -- Look-ups in the tables of a whole instance.
-use Rattle.std.proofs.Common.{◌≡◌, ℕ, ◌+◌, ◌<◌, ◌==◌, true, List, [], ◌∷◌, length, map, get_or, arith, Option, Some, None, IsTrue, SomeIff, refl, ap, subst, sym, ◌∙◌, inl, inr}
-use Rattle.std.specs.List.{All, position, position_or_len, slice_get}
+use Rattle.std.proofs.Common.{◌≡◌, ℕ, ◌<◌, ◌==◌, true, List, [], ◌∷◌, length, map, get_or, arith, Option, Some, None, IsTrue, SomeIff, refl, ap, subst, sym, ◌∙◌, inl, inr}
+use Rattle.std.specs.List.{All, position, slice_get}
 use Rattle.std.proofs.lemmas.Bool.{cases_Bool, cases_lt, lt-ltb}
 use Rattle.std.proofs.lemmas.List.{get_or-map, length-map}
 use Rattle.std.proofs.lemmas.Option.{get_or_from_slice_get, slice_get_within}
@@ -17,6 +17,7 @@ use Rattle.tw_instance.specs.Sparse.{AreCut}
 use Rattle.tw_instance.specs.declared.extensions.Extensions.{Extensions}
 use Rattle.tw_instance.specs.declared.peers.Peers.{Peers}
 use Rattle.tw_instance.proofs.Links.{no_hops}
+use Rattle.tw_instance.proofs.Lists.{position-map}
 use Rattle.tw_instance.proofs.Sparse.{cut_past}
 
 -- what holds of all holds of the first
@@ -29,16 +30,8 @@ nil_of : {X : Type 0} (xs : List X) → length xs ≡ 0 → xs ≡ []
 nil_of [] e = refl
 nil_of (x ∷ xs) e = absurd (omega arith)
 
-place_map : (w : ℕ) (hops : List Hop) → position_or_len (λ o. o == w) (map (λ h. h.peer) hops) ≡ position_or_len (λ h. h.peer == w) hops
-place_map w [] = refl
-place_map w (h ∷ hops) =
-    elim (cases_Bool (h.peer == w)) [
-      | inl t ↦ rw t refl
-      | inr f ↦ rw f (ap (λ n. 1 + n) (place_map w hops))
-    ]
-
 pub slot_map : (w : ℕ) (hops : List Hop) → position (λ o. o == w) (map (λ h. h.peer) hops) ≡ position (λ h. h.peer == w) hops
-slot_map w hops = rw (place_map w hops, length-map hops (λ h. h.peer)) refl
+slot_map w hops = position-map (λ h. h.peer) w hops
 
 pub is_slot : (net : Net) (v w : ℕ) (o : Option ℕ) → o ≡ position (λ h. h.peer == w) (hops_of net v) → SomeIff o (IsTrue (has_peer net v w)) (slot net v w)
 is_slot net v w o e =
@@ -77,6 +70,5 @@ pub has_row : (net : Net) (t : Extensions) (p : PathNo) → HasExtensions net t 
 has_row net t p h is = record {
   there = let n = h.long in omega arith;
   cut = h.cuts p is;
-  alike = ap length h.nodes ∙ length-map t.numbers.items _;
-  placed = h.places.long;
+  alike = sym (length-map t.extensions.items (λ e. e.place)) ∙ h.places.long;
 }

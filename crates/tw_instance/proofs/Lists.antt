@@ -1,8 +1,9 @@
 -- Lists: what one more item adds to a search, a count, a list of numbers.
-use Rattle.std.proofs.Common.{◌≡◌, ℕ, suc, zero, ◌+◌, ◌<◌, Bool, true, false, cond, List, [], ◌∷◌, ◌++◌, length, map, refl, ap, ◌∙◌, arith, Option, Some, None, filter, find}
-use Rattle.std.specs.List.{All, range_with_len}
+use Rattle.std.proofs.Common.{◌≡◌, ℕ, suc, zero, ◌+◌, ◌<◌, ◌==◌, Bool, true, false, cond, List, [], ◌∷◌, ◌++◌, length, map, refl, ap, ◌∙◌, arith, Option, Some, None, filter, find, inl, inr}
+use Rattle.std.specs.List.{All, position, position_or_len, range_with_len}
 use Rattle.std.specs.Option.{option_or}
-use Rattle.std.proofs.lemmas.List.{length-append}
+use Rattle.std.proofs.lemmas.Bool.{cases_Bool}
+use Rattle.std.proofs.lemmas.List.{length-append, length-map}
 use Rattle.std.proofs.lemmas.List.Elements.{All-head, All-tail, filter-append}
 use Rattle.std.proofs.lemmas.List.Folds.{find-append}
 
@@ -14,6 +15,18 @@ find_more p xs y h = find-append p xs (y ∷ []) ∙ rw h (or_none (find p xs)) 
   or_none : {T : Type 0} → (o : Option T) → option_or o None ≡ o
   or_none None = refl
   or_none (Some x) = refl
+
+place-map : {X : Type 0} (f : X → ℕ) (w : ℕ) (xs : List X) → position_or_len (λ o. o == w) (map f xs) ≡ position_or_len (λ x. f x == w) xs
+place-map f w [] = refl
+place-map f w (x ∷ xs) =
+    elim (cases_Bool (f x == w)) [
+      | inl t ↦ rw t refl
+      | inr n ↦ rw n (ap (λ k. 1 + k) (place-map f w xs))
+    ]
+
+-- a number is found among those of items where the first item with it is
+pub position-map : {X : Type 0} (f : X → ℕ) (w : ℕ) (xs : List X) → position (λ o. o == w) (map f xs) ≡ position (λ x. f x == w) xs
+position-map f w xs = rw (place-map f w xs, length-map xs f) refl
 
 -- one that passes is found where none before it does
 pub find_new : {X : Type 0} (p : X → Bool) (xs : List X) (y : X) → p y ≡ true → find p xs ≡ None → find p (xs ++ y ∷ []) ≡ Some y

@@ -1,7 +1,7 @@
 -- Rows that are put behind one another, and read.
-use Rattle.std.proofs.Common.{◌≡◌, ℕ, ◌+◌, ◌-◌, ◌<◌, ◌≤◌, List, [], ◌∷◌, ◌++◌, length, get_or, take, drop, arith, refl, ap, sym, ◌∙◌, inl, inr}
+use Rattle.std.proofs.Common.{◌≡◌, ℕ, ◌+◌, ◌-◌, ◌<◌, ◌≤◌, List, [], ◌∷◌, ◌++◌, length, map, get_or, take, drop, arith, refl, ap, sym, ◌∙◌, inl, inr}
 use Rattle.std.proofs.lemmas.Bool.{cases_lt}
-use Rattle.std.proofs.lemmas.List.{drop-append-le, get_or_append_left, get_or_default, get_or_past, get_or_push, length-append, length-drop, length_push, take-append-le, take_all}
+use Rattle.std.proofs.lemmas.List.{drop-append-le, drop-map, get_or_append_left, get_or_default, get_or_past, get_or_push, length-append, length-drop, length_push, take-append-le, take-map, take_all}
 use Rattle.std.proofs.Math.Seq.{drop-append_seam}
 use Rattle.tw_instance.specs.Sparse.{AreCut, IsCut, cut}
 
@@ -69,6 +69,13 @@ cut_past starts r xs past =
     let s = get_or starts r 0 in
     let empty : 0 - s ≡ 0 = omega arith in
     rw (none, empty) refl
+
+-- a row of what items say is what the items of the row say
+pub cut_map : {X Y : Type 0} (f : X → Y) (starts : List ℕ) (r : ℕ) (xs : List X) → cut starts r (map f xs) ≡ map f (cut starts r xs)
+cut_map f starts r xs =
+    let s = get_or starts r 0 in
+    let m = get_or starts (r + 1) 0 - s in
+    ap (take m) (drop-map f s xs) ∙ take-map f m (drop s xs)
 
 -- where a row begins and ends, as it was read
 pub read_start : (starts : List ℕ) (r s : ℕ) → r < length starts → s ≡ get_or starts r s → s ≡ get_or starts r 0

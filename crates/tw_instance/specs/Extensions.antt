@@ -5,7 +5,16 @@ use Rattle.tw_event.specs.declared.event.PathNo.{PathNo}
 use Rattle.tw_model.specs.Net.{Net, IsPath, is_own, path, paths, paths_of}
 use Rattle.tw_instance.specs.Chains.{Extends, first_node}
 use Rattle.tw_instance.specs.Sparse.{IsCut, cut}
+use Rattle.tw_instance.specs.declared.extensions.Extension.{Extension}
 use Rattle.tw_instance.specs.declared.extensions.Extensions.{Extensions}
+
+-- the first nodes of these extensions
+abbrev pub nodes_in : List Extension → List ℕ
+nodes_in = map (λ e. e.node)
+
+-- their places among the permitted paths of their routers
+abbrev pub places_in : List Extension → List ℕ
+places_in = map (λ e. e.place)
 
 -- at the router of path q, its place from 0 among the permitted paths is k
 abbrev pub IsPlaceOf : Net → PathNo → ℕ → Type 0
@@ -24,14 +33,13 @@ IsExtendedAt net v p k = (q : PathNo) × (slice_get (paths_of net v) k ≡ Some 
 pub record HasRow (t : Extensions) (r : ℕ) : Type 0 where
   pub there : r + 1 < length t.starts.items
   pub cut : IsCut t.starts.items r (length t.numbers.items)
-  pub alike : length t.nodes.items ≡ length t.numbers.items
-  pub placed : length t.places.items ≡ length t.numbers.items
+  pub alike : length t.extensions.items ≡ length t.numbers.items
 
 -- in the table each path has a row: the numbers of the paths that extend it, their first nodes, and their places
 pub record HasExtensions (net : Net) (t : Extensions) : Type 0 where
   pub long : length t.starts.items ≡ length (paths net) + 1
   pub cuts : (p : PathNo) → IsPath net p → IsCut t.starts.items p.0 (length t.numbers.items)
-  pub nodes : t.nodes.items ≡ map (first_node net) t.numbers.items
-  pub places : ArePlacesOf net t.numbers.items t.places.items
+  pub nodes : nodes_in t.extensions.items ≡ map (first_node net) t.numbers.items
+  pub places : ArePlacesOf net t.numbers.items (places_in t.extensions.items)
   pub sound : (p : PathNo) → IsPath net p → All (λ q. Extends net q p) (cut t.starts.items p.0 t.numbers.items)
   pub whole : (p q : PathNo) → IsPath net p → Extends net q p → Contains (cut t.starts.items p.0 t.numbers.items) q

@@ -1,30 +1,36 @@
 //! Which paths extend which: a path that is one node followed by another path extends that path.
 
-ghost use Rattle.std.specs.Prelude.{◌≡◌, ◌+◌, ◌<◌, ◌∷◌, length, map, slice_index_or, IfOk, IfSome, IsSome};
-ghost use Rattle.std.specs.List.{All};
+ghost use Rattle.std.specs.Prelude.{◌≡◌, ◌==◌, ◌<◌, ◌∷◌, length, map, slice_index_or, IfOk, IfSome, IsSome};
+ghost use Rattle.std.specs.List.{All, position};
 ghost use Rattle.tw_event.specs.declared.event.PathNo.{PathNo as APathNo};
 ghost use Rattle.tw_model.specs.Net.{IsPath, Net, path};
 ghost use Rattle.tw_instance.specs.Chains.{first_node as first_node_of};
-ghost use Rattle.tw_instance.specs.Extensions.{ArePlacesOf};
+ghost use Rattle.tw_instance.specs.Extensions.{ArePlacesOf, nodes_in, places_in};
 ghost use Rattle.tw_instance.specs.Hops.{AreDistinct};
 
 use crate::chains::{Chains, rests_of};
 use crate::instance::Instance;
 use std::alloc::{AllocError, Global};
 use tw_event::PathNo;
-use tw_lanes::first_equal;
+
+/// A path that extends another.
+#[derive(Clone, Copy, Drop, Debug)]
+pub struct Extension {
+    /// Its first node.
+    pub node: u32,
+    /// Its place, from 0, among the permitted paths of that router.
+    pub place: u32,
+}
 
 /// Of each path of an instance, by its number, the paths that extend it, in compressed sparse rows.
 #[derive(Drop, Debug)]
 pub struct Extensions {
     /// Where the row of each path begins, and behind these where the last one ends.
     starts: Vec<usize>,
-    /// The first node of each extension, row by row.
-    nodes: Vec<u32>,
+    /// The extensions, row by row.
+    extensions: Vec<Extension>,
     /// The number of each extension.
     numbers: Vec<PathNo>,
-    /// The place, from 0, of each extension among the permitted paths of its first node.
-    places: Vec<u32>,
 }
 
 impl Extensions {
@@ -36,17 +42,16 @@ impl Extensions {
     {
         let chains = Chains::new(alloc, rests_of(alloc, instance)?)?;
         let (starts, numbers) = chains.rows(alloc)?;
-        let nodes = first_nodes(alloc, instance, &numbers)?;
-        let places = places_of(alloc, instance, &numbers)?;
+        let extensions = extensions_of(alloc, instance, &numbers)?;
         Ok(Extensions {
             starts,
-            nodes,
+            extensions,
             numbers,
-            places,
         })
     }
 
     /// The path that is `node` followed by the path of this number, where there is one.
+    #[inline]
     pub fn find(&self, node: u32, number: PathNo) -> Option<PathNo>
         requires { HasRow self.now number.0 }
         ensures some { (net : Net) → HasExtensions net self.now → IsPath net number
@@ -60,6 +65,7 @@ impl Extensions {
 
     /// The place, from 0, among the permitted paths of `node` of the path that is `node` followed by the path
     /// of this number, where there is one.
+    #[inline]
     pub fn find_place(&self, node: u32, number: PathNo) -> Option<usize>
         requires { HasRow self.now number.0 }
         ensures some { (net : Net) → HasExtensions net self.now → IsPath net number
@@ -68,10 +74,11 @@ impl Extensions {
             → (q : APathNo) → path net q ≡ node ∷ path net number → IsSome result }
     {
         let index = self.position(node, number)?;
-        Some(self.places[index] as usize)
+        Some(self.extensions[index].place as usize)
     }
 
     /// Where in the table the path stands that is `node` followed by the path of this number.
+    #[inline]
     fn position(&self, node: u32, number: PathNo) -> Option<usize>
         requires { HasRow self.now number.0 }
         ensures within { IfSome result (λ i. i < length self.now.numbers.items) }
@@ -82,37 +89,38 @@ impl Extensions {
     {
         let row = number.0 as usize;
         let (start, end) = (self.starts[row], self.starts[row + 1]);
-        let place = first_equal(&self.nodes[start..end], node)?;
+        let place = first_with_node(&self.extensions[start..end], node)?;
         Some(start + place)
     }
 }
 
-/// The place of each of these paths among the permitted paths of its router.
-fn places_of(alloc: Global, instance: &Instance, numbers: &[PathNo]) -> Result<Vec<u32>, AllocError>
-    requires { All (IsPath instance.now) numbers.now }
-    ensures { IfOk result (λ places. ArePlacesOf instance.now numbers.now places.items) }
+/// The first of these extensions that begins with `node`. A row seldom has more than one.
+#[inline]
+fn first_with_node(extensions: &[Extension], node: u32) -> Option<usize>
+    ensures { result ≡ position (λ e. e.node == node) extensions.now }
 {
-    let mut places = Vec::with_capacity(alloc, numbers.len())?;
-    for number in numbers {
-        places.push(instance.kept_place(*number))?;
-    }
-    Ok(places)
+    extensions
+        .iter()
+        .position(|extension| extension.node == node)
 }
 
-/// The first node of each of these paths, and 0 of the empty path.
-fn first_nodes(
+/// Of each of these paths its first node, 0 of the empty path, and its place at its router.
+fn extensions_of(
     alloc: Global,
     instance: &Instance,
     numbers: &[PathNo],
-) -> Result<Vec<u32>, AllocError>
+) -> Result<Vec<Extension>, AllocError>
     requires { All (IsPath instance.now) numbers.now }
-    ensures { IfOk result (λ nodes. nodes.items ≡ map (first_node_of instance.now) numbers.now) }
+    ensures nodes { IfOk result (λ extensions. nodes_in extensions.items ≡ map (first_node_of instance.now) numbers.now) }
+    ensures places { IfOk result (λ extensions. ArePlacesOf instance.now numbers.now (places_in extensions.items)) }
 {
-    let mut nodes = Vec::with_capacity(alloc, numbers.len())?;
+    let mut extensions = Vec::with_capacity(alloc, numbers.len())?;
     for number in numbers {
-        nodes.push(first_node(instance.path(*number)))?;
+        let node = first_node(instance.path(*number));
+        let place = instance.kept_place(*number);
+        extensions.push(Extension { node, place })?;
     }
-    Ok(nodes)
+    Ok(extensions)
 }
 
 fn first_node(nodes: &[u32]) -> u32

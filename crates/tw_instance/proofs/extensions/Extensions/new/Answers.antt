@@ -2,7 +2,7 @@ use Rattle.std.proofs.Common.{arith, ap, length, map, subst, ◌∙◌}
 use Rattle.std.proofs.lemmas.List.{get_or_default}
 use Rattle.tw_event.specs.declared.event.PathNo.{PathNo}
 use Rattle.tw_instance.specs.Chains.{AreRows, first_node}
-use Rattle.tw_instance.specs.Extensions.{ArePlacesOf}
+use Rattle.tw_instance.specs.Extensions.{ArePlacesOf, places_in}
 use Rattle.tw_instance.proofs.Extending.{has_extensions}
 use Rattle.tw_instance.proofs.extensions.Extensions.new.Goals as goal
 
@@ -20,6 +20,6 @@ pub returns : goal.returns
 returns c =
     let rests = c.in_ok-rests_of.field-0.items in
     let rows = subst (λ xs. AreRows xs (length xs) c.in_ok-starts.starts.items c.in_ok-starts.numbers.items) c.in_ok-chains.ensures c.in_ok-starts.ensures in
-    has_extensions c.args.instance.now rests (record { starts = c.in_ok-starts.starts; nodes = c.in_ok-nodes.nodes; numbers = c.in_ok-starts.numbers; places = c.in_ok-places.places }) c.in_ok-rests_of.ensures.rests rows
-    (c.in_ok-nodes.ensures ∙ ap (map (first_node c.args.instance.now)) c.deref.ensures.value)
-    (subst (λ qs. ArePlacesOf c.args.instance.now qs c.in_ok-places.places.items) c.deref-2.ensures.value c.in_ok-places.ensures)
+    has_extensions c.args.instance.now rests (record { starts = c.in_ok-starts.starts; extensions = c.in_ok-extensions.extensions; numbers = c.in_ok-starts.numbers }) c.in_ok-rests_of.ensures.rests rows
+    (c.in_ok-extensions.ensures.nodes ∙ ap (map (first_node c.args.instance.now)) c.deref.ensures.value)
+    (subst (λ qs. ArePlacesOf c.args.instance.now qs (places_in c.in_ok-extensions.extensions.items)) c.deref.ensures.value c.in_ok-extensions.ensures.places)
