@@ -1,10 +1,10 @@
 -- The paths of one rest: as a chain from the last to the first, and as rows behind one another.
-use Rattle.std.proofs.Common.{◌≡◌, ℕ, suc, zero, ◌+◌, ◌<◌, ◌≤◌, ◌==◌, List, [], ◌∷◌, ◌++◌, length, map, get_or, set, arith}
+use Rattle.std.proofs.Common.{◌≡◌, ℕ, suc, zero, ◌+◌, ◌<◌, ◌≤◌, ◌==◌, List, [], ◌∷◌, ◌++◌, length, map, get_or, set, nat_lt, cond, arith}
 use Rattle.std.proofs.Common.{Option, Some, None, refl, ap, sym, ◌∙◌, subst, inl, inr}
 use Rattle.std.specs.List.{All}
-use Rattle.std.proofs.lemmas.Bool.{cases_Bool, cases_eq, cases_lt, eqb-true, eq-eqb, ne_eqb}
+use Rattle.std.proofs.lemmas.Bool.{cases_Bool, cases_eq, cases_lt, eqb-true, eq-eqb, le-ltb, lt-ltb, ne_eqb}
 use Rattle.std.proofs.lemmas.List.{get_or-set_other, get_or-set_same, get_or_append_left, get_or_default, get_or_push}
-use Rattle.std.proofs.lemmas.List.{length-set, length_push}
+use Rattle.std.proofs.lemmas.List.{length-map, length-set, length_push}
 use Rattle.std.proofs.lemmas.List.Elements.{All-append, All-cons, All-map, All-nil, All-weaker}
 use Rattle.tw_event.specs.declared.event.PathNo.{PathNo}
 use Rattle.tw_model.specs.Net.{Net}
@@ -124,6 +124,64 @@ row_goes_on xs j x is = (
 )
 
 -- ---- rows
+
+-- how many of the first places, so many, hold a number below k
+abbrev pub count_below : List ℕ → ℕ → ℕ → ℕ
+count_below xs k zero = 0
+count_below xs k (suc n) = cond (nat_lt (get_or xs n 0) k) (suc (count_below xs k n)) (count_below xs k n)
+
+pub none_below : (xs : List ℕ) (n : ℕ) → count_below xs 0 n ≡ 0
+none_below xs zero = refl
+none_below xs (suc n) =
+    let no = le-ltb (get_or xs n 0) 0 (omega arith) in
+    rw no (none_below xs n)
+
+at_most : (xs : List ℕ) (k n : ℕ) → count_below xs k n ≤ n
+at_most xs k zero = omega arith
+at_most xs k (suc n) =
+    let h = at_most xs k n in
+    elim (cases_Bool (nat_lt (get_or xs n 0) k)) [
+      | inl t ↦ rw t (omega arith)
+      | inr f ↦ rw f (omega arith)
+    ]
+
+below_next : (xs : List ℕ) (k n : ℕ) → count_below xs (k + 1) n ≡ count_below xs k n + length (places_of xs k n)
+below_next xs k zero = refl
+below_next xs k (suc n) =
+    let x = get_or xs n 0 in
+    let h = below_next xs k n in
+    elim (cases_eq x k) [
+      | inl e ↦ (
+          let here = eq-eqb x k e in
+          let now = lt-ltb x (k + 1) (omega arith) in
+          let not_yet = le-ltb x k (omega arith) in
+          rw (here, now, not_yet) (omega arith))
+      | inr ne ↦ (
+          let other = ne_eqb x k ne in
+          elim (cases_lt x k) [
+            | inl low ↦ (
+                let now = lt-ltb x (k + 1) (omega arith) in
+                let before = lt-ltb x k low in
+                rw (other, now, before) (omega arith))
+            | inr high ↦ (
+                let now = le-ltb x (k + 1) (omega arith) in
+                let before = le-ltb x k high in
+                rw (other, now, before) (omega arith))
+          ])
+    ]
+
+-- the rows so far, and one more, are no longer than the list of the rests
+pub row_counted : (xs : List ℕ) (k m : ℕ) → m ≡ count_below xs k (length xs) → m + length (row_of xs k) ≡ count_below xs (k + 1) (length xs)
+row_counted xs k m is =
+    let next = below_next xs k (length xs) in
+    let same = length-map (places_of xs k (length xs)) (λ (j : ℕ). let q : PathNo = record { 0 = j } in q) in
+    omega arith
+
+pub rows_fit : (xs : List ℕ) (k m : ℕ) → m ≡ count_below xs k (length xs) → m + length (row_of xs k) ≤ length xs
+rows_fit xs k m is =
+    let e = row_counted xs k m is in
+    let most = at_most xs (k + 1) (length xs) in
+    omega arith
 
 pub no_rows : (xs : List ℕ) (starts : List ℕ) (numbers : List PathNo) → starts ≡ 0 ∷ [] → numbers ≡ [] → AreRows xs 0 starts numbers
 no_rows xs starts numbers one none = record {

@@ -45,6 +45,7 @@ pub struct Chains {
     last: Vec<Option<u32>>,
     /// Of each path the last one before it that has the same rest.
     before: Vec<Option<u32>>,
+    ghost few: { length rests.items < 2 ^ 32 },
     ghost chained: { AreChained rests.items (length rests.items + 1) (length rests.items) last.items before.items },
 }
 
@@ -70,7 +71,7 @@ impl Chains {
     }
 
     /// Where the row of each rest begins, and the paths of each rest, row by row.
-    pub fn rows(&self, alloc: Global) -> Result<(Vec<usize>, Vec<PathNo>), AllocError>
+    pub fn rows(&self, alloc: Global) -> Result<(Vec<u32>, Vec<PathNo>), AllocError>
         ensures { IfOk result (λ rows. AreRows self.now.rests.items (length self.now.rests.items) rows.0.items rows.1.items) }
     {
         let mut starts = Vec::with_capacity(alloc, self.before.len() + 1)?;
@@ -78,7 +79,7 @@ impl Chains {
         starts.push(0)?;
         for rest in 0..self.before.len() {
             self.push_row(&mut numbers, rest)?;
-            starts.push(numbers.len())?;
+            starts.push(numbers.len() as u32)?;
         }
         Ok((starts, numbers))
     }

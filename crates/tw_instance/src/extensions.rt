@@ -26,7 +26,7 @@ pub struct Extension {
 #[derive(Drop, Debug)]
 pub struct Extensions {
     /// Where the row of each path begins, and behind these where the last one ends.
-    starts: Vec<usize>,
+    starts: Vec<u32>,
     /// The extensions, row by row.
     extensions: Vec<Extension>,
     /// The number of each extension.
@@ -88,7 +88,7 @@ impl Extensions {
             → (q : APathNo) → path net q ≡ node ∷ path net number → IsSome result }
     {
         let row = number.0 as usize;
-        let (start, end) = (self.starts[row], self.starts[row + 1]);
+        let (start, end) = (self.starts[row] as usize, self.starts[row + 1] as usize);
         let place = first_with_node(&self.extensions[start..end], node)?;
         Some(start + place)
     }
