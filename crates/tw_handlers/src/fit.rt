@@ -87,6 +87,7 @@ fn begins_at(nodes: &[u32], node: u32) -> bool
 }
 
 /// The slot of a neighbour.
+#[inline(always)]
 pub(crate) fn slot_of_peer(instance: &Instance, node: u32, peer: u32) -> usize
     requires { IsTrue (has_peer_of instance.now node peer) }
     ensures value { result ≡ slot_of instance.now node peer }

@@ -55,6 +55,7 @@ pub fn handle(
 ///
 /// The instance is the router's own; `does_fit` tells whether an event fits. The answer is what undoing
 /// the event needs. After an error the router and the list are as they were.
+#[inline(always)]
 pub fn handle_fitting(
     instance: &Instance,
     router: &mut Router<'_>,
@@ -86,6 +87,7 @@ pub fn handle_fitting(
     }
 }
 
+#[inline(never)]
 fn handle_start(
     instance: &Instance,
     router: &mut Router<'_>,
@@ -102,6 +104,7 @@ fn handle_start(
     Ok(UndoRecord::of_effect(changed, rib, PathNo::EMPTY))
 }
 
+#[inline(never)]
 fn handle_fail(
     instance: &Instance,
     router: &mut Router<'_>,
@@ -130,6 +133,7 @@ fn handle_fail(
     Ok(UndoRecord::of_effect(changed, rib, row.heard))
 }
 
+#[inline(never)]
 fn handle_restore(
     instance: &Instance,
     router: &mut Router<'_>,
@@ -175,6 +179,7 @@ fn handle_restore(
     Ok(UndoRecord::of_effect(false, rib, PathNo::EMPTY))
 }
 
+#[inline(never)]
 fn handle_swap(
     instance: &Instance,
     router: &mut Router<'_>,
@@ -203,6 +208,7 @@ fn handle_swap(
     }
 }
 
+#[inline(always)]
 fn handle_update(
     instance: &Instance,
     router: &mut Router<'_>,

@@ -38,6 +38,7 @@ impl News {
 }
 
 /// How many neighbours of the router have a link that is up.
+#[inline(never)]
 pub(crate) fn count_up(instance: &Instance, router: &Router<'_>) -> u64
     requires { instance.now ≡ router.now.net }
     ensures value { result ≡ length (ups router.now.net router.now.node router.now.state) }
@@ -51,6 +52,7 @@ pub(crate) fn count_up(instance: &Instance, router: &Router<'_>) -> u64
 }
 
 /// Adds an update of the path to each neighbour whose link is up, numbered from `first`.
+#[inline(never)]
 pub(crate) fn push_updates(
     instance: &Instance,
     router: &Router<'_>,

@@ -15,7 +15,7 @@ use tw_router::Router;
 
 /// Takes the best path, tells each neighbour whose link is up where that is a change, and counts an
 /// event as handled. Answers whether the path changed.
-#[inline]
+#[inline(always)]
 pub(crate) fn settle(
     instance: &Instance,
     router: &mut Router<'_>,
@@ -50,7 +50,7 @@ pub(crate) fn settle(
 }
 
 /// Writes the row of a slot and settles. After an error the row is as it was.
-#[inline]
+#[inline(always)]
 pub(crate) fn settle_with_row(
     instance: &Instance,
     router: &mut Router<'_>,
@@ -79,6 +79,7 @@ pub(crate) fn settle_with_row(
 }
 
 /// Counts an event as handled.
+#[inline(always)]
 pub(crate) fn count_handled(router: &mut Router<'_>)
     requires { router.old.state.counters.handled < MOST_COUNTED }
     ensures { router.new ≡ record router.old { state = with_handled router.old.state } }

@@ -33,6 +33,7 @@ pub(crate) fn refresh(
 }
 
 /// Writes the rank of one slot anew.
+#[inline(always)]
 pub(crate) fn refresh_slot(
     instance: &Instance,
     node: u32,
@@ -56,6 +57,7 @@ pub(crate) fn refresh_slot(
 
 /// The greatest of the ranks, where that of one slot was another one before, and the greatest with it is
 /// known. They are sought through only where the greatest rank fell.
+#[inline(always)]
 pub(crate) fn greatest_after(greatest: u32, before: u32, ranks: &[u32], slot: usize) -> u32
     requires slot { slot < length ranks.now }
     requires greatest { greatest ≡ fold max 0 (slice_set ranks.now slot before) }
@@ -72,6 +74,7 @@ pub(crate) fn greatest_after(greatest: u32, before: u32, ranks: &[u32], slot: us
 }
 
 /// The rank of the path that a neighbour offers, and 0 where it offers none.
+#[inline(always)]
 fn rank_of(instance: &Instance, node: u32, order: &[PathNo], exchanged: bool, row: Row) -> u32
     requires router { node < instance.now.nodes }
     requires path { IsPath instance.now row.heard }
@@ -88,6 +91,7 @@ fn rank_of(instance: &Instance, node: u32, order: &[PathNo], exchanged: bool, ro
 
 /// The place, from 0, among the permitted paths of the one that a neighbour offers: none where its link
 /// is down.
+#[inline(always)]
 fn offered_place(instance: &Instance, node: u32, row: Row) -> Option<usize>
     requires { IsPath instance.now row.heard }
     ensures some { IfSome result (IsOfferedAt instance.now node row) }
@@ -100,6 +104,7 @@ fn offered_place(instance: &Instance, node: u32, row: Row) -> Option<usize>
 }
 
 /// How many paths of the order stand before the one at a place, from 0, of the permitted paths.
+#[inline(always)]
 fn order_place(
     instance: &Instance,
     node: u32,

@@ -127,6 +127,7 @@ impl<'a> Router<'a> {
     }
 
     /// Its number.
+    #[inline(always)]
     pub fn node(&self) -> u32
         ensures value { result ≡ self.now.node }
         ensures below { self.now.node < self.now.net.nodes }
@@ -137,6 +138,7 @@ impl<'a> Router<'a> {
     }
 
     /// The path that it uses.
+    #[inline(always)]
     pub fn rib(&self) -> PathNo
         ensures value { result ≡ self.now.state.rib }
         ensures state { IsState self.now.net self.now.node self.now.state }
@@ -153,6 +155,7 @@ impl<'a> Router<'a> {
     }
 
     /// What it keeps of the neighbour of a slot.
+    #[inline(always)]
     pub fn row(&self, slot: usize) -> Row
         requires { slot < length self.now.state.rows }
         ensures value { result ≡ row_of self.now.state slot }
@@ -207,6 +210,7 @@ impl<'a> Router<'a> {
     }
 
     /// What it counts.
+    #[inline(always)]
     pub fn counters(&self) -> Counters
         ensures value { result ≡ self.now.state.counters }
         ensures state { IsState self.now.net self.now.node self.now.state }
@@ -216,6 +220,7 @@ impl<'a> Router<'a> {
 
     /// The first path of its order that is itself followed by what a neighbour told it over a link that
     /// is up, or else the empty path; at the origin, (0).
+    #[inline(always)]
     pub fn best(&self) -> PathNo
         ensures value { result ≡ best_of self.now.net self.now.node self.now.state }
         ensures path { IsPath self.now.net result }
@@ -234,6 +239,7 @@ impl<'a> Router<'a> {
     }
 
     /// The greatest rank of a slot, and 0 where there are none.
+    #[inline(always)]
     fn greatest_rank(&self) -> u32
         ensures { result ≡ fold max 0 (rank_row_of self.now) }
     {
@@ -241,6 +247,7 @@ impl<'a> Router<'a> {
     }
 
     /// Changes the path that it uses.
+    #[inline(always)]
     pub fn set_rib(&mut self, path: PathNo)
         requires { IsPath self.old.net path }
         ensures { self.new ≡ record self.old { state = record self.old.state { rib = path } } }
@@ -249,7 +256,7 @@ impl<'a> Router<'a> {
     }
 
     /// Changes what it keeps of the neighbour of a slot. The instance is the router's own.
-    #[inline]
+    #[inline(always)]
     pub fn set_row(&mut self, instance: &Instance, slot: usize, row: Row)
         requires own { instance.now ≡ self.old.net }
         requires slot { slot < length self.old.state.rows }
@@ -350,6 +357,7 @@ impl<'a> Router<'a> {
     }
 
     /// Changes what it counts.
+    #[inline(always)]
     pub fn set_counters(&mut self, counters: Counters)
         requires counted { IsCounted counters }
         requires sessions { All (λ row. row.session ≤ counters.handled) self.old.state.rows }
