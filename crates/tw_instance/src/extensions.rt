@@ -51,7 +51,7 @@ impl Extensions {
     }
 
     /// The path that is `node` followed by the path of this number, where there is one.
-    #[inline]
+    #[inline(always)]
     pub fn find(&self, node: u32, number: PathNo) -> Option<PathNo>
         requires { HasRow self.now number.0 }
         ensures some { (net : Net) → HasExtensions net self.now → IsPath net number
@@ -65,7 +65,7 @@ impl Extensions {
 
     /// The place, from 0, among the permitted paths of `node` of the path that is `node` followed by the path
     /// of this number, where there is one.
-    #[inline]
+    #[inline(always)]
     pub fn find_place(&self, node: u32, number: PathNo) -> Option<usize>
         requires { HasRow self.now number.0 }
         ensures some { (net : Net) → HasExtensions net self.now → IsPath net number
@@ -78,7 +78,7 @@ impl Extensions {
     }
 
     /// Where in the table the path stands that is `node` followed by the path of this number.
-    #[inline]
+    #[inline(always)]
     fn position(&self, node: u32, number: PathNo) -> Option<usize>
         requires { HasRow self.now number.0 }
         ensures within { IfSome result (λ i. i < length self.now.numbers.items) }
@@ -95,7 +95,7 @@ impl Extensions {
 }
 
 /// The first of these extensions that begins with `node`. A row seldom has more than one.
-#[inline]
+#[inline(always)]
 fn first_with_node(extensions: &[Extension], node: u32) -> Option<usize>
     ensures { result ≡ position (λ e. e.node == node) extensions.now }
 {

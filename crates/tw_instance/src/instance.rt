@@ -250,7 +250,7 @@ impl Instance {
 
     /// The slot of a neighbour: how many neighbours of the router have a lower number. `None` where the
     /// two are no neighbours.
-    #[inline]
+    #[inline(always)]
     pub fn slot(&self, node: u32, peer: u32) -> Option<usize>
         ensures { SomeIff result (IsTrue (has_peer self.now node peer)) (slot_of self.now node peer) }
     {
@@ -360,7 +360,7 @@ impl Instance {
 
     /// The place, from 0, among the permitted paths of `node`, the best first, of the path that is `node`
     /// followed by this path; `None` where it is not permitted there.
-    #[inline]
+    #[inline(always)]
     pub fn extended_place(&self, node: u32, number: PathNo) -> Option<usize>
         requires { IsPath self.now number }
         ensures some { IfSome result (IsExtendedAt self.now node number) }

@@ -48,7 +48,7 @@ impl Peers {
     }
 
     /// The slot of a neighbour. `None` where the two are no neighbours.
-    #[inline]
+    #[inline(always)]
     pub fn slot(&self, node: u32, peer: u32) -> Option<usize>
         ensures { (net : Net) → HasPeers net self.now → SomeIff result (IsTrue (has_peer net node peer)) (slot_of net node peer) }
     {
@@ -65,7 +65,7 @@ impl Peers {
     }
 
     /// The neighbours of a router.
-    #[inline]
+    #[inline(always)]
     fn row(&self, index: usize) -> &[u32]
         requires { index + 1 < length self.now.starts.items }
         ensures { result.now ≡ cut self.now.starts.items index self.now.neighbours.items }

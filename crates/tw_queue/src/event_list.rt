@@ -59,6 +59,7 @@ impl EventList {
     }
 
     /// Makes room for `additional` more events, so that inserting them cannot fail.
+    #[inline(always)]
     pub fn reserve(&mut self, additional: usize) -> Result<(), AllocError>
         ensures ok { OnOk result (additional ≤ self.new.room) }
         ensures full { OnErr result (self.old.room < additional) }
@@ -70,7 +71,7 @@ impl EventList {
     }
 
     /// Adds an event, in its place in the order. It cannot fail where there is room.
-    #[inline]
+    #[inline(always)]
     pub fn insert(&mut self, event: &Event) -> Result<(), AllocError>
         requires { event.now.dst < self.old.routers }
         ensures ok { OnOk result (self.new.events ≡ insert event_before event.now self.old.events) }
@@ -109,7 +110,7 @@ impl EventList {
 
     /// Copies the least event, where there is one, and tells whether there is: without one the event stays as
     /// it was.
-    #[inline]
+    #[inline(always)]
     pub fn copy_least(&self, event: &mut Event) -> bool
         ensures some { OnTrue result (Some event.new ≡ slice_get self.now.events 0) }
         ensures home { OnTrue result (event.new.dst < self.now.routers) }
@@ -124,7 +125,7 @@ impl EventList {
     }
 
     /// Takes out the least event, where there is one.
-    #[inline]
+    #[inline(always)]
     pub fn skip_least(&mut self)
         ensures events { self.new.events ≡ drop 1 self.old.events }
         ensures routers { self.new.routers ≡ self.old.routers }
@@ -156,7 +157,7 @@ impl EventList {
 
     /// Puts the events of the next tick in order, where all before them are taken out, so that they come out
     /// fast. Events of that tick that are inserted later come out less fast.
-    #[inline]
+    #[inline(always)]
     pub fn begin_tick(&mut self)
         ensures { self.new ≡ self.old }
     {
@@ -189,7 +190,7 @@ impl EventList {
 }
 
 // Whether the least event of all is that of the heap, and not that of the ring.
-#[inline]
+#[inline(always)]
 fn is_heap_first(ring: &Ring, heap: &BinaryHeap<Reverse<Event>>) -> bool
     requires { IsHeap ⟦<Reverse<Event> as Ord>⟧.cmp (heap_items heap.now) }
     ensures heap { OnTrue result

@@ -69,7 +69,7 @@ impl Ring {
 
     /// Adds an event where it is a path that arrives, later than the tick at hand and soon, its bucket has no
     /// event of another tick, and memory is not refused, and tells whether it did.
-    #[inline]
+    #[inline(always)]
     pub(crate) fn insert(&mut self, event: &Event) -> bool
         ensures added { OnTrue result (self.new ≡ insert event_before event.now self.old) }
         ensures same { OnFalse result (self.new ≡ self.old) }
@@ -94,7 +94,7 @@ impl Ring {
     }
 
     /// Copies the least event, where there is one, and tells whether there is.
-    #[inline]
+    #[inline(always)]
     pub(crate) fn copy_least(&self, event: &mut Event) -> bool
         ensures some { OnTrue result (Some event.new ≡ slice_get self.now 0) }
         ensures beyond { OnFalse result (slice_get self.now 0 ≡ None) }
@@ -107,7 +107,7 @@ impl Ring {
     }
 
     /// The time of the least event, in ticks, and `u64::MAX` where there is none.
-    #[inline]
+    #[inline(always)]
     pub(crate) fn least_time(&self) -> u64
         ensures { result ≡ first_time self.now }
     {
@@ -134,7 +134,7 @@ impl Ring {
 
     /// Puts the events of the next tick at hand, in order, where those at hand are all taken out, and that tick
     /// is at `latest`, in ticks, at the latest.
-    #[inline]
+    #[inline(always)]
     pub(crate) fn begin_tick(&mut self, latest: u64)
         ensures { self.new ≡ self.old }
     {
@@ -155,7 +155,7 @@ impl Ring {
     }
 
     /// Takes out the least event, where there is one.
-    #[inline]
+    #[inline(always)]
     pub(crate) fn skip_least(&mut self)
         ensures { self.new ≡ drop 1 self.old }
     {
@@ -196,7 +196,7 @@ fn count_all(ticks: &[Tick]) -> usize {
 
 // Gives an empty bucket the memory of another empty one, as that of the tick at hand is: it is still in the
 // nearest caches, and so a run goes through the same memory again and again, and not through 64 buckets' in turn.
-#[inline]
+#[inline(always)]
 fn reuse_memory(buckets: &mut [Tick; 64], from: usize, to: usize)
     requires from { from < 64 }
     requires to { to < 64 }
@@ -211,6 +211,7 @@ fn reuse_memory(buckets: &mut [Tick; 64], from: usize, to: usize)
 }
 
 // The number of the bucket for a time, in ticks.
+#[inline(always)]
 fn slot_of(time: u64) -> usize
     ensures { result ≡ slot_at time }
 {
@@ -218,11 +219,13 @@ fn slot_of(time: u64) -> usize
 }
 
 // Whether an event at `time` has a bucket, where the latest one was at `from`.
+#[inline(always)]
 fn is_near(time: u64, from: u64) -> bool {
     time.saturating_sub(from) <= BUCKETS
 }
 
 // Whether a time is later than a tick, and not the last one, which stands for no event.
+#[inline(always)]
 fn is_later(time: u64, tick: u64) -> bool
     ensures { OnTrue result ((tick < time) × (time < never)) }
 {

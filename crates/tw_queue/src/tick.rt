@@ -45,7 +45,7 @@ impl Tick {
     }
 
     /// How many events there are.
-    #[inline]
+    #[inline(always)]
     pub(crate) fn len(&self) -> usize
         ensures { result ≡ length self.now }
     {
@@ -53,7 +53,7 @@ impl Tick {
     }
 
     /// The time, in ticks, of its events.
-    #[inline]
+    #[inline(always)]
     pub(crate) fn time(&self) -> u64
         ensures { (place : ℕ) → IfSome (slice_get self.now place) (λ e. e.time ≡ result) }
     {
@@ -62,7 +62,7 @@ impl Tick {
 
     /// Puts an update of this time, in ticks, in where all others are of this time too and memory is not
     /// refused, and tells whether it did.
-    #[inline]
+    #[inline(always)]
     pub(crate) fn push(&mut self, time: u64, update: &Update) -> bool
         ensures added { OnTrue result (self.new ≡ self.old ++ event_at time update.now ∷ []) }
         ensures same { OnFalse result (self.new ≡ self.old) }
@@ -78,7 +78,7 @@ impl Tick {
     }
 
     /// Copies the event at a place, where there is one, and tells whether there is.
-    #[inline]
+    #[inline(always)]
     pub(crate) fn copy(&self, place: usize, event: &mut Event) -> bool
         ensures some { OnTrue result (Some event.new ≡ slice_get self.now place) }
         ensures within { OnTrue result (place < length self.now) }

@@ -21,7 +21,7 @@ pub(crate) struct Update {
 
 impl Update {
     /// An event without its time, where it is a path that arrives in a session below 2^32.
-    #[inline]
+    #[inline(always)]
     pub(crate) fn of(event: &Event) -> Option<Update>
         ensures { IfSome result (λ update. event_at event.now.time update ≡ event.now) }
     {
@@ -38,7 +38,7 @@ impl Update {
     }
 
     /// The event that it is at a time, in ticks.
-    #[inline]
+    #[inline(always)]
     pub(crate) fn at(&self, time: u64) -> Event
         ensures { result ≡ event_at time self.now }
     {

@@ -123,7 +123,7 @@ impl<'a> OneThread<'a> {
     }
 
     /// Copies the least pending event, and tells whether it is before the stop.
-    #[inline]
+    #[inline(always)]
     pub(crate) fn copy_next(&self, event: &mut Event) -> bool
         ensures some { OnTrue result (IsNext self.now event.new) }
         ensures none { OnFalse result (NoneBefore self.now.stop self.now.pending) }
@@ -136,7 +136,7 @@ impl<'a> OneThread<'a> {
     }
 
     /// Handles the least pending event. An error leaves the run as it was.
-    #[inline]
+    #[inline(always)]
     pub(crate) fn handle_next(&mut self, event: &Event) -> Result<(), OrMemory<CounterFull>>
         requires { IsNext self.old event.now }
         ensures ok { OnOk result (IsNextRun self.old self.new) }
@@ -162,6 +162,7 @@ impl<'a> OneThread<'a> {
 
     /// Why the least pending event is not handled where there is no memory for that: a full counter, or
     /// want of memory. It leaves the run as it was.
+    #[inline(never)]
     pub(crate) fn fault_at(&mut self, event: &Event) -> OrMemory<CounterFull>
         requires { IsNext self.old event.now }
         ensures same { self.new ≡ self.old }

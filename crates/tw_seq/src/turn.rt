@@ -21,7 +21,7 @@ use tw_router::Router;
 
 /// Handles an event at its router, puts what it sends at the end of `sends`, and answers what undoing it
 /// needs. An error leaves all unchanged.
-#[inline]
+#[inline(always)]
 pub(crate) fn handle_at(
     instance: &Instance,
     routers: &mut [Router<'_>],
@@ -70,7 +70,7 @@ pub(crate) fn undo_at(
 }
 
 /// Adds events for which there is room, each in its place.
-#[inline]
+#[inline(always)]
 pub(crate) fn insert_each(pending: &mut EventList, events: &[Event])
     requires homes { AreFor pending.old.routers events.now }
     requires room { length events.now ≤ pending.old.room }
