@@ -1,6 +1,8 @@
 -- The neighbours whose link is up, one by one.
-use Rattle.std.proofs.Common.{◌≡◌, ℕ, ◌+◌, ◌<◌, List, length, map, get_or, drop, ap₂, ◌∙◌, refl, false}
+use Rattle.std.proofs.Common.{◌≡◌, ℕ, ◌+◌, ◌<◌, ◌≤◌, arith, Bool, List, length, map, get_or, drop, ap₂, ◌∙◌, refl, false}
 use Rattle.std.proofs.lemmas.List.{drop_more, length-map}
+use Rattle.std.proofs.lemmas.List.Sums.{count_by-le-length, length-filter}
+use Rattle.std.proofs.lemmas.Slice.Zip.{length-zip}
 use Rattle.std.proofs.lemmas.List.FromFn.{length-enumerate_from}
 use Rattle.std.specs.List.{enumerate_from, filter, zip}
 use Rattle.tw_event.specs.declared.event.Event.{Event}
@@ -12,6 +14,12 @@ use Rattle.tw_model.specs.Effect.{update_to}
 -- of these neighbours with their rows those whose link is up
 abbrev pub up_pairs : List Hop → List Row → List (Hop × Row)
 up_pairs hops rows = filter (λ p. p.1.up) (zip hops rows)
+
+-- no more than there are rows
+pub length-up_pairs : (hops : List Hop) (rows : List Row) → length (up_pairs hops rows) ≤ length rows
+length-up_pairs hops rows =
+    let up : Hop × Row → Bool = λ p. p.1.up in
+    omega (arith, length-filter up (zip hops rows), count_by-le-length up (zip hops rows), length-zip hops rows)
 
 -- an update to each of them, numbered from n
 abbrev pub updates_to : ℕ → ℕ → PathNo → ℕ → List (Hop × Row) → List Event

@@ -51,7 +51,8 @@ pub(crate) fn count_up(instance: &Instance, router: &Router<'_>) -> u64
         .count() as u64
 }
 
-/// Adds an update of the path to each neighbour whose link is up, numbered from `first`.
+/// Adds an update of the path to each neighbour whose link is up, numbered from `first`. Answers the
+/// number after theirs.
 #[inline(never)]
 pub(crate) fn push_updates(
     instance: &Instance,
@@ -60,12 +61,13 @@ pub(crate) fn push_updates(
     path: PathNo,
     first: u64,
     sends: &mut SmallVec<Event, 8>,
-)
+) -> u64
     requires own { instance.now ≡ router.now.net }
     requires time { time ≤ LATEST }
     requires number { first + length (ups router.now.net router.now.node router.now.state) ≤ MOST_COUNTED }
     requires room { HasRoomFor sends.old (length (ups router.now.net router.now.node router.now.state)) }
-    ensures { sends.new.items
+    ensures next { result ≡ first + length (ups router.now.net router.now.node router.now.state) }
+    ensures sends { sends.new.items
         ≡ sends.old.items ++ updates router.now.net router.now.node time path first router.now.state }
 {
     let news = News {
@@ -83,4 +85,5 @@ pub(crate) fn push_updates(
         sends.push_reserved(news.update(seq, hops[slot], *row));
         seq += 1;
     }
+    seq
 }

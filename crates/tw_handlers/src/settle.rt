@@ -1,7 +1,7 @@
-ghost use Rattle.std.specs.Prelude.{◌≡◌, ◌+◌, ◌≤◌, ◌<◌, ◌==◌, not, length, IfOk};
+ghost use Rattle.std.specs.Prelude.{◌≡◌, ◌+◌, ◌≤◌, ◌<◌, ◌==◌, not, length, nat_lt, IfOk};
 ghost use Rattle.tw_model.specs.Net.{IsPath};
 ghost use Rattle.tw_model.specs.declared.limits.TheConstants.{MOST_COUNTED};
-ghost use Rattle.tw_model.specs.Effect.{settle as settle_of, with_handled, with_row};
+ghost use Rattle.tw_model.specs.Effect.{settle as settle_of, ups, with_handled, with_row};
 ghost use Rattle.tw_handlers.specs.Calls.{CanReact, Reacts, with_count};
 
 use crate::fault::CounterFull;
@@ -32,21 +32,32 @@ pub(crate) fn settle(
         count_handled(router);
         return Ok(false);
     }
-    let counters = router.counters();
-    let count = count_up(instance, router);
-    if counters.sent + count > MOST_COUNTED {
+    if sends_too_many(instance, router) {
         return Err(OrMemory::Fault(CounterFull));
     }
-    sends.reserve(count as usize)?;
-    push_updates(instance, router, time, best, counters.sent, sends);
+    let counters = router.counters();
+    sends.reserve(router.rows().len())?;
+    let sent = push_updates(instance, router, time, best, counters.sent, sends);
     router.set_rib(best);
     router.set_counters(Counters {
-        sent: counters.sent + count,
+        sent,
         handled: counters.handled + 1,
         dropped: counters.dropped,
         changed: counters.changed + 1,
     });
     Ok(true)
+}
+
+/// Whether an update to each neighbour whose link is up is more than can be counted as sent.
+#[inline(always)]
+fn sends_too_many(instance: &Instance, router: &Router<'_>) -> bool
+    requires { instance.now ≡ router.now.net }
+    ensures { result ≡ nat_lt MOST_COUNTED (router.now.state.counters.sent + length (ups router.now.net router.now.node router.now.state)) }
+{
+    let sent = router.counters().sent;
+    // Links are counted where it depends on how many are up.
+    sent + router.rows().len() as u64 > MOST_COUNTED
+        && sent + count_up(instance, router) > MOST_COUNTED
 }
 
 /// Writes the row of a slot and settles. After an error the row is as it was.

@@ -99,7 +99,7 @@ fn send_settled(
     let count = count_up(instance, router);
     sends.reserve(count as usize)?;
     let first = router.counters().sent.saturating_sub(count);
-    push_updates(instance, router, event.time, router.rib(), first, sends);
+    let _ = push_updates(instance, router, event.time, router.rib(), first, sends);
     Ok(())
 }
 

@@ -21,9 +21,13 @@ pub record IsTable {X Z : Type 0} (table : List (Vec X Z)) (nodes : ℕ) (F : �
   pub long : length table ≡ nodes
   pub rows : (v : ℕ) → row table v ≡ F v
 
+-- the hash of nodes and one more behind them, given that of those nodes
+abbrev pub with_node : ℕ → ℕ → ℕ
+with_node h v = (h * MULTIPLIER + v) % 2 ^ 32
+
 -- a polynomial hash of nodes by Horner's rule, as of Java's strings, with the multiplier of CPython's string hash
 unfoldable pub hash : List ℕ → ℕ
-hash nodes = fold (λ h v. (h * MULTIPLIER + v) % 2 ^ 32) 0 nodes
+hash nodes = fold with_node 0 nodes
 
 -- the hash of a path without its first node
 abbrev pub tail_hash : Net → PathNo → ℕ

@@ -1,8 +1,8 @@
 //! Tables by router: a row for each, of neighbours, of path numbers, of hashes of paths.
 
-ghost use Rattle.std.specs.Prelude.{◌≡◌, ◌≢◌, ◌<◌, ◌≤◌, ◌-◌, ◌+◌, ◌*◌, ◌%◌, ◌^◌, [], ◌∷◌, length, replicate, nat_lt, IfOk, OnErr, OnOk, vec_len, vec_capacity};
+ghost use Rattle.std.specs.Prelude.{◌≡◌, ◌≢◌, ◌<◌, ◌≤◌, ◌-◌, [], ◌∷◌, length, replicate, nat_lt, IfOk, OnErr, OnOk, vec_len, vec_capacity};
 ghost use Rattle.std.specs.List.{prefix_len};
-ghost use Rattle.tw_instance.specs.Tables.{hash, items, push_at, row, with_hop, with_link};
+ghost use Rattle.tw_instance.specs.Tables.{hash, items, push_at, row, with_hop, with_link, with_node};
 
 use std::alloc::{AllocError, Global};
 use tw_event::PathNo;
@@ -10,6 +10,10 @@ use tw_model::{Hop, Link};
 
 /// The multiplier of a hash of nodes, as in CPython's hash of strings.
 const MULTIPLIER: u32 = 1_000_003;
+
+/// Its second and fourth power, modulo 2^32.
+const SECOND_POWER: u32 = 3_573_587_337;
+const FOURTH_POWER: u32 = 1_525_764_945;
 
 /// The row of a router, empty where there is no such router.
 pub fn row_of<T>(rows: &[Vec<T>], node: u32) -> &[T]
@@ -120,11 +124,27 @@ pub fn push_path(
 pub fn hash_of(nodes: &[u32]) -> u32
     ensures { result ≡ hash nodes.now }
 {
-    nodes.iter().fold(0, |hash, node| next_hash(hash, *node))
+    let mut hash = 0;
+    let mut rest = nodes;
+    // A multiplication waits for the one before it, so four nodes share one.
+    while let [first, second, third, fourth, others @ ..] = rest {
+        hash = next_four(hash, *first, *second, *third, *fourth);
+        rest = others;
+    }
+    rest.iter().fold(hash, |hash, node| next_hash(hash, *node))
 }
 
 fn next_hash(hash: u32, node: u32) -> u32
-    ensures { result ≡ (hash * MULTIPLIER + node) % 2 ^ 32 }
+    ensures { result ≡ with_node hash node }
 {
     hash.wrapping_mul(MULTIPLIER).wrapping_add(node)
+}
+
+fn next_four(hash: u32, first: u32, second: u32, third: u32, fourth: u32) -> u32
+    ensures { result ≡ with_node (with_node (with_node (with_node hash first) second) third) fourth }
+{
+    let front = next_hash(first, second).wrapping_mul(SECOND_POWER);
+    let back = next_hash(third, fourth);
+    hash.wrapping_mul(FOURTH_POWER)
+        .wrapping_add(front.wrapping_add(back))
 }

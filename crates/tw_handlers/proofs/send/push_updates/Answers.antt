@@ -1,6 +1,5 @@
-use Rattle.std.proofs.Common.{◌≡◌, ◌+◌, ◌++◌, ◌≤◌, ◌<◌, List, length, ap, ap₂, sym, ◌∙◌, subst, arith}
+use Rattle.std.proofs.Common.{◌≡◌, ◌+◌, ◌++◌, ◌<◌, List, length, ap, ap₂, sym, ◌∙◌, subst, arith}
 use Rattle.smallvec.specs.SmallVec.{HasRoomFor}
-use Rattle.tw_model.specs.declared.limits.TheConstants.{MOST_COUNTED}
 use Rattle.tw_model.specs.declared.net.Hop.{Hop}
 use Rattle.tw_model.specs.declared.state.Row.{Row}
 use Rattle.tw_model.specs.Net.{hops_of}
@@ -21,6 +20,6 @@ loop-slot-preserved-then-not-row c =
     let P : List (Hop × Row) → Type 0 = λ pairs.
     (c.loop-slot.sends.items ++ updates_to src c.args.time c.args.path c.loop-slot.seq pairs
     ≡ c.args.sends.now.items ++ updates_to src c.args.time c.args.path c.args.first (up_pairs c.hops-hops.result.now c.rows-rows.result.now))
-    × (c.loop-slot.seq + length pairs ≤ MOST_COUNTED)
+    × (c.loop-slot.seq + length pairs ≡ c.args.first + length (up_pairs c.hops-hops.result.now c.rows-rows.result.now))
     × HasRoomFor c.loop-slot.sends (length pairs) in
     subst P (up_pairs-skip c.hops-hops.result.now c.rows-rows.result.now c.loop-slot.slot no_hop _ in_hops in_rows c.if-not-row.true) c.loop-slot.invariant

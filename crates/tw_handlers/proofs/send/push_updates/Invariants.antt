@@ -1,6 +1,5 @@
-use Rattle.std.proofs.Common.{◌≡◌, ◌+◌, ◌++◌, ◌≤◌, drop, length}
+use Rattle.std.proofs.Common.{◌≡◌, ◌+◌, ◌++◌, drop, length}
 use Rattle.smallvec.specs.SmallVec.{HasRoomFor}
-use Rattle.tw_model.specs.declared.limits.TheConstants.{MOST_COUNTED}
 use Rattle.tw_handlers.proofs.Pairs.{up_pairs, updates_to}
 use Rattle.tw_handlers.proofs.send.push_updates.Given as goal
 
@@ -9,5 +8,5 @@ invariant-loop-slot l =
     let pairs = up_pairs (drop l.slot l.hops) (drop l.slot l.rows) in
     (l.sends.items ++ updates_to l.news.src l.news.time l.news.path l.seq pairs
     ≡ l.initial.sends.items ++ updates_to l.news.src l.news.time l.news.path l.first (up_pairs l.hops l.rows))
-    × (l.seq + length pairs ≤ MOST_COUNTED)
+    × (l.seq + length pairs ≡ l.first + length (up_pairs l.hops l.rows))
     × HasRoomFor l.sends (length pairs)
