@@ -11,8 +11,10 @@ use tw_model::{Hop, Link};
 /// The multiplier of a hash of nodes, as in CPython's hash of strings.
 const MULTIPLIER: u32 = 1_000_003;
 
-/// Its second and fourth power, modulo 2^32.
+/// Its square, modulo 2^32.
 const SECOND_POWER: u32 = 3_573_587_337;
+
+/// Its fourth power, modulo 2^32.
 const FOURTH_POWER: u32 = 1_525_764_945;
 
 /// The row of a router, empty where there is no such router.

@@ -9,7 +9,7 @@ ghost use Rattle.tw_seq.specs.Run.{IsBegun, IsNext, IsNextRun, IsStuck, NoneBefo
 
 use crate::routers::{gather, opening_routers, router_ends};
 use crate::running::Running;
-use crate::turn::{handle_at, insert_each, opening_queue, undo_at};
+use crate::turn::{handle_at, move_each, opening_queue, undo_at};
 use smallvec::SmallVec;
 use std::alloc::{AllocError, Global};
 use std::marker::Model;
@@ -151,9 +151,8 @@ impl<'a> OneThread<'a> {
         let instance = self.case.instance();
         let note = handle_at(instance, &mut self.routers, event, &mut self.sends)?;
         self.pending.skip_least();
-        insert_each(&mut self.pending, &self.sends);
+        move_each(&mut self.pending, &mut self.sends);
         self.pending.begin_tick();
-        self.sends.clear();
         if note.changed {
             self.last_change = event.time;
         }

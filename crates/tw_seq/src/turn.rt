@@ -82,6 +82,23 @@ pub(crate) fn insert_each(pending: &mut EventList, events: &[Event])
     }
 }
 
+/// Takes events for which there is room out of `sends`, and adds each in its place.
+#[inline(always)]
+pub(crate) fn move_each(pending: &mut EventList, sends: &mut SmallVec<Event, 8>)
+    requires homes { AreFor pending.old.routers sends.old.items }
+    requires room { length sends.old.items ≤ pending.old.room }
+    ensures events { pending.new.events ≡ insert_all event_before sends.old.items pending.old.events }
+    ensures routers { pending.new.routers ≡ pending.old.routers }
+    ensures sends { sends.new.items ≡ [] }
+{
+    // Most events lead to no other.
+    if sends.is_empty() {
+        return;
+    }
+    insert_each(pending, sends);
+    sends.clear();
+}
+
 /// The opening events of a case.
 pub(crate) fn opening_queue(alloc: Global, case: &Case) -> Result<EventList, AllocError>
     ensures events { IfOk result

@@ -12,7 +12,7 @@ use Rattle.tw_seq.specs.Turn.{receiver}
 use Rattle.tw_seq.proofs.Fields.{IsRenewed, from_empty, other_items, renewed_next, renewed_thread}
 use Rattle.tw_seq.proofs.Next.{IsReady, next_few, next_fits, next_full, next_homes, next_net, next_stuck, next_within}
 use Rattle.tw_seq.proofs.one_thread.OneThread.handle_next.Goals as goal
-use Rattle.tw_seq.proofs.one_thread.OneThread.handle_next.Goals.{After-deref_mut, After-deref, After-clear}
+use Rattle.tw_seq.proofs.one_thread.OneThread.handle_next.Goals.{After-deref_mut, After-skip_least, After-begin_tick}
 
 -- the event is the next one of the run
 ready : (c : After-deref_mut) → IsReady (run_of c.self.inside) c.deref_mut.result.now c.args.event.now
@@ -46,32 +46,32 @@ returns-in_err-note-clause-stuck c = λ stuck.
     let told = c.in_err-note.ensures.full.1 full in
     let is_full : p.0 ≡ Fault counter_full = cc (p.2, told) in p.1 ∙ ap (λ x. Err x) is_full
 
-sends_are : (c : After-deref) → c.deref.result.now ≡ (effect_at (receiver c.deref_mut.result.now c.args.event.now) c.args.event.now).sends
-sends_are c = c.deref.ensures ∙ from_empty _ _ _ c.in_ok-note.ensures.sends c.self.invariant.sent
+sends_are : (c : After-skip_least) → c.handle_at.new.sends.items ≡ (effect_at (receiver c.deref_mut.result.now c.args.event.now) c.args.event.now).sends
+sends_are c = from_empty _ _ _ c.in_ok-note.ensures.sends c.self.invariant.sent
 
-pub insert_each-requires-clause-homes : goal.insert_each-requires-clause-homes
-insert_each-requires-clause-homes c =
-    next_homes (ready (goal.at.insert_each-requires-clause-homes c).After-deref_mut) c.deref.result.now c.skip_least.new.self.routers
-    (sends_are (goal.at.insert_each-requires-clause-homes c).After-deref)
+pub move_each-requires-clause-homes : goal.move_each-requires-clause-homes
+move_each-requires-clause-homes c =
+    next_homes (ready (goal.at.move_each-requires-clause-homes c).After-deref_mut) c.handle_at.new.sends.items c.skip_least.new.self.routers
+    (sends_are (goal.at.move_each-requires-clause-homes c).After-skip_least)
     (c.skip_least.ensures.routers ∙ (c.reserve.ensures.routers ∙ c.self.invariant.homes))
 
-pub insert_each-requires-clause-room : goal.insert_each-requires-clause-room
-insert_each-requires-clause-room c =
-    let few = next_few (ready (goal.at.insert_each-requires-clause-room c).After-deref_mut) c.deref.result.now (sends_are (goal.at.insert_each-requires-clause-room c).After-deref) in
+pub move_each-requires-clause-room : goal.move_each-requires-clause-room
+move_each-requires-clause-room c =
+    let few = next_few (ready (goal.at.move_each-requires-clause-room c).After-deref_mut) c.handle_at.new.sends.items (sends_are (goal.at.move_each-requires-clause-room c).After-skip_least) in
     omega (arith, c.in-Ok.ensures.ok, c.skip_least.ensures.room)
 
 -- the fields of the run afterwards
-abbrev fields : After-clear → ℕ → Inside
+abbrev fields : After-begin_tick → ℕ → Inside
 fields c t = record {
   case = c.self.inside.case;
   stop = c.self.inside.stop;
   routers = with_items c.self.inside.routers c.handle_at.new.routers;
   pending = c.begin_tick.new.self;
-  sends = c.clear.new.self;
+  sends = c.move_each.new.sends;
   last_change = t;
 }
 
-renewed : (c : After-clear) (t : ℕ) → t ≡ (if c.in_ok-note.note.changed then c.args.event.now.time else c.self.inside.last_change)
+renewed : (c : After-begin_tick) (t : ℕ) → t ≡ (if c.in_ok-note.note.changed then c.args.event.now.time else c.self.inside.last_change)
     → IsRenewed c.self.inside (fields c t) c.args.event.now c.deref_mut.result.now c.in_ok-note.note.changed
 renewed c t is =
     let sends = from_empty _ _ _ c.in_ok-note.ensures.sends c.self.invariant.sent in
@@ -80,46 +80,46 @@ renewed c t is =
       case = refl;
       stop = refl;
       routers = other_items c.self.inside.routers.len c.handle_at.new.routers _ (c.handle_at.auto.routers ∙ c.deref_mut.ensures.len) ∙ c.in_ok-note.ensures.routers;
-      homes = ap (λ q. q.routers) c.begin_tick.ensures ∙ c.insert_each.ensures.routers ∙ (c.skip_least.ensures.routers ∙ c.reserve.ensures.routers);
+      homes = ap (λ q. q.routers) c.begin_tick.ensures ∙ c.move_each.ensures.routers ∙ (c.skip_least.ensures.routers ∙ c.reserve.ensures.routers);
       pending =
-          ap (λ q. q.events) c.begin_tick.ensures ∙ c.insert_each.ensures.events
-          ∙ (ap (λ xs. insert_all event_before xs c.skip_least.new.self.events) (c.deref.ensures ∙ sends)
+          ap (λ q. q.events) c.begin_tick.ensures ∙ c.move_each.ensures.events
+          ∙ (ap (λ xs. insert_all event_before xs c.skip_least.new.self.events) sends
           ∙ ap (insert_all event_before sent) (c.skip_least.ensures.events ∙ ap (drop 1) c.reserve.ensures.events));
-      sent = c.clear.ensures.items;
+      sent = c.move_each.ensures.sends;
       is_change = c.in_ok-note.ensures.changed;
       change = is;
     }
 
 pub invariant_of-self-then-note : goal.invariant_of-self-then-note
 invariant_of-self-then-note c =
-    let d = (goal.at.invariant_of-self-then-note c).After-clear in
+    let d = (goal.at.invariant_of-self-then-note c).After-begin_tick in
     renewed_thread c.self.invariant (ready (goal.at.invariant_of-self-then-note c).After-deref_mut) (renewed d c.args.event.now.time (rw c.if-note.true))
 
 pub invariant_of-self-else-note : goal.invariant_of-self-else-note
 invariant_of-self-else-note c =
-    let d = (goal.at.invariant_of-self-else-note c).After-clear in
+    let d = (goal.at.invariant_of-self-else-note c).After-begin_tick in
     renewed_thread c.self.invariant (ready (goal.at.invariant_of-self-else-note c).After-deref_mut) (renewed d c.self.inside.last_change (rw c.if-note.false))
 
 pub returns-then-note-clause-ok : goal.returns-then-note-clause-ok
 returns-then-note-clause-ok c =
-    let d = (goal.at.returns-then-note-clause-ok c).After-clear in
+    let d = (goal.at.returns-then-note-clause-ok c).After-begin_tick in
     subst (λ run. IsNextRun run (run_of (fields d c.args.event.now.time))) c.self.view_is
     (renewed_next c.self.invariant (ready (goal.at.returns-then-note-clause-ok c).After-deref_mut) (renewed d c.args.event.now.time (rw c.if-note.true)))
 
 pub returns-else-note-clause-ok : goal.returns-else-note-clause-ok
 returns-else-note-clause-ok c =
-    let d = (goal.at.returns-else-note-clause-ok c).After-clear in
+    let d = (goal.at.returns-else-note-clause-ok c).After-begin_tick in
     subst (λ run. IsNextRun run (run_of (fields d c.self.inside.last_change))) c.self.view_is
     (renewed_next c.self.invariant (ready (goal.at.returns-else-note-clause-ok c).After-deref_mut) (renewed d c.self.inside.last_change (rw c.if-note.false)))
 
 pub returns-then-note-clause-begun : goal.returns-then-note-clause-begun
 returns-then-note-clause-begun c =
-    let d = (goal.at.returns-then-note-clause-begun c).After-clear in
+    let d = (goal.at.returns-then-note-clause-begun c).After-begin_tick in
     (renewed_thread c.self.invariant (ready (goal.at.returns-then-note-clause-begun c).After-deref_mut) (renewed d c.args.event.now.time (rw c.if-note.true))).begun
 
 pub returns-else-note-clause-begun : goal.returns-else-note-clause-begun
 returns-else-note-clause-begun c =
-    let d = (goal.at.returns-else-note-clause-begun c).After-clear in
+    let d = (goal.at.returns-else-note-clause-begun c).After-begin_tick in
     (renewed_thread c.self.invariant (ready (goal.at.returns-else-note-clause-begun c).After-deref_mut) (renewed d c.self.inside.last_change (rw c.if-note.false))).begun
 
 pub returns-then-note-clause-stuck : goal.returns-then-note-clause-stuck
