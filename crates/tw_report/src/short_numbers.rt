@@ -1,4 +1,4 @@
-//! Numbers of at most four digits, as most numbers of events are, written onto a page.
+//! Numbers of at most eight digits, as most numbers of events are, written onto a page.
 
 ghost use Rattle.std.specs.Prelude.{◌≡◌, ◌+◌, ◌/◌, ◌%◌, ◌<◌, ◌≤◌, [], ◌∷◌, ◌++◌, length, take};
 ghost use Rattle.std.specs.Fmt.{decimal};
@@ -18,6 +18,22 @@ pub fn spell_short(page: &mut [u8; PAGE], at: usize, number: u64) -> usize
     let end = spell_first(page, at, number / 100);
     spell_pair(page, end, number % 100);
     end + 2
+}
+
+/// Writes a number of five to eight digits in decimal.
+#[inline(never)]
+pub fn spell_middling(page: &mut [u8; PAGE], at: usize, number: u64) -> usize
+    requires least { 10000 ≤ number }
+    requires number { number < 100000000 }
+    requires room { at + 8 ≤ length page.old }
+    ensures end { result ≤ at + 8 }
+    ensures text { take result page.new ≡ take at page.old ++ decimal number }
+{
+    let last_four = number % 10_000;
+    let end = spell_short(page, at, number / 10_000);
+    spell_pair(page, end, last_four / 100);
+    spell_pair(page, end + 2, last_four % 100);
+    end + 4
 }
 
 /// Writes a number below 100 in decimal.

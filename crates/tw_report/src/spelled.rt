@@ -7,7 +7,7 @@ ghost use Rattle.std.specs.Fmt.{decimal};
 ghost use Rattle.std.specs.List.{flat_map};
 ghost use Rattle.tw_report.specs.Words.{path_text, with_spaces, spaced_number};
 
-use crate::short_numbers::spell_short;
+use crate::short_numbers::{spell_middling, spell_short};
 use itoa::Buffer;
 
 /// How many bytes a page has.
@@ -32,9 +32,21 @@ pub fn spell_number(page: &mut [u8; PAGE], at: usize, number: u64) -> usize
 {
     if number < 10_000 {
         spell_short(page, at, number)
+    } else if number < 100_000_000 {
+        spell_middling(page, at, number)
     } else {
-        spell(page, at, Buffer::new().format(number).as_bytes())
+        spell_long(page, at, number)
     }
+}
+
+/// Writes a number of any length in decimal. It is apart, so that the short ones need no buffer.
+#[inline(never)]
+fn spell_long(page: &mut [u8; PAGE], at: usize, number: u64) -> usize
+    requires room { at + 20 ≤ length page.old }
+    ensures end { result ≤ at + 20 }
+    ensures text { take result page.new ≡ take at page.old ++ decimal number }
+{
+    spell(page, at, Buffer::new().format(number).as_bytes())
 }
 
 /// Writes a space and a number.
