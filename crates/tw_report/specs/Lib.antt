@@ -3,3 +3,4 @@ pub mod Lines
 pub mod Pieces
 pub mod Report
 pub mod ReplayText
+pub mod Numerals

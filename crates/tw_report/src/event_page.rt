@@ -9,6 +9,7 @@ ghost use Rattle.tw_report.specs.Report.{event_lines};
 ghost use Rattle.tw_report.specs.Words.{line};
 
 use crate::lines::put_event;
+use crate::numerals::Numerals;
 use crate::spelled::{PAGE, spell, spell_next, spell_number, spell_path};
 use tw_device::{Failed, Sink, put_all};
 use tw_event::{Body, Event};
@@ -29,10 +30,11 @@ pub(crate) fn put_events<S: Sink>(
     ensures { Puts result (S.written sink.old) (S.written sink.new) (S.failed sink.new) (event_lines instance.now events.now) }
 {
     let mut page = [0; PAGE];
+    let numerals = Numerals::new(&mut page);
     let mut rest = events;
     while let [first, more @ ..] = rest {
         put_event(sink, instance, first)?;
-        let (count, end) = fill_page(&mut page, instance, more);
+        let (count, end) = fill_page(&mut page, &numerals, instance, more);
         put_all(sink, &page[..end])?;
         rest = more.split_at(count).1;
     }
@@ -45,7 +47,12 @@ const LINE: usize = 13 + 5 * 21 + 2 + 21 * MOST_NODES + 1;
 
 /// Writes the lines of events onto a page, until one might not fit. Answers how many events these are,
 /// and where the last line ends.
-fn fill_page(page: &mut [u8; PAGE], instance: &Instance, events: &[Event]) -> (usize, usize)
+fn fill_page(
+    page: &mut [u8; PAGE],
+    numerals: &Numerals,
+    instance: &Instance,
+    events: &[Event],
+) -> (usize, usize)
     requires paths { All (λ e. NamesPath instance.now e.body) events.now }
     ensures count { result.0 ≤ length events.now }
     ensures end { result.1 ≤ length page.new }
@@ -56,7 +63,7 @@ fn fill_page(page: &mut [u8; PAGE], instance: &Instance, events: &[Event]) -> (u
         if end > PAGE - LINE || !is_short(instance, event) {
             return (count, end);
         }
-        end = spell_event(page, end, instance, event);
+        end = spell_event(page, end, numerals, instance, event);
     }
     (events.len(), end)
 }
@@ -73,59 +80,79 @@ fn is_short(instance: &Instance, event: &Event) -> bool
 }
 
 /// Writes the line of an event.
-fn spell_event(page: &mut [u8; PAGE], at: usize, instance: &Instance, event: &Event) -> usize
+fn spell_event(
+    page: &mut [u8; PAGE],
+    at: usize,
+    numerals: &Numerals,
+    instance: &Instance,
+    event: &Event,
+) -> usize
     requires path { NamesPath instance.now event.now.body }
     requires short { length (shown_path instance.now event.now.body) ≤ 32 }
     requires room { at + 793 ≤ length page.old }
     ensures end { result ≤ at + 793 }
     ensures text { take result page.new ≡ take at page.old ++ line (event_words instance.now event.now) }
 {
-    let end = spell_head(page, at, event);
+    let end = spell_head(page, at, numerals, event);
     match event.body {
         Body::Start => spell(page, end, b" start\n"),
-        Body::Fail(peer) => spell_link(page, end, b" fail", peer, event.seq),
-        Body::Restore(peer) => spell_link(page, end, b" restore", peer, event.seq),
-        Body::Swap(i, j) => spell_swap(page, end, event.seq, i, j),
+        Body::Fail(peer) => spell_link(page, end, numerals, b" fail", peer, event.seq),
+        Body::Restore(peer) => spell_link(page, end, numerals, b" restore", peer, event.seq),
+        Body::Swap(i, j) => spell_swap(page, end, numerals, event.seq, i, j),
         Body::Update { path, session } => {
-            spell_update(page, end, event, session, instance.path(path))
+            spell_update(page, end, numerals, event, session, instance.path(path))
         }
     }
 }
 
 /// Writes `event`, its time and its receiver.
-fn spell_head(page: &mut [u8; PAGE], at: usize, event: &Event) -> usize
+fn spell_head(page: &mut [u8; PAGE], at: usize, numerals: &Numerals, event: &Event) -> usize
     requires room { at + 47 ≤ length page.old }
     ensures end { result ≤ at + 47 }
     ensures text { take result page.new ≡ take at page.old ++ head_text event.now }
 {
     let named = spell(page, at, b"event ");
     let timed = spell_number(page, named, event.time);
-    spell_next(page, timed, u64::from(event.dst))
+    spell_next(page, timed, numerals, u64::from(event.dst))
 }
 
 /// Writes the rest of the line of a failure or a repair, which this name tells.
-fn spell_link(page: &mut [u8; PAGE], at: usize, name: &[u8], peer: u32, seq: u64) -> usize
+fn spell_link(
+    page: &mut [u8; PAGE],
+    at: usize,
+    numerals: &Numerals,
+    name: &[u8],
+    peer: u32,
+    seq: u64,
+) -> usize
     requires name { length name.now ≤ 8 }
     requires room { at + 51 ≤ length page.old }
     ensures end { result ≤ at + 51 }
     ensures text { take result page.new ≡ take at page.old ++ link_text name.now peer seq }
 {
     let named = spell(page, at, name);
-    let told = spell_next(page, named, u64::from(peer));
-    let numbered = spell_next(page, told, seq);
+    let told = spell_next(page, named, numerals, u64::from(peer));
+    let numbered = spell_next(page, told, numerals, seq);
     spell(page, numbered, b"\n")
 }
 
 /// Writes the rest of the line of an exchange of ranks.
-fn spell_swap(page: &mut [u8; PAGE], at: usize, seq: u64, i: u32, j: u32) -> usize
+fn spell_swap(
+    page: &mut [u8; PAGE],
+    at: usize,
+    numerals: &Numerals,
+    seq: u64,
+    i: u32,
+    j: u32,
+) -> usize
     requires room { at + 69 ≤ length page.old }
     ensures end { result ≤ at + 69 }
     ensures text { take result page.new ≡ take at page.old ++ swap_text seq i j }
 {
     let named = spell(page, at, b" swap");
-    let numbered = spell_next(page, named, seq);
-    let first = spell_next(page, numbered, u64::from(i));
-    let second = spell_next(page, first, u64::from(j));
+    let numbered = spell_next(page, named, numerals, seq);
+    let first = spell_next(page, numbered, numerals, u64::from(i));
+    let second = spell_next(page, first, numerals, u64::from(j));
     spell(page, second, b"\n")
 }
 
@@ -133,6 +160,7 @@ fn spell_swap(page: &mut [u8; PAGE], at: usize, seq: u64, i: u32, j: u32) -> usi
 fn spell_update(
     page: &mut [u8; PAGE],
     at: usize,
+    numerals: &Numerals,
     event: &Event,
     session: u64,
     nodes: &[u32],
@@ -143,10 +171,10 @@ fn spell_update(
     ensures text { take result page.new ≡ take at page.old ++ update_text event.now session nodes.now }
 {
     let named = spell(page, at, b" update");
-    let sent = spell_next(page, named, u64::from(event.src));
-    let numbered = spell_next(page, sent, event.seq);
-    let dated = spell_next(page, numbered, session);
+    let sent = spell_next(page, named, numerals, u64::from(event.src));
+    let numbered = spell_next(page, sent, numerals, event.seq);
+    let dated = spell_next(page, numbered, numerals, session);
     let parted = spell(page, dated, b" ");
-    let shown = spell_path(page, parted, nodes);
+    let shown = spell_path(page, parted, numerals, nodes);
     spell(page, shown, b"\n")
 }

@@ -10,6 +10,7 @@
 mod event_page;
 mod gathering;
 mod lines;
+mod numerals;
 mod replay;
 mod report;
 mod short_numbers;

@@ -22,7 +22,7 @@ pub fn spell_short(page: &mut [u8; PAGE], at: usize, number: u64) -> usize
 
 /// Writes a number of five to eight digits in decimal.
 #[inline(never)]
-pub fn spell_middling(page: &mut [u8; PAGE], at: usize, number: u64) -> usize
+pub fn spell_up_to_eight(page: &mut [u8; PAGE], at: usize, number: u64) -> usize
     requires least { 10000 ≤ number }
     requires number { number < 100000000 }
     requires room { at + 8 ≤ length page.old }

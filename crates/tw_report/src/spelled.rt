@@ -7,13 +7,15 @@ ghost use Rattle.std.specs.Fmt.{decimal};
 ghost use Rattle.std.specs.List.{flat_map};
 ghost use Rattle.tw_report.specs.Words.{path_text, with_spaces, spaced_number};
 
-use crate::short_numbers::{spell_middling, spell_short};
+use crate::numerals::Numerals;
+use crate::short_numbers::{spell_short, spell_up_to_eight};
 use itoa::Buffer;
 
-/// How many bytes a page has.
-pub const PAGE: usize = 8_192;
+/// How many bytes a page has: enough that few calls of the system write a long report.
+pub const PAGE: usize = 65_536;
 
 /// Writes these bytes.
+#[inline(always)]
 pub fn spell(page: &mut [u8; PAGE], at: usize, text: &[u8]) -> usize
     requires room { at + length text.now ≤ length page.old }
     ensures end { result ≡ at + length text.now }
@@ -33,7 +35,7 @@ pub fn spell_number(page: &mut [u8; PAGE], at: usize, number: u64) -> usize
     if number < 10_000 {
         spell_short(page, at, number)
     } else if number < 100_000_000 {
-        spell_middling(page, at, number)
+        spell_up_to_eight(page, at, number)
     } else {
         spell_long(page, at, number)
     }
@@ -50,29 +52,30 @@ fn spell_long(page: &mut [u8; PAGE], at: usize, number: u64) -> usize
 }
 
 /// Writes a space and a number.
-pub fn spell_next(page: &mut [u8; PAGE], at: usize, number: u64) -> usize
+#[inline(always)]
+pub fn spell_next(page: &mut [u8; PAGE], at: usize, numerals: &Numerals, number: u64) -> usize
     requires room { at + 21 ≤ length page.old }
     ensures end { result ≤ at + 21 }
     ensures text { take result page.new ≡ take at page.old ++ spaced_number number }
 {
     page[at] = b' ';
-    spell_number(page, at + 1, number)
+    numerals.spell(page, at + 1, number)
 }
 
 /// Writes a path in parentheses.
-pub fn spell_path(page: &mut [u8; PAGE], at: usize, nodes: &[u32]) -> usize
+pub fn spell_path(page: &mut [u8; PAGE], at: usize, numerals: &Numerals, nodes: &[u32]) -> usize
     requires room { at + 2 + 21 * length nodes.now ≤ length page.old }
     ensures end { result ≤ at + 2 + 21 * length nodes.now }
     ensures text { take result page.new ≡ take at page.old ++ path_text nodes.now }
 {
     page[at] = b'(';
-    let end = spell_nodes(page, at + 1, nodes);
+    let end = spell_nodes(page, at + 1, numerals, nodes);
     page[end] = b')';
     end + 1
 }
 
 /// Writes numbers with a space between each two.
-fn spell_nodes(page: &mut [u8; PAGE], at: usize, nodes: &[u32]) -> usize
+fn spell_nodes(page: &mut [u8; PAGE], at: usize, numerals: &Numerals, nodes: &[u32]) -> usize
     requires room { at + 21 * length nodes.now ≤ length page.old }
     ensures end { result ≤ at + 21 * length nodes.now }
     ensures text { take result page.new ≡ take at page.old ++ with_spaces (map decimal nodes.now) }
@@ -80,19 +83,19 @@ fn spell_nodes(page: &mut [u8; PAGE], at: usize, nodes: &[u32]) -> usize
     let [first, more @ ..] = nodes else {
         return at;
     };
-    let end = spell_number(page, at, u64::from(*first));
-    spell_more_nodes(page, end, more)
+    let end = numerals.spell(page, at, u64::from(*first));
+    spell_more_nodes(page, end, numerals, more)
 }
 
 /// Writes each number with a space before it.
-fn spell_more_nodes(page: &mut [u8; PAGE], at: usize, nodes: &[u32]) -> usize
+fn spell_more_nodes(page: &mut [u8; PAGE], at: usize, numerals: &Numerals, nodes: &[u32]) -> usize
     requires room { at + 21 * length nodes.now ≤ length page.old }
     ensures end { result ≤ at + 21 * length nodes.now }
     ensures text { take result page.new ≡ take at page.old ++ flat_map spaced_number nodes.now }
 {
     let mut end = at;
     for node in nodes {
-        end = spell_next(page, end, u64::from(*node));
+        end = spell_next(page, end, numerals, u64::from(*node));
     }
     end
 }

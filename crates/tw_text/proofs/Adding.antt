@@ -1,5 +1,5 @@
 -- An item that was added is the one that was read; one that was refused breaks the rule that was named.
-use Rattle.std.proofs.Common.{◌≡◌, ◌↔◌, ◌^◌, ◌≤◌, ◌<◌, ℕ, nat_lt, Bool, true, false, ◌&&◌, List, [], ◌∷◌, ◌++◌, get_or}
+use Rattle.std.proofs.Common.{◌≡◌, ◌↔◌, ◌^◌, ◌≤◌, ◌<◌, ℕ, nat_lt, Bool, true, false, ◌&&◌, List, [], ◌∷◌, get_or}
 use Rattle.std.proofs.Common.{length, Option, Some, None, Result, Ok, Err, refl, ap₂, subst, ap, sym, ◌∙◌, inl, inr, arith}
 use Rattle.std.proofs.lemmas.Bool.{and_parts, cases_Bool, not-false}
 use Rattle.std.proofs.lemmas.Bool.Decides.{nat_tests}
@@ -16,7 +16,7 @@ use Rattle.tw_model.specs.declared.rule.Rule.TheVariants.{NoSuchPlace, Range}
 use Rattle.tw_model.specs.Case.{Case, IsCase}
 use Rattle.tw_model.specs.Memory.{IsUnlessMemory, map_fault}
 use Rattle.tw_model.specs.Net.{Net, paths_of}
-use Rattle.tw_model.specs.Rules.{has_place, is_within, link_fault, path_fault, scene_breaks, scene_fault}
+use Rattle.tw_model.specs.Rules.{has_place, is_within, link_fault, scene_breaks, scene_fault}
 use Rattle.tw_text.specs.declared.draft.Draft.{Draft}
 use Rattle.tw_text.specs.declared.draft.Draft.TheVariants.{Start, Header, Links, Paths, Scenes, Done}
 use Rattle.tw_text.specs.declared.keyword.Keyword.{Keyword}
@@ -61,17 +61,10 @@ pub link_refused : {A : Type 0} (result : Result A (OrMemory Rule)) (e : OrMemor
 link_refused result e f net a b delay k l first second is same h =
     rw (← node_is net a k first, ← node_is net b l second) (refused result e f (link_fault net (record { first = k; second = l; delay = delay })) _ is same h)
 
-pub path_refused : {A : Type 0} (result : Result A (OrMemory Rule)) (e : OrMemory Rule) (f : OrMemory LineFault) (net : Net) (v w : ℕ) (ns ms : List ℕ) → Ok w ≡ node_in net v → nodes_in net ns ≡ Ok ms
-    → result ≡ Err e → f ≡ map_fault (λ r. x.Rule r) e → ((r : Rule) → (result ≡ Err (Fault r)) ↔ (path_fault net (record { owner = w; nodes = ms }) ≡ Some r))
-    → IsUnlessMemory (Err f) (with_path net (record { owner = v; nodes = ns }))
-path_refused result e f net v w ns ms owner nodes is same h =
-    rw (← node_is net v w owner, ← nodes_are net ns ms nodes) (refused result e f (path_fault net (record { owner = w; nodes = ms })) _ is same h)
-
-pub path_added : (net new : Net) (v w : ℕ) (ns ms : List ℕ) → Ok w ≡ node_in net v → nodes_in net ns ≡ Ok ms → path_fault net (record { owner = w; nodes = ms }) ≡ None
-    → new ≡ record net { permitted = net.permitted ++ (record { owner = w; nodes = ms }) ∷ [] } → with_path net (record { owner = v; nodes = ns }) ≡ Ok (Paths new)
-path_added net new v w ns ms owner nodes none is =
-    let more : Net = record net { permitted = net.permitted ++ (record { owner = w; nodes = ms }) ∷ [] } in
-    rw (← node_is net v w owner, ← nodes_are net ns ms nodes) (ap (λ f. unless_fault (of_rule f) (Paths more)) none ∙ ap (λ n. Ok (Paths n)) (sym is))
+-- a path of nodes that the instance has
+pub path_taken : (net : Net) (v w : ℕ) (ns ms : List ℕ) (r : Result Draft (OrMemory LineFault)) → Ok w ≡ node_in net v → nodes_in net ns ≡ Ok ms
+    → IsUnlessMemory r (with_path net (record { owner = w; nodes = ms })) → IsUnlessMemory r (with_path net (record { owner = v; nodes = ns }))
+path_taken net v w ns ms r owner nodes h = rw (← node_is net v w owner, ← nodes_are net ns ms nodes) h
 
 -- what a `u32` does not hold is no place, and nor is 0
 place-within : (n i : ℕ) → n < 2 ^ 32 → is_within 1 n (place_of i) ≡ is_within 1 n i

@@ -1,6 +1,6 @@
 -- One digit more at the front of a text.
-use Rattle.std.proofs.Common.{◌≡◌, ℕ, ◌+◌, ◌-◌, ◌*◌, ◌^◌, ◌<◌, ◌≤◌, true, List, length, take, get_or, refl, sym, ap, ◌∙◌, add-one, arith}
-use Rattle.std.proofs.Math.Nat.{pow-suc}
+use Rattle.std.proofs.Common.{◌≡◌, ℕ, ◌+◌, ◌-◌, ◌*◌, ◌^◌, ◌<◌, ◌≤◌, true, List, length, take, get_or, refl, sym, ap, ◌∙◌, add-one, arith, pow-add}
+use Rattle.std.proofs.Math.Nat.{mul-le-mul_left, one-le-pow, pow-suc}
 use Rattle.std.proofs.lemmas.Bool.Decides.{nat_tests}
 use Rattle.std.proofs.lemmas.Int.Digits.{digits_value_more}
 use Rattle.std.proofs.lemmas.List.Folds.{list_all_more}
@@ -36,3 +36,15 @@ digit_more text end value step less digit is h =
       value_is = ap (λ n. n * 10 + step) h.value_is ∙ (ap (λ s. digits_value 10 (take end text) * 10 + s) same ∙ sym (digits_value_more 10 text end less));
       digits = list_all_more is_ascii_digit text end 0 less ∙ rw (h.digits, digit) refl;
     }
+
+-- eight digits say less than a hundred million
+pub eight : (text : List ℕ) (end value : ℕ) → AreDigits text end value → end ≤ 8 → value < 100000000
+eight text end value h most =
+    let k = 8 - end in
+    let bound = h.bound in
+    let parts : 10 ^ (end + k) ≡ 10 ^ end * 10 ^ k = pow-add 10 end k in
+    let one : 1 ≤ 10 ^ k = one-le-pow k 10 (omega arith) in
+    let more : 10 ^ end * 1 ≤ 10 ^ end * 10 ^ k = mul-le-mul_left (10 ^ end) one in
+    let sum : end + k ≡ 8 = omega arith in
+    let whole : 10 ^ (end + k) ≡ 100000000 = ap (λ n. 10 ^ n) sum in
+    omega arith

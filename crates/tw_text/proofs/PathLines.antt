@@ -11,10 +11,12 @@ use Rattle.std.specs.Char.{is_ascii_digit}
 use Rattle.std.specs.Cmp.Lexicographic.{bytes_decides}
 use Rattle.std.specs.List.{list_all, list_any}
 use Rattle.std.specs.Str.Parse.{digits_value}
-use Rattle.tw_text.specs.declared.draft.Draft.{Draft}
 use Rattle.tw_text.specs.declared.keyword.Keyword.TheVariants as keyword
-use Rattle.tw_text.specs.Drafts.{step_said}
-use Rattle.tw_text.specs.FaultTable.{is_start, step}
+use Rattle.tw_model.specs.Net.{Net}
+use Rattle.tw_model.specs.PermittedPath.{PermittedPath}
+use Rattle.tw_text.specs.declared.draft.Draft.TheVariants.{Paths}
+use Rattle.tw_text.specs.Drafts.{step_said, with_path}
+use Rattle.tw_text.specs.FaultTable.{step}
 use Rattle.tw_text.specs.PathLine.{AreNumbers, BeginsWith, IsPathLine}
 use Rattle.tw_text.specs.Statements.{statement_of, statement_with}
 use Rattle.tw_text.specs.Words.{is_number, is_plain, words}
@@ -75,24 +77,26 @@ path_said : (ws : List (List ℕ)) (ns : List ℕ) → list_all is_number ws ≡
 unfolding statement_of
 path_said ws ns numbers values two = rw (two, none_empty ws numbers, numbers, values) refl
 
-pub path_line : (text ns : List ℕ) → AreNumbers text ns → 2 ≤ length ns → IsPathLine (112 ∷ 97 ∷ 116 ∷ 104 ∷ 32 ∷ text) ns
-path_line text ns h two =
+pub path_line : (text ns : List ℕ) → AreNumbers text ns → 2 ≤ length ns
+    → IsPathLine (112 ∷ 97 ∷ 116 ∷ 104 ∷ 32 ∷ text) (record { owner = get_or ns 0 0; nodes = drop 1 ns })
+path_line text [] h two = absurd (omega arith)
+path_line text (v ∷ nodes) h two =
     let cut : words (112 ∷ 97 ∷ 116 ∷ 104 ∷ 32 ∷ text) ≡ (112 ∷ 97 ∷ 116 ∷ 104 ∷ []) ∷ words text
     = slice_split_at (λ c. c == 32) (112 ∷ 97 ∷ 116 ∷ 104 ∷ []) 32 text (All-from_recursion (λ b. (b == 32) ≡ false) (112 ∷ 97 ∷ 116 ∷ 104 ∷ []) (refl, (refl, (refl, (refl, tt))))) refl in
-    let count : length (words text) ≡ length ns = sym (length-map (words text) (digits_value 10)) ∙ ap length h.values in
+    let count : length (words text) ≡ length (v ∷ nodes) = sym (length-map (words text) (digits_value 10)) ∙ ap length h.values in
     record {
       plain = h.plain;
-      said = ap statement_of cut ∙ path_said (words text) ns h.numbers h.values (grind (arith, nat_tests));
+      said = ap statement_of cut ∙ path_said (words text) (v ∷ nodes) h.numbers h.values (grind (arith, nat_tests));
     }
 
 pub path_line_from : (line front text ns : List ℕ) → front ≡ codes "path " → bytes_eq (take (length front) line) front ≡ true → text ≡ drop (length front) line
-    → AreNumbers text ns → 2 ≤ length ns → IsPathLine line ns
+    → AreNumbers text ns → 2 ≤ length ns → IsPathLine line (record { owner = get_or ns 0 0; nodes = drop 1 ns })
 path_line_from line front text ns is begins rest h two =
     let same : take (length front) line ≡ front = (bytes_decides (take (length front) line) front).0 begins in
     let whole : line ≡ front ++ text = sym (take-append-drop (length front) line) ∙ (ap (λ t. t ++ drop (length front) line) same ∙ ap (λ t. front ++ t) (sym rest)) in
     let spelt : line ≡ 112 ∷ 97 ∷ 116 ∷ 104 ∷ 32 ∷ text = whole ∙ ap (λ t. t ++ text) is in
     rw spelt (path_line text ns h two)
 
-pub path_step : (d : Draft) (line : List ℕ) (ended : _) (ns : List ℕ) → is_start d ≡ false → IsPathLine line ns
-    → step d line ended ≡ step_said d (statement_with keyword.Path ns) ended
-path_step d line ended ns later h = later_step d line ended later h.plain ∙ ap (λ said. step_said d said ended) h.said
+-- a path line, where paths may follow
+pub path_step : (net : Net) (line : List ℕ) (path : PermittedPath) → IsPathLine line path → step (Paths net) line true ≡ with_path net path
+path_step net line path h = later_step (Paths net) line true refl h.plain ∙ ap (λ said. step_said (Paths net) said true) h.said

@@ -1,9 +1,9 @@
 -- Path lines as they are nearly always written, which are read in one pass (own).
-use Rattle.std.specs.Prelude.{ℕ, ◌≡◌, ◌<◌, ◌≤◌, true, List, length, map, slice_index, take}
+use Rattle.std.specs.Prelude.{ℕ, ◌≡◌, ◌<◌, ◌≤◌, true, List, length, map, slice_index, take, Ok}
 use Rattle.std.specs.List.{list_all}
 use Rattle.std.specs.Str.Parse.{digits_value}
-use Rattle.tw_text.specs.declared.keyword.Keyword.TheVariants as keyword
-use Rattle.tw_text.specs.Statements.{statement_of, statement_with}
+use Rattle.tw_model.specs.PermittedPath.{PermittedPath}
+use Rattle.tw_text.specs.Statements.{path_line, statement_of}
 use Rattle.tw_text.specs.Words.{is_number, is_plain, words}
 
 -- the text begins with this number, whose word ends here
@@ -19,7 +19,7 @@ pub record AreNumbers (text : List ℕ) (ns : List ℕ) : Type 0 where
   pub numbers : list_all is_number (words text) ≡ true
   pub values : map (digits_value 10) (words text) ≡ ns
 
--- the line is plain, and says a path with these numbers
-pub record IsPathLine (line : List ℕ) (ns : List ℕ) : Type 0 where
+-- the line is plain, and says this path
+pub record IsPathLine (line : List ℕ) (path : PermittedPath) : Type 0 where
   pub plain : list_all is_plain line ≡ true
-  pub said : statement_of (words line) ≡ statement_with keyword.Path ns
+  pub said : statement_of (words line) ≡ Ok (path_line path)

@@ -3,7 +3,9 @@ ghost use Rattle.tw_model.specs.Memory.{IsUnlessMemory, map_fault};
 ghost use Rattle.tw_model.specs.declared.case.Scene.TheVariants as AScene;
 ghost use Rattle.tw_text.specs.Drafts.{before_links, before_paths, before_scenes, check_ended, check_header, node_in, nodes_in, place_of};
 ghost use Rattle.tw_text.specs.Drafts.{result_items, step_said, with_link, with_nodes, with_path, with_scene};
+ghost use Rattle.tw_text.specs.LineReader.{left_by};
 ghost use Rattle.tw_text.specs.Statements.{statement_with};
+ghost use Rattle.tw_text.specs.declared.draft.Draft.TheVariants as AsDraft;
 
 use crate::keyword::Keyword;
 use crate::text_fault::LineFault;
@@ -113,8 +115,19 @@ fn with_path(
 {
     let owner = node_in(&instance, owner)?;
     let nodes = nodes_in(alloc, &instance, nodes)?;
-    match instance.add_path(PermittedPath { owner, nodes }) {
-        Ok(()) => Ok(Draft::Paths(instance)),
+    add_path(&mut instance, PermittedPath { owner, nodes })?;
+    Ok(Draft::Paths(instance))
+}
+
+/// Adds a path to the instance.
+pub(crate) fn add_path(
+    instance: &mut Instance,
+    path: PermittedPath,
+) -> Result<(), OrMemory<LineFault>>
+    ensures { IsUnlessMemory (left_by result (AsDraft.Paths instance.new)) (with_path instance.old path) }
+{
+    match instance.add_path(path) {
+        Ok(()) => Ok(()),
         Err(refusal) => Err(rule_fault(refusal)),
     }
 }

@@ -8,7 +8,6 @@ ghost use Rattle.tw_text.specs.Words.{is_plain, words};
 
 use crate::draft::{Draft, take_statement};
 use crate::keyword::Keyword;
-use crate::path_line::path_numbers;
 use crate::text_fault::LineFault;
 use crate::words::{is_plain_line, number_of, split_words};
 use std::alloc::Global;
@@ -17,30 +16,6 @@ use tw_model::OrMemory;
 /// The draft with one more line, or the lowest fault of the line. `ended` says whether the line has
 /// its end.
 pub(crate) fn read_line(
-    alloc: Global,
-    draft: Draft,
-    line: &[u8],
-    ended: bool,
-) -> Result<Draft, OrMemory<LineFault>>
-    ensures { IsUnlessMemory result (step draft line.now ended) }
-{
-    if !is_start(&draft) {
-        if let Some(numbers) = path_numbers(alloc, line)? {
-            return take_statement(alloc, draft, Keyword::Path, &numbers, ended);
-        }
-    }
-    read_any_line(alloc, draft, line, ended)
-}
-
-/// Whether line 1 is next.
-fn is_start(draft: &Draft) -> bool
-    ensures { result ≡ is_start draft.now }
-{
-    matches!(draft, Draft::Start)
-}
-
-/// The draft with one more line of any kind.
-fn read_any_line(
     alloc: Global,
     draft: Draft,
     line: &[u8],

@@ -1,6 +1,6 @@
 ghost use Rattle.std.specs.Prelude.{◌≡◌};
 ghost use Rattle.tw_model.specs.Memory.{IsUnlessMemory, map_fault};
-ghost use Rattle.tw_text.specs.LineReader.{Reader};
+ghost use Rattle.tw_text.specs.LineReader.{Reader, left_by};
 ghost use Rattle.tw_text.specs.Reading.{fault_at, finishes, read_from, whole_at};
 
 use crate::text_fault::{LineFault, TextFault};
@@ -16,10 +16,15 @@ pub(crate) trait LineReader: Drop {
     /// How the text is read.
     ghost reader: { Reader Self Self.Whole };
 
-    /// What is given with one more line, or the lowest fault of the line. `ended` says whether the
-    /// line has its end.
-    fn read_line(self, alloc: Global, line: &[u8], ended: bool) -> Result<Self, OrMemory<LineFault>>
-        ensures { IsUnlessMemory result (reader.step self line.now ended) };
+    /// Adds one more line, or answers the lowest fault of the line. `ended` says whether the line has
+    /// its end.
+    fn read_line(
+        &mut self,
+        alloc: Global,
+        line: &[u8],
+        ended: bool,
+    ) -> Result<(), OrMemory<LineFault>>
+        ensures { IsUnlessMemory (left_by result self.new) (reader.step self.old line.now ended) };
 
     /// What all lines have given, where none is missing.
     fn whole(self) -> Option<Self::Whole>
@@ -38,9 +43,8 @@ pub(crate) fn read_text<D: LineReader>(
     let mut line = 1;
     let mut rest = text;
     while let Some(end) = line_end(rest) {
-        match draft.read_line(alloc, &rest[..end], true) {
-            Ok(next) => draft = next,
-            Err(fault) => return Err(at_line(fault, line)),
+        if let Err(fault) = draft.read_line(alloc, &rest[..end], true) {
+            return Err(at_line(fault, line));
         }
         rest = &rest[end + 1..];
         line += 1;
@@ -51,7 +55,7 @@ pub(crate) fn read_text<D: LineReader>(
 /// What the text gives, where this follows its last line end: the beginning of a line, or nothing.
 fn finish<D: LineReader>(
     alloc: Global,
-    draft: D,
+    mut draft: D,
     rest: &[u8],
     line: usize,
 ) -> Result<D::Whole, OrMemory<TextFault>>
@@ -61,7 +65,7 @@ fn finish<D: LineReader>(
         return Ok(whole_at(draft, line)?);
     }
     match draft.read_line(alloc, rest, false) {
-        Ok(_) => Err(OrMemory::Fault(end_fault(line))),
+        Ok(()) => Err(OrMemory::Fault(end_fault(line))),
         Err(fault) => Err(at_line(fault, line)),
     }
 }

@@ -4,11 +4,13 @@ ghost use Rattle.tw_model.specs.Memory.{IsUnlessMemory};
 ghost use Rattle.tw_text.specs.Reading.{case_of, case_reader};
 ghost use Rattle.tw_text.specs.Text.{text_of_case};
 
-use crate::draft::Draft;
+use crate::draft::{Draft, add_path};
 use crate::line::read_line;
 use crate::line_reader::{LineReader, read_text};
+use crate::path_line::path_in;
 use crate::text_fault::{LineFault, TextFault};
 use std::alloc::Global;
+use std::mem;
 use tw_instance::Case;
 use tw_model::OrMemory;
 
@@ -36,12 +38,20 @@ impl LineReader for Draft {
     ghost reader = { case_reader };
 
     fn read_line(
-        self,
+        &mut self,
         alloc: Global,
         line: &[u8],
         ended: bool,
-    ) -> Result<Draft, OrMemory<LineFault>> {
-        read_line(alloc, self, line, ended)
+    ) -> Result<(), OrMemory<LineFault>> {
+        // A long text has path lines most of all, so these are taken without moving what was read.
+        if let Draft::Paths(instance) = self {
+            if ended && let Some(path) = path_in(alloc, line)? {
+                return add_path(instance, path);
+            }
+        }
+        let draft = mem::replace(self, Draft::Start);
+        *self = read_line(alloc, draft, line, ended)?;
+        Ok(())
     }
 
     fn whole(self) -> Option<Case> {

@@ -11,6 +11,7 @@ use crate::step_list::StepList;
 use crate::step_text::StepDraft;
 use crate::text_fault::{LineFault, TextFault};
 use std::alloc::Global;
+use std::mem;
 use tw_instance::Case;
 use tw_model::OrMemory;
 use tw_sim::Step;
@@ -51,21 +52,14 @@ impl LineReader for ReplayDraft {
     ghost reader = { replay_reader };
 
     fn read_line(
-        self,
+        &mut self,
         alloc: Global,
         line: &[u8],
         ended: bool,
-    ) -> Result<ReplayDraft, OrMemory<LineFault>> {
-        match self {
-            ReplayDraft::Case(draft) => {
-                let draft = draft.read_line(alloc, line, ended)?;
-                Ok(after_case(alloc, draft))
-            }
-            ReplayDraft::Steps(case, draft) => {
-                let draft = draft.read_line(alloc, line, ended)?;
-                Ok(ReplayDraft::Steps(case, draft))
-            }
-        }
+    ) -> Result<(), OrMemory<LineFault>> {
+        let draft = mem::replace(self, ReplayDraft::Case(Draft::Start));
+        *self = after_line(alloc, draft, line, ended)?;
+        Ok(())
     }
 
     fn whole(self) -> Option<(Case, StepList)> {
@@ -75,6 +69,27 @@ impl LineReader for ReplayDraft {
                 let steps = draft.whole()?;
                 Some((case, steps))
             }
+        }
+    }
+}
+
+/// The draft with one more line, or the lowest fault of the line.
+fn after_line(
+    alloc: Global,
+    draft: ReplayDraft,
+    line: &[u8],
+    ended: bool,
+) -> Result<ReplayDraft, OrMemory<LineFault>>
+    ensures { IsUnlessMemory result (after_replay_line draft line.now ended) }
+{
+    match draft {
+        ReplayDraft::Case(mut draft) => {
+            draft.read_line(alloc, line, ended)?;
+            Ok(after_case(alloc, draft))
+        }
+        ReplayDraft::Steps(case, mut draft) => {
+            draft.read_line(alloc, line, ended)?;
+            Ok(ReplayDraft::Steps(case, draft))
         }
     }
 }

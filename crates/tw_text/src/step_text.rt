@@ -11,6 +11,7 @@ use crate::step_list::StepList;
 use crate::text_fault::{LineFault, TextFault};
 use crate::words::{is_plain_line, number_of, split_words};
 use std::alloc::Global;
+use std::mem;
 use tw_model::limits::MOST_STEPS;
 use tw_model::{OrMemory, Rule};
 use tw_sim::Step;
@@ -50,16 +51,17 @@ impl LineReader for StepDraft {
     ghost reader = { step_reader };
 
     fn read_line(
-        self,
+        &mut self,
         alloc: Global,
         line: &[u8],
         ended: bool,
-    ) -> Result<StepDraft, OrMemory<LineFault>> {
-        if is_plain_line(line) {
-            read_plain(alloc, self, line, ended)
-        } else {
-            Err(OrMemory::Fault(LineFault::Byte))
+    ) -> Result<(), OrMemory<LineFault>> {
+        if !is_plain_line(line) {
+            return Err(OrMemory::Fault(LineFault::Byte));
         }
+        let draft = mem::replace(self, StepDraft::Open(StepList::new(alloc)));
+        *self = read_plain(alloc, draft, line, ended)?;
+        Ok(())
     }
 
     fn whole(self) -> Option<StepList> {

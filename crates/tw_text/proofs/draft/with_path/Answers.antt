@@ -1,5 +1,7 @@
+use Rattle.std.proofs.Common.{Err, Ok}
 use Rattle.std.proofs.lemmas.Result.{err_from_is_err_and}
-use Rattle.tw_text.proofs.Adding.{nodes_refused, path_added, path_refused}
+use Rattle.tw_text.specs.declared.draft.Draft.TheVariants.{Paths}
+use Rattle.tw_text.proofs.Adding.{nodes_refused, path_taken}
 use Rattle.tw_text.proofs.draft.with_path.Goals as goal
 
 pub returns-in_err-nodes : goal.returns-in_err-nodes
@@ -7,10 +9,11 @@ returns-in_err-nodes c =
     let p = err_from_is_err_and c.from_residual-in_err-nodes.result c.from_residual-in_err-nodes.ensures.1 in
     rw (p.1, p.2) (nodes_refused c.args.instance c.args.owner _ c.args.nodes.now c.in_err-nodes.field-0.0 c.in_ok-owner.ensures c.in_err-nodes.ensures)
 
-pub returns-in-Err : goal.returns-in-Err
-returns-in-Err c =
-    path_refused c.add_path.result _ _ c.args.instance c.args.owner _ c.args.nodes.now _ c.in_ok-owner.ensures c.in_ok-nodes.ensures c.in-Err.is c.rule_fault.ensures c.add_path.ensures.rule
+pub returns-in_err-add_path : goal.returns-in_err-add_path
+returns-in_err-add_path c =
+    let p = err_from_is_err_and c.from_residual-in_err-add_path.result c.from_residual-in_err-add_path.ensures.1 in
+    rw (p.1, p.2) (path_taken c.args.instance c.args.owner _ c.args.nodes.now _ (Err c.in_err-add_path.field-0.0) c.in_ok-owner.ensures c.in_ok-nodes.ensures c.in_err-add_path.ensures)
 
-pub returns-in-Ok : goal.returns-in-Ok
-returns-in-Ok c =
-    path_added c.args.instance c.add_path.new.self c.args.owner _ c.args.nodes.now _ c.in_ok-owner.ensures c.in_ok-nodes.ensures c.in-Ok.ensures.kept c.in-Ok.ensures.ok
+pub returns : goal.returns
+returns c =
+    path_taken c.args.instance c.args.owner _ c.args.nodes.now _ (Ok (Paths c.add_path.new.instance)) c.in_ok-owner.ensures c.in_ok-nodes.ensures c.in_ok-add_path.ensures

@@ -1,8 +1,6 @@
 use Rattle.std.proofs.Common.{sym, ◌∙◌}
-use Rattle.tw_text.proofs.PathLines.{path_step}
+use Rattle.tw_text.proofs.Faults.{plain_step}
 use Rattle.tw_text.proofs.line.read_line.Goals as goal
 
-pub returns-in-Some : goal.returns-in-Some
-returns-in-Some c =
-    let numbers = rw c.in-Some.is at c.in_ok-numbers.ensures in
-    rw (path_step c.args.draft c.args.line.now c.args.ended _ (sym c.is_start.ensures ∙ c.if-not-is_start.true) numbers, ← c.deref.ensures.value) c.take_statement.ensures
+pub returns-then-not-is_plain_line : goal.returns-then-not-is_plain_line
+returns-then-not-is_plain_line c = plain_step c.args.draft c.args.line.now c.args.ended (sym c.is_plain_line.ensures ∙ c.if-not-is_plain_line.true)

@@ -18,7 +18,7 @@ loop-end-preserved g c =
     let n = length-drop (end + 1) rest in
     rw (take_rest rest (end + 1)) (record {
       line = omega (arith, c.loop-end.invariant.line, n, p.0);
-      same = read_on g.D.LineReader.reader c.loop-end.draft c.in-Ok.next c.loop-end.line rest end _ first c.in-Ok.ensures c.loop-end.invariant.same;
+      same = read_on g.D.LineReader.reader c.loop-end.draft c.read_line.new.self c.loop-end.line rest end _ first c.in_default-read_line.ensures c.loop-end.invariant.same;
     })
 
 pub returns : goal.returns

@@ -5,7 +5,7 @@ use Rattle.tw_text.proofs.path_line.numbers_in.Goals as goal
 
 pub returns-then-end-rest : goal.returns-then-end-rest
 returns-then-end-rest c =
-    rw c.in_ok-push.ensures.items
+    rw c.in-Ok.ensures.ok
     (c.loop-number.invariant (c.in-Some.number ∷ []) (last_number c.loop-number.rest.now c.in-Some.number c.in-Some.end c.in-Some.ensures c.if-end-rest.true))
 
 pub loop-number-preserved : goal.loop-number-preserved
@@ -13,5 +13,5 @@ loop-number-preserved c =
     let rest = c.loop-number.rest.now in
     let number = c.in-Some.number in
     rw (take_rest rest (c.in-Some.end + 1))
-    (λ ns h. rw (c.in_ok-push.ensures.items, append_assoc c.loop-number.numbers.items (number ∷ []) ns)
+    (λ ns h. rw (c.in-Ok.ensures.ok, append_assoc c.loop-number.numbers.items (number ∷ []) ns)
     (c.loop-number.invariant (number ∷ ns) (more_numbers rest ns number c.in-Some.end c.in-Some.ensures c.if-end-rest.false h)))

@@ -1,7 +1,7 @@
 use Rattle.std.proofs.Common.{◌≡◌, ◌+◌, ◌++◌, arith, append_assoc, subst, take}
 use Rattle.std.specs.Fmt.{decimal}
 use Rattle.itoa.proofs.Decimal.{decimal_four}
-use Rattle.tw_report.proofs.short_numbers.spell_middling.Goals as goal
+use Rattle.tw_report.proofs.short_numbers.spell_up_to_eight.Goals as goal
 
 pub returns-clause-text : goal.returns-clause-text
 returns-clause-text c =
