@@ -11,7 +11,7 @@ use crate::fault::{CounterFull, Fault};
 use crate::fit::{does_fit, slot_of_peer};
 use crate::record::UndoRecord;
 use crate::send::News;
-use crate::settle::{count_handled, settle, settle_with_row};
+use crate::settle::{count_handled, settle, settle_with_heard, settle_with_row};
 use smallvec::SmallVec;
 use tw_event::{Body, Event, PathNo};
 use tw_instance::Instance;
@@ -76,6 +76,28 @@ pub fn handle_fitting(
     if counters.handled >= MOST_COUNTED {
         return Err(OrMemory::Fault(CounterFull));
     }
+    // Nearly all events are updates, so these are told from the others by one test.
+    if let Body::Update { path, session } = event.body {
+        return handle_update(instance, router, event, path, session, sends);
+    }
+    handle_any(instance, router, event, sends)
+}
+
+/// Handles an event of any kind that fits its router.
+#[inline(never)]
+fn handle_any(
+    instance: &Instance,
+    router: &mut Router<'_>,
+    event: &Event,
+    sends: &mut SmallVec<Event, 8>,
+) -> Result<UndoRecord, OrMemory<CounterFull>>
+    requires reaction { CanReact instance.now router.old event.now.time }
+    requires fits { IsTrue (fits router.old.net router.old.node event.now) }
+    ensures reaction { Reacts router.old router.new sends.old.items sends.new.items (effect_at router.old event.now) result }
+    ensures note { IfOk result (λ note. note ≡ record_at router.old event.now) }
+{
+    // Opens what is known of the router's order.
+    let _ = router.counters();
     match event.body {
         Body::Start => handle_start(instance, router, event, sends),
         Body::Fail(peer) => handle_fail(instance, router, event, peer, sends),
@@ -230,8 +252,7 @@ fn handle_update(
         count_dropped(router);
         return Ok(UndoRecord::without_effect(rib, row.heard));
     }
-    let told = Row { heard: path, ..row };
-    let changed = settle_with_row(instance, router, slot, told, event.time, sends)?;
+    let changed = settle_with_heard(instance, router, slot, path, event.time, sends)?;
     Ok(UndoRecord::of_effect(changed, rib, row.heard))
 }
 

@@ -1,13 +1,14 @@
 ghost use Rattle.std.specs.Prelude.{◌≡◌, ◌+◌, ◌≤◌, ◌<◌, ◌==◌, not, length, nat_lt, IfOk};
 ghost use Rattle.tw_model.specs.Net.{IsPath};
 ghost use Rattle.tw_model.specs.declared.limits.TheConstants.{MOST_COUNTED};
+ghost use Rattle.tw_model.specs.State.{row as row_of};
 ghost use Rattle.tw_model.specs.Effect.{settle as settle_of, ups, with_handled, with_row};
 ghost use Rattle.tw_handlers.specs.Calls.{CanReact, Reacts, with_count};
 
 use crate::fault::CounterFull;
 use crate::send::{count_up, push_updates};
 use smallvec::SmallVec;
-use tw_event::Event;
+use tw_event::{Event, PathNo};
 use tw_instance::Instance;
 use tw_model::limits::MOST_COUNTED;
 use tw_model::{Counters, OrMemory, Row};
@@ -80,6 +81,35 @@ pub(crate) fn settle_with_row(
 {
     let kept = router.row(slot);
     router.set_row(instance, slot, row);
+    match settle(instance, router, time, sends) {
+        Ok(changed) => Ok(changed),
+        Err(error) => {
+            router.set_row(instance, slot, kept);
+            Err(error)
+        }
+    }
+}
+
+/// Writes the path that was heard from the neighbour of a slot and settles. After an error the row is as
+/// it was.
+#[inline(always)]
+pub(crate) fn settle_with_heard(
+    instance: &Instance,
+    router: &mut Router<'_>,
+    slot: usize,
+    path: PathNo,
+    time: u64,
+    sends: &mut SmallVec<Event, 8>,
+) -> Result<bool, OrMemory<CounterFull>>
+    requires reaction { CanReact instance.now router.old time }
+    requires slot { slot < length router.old.state.rows }
+    requires path { IsPath router.old.net path }
+    ensures reaction { Reacts router.old router.new sends.old.items sends.new.items
+        (with_count (settle_of router.old.net router.old.node time (with_row router.old.state slot (record (row_of router.old.state slot) { heard = path })))) result }
+    ensures changed { IfOk result (λ changed. changed ≡ not (router.old.state.rib.0 == router.new.state.rib.0)) }
+{
+    let kept = router.row(slot);
+    router.set_heard(instance, slot, path);
     match settle(instance, router, time, sends) {
         Ok(changed) => Ok(changed),
         Err(error) => {

@@ -161,6 +161,10 @@ impl EventList {
     pub fn begin_tick(&mut self)
         ensures { self.new ≡ self.old }
     {
+        // Of most calls nothing is to be done, and then the heap is not looked at.
+        if self.ring.has_tick_at_hand() {
+            return;
+        }
         let latest = match self.heap.peek() {
             Some(first) => first.0.time,
             None => u64::MAX,

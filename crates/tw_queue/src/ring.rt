@@ -132,6 +132,12 @@ impl Ring {
         self.from = time;
     }
 
+    /// Whether not all events of the tick at hand are taken out. No promise rests on it.
+    #[inline(always)]
+    pub(crate) fn has_tick_at_hand(&self) -> bool {
+        self.taken < self.hand.len()
+    }
+
     /// Puts the events of the next tick at hand, in order, where those at hand are all taken out, and that tick
     /// is at `latest`, in ticks, at the latest.
     #[inline(always)]

@@ -302,6 +302,7 @@ impl<'a> Router<'a> {
     }
 
     /// Changes the path that was heard from the neighbour of a slot. The instance is the router's own.
+    #[inline(always)]
     pub fn set_heard(&mut self, instance: &Instance, slot: usize, path: PathNo)
         requires own { instance.now ≡ self.old.net }
         requires slot { slot < length self.old.state.rows }
@@ -313,7 +314,20 @@ impl<'a> Router<'a> {
             heard: path,
             ..self.row(slot)
         };
-        self.set_row(instance, slot, row);
+        let node = self.node;
+        let before = self.ranks[slot];
+        refresh_slot(
+            instance,
+            node,
+            slot,
+            &self.order,
+            self.exchanged,
+            row,
+            &mut self.ranks,
+        );
+        self.greatest = greatest_after(self.greatest, before, &self.ranks, slot);
+        // The row's other fields stay, so they are not written.
+        self.rows[slot].heard = path;
     }
 
     /// Changes whether the link to the neighbour of a slot is up. The instance is the router's own.
