@@ -11,6 +11,7 @@ use Rattle.tw_model.specs.Rules.{IsNet}
 use Rattle.tw_model.specs.State.{has_peer, hop, no_hop, slot}
 use Rattle.tw_model.proofs.Nets.{slot_at}
 use Rattle.tw_instance.specs.Extensions.{HasExtensions, HasRow}
+use Rattle.tw_instance.specs.Guesses.{AreGuesses}
 use Rattle.tw_instance.specs.Hops.{peers_of}
 use Rattle.tw_instance.specs.Peers.{HasPeers}
 use Rattle.tw_instance.specs.Sparse.{AreCut}
@@ -53,8 +54,11 @@ at_slot net v w k low is =
     (there, sym at)
 
 -- rows behind one another hold the neighbours of each router
-pub has_peers : (net : Net) (t : Peers) → IsNet net → AreCut (peers_of net) net.nodes t.starts.items t.neighbours.items → HasPeers net t
-has_peers net t h so = record {
+pub has_peers : (net : Net) (t : Peers) → IsNet net → AreCut (peers_of net) net.nodes t.starts.items t.neighbours.items
+    → length t.guesses.items ≡ net.nodes
+    → ((v : ℕ) → v < net.nodes → AreGuesses (peers_of net v) (get_or t.guesses.items v [])) → HasPeers net t
+has_peers net t h so long right = record {
+  guesses = λ v below. right v (omega arith);
   rows = λ v. elim (cases_lt v net.nodes) [
     | inl below ↦ so.rows v below
     | inr out ↦ (

@@ -3,6 +3,7 @@ pub mod Paths
 pub mod Sparse
 pub mod Chained
 pub mod Finding
+mod Guesses
 pub mod Hashes
 pub mod Extending
 pub mod ExtendedAt

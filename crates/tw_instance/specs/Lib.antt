@@ -2,6 +2,7 @@ pub mod Adjacency
 pub mod Build
 pub mod Chains
 pub mod Extensions
+pub mod Guesses
 pub mod Hops
 pub mod Index
 pub mod Instance

@@ -1,10 +1,12 @@
 //! The neighbours of each router, and the slot of a neighbour.
 
-ghost use Rattle.std.specs.Prelude.{◌≡◌, ◌+◌, ◌++◌, ◌<◌, ◌≤◌, ℕ, length, map, IfOk, IsTrue, OnOk, SomeIff};
-ghost use Rattle.tw_model.specs.declared.limits.TheConstants.{MOST_LINKS};
+ghost use Rattle.std.specs.Prelude.{◌≡◌, ◌+◌, ◌++◌, ◌<◌, ◌≤◌, ℕ, List, [], length, map, slice_index_or, IfOk, IsTrue, OnOk, SomeIff};
+ghost use Rattle.std.specs.List.{All};
+ghost use Rattle.tw_model.specs.declared.limits.TheConstants.{MOST_LINKS, MOST_ROUTERS};
 ghost use Rattle.tw_model.specs.Net.{Net};
 ghost use Rattle.tw_model.specs.Rules.{IsNet};
 ghost use Rattle.tw_model.specs.State.{has_peer, slot as slot_of};
+ghost use Rattle.tw_instance.specs.Guesses.{AreGuesses};
 ghost use Rattle.tw_instance.specs.Hops.{peers_of};
 ghost use Rattle.tw_instance.specs.Sparse.{AreCut, IsCut, cut};
 
@@ -14,19 +16,26 @@ use tw_lanes::first_equal;
 use tw_model::Hop;
 
 /// How many guesses are kept of each router: one for each neighbour that it may have, so that neighbours
-/// with consecutive numbers all have their own, and in bytes a line of the cache.
+/// with consecutive numbers all have their own.
 const GUESSES: usize = 64;
 
-/// The neighbours of each router in ascending order, in compressed sparse rows, with guesses of their
-/// slots.
+/// A neighbour of a router and its slot, side by side, so that most look-ups read one place of memory.
+#[derive(Clone, Copy, Drop, Debug)]
+struct Guess {
+    peer: u16,
+    slot: u16,
+}
+
+/// The neighbours of each router in ascending order, in compressed sparse rows, with the slots of most of
+/// them by the remainders of their numbers.
 #[derive(Drop, Debug)]
 pub struct Peers {
     /// Where the row of each router begins, and behind these where the last one ends.
     starts: Vec<u32>,
     /// The neighbours, row by row.
     neighbours: Vec<u32>,
-    /// Of each router, by the remainder of a neighbour's number, the slot where it is looked for first.
-    guesses: Vec<[u8; GUESSES]>,
+    /// Of each router, by the remainder of a neighbour's number, the neighbour that is looked for first.
+    guesses: Vec<[Guess; GUESSES]>,
     ghost cuts: { (r : ℕ) → r + 1 < length starts.items → IsCut starts.items r (length neighbours.items) },
     ghost guessed: { length starts.items ≡ length guesses.items + 1 },
 }
@@ -56,12 +65,11 @@ impl Peers {
         if index + 1 >= self.starts.len() {
             return None;
         }
-        let row = self.row(index);
-        let guess = self.guesses[index][peer as usize % GUESSES] as usize;
-        if guess < row.len() && row[guess] == peer {
-            return Some(guess);
+        let guess = self.guesses[index][peer as usize % GUESSES];
+        if u32::from(guess.peer) == peer {
+            return Some(usize::from(guess.slot));
         }
-        first_equal(row, peer)
+        first_equal(self.row(index), peer)
     }
 
     /// The neighbours of a router.
@@ -101,8 +109,10 @@ fn push_peers(neighbours: &mut Vec<u32>, hops: &[Hop]) -> Result<(), AllocError>
 }
 
 /// The guesses of each router.
-fn guesses_of(alloc: Global, instance: &Instance) -> Result<Vec<[u8; GUESSES]>, AllocError>
-    ensures { IfOk result (λ guesses. length guesses.items ≡ instance.now.nodes) }
+fn guesses_of(alloc: Global, instance: &Instance) -> Result<Vec<[Guess; GUESSES]>, AllocError>
+    ensures long { IfOk result (λ guesses. length guesses.items ≡ instance.now.nodes) }
+    ensures right { IfOk result (λ guesses. (v : ℕ) → v < instance.now.nodes
+        → AreGuesses (peers_of instance.now v) (slice_index_or guesses.items v [])) }
 {
     let mut guesses = Vec::with_capacity(alloc, instance.nodes() as usize)?;
     for node in 0..instance.nodes() {
@@ -111,13 +121,27 @@ fn guesses_of(alloc: Global, instance: &Instance) -> Result<Vec<[u8; GUESSES]>, 
     Ok(guesses)
 }
 
-/// By the remainder of a neighbour's number its slot, of several the last, and 0 where there is none.
-fn slots_by_remainder(hops: &[Hop]) -> [u8; GUESSES]
-    requires { length hops.now ≤ MOST_LINKS }
+/// By the remainder of a neighbour's number the neighbour and its slot, of several the last.
+fn slots_by_remainder(hops: &[Hop]) -> [Guess; GUESSES]
+    requires few { length hops.now ≤ MOST_LINKS }
+    requires low { All (λ h. h.peer < MOST_ROUTERS) hops.now }
+    ensures { AreGuesses (map (λ h. h.peer) hops.now) result }
 {
-    let mut slots = [0; GUESSES];
+    let mut guesses = no_guesses();
     for (slot, hop) in hops.iter().enumerate() {
-        slots[hop.peer as usize % GUESSES] = slot as u8;
+        guesses[hop.peer as usize % GUESSES] = Guess {
+            peer: hop.peer as u16,
+            slot: slot as u16,
+        };
     }
-    slots
+    guesses
+}
+
+/// Guesses that are taken for no neighbour: at each place stands a number with another remainder.
+fn no_guesses() -> [Guess; GUESSES]
+    ensures { (row : List ℕ) → AreGuesses row result }
+{
+    let mut guesses = [Guess { peer: 0, slot: 0 }; GUESSES];
+    guesses[0] = Guess { peer: 1, slot: 0 };
+    guesses
 }

@@ -186,7 +186,8 @@ impl Ring {
     pub(crate) fn append_to(&self, events: &mut Vec<Event>) -> Result<(), AllocError>
         ensures ok { OnOk result ((e : Event) → times event_same e events.new.items ≡ times event_same e self.now + times event_same e events.old.items) }
     {
-        events.reserve(count_all(&self.buckets))?;
+        // Room for all at once, so that the list doesn't grow on the way.
+        events.reserve(count_all(&self.buckets).saturating_add(self.hand.len()))?;
         self.hand.append_from(self.taken, events)?;
         append_all(&self.buckets, events)?;
         Ok(())

@@ -1,22 +1,28 @@
-use Rattle.std.proofs.Common.{◌%◌, ◌==◌, ap, arith, get_or, length, sym, ◌∙◌, ◌<◌}
+use Rattle.std.proofs.Common.{◌==◌, [], ap, arith, get_or, length, subst, sym, ◌∙◌, ◌<◌}
 use Rattle.std.specs.List.{position}
-use Rattle.std.proofs.lemmas.List.{length-map}
+use Rattle.std.proofs.lemmas.List.{get_or_default, length-map}
 use Rattle.tw_model.specs.Net.{hops_of}
+use Rattle.tw_instance.specs.Guesses.{AreGuesses}
+use Rattle.tw_instance.specs.Hops.{peers_of}
+use Rattle.tw_instance.proofs.Guesses.{guessed}
 use Rattle.tw_instance.proofs.Indexed.{at_slot, is_slot, slot_map}
 use Rattle.tw_instance.proofs.peers.Peers.slot.Goals as goal
 
-pub returns-then-row-guess : goal.returns-then-row-guess
-returns-then-row-guess c net h =
+pub returns-then-from-peer : goal.returns-then-from-peer
+returns-then-from-peer c net h =
     let v = c.args.node in
-    let guess = get_or c.index.result.now (c.args.peer % 64) 0 in
-    let row = c.row-row.ensures ∙ h.rows v in
-    let long = ap length row ∙ length-map (hops_of net v) (λ h. h.peer) in
-    let low : guess < length (hops_of net v) = (let l = c.if-guess-row.true in omega arith) in
-    at_slot net v c.args.peer guess low (sym (ap (λ xs. get_or xs guess 0) row) ∙ c.if-row-guess.true)
+    let w = c.args.peer in
+    let kept = c.args.self.now in
+    let gs = c.index.result.now in
+    let low : v < length kept.guesses.items = (let a = c.if-index-len.false in let b = c.len.ensures in let n = kept.guessed in omega arith) in
+    let all : AreGuesses (peers_of net v) gs = subst (AreGuesses (peers_of net v)) (sym (c.index.ensures ∙ get_or_default kept.guesses.items v gs [] low)) (h.guesses v low) in
+    let is = guessed (peers_of net v) gs (record { peer = 0; slot = 0 }) w all (sym c.from.ensures ∙ c.if-from-peer.true) in
+    let within : c.from-then-from-peer.result < length (hops_of net v) = (let e = c.from-then-from-peer.ensures in let n = length-map (hops_of net v) (λ h. h.peer) in let l = is.0 in omega arith) in
+    at_slot net v w c.from-then-from-peer.result within (ap (λ k. get_or (peers_of net v) k 0) c.from-then-from-peer.ensures ∙ is.1)
 
 pub returns : goal.returns
 returns c net h =
     let v = c.args.node in
     let w = c.args.peer in
-    let row = c.row-row.ensures ∙ h.rows v in
+    let row = c.row.ensures ∙ h.rows v in
     is_slot net v w c.first_equal.result (c.first_equal.ensures ∙ (ap (position (λ o. o == w)) row ∙ slot_map w (hops_of net v)))
