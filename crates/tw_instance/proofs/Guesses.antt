@@ -1,5 +1,5 @@
 -- Guesses of the slots of neighbours.
-use Rattle.std.proofs.Common.{◌≡◌, ◌≢◌, ℕ, ◌<◌, ◌%◌, List, length, map, get_or, set, take, arith, ap, subst, sym, ◌∙◌, inl, inr, replicate}
+use Rattle.std.proofs.Common.{◌≡◌, ◌≢◌, ℕ, ◌<◌, ◌%◌, List, length, get_or, set, arith, ap, subst, sym, ◌∙◌, inl, inr, replicate}
 use Rattle.std.proofs.lemmas.Bool.{cases_eq, cases_lt}
 use Rattle.std.proofs.lemmas.List.{get_or-replicate, get_or-set_other, get_or-set_same, get_or_default, get_or_past, length-replicate}
 use Rattle.tw_instance.specs.Guesses.{AreGuesses, IsGuess}

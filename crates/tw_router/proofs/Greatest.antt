@@ -1,5 +1,6 @@
 -- The greatest of some numbers, one of which changes.
-use Rattle.std.proofs.Common.{◌≡◌, ℕ, zero, suc, ◌<◌, ◌≤◌, List, [], ◌∷◌, fold, get_or, length, max, replicate, set, refl, ap, sym, ◌∙◌, arith}
+use Rattle.std.proofs.Common.{◌≡◌, ℕ, zero, suc, ◌<◌, ◌≤◌, ◌==◌, ◌&&◌, false, true≢false, inl, inr, nat_lt, List, [], ◌∷◌, fold, get_or, length, max, replicate, set, refl, ap, sym, ◌∙◌, arith}
+use Rattle.std.proofs.lemmas.Bool.{cases_eq, cases_lt, eq-eqb, lt-ltb}
 use Rattle.std.proofs.lemmas.List.{set-get_or}
 
 -- a number above those that follow
@@ -25,12 +26,22 @@ module _ (xs : List ℕ) (k before greatest : ℕ) (below : k < length xs) (is :
   known = is ∙ max_at 0 xs k before below
 
   -- a number that is not below the greatest is the greatest
-  pub risen : greatest ≤ get_or xs k 0 → get_or xs k 0 ≡ fold max 0 xs
+  risen : greatest ≤ get_or xs k 0 → get_or xs k 0 ≡ fold max 0 xs
   risen up = let a = all in let b = known in omega arith
 
   -- a number below the greatest, which was another one
-  pub same_greatest : get_or xs k 0 < greatest → (before ≡ greatest → ⊥) → greatest ≡ fold max 0 xs
+  same_greatest : get_or xs k 0 < greatest → (before ≡ greatest → ⊥) → greatest ≡ fold max 0 xs
   same_greatest low other = let a = all in let b = known in omega arith
+
+  -- the greater of a number and the greatest before, where that was another one or is still below the number
+  pub kept_greatest : (before == greatest && nat_lt (get_or xs k 0) greatest) ≡ false → max (get_or xs k 0) greatest ≡ fold max 0 xs
+  kept_greatest stays = elim (cases_lt (get_or xs k 0) greatest) [
+    | inl low ↦ elim (cases_eq before greatest) [
+      | inl same ↦ absurd (true≢false (sym (ap (λ b. b && nat_lt (get_or xs k 0) greatest) (eq-eqb before greatest same) ∙ lt-ltb (get_or xs k 0) greatest low) ∙ stays))
+      | inr other ↦ (let e = same_greatest low other in omega arith)
+    ]
+    | inr up ↦ (let e = risen up in omega arith)
+  ]
 
 -- of zeros alone
 pub of_zeros : (n : ℕ) → 0 ≡ fold max 0 (replicate n 0)

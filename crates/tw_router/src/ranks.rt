@@ -64,12 +64,12 @@ pub(crate) fn greatest_after(greatest: u32, before: u32, ranks: &[u32], slot: us
     ensures { result ≡ fold max 0 ranks.now }
 {
     let rank = ranks[slot];
-    if rank >= greatest {
-        rank
-    } else if before == greatest {
+    // One test, since each of the two alone is hard to foretell.
+    let fell = (before == greatest) & (rank < greatest);
+    if fell {
         best_rank(ranks)
     } else {
-        greatest
+        rank.max(greatest)
     }
 }
 
