@@ -10,6 +10,7 @@ use Rattle.tw_model.specs.Net.{Net, IsPath, path, paths}
 use Rattle.tw_sim.proofs.Members.{In}
 use Rattle.tw_instance.specs.Chains.{AreRests, AreRows, Extends, first_node, places_of, row_of}
 use Rattle.tw_instance.specs.Sparse.{cut}
+use Rattle.tw_instance.specs.Firsts.{AreFirsts}
 use Rattle.tw_instance.specs.Extensions.{ArePlacesOf, HasExtensions, nodes_in, places_in}
 use Rattle.tw_instance.specs.declared.extensions.Extensions.{Extensions}
 use Rattle.tw_instance.proofs.Chained.{places_below}
@@ -52,15 +53,17 @@ contains_from_in q (p ∷ qs) (inl e) = (0, omega arith, sym e)
 contains_from_in q (p ∷ qs) (inr k) = let c = contains_from_in q qs k in (suc c.0, let h = c.1 in omega arith, c.2)
 
 pub has_extensions : (net : Net) (rests : List ℕ) (t : Extensions) → AreRests net (length (paths net)) rests → AreRows rests (length rests) t.starts.items t.numbers.items
-    → nodes_in t.extensions.items ≡ map (first_node net) t.numbers.items → ArePlacesOf net t.numbers.items (places_in t.extensions.items) → HasExtensions net t
-has_extensions net rests t so rows firsts placed =
+    → nodes_in t.extensions.items ≡ map (first_node net) t.numbers.items → ArePlacesOf net t.numbers.items (places_in t.extensions.items)
+    → AreFirsts t.starts.items t.extensions.items t.firsts.items → HasExtensions net t
+has_extensions net rests t so rows nodes placed first =
     let n = so.long in
     let row = λ (p : PathNo) (h : IsPath net p). rows.rows.rows p.0 (let l = so.long in omega arith) in
     record {
       long = let m = rows.rows.long in omega arith;
       cuts = λ p h. rows.rows.cuts p.0 (let l = so.long in omega arith);
-      nodes = firsts;
+      nodes = nodes;
       places = placed;
+      firsts = first;
       sound = λ p h. subst (All (λ q. Extends net q p)) (sym (row p h))
           (All-map (λ q. Extends net q p) no (places_of rests p.0 (length rests))
           (λ i d l. (so.each (no (get_or (places_of rests p.0 (length rests)) i d)) (let low = places_below rests p.0 (length rests) i d l in let m = so.long in omega arith)).sound p h

@@ -75,4 +75,5 @@ has_row net t p h is = record {
   there = let n = h.long in omega arith;
   cut = h.cuts p is;
   alike = sym (length-map t.extensions.items (λ e. e.place)) ∙ h.places.long;
+  firsts = h.firsts;
 }

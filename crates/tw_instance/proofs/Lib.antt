@@ -5,6 +5,7 @@ pub mod Chained
 pub mod Finding
 mod Guesses
 pub mod Hashes
+mod Firsts
 pub mod Extending
 pub mod ExtendedAt
 pub mod Hops

@@ -1,13 +1,14 @@
 -- The adjacency matrix of an instance that is made or grows.
-use Rattle.std.proofs.Common.{◌≡◌, ℕ, zero, suc, ◌<◌, ◌==◌, ◌&&◌, ◌||◌, Bool, true, false, List, [], ◌∷◌, ◌++◌, length, get_or, replicate, set, refl, ap, sym, ◌∙◌, subst, inl, inr, arith}
+use Rattle.std.proofs.Common.{◌≡◌, ℕ, zero, suc, ◌<◌, ◌==◌, ◌&&◌, ◌||◌, max, min, Bool, true, false, List, [], ◌∷◌, ◌++◌, length, get_or, replicate, set, refl, ap, sym, ◌∙◌, subst, inl, inr, arith}
 use Rattle.std.specs.declared.vec.Vec.{Vec}
 use Rattle.std.specs.Vec.{with_items}
-use Rattle.std.proofs.lemmas.Bool.{cases_eq, eq-eqb, ne_eqb}
+use Rattle.std.proofs.lemmas.Bool.{cases_eq, cases_lt, eq-eqb, ne_eqb}
 use Rattle.std.proofs.lemmas.List.{get_or-set_other, get_or-set_same, length-replicate, length-set, with_items_is}
 use Rattle.std.proofs.lemmas.List.Folds.{list_any-append}
 use Rattle.tw_model.specs.declared.net.Link.{Link}
 use Rattle.tw_model.specs.Net.{Net, joins}
 use Rattle.tw_model.specs.Rules.{is_linked}
+use Rattle.tw_model.proofs.Nets.{linked_back}
 use Rattle.tw_instance.specs.Adjacency.{IsAdjacency, IsSquare, cell, with_cell, with_joined}
 use Rattle.tw_instance.specs.Tables.{items, row}
 use Rattle.tw_instance.proofs.Rows.{items-set, length-items, row_at}
@@ -153,3 +154,16 @@ module _ {Z : Type 0} (net : Net) (l : Link) (matrix more : List (Vec Bool Z)) w
             ∙ (one_of (is_linked net.links v w) ((f == v) && (s == w)) (s == v) (f == w)
             ∙ (sym (list_any-append (joins v w) net.links (l ∷ [])) ∙ ap (λ ls. is_linked ls v w) (sym is)))));
       }
+
+-- two routers are neighbours whichever of the two is named first
+pub linked_either : (links : List Link) (v w a b : ℕ) → a ≡ max v w → b ≡ min v w → is_linked links a b ≡ is_linked links v w
+linked_either links v w a b greater less = elim (cases_lt v w) [
+  | inl low ↦ (
+      let up : a ≡ w = omega arith in
+      let down : b ≡ v = omega arith in
+      ap (λ x. is_linked links x b) up ∙ (ap (λ x. is_linked links w x) down ∙ linked_back links w v))
+  | inr high ↦ (
+      let same : a ≡ v = omega arith in
+      let other : b ≡ w = omega arith in
+      ap (λ x. is_linked links x b) same ∙ ap (λ x. is_linked links v x) other)
+]

@@ -4,6 +4,7 @@ use Rattle.std.specs.List.{All, Contains}
 use Rattle.tw_event.specs.declared.event.PathNo.{PathNo}
 use Rattle.tw_model.specs.Net.{Net, IsPath, is_own, path, paths, paths_of}
 use Rattle.tw_instance.specs.Chains.{Extends, first_node}
+use Rattle.tw_instance.specs.Firsts.{AreFirsts}
 use Rattle.tw_instance.specs.Sparse.{IsCut, cut}
 use Rattle.tw_instance.specs.declared.extensions.Extension.{Extension}
 use Rattle.tw_instance.specs.declared.extensions.Extensions.{Extensions}
@@ -34,12 +35,15 @@ pub record HasRow (t : Extensions) (r : ℕ) : Type 0 where
   pub there : r + 1 < length t.starts.items
   pub cut : IsCut t.starts.items r (length t.numbers.items)
   pub alike : length t.extensions.items ≡ length t.numbers.items
+  pub firsts : AreFirsts t.starts.items t.extensions.items t.firsts.items
 
--- in the table each path has a row: the numbers of the paths that extend it, their first nodes, and their places
+-- in the table each path has a row: the numbers of the paths that extend it, their first nodes, and their places;
+-- and of each row the first extension is known
 pub record HasExtensions (net : Net) (t : Extensions) : Type 0 where
   pub long : length t.starts.items ≡ length (paths net) + 1
   pub cuts : (p : PathNo) → IsPath net p → IsCut t.starts.items p.0 (length t.numbers.items)
   pub nodes : nodes_in t.extensions.items ≡ map (first_node net) t.numbers.items
   pub places : ArePlacesOf net t.numbers.items (places_in t.extensions.items)
+  pub firsts : AreFirsts t.starts.items t.extensions.items t.firsts.items
   pub sound : (p : PathNo) → IsPath net p → All (λ q. Extends net q p) (cut t.starts.items p.0 t.numbers.items)
   pub whole : (p q : PathNo) → IsPath net p → Extends net q p → Contains (cut t.starts.items p.0 t.numbers.items) q

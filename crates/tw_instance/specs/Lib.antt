@@ -3,6 +3,7 @@ pub mod Build
 pub mod Chains
 pub mod Extensions
 pub mod Guesses
+pub mod Firsts
 pub mod Hops
 pub mod Index
 pub mod Instance

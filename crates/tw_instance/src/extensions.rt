@@ -6,6 +6,7 @@ ghost use Rattle.tw_event.specs.declared.event.PathNo.{PathNo as APathNo};
 ghost use Rattle.tw_model.specs.Net.{IsPath, Net, path};
 ghost use Rattle.tw_instance.specs.Chains.{first_node as first_node_of};
 ghost use Rattle.tw_instance.specs.Extensions.{ArePlacesOf, nodes_in, places_in};
+ghost use Rattle.tw_instance.specs.Firsts.{AreFirsts, IsFirstOf};
 ghost use Rattle.tw_instance.specs.Hops.{AreDistinct};
 
 use crate::chains::{Chains, rests_of};
@@ -22,6 +23,9 @@ pub struct Extension {
     pub place: u32,
 }
 
+/// The place that stands for none.
+const NOWHERE: u32 = u32::MAX;
+
 /// Of each path of an instance, by its number, the paths that extend it, in compressed sparse rows.
 #[derive(Drop, Debug)]
 pub struct Extensions {
@@ -31,6 +35,8 @@ pub struct Extensions {
     extensions: Vec<Extension>,
     /// The number of each extension.
     numbers: Vec<PathNo>,
+    /// The first extension of each row, at no place where the row is empty: most look-ups end here.
+    firsts: Vec<Extension>,
 }
 
 impl Extensions {
@@ -43,10 +49,12 @@ impl Extensions {
         let chains = Chains::new(alloc, rests_of(alloc, instance)?)?;
         let (starts, numbers) = chains.rows(alloc)?;
         let extensions = extensions_of(alloc, instance, &numbers)?;
+        let firsts = firsts_of(alloc, &starts, &extensions)?;
         Ok(Extensions {
             starts,
             extensions,
             numbers,
+            firsts,
         })
     }
 
@@ -73,6 +81,10 @@ impl Extensions {
         ensures whole { (net : Net) → HasExtensions net self.now → IsPath net number
             → (q : APathNo) → path net q ≡ node ∷ path net number → IsSome result }
     {
+        let first = self.firsts[number.0 as usize];
+        if first.node == node && first.place != NOWHERE {
+            return Some(first.place as usize);
+        }
         let index = self.position(node, number)?;
         Some(self.extensions[index].place as usize)
     }
@@ -91,6 +103,35 @@ impl Extensions {
         let (start, end) = (self.starts[row] as usize, self.starts[row + 1] as usize);
         let place = first_with_node(&self.extensions[start..end], node)?;
         Some(start + place)
+    }
+}
+
+/// The first extension of each row, where these are the places at which the rows begin, and behind them the
+/// one where the last row ends.
+fn firsts_of(
+    alloc: Global,
+    starts: &[u32],
+    extensions: &[Extension],
+) -> Result<Vec<Extension>, AllocError>
+    ensures { IfOk result (λ firsts. AreFirsts starts.now extensions.now firsts.items) }
+{
+    let mut firsts = Vec::with_capacity(alloc, starts.len())?;
+    for row in 1..starts.len() {
+        firsts.push(first_of(starts[row - 1], starts[row], extensions))?;
+    }
+    Ok(firsts)
+}
+
+/// The first extension of the row from one place to another.
+fn first_of(start: u32, end: u32, extensions: &[Extension]) -> Extension
+    ensures { IsFirstOf start end extensions.now result }
+{
+    match extensions.get(start as usize) {
+        Some(extension) if start < end => *extension,
+        _ => Extension {
+            node: 0,
+            place: NOWHERE,
+        },
     }
 }
 

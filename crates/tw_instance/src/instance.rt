@@ -234,7 +234,9 @@ impl Instance {
     pub(crate) fn is_linked(&self, first: u32, second: u32) -> bool
         ensures { result ≡ is_linked self.now.links first second }
     {
-        adjacency::are_joined(&self.adjacency, first, second)
+        // Both cells of a link are set. Of each two the one in the later row is read, so that half of the
+        // matrix is, and stays in nearer caches.
+        adjacency::are_joined(&self.adjacency, first.max(second), first.min(second))
     }
 
     /// The numbers of a router's permitted paths, best first; none where there is no such router.
