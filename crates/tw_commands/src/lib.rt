@@ -26,5 +26,5 @@ pub use command::{Command, answer_io};
 pub use input::{Input, Script};
 pub use refusal::refuse;
 pub use replay::replay_io;
-pub use seq::seq_io;
+pub use seq::{run_on_one_thread, seq_io};
 pub use trail::trail_io;

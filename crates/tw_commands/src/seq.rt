@@ -37,33 +37,38 @@ impl Command for Seq {
     ghost stuck = { λ seq case. GetsStuck case seq.stop };
 
     fn answer<W: Sink>(&self, alloc: Global, case: &Case, sink: &mut W) -> Result<Status, Cause> {
-        let (outcome, found) = run_case(alloc, case, *self)?;
+        let (outcome, found) = run_on_one_thread(alloc, case, self.stop, self.every, self.log)?;
         let verdict = Verdict::of(&outcome, found);
         write_report(sink, case.instance(), &outcome, verdict, self.log)?;
         Ok(Status::Done)
     }
 }
 
-/// What a run to the stop leaves, with its events where they are to be logged, and what was found at its
-/// checkpoints.
-fn run_case(
+/// What a run on one thread to the stop, in ticks, leaves, with its events where `log` says so, and what was
+/// found at its checkpoints, the multiples of `every`.
+///
+/// It is refused as `CounterFull` where the run gets stuck before the stop, since a counter of a router would
+/// pass its limit.
+pub fn run_on_one_thread(
     alloc: Global,
     case: &Case,
-    seq: Seq,
+    stop: u64,
+    every: Option<u64>,
+    log: bool,
 ) -> Result<(Outcome, Option<Finding>), OrMemory<CounterFull>>
-    requires stop { seq.stop ≤ LATEST }
-    requires every { IfSome seq.every (λ n. (0 < n) × (n ≤ LATEST)) }
-    ensures outcome { IfOk result (λ left. summary_of left.0 ≡ shown seq.log (outcome_of (complete_run case.now seq.stop))) }
-    ensures found { IfOk result (λ left. left.1 ≡ found_to case.now seq.stop seq.every) }
-    ensures full { IsErrOf result (or_memory.Fault counter_full) → GetsStuck case.now seq.stop }
+    requires stop { stop ≤ LATEST }
+    requires every { IfSome every (λ n. (0 < n) × (n ≤ LATEST)) }
+    ensures outcome { IfOk result (λ left. summary_of left.0 ≡ shown log (outcome_of (complete_run case.now stop))) }
+    ensures found { IfOk result (λ left. left.1 ≡ found_to case.now stop every) }
+    ensures full { IsErrOf result (or_memory.Fault counter_full) → GetsStuck case.now stop }
 {
-    if seq.log {
+    if log {
         let mut run = LoggedRun::new(alloc, case)?;
-        let found = run_to_stop(alloc, &mut run, seq.stop, seq.every)?;
+        let found = run_to_stop(alloc, &mut run, stop, every)?;
         Ok((run.into_outcome()?, found))
     } else {
         let mut run = OneThread::new(alloc, case)?;
-        let found = run_to_stop(alloc, &mut run, seq.stop, seq.every)?;
+        let found = run_to_stop(alloc, &mut run, stop, every)?;
         Ok((run.outcome_without_events()?, found))
     }
 }

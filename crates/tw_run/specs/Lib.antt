@@ -1,4 +1,3 @@
 pub mod Asked
 pub mod Stopped
-pub mod Full
 pub mod Threaded

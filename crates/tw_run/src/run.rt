@@ -1,14 +1,13 @@
 ghost use Rattle.std.specs.Prelude.{◌≡◌, ◌≤◌, ◌<◌, false, IfOk, IfSome, IsErrOf, OnOk};
-ghost use Rattle.tw_commands.specs.Seq.{found_to, seq_output, seq_report, shown};
+ghost use Rattle.tw_commands.specs.Seq.{GetsStuckFor, found_to, seq_output, seq_report, shown};
 ghost use Rattle.tw_device.specs.Source.{LosesInput, TakesInput};
 ghost use Rattle.tw_model.specs.Summary.{summary_of};
 ghost use Rattle.tw_model.specs.declared.limits.TheConstants.{LATEST};
 ghost use Rattle.tw_run.specs.Asked.{IsReady};
-ghost use Rattle.tw_run.specs.Full.{RunsFull, RunsFullFor};
 ghost use Rattle.tw_run.specs.Threaded.{AnswersThreaded, LeavesThreaded};
 ghost use Rattle.tw_run.specs.declared.stopped.Stopped.TheVariants as stopped;
 ghost use Rattle.tw_seq.specs.Outcome.{outcome_of as outcome_of_run};
-ghost use Rattle.tw_seq.specs.Run.{complete_run};
+ghost use Rattle.tw_seq.specs.Run.{GetsStuck, complete_run};
 
 use crate::ending::outcome_of;
 use crate::segments::run_through;
@@ -16,12 +15,13 @@ use crate::stopped::Stopped;
 use std::alloc::Global;
 use std::sync::Wait;
 use std::thread::Threads;
-use tw_commands::{Cause, Status, refuse};
+use tw_commands::{Cause, Status, refuse, run_on_one_thread};
 use tw_device::{Sink, Source, read_all};
 use tw_instance::Case;
 use tw_model::{OrMemory, Outcome};
 use tw_parallel::Sim;
 use tw_report::write_report;
+use tw_seq::CounterFull;
 use tw_shape::{Finding, Verdict};
 use tw_text::read_case;
 
@@ -57,7 +57,7 @@ pub fn run_io<X: Threads + Wait + Sync, R: Source, W: Sink>(
     requires stop { stop ≤ LATEST }
     requires every { IfSome every (λ n. (0 < n) × (n ≤ LATEST)) }
     requires workers { 0 < workers }
-    ensures answer { AnswersThreaded result (seq_output stop every log) RunsFullFor
+    ensures answer { AnswersThreaded result (seq_output stop every log) (GetsStuckFor stop)
         (R.remaining source.old) (W.written sink.old) (W.written sink.new) (R.failed source.new) (W.failed sink.new) }
     ensures read { OnOk result (LosesInput (R.remaining source.old) (R.remaining source.new)) }
     ensures most { TakesInput (R.remaining source.old) (R.remaining source.new) }
@@ -82,7 +82,7 @@ fn answer_text<X: Threads + Wait + Sync, W: Sink>(
 ) -> Result<Status, Cause>
     requires open { W.failed sink.old ≡ false }
     requires ready { IsReady asked }
-    ensures { LeavesThreaded result (seq_output asked.stop asked.every asked.log text.now) (RunsFullFor text.now)
+    ensures { LeavesThreaded result (seq_output asked.stop asked.every asked.log text.now) (GetsStuckFor asked.stop text.now)
         (W.written sink.old) (W.written sink.new) (W.failed sink.new) }
 {
     match read_case(alloc, text) {
@@ -102,7 +102,7 @@ fn answer_case<X: Threads + Wait + Sync, W: Sink>(
 ) -> Result<Status, Cause>
     requires open { W.failed sink.old ≡ false }
     requires ready { IsReady asked }
-    ensures { LeavesThreaded result (seq_report asked.stop asked.every asked.log case.now) (RunsFull case.now)
+    ensures { LeavesThreaded result (seq_report asked.stop asked.every asked.log case.now) (GetsStuck case.now asked.stop)
         (W.written sink.old) (W.written sink.new) (W.failed sink.new) }
 {
     let (outcome, found) = run_case(rt, alloc, case, asked)?;
@@ -112,7 +112,8 @@ fn answer_case<X: Threads + Wait + Sync, W: Sink>(
 }
 
 /// What a run to the stop leaves, with its events where they are to be logged, and what was found at its
-/// checkpoints.
+/// checkpoints. Where the workers meet a full counter, one thread runs the case anew: they run ahead, and may
+/// meet it where the one-thread run never comes to it.
 fn run_case<X: Threads + Wait + Sync>(
     rt: &X,
     alloc: Global,
@@ -122,9 +123,46 @@ fn run_case<X: Threads + Wait + Sync>(
     requires ready { IsReady asked }
     ensures outcome { IfOk result (λ left. summary_of left.0 ≡ shown asked.log (outcome_of_run (complete_run case.now asked.stop))) }
     ensures found { IfOk result (λ left. left.1 ≡ found_to case.now asked.stop asked.every) }
-    ensures full { IsErrOf result stopped.CounterFull → RunsFull case.now }
+    ensures full { IsErrOf result stopped.CounterFull → GetsStuck case.now asked.stop }
+{
+    match run_by_workers(rt, alloc, case, asked) {
+        Ok(left) => Ok(left),
+        Err(Stopped::Memory) => Err(Stopped::Memory),
+        Err(Stopped::NoThread) => Err(Stopped::NoThread),
+        Err(Stopped::CounterFull) => run_alone(alloc, case, asked),
+    }
+}
+
+/// The same by workers.
+fn run_by_workers<X: Threads + Wait + Sync>(
+    rt: &X,
+    alloc: Global,
+    case: &Case,
+    asked: Asked,
+) -> Result<(Outcome, Option<Finding>), Stopped>
+    requires ready { IsReady asked }
+    ensures outcome { IfOk result (λ left. summary_of left.0 ≡ shown asked.log (outcome_of_run (complete_run case.now asked.stop))) }
+    ensures found { IfOk result (λ left. left.1 ≡ found_to case.now asked.stop asked.every) }
 {
     let sim = Sim::open(alloc, case, asked.workers, asked.log)?;
     let (sim, found) = run_through(rt, alloc, sim, asked.stop, asked.every, asked.batch)?;
     Ok((outcome_of(&sim, asked.log)?, found))
+}
+
+/// The same on one thread.
+fn run_alone(
+    alloc: Global,
+    case: &Case,
+    asked: Asked,
+) -> Result<(Outcome, Option<Finding>), Stopped>
+    requires ready { IsReady asked }
+    ensures outcome { IfOk result (λ left. summary_of left.0 ≡ shown asked.log (outcome_of_run (complete_run case.now asked.stop))) }
+    ensures found { IfOk result (λ left. left.1 ≡ found_to case.now asked.stop asked.every) }
+    ensures full { IsErrOf result stopped.CounterFull → GetsStuck case.now asked.stop }
+{
+    match run_on_one_thread(alloc, case, asked.stop, asked.every, asked.log) {
+        Ok(left) => Ok(left),
+        Err(OrMemory::Memory) => Err(Stopped::Memory),
+        Err(OrMemory::Fault(CounterFull)) => Err(Stopped::CounterFull),
+    }
 }

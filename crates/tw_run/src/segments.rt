@@ -1,10 +1,8 @@
-ghost use Rattle.std.specs.Prelude.{◌≡◌, ◌≤◌, ◌<◌, ◌/◌, IfOk, IfSome, IsErrOf};
+ghost use Rattle.std.specs.Prelude.{◌≡◌, ◌≤◌, ◌<◌, ◌/◌, IfOk, IfSome};
 ghost use Rattle.tw_commands.specs.Seq.{found_to};
 ghost use Rattle.tw_model.specs.declared.limits.TheConstants.{LATEST};
 ghost use Rattle.tw_parallel.specs.Ending.{IsSettled};
 ghost use Rattle.tw_parallel.specs.Sim.{IsSim, KeepsEvents};
-ghost use Rattle.tw_run.specs.Full.{RunsFull};
-ghost use Rattle.tw_run.specs.declared.stopped.Stopped.TheVariants as stopped;
 ghost use Rattle.tw_shape.specs.Shape.{shape as shape_at};
 ghost use Rattle.tw_shape.specs.Verdict.{finding};
 
@@ -29,7 +27,6 @@ fn run_to<'a, X: Threads + Wait + Sync>(
     ensures case { IfOk result (λ s. s.case ≡ sim.entry.case) }
     ensures stop { IfOk result (λ s. s.board.stop ≡ stop) }
     ensures keeps { KeepsEvents sim.entry → IfOk result (λ s. KeepsEvents s) }
-    ensures full { IsErrOf result stopped.CounterFull → RunsFull sim.entry.case }
 {
     match run_until(rt, sim, stop, Options { batch }, &OpenGate) {
         Ok(sim) => Ok(sim),
@@ -55,7 +52,6 @@ pub(crate) fn run_through<'a, X: Threads + Wait + Sync>(
     ensures stop { IfOk result (λ left. left.0.board.stop ≡ stop) }
     ensures keeps { KeepsEvents sim.entry → IfOk result (λ left. KeepsEvents left.0) }
     ensures found { IfOk result (λ left. left.1 ≡ found_to sim.entry.case stop every) }
-    ensures full { IsErrOf result stopped.CounterFull → RunsFull sim.entry.case }
 {
     match every {
         Some(every) => run_watched(rt, alloc, sim, stop, every, batch),
@@ -85,7 +81,6 @@ fn run_watched<'a, X: Threads + Wait + Sync>(
     ensures stop { IfOk result (λ left. left.0.board.stop ≡ stop) }
     ensures keeps { KeepsEvents sim.entry → IfOk result (λ left. KeepsEvents left.0) }
     ensures found { IfOk result (λ left. left.1 ≡ finding sim.entry.case every (stop / every)) }
-    ensures full { IsErrOf result stopped.CounterFull → RunsFull sim.entry.case }
 {
     let mut watch = Watch::new(alloc, every)?;
     let last = stop / every;

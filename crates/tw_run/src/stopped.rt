@@ -1,7 +1,7 @@
-ghost use Rattle.std.specs.Prelude.{◌≡◌};
+ghost use Rattle.std.specs.Prelude.{◌≡◌, ◌↔◌};
 ghost use Rattle.tw_parallel.specs.declared.running.EndCause.TheVariants as ended;
 ghost use Rattle.tw_run.specs.Stopped.{run_cause};
-ghost use Rattle.tw_run.specs.declared.stopped.Stopped.TheVariants.{Memory, CounterFull};
+ghost use Rattle.tw_run.specs.declared.stopped.Stopped.TheVariants.{Memory, CounterFull, NoThread};
 
 use std::alloc::AllocError;
 use tw_commands::Cause;
@@ -22,7 +22,9 @@ impl Stopped {
     /// Why a parallel run has ended whose stop was allowed.
     pub(crate) fn of(cause: EndCause) -> Stopped
         requires { cause ≡ ended.StopLower → ⊥ }
-        ensures { result ≡ CounterFull → cause ≡ ended.CounterFull }
+        ensures memory { (result ≡ Memory) ↔ (cause ≡ ended.Memory) }
+        ensures full { (result ≡ CounterFull) ↔ (cause ≡ ended.CounterFull) }
+        ensures thread { (result ≡ NoThread) ↔ (cause ≡ ended.NoThread) }
     {
         match cause {
             EndCause::Memory => Stopped::Memory,

@@ -11,7 +11,6 @@ use Rattle.tw_commands.specs.Trail.{TrailGetsStuck, trail_output}
 use Rattle.tw_model.specs.declared.limits.TheConstants.{LATEST}
 use Rattle.tw_options.specs.declared.command_line.CommandLine.{CommandLine}
 use Rattle.tw_options.specs.declared.command_line.CommandLine.TheVariants.{Check, Seq, Run, Trail, Replay}
-use Rattle.tw_run.specs.Full.{RunsFullFor}
 use Rattle.tw_run.specs.Threaded.{LacksThread}
 
 -- its stop and its checkpoints are within their limits, and there is a worker
@@ -40,7 +39,7 @@ status_number (Err cause) = 2
 abbrev pub StopsFull : CommandLine → List ℕ → Type 0
 StopsFull Check input = ⊥
 StopsFull (Seq stop every log) input = GetsStuckFor stop input
-StopsFull (Run stop every log workers batch) input = RunsFullFor input
+StopsFull (Run stop every log workers batch) input = GetsStuckFor stop input
 StopsFull (Trail router stop keep) input = TrailGetsStuck router stop input
 StopsFull (Replay stop workers) input = ⊥
 
