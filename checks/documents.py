@@ -13,7 +13,8 @@ import re
 from common import TOP, Tally
 
 DOCUMENTS = ["*.md", "docs/*.md", "bench/*.md", "cases/*.md", "tools/*.md"]
-SOURCES = ["crates.txt", "HANDLES", "twarp", ".ci/run", "checks/*", "bench/*.py", "cases/*.spp", "cases/*.replay", "crates/*/must-fail/*"]
+SOURCES = ["crates.txt", "HANDLES", "twarp", ".ci/run", "checks/*", "bench/*.py", "cases/*.spp", "cases/*.replay"]
+SOURCES += ["crates/*/must-fail/*", "crates/*/wrong-bodies/*"]
 SOURCES += ["tools/*", "tools/**/*.py"]
 CODE = [f"crates/*/{part}/**/*.{kind}" for part in ("src", "specs", "proofs") for kind in ("rt", "antt")]
 
