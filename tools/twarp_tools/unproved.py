@@ -13,13 +13,14 @@ from typing import BinaryIO
 
 from twarp_tools.toolchain import MISSING, NOT_RUN, RT, find_kit, started, tell
 
-NOTICE = "this run is not proved: it builds the program without proofs, which takes about a minute, and checks it while it runs; ./twarp --build proves it"
-LIMITS = "a run by --try writes at most 1 MiB and takes at most a minute; ./twarp --build makes a program without these limits"
+NOTICE = "this run is not proved: the program is built without proofs, in about a minute, and checked while it runs (proved: ./twarp --build)"
+LIMITS = "A run by --try writes at most 1 MiB and takes at most a minute; ./twarp --build makes a program without these limits"
 INPUT_LIMIT = 64 << 20
 STANDARD_INPUT = 0
 
-# What rt says after the program's own standard error where the program ended.
+# What rt says after the program's own standard error where the program ended, and where it did not.
 ENDED = re.compile(rb"^checked: ended status=\d+\n(?:.*\n)*?run=ended status=(\d+) .*proved=no\n\Z", re.M)
+NO_ANSWER = re.compile(rb"^checked: no-answer: (.*)$", re.M)
 
 
 def reads_input(words: list[str]) -> bool:
@@ -39,14 +40,17 @@ def whole_input(words: list[str]) -> Iterator[BinaryIO]:
 
 
 def explain(status: int, said: bytes) -> int:
-    """Gives the program's exit status, and its standard error; or says why it has none."""
+    """Gives the program's exit status, and writes its standard error; or says why it has none."""
     ended = ENDED.search(said)
-    is_ended = ended is not None and int(ended[1]) == status
-    sys.stderr.buffer.write(said[: ended.start()] if ended and is_ended else said)
-    sys.stderr.flush()
-    if is_ended:
+    if ended and int(ended[1]) == status:
+        sys.stderr.buffer.write(said[: ended.start()])
         return status
-    tell(f"the program gave no answer, and what rt said of it stands above. {LIMITS}")
+    if why := NO_ANSWER.search(said):
+        tell(f"no answer: {why[1].decode(errors='replace')}. {LIMITS}")
+    else:
+        sys.stderr.buffer.write(said)
+        sys.stderr.flush()
+        tell("the program did not run to its end; what rt said of it stands above")
     return NOT_RUN
 
 
