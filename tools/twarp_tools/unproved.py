@@ -4,7 +4,6 @@ from __future__ import annotations
 import contextlib
 import os
 import re
-import shutil
 import subprocess
 import sys
 import tempfile
@@ -34,7 +33,7 @@ def whole_input(words: list[str]) -> Iterator[BinaryIO]:
     with tempfile.TemporaryFile() as file:
         if reads_input(words):
             with open(STANDARD_INPUT, "rb", closefd=False) as source:
-                shutil.copyfileobj(source, file)
+                file.write(source.read(INPUT_LIMIT + 1))
         file.seek(0)
         yield file
 
@@ -54,14 +53,22 @@ def explain(status: int, said: bytes) -> int:
     return NOT_RUN
 
 
-def main(words: list[str]) -> int:
-    if find_kit() is None:
-        return MISSING
-    tell(NOTICE)
+def run(words: list[str]) -> int:
     with whole_input(words) as source:
         if os.fstat(source.fileno()).st_size > INPUT_LIMIT:
             tell("a run by --try reads at most 64 MiB")
             return NOT_RUN
         with started([RT, "try", "--", *words], stdin=source, stderr=subprocess.PIPE) as child:
             said = child.stderr.read()
-        return explain(child.returncode, said)
+    return explain(child.returncode, said)
+
+
+def main(words: list[str]) -> int:
+    if find_kit() is None:
+        return MISSING
+    tell(NOTICE)
+    try:
+        return run(words)
+    except OSError as error:
+        tell(f"standard input or rt can't be read: {error}")
+        return NOT_RUN
