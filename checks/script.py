@@ -7,6 +7,7 @@ import os
 import shutil
 import signal
 import subprocess
+import sys
 import tempfile
 import time
 import unittest
@@ -14,7 +15,10 @@ from pathlib import Path
 
 from common import TOP, Tally
 
-# The stand-in says what rt says at `try`, and builds a program that prints its words.
+sys.path.append(str(TOP / "tools"))
+from twarp_tools import schedule
+
+# The stand-in says what rt says at `try`, and builds libraries, and a program that prints its words.
 RT = r"""#!/bin/sh
 echo "$*" >>"$(dirname "$0")/calls"
 case $1 in
@@ -29,7 +33,10 @@ try)
     printf 'checked: ended status=%s\nraces: not looked for\nrun=ended status=%s runners=1 proved=no\n' \
         "${status:-0}" "${status:-0}" >&2
     exit "${status:-0}" ;;
-all) [ ! -e ../tw_low/src/bad.rt ] || { echo "fn bad: not proved"; exit 1; }; printf '== tw_low\n== twarp\n== summary\n' ;;
+lib)
+    [ ! -e src/slow.rt ] || exec sleep 600
+    [ ! -e src/bad.rt ] || { echo "fn bad: not proved"; exit 1; }
+    mkdir -p out/rlib ;;
 run) mkdir -p out; printf '#!/bin/sh\necho proved "$@"\nexit 3\n' >out/twarp; chmod +x out/twarp ;;
 esac
 """
@@ -103,15 +110,26 @@ class ScriptTest(unittest.TestCase):
         self.assertIn("did not end within the time limit", err)
         self.assertIn("1 MiB", err)
 
+    def end(self, script, number):
+        """Ends the script by a signal once it has called rt."""
+        while not self.calls():
+            time.sleep(0.05)
+        script.send_signal(number)
+        # Standard output is at its end once no child has it open.
+        script.communicate(timeout=60)
+        self.assertEqual(script.returncode, 128 + number)
+
     def test_children_end_with_the_script(self):
+        (self.clone / "crates/tw_low/src/slow.rt").touch()
+        kept = self.clone / "crates/tw_low/out/kept"
+        kept.parent.mkdir()
+        kept.touch()
         for number in signal.SIGINT, signal.SIGTERM, signal.SIGHUP:
-            with self.subTest(number), self.start("--try", "trail") as script:
-                while "try" not in "".join(self.calls()):
-                    time.sleep(0.05)
-                script.send_signal(number)
-                # Standard output is at its end once no child has it open.
-                script.communicate(timeout=60)
-                self.assertEqual(script.returncode, 128 + number)
+            for words in ["--try", "trail"], ["--build"]:
+                with self.subTest(words, number=number), self.start(*words) as script:
+                    self.end(script, number)
+                    self.assertTrue(kept.exists())
+                    self.assertEqual(list((self.clone / "out").glob("*")), [])
 
     def test_no_toolchain(self):
         for words in ["--try", "check"], ["--build"], ["check"]:
@@ -120,7 +138,7 @@ class ScriptTest(unittest.TestCase):
             self.assertIn("the command rt", err)
 
     def test_it_is_built_once_and_again_where_something_changed(self):
-        build = ["all check", "run -- --help"]
+        build = ["lib", "run -- --help"]
         changes = {
             "nothing built": lambda: None,
             "a source": lambda: (self.clone / "crates/tw_low/src/lib.rt").touch(),
@@ -139,7 +157,7 @@ class ScriptTest(unittest.TestCase):
     def test_a_build_says_where_it_is(self):
         status, out, err = self.run_script("--build")
         self.assertEqual((status, out), (0, ""))
-        self.assertRegex(err, r"(?s)2 crates.*crate 1 of 2: tw_low.*crate 2 of 2: twarp")
+        self.assertRegex(err, r"(?s)0 of 2 crates after .* now tw_low\n.*now twarp\n.*built\n$")
 
     def test_a_build_that_fails_says_why_and_leaves_the_program_stale(self):
         (self.clone / "crates/tw_low/src/bad.rt").touch()
@@ -149,8 +167,45 @@ class ScriptTest(unittest.TestCase):
             self.assertIn("fn bad: not proved", err)
 
 
+class ScheduleTest(unittest.TestCase):
+    GRAPH = schedule.graph_of("top: left right\nleft: low\nright: low\nlow: clap\nalone:\nother: alone\n")
+    CHAIN = schedule.chains(GRAPH, "top", {"top": 1, "left": 3, "right": 5, "low": 2})
+
+    def choose(self, done, running, cores):
+        return schedule.choose(self.GRAPH, self.CHAIN, {*done}, {*running}, cores)
+
+    def test_only_what_the_top_stands_on(self):
+        self.assertEqual(schedule.below(self.GRAPH, "top"), ["low", "left", "right", "top"])
+        self.assertEqual(self.CHAIN, {"top": 1, "left": 4, "right": 6, "low": 8})
+        graph = schedule.graph_of((TOP / "crates.txt").read_text())
+        self.assertFalse({"tw_rows", "tw_bench"} & {*schedule.below(graph, "twarp")})
+
+    def test_the_longest_chain_comes_first(self):
+        self.assertEqual(self.choose([], [], 4), {"low": 4})
+        self.assertEqual(self.choose([], ["low"], 4), {})
+        self.assertEqual(self.choose(["low"], [], 1), {"right": 1})
+        self.assertEqual(self.choose(["low"], [], 2), {"right": 1, "left": 1})
+        self.assertEqual(self.choose(["low"], [], 4), {"right": 3, "left": 1})
+        self.assertEqual(self.choose(["low"], ["right"], 4), {"left": 1})
+        self.assertEqual(self.choose(["low", "left", "right"], [], 2), {"top": 2})
+
+    def test_each_crate_is_proved_once_after_those_that_it_uses(self):
+        graph = schedule.graph_of((TOP / "crates.txt").read_text())
+        chain = schedule.chains(graph, "twarp", dict.fromkeys(graph, 1))
+        for cores in 1, 2, 4, 16:
+            done, running = [], []
+            while len(done) < len(chain):
+                begun = schedule.choose(graph, chain, {*done}, {*running}, cores)
+                self.assertTrue(all({*graph[crate]} <= {*done} for crate in begun))
+                running += begun
+                self.assertLessEqual(len(running), cores)
+                done.append(running.pop(0))
+            self.assertEqual(sorted(done), sorted(chain))
+
+
 def main():
-    suite = unittest.defaultTestLoader.loadTestsFromTestCase(ScriptTest)
+    loader = unittest.defaultTestLoader
+    suite = unittest.TestSuite(map(loader.loadTestsFromTestCase, [ScriptTest, ScheduleTest]))
     result = unittest.TestResult()
     suite.run(result)
     tally = Tally()

@@ -1,38 +1,23 @@
 """The proved program, built where it is not: what `./twarp --build` does."""
 from __future__ import annotations
 
+import fcntl
 import os
-import re
 import subprocess
 import sys
 import time
-from collections import deque
 
-from twarp_tools.toolchain import MISSING, NOT_RUN, PROGRAM, ROOT, RT, find_kit, started, tell
-
-CRATE_IS_DONE = re.compile(r"^== (?!summary$)(\w+)$")
+from twarp_tools.copies import SOURCES, Copies
+from twarp_tools.schedule import Graph, below, chains, choose, graph_of
+from twarp_tools.toolchain import MISSING, NOT_RUN, PROGRAM, ROOT, RT, end_with_signals, find_kit, started, tell
 
 # What a check takes of memory, which few exceed.
 MEMORY_OF_A_CHECK = 2_500_000_000
+SECONDS_BETWEEN_LOOKS = 0.2
 
 # Which toolchain built the program: the script twarp compares it with the one on the PATH.
 KIT_SUM = "WHAT"
 KEPT_SUM = PROGRAM.parent / "toolchain"
-
-
-def graph_of(text: str) -> dict[str, list[str]]:
-    """The crates of a crates.txt, each with those of them that it uses."""
-    lines = [line.partition("#")[0].partition(":") for line in text.splitlines()]
-    uses = {head.split()[0]: words.split() for head, _, words in lines if head.strip()}
-    return {name: [word for word in words if word in uses] for name, words in uses.items()}
-
-
-def below(graph: dict[str, list[str]], top: str) -> list[str]:
-    """A crate and all that it stands on, each after those that it uses."""
-    found: dict[str, None] = {}
-    for crate in graph[top]:
-        found |= dict.fromkeys(below(graph, crate))
-    return [*found, top]
 
 
 def checks_at_once() -> int:
@@ -41,48 +26,77 @@ def checks_at_once() -> int:
     return max(1, min(len(os.sched_getaffinity(0)), memory // MEMORY_OF_A_CHECK))
 
 
-class Progress:
-    """Says on standard error which crates are proved, and keeps what rt says."""
-
-    def __init__(self, count: int):
-        self.count, self.done, self.start = count, 0, time.monotonic()
-        self.log: deque[str] = deque(maxlen=100_000)
-
-    def follow(self, line: str) -> None:
-        self.log.append(line)
-        if found := CRATE_IS_DONE.match(line):
-            self.done += 1
-            minutes = (time.monotonic() - self.start) / 60
-            tell(f"crate {self.done} of {self.count}: {found[1]}, after {minutes:.1f} minutes")
+def size_of(crate: str) -> int:
+    """The bytes of its sources, by which the time of its proof is guessed."""
+    folders = [ROOT / "crates" / crate / part for part in SOURCES]
+    return sum(file.stat().st_size for folder in folders for file in folder.rglob("*.*"))
 
 
-def call(words: list[str], progress: Progress) -> bool:
-    """Whether a call of rt passes."""
+def prove_libraries(graph: Graph, crates: list[str], cores: int) -> str | None:
+    """Proves all crates but the last, side by side. Gives what rt said where one is not proved."""
+    chain = chains(graph, crates[-1], {crate: size_of(crate) for crate in crates})
+    del chain[crates[-1]]
+    done: set[str] = set()
+    start = time.monotonic()
+    with Copies(graph) as copies:
+        while len(done) < len(chain):
+            begun = choose(graph, chain, done, {*copies.running}, cores)
+            for crate, jobs in begun.items():
+                copies.start(crate, jobs)
+            if begun:
+                minutes = (time.monotonic() - start) / 60
+                tell(f"{len(done)} of {len(crates)} crates after {minutes:.1f} minutes; now {', '.join(copies.running)}")
+            time.sleep(SECONDS_BETWEEN_LOOKS)
+            for crate, is_proved, said in copies.ended():
+                if not is_proved:
+                    return said
+                done.add(crate)
+    return None
+
+
+def prove_program() -> str | None:
+    """Proves the program over its libraries and builds it. Gives what rt said where it did not."""
+    tell(f"all libraries are proved; now {PROGRAM.name}")
     how = {"stdin": subprocess.DEVNULL, "stdout": subprocess.PIPE, "stderr": subprocess.STDOUT}
-    with started([RT, *words], **how) as child:
-        for line in child.stdout:
-            progress.follow(line.decode(errors="replace").rstrip("\n"))
-    return child.returncode == 0
+    with started([RT, "run", "--", "--help"], **how) as child:
+        said = child.stdout.read().decode(errors="replace")
+    return said if child.returncode else None
+
+
+def hold(crates: list[str]) -> list[int]:
+    """Keeps other runs of rt out of the crates' folders until these files are closed, as rt does itself."""
+    held = [os.open(ROOT / "crates" / crate, os.O_RDONLY) for crate in sorted(crates)]
+    for file in held:
+        try:
+            fcntl.flock(file, fcntl.LOCK_EX | fcntl.LOCK_NB)
+        except BlockingIOError:
+            tell("waiting for another run of rt in this clone to end")
+            fcntl.flock(file, fcntl.LOCK_EX)
+    return held
 
 
 def build() -> int:
-    """Proves each crate that the program stands on, some side by side, and then the program itself."""
     kit = find_kit()
     if kit is None:
         return MISSING
     graph = graph_of((ROOT / "crates.txt").read_text())
-    crates, at_once = below(graph, PROGRAM.name), checks_at_once()
-    tell(f"proving and building the program: {len(crates)} crates, up to {at_once} at a time")
+    crates, cores = below(graph, PROGRAM.name), checks_at_once()
+    tell(f"proving and building the program: {len(crates)} crates, up to {cores} at a time")
     began = time.time()
-    progress = Progress(len(crates))
-    is_proved = call(["all", "check", "--jobs", str(at_once)], progress)
-    if not (is_proved and call(["run", "--", "--help"], progress)):
-        print(*progress.log, sep="\n", file=sys.stderr)
+    held = hold(crates)
+    end_with_signals()
+    said = prove_libraries(graph, crates, cores)
+    for file in held:
+        os.close(file)
+    said = said if said is not None else prove_program()
+    if said is not None:
+        print(said, file=sys.stderr)
         tell("the program was not built; what rt said stands above")
         return NOT_RUN
     # An edit during the build leaves it stale.
     os.utime(PROGRAM, (began, began))
     KEPT_SUM.write_bytes((kit / KIT_SUM).read_bytes())
+    tell("the program is proved and built")
     return 0
 
 
@@ -90,4 +104,8 @@ def main(words: list[str]) -> int:
     if words:
         tell(f"--build takes no words: {' '.join(words)}")
         return NOT_RUN
-    return build()
+    try:
+        return build()
+    except OSError as error:
+        tell(f"the program was not built: {error}")
+        return NOT_RUN

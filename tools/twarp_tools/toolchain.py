@@ -32,15 +32,20 @@ def find_kit() -> Path | None:
     return Path(found).resolve().parent.parent
 
 
-def end_with_signal(number: int, _frame: object) -> None:
-    sys.exit(128 + number)
+def end_with_signals() -> None:
+    """Has INT, TERM and HUP end this script as an exit does, which ends its children."""
+
+    def end(number: int, _frame: object) -> None:
+        sys.exit(128 + number)
+
+    for number in signal.SIGINT, signal.SIGTERM, signal.SIGHUP:
+        signal.signal(number, end)
 
 
 @contextlib.contextmanager
 def started(words: list[str], cwd: Path = CRATE, **how: object) -> Iterator[subprocess.Popen[bytes]]:
     """A command in a crate, or else in that of the program. It is ended where this script is, by INT, TERM or HUP too."""
-    for number in signal.SIGINT, signal.SIGTERM, signal.SIGHUP:
-        signal.signal(number, end_with_signal)
+    end_with_signals()
     with subprocess.Popen(words, cwd=cwd, **how) as child:
         try:
             yield child
