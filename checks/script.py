@@ -125,7 +125,7 @@ class ScriptTest(unittest.TestCase):
         kept.parent.mkdir()
         kept.touch()
         for number in signal.SIGINT, signal.SIGTERM, signal.SIGHUP:
-            for words in ["--try", "trail"], ["--build"]:
+            for words in ["--try", "trail"], ["--build"], ["seq"]:
                 with self.subTest(words, number=number), self.start(*words) as script:
                     self.end(script, number)
                     self.assertTrue(kept.exists())
@@ -158,6 +158,9 @@ class ScriptTest(unittest.TestCase):
         status, out, err = self.run_script("--build")
         self.assertEqual((status, out), (0, ""))
         self.assertRegex(err, r"(?s)0 of 2 crates after .* now tw_low\n.*now twarp\n.*built\n$")
+        self.calls()
+        self.assertEqual(self.run_script("--build")[:2], (0, ""))
+        self.assertEqual(self.calls(), [])
 
     def test_a_build_that_fails_says_why_and_leaves_the_program_stale(self):
         (self.clone / "crates/tw_low/src/bad.rt").touch()

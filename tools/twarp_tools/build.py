@@ -3,9 +3,11 @@ from __future__ import annotations
 
 import fcntl
 import os
+import signal
 import subprocess
 import sys
 import time
+from typing import NoReturn
 
 from twarp_tools.copies import SOURCES, Copies
 from twarp_tools.schedule import Graph, below, chains, choose, graph_of
@@ -100,12 +102,20 @@ def build() -> int:
     return 0
 
 
+def run(words: list[str]) -> NoReturn:
+    """Lets the program take this process's place, with the signals that a shell gives it."""
+    for number in signal.SIGPIPE, signal.SIGXFSZ:
+        signal.signal(number, signal.SIG_DFL)
+    os.execv(PROGRAM, [str(PROGRAM), *words])
+
+
 def main(words: list[str]) -> int:
-    if words:
-        tell(f"--build takes no words: {' '.join(words)}")
-        return NOT_RUN
+    """Builds the program, and runs it with the words that stand behind `--then`."""
     try:
-        return build()
+        status = build()
     except OSError as error:
         tell(f"the program was not built: {error}")
         return NOT_RUN
+    if status == 0 and words[:1] == ["--then"]:
+        run(words[1:])
+    return status

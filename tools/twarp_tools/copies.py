@@ -78,7 +78,7 @@ class Copies:
     def __exit__(self, *_: object) -> None:
         for copy in self.running.values():
             copy.end()
-        shutil.rmtree(FOLDER)
+        shutil.rmtree(FOLDER, ignore_errors=True)
 
     def start(self, crate: str, jobs: int) -> None:
         copy = self.free.pop() if self.free else Copy(FOLDER / str(len(self.running)))
