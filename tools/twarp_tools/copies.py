@@ -36,11 +36,11 @@ class Copy:
 
     def start(self, graph: Graph, crate: str, jobs: int) -> None:
         """Begins the proof of a crate; those below it are proved."""
-        self.crate = crate
-        for other in below(graph, crate)[:-1]:
-            self.link(f"crates/{other}/out/rlib")
+        self.rt: subprocess.Popen[bytes] | None = None
         self.own = self.folder / "crates" / crate
         self.kept = ROOT / "crates" / crate / "out"
+        for other in below(graph, crate)[:-1]:
+            self.link(f"crates/{other}/out/rlib")
         if self.kept.exists():
             self.kept.rename(self.own / "out")
         words = [RT, "lib", "--jobs", str(jobs)]
@@ -55,12 +55,15 @@ class Copy:
 
     def end(self) -> bool:
         """Ends the proof, moves back what rt kept, and gives whether the crate is proved."""
-        if self.rt.poll() is None:
+        if self.is_running():
             self.rt.terminate()
             self.rt.wait()
         if (self.own / "out").exists():
             (self.own / "out").rename(self.kept)
-        return self.rt.returncode == 0
+        return self.rt is not None and self.rt.returncode == 0
+
+    def is_running(self) -> bool:
+        return self.rt is not None and self.rt.poll() is None
 
 
 class Copies:
@@ -82,13 +85,14 @@ class Copies:
 
     def start(self, crate: str, jobs: int) -> None:
         copy = self.free.pop() if self.free else Copy(FOLDER / str(len(self.running)))
+        # From here on it is ended with the others, also by a signal.
         self.running[crate] = copy
         copy.start(self.graph, crate, jobs)
 
     def ended(self) -> Iterator[tuple[str, bool, str]]:
         """The crates whose proofs have ended, whether they are proved, and what rt said."""
         for crate, copy in [*self.running.items()]:
-            if copy.rt.poll() is not None:
+            if not copy.is_running():
                 is_proved = copy.end()
                 del self.running[crate]
                 self.free.append(copy)
