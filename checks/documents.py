@@ -14,7 +14,7 @@ import re
 from common import TOP, Tally
 from functions import functions_of
 
-DOCUMENTS = ["*.md", "docs/*.md", "bench/*.md", "cases/*.md", "tools/*.md"]
+DOCUMENTS = ["*.md", "docs/*.md", "bench/*.md", "cases/*.md", "checks/*.md", "tools/*.md"]
 SOURCES = ["crates.txt", "HANDLES", "twarp", ".ci/run", "checks/*", "bench/*.py", "cases/*.spp", "cases/*.replay"]
 SOURCES += ["crates/*/must-fail/*", "crates/*/wrong-bodies/*"]
 SOURCES += ["tools/*", "tools/**/*.py"]
