@@ -19,7 +19,7 @@ from math import sqrt
 Neighbours = Sequence[Sequence[int]]
 
 FIRST_SEED = 1
-SMALLER = 0.6
+SMALLER = 0.7
 LEAST_STEP = 0.02
 MOST_ROUNDS = 60
 # Beyond so many pairs of a router and a link, links may pass under routers.
@@ -34,6 +34,11 @@ class Point:
     def move(self, x: float, y: float) -> None:
         self.x += x
         self.y += y
+
+
+def distance(one: Point, other: Point) -> float:
+    x, y = other.x - one.x, other.y - one.y
+    return sqrt(x * x + y * y)
 
 
 def hops_from(start: int, neighbours: Neighbours) -> dict[int, int]:
@@ -58,11 +63,11 @@ def wanted_distances(neighbours: Neighbours) -> list[tuple[int, int, int]]:
 
 def pull(points: list[Point], pairs: list[tuple[int, int, int]], step: float) -> None:
     """Moves each two routers toward the distance that they should have, near ones more than far ones."""
-    for a, b, distance in pairs:
+    for a, b, hops in pairs:
         one, other = points[a], points[b]
         x, y = other.x - one.x, other.y - one.y
         length = sqrt(x * x + y * y) or 1e-9
-        share = min(1.0, step / (distance * distance)) * (length - distance) / (2 * length)
+        share = min(1.0, step / (hops * hops)) * (length - hops) / (2 * length)
         x, y = share * x, share * y
         one.x, one.y, other.x, other.y = one.x + x, one.y + y, other.x - x, other.y - y
 
@@ -72,7 +77,7 @@ def place_by_hops(neighbours: Neighbours) -> list[Point]:
     draw = random.Random(FIRST_SEED)
     points = [Point(draw.random(), draw.random()) for _ in neighbours]
     pairs = wanted_distances(neighbours)
-    step = float(max((distance * distance for _, _, distance in pairs), default=1))
+    step = float(max((hops * hops for _, _, hops in pairs), default=1))
     while step > LEAST_STEP:
         draw.shuffle(pairs)
         pull(points, pairs, step)
@@ -127,9 +132,18 @@ def part_from_links(points: list[Point], links: list[tuple[int, int]], least: fl
     return any(moved)
 
 
-def least_distance(points: list[Point]) -> float:
-    offsets = ((a.x - b.x, a.y - b.y) for a, b in combinations(points, 2))
-    return min((sqrt(x * x + y * y) for x, y in offsets), default=1.0)
+def part_all(points: list[Point], links: list[tuple[int, int]], least: float) -> None:
+    """Moves points apart until none is near to another or to a link of others, or for so long as is reasonable."""
+    is_cleared = len(points) * len(links) <= MOST_CLEARED
+    for _ in range(MOST_ROUNDS):
+        was_near = part_points(points, least)
+        was_crossed = is_cleared and part_from_links(points, links, least / 2)
+        if not (was_near or was_crossed):
+            return
+
+
+def least_distance(points: list[Point], least: float) -> float:
+    return min((distance(a, b) for a, b in combinations(points, 2)), default=least)
 
 
 def turn_down(points: list[Point], first: Point) -> None:
@@ -146,22 +160,18 @@ def turn_down(points: list[Point], first: Point) -> None:
         point.x, point.y = point.x * cosine - point.y * sine, point.x * sine + point.y * cosine
 
 
-def lay_out(neighbours: Neighbours, link: float, least: float) -> list[Point]:
-    """A place for each router, the first one below the others where it is not amid them.
+def lay_out(neighbours: Neighbours, link: float, least: float, lowest: int | None) -> list[Point]:
+    """A place for each router; `lowest` is below the others where it is not amid them.
 
     A link is about `link` long, no two routers are nearer to one another than `least`, and the least coordinates are 0.
     """
     points = place_by_hops(neighbours)
-    turn_down(points, points[0])
+    if lowest is not None:
+        turn_down(points, points[lowest])
     for point in points:
         point.x, point.y = point.x * link, point.y * link
     links = [(a, b) for a, row in enumerate(neighbours) for b in row if a < b]
-    is_cleared = len(points) * len(links) <= MOST_CLEARED
-    for _ in range(MOST_ROUNDS):
-        was_near = part_points(points, least)
-        was_crossed = is_cleared and part_from_links(points, links, least / 2)
-        if not (was_near or was_crossed):
-            break
-    larger = max(1.0, least / (least_distance(points) or 1.0))
+    part_all(points, links, least)
+    larger = max(1.0, least / (least_distance(points, least) or 1.0))
     left, top = min(point.x for point in points), min(point.y for point in points)
     return [Point(round((point.x - left) * larger, 1), round((point.y - top) * larger, 1)) for point in points]

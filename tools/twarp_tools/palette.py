@@ -47,6 +47,7 @@ LIGHT = {
     "period": "#f4d35e",
     "again": "#c79a00",
     "hatch": "#e3e3e3",
+    "focus": "#0b57d0",
 }
 DARK = {
     "ground": "#15181c",
@@ -64,4 +65,5 @@ DARK = {
     "period": "#8a7426",
     "again": "#d9b13b",
     "hatch": "#333941",
+    "focus": "#8ab4f8",
 }
