@@ -4,6 +4,7 @@ from __future__ import annotations
 import base64
 import json
 import os
+import select
 import shutil
 import signal
 import subprocess
@@ -16,12 +17,15 @@ NAMES = ("chromium", "chromium-browser", "google-chrome")
 PROGRAM = next(filter(None, map(shutil.which, NAMES)), None)
 OPTIONS = ("--headless=new", "--no-sandbox", "--disable-gpu", "--no-first-run", "--hide-scrollbars")
 
+# Seconds without a word after which the browser is given up.
+LIMIT = 60
+
 # Keys by the names that DevTools has for them, with their codes.
 KEYS = {"ArrowLeft": 37, "ArrowRight": 39, "Home": 36, "End": 35, "Tab": 9, "Enter": 13, " ": 32}
 
 
 class Browser:
-    """A browser with one tab, to be used in a `with` statement. What it is told are methods of the DevTools protocol."""
+    """A browser with one tab, to be used in a `with` statement. It is asked by methods of the DevTools protocol."""
 
     def __enter__(self) -> Browser:
         assert PROGRAM, "the caller has seen that there is a browser"
@@ -73,6 +77,8 @@ class Browser:
 
     def next_message(self) -> dict[str, Any]:
         while b"\0" not in self.rest:
+            if not select.select([self.heard], [], [], LIMIT)[0]:
+                raise RuntimeError(f"the browser says nothing for {LIMIT} seconds")
             read = os.read(self.heard, 1 << 16)
             if not read:
                 raise RuntimeError("the browser has ended")

@@ -19,6 +19,9 @@ from math import sqrt
 Neighbours = Sequence[Sequence[int]]
 
 FIRST_SEED = 1
+# How much smaller each round's steps are than those of the round before, where there are few pairs of routers, or many.
+FEW_PAIRS = 2_000
+SMALLER_OF_FEW = 0.95
 SMALLER = 0.7
 LEAST_STEP = 0.02
 MOST_ROUNDS = 60
@@ -78,10 +81,11 @@ def place_by_hops(neighbours: Neighbours) -> list[Point]:
     points = [Point(draw.random(), draw.random()) for _ in neighbours]
     pairs = wanted_distances(neighbours)
     step = float(max((hops * hops for _, _, hops in pairs), default=1))
+    smaller = SMALLER_OF_FEW if len(pairs) <= FEW_PAIRS else SMALLER
     while step > LEAST_STEP:
         draw.shuffle(pairs)
         pull(points, pairs, step)
-        step *= SMALLER
+        step *= smaller
     return points
 
 

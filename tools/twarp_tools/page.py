@@ -45,7 +45,7 @@ FEW_ROUTERS = 16
 SHORT_PATH = 14
 # How long a link should be, how far routers have to be apart, and the margins beside them and above, in pixels.
 ROOMY = (135.0, 112.0, 60.0, 40.0)
-CLOSE = (72.0, 48.0, 30.0, 30.0)
+CLOSE = (86.0, 54.0, 30.0, 30.0)
 # Parts of a link's way at which its delay may be written, the best first, how far from other words it should be, and
 # how far below a router its path is written.
 LABEL_PARTS = (0.5, 0.44, 0.56, 0.38, 0.62, 0.32, 0.68, 0.26, 0.74)

@@ -17,10 +17,10 @@ class Place:
 PLACES = [
     Place("1st", "#0072b2", "#ffffff"),
     Place("2nd", "#e69f00", "#000000"),
-    Place("3rd", "#009e73", "#ffffff"),
+    Place("3rd", "#009e73", "#000000"),
     Place("4th", "#cc79a7", "#000000"),
     Place("5th", "#56b4e9", "#000000"),
-    Place("6th", "#d55e00", "#ffffff"),
+    Place("6th", "#d55e00", "#000000"),
     Place("7th or later", "#7a6a9f", "#ffffff"),
 ]
 
@@ -38,6 +38,7 @@ LIGHT = {
     "lane": "#bbb",
     "grid": "#ececec",
     "hollow": "#999",
+    "wire": "#84898f",
     "message": "#43505e",
     "underway": "#9aa5b1",
     "bad": "#c1121f",
@@ -56,6 +57,7 @@ DARK = {
     "lane": "#4a525b",
     "grid": "#262b31",
     "hollow": "#8a939d",
+    "wire": "#747d87",
     "message": "#b4bec9",
     "underway": "#78828d",
     "bad": "#ff7b7b",

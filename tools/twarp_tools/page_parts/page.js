@@ -3,9 +3,12 @@
 // The run as the tool `page` recorded it. A path stands by its number in run.paths, which has the nodes of each.
 const run = JSON.parse(document.getElementById("run").textContent);
 
+const ORIGIN = 0;
 const RADIUS = 15;
 const DOT = 6;
 const STEP_MILLISECONDS = 700;
+const ARROW_HEAD = 9;
+const ARROW_INSET = RADIUS + 2;
 // How far messages stay from the middle of the routers that they come from and go to.
 const DOT_INSET = RADIUS + DOT + 2;
 // How far from a link's middle line an arrow (to its right) and a message (to its left) stand, seen in its direction.
@@ -89,9 +92,10 @@ function drawRouter({ router, x, y, name }) {
   const group = add(layers.routers, "g", { class: "router", "data-router": router });
   const title = add(group, "title");
   add(group, "circle", { class: "ring", cx: x, cy: y, r: RADIUS + 4 });
+  const side = 2 * RADIUS;
   const body =
-    router === 0
-      ? add(group, "rect", { class: "body", x: x - RADIUS, y: y - RADIUS, width: 2 * RADIUS, height: 2 * RADIUS, rx: 3 })
+    router === ORIGIN
+      ? add(group, "rect", { class: "body", x: x - RADIUS, y: y - RADIUS, width: side, height: side, rx: 3 })
       : add(group, "circle", { class: "body", cx: x, cy: y, r: RADIUS });
   const number = add(group, "text", { x, y: y + 4 }, router);
   const words = run.has_words ? add(layers.routers, "text", { class: "words", x, y: y + RADIUS + 13 }) : null;
@@ -113,19 +117,22 @@ function showRouter(router, state) {
   if (words) words.textContent = state.rib ? pathWords(state.rib) : "no path";
 }
 
+/** The outline of an arrow beside a link from a to b, as points by their part of the way and how far aside they are. */
+function arrowOutline(a, b) {
+  const [from, to] = [points.get(a), points.get(b)];
+  const length = Math.hypot(to.x - from.x, to.y - from.y) - 2 * ARROW_INSET;
+  const neck = 1 - ARROW_HEAD / Math.max(2 * ARROW_HEAD, length);
+  const asides = { left: ARROW_ASIDE - 1.5, right: ARROW_ASIDE + 1.5 };
+  const head = [[neck, ARROW_ASIDE - 5], [1, ARROW_ASIDE], [neck, ARROW_ASIDE + 5]];
+  return [[0, asides.left], [neck, asides.left], ...head, [neck, asides.right], [0, asides.right]];
+}
+
 /** The arrow of a path in use, to the next router. */
 function showArrow(router, state) {
   const next = run.paths[state.rib][1];
   if (!points.has(next)) return;
-  const corner = (part, aside) => along(router, next, part, aside, RADIUS + 2).map((value) => value.toFixed(1)).join(" ");
-  const [from, to] = [points.get(router), points.get(next)];
-  const neck = 1 - 9 / Math.max(20, Math.hypot(to.x - from.x, to.y - from.y) - 2 * RADIUS - 4);
-  const middle = ARROW_ASIDE;
-  const outline = [
-    [0, middle - 1.5], [neck, middle - 1.5], [neck, middle - 5], [1, middle],
-    [neck, middle + 5], [neck, middle + 1.5], [0, middle + 1.5],
-  ];
-  const d = `M${outline.map(([part, aside]) => corner(part, aside)).join("L")}z`;
+  const corners = arrowOutline(router, next).map(([part, aside]) => along(router, next, part, aside, ARROW_INSET));
+  const d = `M${corners.map(([x, y]) => `${x.toFixed(1)} ${y.toFixed(1)}`).join("L")}z`;
   const place = placeOf(state.order.indexOf(state.rib));
   const arrow = add(layers.arrows, "path", { class: "arrow", d, fill: place.fill });
   add(arrow, "title", {}, `router ${router} uses ${pathWords(state.rib)}`);
@@ -195,8 +202,9 @@ function cell(words, look = "") {
 
 function placeCell(number) {
   const { name, fill, ink } = placeOf(number);
+  const isNamed = number < run.places.length - 1;
   const made = cell("");
-  add(made, "span", { class: "place", style: `background:${fill};color:${ink}` }, number < run.places.length - 1 ? name : number + 1);
+  add(made, "span", { class: "place", style: `background:${fill};color:${ink}` }, isNamed ? name : number + 1);
   return made;
 }
 
@@ -315,7 +323,9 @@ function play() {
   controls.play.textContent = "Pause";
 }
 
-run.routers.forEach(({ router, name }) => add(controls.router, "option", { value: router }, `${router} ${name}`.trim()));
+for (const { router, name } of run.routers) {
+  add(controls.router, "option", { value: router }, `${router} ${name}`.trim());
+}
 controls.time.addEventListener("input", () => goTo(Number(controls.time.value)));
 controls.router.addEventListener("change", () => choose(Number(controls.router.value)));
 byId("earlier").addEventListener("click", () => goTo(view.stop - 1));
