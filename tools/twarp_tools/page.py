@@ -12,11 +12,10 @@ from xml.etree import ElementTree
 from xml.etree.ElementTree import Element
 
 from twarp_tools.axis import TimeAxis
-from twarp_tools.case import ORIGIN, Case, read_case
+from twarp_tools.case import Case, read_case
 from twarp_tools.command import Input, Parser, Refused, write_output
 from twarp_tools.lanes import TOP, Sample, View, draw_legend, sample_line
-from twarp_tools.layout import Point, distance, lay_out
-from twarp_tools.lines import write_path
+from twarp_tools.network import NetworkDrawing
 from twarp_tools.palette import DARK, LIGHT, PLACES
 from twarp_tools.part import add_part, subtitle_of, title_of, view_of_run
 from twarp_tools.recording import Json, Recording
@@ -39,18 +38,6 @@ MOST_ROUTERS = 300
 MOST_EVENTS = 5_000
 # The slider stops at each tick where there are not more of them, else where something happens.
 MOST_TICKS = 2_000
-
-# In a network of so few routers with so short paths there is room for delays, and for the paths in use.
-FEW_ROUTERS = 16
-SHORT_PATH = 14
-# How long a link should be, how far routers have to be apart, and the margins beside them and above, in pixels.
-ROOMY = (135.0, 112.0, 60.0, 40.0)
-CLOSE = (86.0, 54.0, 30.0, 30.0)
-# Parts of a link's way at which its delay may be written, the best first, how far from other words it should be, and
-# how far below a router its path is written.
-LABEL_PARTS = (0.5, 0.44, 0.56, 0.38, 0.62, 0.32, 0.68, 0.26, 0.74)
-LABEL_ROOM = 32.0
-WORDS_BELOW = 26.0
 
 # How far the timeline goes on above its lanes, where the times stand, and beyond its ends.
 TIMES_HEIGHT = 24.0
@@ -87,44 +74,6 @@ def stops_of(axis: TimeAxis, moments: set[int]) -> list[int]:
     # Between two folds every tick is a stop, the ends of folds among them.
     stops = {time for a, b in zip(ends[::2], ends[1::2]) for time in range(a, b + 1)}
     return sorted(stops & set(range(axis.first, axis.last + 1)))
-
-
-class NetworkDrawing:
-    """Where the routers in view stand, and which links are between them."""
-
-    def __init__(self, case: Case, view: View):
-        places = {router: place for place, router in enumerate(view.routers)}
-        self.routers = view.routers
-        self.links = [link for link in case.links if link.a in places and link.b in places]
-        neighbours: list[list[int]] = [[] for _ in places]
-        for link in self.links:
-            neighbours[places[link.a]].append(places[link.b])
-            neighbours[places[link.b]].append(places[link.a])
-        longest = max((len(write_path(path)) for path in case.paths if path[0] in places), default=0)
-        self.has_words = len(places) <= FEW_ROUTERS and longest <= SHORT_PATH
-        length, least, self.left, self.top = ROOMY if self.has_words else CLOSE
-        self.points = lay_out(neighbours, length, least, places.get(ORIGIN))
-
-    def label_parts(self) -> Iterator[float]:
-        """For each link at which part of its way its delay is to be written: near the middle, where there is room."""
-        places = {router: point for router, point in zip(self.routers, self.points)}
-        taken = [Point(point.x, point.y + below) for point in self.points for below in (0.0, WORDS_BELOW)]
-        for link in self.links:
-            a, b = places[link.a], places[link.b]
-            spots = [Point(a.x + part * (b.x - a.x), a.y + part * (b.y - a.y)) for part in LABEL_PARTS]
-            rooms = [min(LABEL_ROOM, *(distance(spot, other) for other in taken)) for spot in spots]
-            best = rooms.index(max(rooms))
-            taken.append(spots[best])
-            yield LABEL_PARTS[best]
-
-    def json(self) -> Json:
-        right, bottom = max(point.x for point in self.points), max(point.y for point in self.points)
-        return {
-            "width": round(right + 2 * self.left),
-            "height": round(bottom + 2 * self.top),
-            "has_words": self.has_words,
-            "links": [[link.a, link.b, link.delay, part] for link, part in zip(self.links, self.label_parts())],
-        }
 
 
 class Page:
@@ -167,12 +116,14 @@ class Page:
         }
 
     def routers(self) -> Iterator[Json]:
-        for router, point in zip(self.view.routers, self.network.points):
+        network = self.network
+        for router, point, words in zip(self.view.routers, network.points, network.words):
             yield {
                 "router": router,
                 "name": self.view.names.get(router, ""),
-                "x": point.x + self.network.left,
-                "y": point.y + self.network.top,
+                "x": point.x + network.left,
+                "y": point.y + network.top,
+                "words_y": words.y + network.top,
                 "opening": self.recording.state(self.recording.opening[router]),
             }
 

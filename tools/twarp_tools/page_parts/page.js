@@ -88,7 +88,7 @@ function drawWire([a, b, delay, part]) {
   return line;
 }
 
-function drawRouter({ router, x, y, name }) {
+function drawRouter({ router, x, y, words_y: wordsY, name }) {
   const group = add(layers.routers, "g", { class: "router", "data-router": router });
   const title = add(group, "title");
   add(group, "circle", { class: "ring", cx: x, cy: y, r: RADIUS + 4 });
@@ -98,7 +98,7 @@ function drawRouter({ router, x, y, name }) {
       ? add(group, "rect", { class: "body", x: x - RADIUS, y: y - RADIUS, width: side, height: side, rx: 3 })
       : add(group, "circle", { class: "body", cx: x, cy: y, r: RADIUS });
   const number = add(group, "text", { x, y: y + 4 }, router);
-  const words = run.has_words ? add(layers.routers, "text", { class: "words", x, y: y + RADIUS + 13 }) : null;
+  const words = run.has_words ? add(layers.routers, "text", { class: "words", x, y: wordsY + 4 }) : null;
   group.addEventListener("click", () => choose(router));
   return { group, title, body, number, words, name: `router ${router} ${name}`.trim() };
 }
