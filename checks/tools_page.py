@@ -199,6 +199,13 @@ OVERLAPS = """(() => {
 # How far down the message from 0 to 2 is.
 HEIGHT_OF_DOT = """[...document.querySelectorAll('#network .dot')]
   .find((dot) => dot.textContent.startsWith('0 to 2')).getAttribute('cy')"""
+# The panes in which router 149, or its lane at the time chosen, is not seen without scrolling.
+OUT_OF_PANE = """Object.entries({
+  network: [drawn.get(149).group, network.parentElement],
+  timeline: [lanes.get(149), timeline],
+  time: [cursor, timeline],
+}).filter(([name, [part, pane]]) => (name !== "time" && wayTo(part, pane, DOWN)) || wayTo(part, pane, ACROSS))
+  .map(([name]) => name)"""
 WORDS = "document.getElementById('{}').innerText"
 
 
@@ -287,6 +294,23 @@ class PageInBrowser(ToolTest):
         self.click(".area")
         self.assertIn(self.words("now"), ("9", "10", "11"))
         self.assertIn(f"What happens at {self.words('now')}", self.words("events-title"))
+
+    def test_a_large_network_is_scrolled_or_shown_as_a_whole(self) -> None:
+        case, page = self.folder / "star.spp", self.folder / "star.html"
+        case.write_text(star_of(150))
+        report = twarp("seq", "--stop", 50, "--log", stdin=star_of(150))
+        page.write_text(self.assert_done(tool("page", case, "-", stdin=report)))
+        self.browser.open(page, 390)
+        self.assertEqual(self.browser.run(OUT_OF_PANE), ["network", "timeline"])
+        self.browser.run("choose(149)")
+        self.assertEqual(self.browser.run(OUT_OF_PANE), [])
+        self.browser.run("goTo(run.stops.length)")
+        self.assertEqual(self.browser.run(OUT_OF_PANE), [])
+        self.click("#whole")
+        for side in "width", "height":
+            room = self.browser.run(f"network.parentElement.getBoundingClientRect().{side}")
+            self.assertLessEqual(self.browser.run(f"network.getBoundingClientRect().{side}"), room)
+        self.assertEqual(self.browser.run("document.documentElement.scrollWidth"), 390)
 
     def test_it_plays(self) -> None:
         self.browser.open(self.make("disagree", read("disagree-report.txt")), 1280)

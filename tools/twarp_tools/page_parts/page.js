@@ -6,6 +6,9 @@ const run = JSON.parse(document.getElementById("run").textContent);
 const ORIGIN = 0;
 const RADIUS = 15;
 const DOT = 6;
+// The names of the edges of boxes.
+const ACROSS = ["left", "right"];
+const DOWN = ["top", "bottom"];
 const STEP_MILLISECONDS = 700;
 const ARROW_HEAD = 9;
 const ARROW_INSET = RADIUS + 2;
@@ -17,7 +20,7 @@ const DOT_ASIDE = -7;
 
 const SVG = "http://www.w3.org/2000/svg";
 const byId = (id) => document.getElementById(id);
-const controls = { time: byId("time"), now: byId("now"), router: byId("router"), play: byId("play") };
+const controls = Object.fromEntries(["time", "now", "router", "play", "whole"].map((id) => [id, byId(id)]));
 const points = new Map(run.routers.map((router) => [router.router, router]));
 const view = { stop: 0, router: (run.routers[1] ?? run.routers[0]).router };
 
@@ -63,10 +66,22 @@ function isDown([a, b], states) {
 
 const network = byId("network");
 network.setAttribute("viewBox", `0 0 ${run.width} ${run.height}`);
-network.style.width = `${run.width}px`;
-network.style.minWidth = `${Math.min(run.width, Math.max(320, run.width * 0.8))}px`;
-network.style.maxWidth = run.width > 700 ? "none" : "100%";
 const layers = Object.fromEntries(["wires", "arrows", "dots", "routers"].map((name) => [name, add(network, "g")]));
+
+/** Shows the network at its own size, with bars to scroll where it is larger than its pane, or as a whole. */
+function sizeNetwork() {
+  const isWhole = controls.whole.checked;
+  network.style.width = isWhole ? "100%" : `${run.width}px`;
+  network.style.maxHeight = isWhole ? "70vh" : "none";
+}
+
+/** How far a pane has to be scrolled, along an axis, to have a part of it in the middle; 0 where the part is seen. */
+function wayTo(part, pane, [start, end], covered = 0) {
+  const [inner, outer] = [part.getBoundingClientRect(), pane.getBoundingClientRect()];
+  const least = outer[start] + covered;
+  if (inner[start] >= least && inner[end] <= outer[end]) return 0;
+  return (inner[start] + inner[end] - least - outer[end]) / 2;
+}
 
 /** The point of a link from a to b at a part of its way between their edges, moved aside. */
 function along(a, b, part, aside, inset = RADIUS) {
@@ -253,6 +268,8 @@ function showEvents(time) {
 const timeline = byId("timeline");
 const area = timeline.querySelector(".area");
 const [cursor, later] = [area.querySelector(".cursor"), area.querySelector(".later")];
+const [names, times] = [timeline.querySelector(".names"), timeline.querySelector(".times")];
+const lanes = new Map([...names.querySelectorAll(".name")].map((name, place) => [run.routers[place].router, name]));
 
 function showCursor(x) {
   cursor.setAttribute("x1", x);
@@ -260,13 +277,7 @@ function showCursor(x) {
   const { x: left, width } = area.viewBox.baseVal;
   later.setAttribute("x", x);
   later.setAttribute("width", Math.max(0, left + width - x));
-  const names = timeline.querySelector(".names").clientWidth;
-  const place = x - left;
-  const room = timeline.clientWidth - names;
-  const margin = Math.min(60, room / 4);
-  if (place < timeline.scrollLeft + margin || place > timeline.scrollLeft + room - margin) {
-    timeline.scrollLeft = place - room / 2;
-  }
+  timeline.scrollLeft += wayTo(cursor, timeline, ACROSS, names.clientWidth);
 }
 
 /** Goes to the time nearest to where the timeline was clicked. */
@@ -298,9 +309,16 @@ function goTo(stop) {
   show();
 }
 
+/** Shows a router's table, and the router in the network and in the timeline. */
 function choose(router) {
   view.router = router;
   show();
+  const pane = network.parentElement;
+  const { group } = drawn.get(router);
+  pane.scrollLeft += wayTo(group, pane, ACROSS);
+  pane.scrollTop += wayTo(group, pane, DOWN);
+  lanes.forEach((name, lane) => name.classList.toggle("chosen", lane === router));
+  timeline.scrollTop += wayTo(lanes.get(router), timeline, DOWN, times.clientHeight);
 }
 
 let timer = null;
@@ -332,7 +350,7 @@ byId("earlier").addEventListener("click", () => goTo(view.stop - 1));
 byId("later").addEventListener("click", () => goTo(view.stop + 1));
 controls.play.addEventListener("click", play);
 area.addEventListener("click", goToClick);
-timeline.querySelectorAll(".names .name").forEach((name, place) => {
-  name.addEventListener("click", () => choose(run.routers[place].router));
-});
-show();
+lanes.forEach((name, router) => name.addEventListener("click", () => choose(router)));
+controls.whole.addEventListener("change", sizeNetwork);
+sizeNetwork();
+choose(view.router);
