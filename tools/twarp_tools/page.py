@@ -73,7 +73,7 @@ def stops_of(axis: TimeAxis, moments: set[int]) -> list[int]:
     ends = [axis.first - 1, *(end for fold in axis.folds for end in fold), axis.last + 1]
     # Between two folds every tick is a stop, the ends of folds among them.
     stops = {time for a, b in zip(ends[::2], ends[1::2]) for time in range(a, b + 1)}
-    return sorted(stops & set(range(axis.first, axis.last + 1)))
+    return sorted(time for time in stops if axis.first <= time <= axis.last)
 
 
 class Page:

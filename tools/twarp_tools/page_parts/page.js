@@ -66,7 +66,8 @@ function isDown([a, b], states) {
 
 const network = byId("network");
 network.setAttribute("viewBox", `0 0 ${run.width} ${run.height}`);
-const layers = Object.fromEntries(["wires", "arrows", "dots", "routers"].map((name) => [name, add(network, "g")]));
+const LAYERS = ["wires", "arrows", "delays", "dots", "routers"];
+const layers = Object.fromEntries(LAYERS.map((name) => [name, add(network, "g")]));
 
 /** Shows the network at its own size, with bars to scroll where it is larger than its pane, or as a whole. */
 function sizeNetwork() {
@@ -98,7 +99,7 @@ function drawWire([a, b, delay, part]) {
   add(line, "title", {}, `link ${a} ${b}, delay ${delay}`);
   if (run.has_words) {
     const [x, y] = along(a, b, part, 0, 0);
-    add(layers.wires, "text", { class: "delay", x, y: y + 4 }, delay.toLocaleString("en"));
+    add(layers.delays, "text", { class: "delay", x, y: y + 4 }, delay.toLocaleString("en"));
   }
   return line;
 }
