@@ -39,9 +39,12 @@ complete -F _twarp twarp
 """
 
 
-def quoted(text: str) -> str:
-    """A word of the shell; in zsh's and fish's quotes alike."""
-    return "'" + text.replace("\\", "\\\\").replace("'", "’") + "'"
+def quoted_for_zsh(text: str) -> str:
+    return "'" + text.replace("'", "'\\''") + "'"
+
+
+def quoted_for_fish(text: str) -> str:
+    return "'" + text.replace("\\", "\\\\").replace("'", "\\'") + "'"
 
 
 def zsh_flag(flag: Flag) -> str:
@@ -49,15 +52,14 @@ def zsh_flag(flag: Flag) -> str:
     words = flag.summary
     for mark in "[]:":
         words = words.replace(mark, f"\\{mark}")
-    words = words.replace("'", "’")
-    value = f":{flag.value}: " if flag.value else ""
+    said = quoted_for_zsh(f"[{words}]" + (f":{flag.value}: " if flag.value else ""))
     if flag.short:
-        return f"'({flag.short} {flag.long})'{{{flag.short},{flag.long}}}'[{words}]{value}'"
-    return f"'{flag.long}{'=' if flag.value else ''}[{words}]{value}'"
+        return f"'({flag.short} {flag.long})'{{{flag.short},{flag.long}}}{said}"
+    return f"{flag.long}{'=' if flag.value else ''}{said}"
 
 
 def zsh(manual: Manual) -> str:
-    commands = [f"        {quoted(f'{name}:{summary}')}\n" for name, summary in manual.top.commands.items()]
+    commands = [f"        {quoted_for_zsh(f'{name}:{summary}')}\n" for name, summary in manual.top.commands.items()]
     top = [f"        {zsh_flag(flag)} \\\n" for flag in manual.top.flags]
     cases = []
     for name, page in manual.commands.items():
@@ -91,21 +93,21 @@ _twarp "$@"
 def fish_flag(condition: str, flag: Flag) -> str:
     short = f" -s {flag.short[1:]}" if flag.short else ""
     value = " -x" if flag.value else ""
-    return f"complete -c twarp -n {quoted(condition)}{short} -l {flag.long[2:]}{value} -d {quoted(flag.summary)}"
+    return f"complete -c twarp -n {quoted_for_fish(condition)}{short} -l {flag.long[2:]}{value} -d {quoted_for_fish(flag.summary)}"
 
 
 def fish_lines(manual: Manual) -> Iterator[str]:
     yield "# fish completion for twarp"
     yield "complete -c twarp -f"
     for name, summary in manual.top.commands.items():
-        yield f"complete -c twarp -n __fish_use_subcommand -a {name} -d {quoted(summary)}"
+        yield f"complete -c twarp -n __fish_use_subcommand -a {name} -d {quoted_for_fish(summary)}"
     for flag in manual.top.flags:
         yield fish_flag("__fish_use_subcommand", flag)
     for name, page in manual.commands.items():
         for flag in page.flags:
             yield fish_flag(f"__fish_seen_subcommand_from {name}; and not __fish_seen_subcommand_from help", flag)
     if "help" in manual.top.commands:
-        yield f"complete -c twarp -n '__fish_seen_subcommand_from help' -a {quoted(' '.join(manual.commands))}"
+        yield f"complete -c twarp -n '__fish_seen_subcommand_from help' -a {quoted_for_fish(' '.join(manual.commands))}"
 
 
 def fish(manual: Manual) -> str:
