@@ -2,10 +2,14 @@
 from __future__ import annotations
 
 import re
+import tempfile
 from collections.abc import Iterator
 from itertools import product
+from pathlib import Path
 
+import tool_test
 from tool_test import CASES, ToolTest, twarp
+from twarp_tools import tutorial
 from twarp_tools.case import ORIGIN, read_case
 from twarp_tools.lines import Nodes, read_path
 
@@ -132,3 +136,14 @@ class CasesOfTheLiterature(ToolTest):
         for every, known in expected.items():
             words = known if isinstance(known, str) else f"oscillates from {known[0]} period {known[1]}"
             self.assertEqual(verdicts[every], f"verdict {words}")
+
+    def test_the_page_of_the_cases_says_what_its_commands_say(self) -> None:
+        page = (CASES / "README.md").read_text()
+        told = re.findall(r"`((?:\./twarp|sed) [^`]+)`[^`]* says `(?:verdict )?([^`]+)`", page)
+        self.assertGreaterEqual(len(told), len(re.findall("^### ", page, re.M)) - 1)
+        with tempfile.TemporaryDirectory() as name:
+            tutorial.lay_out(Path(name), tool_test.program)
+            for command, verdict in told:
+                with self.subTest(command):
+                    output = tutorial.run(tutorial.Command(0, command), Path(name))
+                    self.assertEqual(output.splitlines()[-1], f"verdict {verdict}")

@@ -87,7 +87,8 @@ class ConnectedPart(ToolTest):
         star = "".join(f"1|{number}|-1\n" for number in range(2, 101))
         done = self.make("--destination", 1, "--keep-connected", 65, stdin=star)
         self.assertIn("nodes 65\n", done.out)
-        self.assertEqual(tool("relationships", "--destination", 1, "--keep-connected", 0, stdin=star).status, 3)
+        for words in ["--keep-connected", 0], ["--keep-connected", 9, "--routers", 9]:
+            self.assertEqual(tool("relationships", "--destination", 1, *words, stdin=star).status, 3)
 
 
 # Three nodes in the form of the Topology Zoo: Vienna and Munich are 355 km apart, and the third has no place.
@@ -162,6 +163,7 @@ BAD_GML = [
     ("graph [", "graph [ [", 2, "a name is wanted, and no '['"),
     ("  ]\n]\n", "  ]\n", 35, "the list of line 2, graph, has no end"),
     ("graph", "grape", 36, "there is no graph"),
+    ("Creator", "graph [ ] Creator", 2, "a second graph begins here"),
 ]
 BAD_GRAPHML = [
     (">1.2<", ">far<", 9, "distance 'far': this is no number"),
@@ -171,6 +173,8 @@ BAD_GRAPHML = [
     ('key="d2">70', 'key="d9">70', 10, "data of the key 'd9': no such key is declared"),
     ("</graph>", "</graf>", 12, "this is no XML: mismatched tag"),
     ("<node", "<nodes", 6, "this is no XML: mismatched tag"),
+    ("</graph>", "<graph/></graph>", 12, "a second graph begins here"),
+    ("utf-8", "utf-5", 1, "its encoding is not known"),
 ]
 
 

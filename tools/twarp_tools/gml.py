@@ -40,12 +40,12 @@ def tokens_of(text: str) -> Iterator[Token]:
 
 
 class GmlReader:
-    """Reads the first graph of a text; lists that are no node and no edge are passed over."""
+    """Reads the graph of a text; lists that are no node and no edge are passed over."""
 
     def __init__(self, text: str):
         self.tokens = tokens_of(text)
         self.network = Network()
-        self.graphs = 0
+        self.has_graph = False
 
     def read(self) -> Network:
         # The lists that are open, by name; each with its item where it is a node or an edge of the graph.
@@ -59,7 +59,7 @@ class GmlReader:
                 self.take(name, next(self.tokens), opened)
         if opened:
             raise Refused.at_line(name.line, f"the list of line {opened[-1][0].line}, {opened[-1][0].text}, has no end")
-        if not self.graphs:
+        if not self.has_graph:
             raise Refused.at_line(name.line, "there is no graph")
         return self.network
 
@@ -69,9 +69,11 @@ class GmlReader:
             raise Refused.at_line(value.line, f"{name.text} has no value")
         if value.text == "[":
             if not opened and name.text == "graph":
-                self.graphs += 1
+                if self.has_graph:
+                    raise Refused.at_line(name.line, "a second graph begins here")
+                self.has_graph = True
             is_item = [token.text for token, _ in opened] == ["graph"] and name.text in (NODE, LINK)
-            opened.append((name, Item(name.line) if is_item and self.graphs == 1 else None))
+            opened.append((name, Item(name.line) if is_item else None))
         elif opened and (item := opened[-1][1]):
             item.attributes.append(Attribute(name.text, plain(value.text), value.line))
 

@@ -16,12 +16,12 @@ ITEMS = ("node", "edge")
 
 
 class GraphmlReader:
-    """Reads the first graph of a text as the parser comes upon its parts."""
+    """Reads the graph of a text as the parser comes upon its parts."""
 
     def __init__(self) -> None:
         self.network = Network()
         self.names: dict[str, str] = {}
-        self.graphs = 0
+        self.has_graph = False
         self.item: Item | None = None
         self.data: Attribute | None = None
         self.parser = expat.ParserCreate(namespace_separator=SPACE)
@@ -39,7 +39,9 @@ class GraphmlReader:
             self.parser.Parse(text, True)
         except expat.ExpatError as fault:
             raise Refused.at_line(fault.lineno, f"this is no XML: {expat.ErrorString(fault.code)}") from None
-        if not self.graphs:
+        except (LookupError, ValueError) as fault:
+            raise Refused.at_line(1, f"its encoding is not known: {fault}") from None
+        if not self.has_graph:
             raise Refused.at_line(self.line, "there is no graph")
         return self.network
 
@@ -49,10 +51,12 @@ class GraphmlReader:
     def start(self, name: str, given: dict[str, str]) -> None:
         name = name.rpartition(SPACE)[2]
         if name == "graph":
-            self.graphs += 1
+            if self.has_graph:
+                raise Refused.at_line(self.line, "a second graph begins here")
+            self.has_graph = True
         elif name == "key" and "id" in given:
             self.names[given["id"]] = given.get("attr.name", given["id"])
-        elif name in ITEMS and self.graphs == 1:
+        elif name in ITEMS and self.has_graph:
             self.item = Item(self.line, [Attribute(key, value, self.line) for key, value in given.items()])
         elif name == "data" and self.item:
             key = given.get("key", "")

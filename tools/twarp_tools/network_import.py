@@ -144,5 +144,5 @@ def main() -> None:
     paths = [path for router in range(1, len(rows)) for path in shortest.paths(router)]
     tell_cuts(joined, routers, shortest, line)
     if line.map:
-        Path(line.map).write_text(names_of(joined.network, routers))
+        Path(line.map).write_text(names_of(joined.network, routers), encoding="utf-8")
     write_output(str(Case(len(rows), [*links_of(rows)], paths)))

@@ -63,19 +63,24 @@ def command_line() -> argparse.Namespace:
 
     parser.add_argument("input", metavar="FILE", nargs="?", default="-", help="the relationships; - is standard input")
     parser.add_argument(
-        "--keep-connected",
-        metavar="N",
-        type=number_between(1, MOST_ROUTERS),
-        help="take N ASes by lot, each with a path to the destination, and not the nearest ones",
-    )
-    parser.add_argument(
         "--destination",
         metavar="AS",
         type=number_between(1, GREATEST_AS),
         required=True,
         help="where all paths lead to",
     )
-    option("routers", "N", number_between(1, MOST_ROUTERS), MOST_ROUTERS, "take at most N ASes")
+    taken = parser.add_mutually_exclusive_group()
+    most = number_between(1, MOST_ROUTERS)
+    taken.add_argument(
+        "--routers",
+        metavar="N",
+        type=most,
+        default=MOST_ROUTERS,
+        help="take at most N ASes, the nearest (default %(default)s)",
+    )
+    taken.add_argument(
+        "--keep-connected", metavar="N", type=most, help="take at most N ASes by lot, each with a path of such ASes"
+    )
     option("paths", "N", number_between(1, MOST_PATHS), 20, "permit at most N paths at a router")
     option("delays", "LOW-HIGH", read_range, "1-10", "draw the delays of links from this range")
     option("seed", "N", number_between(0, GREATEST_TIME), 1, "draw ASes, delays and failures by this number")
