@@ -87,6 +87,15 @@ class Installed(ToolTest):
         self.assertEqual(files_of(self.folder), {})
         self.assert_refused(install("--prefix", self.prefix, "--uninstall"), "no twarp is installed in")
 
+    def test_what_was_broken_off_can_be_taken_away(self) -> None:
+        # A program that is none of twarp has no help of which a man page could be made.
+        done = install("--prefix", self.prefix, "--program", shutil.which("true"))
+        self.assertEqual((done.status, done.out), (2, ""))
+        self.assertIn("stopped: ", done.err)
+        self.assertTrue((self.prefix / "bin/twarp").exists())
+        self.assert_done(install("--prefix", self.prefix, "--uninstall"))
+        self.assertEqual(files_of(self.folder), {})
+
     def test_files_of_others_stay(self) -> None:
         for name in "bin/twarp-draw", "lib/twarp/other", "share/man/man1/twarp.1":
             with self.subTest(name):

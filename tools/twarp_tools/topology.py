@@ -4,6 +4,7 @@ from __future__ import annotations
 import enum
 import heapq
 import re
+from array import array
 from collections import defaultdict
 from collections.abc import Callable, Iterable
 from dataclasses import dataclass, field
@@ -33,20 +34,23 @@ Neighbours = dict[int, dict[int, Role]]
 def read_relationships(lines: Iterable[bytes]) -> Neighbours:
     """Reads lines as `provider|customer|-1` and `peer|peer|0`; a fourth field is let pass."""
     neighbours: Neighbours = defaultdict(dict)
-    # The line of each pair of ASes, by one number for both: a file may have a million of them.
-    known: dict[int, int] = {}
+    # Each line's two ASes as one number, 0 where it has none, in the little room that a million lines ask for.
+    pairs = array("Q")
     for number, line in enumerate(lines, 1):
         found = A_RELATIONSHIP.fullmatch(line)
         if not found:
             refuse_other(number, line)
+            pairs.append(0)
             continue
         a, b = int(found[1]), int(found[2])
         if a == b or not (0 < a <= GREATEST_AS and 0 < b <= GREATEST_AS):
             refuse_other(number, line)
-        first = known.setdefault(a << 32 | b if a < b else b << 32 | a, number)
-        if first != number:
+        row = neighbours[a]
+        if b in row:
+            first = 1 + min(pairs.index(pair) for pair in (a << 32 | b, b << 32 | a) if pair in pairs)
             raise Refused.at_line(number, f"AS {a} and AS {b} stand together on line {first} already")
-        neighbours[a][b], neighbours[b][a] = RELATIONSHIPS[found[3]]
+        row[b], neighbours[b][a] = RELATIONSHIPS[found[3]]
+        pairs.append(a << 32 | b)
     return neighbours
 
 
