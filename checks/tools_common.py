@@ -27,12 +27,13 @@ class Done:
     err: str
 
 
-def run(*words: object, stdin: str = "") -> Done:
-    done = subprocess.run([str(word) for word in words], input=stdin.encode(), capture_output=True, check=False)
+def run(*words: object, stdin: str | bytes = "") -> Done:
+    given = stdin.encode() if isinstance(stdin, str) else stdin
+    done = subprocess.run([str(word) for word in words], input=given, capture_output=True, check=False)
     return Done(done.returncode, done.stdout.decode(), done.stderr.decode())
 
 
-def tool(name: str, *words: object, stdin: str = "") -> Done:
+def tool(name: str, *words: object, stdin: str | bytes = "") -> Done:
     """Runs a tool without site packages (-S), since it needs the standard library alone."""
     return run(sys.executable, "-S", TOP / "tools" / name, *words, stdin=stdin)
 

@@ -15,7 +15,7 @@ from twarp_tools.axis import TimeAxis
 from twarp_tools.case import Case, read_case
 from twarp_tools.command import Input, Parser, Refused, write_output
 from twarp_tools.lanes import TOP, Sample, View, draw_legend, sample_line
-from twarp_tools.network import NetworkDrawing
+from twarp_tools.network_drawing import NetworkDrawing
 from twarp_tools.palette import DARK, LIGHT, PLACES
 from twarp_tools.part import add_part, subtitle_of, title_of, view_of_run
 from twarp_tools.recording import Json, Recording
