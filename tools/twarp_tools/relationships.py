@@ -3,7 +3,7 @@ from __future__ import annotations
 
 import argparse
 import random
-from collections.abc import Callable, Iterable, Iterator
+from collections.abc import Callable, Iterable, Iterator, Sequence
 from graphlib import CycleError, TopologicalSorter
 from pathlib import Path
 
@@ -19,7 +19,7 @@ from twarp_tools.case import (
     Link,
     LinkScene,
 )
-from twarp_tools.command import Input, Parser, Refused, number_between, tell, write_output
+from twarp_tools.command import Input, Parser, Refused, number_between, range_between, tell, write_output
 from twarp_tools.policy import Permitted
 from twarp_tools.topology import GREATEST_AS, Growth, Role, Topology, read_relationships
 
@@ -42,17 +42,8 @@ examples:
       --failures 10 --until 5000 --map ases.txt > case.spp"""
 
 
-def read_range(word: str) -> tuple[int, int]:
-    """A range of delays as 1-20; one number stands for itself alone."""
-    number = number_between(1, GREATEST_DELAY)
-    first, dash, last = word.partition("-")
-    least, greatest = number(first), number(last if dash else first)
-    if least > greatest:
-        raise argparse.ArgumentTypeError(f"{least} is more than {greatest}")
-    return least, greatest
-
-
-def command_line() -> argparse.Namespace:
+def command_line(words: Sequence[str] | None = None) -> argparse.Namespace:
+    """What the words ask for; where none are given, the tool's own command line."""
     parser = Parser(DESCRIPTION, EXAMPLE)
 
     def option(name: str, metavar: str, kind: Callable[[str], object], default: object, words: str) -> None:
@@ -69,14 +60,14 @@ def command_line() -> argparse.Namespace:
     )
     option("routers", "N", number_between(1, MOST_ROUTERS), MOST_ROUTERS, "take at most N ASes")
     option("paths", "N", number_between(1, MOST_PATHS), 20, "permit at most N paths at a router")
-    option("delays", "LOW-HIGH", read_range, "1-10", "draw the delays of links from this range")
+    option("delays", "LOW-HIGH", range_between(1, GREATEST_DELAY), "1-10", "draw the delays of links from this range")
     option("seed", "N", number_between(0, GREATEST_TIME), 1, "draw delays and failures by this number")
     option("failures", "N", number_between(0, MOST_SCENES // 2), 0, "let N links fail and be repaired")
     option("until", "TIME", number_between(2, GREATEST_TIME), 1000, "repair no link later than this")
     parser.add_argument(
         "--map", metavar="FILE", help="write the number and the AS number of each router into this file"
     )
-    return parser.parse_args()
+    return parser.parse_args(words)
 
 
 def share(*what: object) -> float:
@@ -145,13 +136,18 @@ def tell_circle(topology: Topology) -> None:
         tell(f"each of these is a provider of the next, so it is not sure that the case comes to rest: {circle}")
 
 
-def main() -> None:
-    line = command_line()
+def take(line: argparse.Namespace) -> tuple[Growth, Permitted]:
+    """What the line takes of its input, before anything is drawn."""
     neighbours = Input.of(line.input).read(read_relationships)
     if line.destination not in neighbours:
         raise Refused(f"refused option --destination: the input has no AS {line.destination}")
     growth = Growth(neighbours, line.destination, line.routers)
-    permitted = Permitted(growth.topology, line.paths)
+    return growth, Permitted(growth.topology, line.paths)
+
+
+def main() -> None:
+    line = command_line()
+    growth, permitted = take(line)
     case = case_of(growth.topology, permitted, line)
     tell_cuts(growth, permitted, line)
     tell_circle(growth.topology)
