@@ -22,6 +22,8 @@ WIDEST_COLUMN = 48.0
 # Beyond so many outcomes the rarest share a lane.
 MOST_LANES = 12
 MOST_LETTERS = 96
+# Room for the names of the axes.
+LEAST_LETTERS = 5
 # On white ground; the whiskers are those of the intervals.
 WHISKER = {"stroke": "#222", "stroke_width": 1.3, "fill": "none"}
 
@@ -63,7 +65,7 @@ class OutcomePicture:
     def __init__(self, outcomes: Outcomes):
         self.outcomes = outcomes
         self.lanes = lanes_of(outcomes.ranked())
-        self.left = 48 + 7.5 * max((len(lane.name) for lane in self.lanes), default=1)
+        self.left = 48 + 7.5 * max(LEAST_LETTERS, *(len(lane.name) for lane in self.lanes))
         self.right = self.left + WIDTH
         greatest = max((interval(lane.count, outcomes.total)[1] for lane in self.lanes), default=1.0)
         self.step = nice_step(100 * greatest / 8)
@@ -82,7 +84,7 @@ class OutcomePicture:
         entries.append(("95 % interval", draw_whisker))
         self.draw_times(picture.root)
         right = self.right + NOTE
-        return picture.text(right + 16, draw_legend(picture.root, right, self.base + 52, entries))
+        return picture.text(right + 16, draw_legend(picture.root, right, self.base + 56, entries))
 
     def x(self, share: float) -> float:
         return self.left + WIDTH * 100 * share / self.most
@@ -97,10 +99,10 @@ class OutcomePicture:
     def draw_lane(self, parent: Element, lane: Lane, y: float) -> None:
         share, (low, high) = lane.count / self.outcomes.total, interval(lane.count, self.outcomes.total)
         words = f"{percent(share)} % ({percent(low)} to {percent(high)} %)"
-        add(parent, "line", class_="lane", x1=self.left, y1=y - 6, x2=self.right, y2=y - 6)
+        width = self.x(share) - self.left
+        add(parent, "line", class_="lane", x1=self.left + width, y1=y - 6, x2=self.right, y2=y - 6)
         add(parent, "text", lane.name, class_="name", x=self.left - 18, y=y - 2)
         group = add(parent, "g", "", f"{words_of(lane)}: {lane.count:,} of {self.outcomes.total:,} runs, {words}")
-        width = self.x(share) - self.left
         add(group, "rect", x=self.left, y=y - 6 - BAR / 2, width=width, height=BAR, rx=3, **lane.look)
         start, end = self.x(low), self.x(high)
         whisker = f"M{start:.1f} {y - 10:.1f}v8m0 -4H{end:.1f}m0 -4v8"
@@ -136,8 +138,8 @@ class OutcomePicture:
                     add(group, "rect", **box, **lane.look)
         for number in columns.told():
             x = columns.x(number) + (columns.pixels / 2 if width == 1 else 0)
-            add(parent, "text", f"{number * width:,}", class_="quiet middle", x=x, y=self.base + 16)
-        add(parent, "text", "rest at", class_="quiet name", x=self.left - 18, y=self.base + 16)
+            add(parent, "text", f"{number * width:,}", class_="quiet middle", x=x, y=self.base + 20)
+        add(parent, "text", "rest at", class_="quiet name", x=self.left - 18, y=self.base + 20)
 
     def draw_counts(self, parent: Element, tallest: int, right: float) -> None:
         """The heights that numbers of runs have."""

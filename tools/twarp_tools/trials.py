@@ -8,6 +8,7 @@ import subprocess
 import threading
 from collections.abc import Callable, Iterator, Sequence
 from concurrent.futures import FIRST_COMPLETED, Future, ThreadPoolExecutor, wait
+from contextlib import suppress
 from dataclasses import dataclass, field
 from itertools import islice
 from pathlib import Path
@@ -112,11 +113,13 @@ class Program:
             return process
 
     def stop(self) -> None:
-        """Ends what is running, and starts nothing more."""
+        """Ends what is running, with all that it started, and starts nothing more."""
         with self.lock:
             self.is_stopped = True
             for process in self.running:
-                process.kill()
+                if process.poll() is None:
+                    with suppress(ProcessLookupError):
+                        os.killpg(process.pid, signal.SIGKILL)
 
 
 class Interruption:
