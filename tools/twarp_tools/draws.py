@@ -157,12 +157,14 @@ class RelationshipsSource:
 
     columns: list[str] = []
 
-    def __init__(self, options: str, file: str):
-        self.line = relationships.command_line([*shlex.split(options), file])
+    def __init__(self, options: Sequence[str], file: str):
+        self.line = relationships.command_line([*options, file])
+        if self.line.map:
+            raise Refused("refused option --relationships: --map is for the tool relationships alone")
         growth, self.permitted = relationships.take(self.line)
         self.topology = growth.topology
         self.nodes = len(self.topology.numbers)
-        self.words = f"seeds of relationships {options}"
+        self.words = f"seeds of relationships {shlex.join(options)}"
 
     def draw(self, seed: int) -> Draw:
         line = argparse.Namespace(**{**vars(self.line), "seed": seed})

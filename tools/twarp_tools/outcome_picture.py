@@ -24,6 +24,7 @@ MOST_LANES = 12
 MOST_LETTERS = 96
 # Room for the names of the axes.
 LEAST_LETTERS = 5
+OTHERS = "#b8bfc6"
 # On white ground; the whiskers are those of the intervals.
 WHISKER = {"stroke": "#222", "stroke_width": 1.3, "fill": "none"}
 
@@ -55,7 +56,7 @@ def lanes_of(ranked: Sequence[Outcome]) -> list[Lane]:
         lanes.append(Lane(outcome.name, look, [outcome]))
     rest = ranked[len(alone) :]
     if rest:
-        lanes.append(Lane(f"{len(rest):,} others", {"class_": "fold"}, rest))
+        lanes.append(Lane(f"{len(rest):,} others", {"class_": "bar", "fill": OTHERS}, rest))
     return lanes
 
 

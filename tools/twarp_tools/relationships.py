@@ -43,8 +43,10 @@ examples:
 
 
 def command_line(words: Sequence[str] | None = None) -> argparse.Namespace:
-    """What the words ask for; where none are given, the tool's own command line."""
+    """What the words ask for, or the tool's own command line where none are given."""
     parser = Parser(DESCRIPTION, EXAMPLE)
+    if words is not None:
+        parser.prog = "relationships"
 
     def option(name: str, metavar: str, kind: Callable[[str], object], default: object, words: str) -> None:
         words = f"{words} (default %(default)s)"

@@ -3,6 +3,7 @@ from __future__ import annotations
 
 import argparse
 import re
+import shlex
 from collections.abc import Sequence
 from pathlib import Path
 
@@ -77,6 +78,7 @@ def add_draws(parser: Parser) -> None:
     )
     parser.add_argument(
         "--relationships",
+        type=shlex.split,
         metavar="OPTIONS",
         help="CASE has AS relationships: make a case of them for each run, by tools/relationships with these options "
         "and the run's seed",
