@@ -66,7 +66,7 @@ class OutcomePicture:
     def __init__(self, outcomes: Outcomes):
         self.outcomes = outcomes
         self.lanes = lanes_of(outcomes.ranked())
-        self.left = 48 + 7.5 * max(LEAST_LETTERS, *(len(lane.name) for lane in self.lanes))
+        self.left = 48 + 7.5 * max([LEAST_LETTERS, *(len(lane.name) for lane in self.lanes)])
         self.right = self.left + WIDTH
         greatest = max((interval(lane.count, outcomes.total)[1] for lane in self.lanes), default=1.0)
         self.step = nice_step(100 * greatest / 8)

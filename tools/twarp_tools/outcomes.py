@@ -5,6 +5,7 @@ import csv
 import io
 from collections.abc import Sequence
 from dataclasses import dataclass, field
+from functools import cached_property
 from math import sqrt
 from statistics import NormalDist, median_low
 
@@ -84,6 +85,7 @@ class Outcomes:
         """The outcomes, the most frequent first; of equally frequent ones that with the lower first seed."""
         return sorted(self.by_end.values(), key=lambda outcome: (-len(outcome.seeds), outcome.seeds[0]))
 
+    @cached_property
     def differing(self) -> list[int]:
         """The routers whose paths tell the outcomes at rest apart; all but the origin where there is one outcome."""
         rows = [outcome.ribs for outcome in self.by_end.values() if outcome.ribs is not None]
@@ -94,7 +96,7 @@ class Outcomes:
         """The paths that tell an outcome at rest from the others."""
         if outcome.ribs is None:
             return ""
-        routers = self.differing()
+        routers = self.differing
         words = " ".join(written(router, outcome.ribs[router]) for router in routers[:MOST_TOLD])
         more = len(routers) - MOST_TOLD
         return f"{words} and {more:,} more" if more > 0 else words
@@ -130,13 +132,12 @@ def summary(outcomes: Outcomes) -> str:
         shares = [f"{count:,}", f"{percent(count / outcomes.total)} %", f"{percent(low)} to {percent(high)} %"]
         rows.append([outcome.name, *shares, outcome.time_words(), str(outcome.seeds[0]), outcomes.path_words(outcome)])
     widths = [max(map(len, column)) for column in zip(*rows)]
-    lines = ("  ".join(align(word, width, place) for place, (word, width) in enumerate(zip(row, widths))) for row in rows)
-    return "".join(f"{line.rstrip()}\n" for line in lines)
+    return "".join(f"{'  '.join(map(aligned, HEAD, row, widths)).rstrip()}\n" for row in rows)
 
 
-def align(word: str, width: int, place: int) -> str:
+def aligned(column: str, word: str, width: int) -> str:
     """Words to the left, numbers to the right."""
-    return word.ljust(width) if HEAD[place] in ("outcome", "time", "paths") else word.rjust(width)
+    return word.ljust(width) if column in ("outcome", "time", "paths") else word.rjust(width)
 
 
 def table(columns: Sequence[str], trials: Sequence[Trial], outcomes: Outcomes) -> str:

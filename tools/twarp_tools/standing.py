@@ -68,7 +68,7 @@ def chosen_path(router: int, standing: Standing) -> Nodes:
 
 
 def unstable_routers(standing: Standing) -> Iterator[Unstable]:
-    """The routers whose ribs are not as docs/PROTOCOL.md defines stable paths; there are none where paths are stable."""
+    """The routers whose ribs are not as stable ones are by docs/PROTOCOL.md; there are none where paths are stable."""
     for router, rib in enumerate(standing.ribs or []):
         chosen = chosen_path(router, standing)
         if rib != chosen:
