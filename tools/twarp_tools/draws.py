@@ -71,7 +71,7 @@ class DelayDraws:
     def change(self, case: Case, values: Sequence[int]) -> Case:
         """The case with these delays."""
         delays = dict(zip(self.ends, values))
-        links = [replace(link, delay=delays.get(ends_of(link), link.delay)) for link in case.links]
+        links = [Link(link.a, link.b, delays.get(ends_of(link), link.delay)) for link in case.links]
         return replace(case, links=links)
 
 
