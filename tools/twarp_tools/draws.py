@@ -28,7 +28,6 @@ class Draw:
 class Source(Protocol):
     """Where the cases of a sweep come from."""
 
-    nodes: int
     columns: list[str]
     words: str
 
@@ -137,7 +136,6 @@ class CaseSource:
 
     def __init__(self, case: Case, draws: Sequence[DelayDraws | FailureDraws]):
         self.case = case
-        self.nodes = case.nodes
         self.draws = draws
         self.columns = [column for draw in draws for column in draw.columns]
         self.words = ", ".join(draw.words for draw in draws)
@@ -161,11 +159,10 @@ class RelationshipsSource:
         self.line = relationships.command_line([*options, file])
         if self.line.map:
             raise Refused("refused option --relationships: --map is for the tool relationships alone")
-        growth, self.permitted = relationships.take(self.line)
-        self.topology = growth.topology
-        self.nodes = len(self.topology.numbers)
+        self.neighbours = relationships.read(self.line)
         self.words = f"seeds of relationships {shlex.join(options)}"
 
     def draw(self, seed: int) -> Draw:
         line = argparse.Namespace(**{**vars(self.line), "seed": seed})
-        return Draw(relationships.case_of(self.topology, self.permitted, line), ())
+        _, _, case = relationships.make(self.neighbours, line)
+        return Draw(case, ())

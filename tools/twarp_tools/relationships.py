@@ -21,7 +21,7 @@ from twarp_tools.case import (
 )
 from twarp_tools.command import Input, Parser, Refused, number_between, range_between, tell, write_output
 from twarp_tools.policy import Permitted
-from twarp_tools.topology import GREATEST_AS, Growth, Role, Topology, read_relationships
+from twarp_tools.topology import GREATEST_AS, Growth, Neighbours, Role, Topology, read_relationships
 
 DESCRIPTION = """\
 Makes a case of AS relationships, on standard output.
@@ -138,19 +138,24 @@ def tell_circle(topology: Topology) -> None:
         tell(f"each of these is a provider of the next, so it is not sure that the case comes to rest: {circle}")
 
 
-def take(line: argparse.Namespace) -> tuple[Growth, Permitted]:
-    """What the line takes of its input, before anything is drawn."""
+def read(line: argparse.Namespace) -> Neighbours:
+    """The relationships of the line's input."""
     neighbours = Input.of(line.input).read(read_relationships)
     if line.destination not in neighbours:
         raise Refused(f"refused option --destination: the input has no AS {line.destination}")
+    return neighbours
+
+
+def make(neighbours: Neighbours, line: argparse.Namespace) -> tuple[Growth, Permitted, Case]:
+    """What the line takes of the relationships, and the case of it."""
     growth = Growth(neighbours, line.destination, line.routers)
-    return growth, Permitted(growth.topology, line.paths)
+    permitted = Permitted(growth.topology, line.paths)
+    return growth, permitted, case_of(growth.topology, permitted, line)
 
 
 def main() -> None:
     line = command_line()
-    growth, permitted = take(line)
-    case = case_of(growth.topology, permitted, line)
+    growth, permitted, case = make(read(line), line)
     tell_cuts(growth, permitted, line)
     tell_circle(growth.topology)
     if line.map:
