@@ -6,6 +6,7 @@ import sys
 import unittest
 from dataclasses import dataclass
 from pathlib import Path
+from xml.etree import ElementTree
 
 TOP = Path(__file__).resolve().parent.parent
 INPUTS = TOP / "checks/inputs"
@@ -58,6 +59,11 @@ def report_of(name: str, stop: int, *words: object) -> str:
 
 def case_of(name: str) -> str:
     return (CASES / f"{name}.spp").read_text()
+
+
+def texts(svg: str) -> str:
+    """All words of a picture, tooltips among them, a line each."""
+    return "\n".join(element.text for element in ElementTree.fromstring(svg).iter() if element.text)
 
 
 class ToolTest(unittest.TestCase):

@@ -20,7 +20,7 @@ OPTIONS = {
     "replay": {"--stop", "--workers"},
 }
 HELP = {"-h", "--help"}
-TOOLS = ("relationships", "import", "draw", "timeline", "page")
+TOOLS = ("relationships", "import", "draw", "timeline", "page", "sweep")
 SHELLS = ("bash", "zsh", "fish")
 FILES = (
     "bin/twarp",

@@ -3,7 +3,7 @@ from __future__ import annotations
 
 import argparse
 import random
-from collections.abc import Callable, Iterable, Iterator
+from collections.abc import Callable, Iterable, Iterator, Sequence
 from graphlib import CycleError, TopologicalSorter
 from pathlib import Path
 
@@ -19,7 +19,7 @@ from twarp_tools.case import (
     Link,
     LinkScene,
 )
-from twarp_tools.command import Parser, Refused, number_between, tell, write_output
+from twarp_tools.command import Parser, Refused, number_between, range_between, tell, write_output
 from twarp_tools.packed import read_stream
 from twarp_tools.policy import Permitted
 from twarp_tools.topology import GREATEST_AS, Growth, Neighbours, Role, Topology, read_relationships
@@ -44,18 +44,11 @@ examples:
       --failures 10 --until 5000 --map ases.txt 20260101.as-rel2.txt.bz2 > case.spp"""
 
 
-def read_range(word: str) -> tuple[int, int]:
-    """A range of delays as 1-20; one number stands for itself alone."""
-    number = number_between(1, GREATEST_DELAY)
-    first, dash, last = word.partition("-")
-    least, greatest = number(first), number(last if dash else first)
-    if least > greatest:
-        raise argparse.ArgumentTypeError(f"{least} is more than {greatest}")
-    return least, greatest
-
-
-def command_line() -> argparse.Namespace:
+def command_line(words: Sequence[str] | None = None) -> argparse.Namespace:
+    """What the words ask for, or the tool's own command line where none are given."""
     parser = Parser(DESCRIPTION, EXAMPLE)
+    if words is not None:
+        parser.prog = "relationships"
 
     def option(name: str, metavar: str, kind: Callable[[str], object], default: object, words: str) -> None:
         words = f"{words} (default %(default)s)"
@@ -82,14 +75,14 @@ def command_line() -> argparse.Namespace:
         "--keep-connected", metavar="N", type=most, help="take at most N ASes by lot, each with a path of such ASes"
     )
     option("paths", "N", number_between(1, MOST_PATHS), 20, "permit at most N paths at a router")
-    option("delays", "LOW-HIGH", read_range, "1-10", "draw the delays of links from this range")
+    option("delays", "LOW-HIGH", range_between(1, GREATEST_DELAY), "1-10", "draw the delays of links from this range")
     option("seed", "N", number_between(0, GREATEST_TIME), 1, "draw ASes, delays and failures by this number")
     option("failures", "N", number_between(0, MOST_SCENES // 2), 0, "let N links fail and be repaired")
     option("until", "TIME", number_between(2, GREATEST_TIME), 1000, "repair no link later than this")
     parser.add_argument(
         "--map", metavar="FILE", help="write the number and the AS number of each router into this file"
     )
-    return parser.parse_args()
+    return parser.parse_args(words)
 
 
 def share(*what: object) -> float:
@@ -171,14 +164,24 @@ def tell_circle(topology: Topology) -> None:
         tell(f"each of these is a provider of the next, so it is not sure that the case comes to rest: {circle}")
 
 
-def main() -> None:
-    line = command_line()
+def read(line: argparse.Namespace) -> Neighbours:
+    """The relationships of the line's input."""
     neighbours = read_stream(line.input, read_relationships)
     if line.destination not in neighbours:
         raise Refused(f"refused option --destination: the input has no AS {line.destination}")
+    return neighbours
+
+
+def make(neighbours: Neighbours, line: argparse.Namespace) -> tuple[Growth, Permitted, Case]:
+    """What the line takes of the relationships, and the case of it."""
     growth = growth_of(neighbours, line)
     permitted = Permitted(growth.topology, line.paths)
-    case = case_of(growth.topology, permitted, line)
+    return growth, permitted, case_of(growth.topology, permitted, line)
+
+
+def main() -> None:
+    line = command_line()
+    growth, permitted, case = make(read(line), line)
     tell_cuts(growth, permitted, line)
     tell_circle(growth.topology)
     if line.map:
