@@ -9,3 +9,5 @@ pub mod Tables
 pub mod Spares
 pub mod Rings
 pub mod Merged
+pub mod Turns
+pub mod Rotated
