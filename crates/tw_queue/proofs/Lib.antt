@@ -10,4 +10,5 @@ pub mod Spares
 pub mod Rings
 pub mod Merged
 pub mod Turns
+pub mod Widths
 pub mod Rotated

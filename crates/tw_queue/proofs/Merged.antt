@@ -3,6 +3,9 @@ use Rattle.std.proofs.Common.{IfNone, IfSome, IsTrue, ◌≡◌, ◌<◌, ◌≤
 use Rattle.std.specs.List.Sorted.{IsPermutation}
 use Rattle.std.specs.BinaryHeap.{IsUpperBound}
 use Rattle.std.specs.Bool.{OnFalse, OnTrue}
+use Rattle.std.specs.Result.{OnOk}
+use Rattle.std.specs.declared.result.Result.{Result}
+use Rattle.std.specs.declared.result.Result.TheVariants.{Ok, Err}
 use Rattle.std.specs.declared.cmp.Reverse.{Reverse}
 use Rattle.std.proofs.lemmas.Bool.{cases_Bool, false≢true, lt-ltb}
 use Rattle.std.proofs.lemmas.List.Sorted.{IsPermutation-map}
@@ -221,3 +224,7 @@ on_true false f p = tt
 pub on_false : {P Q : Type 0} (b : Bool) → (P → Q) → OnFalse b P → OnFalse b Q
 on_false true f p = tt
 on_false false f p = f p
+
+pub on_ok : {T E : Type 0} {P Q : Type 0} (r : Result T E) → (P → Q) → OnOk r P → OnOk r Q
+on_ok (Ok x) f p = f p
+on_ok (Err x) f p = tt

@@ -4,7 +4,7 @@ use Rattle.std.specs.Int.{bit_at, rotate_right, trailing_zeros}
 use Rattle.std.specs.Int.Count.{trailing_of_zero}
 use Rattle.std.proofs.Math.Nat.{mul-mod_left}
 use Rattle.std.proofs.lemmas.Bool.{cases_lt}
-use Rattle.std.proofs.lemmas.Nat.{mod-pow-add, mod_below, shl-shr, shr-shr, shr_split, trailing_le}
+use Rattle.std.proofs.lemmas.Nat.{mod-pow-add, mod_below, or_lt, shl-shr, shr-shr, shr_le, shr_split, trailing_le}
 use Rattle.std.proofs.lemmas.Nat.Bits.{bit_at-lt, bit_at-trailing_zeros, bit_at-zero, bit_at_above, bit_at_cat_high, bit_at_cat_low, bit_at_or}
 use Rattle.std.proofs.Math.Pow.{pow_pos}
 use Rattle.tw_queue.specs.Turn.{IsFirstMark}
@@ -62,10 +62,13 @@ rotated n r i fits m =
     ∙ ap (bit_at n) (let q : (r % 64 + i) % 64 ≡ (r + i) % 64 = omega arith in q)
 
 -- the first mark after that of the base
-pub first_mark : (marks base place steps round : ℕ) → marks < 2 ^ 64 → round < 2 ^ 64 → round ≡ rotate_right w64 marks (base % 64 + 1) → steps ≡ trailing_zeros w64 round
+pub first_mark : (marks base place steps round : ℕ) → marks < 2 ^ 64 → round ≡ rotate_right w64 marks (base % 64 + 1) → steps ≡ trailing_zeros w64 round
     → place ≡ (base % 64 + 1 + steps) % 64 → IsFirstMark marks base place
-first_mark marks base place steps round fits round_fits round_is is at =
+first_mark marks base place steps round fits round_is is at =
     let next = base % 64 + 1 in
+    let low = shr_le marks (next % 64) in
+    let round_fits : round < 2 ^ 64 =
+        subst (λ n. n < 2 ^ 64) (sym round_is) (or_lt 64 (marks / 2 ^ (next % 64)) (marks * 2 ^ ((64 - next % 64) % 64) % 2 ^ 64) (omega arith) (mod_below _ (2 ^ 64) (omega arith))) in
     let most : steps ≤ 64 = subst (λ n. n ≤ 64) (sym is) (trailing_le 64 round) in
     let read : (k : ℕ) → k < 64 → bit_at round k ≡ bit_at marks ((base + 1 + k) % 64) =
         λ k l. ap (λ n. bit_at n k) round_is ∙ rotated marks next k fits l ∙ ap (bit_at marks) (let q : (base % 64 + 1 + k) % 64 ≡ (base + 1 + k) % 64 = omega arith in q) in

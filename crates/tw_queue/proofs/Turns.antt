@@ -1,8 +1,8 @@
 -- A turn of a wheel: what stands in its buckets, and which of them comes first.
-use Rattle.std.proofs.Common.{◌≡◌, ◌≢◌, ◌≤◌, ◌<◌, ◌+◌, ◌-◌, ◌%◌, ◌++◌, ◌⊎◌, ℕ, suc, zero, List, [], ◌∷◌}
-use Rattle.std.proofs.Common.{length, get_or, set, refl, ap, sym, ◌∙◌, subst, inl, inr, arith, get_or-set_same, get_or-set_other, length-set}
+use Rattle.std.proofs.Common.{◌≡◌, ◌≢◌, ◌≤◌, ◌<◌, ◌+◌, ◌-◌, ◌%◌, ◌++◌, ◌⊎◌, ℕ, suc, zero, true, Option, Some, None, List, [], ◌∷◌}
+use Rattle.std.proofs.Common.{length, get_or, set, slice_get, refl, ap, sym, ◌∙◌, subst, inl, inr, arith, get_or-set_same, get_or-set_other, length-set}
 use Rattle.std.specs.Int.{bit_at}
-use Rattle.std.proofs.lemmas.Bool.{cases_eq, cases_lt}
+use Rattle.std.proofs.lemmas.Bool.{cases_Bool, cases_eq, cases_lt}
 use Rattle.std.proofs.lemmas.Nat.Bits.{bit_at-zero}
 use Rattle.tw_event.specs.declared.event.Event.{Event}
 use Rattle.tw_event.specs.Order.{event_before, event_same}
@@ -10,10 +10,10 @@ use Rattle.tw_sim.specs.Ordered.{insert, one, times}
 use Rattle.tw_sim.proofs.Counts.{none}
 use Rattle.tw_sim.proofs.Ordered.{one_cases, one_self}
 use Rattle.tw_queue.specs.Buckets.{IsPlaced, together}
-use Rattle.tw_queue.specs.InOrder.{in_order}
+use Rattle.tw_queue.specs.InOrder.{in_order, least_with}
 use Rattle.tw_queue.specs.Turn.{IsFirstMark, IsTurn}
 use Rattle.tw_queue.proofs.Ordered.{cases_zero, in_order-times}
-use Rattle.tw_queue.proofs.Events.{event_law}
+use Rattle.tw_queue.proofs.Events.{event_law, first_of_least, least_first, least_is, none_first}
 use Rattle.tw_queue.proofs.Lists.{none_placed, placed-set, times-append, times-placed, times-push, times-set, together_none}
 use Rattle.tw_queue.proofs.Tables.{nothing}
 
@@ -96,6 +96,27 @@ module _ (key : Event → ℕ) (base marks : ℕ) (lists : List (List Event)) (t
         let z = t.clear p place_within h in
         let c : 0 ≡ 1 = sym z ∙ own in
         absurd (omega (arith, c))))
+
+    -- the least event of the first bucket is the least of all, where keys rise with events
+    module _ (rise : (d e : Event) → event_before d e ≡ true → key d ≤ key e) where
+      pub first_all : (o : Option Event) → slice_get (in_order event_before (get_or lists p [])) 0 ≡ o → slice_get (in_order event_before (together lists)) 0 ≡ o
+      unfolding in_order
+      first_all None h =
+          let empty = nothing (get_or lists p []) (none_first (get_or lists p []) h) in
+          rw (none_marked empty) refl
+      first_all (Some m) h =
+          let l = least_is m (get_or lists p []) h in
+          first_of_least m (together lists) (record {
+            there = out_slot p m l.there;
+            first = λ x there.
+                elim (cases_Bool (event_before x m)) [
+                  | inl b ↦ l.first x (first_slot m x l.there there (rise x m b))
+                  | inr b ↦ b
+                ];
+          })
+
+      pub least_all : least_with None (get_or lists p []) ≡ slice_get (in_order event_before (together lists)) 0
+      least_all = least_first (get_or lists p []) ∙ sym (first_all _ refl)
 
   -- a later base, before all events
   pub turn_base : (later : ℕ) → base ≤ later → ((e : Event) → 0 < times event_same e (together lists) → later < key e) → IsTurn key later marks lists

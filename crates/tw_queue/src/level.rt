@@ -7,7 +7,7 @@ ghost use Rattle.tw_queue.specs.Buckets.{together};
 ghost use Rattle.tw_sim.specs.Ordered.{insert, take_out, times};
 
 use crate::bucket::Bucket;
-use crate::marks::{first_place, is_ahead, slot_of, with_mark, without_mark};
+use crate::marks::{first_place, is_ahead, marked_as, slot_of, with_mark, without_mark};
 use std::alloc::{AllocError, Global};
 use std::array;
 use std::marker::Model;
@@ -103,12 +103,13 @@ impl Level {
     pub(crate) fn remove(&mut self, event: &Event) -> bool
         ensures found { IsTrue result ↔ (0 < times event_same event.now self.old) }
         ensures events { self.new ≡ take_out event_same event.now self.old }
+        ensures same { OnFalse result (self.new ≡ self.old) }
     {
         let slot = slot_of(event.time >> self.shift);
-        let found = self.buckets[slot].remove(event);
-        if self.buckets[slot].len() == 0 {
-            self.marks = without_mark(self.marks, slot);
-        }
+        let bucket = &mut self.buckets[slot];
+        let found = bucket.remove(event);
+        let has_more = bucket.len() > 0;
+        self.marks = marked_as(self.marks, slot, has_more);
         found
     }
 
@@ -118,13 +119,8 @@ impl Level {
         ensures { self.new ≡ self.old }
     {
         let width = time >> self.shift;
-        if width <= self.base {
+        if width <= self.base || self.start() >> self.shift <= width {
             return;
-        }
-        if let Some(first) = self.buckets[first_place(self.marks, self.base)].first_time() {
-            if first >> self.shift <= width {
-                return;
-            }
         }
         self.base = width;
     }

@@ -1,5 +1,5 @@
 // Which of 64 buckets have something, a bit for each.
-ghost use Rattle.std.specs.Bool.{OnTrue};
+ghost use Rattle.std.specs.Bool.{OnFalse, OnTrue};
 ghost use Rattle.std.specs.Int.{bit_at};
 ghost use Rattle.std.specs.Prelude.{ℕ, ◌≡◌, ◌≢◌, ◌<◌, ◌≤◌, ◌+◌, ◌%◌};
 ghost use Rattle.tw_queue.specs.Turn.{IsFirstMark};
@@ -41,6 +41,20 @@ pub(crate) fn without_mark(marks: u64, place: usize) -> u64
     ensures others { (i : ℕ) → i < 64 → i ≢ place → bit_at result i ≡ bit_at marks i }
 {
     marks & !(1 << place)
+}
+
+/// These marks, with that of a place as it is told.
+pub(crate) fn marked_as(marks: u64, place: usize, is_marked: bool) -> u64
+    requires { place < 64 }
+    ensures marked { OnTrue is_marked (bit_at result place ≡ 1) }
+    ensures clear { OnFalse is_marked (bit_at result place ≡ 0) }
+    ensures others { (i : ℕ) → i < 64 → i ≢ place → bit_at result i ≡ bit_at marks i }
+{
+    if is_marked {
+        with_mark(marks, place)
+    } else {
+        without_mark(marks, place)
+    }
 }
 
 /// The first marked place after that of a base, round the 64 places; any place where none is marked.

@@ -141,10 +141,10 @@ impl Ring {
             return;
         }
         let place = first_place(self.marks, self.tick);
-        if self.buckets[place].len() == 0 {
+        let bucket = &mut self.buckets[place];
+        if bucket.len() == 0 {
             return;
         }
-        let bucket = &mut self.buckets[place];
         self.tick = bucket.first_time();
         self.hand.take_over(bucket, &mut self.receivers);
         self.taken = 0;
@@ -156,10 +156,19 @@ impl Ring {
     pub(crate) fn skip_least(&mut self)
         ensures { self.new ≡ drop 1 self.old }
     {
-        self.begin_tick();
         if self.taken < self.hand.len() {
             self.taken += 1;
+            return;
         }
+        let place = first_place(self.marks, self.tick);
+        let bucket = &mut self.buckets[place];
+        if bucket.len() == 0 {
+            return;
+        }
+        self.tick = bucket.first_time();
+        self.hand.take_over(bucket, &mut self.receivers);
+        self.taken = 1;
+        self.marks = without_mark(self.marks, place);
     }
 
     /// Puts its events at the end of a list.

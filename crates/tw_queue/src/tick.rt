@@ -65,10 +65,7 @@ impl Tick {
     pub(crate) fn first_time(&self) -> u64
         ensures { result ≡ first_time self.now }
     {
-        if self.updates.is_empty() {
-            return u64::MAX;
-        }
-        self.time
+        if self.len() > 0 { self.time } else { u64::MAX }
     }
 
     /// Puts an update of this time, in ticks, in where all others are of this time too and memory is not

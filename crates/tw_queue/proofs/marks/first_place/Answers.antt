@@ -4,4 +4,4 @@ use Rattle.tw_queue.proofs.marks.first_place.Goals as goal
 
 pub returns : goal.returns
 returns c =
-    first_mark c.args.marks c.args.base _ _ c.rotate_right-steps.result c.ranges.marks.fits c.rotate_right-steps.auto c.rotate_right-steps.ensures _ refl
+    first_mark c.args.marks c.args.base _ c.from.result c.rotate_right-steps.result c.ranges.marks.fits c.rotate_right-steps.ensures c.from.ensures refl
