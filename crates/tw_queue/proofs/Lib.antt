@@ -10,5 +10,6 @@ pub mod Spares
 pub mod Rings
 pub mod Merged
 pub mod Turns
+pub mod Stacked
 pub mod Widths
 pub mod Rotated

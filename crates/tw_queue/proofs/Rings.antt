@@ -223,6 +223,10 @@ pub taken_over : (lists : List (List Event)) → length lists ≡ 64 → (p : �
 taken_over lists number p within bucket is hand h =
     h ∙ ap (in_order event_before) (sym is ∙ get_or_read lists p bucket (omega arith) is [])
 
+-- the first bucket, as it is read
+pub read_first : (a : Inside) → IsRing a → (p : ℕ) → IsFirstMark a.marks a.tick p → (bucket : List Event) → bucket ≡ get_or a.buckets p bucket → get_or a.buckets p bucket ≡ get_or a.buckets p []
+read_first a v p f bucket is = sym is ∙ get_or_read a.buckets p bucket (inside a.tick a.marks a.buckets v.turn p f) is []
+
 -- a ring b, whose hand is what the first bucket of a ring a had, some of it taken out
 pub begun_ring : (a b : Inside) → IsRing a → (p : ℕ) → IsFirstMark a.marks a.tick p → 0 < length (get_or a.buckets p []) → b.hand ≡ in_order event_before (get_or a.buckets p [])
     → b.taken ≤ length b.hand → b.tick ≡ first_time (get_or a.buckets p []) → b.buckets ≡ set a.buckets p [] → bit_at b.marks p ≡ 0

@@ -141,10 +141,10 @@ impl Ring {
             return;
         }
         let place = first_place(self.marks, self.tick);
-        let bucket = &mut self.buckets[place];
-        if bucket.len() == 0 {
+        if self.buckets[place].len() == 0 {
             return;
         }
+        let bucket = &mut self.buckets[place];
         self.tick = bucket.first_time();
         self.hand.take_over(bucket, &mut self.receivers);
         self.taken = 0;
@@ -161,10 +161,10 @@ impl Ring {
             return;
         }
         let place = first_place(self.marks, self.tick);
-        let bucket = &mut self.buckets[place];
-        if bucket.len() == 0 {
+        if self.buckets[place].len() == 0 {
             return;
         }
+        let bucket = &mut self.buckets[place];
         self.tick = bucket.first_time();
         self.hand.take_over(bucket, &mut self.receivers);
         self.taken = 1;

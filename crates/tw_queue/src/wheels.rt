@@ -4,14 +4,14 @@ ghost use Rattle.std.specs.Bool.{OnFalse, OnTrue};
 ghost use Rattle.tw_event.specs.declared.event.Event.{Event as AnEvent};
 ghost use Rattle.tw_event.specs.Order.{event_before, event_same};
 ghost use Rattle.tw_queue.specs.Buckets.{together};
-ghost use Rattle.tw_queue.specs.InOrder.{in_order, least_with};
+ghost use Rattle.tw_queue.specs.InOrder.{in_order};
 ghost use Rattle.tw_sim.specs.Ordered.{insert, one, take_out, times};
 ghost use Rattle.tw_sim.specs.Rising.{IsRising};
 
 use crate::bucket::Bucket;
 use crate::level::Level;
 use crate::ring::Ring;
-use crate::search::earlier;
+use crate::search::earlier_of;
 use std::alloc::{AllocError, Global};
 use std::marker::Model;
 use tw_event::Event;
@@ -82,7 +82,7 @@ impl Wheels {
         ensures least { result ≡ slice_get self.now 0 }
         ensures rising { IsRising event_before event_same self.now }
     {
-        least_of_levels(self.moving.least(), &self.levels)
+        earlier_of(least_of_levels(&self.levels), self.moving.least())
     }
 
     /// Takes out one event that equals `event`.
@@ -170,16 +170,13 @@ fn remove_from_levels(levels: &mut [Level], event: &Event) -> bool
     false
 }
 
-// The least of an event, if there is one, and of those of levels.
-fn least_of_levels(first: Option<Event>, levels: &[Level]) -> Option<Event>
-    ensures { result ≡ least_with first (together levels.now) }
+// The least event of levels.
+fn least_of_levels(levels: &[Level]) -> Option<Event>
+    ensures { result ≡ slice_get (in_order event_before (together levels.now)) 0 }
 {
-    let mut least = first;
+    let mut least = None;
     for level in levels {
-        least = match level.least() {
-            Some(event) => Some(earlier(event, least)),
-            None => least,
-        };
+        least = earlier_of(least, level.least());
     }
     least
 }

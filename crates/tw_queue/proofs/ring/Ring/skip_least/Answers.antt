@@ -1,5 +1,4 @@
 use Rattle.std.proofs.Common.{◌≡◌, ◌<◌, ◌≤◌, ◌++◌, List, [], drop, length, get_or, set, ap, sym, ◌∙◌, subst, arith}
-use Rattle.std.proofs.lemmas.List.{get_or_read}
 use Rattle.tw_event.specs.declared.event.Event.{Event}
 use Rattle.tw_event.specs.Order.{event_before, event_same}
 use Rattle.tw_sim.specs.Ordered.{times}
@@ -11,7 +10,7 @@ use Rattle.tw_queue.specs.Table.{first_time}
 use Rattle.tw_queue.proofs.Events.{event_law}
 use Rattle.tw_queue.proofs.Merged.{nil_of}
 use Rattle.tw_queue.proofs.Ordered.{length-in_order, rising-in_order}
-use Rattle.tw_queue.proofs.Rings.{begin_after, begin_begun, begin_order, begun_ring, drop_more, inside, later_ticks, rest_taken, rising_rest, some_left, times_rest}
+use Rattle.tw_queue.proofs.Rings.{begin_after, begin_begun, begin_order, begun_ring, drop_more, later_ticks, read_first, rest_taken, rising_rest, some_left, times_rest}
 use Rattle.tw_queue.proofs.Turns.{none_marked}
 use Rattle.tw_queue.proofs.ring.Ring.skip_least.Goals as goal
 
@@ -47,34 +46,28 @@ returns-then-len-eq0 c =
     let p = c.first_place-place.result in
     let f = c.first_place-place.ensures in
     let b = c.index-self-place in
-    let same = sym b.is ∙ get_or_read a.buckets p b.result (inside a.tick a.marks a.buckets v.turn p f) b.is [] in
+    let old = read_first a v p f b.result b.is in
     let beyond : length a.hand ≤ a.taken = omega (arith, c.len.ensures, c.if-self-len.false) in
-    let none = none_marked (λ e. e.time) a.tick a.marks a.buckets v.turn p f (nil_of (get_or a.buckets p []) (omega (arith, c.len-2.ensures, ap length same, c.if-len-eq0.true))) in
+    let none = none_marked (λ e. e.time) a.tick a.marks a.buckets v.turn p f (nil_of (get_or a.buckets p []) (omega (arith, c.len-2.ensures, ap length old, c.if-len-eq0.true))) in
     let z = over a.buckets c.args.self.now (later_ticks a.hand a.taken a.buckets c.args.self.now beyond c.self.view_is) none in
     z ∙ ap (drop 1) (sym z)
-
--- the bucket that is begun
-read : (c : goal.After-take_over) → get_or c.self.inside.buckets c.first_place-place.result c.index-self-place.result ≡ get_or c.self.inside.buckets c.first_place-place.result []
-read c =
-    let a = c.self.inside in
-    let p = c.first_place-place.result in
-    let b = c.index-self-place in
-    sym b.is ∙ get_or_read a.buckets p b.result (inside a.tick a.marks a.buckets c.self.invariant.turn p c.first_place-place.ensures) b.is []
-
-filled : (c : goal.After-take_over) → c.take_over.new.self ≡ in_order event_before (get_or c.self.inside.buckets c.first_place-place.result [])
-filled c = c.take_over.ensures.events ∙ ap (in_order event_before) (read c)
-
-some : (c : goal.After-take_over) → 0 < length (get_or c.self.inside.buckets c.first_place-place.result [])
-some c = omega (arith, c.len-2.ensures, ap length (read c), c.if-len-eq0.false)
 
 pub invariant_of-self-2 : goal.invariant_of-self-2
 invariant_of-self-2 c =
     let a = c.self.inside in
+    let v = c.self.invariant in
     let p = c.first_place-place.result in
-    let m = c.without_mark-self-inside.ensures in
-    let long = ap length (filled c.before) ∙ length-in_order event_before event_same (get_or a.buckets p []) in
-    begun_ring a _ c.self.invariant p c.first_place-place.ensures (some c.before) (filled c.before) (omega (arith, some c.before, long)) (c.first_time-self-inside.ensures ∙ ap first_time (read c.before))
-    (ap (set a.buckets p) c.take_over.ensures.empty) m.same m.others
+    let f = c.first_place-place.ensures in
+    let m = c.without_mark-self-inside in
+    let b = c.index-self-place in
+    let b2 = c.index-self-place-2 in
+    let old = read_first a v p f b.result b.is in
+    let read = read_first a v p f b2.result b2.is in
+    let filled : c.take_over.new.self ≡ in_order event_before (get_or a.buckets p []) = c.take_over.ensures.events ∙ ap (in_order event_before) read in
+    let some : 0 < length (get_or a.buckets p []) = omega (arith, c.len-2.ensures, ap length old, c.if-len-eq0.false) in
+    let beyond : length a.hand ≤ a.taken = omega (arith, c.len.ensures, c.if-self-len.false) in
+    let long = ap length filled ∙ length-in_order event_before event_same (get_or a.buckets p []) in
+    begun_ring a _ v p f some filled (omega (arith, some, long)) (c.first_time-self-inside.ensures ∙ ap first_time read) (ap (set a.buckets p) c.take_over.ensures.empty) m.ensures.same m.ensures.others
 
 pub returns : goal.returns
 returns c =
@@ -83,9 +76,15 @@ returns c =
     let p = c.first_place-place.result in
     let f = c.first_place-place.ensures in
     let m = c.without_mark-self-inside in
+    let b = c.index-self-place in
+    let b2 = c.index-self-place-2 in
+    let old = read_first a v p f b.result b.is in
+    let read = read_first a v p f b2.result b2.is in
+    let filled : c.take_over.new.self ≡ in_order event_before (get_or a.buckets p []) = c.take_over.ensures.events ∙ ap (in_order event_before) read in
+    let some : 0 < length (get_or a.buckets p []) = omega (arith, c.len-2.ensures, ap length old, c.if-len-eq0.false) in
     let beyond : length a.hand ≤ a.taken = omega (arith, c.len.ensures, c.if-self-len.false) in
     let long = length-in_order event_before event_same (get_or a.buckets p []) in
-    rw (filled c.before, c.take_over.ensures.empty) (rest_taken (first_time (get_or a.buckets p [])) (together (set a.buckets p []))
-    (begin_after a.tick a.marks a.buckets v.turn p f m.result m.ensures.same m.ensures.others (some c.before)) (in_order event_before (get_or a.buckets p []))
-    (omega (arith, some c.before, long)) (rising-in_order event_before event_same event_law (get_or a.buckets p [])) (begin_begun a.tick a.marks a.buckets v.turn p f)
+    rw (filled, c.take_over.ensures.empty) (rest_taken (first_time (get_or a.buckets p [])) (together (set a.buckets p []))
+    (begin_after a.tick a.marks a.buckets v.turn p f m.result m.ensures.same m.ensures.others some) (in_order event_before (get_or a.buckets p []))
+    (omega (arith, some, long)) (rising-in_order event_before event_same event_law (get_or a.buckets p [])) (begin_begun a.tick a.marks a.buckets v.turn p f)
     ∙ ap (drop 1) (begin_order a.tick a.marks a.buckets v.turn p f ∙ later_ticks a.hand a.taken a.buckets c.args.self.now beyond c.self.view_is))
