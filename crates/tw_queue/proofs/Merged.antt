@@ -98,7 +98,7 @@ none_of [] h = refl
 none_of (x ∷ xs) h = absurd (none-some x (sym h))
 
 -- what goes in first comes out first
-insert_taken : (x : Event) (xs : List Event) → slice_get (insert event_before x xs) 0 ≡ Some x → drop 1 (insert event_before x xs) ≡ xs
+pub insert_taken : (x : Event) (xs : List Event) → slice_get (insert event_before x xs) 0 ≡ Some x → drop 1 (insert event_before x xs) ≡ xs
 insert_taken x [] h = refl
 insert_taken x (y ∷ ys) h =
     elim (cases_Bool (event_before y x)) [

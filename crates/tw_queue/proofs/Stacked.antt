@@ -6,14 +6,14 @@ use Rattle.std.proofs.lemmas.List.{get_or_read, take_all}
 use Rattle.std.proofs.lemmas.Option.{none-some}
 use Rattle.tw_event.specs.declared.event.Event.{Event}
 use Rattle.tw_event.specs.Order.{event_before, event_same}
-use Rattle.tw_sim.specs.Ordered.{insert, one, times}
+use Rattle.tw_sim.specs.Ordered.{insert, one, take_out, times}
 use Rattle.tw_sim.proofs.Ordered.{not_back, not_before, times-insert}
 use Rattle.tw_queue.specs.Buckets.{together}
 use Rattle.tw_queue.specs.InOrder.{earlier, earlier_of, in_order}
-use Rattle.tw_queue.proofs.Ordered.{cases_zero, in_order-times, times-in_order}
+use Rattle.tw_queue.proofs.Ordered.{cases_zero, in_order-times, times-in_order, times-take_out}
 use Rattle.tw_queue.proofs.Events.{event_law, first_of_least, least_is, none_first, same_some}
 use Rattle.tw_queue.proofs.Lists.{times-append, times-set}
-use Rattle.tw_queue.proofs.Merged.{append_none, least_left, nil_of}
+use Rattle.tw_queue.proofs.Merged.{append_none, insert_taken, least_left, nil_of}
 use Rattle.tw_queue.proofs.Tables.{nothing}
 
 -- the one of two first events that comes first is the first of all
@@ -101,3 +101,65 @@ last_counts d e (x ∷ xs) zero l h =
 last_counts d e (x ∷ xs) (suc n) l h =
     let r = last_counts d e xs n (omega arith) h in
     omega arith
+
+-- an event is taken out of a level
+pub level_cut : (lists : List (List Event)) (i : ℕ) (was new : List Event) (e : Event) → i < length lists → was ≡ get_or lists i was → 0 < times event_same e (get_or lists i was)
+    → new ≡ take_out event_same e (get_or lists i was) → (d : Event) → times event_same d (together (set lists i new)) + one event_same d e ≡ times event_same d (together lists)
+level_cut lists i was new e l is there less d =
+    let s = times-set i new lists l d in
+    let r = ap (times event_same d) (sym is ∙ get_or_read lists i was l is []) in
+    let m = ap (times event_same d) less in
+    let n = times-take_out event_before event_same event_law d e (get_or lists i was) there in
+    omega arith
+
+-- a level becomes another
+pub level_set : (lists : List (List Event)) (i : ℕ) (was new : List Event) → i < length lists → was ≡ get_or lists i was → (d : Event)
+    → times event_same d (together (set lists i new)) + times event_same d (get_or lists i was) ≡ times event_same d (together lists) + times event_same d new
+level_set lists i was new l is d =
+    let s = times-set i new lists l d in
+    let r = ap (times event_same d) (sym is ∙ get_or_read lists i was l is []) in
+    omega arith
+
+-- no level has an event
+pub nowhere : (e : Event) (lists : List (List Event)) → ((k : ℕ) → k < length lists → times event_same e (get_or lists k []) ≡ 0) → times event_same e (together lists) ≡ 0
+nowhere e [] h = refl
+nowhere e (xs ∷ lists) h =
+    let a = times-append e xs (together lists) in
+    let b = h 0 (omega arith) in
+    let c = nowhere e lists (λ k l. h (suc k) (omega arith)) in
+    omega arith
+
+-- what is in order has as many
+pub counted : (e : Event) (xs ys now : List Event) → in_order event_before (xs ++ ys) ≡ now → times event_same e now ≡ times event_same e xs + times event_same e ys
+counted e xs ys now h =
+    let a = ap (times event_same e) h in
+    let b = times-in_order event_before event_same event_law e (xs ++ ys) in
+    let c = times-append e xs ys in
+    omega arith
+
+pub same_order : (xs ys vs ws : List Event) → ((e : Event) → times event_same e vs + times event_same e ws ≡ times event_same e xs + times event_same e ys)
+    → in_order event_before (vs ++ ws) ≡ in_order event_before (xs ++ ys)
+same_order xs ys vs ws h =
+    in_order-times event_before event_same event_law (vs ++ ws) (xs ++ ys) (λ e.
+    let a = times-append e xs ys in
+    let b = times-append e vs ws in
+    let c = h e in
+    omega arith)
+
+-- one more, and one less that was the least
+pub order_more : (x : Event) (xs ys vs ws : List Event) → ((e : Event) → times event_same e vs + times event_same e ws ≡ one event_same e x + times event_same e xs + times event_same e ys)
+    → in_order event_before (vs ++ ws) ≡ insert event_before x (in_order event_before (xs ++ ys))
+unfolding in_order
+order_more x xs ys vs ws h =
+    in_order-times event_before event_same event_law (vs ++ ws) (x ∷ xs ++ ys) (λ e.
+    let a = times-append e xs ys in
+    let b = times-append e vs ws in
+    let c = h e in
+    omega arith)
+
+pub order_less : (x : Event) (xs ys vs ws : List Event) → slice_get (in_order event_before (xs ++ ys)) 0 ≡ Some x
+    → ((e : Event) → times event_same e vs + times event_same e ws + one event_same e x ≡ times event_same e xs + times event_same e ys)
+    → in_order event_before (vs ++ ws) ≡ drop 1 (in_order event_before (xs ++ ys))
+order_less x xs ys vs ws first h =
+    let whole = order_more x vs ws xs ys (λ e. let c = h e in omega arith) in
+    sym (insert_taken x (in_order event_before (vs ++ ws)) (ap (λ zs. slice_get zs 0) (sym whole) ∙ first)) ∙ ap (drop 1) (sym whole)

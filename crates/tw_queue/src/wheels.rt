@@ -85,13 +85,12 @@ impl Wheels {
         earlier_of(least_of_levels(&self.levels), self.moving.least())
     }
 
-    /// Takes out one event that equals `event`.
-    pub(crate) fn remove(&mut self, event: &Event)
-        ensures { self.new ≡ take_out event_same event.now self.old }
+    /// Takes out the least event.
+    pub(crate) fn remove(&mut self, least: &Event)
+        requires { slice_get self.old 0 ≡ Some least.now }
+        ensures { self.new ≡ drop 1 self.old }
     {
-        if !remove_from_levels(&mut self.levels, event) {
-            self.moving.remove(event);
-        }
+        remove_from(&mut self.levels, &mut self.moving, least);
     }
 
     /// The run has come to this time, in ticks. No promise rests on it.
@@ -125,9 +124,7 @@ impl Wheels {
         if start > latest || start > ring.least_time() || start > least_start(&self.levels) {
             return;
         }
-        if self.moving.len() == 0 {
-            self.levels[number].take_first(&mut self.moving);
-        }
+        take_down(&mut self.levels[number], &mut self.moving);
         ring.go_to(start.saturating_sub(1));
         go_to_each(&mut self.levels, start);
         put_each(&mut self.moving, ring, &mut self.levels);
@@ -156,18 +153,18 @@ fn insert_into(levels: &mut [Level], event: &Event) -> bool
     false
 }
 
-// Takes one event that equals `event` out of a level, and tells whether one had it.
-fn remove_from_levels(levels: &mut [Level], event: &Event) -> bool
-    ensures found { OnTrue result ((e : AnEvent) → times event_same e (together levels.new) + one event_same e event.now ≡ times event_same e (together levels.old)) }
-    ensures same { OnFalse result (levels.new ≡ levels.old) }
-    ensures none { OnFalse result (times event_same event.now (together levels.old) ≡ 0) }
+// Takes one event that equals `event` out of a level, or of what is on its way down.
+fn remove_from(levels: &mut [Level], moving: &mut Bucket, event: &Event)
+    requires { 0 < times event_same event.now (together levels.old) + times event_same event.now moving.old }
+    ensures { (e : AnEvent) → times event_same e (together levels.new) + times event_same e moving.new + one event_same e event.now
+        ≡ times event_same e (together levels.old) + times event_same e moving.old }
 {
     for number in 0..levels.len() {
         if levels[number].remove(event) {
-            return true;
+            return;
         }
     }
-    false
+    moving.remove(event);
 }
 
 // The least event of levels.
@@ -202,17 +199,42 @@ fn go_to_each(levels: &mut [Level], time: u64)
     }
 }
 
+// Takes the events of a level's first bucket, where nothing else is on its way down.
+fn take_down(level: &mut Level, moving: &mut Bucket)
+    ensures { (e : AnEvent) → times event_same e level.new + times event_same e moving.new ≡ times event_same e level.old + times event_same e moving.old }
+{
+    if moving.len() == 0 {
+        level.take_first(moving);
+    }
+}
+
 // Puts events into the ring or a level, as long as one takes them.
 fn put_each(events: &mut Bucket, ring: &mut Ring, levels: &mut [Level])
-    ensures { (e : AnEvent) → times event_same e ring.new + times event_same e (together levels.new) + times event_same e events.new
+    ensures all { (e : AnEvent) → times event_same e ring.new + times event_same e (together levels.new) + times event_same e events.new
         ≡ times event_same e ring.old + times event_same e (together levels.old) + times event_same e events.old }
+    ensures down { (e : AnEvent) → times event_same e (together levels.new) + times event_same e events.new
+        ≤ times event_same e (together levels.old) + times event_same e events.old }
 {
     while let Some(event) = events.last() {
-        if !ring.insert(&event) && !insert_into(levels, &event) {
+        if !put(&event, ring, levels) {
             return;
         }
         events.pop();
     }
+}
+
+// Puts an event into the ring or a level, and tells whether one took it.
+fn put(event: &Event, ring: &mut Ring, levels: &mut [Level]) -> bool
+    ensures all { OnTrue result ((e : AnEvent) → times event_same e ring.new + times event_same e (together levels.new)
+        ≡ one event_same e event.now + times event_same e ring.old + times event_same e (together levels.old)) }
+    ensures down { OnTrue result ((e : AnEvent) → times event_same e (together levels.new) ≤ one event_same e event.now + times event_same e (together levels.old)) }
+    ensures ring { OnFalse result (ring.new ≡ ring.old) }
+    ensures levels { OnFalse result (levels.new ≡ levels.old) }
+{
+    if ring.insert(event) {
+        return true;
+    }
+    insert_into(levels, event)
 }
 
 // Puts the events of levels at the end of a list.

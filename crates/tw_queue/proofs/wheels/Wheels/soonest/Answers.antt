@@ -1,0 +1,18 @@
+use Rattle.tw_event.specs.declared.event.Event.{Event}
+use Rattle.tw_event.specs.Order.{event_before, event_same}
+use Rattle.tw_sim.specs.Ordered.{insert, one, take_out, times}
+use Rattle.tw_sim.specs.Rising.{IsRising}
+use Rattle.tw_queue.specs.Buckets.{together}
+use Rattle.tw_queue.specs.InOrder.{in_order}
+use Rattle.std.proofs.Common.{◌≡◌, ◌<◌, ◌≤◌, ◌+◌, ◌++◌, ℕ, List, [], Some, None, length, drop, take, get_or, set, slice_get, refl, ap, sym, ◌∙◌, subst, inl, inr, arith}
+
+use Rattle.tw_queue.proofs.Stacked.{counted}
+use Rattle.tw_queue.proofs.Lists.{times-append}
+use Rattle.tw_queue.proofs.wheels.Wheels.soonest.Goals as goal
+
+pub returns : goal.returns
+returns c e there =
+    let a = c.self.inside in
+    let n = counted e (together a.levels) a.moving c.args.self.now c.self.view_is in
+    let m = times-append e (together a.levels) a.moving in
+    c.self.invariant.soonest e (omega arith)

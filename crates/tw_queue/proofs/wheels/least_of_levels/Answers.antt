@@ -1,0 +1,20 @@
+use Rattle.tw_event.specs.declared.event.Event.{Event}
+use Rattle.tw_event.specs.Order.{event_before, event_same}
+use Rattle.tw_sim.specs.Ordered.{insert, one, take_out, times}
+use Rattle.tw_sim.specs.Rising.{IsRising}
+use Rattle.tw_queue.specs.Buckets.{together}
+use Rattle.tw_queue.specs.InOrder.{in_order}
+use Rattle.std.proofs.Common.{◌≡◌, ◌<◌, ◌≤◌, ◌+◌, ◌++◌, ℕ, List, [], Some, None, length, drop, take, get_or, set, slice_get, refl, ap, sym, ◌∙◌, subst, inl, inr, arith}
+
+use Rattle.tw_queue.proofs.Events.{event_law}
+use Rattle.tw_queue.proofs.Ordered.{rising-in_order}
+use Rattle.tw_queue.proofs.Stacked.{least_upto}
+use Rattle.tw_queue.proofs.wheels.least_of_levels.Goals as goal
+
+pub loop-level-init : goal.loop-level-init
+unfolding in_order
+loop-level-init c = refl
+
+pub loop-level-preserved : goal.loop-level-preserved
+loop-level-preserved c =
+    c.earlier_of-least.ensures ∙ least_upto c.loop-level.level-index c.level-item.result c.args.levels.now c.loop-level-test.true c.level-item.is _ _ c.loop-level.invariant ?
