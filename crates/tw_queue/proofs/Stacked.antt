@@ -163,3 +163,16 @@ pub order_less : (x : Event) (xs ys vs ws : List Event) → slice_get (in_order 
 order_less x xs ys vs ws first h =
     let whole = order_more x vs ws xs ys (λ e. let c = h e in omega arith) in
     sym (insert_taken x (in_order event_before (vs ++ ws)) (ap (λ zs. slice_get zs 0) (sym whole) ∙ first)) ∙ ap (drop 1) (sym whole)
+
+pub popped : (d e : Event) (xs : List Event) → slice_get xs (length xs - 1) ≡ Some e → times event_same d (take (length xs - 1) xs) + one event_same d e ≡ times event_same d xs
+popped d e [] h = absurd (none-some e h)
+popped d e (x ∷ xs) h = last_counts d e (x ∷ xs) (length (x ∷ xs) - 1) (omega arith) h
+
+pub same_all : (ring now : List Event) (new levels moving : List Event)
+    → ((e : Event) → times event_same e new + times event_same e levels + times event_same e moving ≡ times event_same e ring + times event_same e now)
+    → in_order event_before (new ++ in_order event_before (levels ++ moving)) ≡ in_order event_before (ring ++ now)
+same_all ring now new levels moving h =
+    same_order ring now new (in_order event_before (levels ++ moving)) (λ e.
+    let a = counted e levels moving (in_order event_before (levels ++ moving)) refl in
+    let c = h e in
+    omega arith)

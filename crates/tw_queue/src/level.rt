@@ -5,6 +5,7 @@ ghost use Rattle.tw_event.specs.declared.event.Event.{Event as AnEvent};
 ghost use Rattle.tw_event.specs.Order.{event_before, event_same};
 ghost use Rattle.tw_queue.specs.Buckets.{together};
 ghost use Rattle.tw_sim.specs.Ordered.{insert, take_out, times};
+ghost use Rattle.tw_sim.specs.Rising.{IsRising};
 
 use crate::bucket::Bucket;
 use crate::marks::{first_place, is_ahead, marked_as, slot_of, with_mark, without_mark};
@@ -82,9 +83,10 @@ impl Level {
         }
     }
 
-    /// The least event.
+    /// The least event. The events are in order.
     pub(crate) fn least(&self) -> Option<Event>
-        ensures { result ≡ slice_get self.now 0 }
+        ensures least { result ≡ slice_get self.now 0 }
+        ensures rising { IsRising event_before event_same self.now }
     {
         self.buckets[first_place(self.marks, self.base)].least()
     }

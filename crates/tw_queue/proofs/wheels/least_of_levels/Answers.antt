@@ -7,7 +7,7 @@ use Rattle.tw_queue.specs.InOrder.{in_order}
 use Rattle.std.proofs.Common.{◌≡◌, ◌<◌, ◌≤◌, ◌+◌, ◌++◌, ℕ, List, [], Some, None, length, drop, take, get_or, set, slice_get, refl, ap, sym, ◌∙◌, subst, inl, inr, arith}
 
 use Rattle.tw_queue.proofs.Events.{event_law}
-use Rattle.tw_queue.proofs.Ordered.{rising-in_order}
+use Rattle.tw_queue.proofs.Tables.{in_order_rising}
 use Rattle.tw_queue.proofs.Stacked.{least_upto}
 use Rattle.tw_queue.proofs.wheels.least_of_levels.Goals as goal
 
@@ -17,4 +17,5 @@ loop-level-init c = refl
 
 pub loop-level-preserved : goal.loop-level-preserved
 loop-level-preserved c =
-    c.earlier_of-least.ensures ∙ least_upto c.loop-level.level-index c.level-item.result c.args.levels.now c.loop-level-test.true c.level-item.is _ _ c.loop-level.invariant ?
+    c.earlier_of-least.ensures ∙ least_upto c.loop-level.level-index c.level-item.result c.args.levels.now c.loop-level-test.true c.level-item.is _ _ c.loop-level.invariant
+    (c.least.ensures.least ∙ ap (λ xs. slice_get xs 0) (sym (in_order_rising c.level-item.result c.least.ensures.rising)))
