@@ -1,5 +1,5 @@
 // The levels of the wheels above the ring.
-ghost use Rattle.std.specs.Prelude.{ℕ, ◌≡◌, ◌<◌, ◌≤◌, ◌+◌, ◌++◌, [], None, Some, OnOk, drop, slice_get};
+ghost use Rattle.std.specs.Prelude.{ℕ, ◌≡◌, ◌<◌, ◌≤◌, ◌+◌, ◌++◌, [], None, Some, OnOk, drop, length, slice_get};
 ghost use Rattle.std.specs.Bool.{OnFalse, OnTrue};
 ghost use Rattle.tw_event.specs.declared.event.Event.{Event as AnEvent};
 ghost use Rattle.tw_event.specs.Order.{event_before, event_same};
@@ -124,7 +124,7 @@ impl Wheels {
         if start > latest || start > ring.least_time() || start > least_start(&self.levels) {
             return;
         }
-        take_down(&mut self.levels[number], &mut self.moving);
+        take_down(&mut self.levels, number, &mut self.moving);
         ring.go_to(start.saturating_sub(1));
         go_to_each(&mut self.levels, start);
         put_each(&mut self.moving, ring, &mut self.levels);
@@ -200,12 +200,14 @@ fn go_to_each(levels: &mut [Level], time: u64)
 }
 
 // Takes the events of a level's first bucket, where nothing else is on its way down.
-fn take_down(level: &mut Level, moving: &mut Bucket)
-    ensures { (e : AnEvent) → times event_same e level.new + times event_same e moving.new ≡ times event_same e level.old + times event_same e moving.old }
+fn take_down(levels: &mut [Level], number: usize, moving: &mut Bucket)
+    requires { number < length levels.old }
+    ensures { (e : AnEvent) → times event_same e (together levels.new) + times event_same e moving.new ≡ times event_same e (together levels.old) + times event_same e moving.old }
 {
-    if moving.len() == 0 {
-        level.take_first(moving);
+    if moving.len() > 0 {
+        return;
     }
+    levels[number].take_first(moving);
 }
 
 // Puts events into the ring or a level, as long as one takes them.

@@ -7,16 +7,13 @@ use Rattle.tw_queue.specs.InOrder.{in_order}
 use Rattle.std.proofs.Common.{◌≡◌, ◌<◌, ◌≤◌, ◌+◌, ◌-◌, ◌++◌, ℕ, suc, List, [], Some, None, length, drop, take, get_or, set, slice_get, refl, ap, sym, ◌∙◌, subst, inl, inr, arith}
 
 use Rattle.tw_queue.proofs.Lists.{times-append}
-use Rattle.tw_queue.proofs.Stacked.{counted, level_set, same_all}
+use Rattle.tw_queue.proofs.Stacked.{counted, same_all}
 use Rattle.tw_queue.proofs.wheels.Wheels.begin_first.Goals as goal
 
--- what goes down, with what is there
 pub invariant_of-self : goal.invariant_of-self
 invariant_of-self c = record {
   soonest = λ e there.
       let a = c.self.inside in
-      let b = c.index-self-number-2 in
-      let level = level_set a.levels c.args.number b.result c.take_down.new.level ? b.is e in
       let n = times-append e (together c.put_each.new.levels) c.put_each.new.events in
       let m = times-append e (together a.levels) a.moving in
       let same = ap (λ ls. times event_same e (together ls)) c.go_to_each.ensures in
@@ -28,9 +25,7 @@ invariant_of-self c = record {
 pub returns : goal.returns
 returns c =
     let a = c.self.inside in
-    let b = c.index-self-number-2 in
     same_all c.args.ring.now c.args.self.now c.put_each.new.ring (together c.put_each.new.levels) c.put_each.new.events (λ e.
-    let level = level_set a.levels c.args.number b.result c.take_down.new.level ? b.is e in
     let now = counted e (together a.levels) a.moving c.args.self.now c.self.view_is in
     let same = ap (λ ls. times event_same e (together ls)) c.go_to_each.ensures in
     let ring = ap (times event_same e) c.go_to.ensures in
