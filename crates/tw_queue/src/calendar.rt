@@ -95,6 +95,7 @@ impl Calendar {
         ensures rising { IsRising event_before event_same self.now }
         ensures soonest { IfSome (slice_get self.now 0) (λ e. result ≤ e.time) }
     {
+        let _ = self.ring.taken();
         self.ring.least_time().min(self.wheels.soonest())
     }
 
@@ -119,17 +120,8 @@ impl Calendar {
     pub(crate) fn begin_tick(&mut self, latest: u64)
         ensures { self.new ≡ self.old }
     {
-        if self.ring.has_tick_at_hand() {
-            return;
-        }
-        if self.wheels.soonest() <= latest.min(self.ring.least_time()) {
-            self.wheels.send_down(&mut self.ring, latest);
-        }
-        let time = self.ring.least_time();
-        if time < self.wheels.soonest() && time <= latest {
-            self.ring.begin_tick();
-            self.wheels.go_to(time);
-        }
+        send_down(&mut self.ring, &mut self.wheels, latest);
+        begin_first(&mut self.ring, &mut self.wheels, latest);
     }
 
     /// Takes out the least event, where there is one.
@@ -152,6 +144,31 @@ impl Calendar {
     }
 }
 
+// Sends the events of the next ticks down into a ring that has no tick at hand, as far as `latest`, in ticks.
+#[inline(always)]
+fn send_down(ring: &mut Ring, wheels: &mut Wheels, latest: u64)
+    ensures { in_order event_before (ring.new ++ wheels.new) ≡ in_order event_before (ring.old ++ wheels.old) }
+{
+    if ring.has_tick_at_hand() || wheels.soonest() > latest.min(ring.least_time()) {
+        return;
+    }
+    wheels.send_down(ring, latest);
+}
+
+// Begins the ring's next tick, where it is at `latest`, in ticks, at the latest and before all in the wheels.
+#[inline(always)]
+fn begin_first(ring: &mut Ring, wheels: &mut Wheels, latest: u64)
+    ensures ring { ring.new ≡ ring.old }
+    ensures wheels { wheels.new ≡ wheels.old }
+{
+    let time = ring.least_time();
+    if time > latest || time >= wheels.soonest() || ring.has_tick_at_hand() {
+        return;
+    }
+    ring.begin_tick();
+    wheels.go_to(time);
+}
+
 // The least event of all, where it is in the wheels and not in the ring.
 #[inline(always)]
 fn first_of_wheels(ring: &Ring, wheels: &Wheels) -> Option<Event>
@@ -159,6 +176,7 @@ fn first_of_wheels(ring: &Ring, wheels: &Wheels) -> Option<Event>
     ensures there { IfSome result (λ e. slice_get wheels.now 0 ≡ Some e) }
     ensures ring { IfNone result (slice_get (in_order event_before (ring.now ++ wheels.now)) 0 ≡ slice_get ring.now 0) }
 {
+    let _ = ring.taken();
     if ring.least_time() < wheels.soonest() {
         return None;
     }
@@ -173,10 +191,16 @@ fn first_by_search(ring: &Ring, wheels: &Wheels) -> Option<Event>
     ensures ring { IfNone result (slice_get (in_order event_before (ring.now ++ wheels.now)) 0 ≡ slice_get ring.now 0) }
 {
     let _ = ring.taken();
-    let first = wheels.least()?;
-    let mut least = Event::default();
-    if ring.copy_least(&mut least) && !comes_before(&first, &least) {
+    let Some(first) = wheels.least() else {
         return None;
+    };
+    let mut least = Event::default();
+    if !ring.copy_least(&mut least) {
+        return Some(first);
     }
-    Some(first)
+    if comes_before(&first, &least) {
+        Some(first)
+    } else {
+        None
+    }
 }
