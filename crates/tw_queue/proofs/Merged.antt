@@ -1,5 +1,5 @@
 -- The events of a ring and of a heap together.
-use Rattle.std.proofs.Common.{IfNone, IfSome, IsTrue, ◌≡◌, ◌<◌, ◌≤◌, ◌++◌, nat_lt, ℕ, Bool, true, false, Some, None, List, [], ◌∷◌, length, drop, slice_get, refl, ap, sym, ◌∙◌, subst, inl, inr, arith}
+use Rattle.std.proofs.Common.{IfNone, IfSome, IsTrue, ◌≡◌, ◌<◌, ◌≤◌, ◌++◌, nat_lt, ℕ, Bool, true, false, Option, Some, None, List, [], ◌∷◌, length, drop, slice_get, refl, ap, sym, ◌∙◌, subst, inl, inr, arith}
 use Rattle.std.specs.List.Sorted.{IsPermutation}
 use Rattle.std.specs.BinaryHeap.{IsUpperBound}
 use Rattle.std.specs.Bool.{OnFalse, OnTrue}
@@ -277,3 +277,8 @@ soonest_told m xs ys h k (Some e) q =
       | inl z ↦ k e (omega arith)
       | inr o ↦ h e o
     ]
+
+-- what is before a time that no event is before comes before the first
+pub sooner_by_time : (top : Event) (xs : List Event) (n : ℕ) → top.time < n → IfSome (slice_get xs 0) (λ e. n ≤ e.time) → IfSome (slice_get xs 0) (λ e. true ≡ event_before top e)
+sooner_by_time top [] n l h = tt
+sooner_by_time top (x ∷ xs) n l h = sym (before_by_time top x (λ q. omega arith) ∙ lt-ltb top.time x.time (omega arith))

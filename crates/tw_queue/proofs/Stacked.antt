@@ -176,3 +176,10 @@ same_all ring now new levels moving h =
     let a = counted e levels moving (in_order event_before (levels ++ moving)) refl in
     let c = h e in
     omega arith)
+
+-- the first goes away
+pub rest_counts : (d e : Event) (xs : List Event) → slice_get xs 0 ≡ Some e → times event_same d (drop 1 xs) + one event_same d e ≡ times event_same d xs
+rest_counts d e [] h = absurd (none-some e h)
+rest_counts d e (x ∷ xs) h =
+    let q = ap (one event_same d) (same_some x e h) in
+    omega arith

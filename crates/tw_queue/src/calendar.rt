@@ -191,8 +191,9 @@ fn first_by_search(ring: &Ring, wheels: &Wheels) -> Option<Event>
     ensures ring { IfNone result (slice_get (in_order event_before (ring.now ++ wheels.now)) 0 ≡ slice_get ring.now 0) }
 {
     let _ = ring.taken();
-    let Some(first) = wheels.least() else {
-        return None;
+    let first = match wheels.least() {
+        None => return None,
+        Some(first) => first,
     };
     let mut least = Event::default();
     if !ring.copy_least(&mut least) {
