@@ -211,10 +211,10 @@ module _ (tick marks : ℕ) (lists : List (List Event)) (t : IsTurn (λ e. e.tim
     pub begin_turn : IsTurn (λ e. e.time) (first_time (get_or lists p [])) new (set lists p [])
     begin_turn =
         turn_base (λ e. e.time) tick new (set lists p []) emptied (first_time (get_or lists p [])) (
-          let d = some_event (get_or lists p []) some in
-          let s = stamp d.0 d.1 in
-          let l = t.after d.0 (out_slot (λ e. e.time) tick marks lists t p d.0 d.1) in
-          omega arith
+        let d = some_event (get_or lists p []) some in
+        let s = stamp d.0 d.1 in
+        let l = t.after d.0 (out_slot (λ e. e.time) tick marks lists t p d.0 d.1) in
+        omega arith
         ) begin_after
 
 -- what the bucket had is at hand

@@ -1,11 +1,11 @@
 -- The bits of a word that is turned round.
-use Rattle.std.proofs.Common.{◌≡◌, ◌≢◌, ◌≤◌, ◌<◌, ◌+◌, ◌-◌, ◌*◌, ◌/◌, ◌%◌, ◌^◌, ℕ, suc, zero, bit_or, max, w64, refl, ap, sym, ◌∙◌, subst, inl, inr, arith}
+use Rattle.std.proofs.Common.{◌≡◌, ◌≤◌, ◌<◌, ◌+◌, ◌-◌, ◌*◌, ◌/◌, ◌%◌, ◌^◌, ℕ, suc, zero, max, w64, refl, ap, sym, ◌∙◌, subst, inl, inr, arith}
 use Rattle.std.specs.Int.{bit_at, rotate_right, trailing_zeros}
 use Rattle.std.specs.Int.Count.{trailing_of_zero}
 use Rattle.std.proofs.Math.Nat.{mul-mod_left}
 use Rattle.std.proofs.lemmas.Bool.{cases_lt}
 use Rattle.std.proofs.lemmas.Nat.{mod-pow-add, mod_below, or_lt, shl-shr, shr-shr, shr_le, shr_split, trailing_le}
-use Rattle.std.proofs.lemmas.Nat.Bits.{bit_at-lt, bit_at-trailing_zeros, bit_at-zero, bit_at_above, bit_at_cat_high, bit_at_cat_low, bit_at_or}
+use Rattle.std.proofs.lemmas.Nat.Bits.{bit_at-trailing_zeros, bit_at-zero, bit_at_above, bit_at_cat_high, bit_at_cat_low, bit_at_or}
 use Rattle.std.proofs.Math.Pow.{pow_pos}
 use Rattle.tw_queue.specs.Turn.{IsFirstMark}
 use Rattle.tw_queue.proofs.Ordered.{cases_zero}
@@ -68,10 +68,10 @@ first_mark marks base place steps round fits round_is is at =
     let next = base % 64 + 1 in
     let low = shr_le marks (next % 64) in
     let round_fits : round < 2 ^ 64 =
-        subst (λ n. n < 2 ^ 64) (sym round_is) (or_lt 64 (marks / 2 ^ (next % 64)) (marks * 2 ^ ((64 - next % 64) % 64) % 2 ^ 64) (omega arith) (mod_below _ (2 ^ 64) (omega arith))) in
+    subst (λ n. n < 2 ^ 64) (sym round_is) (or_lt 64 (marks / 2 ^ (next % 64)) (marks * 2 ^ ((64 - next % 64) % 64) % 2 ^ 64) (omega arith) (mod_below _ (2 ^ 64) (omega arith))) in
     let most : steps ≤ 64 = subst (λ n. n ≤ 64) (sym is) (trailing_le 64 round) in
     let read : (k : ℕ) → k < 64 → bit_at round k ≡ bit_at marks ((base + 1 + k) % 64) =
-        λ k l. ap (λ n. bit_at n k) round_is ∙ rotated marks next k fits l ∙ ap (bit_at marks) (let q : (base % 64 + 1 + k) % 64 ≡ (base + 1 + k) % 64 = omega arith in q) in
+    λ k l. ap (λ n. bit_at n k) round_is ∙ rotated marks next k fits l ∙ ap (bit_at marks) (let q : (base % 64 + 1 + k) % 64 ≡ (base + 1 + k) % 64 = omega arith in q) in
     let there : place ≡ (base + 1 + steps) % 64 = at ∙ (let q : (base % 64 + 1 + steps) % 64 ≡ (base + 1 + steps) % 64 = omega arith in q) in
     record {
       steps = steps;

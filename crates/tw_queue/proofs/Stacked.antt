@@ -1,15 +1,15 @@
 -- The events of levels, and of what is on its way down.
-use Rattle.std.proofs.Common.{◌≡◌, ◌≤◌, ◌<◌, ◌+◌, ◌-◌, ◌++◌, ◌⊎◌, ℕ, suc, zero, true, false, Bool, Option, Some, None, List, [], ◌∷◌}
-use Rattle.std.proofs.Common.{length, take, drop, get_or, set, slice_get, refl, ap, sym, ◌∙◌, subst, inl, inr, arith}
+use Rattle.std.proofs.Common.{◌≡◌, ◌<◌, ◌+◌, ◌-◌, ◌++◌, ℕ, suc, zero, false, Option, Some, None, List, [], ◌∷◌}
+use Rattle.std.proofs.Common.{length, take, drop, get_or, set, slice_get, refl, ap, sym, ◌∙◌, inl, inr, arith}
 use Rattle.std.proofs.lemmas.Bool.{cases_Bool}
-use Rattle.std.proofs.lemmas.List.{get_or_read, take_all}
+use Rattle.std.proofs.lemmas.List.{get_or_read}
 use Rattle.std.proofs.lemmas.Option.{none-some}
 use Rattle.tw_event.specs.declared.event.Event.{Event}
 use Rattle.tw_event.specs.Order.{event_before, event_same}
 use Rattle.tw_sim.specs.Ordered.{insert, one, take_out, times}
 use Rattle.tw_sim.proofs.Ordered.{not_back, not_before, times-insert}
 use Rattle.tw_queue.specs.Buckets.{together}
-use Rattle.tw_queue.specs.InOrder.{earlier, earlier_of, in_order}
+use Rattle.tw_queue.specs.InOrder.{earlier_of, in_order}
 use Rattle.tw_queue.proofs.Ordered.{cases_zero, in_order-times, times-in_order, times-take_out}
 use Rattle.tw_queue.proofs.Events.{event_law, first_of_least, least_is, none_first, same_some}
 use Rattle.tw_queue.proofs.Lists.{times-append, times-set}

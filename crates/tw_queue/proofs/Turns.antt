@@ -1,5 +1,5 @@
 -- A turn of a wheel: what stands in its buckets, and which of them comes first.
-use Rattle.std.proofs.Common.{◌≡◌, ◌≢◌, ◌≤◌, ◌<◌, ◌+◌, ◌-◌, ◌%◌, ◌++◌, ◌⊎◌, ℕ, suc, zero, true, Option, Some, None, List, [], ◌∷◌}
+use Rattle.std.proofs.Common.{◌≡◌, ◌≢◌, ◌≤◌, ◌<◌, ◌+◌, ◌-◌, ◌%◌, ◌++◌, ◌⊎◌, ℕ, true, Option, Some, None, List, [], ◌∷◌}
 use Rattle.std.proofs.Common.{length, get_or, set, slice_get, refl, ap, sym, ◌∙◌, subst, inl, inr, arith, get_or-set_same, get_or-set_other, length-set}
 use Rattle.std.specs.Int.{bit_at}
 use Rattle.std.proofs.lemmas.Bool.{cases_Bool, cases_eq, cases_lt}
@@ -9,7 +9,7 @@ use Rattle.tw_event.specs.Order.{event_before, event_same}
 use Rattle.tw_sim.specs.Ordered.{insert, one, times}
 use Rattle.tw_sim.proofs.Counts.{none}
 use Rattle.tw_sim.proofs.Ordered.{one_cases, one_self}
-use Rattle.tw_queue.specs.Buckets.{IsPlaced, together}
+use Rattle.tw_queue.specs.Buckets.{together}
 use Rattle.tw_queue.specs.InOrder.{in_order, least_with}
 use Rattle.tw_queue.specs.Turn.{IsFirstMark, IsTurn}
 use Rattle.tw_queue.proofs.Ordered.{cases_zero, in_order-times}

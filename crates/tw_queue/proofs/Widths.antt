@@ -1,6 +1,6 @@
 -- One level of the wheels: its buckets, and what they have of time.
-use Rattle.std.proofs.Common.{◌≡◌, ◌≢◌, ◌≤◌, ◌<◌, ◌+◌, ◌-◌, ◌*◌, ◌/◌, ◌%◌, ◌^◌, ◌++◌, ◌↔◌, ℕ, suc, zero, true, false, Bool, IsTrue, nat_lt, Option, Some, None, List, [], ◌∷◌}
-use Rattle.std.proofs.Common.{length, get_or, set, option_map, slice_get, refl, ap, sym, ◌∙◌, subst, inl, inr, arith}
+use Rattle.std.proofs.Common.{◌≡◌, ◌≢◌, ◌≤◌, ◌<◌, ◌+◌, ◌*◌, ◌/◌, ◌%◌, ◌^◌, ◌↔◌, ℕ, true, false, Bool, IsTrue, nat_lt, Some, None, List, [], ◌∷◌}
+use Rattle.std.proofs.Common.{length, get_or, set, option_map, slice_get, refl, ap, sym, ◌∙◌, subst, arith}
 use Rattle.std.specs.Bool.{OnFalse, OnTrue}
 use Rattle.std.specs.Int.{bit_at}
 use Rattle.std.proofs.Math.Nat.{mod-le, mul-le-mul_right}
@@ -12,10 +12,10 @@ use Rattle.std.proofs.lemmas.Option.{none-some}
 use Rattle.tw_event.specs.declared.event.Event.{Event}
 use Rattle.tw_event.specs.Order.{event_before, event_same}
 use Rattle.tw_event.proofs.Order.{before_time}
-use Rattle.tw_sim.specs.Ordered.{one, take_out, times}
+use Rattle.tw_sim.specs.Ordered.{take_out, times}
 use Rattle.tw_sim.proofs.Counts.{none}
 use Rattle.tw_sim.proofs.Ordered.{one_self}
-use Rattle.tw_queue.specs.Buckets.{IsPlaced, together}
+use Rattle.tw_queue.specs.Buckets.{together}
 use Rattle.tw_queue.specs.InOrder.{in_order, least_with}
 use Rattle.tw_queue.specs.Level.{width_of}
 use Rattle.tw_queue.specs.Turn.{IsFirstMark, IsTurn}
@@ -111,7 +111,7 @@ module _ (shift base marks : ℕ) (lists : List (List Event)) (t : IsTurn (width
     pub found_there : (found : Bool) → IsTrue found ↔ (0 < times event_same e (get_or lists p bucket)) → IsTrue found ↔ (0 < times event_same e (in_order event_before (together lists)))
     found_there found h =
         let q : times event_same e (get_or lists p bucket) ≡ times event_same e (in_order event_before (together lists)) =
-            ap (times event_same e) own ∙ sym placed_count ∙ sym (times-in_order event_before event_same event_law e (together lists)) in
+        ap (times event_same e) own ∙ sym placed_count ∙ sym (times-in_order event_before event_same event_law e (together lists)) in
         subst (λ n. IsTrue found ↔ (0 < n)) q h
 
     pub order_taken : in_order event_before (together (set lists p less)) ≡ take_out event_same e (in_order event_before (together lists))

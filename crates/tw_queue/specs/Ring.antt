@@ -1,5 +1,5 @@
 -- Events by time: those of the tick that is being handled, and those of later ticks, each tick in a bucket of its own (own).
-use Rattle.std.specs.Prelude.{◌≤◌, ◌<◌, ◌++◌, ℕ, List, drop, length}
+use Rattle.std.specs.Prelude.{◌≤◌, ◌<◌, ◌++◌, List, drop, length}
 use Rattle.tw_event.specs.declared.event.Event.{Event}
 use Rattle.tw_event.specs.Order.{event_before, event_same}
 use Rattle.tw_sim.specs.Ordered.{times}

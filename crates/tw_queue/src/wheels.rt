@@ -51,7 +51,11 @@ impl Wheels {
     {
         Wheels {
             soonest: u64::MAX,
-            levels: [Level::new(alloc, 6), Level::new(alloc, 12), Level::new(alloc, 18)],
+            levels: [
+                Level::new(alloc, 6),
+                Level::new(alloc, 12),
+                Level::new(alloc, 18),
+            ],
             moving: Bucket::new(alloc),
         }
     }

@@ -1,9 +1,4 @@
-use Rattle.tw_event.specs.declared.event.Event.{Event}
-use Rattle.tw_event.specs.Order.{event_before, event_same}
-use Rattle.tw_sim.specs.Ordered.{insert, one, times}
-use Rattle.tw_queue.specs.InOrder.{in_order}
-use Rattle.std.proofs.Common.{◌≡◌, ◌<◌, ◌≤◌, ◌+◌, ◌++◌, ℕ, List, [], IfSome, Some, None, length, drop, slice_get, refl, ap, sym, ◌∙◌, subst, arith}
-
+use Rattle.std.proofs.Common.{sym, ◌∙◌}
 use Rattle.tw_queue.proofs.Merged.{left_is_first, none_of, right_alone, right_is_first, ring_alone}
 use Rattle.tw_queue.proofs.calendar.first_by_search.Goals as goal
 

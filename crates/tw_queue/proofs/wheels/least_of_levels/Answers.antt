@@ -1,12 +1,5 @@
-use Rattle.tw_event.specs.declared.event.Event.{Event}
-use Rattle.tw_event.specs.Order.{event_before, event_same}
-use Rattle.tw_sim.specs.Ordered.{insert, one, take_out, times}
-use Rattle.tw_sim.specs.Rising.{IsRising}
-use Rattle.tw_queue.specs.Buckets.{together}
 use Rattle.tw_queue.specs.InOrder.{in_order}
-use Rattle.std.proofs.Common.{◌≡◌, ◌<◌, ◌≤◌, ◌+◌, ◌++◌, ℕ, List, [], Some, None, length, drop, take, get_or, set, slice_get, refl, ap, sym, ◌∙◌, subst, inl, inr, arith}
-
-use Rattle.tw_queue.proofs.Events.{event_law}
+use Rattle.std.proofs.Common.{slice_get, refl, ap, sym, ◌∙◌}
 use Rattle.tw_queue.proofs.Tables.{in_order_rising}
 use Rattle.tw_queue.proofs.Stacked.{least_upto}
 use Rattle.tw_queue.proofs.wheels.least_of_levels.Goals as goal

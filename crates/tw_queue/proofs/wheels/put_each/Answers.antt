@@ -1,12 +1,6 @@
-use Rattle.tw_event.specs.declared.event.Event.{Event}
-use Rattle.tw_event.specs.Order.{event_before, event_same}
-use Rattle.tw_sim.specs.Ordered.{insert, one, take_out, times}
-use Rattle.tw_sim.specs.Rising.{IsRising}
-use Rattle.tw_queue.specs.Buckets.{together}
-use Rattle.tw_queue.specs.InOrder.{in_order}
-use Rattle.std.proofs.Common.{◌≡◌, ◌<◌, ◌≤◌, ◌+◌, ◌-◌, ◌++◌, ℕ, suc, List, [], Some, None, length, drop, take, get_or, set, slice_get, refl, ap, sym, ◌∙◌, subst, inl, inr, arith}
-
-use Rattle.tw_queue.proofs.Events.{same_some}
+use Rattle.tw_event.specs.Order.{event_same}
+use Rattle.tw_sim.specs.Ordered.{times}
+use Rattle.std.proofs.Common.{ap, arith}
 use Rattle.tw_queue.proofs.Stacked.{popped}
 use Rattle.tw_queue.proofs.wheels.put_each.Goals as goal
 

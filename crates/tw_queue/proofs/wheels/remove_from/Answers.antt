@@ -1,11 +1,7 @@
-use Rattle.tw_event.specs.declared.event.Event.{Event}
 use Rattle.tw_event.specs.Order.{event_before, event_same}
-use Rattle.tw_sim.specs.Ordered.{insert, one, take_out, times}
-use Rattle.tw_sim.specs.Rising.{IsRising}
+use Rattle.tw_sim.specs.Ordered.{times}
 use Rattle.tw_queue.specs.Buckets.{together}
-use Rattle.tw_queue.specs.InOrder.{in_order}
-use Rattle.std.proofs.Common.{◌≡◌, ◌<◌, ◌≤◌, ◌+◌, ◌-◌, ◌++◌, ℕ, suc, List, [], Some, None, length, drop, take, get_or, set, slice_get, refl, ap, sym, ◌∙◌, subst, inl, inr, arith}
-
+use Rattle.std.proofs.Common.{length, ap, arith}
 use Rattle.tw_queue.proofs.Events.{event_law}
 use Rattle.tw_queue.proofs.Ordered.{times-take_out}
 use Rattle.tw_queue.proofs.Stacked.{level_cut, nowhere}
@@ -15,7 +11,7 @@ pub returns-then-remove : goal.returns-then-remove
 returns-then-remove c d =
     let v = c.loop-number.invariant in
     let less = level_cut c.loop-number.levels c.loop-number.number c.index-levels-number.result c.remove.new.self c.args.event.now (omega (arith, ap length v.same, c.loop-number-test.true)) c.index-levels-number.is
-        (c.remove.ensures.found.0 c.if-remove.true) c.remove.ensures.events d in
+    (c.remove.ensures.found.0 c.if-remove.true) c.remove.ensures.events d in
     let same = ap (λ ls. times event_same d (together ls)) v.same in
     omega arith
 

@@ -1,10 +1,4 @@
-use Rattle.tw_event.specs.declared.event.Event.{Event}
-use Rattle.tw_event.specs.Order.{event_before, event_same}
-use Rattle.tw_sim.specs.Ordered.{insert, one, times}
-use Rattle.tw_sim.specs.Rising.{IsRising}
-use Rattle.tw_queue.specs.InOrder.{in_order}
-use Rattle.std.proofs.Common.{◌≡◌, ◌<◌, ◌≤◌, ◌+◌, ◌++◌, ℕ, List, [], IfSome, Some, None, length, drop, slice_get, refl, ap, sym, ◌∙◌, subst, arith}
-
+use Rattle.std.proofs.Common.{arith}
 use Rattle.tw_queue.proofs.Merged.{on_ok}
 use Rattle.tw_queue.proofs.Stacked.{counted}
 use Rattle.tw_queue.proofs.calendar.Calendar.append_to.Goals as goal

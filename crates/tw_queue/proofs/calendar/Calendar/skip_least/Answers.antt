@@ -1,9 +1,7 @@
-use Rattle.tw_event.specs.declared.event.Event.{Event}
 use Rattle.tw_event.specs.Order.{event_before, event_same}
-use Rattle.tw_sim.specs.Ordered.{insert, one, times}
+use Rattle.tw_sim.specs.Ordered.{times}
 use Rattle.tw_queue.specs.InOrder.{in_order}
-use Rattle.std.proofs.Common.{◌≡◌, ◌<◌, ◌≤◌, ◌+◌, ◌++◌, ℕ, List, [], IfSome, Some, None, length, drop, slice_get, refl, ap, sym, ◌∙◌, subst, arith}
-
+use Rattle.std.proofs.Common.{◌++◌, drop, ap, ◌∙◌, arith}
 use Rattle.tw_queue.proofs.Merged.{ring_taken}
 use Rattle.tw_queue.proofs.Stacked.{order_less, rest_counts}
 use Rattle.tw_queue.proofs.calendar.Calendar.skip_least.Goals as goal

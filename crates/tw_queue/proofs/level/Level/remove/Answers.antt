@@ -1,4 +1,4 @@
-use Rattle.std.proofs.Common.{◌≡◌, ◌<◌, ◌↔◌, IsTrue, [], length, ap, ◌∙◌, subst, sym, refl, arith}
+use Rattle.std.proofs.Common.{◌<◌, ◌↔◌, IsTrue, length, ap, ◌∙◌, subst, arith}
 use Rattle.tw_event.specs.Order.{event_same}
 use Rattle.tw_sim.specs.Ordered.{take_out, times}
 use Rattle.tw_queue.proofs.Widths.{found_there, marked_more, marked_none, not_found, order_taken, turn_taken}

@@ -1,10 +1,7 @@
-use Rattle.std.proofs.Common.{◌≡◌, ◌+◌, [], set, ap, sym, ◌∙◌, subst, arith}
-use Rattle.tw_event.specs.Order.{event_before, event_same}
+use Rattle.std.proofs.Common.{ap, ◌∙◌}
+use Rattle.tw_event.specs.Order.{event_same}
 use Rattle.tw_sim.specs.Ordered.{times}
-use Rattle.tw_queue.specs.Buckets.{together}
-use Rattle.tw_queue.specs.InOrder.{in_order}
 use Rattle.tw_queue.specs.Level.{width_of}
-use Rattle.tw_queue.specs.Turn.{IsTurn}
 use Rattle.tw_queue.proofs.Turns.{place_within, turn_emptied}
 use Rattle.tw_queue.proofs.Widths.{first_taken}
 use Rattle.tw_queue.proofs.level.Level.take_first.Goals as goal

@@ -1,4 +1,4 @@
-use Rattle.std.proofs.Common.{◌≡◌, ◌<◌, ◌++◌, None, Some, [], length, get_or, slice_get, ap, sym, ◌∙◌, subst, arith}
+use Rattle.std.proofs.Common.{◌≡◌, ◌<◌, ◌++◌, None, Some, [], length, get_or, slice_get, ap, sym, ◌∙◌, subst}
 use Rattle.std.specs.Bool.{OnFalse, OnTrue}
 use Rattle.std.proofs.lemmas.List.{drop_all, get_or_read}
 use Rattle.tw_event.specs.Order.{event_before}

@@ -1,4 +1,4 @@
-use Rattle.std.proofs.Common.{◌≡◌, ◌≤◌, ◌<◌, [], length, get_or, ap, sym, ◌∙◌, subst, arith}
+use Rattle.std.proofs.Common.{◌≡◌, ◌≤◌, [], length, get_or, ap, sym, ◌∙◌, arith}
 use Rattle.std.proofs.lemmas.List.{drop_all, get_or_read}
 use Rattle.tw_event.specs.Order.{event_same}
 use Rattle.tw_sim.specs.Ordered.{times}
@@ -18,7 +18,7 @@ invariant_of-self c =
     let beyond : length a.hand ≤ a.taken = omega (arith, c.len.ensures, c.if-self-len.false) in
     let none : hand_of a ≡ [] = drop_all a.taken a.hand beyond in
     let first : c.first_time.result ≡ first_time (get_or a.buckets p []) =
-        c.first_time.ensures ∙ ap first_time (sym b.is ∙ get_or_read a.buckets p b.result (inside a.tick a.marks a.buckets v.turn p f) b.is []) in
+    c.first_time.ensures ∙ ap first_time (sym b.is ∙ get_or_read a.buckets p b.result (inside a.tick a.marks a.buckets v.turn p f) b.is []) in
     record {
       taken = v.taken;
       rising = v.rising;

@@ -1,11 +1,7 @@
-use Rattle.tw_event.specs.declared.event.Event.{Event}
-use Rattle.tw_event.specs.Order.{event_before, event_same}
-use Rattle.tw_sim.specs.Ordered.{insert, one, take_out, times}
-use Rattle.tw_sim.specs.Rising.{IsRising}
+use Rattle.tw_event.specs.Order.{event_same}
+use Rattle.tw_sim.specs.Ordered.{times}
 use Rattle.tw_queue.specs.Buckets.{together}
-use Rattle.tw_queue.specs.InOrder.{in_order}
-use Rattle.std.proofs.Common.{◌≡◌, ◌<◌, ◌≤◌, ◌+◌, ◌-◌, ◌++◌, ℕ, suc, List, [], Some, None, length, drop, take, get_or, set, slice_get, refl, ap, sym, ◌∙◌, subst, inl, inr, arith}
-
+use Rattle.std.proofs.Common.{ap, arith}
 use Rattle.tw_queue.proofs.Lists.{times-append}
 use Rattle.tw_queue.proofs.Stacked.{counted, same_all}
 use Rattle.tw_queue.proofs.wheels.Wheels.begin_first.Goals as goal
