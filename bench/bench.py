@@ -76,6 +76,10 @@ def gadgets(rng):
     return text(free, links, paths)
 
 
+# The latest time that a scene may have.
+LAST_TIME = 1_000_000_000
+
+
 def mesh(rng, delay=9):
     """A full mesh of 60 behind one link to the origin, which fails and is repaired: paths are explored."""
     nodes = 61
@@ -92,7 +96,7 @@ def mesh(rng, delay=9):
             longer.add((v, *rng.sample(others, rng.choice([2, 3])), 1, 0))
         paths += sorted(longer, key=lambda path: (len(path), path))
     scenes = []
-    for k in range(2000):
+    for k in range(min(2000, LAST_TIME // (2 * half) - 1)):
         start = half // 2 + 2 * half * k
         scenes += [("fail", start, 0, 1), ("restore", start + half, 0, 1)]
     return text(nodes, links, paths, scenes)
