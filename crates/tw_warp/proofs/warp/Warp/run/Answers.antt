@@ -1,5 +1,6 @@
-use Rattle.std.proofs.Common.{◌+◌, ◌≤◌, length, refl, Err, ap, sym, ◌∙◌, subst, arith}
+use Rattle.std.proofs.Common.{◌≡◌, ◌+◌, ◌≤◌, length, refl, Err, ap, sym, ◌∙◌, subst, arith}
 use Rattle.std.specs.Prelude.{vec_capacity, vec_len}
+use Rattle.tw_model.specs.declared.memory.OrMemory.TheVariants as or_memory
 use Rattle.tw_core.specs.Run.{IsSeq}
 use Rattle.tw_model.specs.Case.{simulation}
 use Rattle.tw_warp.specs.Warp.{Warp, core}
@@ -24,9 +25,11 @@ loop-step-init c = record {
 pub returns-in-Err-Memory-clause-fault : goal.returns-in-Err-Memory-clause-fault
 returns-in-Err-Memory-clause-fault c =
     let inv = c.loop-step.invariant in
+    let told : c.step.result ≡ Err or_memory.Memory = c.in-Err-Memory.is ∙ ap (λ e. Err e) c.in-Err-Memory.field-0-is in
     one_cut c.args.self.now c.loop-step.self c.step.new.self inv.same c.args.steps.now c.loop-step.step-index c.loop-step.answers.items c.loop-step-test.true inv.far _
     (record { step = c.len.result + 1; answers = c.loop-step.answers }) (ap (λ k. k + 1) (c.len.ensures ∙ inv.count)) refl
-    (c.step.ensures.memory (c.in-Err-Memory.is ∙ ap (λ e. Err e) c.in-Err-Memory.field-0-is))
+    (λ f refused. let fault : c.step.result ≡ Err (or_memory.Fault f) = (c.step.ensures.refused f).1 refused in cc)
+    (c.step.ensures.memory told)
 
 pub loop-step-preserved : goal.loop-step-preserved
 loop-step-preserved c =
