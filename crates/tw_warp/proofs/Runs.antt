@@ -1,5 +1,5 @@
 -- A list of steps, one step at a time.
-use Rattle.std.proofs.Common.{⊥, absurd, ◌≡◌, ℕ, ◌+◌, ◌<◌, List, [], ◌∷◌, ◌++◌, get_or, length, take, Result, Ok, Err, refl, ap, sym, ◌∙◌, subst, inr}
+use Rattle.std.proofs.Common.{◌≡◌, ℕ, ◌+◌, ◌<◌, List, [], ◌∷◌, ◌++◌, get_or, length, take, Result, Ok, Err, refl, ap, sym, ◌∙◌, subst, inr}
 use Rattle.std.specs.Result.{result_and, result_unwrap_or}
 use Rattle.std.proofs.lemmas.List.{take_more}
 use Rattle.std.proofs.lemmas.Option.{slice_get-get_or}

@@ -1,5 +1,5 @@
 -- All routers of a case, dealt out to workers, as one machine (after Jefferson, Virtual Time, 1985).
-use Rattle.std.specs.Prelude.{⊥, ℕ, zero, suc, ◌≡◌, ◌<◌, ◌≤◌, ◌%◌, ◌==◌, true, List, [], length, slice_get, slice_index_or, Option, Some, None}
+use Rattle.std.specs.Prelude.{ℕ, zero, suc, ◌≡◌, ◌<◌, ◌≤◌, ◌%◌, ◌==◌, true, List, [], length, slice_get, slice_index_or, Option, Some, None}
 use Rattle.std.specs.List.{flat_map}
 use Rattle.tw_core.specs.Good.{IsGood}
 use Rattle.tw_core.specs.Machine.{Core}

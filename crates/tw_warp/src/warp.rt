@@ -12,7 +12,7 @@ ghost use Rattle.tw_model.specs.declared.memory.OrMemory.TheVariants as or_memor
 ghost use Rattle.tw_sim.specs.declared.machine.Step.TheVariants as steps;
 ghost use Rattle.tw_sim.specs.Simulation.{state};
 ghost use Rattle.tw_model.specs.declared.limits.TheConstants.{LATEST};
-ghost use Rattle.tw_warp.specs.Warp.{IsCutShort, IsInterrupted, IsSameMachine, IsWarp, core, message_at, shard_of, worker_of};
+ghost use Rattle.tw_warp.specs.Warp.{IsCutShort, IsInterrupted, IsSameMachine, IsShare, IsWarp, core, message_at, shard_of, worker_of};
 
 use crate::calls::{commit_on, deliver_on, handle_on, undo_on};
 use crate::collecting::add_committed;
@@ -115,6 +115,7 @@ impl<'a> Warp<'a> {
         ensures unchanged { (f : ARefusal) → IsErrOf result (or_memory.Fault f) → self.new ≡ self.old }
         ensures memory { IsErrOf result or_memory.Memory → IsInterrupted (simulation self.old.case) step (core self.old) (core self.new) }
         ensures same { IsSameMachine self.old self.new }
+        ensures rising { self.old.bound ≤ self.new.bound }
         ensures seq { IsSeq (simulation self.new.case) (core self.new) }
     {
         match step {
@@ -140,6 +141,7 @@ impl<'a> Warp<'a> {
         ensures answers { IfOk result (λ v. v.items ≡ core_answers (simulation self.old.case) (core self.old) steps.now) }
         ensures fault { IfErr result (λ f. IsBrokenOff (simulation self.old.case) steps.now f (core self.old) (core self.new)) }
         ensures same { IsSameMachine self.old self.new }
+        ensures rising { self.old.bound ≤ self.new.bound }
         ensures seq { IsSeq (simulation self.new.case) (core self.new) }
     {
         let mut answers = Vec::new(*self.shards.allocator());
@@ -176,12 +178,24 @@ impl<'a> Warp<'a> {
         Ok(())
     }
 
-    /// The case.
+    /// The case. The machine is in a good state.
     pub fn case(&self) -> &'a Case
         ensures value { result.now ≡ self.now.case }
+        ensures machine { IsWarp self.now }
         ensures seq { IsSeq (simulation self.now.case) (core self.now) }
     {
         self.case
+    }
+
+    /// The message at a place in flight, from 1 in the order sent, as `Step::Deliver` names it. It takes no
+    /// memory. `None` where there is none.
+    pub fn message_at(&self, place: u64) -> Option<Signed<Event>>
+        ensures value { result ≡ message_at self.now.flight place }
+        ensures seq { IsSeq (simulation self.now.case) (core self.now) }
+    {
+        let flight = &self.flight;
+        let index = place.checked_sub(1)?;
+        flight.get(index as usize)
     }
 
     /// A list of the messages on their way, in the order sent, for which it takes memory.
@@ -219,10 +233,11 @@ impl<'a> Warp<'a> {
         self.shards.len()
     }
 
-    /// The shard of a worker, from 0.
+    /// The shard of a worker, from 0. It keeps the committed events of its routers.
     pub fn shard(&self, worker: usize) -> &Shard<'a>
         requires { worker < length self.now.shards }
-        ensures { result.now ≡ shard_of self.now worker }
+        ensures value { result.now ≡ shard_of self.now worker }
+        ensures share { IsShare self.now worker result.now }
     {
         &self.shards[worker]
     }
@@ -305,6 +320,7 @@ impl<'a> Warp<'a> {
         ensures ok { OnOk result (core_step (simulation self.old.case) (core self.old) (steps.Handle router) ≡ Ok (core self.new)) }
         ensures refused { (f : ARefusal) → IsErrOf result (or_memory.Fault f) ↔ (core_step (simulation self.old.case) (core self.old) (steps.Handle router) ≡ Err f) }
         ensures err { OnErr result (self.new ≡ self.old) }
+        ensures bound { self.new.bound ≡ self.old.bound }
         ensures same { IsSameMachine self.old self.new }
         ensures seq { IsSeq (simulation self.new.case) (core self.new) }
     {
@@ -322,21 +338,12 @@ impl<'a> Warp<'a> {
         ensures ok { OnOk result (core_step (simulation self.old.case) (core self.old) (steps.Undo router) ≡ Ok (core self.new)) }
         ensures refused { (f : ARefusal) → IsErrOf result (or_memory.Fault f) ↔ (core_step (simulation self.old.case) (core self.old) (steps.Undo router) ≡ Err f) }
         ensures err { OnErr result (self.new ≡ self.old) }
+        ensures bound { self.new.bound ≡ self.old.bound }
         ensures same { IsSameMachine self.old self.new }
         ensures seq { IsSeq (simulation self.new.case) (core self.new) }
     {
         let worker = self.worker_of(router);
         undo_on(&mut self.shards[worker], &mut self.flight, router)
-    }
-
-    /// The message at a place in flight, from 1.
-    fn message_at(&self, place: u64) -> Option<Signed<Event>>
-        ensures value { result ≡ message_at self.now.flight place }
-        ensures seq { IsSeq (simulation self.now.case) (core self.now) }
-    {
-        let flight = &self.flight;
-        let index = place.checked_sub(1)?;
-        flight.get(index as usize)
     }
 
     /// The message at a place in flight, from 1, is delivered.
@@ -345,6 +352,7 @@ impl<'a> Warp<'a> {
         ensures refused { (f : ARefusal) → IsErrOf result (or_memory.Fault f) ↔ (core_step (simulation self.old.case) (core self.old) (steps.Deliver place) ≡ Err f) }
         ensures unchanged { (f : ARefusal) → IsErrOf result (or_memory.Fault f) → self.new ≡ self.old }
         ensures memory { IsErrOf result or_memory.Memory → IsCutShort (simulation self.old.case) place (core self.old) (core self.new) }
+        ensures bound { self.new.bound ≡ self.old.bound }
         ensures same { IsSameMachine self.old self.new }
         ensures seq { IsSeq (simulation self.new.case) (core self.new) }
     {
@@ -362,6 +370,7 @@ impl<'a> Warp<'a> {
         ensures ok { OnOk result (core_step (simulation self.old.case) (core self.old) (steps.Commit router) ≡ Ok (core self.new)) }
         ensures refused { (f : ARefusal) → IsErrOf result (or_memory.Fault f) ↔ (core_step (simulation self.old.case) (core self.old) (steps.Commit router) ≡ Err f) }
         ensures err { OnErr result (self.new ≡ self.old) }
+        ensures bound { self.new.bound ≡ self.old.bound }
         ensures same { IsSameMachine self.old self.new }
         ensures seq { IsSeq (simulation self.new.case) (core self.new) }
     {
@@ -372,6 +381,7 @@ impl<'a> Warp<'a> {
     /// The bound becomes the least time of all that is loose, and of the stop.
     fn advance_bound(&mut self)
         ensures done { core_step (simulation self.old.case) (core self.old) steps.Bound ≡ Ok (core self.new) }
+        ensures rising { self.old.bound ≤ self.new.bound }
         ensures same { IsSameMachine self.old self.new }
         ensures seq { IsSeq (simulation self.new.case) (core self.new) }
     {

@@ -17,6 +17,7 @@ loop-step-init c = record {
   far = subst (IsRun (simulation c.args.self.now.case) c.args.steps.now 0 (core c.args.self.now) (core c.args.self.now)) (sym (c.reserve.ensures.items ∙ c.new-answers.ensures.items))
       (run_none (simulation c.args.self.now.case) c.args.steps.now (core c.args.self.now));
   same = record { case = refl; workers = refl; stop = refl };
+  rising = omega arith;
   seq = subst (λ (v : Warp). IsSeq (simulation v.case) (core v)) c.self.view_is (seq_of _ c.self.invariant);
   count = c.reserve.ensures.len ∙ c.new-answers.ensures.len;
   room = (let more = c.in-Ok.ensures.ok in let len = c.reserve.ensures.len in omega arith);
@@ -38,6 +39,8 @@ loop-step-preserved c =
     let far = IsRun (simulation c.args.self.now.case) c.args.steps.now (n + 1) (core c.args.self.now) (core c.step.new.self) in
     let before = inv.count in
     let all = inv.room in
+    let risen = inv.rising in
+    let rises = c.step.ensures.rising in
     elim c.match-step.branch [
       | in-Ok-step w ↦ (
           let len = w.push_reserved.ensures.len in
@@ -46,6 +49,7 @@ loop-step-preserved c =
             far = subst far (sym (ap (λ v. v.items) w.answers-is ∙ w.push_reserved.ensures.items))
                 (one_done c.args.self.now c.loop-step.self c.step.new.self inv.same c.args.steps.now n c.loop-step.answers.items c.loop-step-test.true inv.far _ w.in-Ok-step.ensures.ok);
             same = same_machine inv.same c.step.ensures.same;
+            rising = omega arith;
             seq = c.step.ensures.seq;
             count = ap vec_len w.answers-is ∙ omega arith;
             room = subst (λ v. length c.args.steps.now ≤ vec_capacity v) (sym w.answers-is) (omega arith);
@@ -59,6 +63,7 @@ loop-step-preserved c =
                 (one_refused c.args.self.now c.loop-step.self c.step.new.self inv.same c.args.steps.now n c.loop-step.answers.items c.loop-step-test.true inv.far _ _
                 (c.step.ensures.unchanged _ told) ((c.step.ensures.refused _).0 told));
             same = same_machine inv.same c.step.ensures.same;
+            rising = omega arith;
             seq = c.step.ensures.seq;
             count = ap vec_len w.answers-is ∙ omega arith;
             room = subst (λ v. length c.args.steps.now ≤ vec_capacity v) (sym w.answers-is) (omega arith);
