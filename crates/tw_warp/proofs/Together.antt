@@ -1,9 +1,9 @@
 -- The committed events of all routers together are the one-thread run.
-use Rattle.std.proofs.Common.{◌≡◌, ℕ, zero, suc, ◌+◌, ◌<◌, ◌≤◌, ◌==◌, Bool, true, List, [], ◌∷◌, ◌++◌, append_assoc, filter, flat_map, nat_lt, reverse, refl, ap, sym, ◌∙◌, inl, inr, arith}
+use Rattle.std.proofs.Common.{◌≡◌, ℕ, zero, suc, ◌+◌, ◌<◌, ◌≤◌, ◌==◌, true, List, [], ◌∷◌, ◌++◌, append_assoc, flat_map, nat_lt, reverse, refl, ap, sym, ◌∙◌, inl, inr, arith}
 use Rattle.std.proofs.lemmas.Bool.{cases_Bool, cases_eq, eq-eqb, le-ltb, lt-ltb, ltb-false, ltb-true, ne_eqb}
 use Rattle.std.proofs.lemmas.List.{reverse-append}
 use Rattle.std.specs.List.{range_with_len}
-use Rattle.tw_core.specs.Machine.{Core, committed}
+use Rattle.tw_core.specs.Machine.{committed}
 use Rattle.tw_core.specs.Run.{AreCommitted}
 use Rattle.tw_event.specs.declared.event.Event.{Event}
 use Rattle.tw_model.proofs.Lawful.{lawful, numbered}

@@ -1,15 +1,16 @@
-ghost use Rattle.std.specs.Prelude.{◌≡◌, true, ◌≤◌, ◌<◌, ◌↔◌, ℕ, Ok, Err, length, IsErrOf, IsOk, OnErr, OnOk, IfErr, IfOk};
+ghost use Rattle.std.specs.Prelude.{◌≡◌, true, ◌≤◌, ◌<◌, ◌↔◌, ℕ, Ok, Err, length, IsErrOf, IsOk, OnErr, OnOk, IfErr, IfOk, reverse};
 ghost use Rattle.tw_shard.specs.Shard.{owns};
 ghost use Rattle.tw_warp.specs.Committed.{by_router, committed_events, count_ahead};
 ghost use Rattle.tw_warp.specs.Openings.{opening_machine};
 ghost use Rattle.tw_warp.specs.Runs.{IsBrokenOff};
 ghost use Rattle.tw_core.specs.declared.refusal.Refusal.{Refusal as ARefusal};
 ghost use Rattle.tw_core.specs.Machine.{IsOpening};
-ghost use Rattle.tw_core.specs.Run.{IsSeq};
+ghost use Rattle.tw_core.specs.Run.{AreCommitted, IsSeq};
 ghost use Rattle.tw_core.specs.Steps.{answers as core_answers, least_loose, run as core_run, step as core_step};
 ghost use Rattle.tw_model.specs.Case.{simulation};
 ghost use Rattle.tw_model.specs.declared.memory.OrMemory.TheVariants as or_memory;
 ghost use Rattle.tw_sim.specs.declared.machine.Step.TheVariants as steps;
+ghost use Rattle.tw_sim.specs.Seq.{log};
 ghost use Rattle.tw_sim.specs.Simulation.{state};
 ghost use Rattle.tw_model.specs.declared.limits.TheConstants.{LATEST};
 ghost use Rattle.tw_warp.specs.Warp.{IsCutShort, IsInterrupted, IsSameMachine, IsShare, IsWarp, core, message_at, shard_of, worker_of};
@@ -250,9 +251,11 @@ impl<'a> Warp<'a> {
         self.shard_for(router).router(router)
     }
 
-    /// The committed events of all routers, in their order.
+    /// The committed events of all routers, in their order. Where all that is handled below the bound is
+    /// committed, they are the one-thread run to the bound (`laws::good_is_seq`).
     pub fn committed(&self) -> Result<Vec<Event>, AllocError>
-        ensures { IfOk result (λ v. v.items ≡ committed_events self.now) }
+        ensures value { IfOk result (λ v. v.items ≡ committed_events self.now) }
+        ensures run { AreCommitted (simulation self.now.case) (core self.now) → IfOk result (λ v. v.items ≡ reverse (log (simulation self.now.case) self.now.bound)) }
     {
         let mut events = self.committed_by_router()?;
         events.sort_unstable();
