@@ -21,11 +21,16 @@ one_case c d (x ∷ xs) (y ∷ ys) some same h k = sym h.0 ∙ (ap (λ cs. slice
 as_long : {A : Type 0} (f : Share → A) (xs ys : List Share) → map f xs ≡ map f ys → length xs ≡ length ys
 as_long f xs ys e = sym (length-map xs f) ∙ (ap length e ∙ length-map ys f)
 
+-- there are as many workers as before
+pub same_workers : (s : Sim) (y : Board) (shares : List Share) → IsSim s → IsWhole y shares → map (λ t. t.shard.case) shares ≡ map (λ t. t.shard.case) s.shares
+    → workers y ≡ workers s.board
+same_workers s y shares is whole cases = sym whole.ruled.count ∙ (as_long (λ t. t.shard.case) shares s.shares cases ∙ is.ruled.count)
+
 pub goes_on : (s : Sim) (y : Board) (shares : List Share) → IsSim s → IsWhole y shares → map (λ t. t.shard.case) shares ≡ map (λ t. t.shard.case) s.shares
     → map (λ t. t.shard.worker) shares ≡ map (λ t. t.shard.worker) s.shares → y.stop ≡ s.board.stop → IsSim (record { case = s.case; board = y; shares = shares })
 goes_on s y shares is whole cases numbers stop =
     let long = as_long (λ t. t.shard.case) shares s.shares cases in
-    let same : workers y ≡ workers s.board = sym whole.ruled.count ∙ (long ∙ is.ruled.count) in
+    let same = same_workers s y shares is whole cases in
     let some : 0 < length shares = (let n = is.some in let m = long ∙ is.ruled.count in omega (arith, n, m)) in
     let case = one_case whole.case s.case shares s.shares some cases whole.ruled.cases is.ruled.cases in
     record {

@@ -1,6 +1,7 @@
 //! A parallel run goes on to a stop, with a thread for each worker.
 ghost use Rattle.std.specs.Prelude.{◌≡◌, ◌↔◌, ◌<◌, ◌≤◌, ◌⊎◌, IfErr, IfOk, Some, length};
 ghost use Rattle.std.specs.Result.{IsErrAnd};
+ghost use Rattle.tw_exchange.specs.Board.{workers};
 ghost use Rattle.tw_model.specs.declared.limits.TheConstants.{LATEST};
 ghost use Rattle.tw_parallel.specs.Ending.{IsSettled};
 ghost use Rattle.tw_parallel.specs.Inside.{HasHands, run_of};
@@ -73,6 +74,9 @@ pub fn run_until<'a, G: Gate + Sync, R: Threads + Wait + Sync>(
     ensures keeps { KeepsEvents sim.entry → IfOk result (λ s. KeepsEvents s) }
     ensures ended_keeps { KeepsEvents sim.entry → IfErr result (λ e. KeepsEvents e.sim) }
     ensures ended_sim { IfErr result (λ e. IsSim e.sim) }
+    ensures workers { IfOk result (λ s. workers s.board ≡ workers sim.entry.board) }
+    ensures ended_workers { IfErr result (λ e. workers e.sim.board ≡ workers sim.entry.board) }
+    ensures ended_stop { IfErr result (λ e. (e.cause ≡ end_cause.StopLower → ⊥) → e.sim.board.stop ≡ stop) }
     ensures ended_case { IfErr result (λ e. e.sim.case ≡ sim.entry.case) }
     ensures bound { IfErr result (λ e. (sim.entry.board.bound ≤ e.sim.board.bound) × (e.bound ≡ e.sim.board.bound)) }
     ensures lower { IsErrAnd result (λ e. e.cause ≡ end_cause.StopLower) ↔ ((stop < sim.entry.board.stop) ⊎ (LATEST < stop)) }
@@ -100,6 +104,9 @@ fn run<'a, G: Gate + Sync, R: Threads + Wait + Sync>(
     ensures keeps { KeepsEvents sim.entry → IfOk result (λ s. KeepsEvents s) }
     ensures ended_keeps { KeepsEvents sim.entry → IfErr result (λ e. KeepsEvents e.sim) }
     ensures ended_sim { IfErr result (λ e. IsSim e.sim) }
+    ensures workers { IfOk result (λ s. workers s.board ≡ workers sim.entry.board) }
+    ensures ended_workers { IfErr result (λ e. workers e.sim.board ≡ workers sim.entry.board) }
+    ensures ended_stop { IfErr result (λ e. e.sim.board.stop ≡ sim.entry.board.stop) }
     ensures ended_case { IfErr result (λ e. e.sim.case ≡ sim.entry.case) }
     ensures bound { IfErr result (λ e. (sim.entry.board.bound ≤ e.sim.board.bound) × (e.bound ≡ e.sim.board.bound)) }
     ensures lower { IsErrAnd result (λ e. e.cause ≡ end_cause.StopLower) → ⊥ }
@@ -136,7 +143,9 @@ fn end_with<'a>(sim: Sim<'a>, why: EndCause) -> Ended<'a>
 /// Why a run ended whose workers ended for this.
 fn told_by(why: Cause) -> EndCause
     ensures lower { result ≡ end_cause.StopLower → ⊥ }
-    ensures full { result ≡ end_cause.CounterFull → why ≡ cause.CounterFull }
+    ensures memory { (result ≡ end_cause.Memory) ↔ (why ≡ cause.Memory) }
+    ensures full { (result ≡ end_cause.CounterFull) ↔ (why ≡ cause.CounterFull) }
+    ensures thread { (result ≡ end_cause.NoThread) ↔ (why ≡ cause.NoThread) }
 {
     match why {
         Cause::Memory => EndCause::Memory,
@@ -155,6 +164,7 @@ fn run_once<'a, G: Gate + Sync, R: Threads + Wait + Sync>(
     ensures sim { IsSim result.0 }
     ensures case { result.0.case ≡ sim.entry.case }
     ensures stop { result.0.board.stop ≡ sim.entry.board.stop }
+    ensures workers { workers result.0.board ≡ workers sim.entry.board }
     ensures keeps { KeepsEvents sim.entry → KeepsEvents result.0 }
     ensures bound { sim.entry.board.bound ≤ result.0.board.bound }
     ensures full { result.1 ≡ Some cause.CounterFull → IsFullAhead result.0.board.stop result.0.shares }
@@ -182,6 +192,7 @@ fn run_at_table<'a, G: Gate + Sync, R: Threads + Wait + Sync>(
     ensures hands { HasHands result.0 }
     ensures case { (run_of result.0).case ≡ (run_of parts.entry).case }
     ensures stop { (run_of result.0).board.stop ≡ (run_of parts.entry).board.stop }
+    ensures workers { workers (run_of result.0).board ≡ workers (run_of parts.entry).board }
     ensures keeps { KeepsEvents (run_of parts.entry) → KeepsEvents (run_of result.0) }
     ensures bound { (run_of parts.entry).board.bound ≤ (run_of result.0).board.bound }
     ensures full { result.1 ≡ Some cause.CounterFull → IsFullAhead (run_of result.0).board.stop (run_of result.0).shares }

@@ -1,5 +1,5 @@
 -- What contracts say of a table and of its seats (own).
-use Rattle.std.specs.Prelude.{ℕ, ◌≡◌, slice_index_or}
+use Rattle.std.specs.Prelude.{ℕ, ◌≡◌, Bool, slice_index_or}
 use Rattle.crossbeam_queue.specs.Passes.{IsPassOf, view}
 use Rattle.tw_exchange.specs.Board.{Board, opening}
 use Rattle.tw_table.specs.Shares.{Share, no_share}
@@ -25,6 +25,10 @@ share_at s = slice_index_or (view s.pass).shares 0 no_share
 -- the bound that it saw last
 abbrev pub bound_at : Seat → ℕ
 bound_at s = s.bound
+
+-- whether the exchange told all workers to take no further turn when it was given back last
+abbrev pub halted_at : Seat → Bool
+halted_at s = s.halted
 
 -- the stop of the exchange
 abbrev pub stop_at : Seat → ℕ

@@ -7,7 +7,7 @@ ghost use Rattle.tw_exchange.specs.Board.{Board, IsBoard, workers};
 ghost use Rattle.tw_model.specs.Case.{Case};
 ghost use Rattle.tw_table.specs.declared.rule.View.{View as AView};
 ghost use Rattle.tw_table.specs.declared.seat.Seat.{Seat as ASeat};
-ghost use Rattle.tw_table.specs.Seats.{IsHeldOf, IsSeatOf, bound_at, exchange_of, share_at, share_of, stop_at, stop_of, taken_by, workers_at};
+ghost use Rattle.tw_table.specs.Seats.{IsHeldOf, IsSeatOf, bound_at, exchange_of, halted_at, share_at, share_of, stop_at, stop_of, taken_by, workers_at};
 ghost use Rattle.tw_table.specs.Shares.{IsRuled, IsWhole, MayBeGiven, Share as AShare, share, shares_of};
 ghost use Rattle.tw_table.specs.Views.{Holds, IsMet, Knows, first_view, given, opened, took};
 
@@ -52,9 +52,10 @@ impl Table {
             return Err(exchange);
         };
         let bound = exchange.bound();
+        let halted = exchange.is_halted();
         lay::<Brand, R>(rt, &queue, &mut pass, exchange, shards, hands);
         for worker in 0..workers {
-            let seat = deal(&queue, &mut pass, worker, bound);
+            let seat = deal(&queue, &mut pass, worker, bound, halted);
             seats.push_reserved(seat);
         }
         Ok((Table { queue, workers }, seats))
@@ -100,6 +101,7 @@ impl Table {
         ensures seat { IsSeatOf self.now result }
         ensures share { share_at result ≡ share shard.now hand.now }
         ensures bound { bound_at result ≡ (exchange_of held).bound }
+        ensures halted { halted_at result ≡ (exchange_of held).halted }
         ensures stop { stop_at result ≡ stop_of held }
     {
         let Held {
@@ -108,10 +110,12 @@ impl Table {
             mut pass,
         } = held;
         let bound = exchange.bound();
+        let halted = exchange.is_halted();
         push::<Brand, R>(rt, &self.queue, &mut pass, exchange, shard, hand);
         Seat {
             worker,
             bound,
+            halted,
             pass,
         }
     }
@@ -200,7 +204,7 @@ fn lay<M: Outcome<Exchange, View> + Lesson<Exchange, View>, R: Wait>(
 }
 
 /// The seat of the first worker that a pass still stands for; the pass then stands for the others.
-fn deal(queue: &Queue, pass: &mut Ticket, worker: u32, bound: u64) -> Seat
+fn deal(queue: &Queue, pass: &mut Ticket, worker: u32, bound: u64, halted: bool) -> Seat
     requires queue { IsPassOf queue.now pass.old }
     requires begun { (view pass.old).opening ≡ false }
     requires first { map (λ s. s.shard.worker) (take 1 (view pass.old).shares) ≡ worker ∷ [] }
@@ -210,11 +214,13 @@ fn deal(queue: &Queue, pass: &mut Ticket, worker: u32, bound: u64) -> Seat
     ensures others { view pass.new ≡ record (view pass.old) { shares = drop 1 (view pass.old).shares } }
     ensures first { view result.pass ≡ record (view pass.old) { shares = take 1 (view pass.old).shares; held = [] } }
     ensures bound { result.bound ≡ bound }
+    ensures halted { result.halted ≡ halted }
 {
     let pass = queue.another::<Deals>(pass);
     Seat {
         worker,
         bound,
+        halted,
         pass,
     }
 }

@@ -12,6 +12,7 @@ use tw_exchange::Exchange;
 pub struct Seat {
     pub(crate) worker: u32,
     pub(crate) bound: u64,
+    pub(crate) halted: bool,
     pub(crate) pass: Ticket,
     pub(crate) ghost waits: { IsWaiting worker bound (view pass) },
 }

@@ -4,7 +4,7 @@ ghost use Rattle.std.specs.Result.{IsErrAnd};
 ghost use Rattle.tw_exchange.specs.Board.{IsBoard, handed, is_early, visited};
 ghost use Rattle.tw_exchange.specs.declared.visit.VisitFault.TheVariants.{Early, NoWorker};
 ghost use Rattle.tw_model.specs.declared.memory.OrMemory.TheVariants as or_memory;
-ghost use Rattle.tw_table.specs.Seats.{IsSameSeat, bound_at, exchange_of, share_at, share_of};
+ghost use Rattle.tw_table.specs.Seats.{IsSameSeat, bound_at, exchange_of, halted_at, share_at, share_of};
 
 use crate::seat::{Held, Seat};
 use tw_event::Event;
@@ -24,6 +24,14 @@ impl Seat {
         ensures { result ≡ bound_at self.now }
     {
         self.bound
+    }
+
+    /// Whether all workers had been told to take no further turn when this worker gave the exchange back last,
+    /// or when the table was opened.
+    pub fn is_halted(&self) -> bool
+        ensures { result ≡ halted_at self.now }
+    {
+        self.halted
     }
 }
 

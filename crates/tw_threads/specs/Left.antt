@@ -1,14 +1,14 @@
 -- How workers leave a table (own).
-use Rattle.std.specs.Prelude.{ℕ, ◌≡◌, ◌≤◌, Err, List, Some, map, slice_get}
+use Rattle.std.specs.Prelude.{ℕ, ◌≡◌, ◌≤◌, Err, List, Some, map, slice_get, true}
 use Rattle.std.specs.List.{AllZip}
 use Rattle.tw_core.specs.declared.refusal.Refusal.TheVariants as refusal
 use Rattle.tw_shard.specs.Shard.{Shard, handling}
-use Rattle.tw_table.specs.Seats.{IsSeatOf, bound_at, share_at, stop_at}
+use Rattle.tw_table.specs.Seats.{IsSeatOf, bound_at, halted_at, share_at, stop_at}
 use Rattle.tw_table.specs.Shares.{Share}
 use Rattle.tw_table.specs.declared.seat.Seat.{Seat}
 use Rattle.tw_table.specs.declared.table.Table.{Table}
 use Rattle.tw_workers.specs.declared.working.Leaving.{Leaving}
-use Rattle.tw_workers.specs.declared.working.Leaving.TheVariants.{CounterFull}
+use Rattle.tw_workers.specs.declared.working.Leaving.TheVariants.{CounterFull, Settled}
 
 -- the seat that a worker had at a table, and the one that it leaves
 pub record HasLeft (t : Table) (before after : Seat) : Type 0 where
@@ -30,6 +30,8 @@ IsFull stop shard = (r : ℕ) × (handling stop shard r ≡ Err refusal.CounterF
 pub record IsLeft (s : Share) (t : Table) (before after : Seat) (why : Leaving) : Type 0 where
   pub left : HasLeft t before after
   pub share : share_at after ≡ s
+  -- where it has not come to its stop, all workers were told to take no further turn
+  pub halts : (why ≡ Settled → ⊥) → halted_at after ≡ true
   pub full : why ≡ CounterFull → IsFull (stop_at after) (share_at after).shard
 
 -- one of these shares has a router whose counter would pass its limit

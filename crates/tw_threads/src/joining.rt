@@ -1,10 +1,11 @@
 //! The threads of workers are joined.
-ghost use Rattle.std.specs.Prelude.{◌≡◌, ◌≤◌, ◌⊎◌, [], Some, length, vec_capacity, List};
+ghost use Rattle.std.specs.Prelude.{◌≡◌, ◌≤◌, ◌⊎◌, ◌↔◌, [], None, Some, length, vec_capacity, List};
 ghost use Rattle.std.specs.List.{AllZip};
 ghost use Rattle.tw_table.specs.declared.seat.Seat.{Seat as ASeat};
 ghost use Rattle.tw_table.specs.declared.table.Table.{Table as ATable};
 ghost use Rattle.tw_threads.specs.Left.{IsLeft};
 ghost use Rattle.tw_threads.specs.Started.{HaveLeft, IsStarted};
+ghost use Rattle.tw_threads.specs.declared.joining.Cause.{Cause as ACause};
 ghost use Rattle.tw_threads.specs.declared.joining.Cause.TheVariants as cause;
 ghost use Rattle.tw_workers.specs.declared.working.Leaving.TheVariants as leaving;
 
@@ -73,7 +74,11 @@ fn join<W: Work, R: Threads>(rt: &R, started: Started<W>) -> Left<W>
 
 /// The cause of a run's end, of which a further worker tells why it left.
 fn worse(known: Option<Cause>, why: Leaving) -> Option<Cause>
-    ensures { result ≡ Some cause.CounterFull → (known ≡ Some cause.CounterFull) ⊎ (why ≡ leaving.CounterFull) }
+    ensures first { (c : ACause) → known ≡ Some c → result ≡ Some c }
+    ensures memory { known ≡ None → (result ≡ Some cause.Memory) ↔ (why ≡ leaving.Memory) }
+    ensures counter { known ≡ None → (result ≡ Some cause.CounterFull) ↔ (why ≡ leaving.CounterFull) }
+    ensures thread { known ≡ None → result ≡ Some cause.NoThread → ⊥ }
+    ensures full { result ≡ Some cause.CounterFull → (known ≡ Some cause.CounterFull) ⊎ (why ≡ leaving.CounterFull) }
 {
     if known.is_some() {
         return known;

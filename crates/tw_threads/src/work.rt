@@ -1,8 +1,8 @@
-ghost use Rattle.std.specs.Prelude.{◌≡◌, ℕ};
-ghost use Rattle.tw_table.specs.Seats.{IsSeatOf, share_at, stop_at};
+ghost use Rattle.std.specs.Prelude.{◌≡◌, ℕ, true};
+ghost use Rattle.tw_table.specs.Seats.{IsSeatOf, halted_at, share_at, stop_at};
 ghost use Rattle.tw_table.specs.Shares.{Share};
 ghost use Rattle.tw_threads.specs.Left.{HasLeft, IsFull};
-ghost use Rattle.tw_workers.specs.declared.working.Leaving.TheVariants.{CounterFull};
+ghost use Rattle.tw_workers.specs.declared.working.Leaving.TheVariants.{CounterFull, Settled};
 
 use std::sync::Wait;
 use tw_table::{Seat, Table};
@@ -28,6 +28,7 @@ pub trait Work {
         requires stop { stop_at seat ≡ stop self.old }
         ensures left { HasLeft table.now seat result.0 }
         ensures share { share_at result.0 ≡ share self.new }
+        ensures halts { (result.1 ≡ Settled → ⊥) → halted_at result.0 ≡ true }
         ensures full { result.1 ≡ CounterFull → IsFull (stop_at result.0) (share_at result.0).shard };
 
     /// It takes no turn, and tells all workers to take no further one. The seat is its own, at this table, and
@@ -37,5 +38,6 @@ pub trait Work {
         requires share { share_at seat ≡ share self.now }
         requires stop { stop_at seat ≡ stop self.now }
         ensures left { HasLeft table.now seat result }
-        ensures share { share_at result ≡ share self.now };
+        ensures share { share_at result ≡ share self.now }
+        ensures halts { halted_at result ≡ true };
 }

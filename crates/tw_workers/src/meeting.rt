@@ -1,9 +1,9 @@
 //! A worker meets the table.
-ghost use Rattle.std.specs.Prelude.{ℕ, ◌≡◌, ◌≤◌, ◌<◌, [], ◌∷◌, length, true};
+ghost use Rattle.std.specs.Prelude.{ℕ, ◌≡◌, ◌≤◌, ◌<◌, [], ◌∷◌, ◌⊎◌, length, true};
 ghost use Rattle.tw_exchange.specs.Board.{IsBoard};
 ghost use Rattle.tw_shard.specs.Shard.{core};
-ghost use Rattle.tw_table.specs.Seats.{IsSameSeat, IsSeatOf, bound_at, exchange_of, share_at, share_of, stop_at, taken_by};
-ghost use Rattle.tw_table.specs.Shares.{MayBeGiven, share};
+ghost use Rattle.tw_table.specs.Seats.{IsSameSeat, IsSeatOf, bound_at, exchange_of, halted_at, share_at, share_of, stop_at, taken_by};
+ghost use Rattle.tw_table.specs.Shares.{MayBeGiven, board_of, share};
 ghost use Rattle.tw_table.specs.Views.{IsMet};
 ghost use Rattle.tw_workers.specs.declared.meeting.Meeting.TheVariants.{Halted, Open, Refused, Settled};
 ghost use Rattle.tw_workers.specs.Work.{IsAtWork, Kept};
@@ -54,6 +54,9 @@ impl<'a> Worker<'a> {
         ensures open { result.1 ≡ Open → bound_at result.0 < self.new.stop }
         ensures settled { result.1 ≡ Settled → bound_at result.0 ≡ self.new.stop }
         ensures refused { result.1 ≡ Refused → 0 < length self.old.share.unsent }
+        ensures halts { result.1 ≡ Refused → halted_at result.0 ≡ true }
+        ensures heard { result.1 ≡ Halted → halted_at result.0 ≡ true }
+        ensures obeys { halted_at result.0 ≡ true → (result.1 ≡ Halted) ⊎ (result.1 ≡ Refused) }
     {
         let mut held = table.take(rt, seat);
         let meeting = visit(&mut held, &mut self.shard, &mut self.hand, self.stop);
@@ -71,9 +74,10 @@ impl<'a> Worker<'a> {
         ensures share { share_at result ≡ self.now.share }
         ensures seat_stop { stop_at result ≡ self.now.stop }
         ensures bound { bound_at seat ≤ bound_at result }
+        ensures halts { halted_at result ≡ true }
     {
         let mut taken = table.take(rt, seat);
-        taken.halt();
+        halt_all(&mut taken);
         table.give(rt, taken, &self.shard, &self.hand)
     }
 }
@@ -102,6 +106,9 @@ fn visit(held: &mut Held, shard: &mut Shard<'_>, hand: &mut Hand, stop: u64) -> 
     ensures open { result ≡ Open → (exchange_of held.new).bound < stop }
     ensures settled { result ≡ Settled → (exchange_of held.new).bound ≡ stop }
     ensures refused { result ≡ Refused → 0 < length hand.old.out.items }
+    ensures halts { result ≡ Refused → (exchange_of held.new).halted ≡ true }
+    ensures heard { result ≡ Halted → (exchange_of held.new).halted ≡ true }
+    ensures obeys { (exchange_of held.new).halted ≡ true → (result ≡ Halted) ⊎ (result ≡ Refused) }
 {
     let alloc = *hand.out.allocator();
     let out = mem::replace(&mut hand.out, Vec::new(alloc));
@@ -114,10 +121,19 @@ fn visit(held: &mut Held, shard: &mut Shard<'_>, hand: &mut Hand, stop: u64) -> 
         }
         Err(back) => {
             hand.out = back.out;
-            held.halt();
+            halt_all(held);
             Meeting::Refused
         }
     }
+}
+
+/// All workers are told to take no further turn.
+fn halt_all(held: &mut Held)
+    ensures same { IsSameSeat held.old held.new }
+    ensures board { board_of (exchange_of held.new) ≡ board_of (exchange_of held.old) }
+    ensures halts { (exchange_of held.new).halted ≡ true }
+{
+    held.halt();
 }
 
 /// What a worker is told that knows this bound.
@@ -126,7 +142,8 @@ fn told(bound: u64, halted: bool, stop: u64) -> Meeting
     ensures not_refused { result ≡ Refused → ⊥ }
     ensures open { result ≡ Open → bound < stop }
     ensures settled { result ≡ Settled → bound ≡ stop }
-    ensures halted { halted ≡ true → result ≡ Halted }
+    ensures heard { result ≡ Halted → halted ≡ true }
+    ensures obeys { halted ≡ true → result ≡ Halted }
 {
     if halted {
         Meeting::Halted

@@ -1,8 +1,8 @@
 //! A worker takes turn after turn, until it may leave.
-ghost use Rattle.std.specs.Prelude.{◌≡◌, ◌≤◌, [], ℕ, Err, IsErrOf, OnOk, Some, true};
+ghost use Rattle.std.specs.Prelude.{◌≡◌, ◌≤◌, ◌⊎◌, [], ℕ, Err, IfSome, IsErrOf, None, OnOk, Some, false, true};
 ghost use Rattle.tw_core.specs.declared.refusal.Refusal.TheVariants as refusal;
 ghost use Rattle.tw_shard.specs.Shard.{handling};
-ghost use Rattle.tw_table.specs.Seats.{IsSeatOf, bound_at, share_at, stop_at};
+ghost use Rattle.tw_table.specs.Seats.{IsSeatOf, bound_at, halted_at, share_at, stop_at};
 ghost use Rattle.tw_workers.specs.declared.meeting.Meeting.TheVariants as meetings;
 ghost use Rattle.tw_workers.specs.declared.working.Leaving.TheVariants as leaving;
 ghost use Rattle.tw_workers.specs.Work.{HasCommitted, IsAtWork, StillKeeps};
@@ -57,6 +57,7 @@ impl<'a> Worker<'a> {
         ensures keeps { self.new.share.shard.keeps ≡ self.old.share.shard.keeps }
         ensures settled { result.1 ≡ leaving.Settled → bound_at result.0 ≡ self.new.stop }
         ensures committed { result.1 ≡ leaving.Settled → HasCommitted self.new }
+        ensures halts { (result.1 ≡ leaving.Settled → ⊥) → halted_at result.0 ≡ true }
         ensures full { result.1 ≡ leaving.CounterFull → (r : ℕ) × (handling self.new.stop self.new.share.shard r ≡ Err refusal.CounterFull) }
     {
         let mut seat = seat;
@@ -109,6 +110,8 @@ impl<'a> Worker<'a> {
         ensures keeps { self.new.share.shard.keeps ≡ self.old.share.shard.keeps }
         ensures settled { result.1 ≡ Some leaving.Settled → bound_at result.0 ≡ self.new.stop }
         ensures committed { result.1 ≡ Some leaving.Settled → HasCommitted self.new }
+        ensures halts { IfSome result.1 (λ why. (why ≡ leaving.Settled → ⊥) → halted_at result.0 ≡ true) }
+        ensures obeys { halted_at result.0 ≡ true → result.1 ≡ None → ⊥ }
         ensures full { result.1 ≡ Some leaving.CounterFull → (r : ℕ) × (handling self.new.stop self.new.share.shard r ≡ Err refusal.CounterFull) }
     {
         if let Err(leaving) = self.prepare(rt, gate, seat.worker(), turn) {
@@ -202,6 +205,7 @@ fn leaving_after(meeting: Meeting, last: bool) -> Option<Leaving>
     ensures leaves { meeting ≡ meetings.Settled → last ≡ true → result ≡ Some leaving.Settled }
     ensures stops { meeting ≡ meetings.Halted → result ≡ Some leaving.Halted }
     ensures refused { meeting ≡ meetings.Refused → result ≡ Some leaving.Memory }
+    ensures halts { IfSome result (λ why. (why ≡ leaving.Settled → ⊥) → (meeting ≡ meetings.Halted) ⊎ (meeting ≡ meetings.Refused)) }
 {
     match meeting {
         Meeting::Settled if last => Some(Leaving::Settled),

@@ -2,7 +2,7 @@ use Rattle.std.proofs.Common.{◌≡◌, ◌≤◌, Bool, true, List, length, ma
 use Rattle.std.proofs.lemmas.List.{length-map}
 use Rattle.std.specs.List.{AllByRecursion}
 use Rattle.tw_parallel.proofs.Crews.{all_at_work}
-use Rattle.tw_parallel.proofs.Rounds.{as_many, goes_on, long_shares, not_above, same_numbers, still_keep}
+use Rattle.tw_parallel.proofs.Rounds.{as_many, goes_on, long_shares, not_above, same_numbers, same_workers, still_keep}
 use Rattle.tw_parallel.specs.Inside.{run_of}
 use Rattle.tw_parallel.specs.Sim.{IsSim}
 use Rattle.tw_table.specs.Seats.{share_at, stop_at}
@@ -62,6 +62,15 @@ returns-clause-sim g c =
     (sym (mapped share (λ s. s.shard.case) new) ∙ (ran.cases ∙ (mapped share (λ s. s.shard.case) old ∙ ap (map (λ (s : Share). s.shard.case)) made)))
     (sym (mapped share (λ s. s.shard.worker) new) ∙ (ran.numbers ∙ (mapped share (λ s. s.shard.worker) old ∙ ap (map (λ (s : Share). s.shard.worker)) made)))
     (ran.stop parts.exchange.stop c.in-Ok.ensures.stops))
+
+pub returns-clause-workers : goal.returns-clause-workers
+returns-clause-workers g c =
+    let ran = c.run_all-ran.ensures in
+    let old = c.workers_of-workers.result.items in
+    let new = c.run_all-ran.result.workers.items in
+    let share : Worker → Share = λ w. w.share in
+    same_workers (run_of c.args.parts) c.run_all-ran.result.exchange (map share new) c.requires.sim ran.whole
+    (sym (mapped share (λ s. s.shard.case) new) ∙ (ran.cases ∙ (mapped share (λ s. s.shard.case) old ∙ ap (map (λ (s : Share). s.shard.case)) c.workers_of-workers.ensures.shares)))
 
 pub returns-clause-keeps : goal.returns-clause-keeps
 returns-clause-keeps g c = λ kept.

@@ -33,16 +33,16 @@ returns-in-Ok-clause-work c =
     work_given (taken_by c.args.held.now) (exchange_of c.visit.new.self) c.args.stop (share_of c.args.held.now) t c.requires.met c.requires.stop (returns-in-Ok-clause-given c)
 
 pub returns-in-Err-clause-seat : goal.returns-in-Err-clause-seat
-returns-in-Err-clause-seat c = same_seat c.args.held.now c.visit.new.self c.halt.new.self c.visit.ensures.same c.halt.ensures.same
+returns-in-Err-clause-seat c = same_seat c.args.held.now c.visit.new.self c.halt_all.new.held c.visit.ensures.same c.halt_all.ensures.same
 
 pub returns-in-Err-clause-given : goal.returns-in-Err-clause-given
 returns-in-Err-clause-given c =
     let x = taken_by c.args.held.now in
     let s = share_of c.args.held.now in
-    let y = exchange_of c.halt.new.self in
+    let y = exchange_of c.halt_all.new.held in
     let hand = c.args.hand.now in
     let q = share c.args.shard.now hand in
-    let board : board_of y ≡ board_of x = ap board_of c.halt.ensures.board ∙ ap board_of (c.in-Err.ensures.err ∙ c.requires.fresh) in
+    let board : board_of y ≡ board_of x = c.halt_all.ensures.board ∙ ap board_of (c.in-Err.ensures.err ∙ c.requires.fresh) in
     let out = c.in-Err.ensures.back ∙ c.replace-out.ensures.value in
     subst (λ o. MayBeGiven x s y (share c.args.shard.now (record hand { out = o }))) (sym out)
     (stayed_given x y c.args.stop s q c.requires.met c.requires.stop c.requires.kept board)

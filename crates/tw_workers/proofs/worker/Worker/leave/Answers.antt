@@ -7,7 +7,7 @@ use Rattle.tw_workers.specs.Work.{Kept, Worker}
 use Rattle.tw_workers.proofs.worker.Worker.leave.Goals as goal
 
 pub give-requires-clause-held : goal.give-requires-clause-held
-give-requires-clause-held g c = c.halt.ensures.same.table _ c.take-taken.ensures.held
+give-requires-clause-held g c = c.halt_all.ensures.same.table _ c.take-taken.ensures.held
 
 pub give-requires-clause-fair : goal.give-requires-clause-fair
 give-requires-clause-fair g c =
@@ -18,7 +18,7 @@ give-requires-clause-fair g c =
     let t = share inside.shard inside.hand in
     let kept = subst (λ (w : Worker). Kept w.stop (share_at seat) w.share) (sym c.self.view_is) c.requires.kept in
     let stop = told.stop ∙ (c.requires.stop ∙ ap (λ (w : Worker). w.stop) (sym c.self.view_is)) in
-    let board : board_of (exchange_of c.halt.new.self) ≡ board_of (taken_by held) = ap board_of c.halt.ensures.board ∙ ap board_of told.exchange in
-    let may = stayed_given (taken_by held) (exchange_of c.halt.new.self) inside.stop (share_at seat) t told.met stop kept board in
-    let mine = subst (λ (s : Share). MayBeGiven (taken_by held) s (exchange_of c.halt.new.self) t) (sym (c.halt.ensures.same.share ∙ told.share)) may in
-    subst (λ (x : Board). MayBeGiven x (share_of c.halt.new.self) (exchange_of c.halt.new.self) t) (sym c.halt.ensures.same.taken) mine
+    let board : board_of (exchange_of c.halt_all.new.held) ≡ board_of (taken_by held) = c.halt_all.ensures.board ∙ ap board_of told.exchange in
+    let may = stayed_given (taken_by held) (exchange_of c.halt_all.new.held) inside.stop (share_at seat) t told.met stop kept board in
+    let mine = subst (λ (s : Share). MayBeGiven (taken_by held) s (exchange_of c.halt_all.new.held) t) (sym (c.halt_all.ensures.same.share ∙ told.share)) may in
+    subst (λ (x : Board). MayBeGiven x (share_of c.halt_all.new.held) (exchange_of c.halt_all.new.held) t) (sym c.halt_all.ensures.same.taken) mine
