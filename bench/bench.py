@@ -76,10 +76,16 @@ def gadgets(rng):
     return text(free, links, paths)
 
 
-def mesh(rng):
+# The latest time that a scene may have.
+LAST_TIME = 1_000_000_000
+
+
+def mesh(rng, delay=9):
     """A full mesh of 60 behind one link to the origin, which fails and is repaired: paths are explored."""
     nodes = 61
-    links = [(0, 1, 1)] + [(v, w, rng.randint(1, 9)) for v in range(1, nodes) for w in range(v + 1, nodes)]
+    # The longer the delays, the later the next failure: so each is explored to its end.
+    half = 200 * delay // 9
+    links = [(0, 1, 1)] + [(v, w, rng.randint(1, delay)) for v in range(1, nodes) for w in range(v + 1, nodes)]
     paths = [(1, 0)]
     for v in range(2, nodes):
         others = [w for w in range(2, nodes) if w != v]
@@ -89,8 +95,21 @@ def mesh(rng):
         while len(longer) < 150:
             longer.add((v, *rng.sample(others, rng.choice([2, 3])), 1, 0))
         paths += sorted(longer, key=lambda path: (len(path), path))
-    scenes = [scene for k in range(2000) for scene in (("fail", 100 + 400 * k, 0, 1), ("restore", 300 + 400 * k, 0, 1))]
+    scenes = []
+    for k in range(min(2000, LAST_TIME // (2 * half) - 1)):
+        start = half // 2 + 2 * half * k
+        scenes += [("fail", start, 0, 1), ("restore", start + half, 0, 1)]
     return text(nodes, links, paths, scenes)
+
+
+def mesh_1000(rng):
+    """The mesh with delays to 1,000."""
+    return mesh(rng, 1000)
+
+
+def mesh_100000(rng):
+    """The mesh with delays to 100,000."""
+    return mesh(rng, 100000)
 
 
 def limits(rng):
@@ -121,7 +140,7 @@ def limits(rng):
     return text(nodes, links, paths)
 
 
-CASES = {"hierarchy": hierarchy, "gadgets": gadgets, "mesh": mesh, "limits": limits}
+CASES = {"hierarchy": hierarchy, "gadgets": gadgets, "mesh": mesh, "mesh-1000": mesh_1000, "mesh-100000": mesh_100000, "limits": limits}
 
 
 def measure(program, words, case, times=1):

@@ -5,15 +5,18 @@
 
 Of each document every word in backticks is looked up: a path must be that of a file or folder, and a name (of a crate,
 a function, a clause, a definition) must stand somewhere in the sources. What has spaces or the word NAME, and blocks of
-code, is let pass.
+code, is let pass. In a table of promises, clauses named after functions must be clauses of one of these.
 """
+import collections
 import itertools
 import re
 
 from common import TOP, Tally
+from functions import functions_of
 
-DOCUMENTS = ["*.md", "docs/*.md", "bench/*.md", "cases/*.md", "tools/*.md"]
-SOURCES = ["crates.txt", "HANDLES", "twarp", ".ci/run", "checks/*", "bench/*.py", "cases/*.spp", "cases/*.replay", "crates/*/must-fail/*"]
+DOCUMENTS = ["*.md", "docs/*.md", "bench/*.md", "cases/*.md", "checks/*.md", "tools/*.md"]
+SOURCES = ["crates.txt", "HANDLES", "twarp", ".ci/run", "checks/*", "bench/*.py", "cases/*.spp", "cases/*.replay"]
+SOURCES += ["crates/*/must-fail/*", "crates/*/wrong-bodies/*"]
 SOURCES += ["tools/*", "tools/**/*.py"]
 CODE = [f"crates/*/{part}/**/*.{kind}" for part in ("src", "specs", "proofs") for kind in ("rt", "antt")]
 
@@ -36,8 +39,39 @@ def is_path(word):
     return PATH.fullmatch(word) and ("/" in word or word.endswith(ENDINGS))
 
 
+def clauses_by_function():
+    """The names of the clauses of each function, by the ends of its path: `take`, `Table::take`, `table::Table::take`."""
+    found = collections.defaultdict(set)
+    for file in files(["crates/*/src/**/*.rt"]):
+        text = file.read_text(encoding="utf-8")
+        inside = file.relative_to(TOP / "crates")
+        for function in functions_of("/".join(inside.parts[1:]), text):
+            contract = "\n".join(text.split("\n")[function.first - 1 : function.last])
+            names = re.findall(r"^\s*(?:ensures|requires)\*? (\w+)\b", contract, re.MULTILINE)
+            path = (inside.parts[0], *function.path)
+            for start in range(len(path)):
+                found[path[start:]] |= {*names}
+    return found
+
+
+def misnamed_clauses(row, clauses):
+    """The clauses that a row of a table names after functions, and that none of these has."""
+    cell = re.sub(r"\([^()]*\)", "", row.strip().strip("|").rpartition("|")[2])
+    for part in cell.split(";"):
+        head, colon, tail = part.partition("`: `")
+        functions = [word.split("::") for word in re.findall(r"`([^`]+)`", head + "`") if colon]
+        owner, known = [], set()
+        for words in functions:
+            owner = words[:-1] or owner
+            known |= clauses.get(tuple(words), set()) | clauses.get((*owner, words[-1]), set())
+        for name in re.findall(r"`([a-z]\w*)`", "`" + tail):
+            if known and name not in known:
+                yield f"{'::'.join(functions[-1])}: {name}"
+
+
 def main():
     tally = Tally()
+    clauses = clauses_by_function()
     sources = files([*SOURCES, *CODE])
     words = set(itertools.chain.from_iterable(re.findall(r"\w+", file.read_text(encoding="utf-8")) for file in sources))
     names = {file.name for file in sources} | {file.name for file in files(DOCUMENTS)}
@@ -57,6 +91,8 @@ def main():
                 is_there = True
             if not is_there and word not in lost:
                 lost.append(word)
+        rows = (line for line in document.read_text(encoding="utf-8").splitlines() if line.startswith("|"))
+        lost += itertools.chain.from_iterable(misnamed_clauses(row, clauses) for row in rows)
         tally.add(document.relative_to(TOP), lost and f"it names what is not there: {', '.join(lost)}")
     tally.end()
 

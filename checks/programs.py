@@ -12,6 +12,8 @@ import resource
 import shutil
 import signal
 import tempfile
+from functools import partial
+from typing import Callable, NamedTuple
 
 from common import CASES, DISAGREE, PROGRAM, REPLAYED, REPORT, STRAGGLER, Refuser, Tally, input_of, need, run
 
@@ -119,39 +121,77 @@ def stated(text):
     ).encode()
 
 
-def check_done(tally):
+class Row(NamedTuple):
+    """A run that needs an input and a command line alone, and what judges its end: it gives what is wrong, if anything."""
+
+    name: str
+    words: list
+    source: object
+    wrong: Callable
+
+
+def due(name, words, source, status, out, err=b""):
+    return Row(name, words, source, lambda done: differs(done, status, out, err))
+
+
+def answers():
     for case in sorted(CASES.glob("*.spp")):
-        done = run([PROGRAM, "check"], case)
-        tally.add(f"check of {case.name}", differs(done, 0, stated(case.read_text(encoding="ascii")), b""))
-    done = run([PROGRAM, *SEQ], DISAGREE)
-    tally.add(name_of(SEQ), differs(done, 0, REPORT.read_bytes(), b""))
+        yield due(f"check of {case.name}", ["check"], case, 0, stated(case.read_text(encoding="ascii")))
+    yield due(name_of(SEQ), SEQ, DISAGREE, 0, REPORT.read_bytes())
     for more in [], ["--workers", "1"], ["--workers", "3", "--batch", "1"], ["--workers", "16", "--batch", "4096"]:
         words = ["run", "--stop", "20", "--log", *more]
-        done = run([PROGRAM, *words], DISAGREE)
-        tally.add(name_of(words), differs(done, 0, REPORT.read_bytes(), b""))
+        yield due(name_of(words), words, DISAGREE, 0, REPORT.read_bytes())
     words = ["trail", "--router", "2", "--stop", "8", "--keep", "2"]
-    done = run([PROGRAM, *words], CASES / "failure-and-repair.spp")
-    tally.add(name_of(words), differs(done, 0, FOLLOWED, b""))
+    yield due(name_of(words), words, CASES / "failure-and-repair.spp", 0, FOLLOWED)
     for count in "1", "2", "16":
         words = ["replay", "--stop", "20", "--workers", count]
-        done = run([PROGRAM, *words], STRAGGLER)
-        tally.add(name_of(words), differs(done, 0, REPLAYED.read_bytes(), b""))
+        yield due(name_of(words), words, STRAGGLER, 0, REPLAYED.read_bytes())
 
 
-def check_refused(tally, folder):
+def refusals(folder):
+    """Texts that are refused. One of them is put into the folder."""
     bad = folder / "bad.spp"
     bad.write_text("spp 1\nnodes 0\nend\n")
     no_such = ["trail", "--router", "3", "--stop", "20", "--keep", "0"]
     for words in [*COMMANDS, no_such]:
-        done = run([PROGRAM, *words], bad)
-        tally.add(f"{name_of(words)} of no case", differs(done, 1, b"refused line 2 I1 Range\n", b""))
-        done = run([PROGRAM, *words], NOTHING)
-        tally.add(f"{name_of(words)} of nothing", differs(done, 1, b"refused line 1 X6 End\n", b""))
-    done = run([PROGRAM, *REPLAY], DISAGREE)
+        yield due(f"{name_of(words)} of no case", words, bad, 1, b"refused line 2 I1 Range\n")
+        yield due(f"{name_of(words)} of nothing", words, NOTHING, 1, b"refused line 1 X6 End\n")
     lines = len(DISAGREE.read_text().splitlines())
-    tally.add("a replay without its steps", differs(done, 1, b"refused line %d X6 End\n" % (lines + 1), b""))
-    done = run([PROGRAM, *no_such], DISAGREE)
-    tally.add("a router that is not there", differs(done, 1, b"refused option N1 Router\n", b""))
+    yield due("a replay without its steps", REPLAY, DISAGREE, 1, b"refused line %d X6 End\n" % (lines + 1))
+    yield due("a router that is not there", no_such, DISAGREE, 1, b"refused option N1 Router\n")
+
+
+def wrong_help(command, done):
+    said = done.stdout.decode()
+    lacks = [head for head in HELP[command] if not re.search(f"^{re.escape(head)}", said, re.M)]
+    lacks += [words for words in RANGES.get(command, []) if words not in said]
+    wrong = (done.returncode, done.stderr) != (0, b"") and f"it ended with {done}"
+    return wrong or lacks and f"it does not say {lacks}"
+
+
+def helps():
+    for command in HELP:
+        own = [command] * bool(command)
+        for words in [*own, "--help"], [*own, "-h"], ["help", *own]:
+            yield Row(name_of(words), words, NOTHING, partial(wrong_help, command))
+
+
+def wrong_bad_line(done):
+    ended = (done.returncode, done.stdout, done.stderr[:7]) == (3, b"", b"error: ") and done.stderr.endswith(b"\n")
+    return not ended and f"it ended with {done}"
+
+
+def bad_lines():
+    for name, words in BAD_LINES.items():
+        yield Row(name, words, DISAGREE, wrong_bad_line)
+
+
+def rows(folder):
+    """All rows, whose own inputs are put into the folder."""
+    yield from answers()
+    yield from refusals(folder)
+    yield from helps()
+    yield from bad_lines()
 
 
 def check_memory(tally, folder):
@@ -225,31 +265,9 @@ def check_input(tally):
         tally.add(f"{name_of(words)} with no standard input", differs(done, 2, b"", b"stopped device\n"))
 
 
-def check_help(tally):
-    for command, heads in HELP.items():
-        own = [command] * bool(command)
-        for words in [*own, "--help"], [*own, "-h"], ["help", *own]:
-            done = run([PROGRAM, *words], NOTHING)
-            said = done.stdout.decode()
-            lacks = [head for head in heads if not re.search(f"^{re.escape(head)}", said, re.M)]
-            lacks += [words for words in RANGES.get(command, []) if words not in said]
-            wrong = (done.returncode, done.stderr) != (0, b"") and f"it ended with {done}"
-            tally.add(name_of(words), wrong or lacks and f"it does not say {lacks}")
-
-
-def check_bad_lines(tally):
-    for name, words in BAD_LINES.items():
-        done = run([PROGRAM, *words], DISAGREE)
-        ended = (done.returncode, done.stdout, done.stderr[:7]) == (3, b"", b"error: ") and done.stderr.endswith(b"\n")
-        tally.add(name, not ended and f"it ended with {done}")
-
-
 def check_version(tally):
     for word in "--version", "-V":
         done = run([PROGRAM, word], NOTHING)
-        if done.returncode == 3:
-            print(f"left out: twarp {word}, which the program refuses")
-            continue
         is_named = re.fullmatch(rb"twarp \d+\.\d+\.\d+\n", done.stdout)
         wrong = (done.returncode, done.stderr) != (0, b"") or not is_named
         tally.add(name_of([word]), wrong and f"it ended with {done}")
@@ -260,14 +278,12 @@ def main():
     tally = Tally()
     with tempfile.TemporaryDirectory() as name:
         folder = type(CASES)(name)
-        check_done(tally)
-        check_refused(tally, folder)
+        for row in rows(folder):
+            tally.add(row.name, row.wrong(run([PROGRAM, *row.words], row.source)))
         check_memory(tally, folder)
         check_thread(tally, folder)
         check_output(tally, folder)
     check_input(tally)
-    check_help(tally)
-    check_bad_lines(tally)
     check_version(tally)
     tally.end()
 

@@ -6,6 +6,7 @@ import re
 import sys
 from collections.abc import Container, Iterator, Mapping
 from dataclasses import dataclass, field
+from functools import cache
 
 from twarp_tools.command import Refused
 from twarp_tools.lines import Line, Nodes, lines_of
@@ -87,9 +88,14 @@ class Case:
         return {path: number for number, path in enumerate([(), (ORIGIN,), *self.paths])}
 
     def __str__(self) -> str:
-        paths = (f"path {path[0]} {' '.join(map(str, path))}" for path in self.paths)
-        lines = ["spp 1", f"nodes {self.nodes}", *self.links, *paths, *self.scenes, "end"]
+        lines = ["spp 1", f"nodes {self.nodes}", *self.links, *map(path_line, self.paths), *self.scenes, "end"]
         return "".join(f"{line}\n" for line in lines)
+
+
+@cache
+def path_line(path: Nodes) -> str:
+    """The line of a permitted path, which is kept since a sweep writes each of them many times."""
+    return f"path {path[0]} {' '.join(map(str, path))}"
 
 
 class Kind(enum.IntEnum):

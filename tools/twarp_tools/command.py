@@ -33,6 +33,10 @@ class Refused(Exception):
         return cls(f"refused line {number}: {why}")
 
 
+class Stopped(Exception):
+    """Work that did not come to its end. Its text is what stands behind `stopped`."""
+
+
 STATUSES = "statuses: 0 done, 1 the input is refused, 2 stopped, 3 the command line is not accepted"
 
 
@@ -58,6 +62,20 @@ def number_between(least: int, most: int) -> Callable[[str], int]:
         if not (word.isascii() and word.isdigit() and least <= int(word) <= most):
             raise argparse.ArgumentTypeError(f"{word!r} is no number from {least} to {most}")
         return int(word)
+
+    return read
+
+
+def range_between(least: int, most: int) -> Callable[[str], tuple[int, int]]:
+    """A type of arguments: two numbers in a range as 1-20, the first at most the last; one number stands for both."""
+    number = number_between(least, most)
+
+    def read(word: str) -> tuple[int, int]:
+        first, dash, last = word.partition("-")
+        low, high = number(first), number(last if dash else first)
+        if low > high:
+            raise argparse.ArgumentTypeError(f"{low} is more than {high}")
+        return low, high
 
     return read
 
@@ -103,6 +121,9 @@ def run(main: Callable[[], None]) -> Status:
     except Refused as fault:
         tell(fault)
         return Status.REFUSED
+    except Stopped as why:
+        tell(f"stopped {why}")
+        return Status.STOPPED
     except MemoryError:
         tell("stopped memory")
         return Status.STOPPED

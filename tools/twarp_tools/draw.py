@@ -10,11 +10,11 @@ from pathlib import Path
 
 from twarp_tools.case import MOST_PATHS, MOST_ROUTERS, ORIGIN, Case, Link, read_case
 from twarp_tools.command import Input, Parser, Refused, number_between, write_output
-from twarp_tools.event import Fail, Restore, Swap, opening_events
 from twarp_tools.lines import Nodes, write_path
 from twarp_tools.names import add_names, names_of
 from twarp_tools.palette import place_of
-from twarp_tools.report import Report, read_report
+from twarp_tools.report import read_report
+from twarp_tools.standing import Standing, opening, reached
 
 DESCRIPTION = """\
 Draws a case as Graphviz text on standard output; dot -Tsvg makes the picture.
@@ -37,39 +37,6 @@ digraph {{
 BOX = '<TABLE BORDER="1" CELLBORDER="0" CELLSPACING="0" CELLPADDING="3" BGCOLOR="white" COLOR="#555555">{}</TABLE>'
 NAME_ROW = '<TR><TD BGCOLOR="{ground}"><B>{name}</B></TD></TR>'
 PATH_ROW = '<TR><TD ALIGN="LEFT"{ground}><FONT FACE="monospace" POINT-SIZE="11" COLOR="{ink}">{words}</FONT></TD></TR>'
-
-
-@dataclass
-class Standing:
-    """Where a run stands: the orders of paths, the links that are down, and each router's rib where that is known."""
-
-    orders: list[list[Nodes]]
-    down: set[frozenset[int]]
-    ribs: list[Nodes] | None
-
-
-def opening(case: Case) -> Standing:
-    return Standing(case.orders(), set(), None)
-
-
-def reached(case: Case, report: Report) -> Standing:
-    """Where the run stands that was reported: after what the scenario has below its bound."""
-    standing = opening(case)
-    scenes = (event for event in opening_events(case) if event.time < report.bound.value)
-    for scene in sorted(scenes, key=lambda scene: scene.key({})):
-        match scene.body:
-            case Fail(peer):
-                standing.down.add(frozenset((scene.dst, peer)))
-            case Restore(peer):
-                standing.down.discard(frozenset((scene.dst, peer)))
-            case Swap(first, second):
-                order, i, j = standing.orders[scene.dst], first - 1, second - 1
-                order[i], order[j] = order[j], order[i]
-    standing.ribs = [told.value.rib for told in report.routers]
-    for told in report.routers:
-        if told.value.rib and told.value.rib not in standing.orders[told.value.router]:
-            raise Refused.at_line(told.line, f"{write_path(told.value.rib)} is no path of this router in the case")
-    return standing
 
 
 # For each step from a router to a neighbour the places, from 0, of the paths that take it.

@@ -77,11 +77,11 @@ class Lanes:
         """That edge of the router's bar which is nearer to the height `other`."""
         return self.y(router) + math.copysign(self.bar / 2, other - self.y(router))
 
-    def draw(self, parent: Element, right: float) -> None:
+    def draw(self, lines: Element, names: Element, right: float) -> None:
         for router, name in self.names.items():
             y = self.y(router)
-            add(parent, "line", class_="lane", x1=self.left, y1=y, x2=right, y2=y)
-            add(parent, "text", name, class_="name", x=self.left - 18, y=y + 4)
+            add(lines, "line", class_="lane", x1=self.left, y1=y, x2=right, y2=y)
+            add(names, "text", name, class_="name", x=self.left - 18, y=y + 4)
 
 
 # Draws a sample of a mark around a point.

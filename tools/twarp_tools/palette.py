@@ -1,4 +1,4 @@
-"""The colours of paths: all pictures have the same for a path at the same place of its router's order."""
+"""The colours of pictures: all have the same for a path at the same place of its router's order."""
 from __future__ import annotations
 
 from dataclasses import dataclass
@@ -17,10 +17,10 @@ class Place:
 PLACES = [
     Place("1st", "#0072b2", "#ffffff"),
     Place("2nd", "#e69f00", "#000000"),
-    Place("3rd", "#009e73", "#ffffff"),
+    Place("3rd", "#009e73", "#000000"),
     Place("4th", "#cc79a7", "#000000"),
     Place("5th", "#56b4e9", "#000000"),
-    Place("6th", "#d55e00", "#ffffff"),
+    Place("6th", "#d55e00", "#000000"),
     Place("7th or later", "#7a6a9f", "#ffffff"),
 ]
 
@@ -28,3 +28,44 @@ PLACES = [
 def place_of(number: int) -> Place:
     """The look of a place counted from 0; all later places share the last one."""
     return PLACES[min(number, len(PLACES) - 1)]
+
+
+# What else has a colour, on light ground and on dark ground.
+LIGHT = {
+    "ground": "#fff",
+    "ink": "#222",
+    "quiet": "#666",
+    "lane": "#bbb",
+    "grid": "#ececec",
+    "hollow": "#999",
+    "wire": "#84898f",
+    "message": "#43505e",
+    "underway": "#9aa5b1",
+    "bad": "#c1121f",
+    "faint": "#e5a3a7",
+    "good": "#1a7f37",
+    "swap": "#7b2cbf",
+    "period": "#f4d35e",
+    "again": "#c79a00",
+    "hatch": "#e3e3e3",
+    "focus": "#0b57d0",
+}
+DARK = {
+    "ground": "#15181c",
+    "ink": "#e6e8ea",
+    "quiet": "#a3abb4",
+    "lane": "#4a525b",
+    "grid": "#262b31",
+    "hollow": "#8a939d",
+    "wire": "#747d87",
+    "message": "#b4bec9",
+    "underway": "#78828d",
+    "bad": "#ff7b7b",
+    "faint": "#8f5257",
+    "good": "#5fc97e",
+    "swap": "#c69bf0",
+    "period": "#8a7426",
+    "again": "#d9b13b",
+    "hatch": "#333941",
+    "focus": "#8ab4f8",
+}

@@ -3,7 +3,7 @@ from __future__ import annotations
 
 import argparse
 import random
-from collections.abc import Callable, Iterable, Iterator
+from collections.abc import Callable, Iterable, Iterator, Sequence
 from graphlib import CycleError, TopologicalSorter
 from pathlib import Path
 
@@ -19,15 +19,17 @@ from twarp_tools.case import (
     Link,
     LinkScene,
 )
-from twarp_tools.command import Input, Parser, Refused, number_between, tell, write_output
+from twarp_tools.command import Parser, Refused, number_between, range_between, tell, write_output
+from twarp_tools.packed import read_stream
 from twarp_tools.policy import Permitted
-from twarp_tools.topology import GREATEST_AS, Growth, Role, Topology, read_relationships
+from twarp_tools.topology import GREATEST_AS, Growth, Neighbours, Role, Topology, read_relationships
 
 DESCRIPTION = """\
 Makes a case of AS relationships, on standard output.
 
-The input has lines as provider|customer|-1 and peer|peer|0, as CAIDA publishes them; a fourth field is let pass, and so
-are lines that begin with #. The destination becomes router 0, and the ASes nearest to it the routers 1, 2, ..
+The input has lines as provider|customer|-1 and peer|peer|0, as CAIDA publishes them (serial-1, and serial-2, whose
+fourth field is let pass), and lines that begin with #. It may be packed by gzip or bzip2. The destination becomes
+router 0, and the ASes nearest to it the routers 1, 2, ..
 
 A path is permitted where it has no valley: it goes up to providers, then by at most one link between peers, then down
 to customers. Paths by way of customers are better than those by way of peers, and these better than those by way of
@@ -38,22 +40,15 @@ same bytes."""
 EXAMPLE = """\
 examples:
   tools/relationships --destination 1653 tools/research-networks.txt > case.spp
-  bzcat 20260101.as-rel2.txt.bz2 | tools/relationships --destination 1653 --routers 200 --delays 1-50 --seed 7 \\
-      --failures 10 --until 5000 --map ases.txt > case.spp"""
+  tools/relationships --destination 1653 --keep-connected 200 --delays 1-50 --seed 7 \\
+      --failures 10 --until 5000 --map ases.txt 20260101.as-rel2.txt.bz2 > case.spp"""
 
 
-def read_range(word: str) -> tuple[int, int]:
-    """A range of delays as 1-20; one number stands for itself alone."""
-    number = number_between(1, GREATEST_DELAY)
-    first, dash, last = word.partition("-")
-    least, greatest = number(first), number(last if dash else first)
-    if least > greatest:
-        raise argparse.ArgumentTypeError(f"{least} is more than {greatest}")
-    return least, greatest
-
-
-def command_line() -> argparse.Namespace:
+def command_line(words: Sequence[str] | None = None) -> argparse.Namespace:
+    """What the words ask for, or the tool's own command line where none are given."""
     parser = Parser(DESCRIPTION, EXAMPLE)
+    if words is not None:
+        parser.prog = "relationships"
 
     def option(name: str, metavar: str, kind: Callable[[str], object], default: object, words: str) -> None:
         words = f"{words} (default %(default)s)"
@@ -67,16 +62,27 @@ def command_line() -> argparse.Namespace:
         required=True,
         help="where all paths lead to",
     )
-    option("routers", "N", number_between(1, MOST_ROUTERS), MOST_ROUTERS, "take at most N ASes")
+    taken = parser.add_mutually_exclusive_group()
+    most = number_between(1, MOST_ROUTERS)
+    taken.add_argument(
+        "--routers",
+        metavar="N",
+        type=most,
+        default=MOST_ROUTERS,
+        help="take at most N ASes, the nearest (default %(default)s)",
+    )
+    taken.add_argument(
+        "--keep-connected", metavar="N", type=most, help="take at most N ASes by lot, each with a path of such ASes"
+    )
     option("paths", "N", number_between(1, MOST_PATHS), 20, "permit at most N paths at a router")
-    option("delays", "LOW-HIGH", read_range, "1-10", "draw the delays of links from this range")
-    option("seed", "N", number_between(0, GREATEST_TIME), 1, "draw delays and failures by this number")
+    option("delays", "LOW-HIGH", range_between(1, GREATEST_DELAY), "1-10", "draw the delays of links from this range")
+    option("seed", "N", number_between(0, GREATEST_TIME), 1, "draw ASes, delays and failures by this number")
     option("failures", "N", number_between(0, MOST_SCENES // 2), 0, "let N links fail and be repaired")
     option("until", "TIME", number_between(2, GREATEST_TIME), 1000, "repair no link later than this")
     parser.add_argument(
         "--map", metavar="FILE", help="write the number and the AS number of each router into this file"
     )
-    return parser.parse_args()
+    return parser.parse_args(words)
 
 
 def share(*what: object) -> float:
@@ -118,13 +124,26 @@ def case_of(topology: Topology, permitted: Permitted, line: argparse.Namespace) 
     return Case(len(numbers), links, paths, [*scenes])
 
 
+def growth_of(neighbours: Neighbours, line: argparse.Namespace) -> Growth:
+    """What the line takes of the input: the nearest ASes, or some drawn by lot."""
+    if line.keep_connected is None:
+        return Growth(neighbours, line.destination, line.routers)
+
+    def drawn(_hops: int, *ends: int) -> float:
+        return share(line.seed, "part", *sorted(ends))
+
+    return Growth(neighbours, line.destination, line.keep_connected, drawn)
+
+
 def tell_cuts(growth: Growth, permitted: Permitted, line: argparse.Namespace) -> None:
     """Says on standard error what of the input is not in the case."""
     ases, taken = len(growth.neighbours), len(growth.routers)
     crowded = len(growth.crowded - growth.routers.keys())
-    unreached = ases - taken - crowded if taken < line.routers else 0
+    most = line.keep_connected or line.routers
+    unreached = ases - taken - crowded if taken < most else 0
+    why = "being drawn" if line.keep_connected else f"nearer to AS {line.destination} being taken"
     counts = {
-        f"ASes left out, {taken:,} nearer to AS {line.destination} being taken": ases - taken,
+        f"ASes left out, {taken:,} {why}": ases - taken,
         f"of these, ASes that no router with less than {MOST_LINKS} links could be linked to": crowded,
         f"of these, ASes without a path that has no valley and at most {MOST_NODES} nodes": unreached,
         f"links left out because a router has at most {MOST_LINKS}": growth.left_out_links(),
@@ -145,14 +164,24 @@ def tell_circle(topology: Topology) -> None:
         tell(f"each of these is a provider of the next, so it is not sure that the case comes to rest: {circle}")
 
 
-def main() -> None:
-    line = command_line()
-    neighbours = Input.of(line.input).read(read_relationships)
+def read(line: argparse.Namespace) -> Neighbours:
+    """The relationships of the line's input."""
+    neighbours = read_stream(line.input, read_relationships)
     if line.destination not in neighbours:
         raise Refused(f"refused option --destination: the input has no AS {line.destination}")
-    growth = Growth(neighbours, line.destination, line.routers)
+    return neighbours
+
+
+def make(neighbours: Neighbours, line: argparse.Namespace) -> tuple[Growth, Permitted, Case]:
+    """What the line takes of the relationships, and the case of it."""
+    growth = growth_of(neighbours, line)
     permitted = Permitted(growth.topology, line.paths)
-    case = case_of(growth.topology, permitted, line)
+    return growth, permitted, case_of(growth.topology, permitted, line)
+
+
+def main() -> None:
+    line = command_line()
+    growth, permitted, case = make(read(line), line)
     tell_cuts(growth, permitted, line)
     tell_circle(growth.topology)
     if line.map:

@@ -6,7 +6,7 @@ from xml.etree.ElementTree import Element
 from twarp_tools.lanes import TOP, Lanes, Sample, View, draw_legend, sample_box, sample_line
 from twarp_tools.machine import Fate, Handling, History, Signed
 from twarp_tools.report import Replay, Step
-from twarp_tools.svg import Picture, add
+from twarp_tools.svg import Picture, add, clipped
 
 COLUMN = 52.0
 LETTER_WIDTH = 6.4
@@ -59,8 +59,9 @@ class ReplayPicture:
     def draw(self, title: str, subtitle: str) -> str:
         picture = Picture(title, subtitle)
         self.draw_steps(picture.root)
-        self.lanes.draw(picture.root, self.right)
-        area = picture.clipped(self.lanes.left, TOP - 8, self.right - self.lanes.left, self.lanes.bottom - TOP + 16)
+        self.lanes.draw(picture.root, picture.root, self.right)
+        width, height = self.right - self.lanes.left, self.lanes.bottom - TOP + 16
+        area = clipped(picture.root, self.lanes.left, TOP - 8, width, height)
         for message in self.messages:
             self.draw_message(area, message)
         for handling in self.handlings:

@@ -102,7 +102,7 @@ class Step:
 
 
 REPLAY_HEADER = "spp-replay 1"
-ROUTER_LINE = f"router {{router}} sent ({NUMBER}) handled ({NUMBER}) dropped ({NUMBER}) changed ({NUMBER}) rib ({PATH})"
+ROUTER_LINE = f"router ({NUMBER}) sent ({NUMBER}) handled ({NUMBER}) dropped ({NUMBER}) changed ({NUMBER}) rib ({PATH})"
 VERDICT_LINE = f"verdict (?:quiet ({NUMBER})|oscillates from ({NUMBER}) period ({NUMBER})|open)"
 ANSWER_LINE = "step {step} (?:ok|refused ([A-Z][0-9]+ [A-Za-z]+))"
 LOOSE_LINE = f"flight {NUMBER} pending {NUMBER} kept {NUMBER} ahead {NUMBER}"
@@ -128,7 +128,7 @@ class Cursor:
             raise Refused.at_line(self.number, f"the text ends where {wanted} should stand")
         found = re.fullmatch(pattern, self.line.text)
         if not found:
-            raise Refused.at_line(self.number, f"{self.line.text[:80]!r} stands where {wanted} should stand")
+            raise misplaced(self.number, self.line.text, wanted)
         if not self.line.is_ended:
             raise Refused.at_line(self.number, "the line is not ended")
         self.advance()
@@ -151,8 +151,11 @@ class Cursor:
         """The router line of each router, in ascending order."""
         routers = []
         for router in range(nodes):
-            told = self.take(ROUTER_LINE.format(router=router), f"an event or the line of router {router}")
-            sent, handled, dropped, changed, rib = told.value.groups()
+            wanted = f"an event or the line of router {router}"
+            told = self.take(ROUTER_LINE, wanted)
+            number, sent, handled, dropped, changed, rib = told.value.groups()
+            if int(number) != router:
+                raise misplaced(told.line, told.value[0], wanted)
             line = RouterLine(router, int(sent), int(handled), int(dropped), int(changed), read_path(rib))
             routers.append(Told(told.line, line))
         return routers
@@ -170,6 +173,11 @@ class Cursor:
     def take_end(self) -> None:
         if self.line is not None:
             raise Refused.at_line(self.number, f"{self.line.text[:80]!r} stands where the text should end")
+
+
+def misplaced(number: int, text: str, wanted: str) -> Refused:
+    """What is wrong with a line that is not the one wanted."""
+    return Refused.at_line(number, f"{text[:80]!r} stands where {wanted} should stand")
 
 
 def read_report(text: bytes, nodes: int) -> Report:

@@ -3,7 +3,7 @@ from __future__ import annotations
 
 import enum
 import heapq
-from collections.abc import Iterable
+from collections.abc import Callable, Iterable
 from dataclasses import dataclass, field
 
 from twarp_tools.case import Case
@@ -89,8 +89,12 @@ class Follower:
             message.fate = Fate.DROPPED if router.dropped > before.dropped else Fate.HEARD
 
 
-def follow(case: Case, report: Report) -> Run:
-    """What the report's events did; refused at the first line that is not the case's run."""
+# Sees an event and its router, which has handled it.
+Witness = Callable[[Event, Router], None]
+
+
+def follow(case: Case, report: Report, witness: Witness | None = None) -> Run:
+    """What the report's events did, each shown to the witness; refused at the first line that is not the case's run."""
     follower = Follower(case)
     end = report.routers[0]
     if end.value.handled and not report.events:
@@ -100,6 +104,8 @@ def follow(case: Case, report: Report) -> Run:
         if told.value != least:
             raise Refused.at_line(told.line, f"in the run of this case {written(least)} stands here")
         follower.handle_least()
+        if witness:
+            witness(told.value, follower.routers[told.value.dst])
     least = follower.least()
     if least and least.time < report.bound.value:
         raise Refused.at_line(end.line, f"in the run of this case {written(least)} stands here")

@@ -14,7 +14,7 @@ from twarp_tools.lines import Nodes, write_path
 from twarp_tools.palette import PLACES, place_of
 from twarp_tools.report import Oscillates, Quiet, Report
 from twarp_tools.run import Change, Fate, Message, Run
-from twarp_tools.svg import Picture, add
+from twarp_tools.svg import Picture, add, clipped
 
 # Beyond so many failures and repairs what happens to a link stands in tooltips alone.
 MOST_NOTES = 16
@@ -84,7 +84,6 @@ class RunPicture:
             if message.event.dst in view.shown and view.meets(message.sent, message.event.time)
         ]
         self.scenes = [scene for scene in run.scenes if scene.dst in view.shown and view.meets(scene.time, scene.time)]
-        view.refuse_crowd(len(self.bars) + len(self.messages) + len(self.scenes))
         self.lanes = Lanes(view)
         self.axis = self.fit_axis()
         is_at_rest = isinstance(report.verdict, Quiet) and view.last >= last_time(report)
@@ -98,30 +97,35 @@ class RunPicture:
         return fit(first, last, self.lanes.left, len(moments), spans)
 
     def draw(self, title: str, subtitle: str) -> str:
+        self.view.refuse_crowd(len(self.bars) + len(self.messages) + len(self.scenes))
         picture = Picture(title, subtitle)
-        self.draw_period(picture.root)
-        self.draw_axis(picture.root)
-        self.lanes.draw(picture.root, self.right)
+        self.draw_onto(picture.root, picture.root, picture.root)
+        right = max(self.right, 640.0)
+        return picture.text(right + 16, draw_legend(picture.root, right, self.lanes.bottom + 34, self.legend()))
+
+    def draw_onto(self, ground: Element, times: Element, names: Element) -> None:
+        """Draws all but the titles and the legend: the times of the axis and the lanes' names where these are to be."""
+        self.draw_period(ground)
+        self.draw_axis(ground, times)
+        self.lanes.draw(ground, names, self.right)
         left = self.axis.x(self.view.first) - 10
-        area = picture.clipped(left, TOP - 14, self.right - left, self.lanes.bottom - TOP + 28)
+        area = clipped(ground, left, TOP - 14, self.right - left, self.lanes.bottom - TOP + 28)
         for message in self.messages:
             self.draw_message(area, message)
         for bar in self.bars:
             self.draw_bar(area, bar)
         for scene in self.scenes:
             self.draw_scene(area, scene)
-        right = max(self.right, 640.0)
-        return picture.text(right + 16, draw_legend(picture.root, right, self.lanes.bottom + 34, self.legend()))
 
-    def draw_axis(self, parent: Element) -> None:
-        add(parent, "text", "time", class_="quiet name", x=self.lanes.left - 18, y=TOP - 14)
+    def draw_axis(self, lines: Element, times: Element) -> None:
+        add(times, "text", "time", class_="quiet name", x=self.lanes.left - 18, y=TOP - 14)
         for time in self.axis.ticks():
             x = self.axis.x(time)
-            add(parent, "line", class_="grid", x1=x, y1=TOP - 8, x2=x, y2=self.lanes.bottom)
-            add(parent, "text", f"{time:,}", class_="quiet middle", x=x, y=TOP - 14)
+            add(lines, "line", class_="grid", x1=x, y1=TOP - 8, x2=x, y2=self.lanes.bottom)
+            add(times, "text", f"{time:,}", class_="quiet middle", x=x, y=TOP - 14)
         for start, end in self.axis.folds:
             tooltip = f"nothing happens from {start:,} to {end:,}"
-            self.draw_stretch(parent, start, end, "fold", tooltip)
+            self.draw_stretch(lines, start, end, "fold", tooltip)
 
     def draw_period(self, parent: Element) -> None:
         """Shades the period that the verdict found, and marks where it begins again."""
@@ -156,8 +160,11 @@ class RunPicture:
         else:
             add(group, "rect", class_="hollow", **box)
         if LETTER_WIDTH * len(words) + 6 <= end - start:
-            ink = self.places[bar.path].ink if bar.path else "#555"
-            add(group, "text", words, class_="path", style=f"fill:{ink}", x=start + 4, y=y + 3.8)
+            at = {"x": start + 4, "y": y + 3.8}
+            if bar.path:
+                add(group, "text", words, class_="path", style=f"fill:{self.places[bar.path].ink}", **at)
+            else:
+                add(group, "text", words, class_="path quiet", **at)
 
     def draw_message(self, parent: Element, message: Message) -> None:
         event = message.event

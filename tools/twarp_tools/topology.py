@@ -4,14 +4,17 @@ from __future__ import annotations
 import enum
 import heapq
 import re
+from array import array
 from collections import defaultdict
+from collections.abc import Callable, Iterable
 from dataclasses import dataclass, field
 
 from twarp_tools.case import MOST_LINKS, MOST_NODES
 from twarp_tools.command import Refused
-from twarp_tools.lines import lines_of
 
 GREATEST_AS = 4_294_967_295
+AN_AS = re.compile("[0-9]{1,10}")
+A_RELATIONSHIP = re.compile(rb"\s*([0-9]{1,10})\|([0-9]{1,10})\|(-1|0)(?:\|[^|]*)?\s*")
 
 
 class Role(enum.IntEnum):
@@ -22,45 +25,49 @@ class Role(enum.IntEnum):
     PROVIDER = 3
 
 
-RELATIONSHIPS = {"-1": (Role.CUSTOMER, Role.PROVIDER), "0": (Role.PEER, Role.PEER)}
+RELATIONSHIPS = {b"-1": (Role.CUSTOMER, Role.PROVIDER), b"0": (Role.PEER, Role.PEER)}
 
 # For each AS what its neighbours are to it.
 Neighbours = dict[int, dict[int, Role]]
 
 
-def read_relationships(text: bytes) -> Neighbours:
+def read_relationships(lines: Iterable[bytes]) -> Neighbours:
     """Reads lines as `provider|customer|-1` and `peer|peer|0`; a fourth field is let pass."""
     neighbours: Neighbours = defaultdict(dict)
-    known: dict[frozenset[int], int] = {}
-    for line in lines_of(text):
-        content = line.text.strip()
-        if not content or content.startswith("#"):
+    # Each line's two ASes as one number, 0 where it has none, in the little room that a million lines ask for.
+    pairs = array("Q")
+    for number, line in enumerate(lines, 1):
+        found = A_RELATIONSHIP.fullmatch(line)
+        if not found:
+            refuse_other(number, line)
+            pairs.append(0)
             continue
-        try:
-            a, b, relationship = read_relationship(content)
-        except ValueError as fault:
-            raise Refused.at_line(line.number, str(fault)) from None
-        pair = frozenset((a, b))
-        if pair in known:
-            raise Refused.at_line(line.number, f"AS {a} and AS {b} stand together on line {known[pair]} already")
-        known[pair] = line.number
-        neighbours[a][b], neighbours[b][a] = RELATIONSHIPS[relationship]
+        a, b = int(found[1]), int(found[2])
+        if a == b or not (0 < a <= GREATEST_AS and 0 < b <= GREATEST_AS):
+            refuse_other(number, line)
+        row = neighbours[a]
+        if b in row:
+            first = 1 + min(pairs.index(pair) for pair in (a << 32 | b, b << 32 | a) if pair in pairs)
+            raise Refused.at_line(number, f"AS {a} and AS {b} stand together on line {first} already")
+        row[b], neighbours[b][a] = RELATIONSHIPS[found[3]]
+        pairs.append(a << 32 | b)
     return neighbours
 
 
-def read_relationship(content: str) -> tuple[int, int, str]:
-    """The two ASes of a line and their relationship; a ValueError says what is wrong."""
+def refuse_other(number: int, line: bytes) -> None:
+    """Refuses a line that has no relationship, where it is neither empty nor a comment."""
+    content = line.decode("utf-8", "replace").strip()
+    if not content or content.startswith("#"):
+        return
     fields = content.split("|")
     if len(fields) not in (3, 4):
-        raise ValueError(f"there are {len(fields)} fields where 3 or 4 are wanted, with | between them")
+        raise Refused.at_line(number, f"there are {len(fields)} fields where 3 or 4 are wanted, with | between them")
     for word in fields[:2]:
-        if not re.fullmatch("[0-9]{1,10}", word) or not 1 <= int(word) <= GREATEST_AS:
-            raise ValueError(f"{word!r} is no AS number")
-    if fields[2] not in RELATIONSHIPS:
-        raise ValueError(f"the relationship {fields[2]!r} is neither -1 nor 0")
-    if int(fields[0]) == int(fields[1]):
-        raise ValueError(f"AS {int(fields[0])} is its own neighbour")
-    return int(fields[0]), int(fields[1]), fields[2]
+        if not AN_AS.fullmatch(word) or not 1 <= int(word) <= GREATEST_AS:
+            raise Refused.at_line(number, f"{word!r} is no AS number")
+    if fields[2] not in ("-1", "0"):
+        raise Refused.at_line(number, f"the relationship {fields[2]!r} is neither -1 nor 0")
+    raise Refused.at_line(number, f"AS {int(fields[0])} is its own neighbour")
 
 
 @dataclass
@@ -79,24 +86,33 @@ class Topology:
         return [(a, b) for a, row in enumerate(self.roles) for b in sorted(row) if a < b]
 
 
+# At which place a path is looked at, by its hops and its last link's two ASes: the least comes first.
+Place = Callable[[int, int, int], float]
+
+
+def nearest_first(hops: int, _number: int, _peer: int) -> float:
+    return hops
+
+
 class Growth:
-    """A topology that grows from the destination, the nearest ASes first.
+    """A topology that grows from the destination, the nearest ASes first where no other place is given.
 
     An AS is as far as its shortest path that goes up to providers, then by at most one link between peers, then down to
     customers: that is, as its shortest path without a valley.
     """
 
-    def __init__(self, neighbours: Neighbours, destination: int, most: int):
+    def __init__(self, neighbours: Neighbours, destination: int, most: int, place: Place = nearest_first):
         self.neighbours = neighbours
+        self.place = place
         self.topology = Topology()
         self.routers: dict[int, int] = {}
         # ASes that found no room at a neighbour.
         self.crowded: set[int] = set()
-        # Paths found: hops, AS, whether the path does not go by customers alone, the next AS.
-        self.found = [(0, destination, False, destination)]
+        # Paths found: place, hops, AS, whether the path does not go by customers alone, the next AS.
+        self.found = [(0.0, 0, destination, False, destination)]
         settled: set[tuple[int, bool]] = set()
         while self.found and len(self.routers) < most:
-            hops, number, is_restricted, by = heapq.heappop(self.found)
+            _, hops, number, is_restricted, by = heapq.heappop(self.found)
             is_known = (number, False) in settled or (number, is_restricted) in settled
             if not is_known and self.is_linked(number, by):
                 settled.add((number, is_restricted))
@@ -132,7 +148,8 @@ class Growth:
             return
         for peer, role in self.neighbours[number].items():
             if role is Role.CUSTOMER or not is_restricted:
-                heapq.heappush(self.found, (hops + 1, peer, role is not Role.PROVIDER, number))
+                place = self.place(hops + 1, number, peer)
+                heapq.heappush(self.found, (place, hops + 1, peer, role is not Role.PROVIDER, number))
 
     def left_out_links(self) -> int:
         """How many links between the ASes taken found no room."""

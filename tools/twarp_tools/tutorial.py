@@ -1,6 +1,7 @@
 """The tutorial's commands, run one after the other as a reader would; the tool pictures keeps what they draw."""
 from __future__ import annotations
 
+import os
 import re
 import shutil
 import subprocess
@@ -58,11 +59,12 @@ def lay_out(folder: Path, program: Path) -> None:
     script.chmod(0o755)
 
 
-def run(command: Command, folder: Path) -> str:
-    """What a terminal shows of a command that is run in the folder."""
+def run(command: Command, folder: Path, program: Path) -> str:
+    """What a terminal shows of a command that is run in the folder, where tools that start a program start this one."""
     done = subprocess.run(
         ["sh", "-c", command.text],
         cwd=folder,
+        env=os.environ | {"TWARP": str(program.resolve())},
         stdin=subprocess.DEVNULL,
         stdout=subprocess.PIPE,
         stderr=subprocess.STDOUT,
@@ -75,7 +77,7 @@ def follow(page: str, folder: Path, program: Path) -> Iterator[tuple[Command, st
     """Runs the page's commands in an empty folder, one after the other, and gives what each writes."""
     lay_out(folder, program)
     for command in commands_of(page):
-        yield command, run(command, folder)
+        yield command, run(command, folder, program)
 
 
 DESCRIPTION = """\

@@ -9,3 +9,7 @@ pub mod Tables
 pub mod Spares
 pub mod Rings
 pub mod Merged
+pub mod Turns
+pub mod Stacked
+pub mod Widths
+pub mod Rotated

@@ -1,8 +1,11 @@
 -- The events of a ring and of a heap together.
-use Rattle.std.proofs.Common.{IfNone, IfSome, IsTrue, ◌≡◌, ◌<◌, ◌≤◌, ◌++◌, nat_lt, ℕ, Bool, true, false, Some, None, List, [], ◌∷◌, length, drop, slice_get, refl, ap, sym, ◌∙◌, subst, inl, inr, arith}
+use Rattle.std.proofs.Common.{IfNone, IfSome, IsTrue, ◌≡◌, ◌<◌, ◌≤◌, ◌++◌, nat_lt, ℕ, Bool, true, false, Option, Some, None, List, [], ◌∷◌, length, drop, slice_get, refl, ap, sym, ◌∙◌, subst, inl, inr, arith}
 use Rattle.std.specs.List.Sorted.{IsPermutation}
 use Rattle.std.specs.BinaryHeap.{IsUpperBound}
 use Rattle.std.specs.Bool.{OnFalse, OnTrue}
+use Rattle.std.specs.Result.{OnOk}
+use Rattle.std.specs.declared.result.Result.{Result}
+use Rattle.std.specs.declared.result.Result.TheVariants.{Ok, Err}
 use Rattle.std.specs.declared.cmp.Reverse.{Reverse}
 use Rattle.std.proofs.lemmas.Bool.{cases_Bool, false≢true, lt-ltb}
 use Rattle.std.proofs.lemmas.List.Sorted.{IsPermutation-map}
@@ -17,7 +20,7 @@ use Rattle.tw_queue.specs.InOrder.{in_order}
 use Rattle.tw_queue.specs.Queue.{AreFor, IsQueue}
 use Rattle.tw_queue.specs.Table.{first_time, never}
 use Rattle.tw_queue.proofs.Ordered.{all-in_order, cases_zero, in_order-permutation, in_order-times, rising-in_order, times-in_order}
-use Rattle.tw_queue.proofs.Events.{IsLeast, before_by_time, event_law, first_is_least, first_of_least, first_popped, homes_popped, homes_pushed, later, least_is, none_first, same_some}
+use Rattle.tw_queue.proofs.Events.{IsLeast, before_by_time, event_law, first_is_least, first_of_least, first_popped, homes_popped, homes_pushed, later, least_is, none_first, not_before_first, not_earlier, same_some}
 use Rattle.tw_queue.proofs.Lists.{times-append}
 use Rattle.tw_queue.proofs.Tables.{in_order_rising, nothing}
 
@@ -95,7 +98,7 @@ none_of [] h = refl
 none_of (x ∷ xs) h = absurd (none-some x (sym h))
 
 -- what goes in first comes out first
-insert_taken : (x : Event) (xs : List Event) → slice_get (insert event_before x xs) 0 ≡ Some x → drop 1 (insert event_before x xs) ≡ xs
+pub insert_taken : (x : Event) (xs : List Event) → slice_get (insert event_before x xs) 0 ≡ Some x → drop 1 (insert event_before x xs) ≡ xs
 insert_taken x [] h = refl
 insert_taken x (y ∷ ys) h =
     elim (cases_Bool (event_before y x)) [
@@ -221,3 +224,61 @@ on_true false f p = tt
 pub on_false : {P Q : Type 0} (b : Bool) → (P → Q) → OnFalse b P → OnFalse b Q
 on_false true f p = tt
 on_false false f p = f p
+
+pub on_ok : {T E : Type 0} {P Q : Type 0} (r : Result T E) → (P → Q) → OnOk r P → OnOk r Q
+on_ok (Ok x) f p = f p
+on_ok (Err x) f p = tt
+
+-- which of two lists in order has the least event
+module _ (xs ys : List Event) (rx : IsRising event_before event_same xs) (ry : IsRising event_before event_same ys) where
+  pub right_is_first : (x y : Event) → slice_get xs 0 ≡ Some x → slice_get ys 0 ≡ Some y → event_before y x ≡ true → slice_get (in_order event_before (xs ++ ys)) 0 ≡ Some y
+  right_is_first x y h k b = least_right x y xs ys (least_of_rising x xs rx h) (least_of_rising y ys ry k) b
+
+  pub left_is_first : (x y : Event) → slice_get xs 0 ≡ Some x → slice_get ys 0 ≡ Some y → event_before y x ≡ false → slice_get (in_order event_before (xs ++ ys)) 0 ≡ slice_get xs 0
+  left_is_first x y h k b = least_left x y xs ys (least_of_rising x xs rx h) (least_of_rising y ys ry k) b ∙ sym h
+
+  pub right_alone : slice_get xs 0 ≡ None → slice_get (in_order event_before (xs ++ ys)) 0 ≡ slice_get ys 0
+  right_alone h = ap (λ zs. slice_get (in_order event_before (zs ++ ys)) 0) (none_of xs h) ∙ ap (λ zs. slice_get zs 0) (in_order_rising ys ry)
+
+-- the first time of a list that rises is not after any
+pub first_time_low : (xs : List Event) → IsRising event_before event_same xs → (e : Event) → 0 < times event_same e xs → first_time xs ≤ e.time
+first_time_low [] r e there = absurd (omega arith)
+first_time_low (x ∷ xs) r e there = not_earlier e x ((least_of_rising x (x ∷ xs) r refl).first e there)
+
+-- a ring whose first time is before all others
+pub sooner_ring : (ring others : List Event) (n : ℕ) → IsRising event_before event_same ring → n ≤ never → first_time ring < n → ((e : Event) → 0 < times event_same e others → n ≤ e.time)
+    → slice_get (in_order event_before (ring ++ others)) 0 ≡ slice_get ring 0
+sooner_ring [] others n r m l h = absurd (omega arith)
+sooner_ring (x ∷ xs) others n r m l h =
+    let least = least_of_rising x (x ∷ xs) r refl in
+    first_of_least x ((x ∷ xs) ++ others) (record {
+      there =
+          let c = times-append x (x ∷ xs) others in
+          let o = least.there in
+          omega arith;
+      first = λ z there.
+          let c = times-append z (x ∷ xs) others in
+          elim (cases_zero (times event_same z (x ∷ xs))) [
+            | inl q ↦
+                let late = h z (omega arith) in
+                not_before_first x z (omega arith) (λ k. absurd (omega arith))
+            | inr o ↦ least.first z o
+          ];
+    })
+
+-- a time that is before all events is before the first
+pub soonest_told : (m : ℕ) (xs ys : List Event) → ((e : Event) → 0 < times event_same e xs → m ≤ e.time) → ((e : Event) → 0 < times event_same e ys → m ≤ e.time)
+    → (o : Option Event) → slice_get (in_order event_before (xs ++ ys)) 0 ≡ o → IfSome o (λ e. m ≤ e.time)
+soonest_told m xs ys h k None q = tt
+soonest_told m xs ys h k (Some e) q =
+    let there = (least_is e (xs ++ ys) q).there in
+    let n = times-append e xs ys in
+    elim (cases_zero (times event_same e xs)) [
+      | inl z ↦ k e (omega arith)
+      | inr o ↦ h e o
+    ]
+
+-- what is before a time that no event is before comes before the first
+pub sooner_by_time : (top : Event) (xs : List Event) (n : ℕ) → top.time < n → IfSome (slice_get xs 0) (λ e. n ≤ e.time) → IfSome (slice_get xs 0) (λ e. true ≡ event_before top e)
+sooner_by_time top [] n l h = tt
+sooner_by_time top (x ∷ xs) n l h = sym (before_by_time top x (λ q. omega arith) ∙ lt-ltb top.time x.time (omega arith))

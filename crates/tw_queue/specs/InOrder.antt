@@ -15,6 +15,11 @@ abbrev pub earlier : Event → Option Event → Event
 earlier e None = e
 earlier e (Some d) = cond (event_before d e) d e
 
+-- the one of two events that comes first, where there are any
+abbrev pub earlier_of : Option Event → Option Event → Option Event
+earlier_of least None = least
+earlier_of least (Some e) = Some (earlier e least)
+
 -- the least of one event and of a list
 abbrev pub least_with : Option Event → List Event → Option Event
 least_with least [] = least

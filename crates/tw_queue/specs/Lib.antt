@@ -6,4 +6,7 @@ pub mod Table
 pub mod Least
 pub mod Pending
 pub mod Ring
+pub mod Turn
+pub mod Level
+pub mod Wheels
 pub mod Update

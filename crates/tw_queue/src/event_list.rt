@@ -7,7 +7,7 @@ ghost use Rattle.tw_queue.specs.InOrder.{in_order};
 ghost use Rattle.tw_queue.specs.Queue.{IsQueue};
 ghost use Rattle.tw_sim.specs.Ordered.{insert, insert_all};
 
-use crate::ring::Ring;
+use crate::calendar::Calendar;
 use crate::search::comes_before;
 use std::alloc::{AllocError, Global};
 use std::cmp::Reverse;
@@ -18,13 +18,14 @@ use tw_event::Event;
 /// Events that wait to be handled, each as often as it was inserted.
 ///
 /// The least one comes out fast. Paths that arrive in the next 64 ticks stand in buckets of one tick, which is
-/// put in order when it is begun, and all other events in a heap. [`Pending`](crate::Pending) also answers for one
-/// router, and takes an event out wherever it stands.
+/// put in order when it is begun, and later ones in wheels of wider and wider buckets, up to 2^24 ticks ahead. All
+/// other events stand in a heap. [`Pending`](crate::Pending) also answers for one router, and takes an event out
+/// wherever it stands.
 #[derive(Drop)]
 pub struct EventList {
     alloc: Global,
     routers: u32,
-    ring: Ring,
+    calendar: Calendar,
     heap: BinaryHeap<Reverse<Event>>,
 }
 
@@ -38,9 +39,9 @@ impl Model for EventList {
 
     ghost Value = { Queue };
 
-    ghost view = { λ a. record { routers = a.routers; events = in_order event_before (a.ring ++ heap_events (heap_items a.heap)); room = heap_capacity a.heap - heap_len a.heap } };
+    ghost view = { λ a. record { routers = a.routers; events = in_order event_before (a.calendar ++ heap_events (heap_items a.heap)); room = heap_capacity a.heap - heap_len a.heap } };
 
-    ghost invariant = { λ a. IsHeap ⟦<Reverse<Event> as Ord>⟧.cmp (heap_items a.heap) × AreFor a.routers (a.ring ++ heap_events (heap_items a.heap)) };
+    ghost invariant = { λ a. IsHeap ⟦<Reverse<Event> as Ord>⟧.cmp (heap_items a.heap) × AreFor a.routers (a.calendar ++ heap_events (heap_items a.heap)) };
 }
 
 impl EventList {
@@ -49,11 +50,11 @@ impl EventList {
         ensures routers { IfOk result (λ q. q.routers ≡ routers) }
         ensures empty { IfOk result (λ q. q.events ≡ []) }
     {
-        let ring = Ring::new(alloc, routers)?;
+        let calendar = Calendar::new(alloc, routers)?;
         Ok(EventList {
             alloc,
             routers,
-            ring,
+            calendar,
             heap: BinaryHeap::new(alloc),
         })
     }
@@ -80,7 +81,7 @@ impl EventList {
         ensures routers { self.new.routers ≡ self.old.routers }
         ensures room { self.old.room ≤ self.new.room + 1 }
     {
-        if self.ring.insert(event) {
+        if self.calendar.insert(event) {
             return Ok(());
         }
         self.heap.push(Reverse(*event))?;
@@ -118,8 +119,8 @@ impl EventList {
         ensures none { OnFalse result (event.new ≡ event.old) }
         ensures queue { IsQueue self.now }
     {
-        if !is_heap_first(&self.ring, &self.heap) {
-            return self.ring.copy_least(event);
+        if !is_heap_first(&self.calendar, &self.heap) {
+            return self.calendar.copy_least(event);
         }
         copy_top(&self.heap, event)
     }
@@ -131,14 +132,14 @@ impl EventList {
         ensures routers { self.new.routers ≡ self.old.routers }
         ensures room { self.old.room ≤ self.new.room }
     {
-        if !is_heap_first(&self.ring, &self.heap) {
-            self.ring.skip_least();
+        if !is_heap_first(&self.calendar, &self.heap) {
+            self.calendar.skip_least();
             return;
         }
         let Some(event) = self.heap.pop() else {
             return;
         };
-        self.ring.go_to(event.0.time);
+        self.calendar.go_to(event.0.time);
     }
 
     /// Takes out the least event.
@@ -162,14 +163,14 @@ impl EventList {
         ensures { self.new ≡ self.old }
     {
         // Of most calls nothing is to be done, and then the heap is not looked at.
-        if self.ring.has_tick_at_hand() {
+        if self.calendar.has_tick_at_hand() {
             return;
         }
         let latest = match self.heap.peek() {
             Some(first) => first.0.time,
             None => u64::MAX,
         };
-        self.ring.begin_tick(latest);
+        self.calendar.begin_tick(latest);
     }
 
     /// All events, in any order.
@@ -178,7 +179,7 @@ impl EventList {
         ensures queue { IsQueue self.now }
     {
         let mut events = collect_events(self.alloc, self.heap.as_slice())?;
-        self.ring.append_to(&mut events)?;
+        self.calendar.append_to(&mut events)?;
         Ok(events)
     }
 
@@ -193,36 +194,39 @@ impl EventList {
     }
 }
 
-// Whether the least event of all is that of the heap, and not that of the ring.
+// Whether the least event of all is that of the heap, and not that of the calendar.
 #[inline(always)]
-fn is_heap_first(ring: &Ring, heap: &BinaryHeap<Reverse<Event>>) -> bool
+fn is_heap_first(calendar: &Calendar, heap: &BinaryHeap<Reverse<Event>>) -> bool
     requires { IsHeap ⟦<Reverse<Event> as Ord>⟧.cmp (heap_items heap.now) }
     ensures heap { OnTrue result
-        (slice_get (in_order event_before (ring.now ++ heap_events (heap_items heap.now))) 0 ≡ slice_get (in_order event_before (heap_events (heap_items heap.now))) 0) }
+        (slice_get (in_order event_before (calendar.now ++ heap_events (heap_items heap.now))) 0 ≡ slice_get (in_order event_before (heap_events (heap_items heap.now))) 0) }
     ensures some { OnTrue result (0 < length (heap_items heap.now)) }
-    ensures ring { OnFalse result
-        (slice_get (in_order event_before (ring.now ++ heap_events (heap_items heap.now))) 0 ≡ slice_get ring.now 0) }
+    ensures calendar { OnFalse result
+        (slice_get (in_order event_before (calendar.now ++ heap_events (heap_items heap.now))) 0 ≡ slice_get calendar.now 0) }
 {
-    let _ = ring.taken();
+    let soonest = calendar.soonest();
     let Some(top) = heap.peek() else {
         return false;
     };
     // Times mostly differ, and cost less to compare than whole events.
-    let time = ring.least_time();
+    if top.0.time < soonest {
+        return true;
+    }
+    let time = calendar.least_time();
     if top.0.time != time {
         return top.0.time < time;
     }
-    comes_before_all(&top.0, ring)
+    comes_before_all(&top.0, calendar)
 }
 
-// Whether an event comes before all events of a ring.
+// Whether an event comes before all events of a calendar.
 #[inline(never)]
-fn comes_before_all(event: &Event, ring: &Ring) -> bool
-    ensures first { IfSome (slice_get ring.now 0) (λ e. result ≡ event_before event.now e) }
-    ensures none { IfNone (slice_get ring.now 0) (IsTrue result) }
+fn comes_before_all(event: &Event, calendar: &Calendar) -> bool
+    ensures first { IfSome (slice_get calendar.now 0) (λ e. result ≡ event_before event.now e) }
+    ensures none { IfNone (slice_get calendar.now 0) (IsTrue result) }
 {
     let mut least = Event::default();
-    !ring.copy_least(&mut least) || comes_before(event, &least)
+    !calendar.copy_least(&mut least) || comes_before(event, &least)
 }
 
 // Copies the least event of a heap, where there is one, and tells whether there is.

@@ -5,8 +5,12 @@
 //! again and again.
 #![tactic(auto)]
 
+mod bucket;
+mod calendar;
 mod event_list;
 mod least_times;
+mod level;
+mod marks;
 mod pending;
 mod policy;
 mod queue_table;
@@ -15,6 +19,7 @@ mod router_queue;
 mod search;
 mod tick;
 mod update;
+mod wheels;
 
 pub use event_list::EventList;
 pub use pending::Pending;

@@ -4,36 +4,29 @@ ghost use Rattle.std.specs.Bool.{OnFalse, OnTrue};
 ghost use Rattle.tw_event.specs.declared.event.Event.{Event};
 ghost use Rattle.tw_event.specs.Order.{event_before, event_same};
 ghost use Rattle.tw_queue.specs.Buckets.{together};
-ghost use Rattle.tw_queue.specs.Ring.{slot_at};
-ghost use Rattle.tw_queue.specs.Table.{first_time, never};
+ghost use Rattle.tw_queue.specs.Table.{first_time};
 ghost use Rattle.tw_sim.specs.Ordered.{insert, times};
 ghost use Rattle.tw_sim.specs.Rising.{IsRising};
 
+use crate::marks::{first_place, is_ahead, slot_of, with_mark, without_mark};
 use crate::tick::{Tick, append_all};
 use crate::update::Update;
 use std::alloc::{AllocError, Global};
 use std::array;
 use std::marker::Model;
 use tw_event::Event;
-use tw_lanes::least_time;
-
-/// How many ticks have a bucket.
-const BUCKETS: u64 = 64;
 
 /// The events of a tick in order, and those of later ticks in buckets, a tick in each.
 ///
-/// An event at time t, in ticks, is in the bucket with the number t mod 64. A row beside the buckets has
-/// their times, and `u64::MAX` for one that is empty.
+/// An event at time t, in ticks, is in the bucket with the number t mod 64. Only the 64 ticks after the tick at
+/// hand have buckets, so that each bucket has one tick.
 #[derive(Drop)]
 pub(crate) struct Ring {
     hand: Tick,
     taken: usize,
     tick: u64,
-    // The time of the event taken out last. Only events of the 64 ticks after it have a bucket: one far
-    // ahead would keep its bucket from nearer ticks.
-    from: u64,
+    marks: u64,
     buckets: [Tick; 64],
-    times: [u64; 64],
     // A list for each router, for ticks that are put in order by receiver.
     receivers: Vec<Tick>,
 }
@@ -60,25 +53,21 @@ impl Ring {
             hand: Tick::new(alloc),
             taken: 0,
             tick: 0,
-            from: 0,
+            marks: 0,
             buckets: array::from_fn(|_| Tick::new(alloc)),
-            times: [u64::MAX; 64],
             receivers,
         })
     }
 
-    /// Adds an event where it is a path that arrives, later than the tick at hand and soon, its bucket has no
-    /// event of another tick, and memory is not refused, and tells whether it did.
+    /// Adds an event where it is a path that arrives, in one of the 64 ticks after the tick at hand, and memory is
+    /// not refused, and tells whether it did.
     #[inline(always)]
     pub(crate) fn insert(&mut self, event: &Event) -> bool
         ensures added { OnTrue result (self.new ≡ insert event_before event.now self.old) }
         ensures same { OnFalse result (self.new ≡ self.old) }
     {
         let time = event.time;
-        if !is_near(time, self.from) {
-            return false;
-        }
-        if !is_later(time, self.tick) {
+        if !is_ahead(time, self.tick) {
             return false;
         }
         let Some(update) = Update::of(event) else {
@@ -89,7 +78,7 @@ impl Ring {
         if !self.buckets[slot].push(time, &update) {
             return false;
         }
-        self.times[slot] = time;
+        self.marks = with_mark(self.marks, slot);
         true
     }
 
@@ -103,7 +92,7 @@ impl Ring {
         if self.hand.copy(self.taken, event) {
             return true;
         }
-        self.buckets[first_place(&self.times)].copy_least(event)
+        self.buckets[first_place(self.marks, self.tick)].copy_least(event)
     }
 
     /// The time of the least event, in ticks, and `u64::MAX` where there is none.
@@ -114,7 +103,7 @@ impl Ring {
         if self.taken < self.hand.len() {
             return self.hand.time();
         }
-        self.times[first_place(&self.times)]
+        self.buckets[first_place(self.marks, self.tick)].first_time()
     }
 
     /// How many events of the tick at hand are taken out. The events are in order.
@@ -129,7 +118,12 @@ impl Ring {
     pub(crate) fn go_to(&mut self, time: u64)
         ensures { self.new ≡ self.old }
     {
-        self.from = time;
+        if self.taken < self.hand.len() || time <= self.tick {
+            return;
+        }
+        if time < self.buckets[first_place(self.marks, self.tick)].first_time() {
+            self.tick = time;
+        }
     }
 
     /// Whether not all events of the tick at hand are taken out. No promise rests on it.
@@ -138,26 +132,23 @@ impl Ring {
         self.taken < self.hand.len()
     }
 
-    /// Puts the events of the next tick at hand, in order, where those at hand are all taken out, and that tick
-    /// is at `latest`, in ticks, at the latest.
+    /// Puts the events of the next tick at hand, in order, where those at hand are all taken out.
     #[inline(always)]
-    pub(crate) fn begin_tick(&mut self, latest: u64)
+    pub(crate) fn begin_tick(&mut self)
         ensures { self.new ≡ self.old }
     {
         if self.taken < self.hand.len() {
             return;
         }
-        let place = first_place(&self.times);
-        let time = self.times[place];
-        if time == u64::MAX || latest < time {
+        let place = first_place(self.marks, self.tick);
+        if self.buckets[place].len() == 0 {
             return;
         }
         let bucket = &mut self.buckets[place];
+        self.tick = bucket.first_time();
         self.hand.take_over(bucket, &mut self.receivers);
         self.taken = 0;
-        self.tick = time;
-        self.from = time;
-        self.times[place] = u64::MAX;
+        self.marks = without_mark(self.marks, place);
     }
 
     /// Takes out the least event, where there is one.
@@ -169,17 +160,15 @@ impl Ring {
             self.taken += 1;
             return;
         }
-        let place = first_place(&self.times);
-        let time = self.times[place];
-        if time == u64::MAX {
+        let place = first_place(self.marks, self.tick);
+        if self.buckets[place].len() == 0 {
             return;
         }
         let bucket = &mut self.buckets[place];
+        self.tick = bucket.first_time();
         self.hand.take_over(bucket, &mut self.receivers);
         self.taken = 1;
-        self.tick = time;
-        self.from = time;
-        self.times[place] = u64::MAX;
+        self.marks = without_mark(self.marks, place);
     }
 
     /// Puts its events at the end of a list.
@@ -215,36 +204,4 @@ fn reuse_memory(buckets: &mut [Tick; 64], from: usize, to: usize)
     if buckets[from].len() == 0 {
         buckets.swap(from, to);
     }
-}
-
-// The number of the bucket for a time, in ticks.
-#[inline(always)]
-fn slot_of(time: u64) -> usize
-    ensures { result ≡ slot_at time }
-{
-    (time % BUCKETS) as usize
-}
-
-// Whether an event at `time` has a bucket, where the latest one was at `from`.
-#[inline(always)]
-fn is_near(time: u64, from: u64) -> bool {
-    time.saturating_sub(from) <= BUCKETS
-}
-
-// Whether a time is later than a tick, and not the last one, which stands for no event.
-#[inline(always)]
-fn is_later(time: u64, tick: u64) -> bool
-    ensures { OnTrue result ((tick < time) × (time < never)) }
-{
-    tick < time && time < u64::MAX
-}
-
-// A place of the least of the times.
-#[inline(never)]
-fn first_place(times: &[u64; 64]) -> usize
-    ensures within { result < 64 }
-    ensures least { (k : ℕ) → k < 64 → slice_index_or times.now result 0 ≤ slice_index_or times.now k 0 }
-{
-    let least = least_time(times).unwrap();
-    times.iter().position(|other| *other == least).unwrap()
 }

@@ -2,7 +2,7 @@
 ghost use Rattle.std.specs.Option.{option_copied};
 ghost use Rattle.std.specs.Prelude.{◌≡◌, ◌<◌, ◌↔◌, None, IsTrue, count_by, position, vec_capacity};
 ghost use Rattle.tw_event.specs.Order.{event_before, event_same};
-ghost use Rattle.tw_queue.specs.InOrder.{earlier, least_with};
+ghost use Rattle.tw_queue.specs.InOrder.{earlier, earlier_of, least_with};
 ghost use Rattle.tw_sim.specs.Ordered.{take_out, times};
 
 use tw_event::Event;
@@ -54,6 +54,16 @@ pub(crate) fn earlier(event: Event, other: Option<Event>) -> Event
     match other {
         Some(other) if other < event => other,
         _ => event,
+    }
+}
+
+// The one of the two events that comes first, where there are any.
+pub(crate) fn earlier_of(least: Option<Event>, other: Option<Event>) -> Option<Event>
+    ensures { result ≡ earlier_of least other }
+{
+    match other {
+        Some(event) => Some(earlier(event, least)),
+        None => least,
     }
 }
 

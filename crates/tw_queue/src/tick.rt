@@ -60,6 +60,14 @@ impl Tick {
         self.time
     }
 
+    /// The time, in ticks, of its first event, and `u64::MAX` where there is none.
+    #[inline(always)]
+    pub(crate) fn first_time(&self) -> u64
+        ensures { result ≡ first_time self.now }
+    {
+        if self.len() > 0 { self.time } else { u64::MAX }
+    }
+
     /// Puts an update of this time, in ticks, in where all others are of this time too and memory is not
     /// refused, and tells whether it did.
     #[inline(always)]

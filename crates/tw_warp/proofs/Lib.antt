@@ -11,3 +11,4 @@ pub mod Fronts
 pub mod Runs
 pub mod Openings
 pub mod CommittedEvents
+pub mod Together

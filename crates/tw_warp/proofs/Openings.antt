@@ -132,3 +132,14 @@ module _ (w : Warp) (is : IsCase w.case) (some : 0 < length w.shards) (each : (k
         good = good_opening m (lawful w.case is) (core w) opens;
         stop = most;
       }
+
+-- the machine of a case that has handled nothing begins
+pub machine_opens : (case : Case) (stop : ℕ) → IsOpening (simulation case) (opening_machine case stop)
+machine_opens case stop = record {
+  history = λ r. refl;
+  pending = λ e. let count = times-insert_all (simulation case) e (opening_events case.scenes) [] in omega arith;
+  kept = refl;
+  flight = refl;
+  done = λ r. refl;
+  bound = refl;
+}

@@ -54,14 +54,22 @@ module _ {S E : Type 0} (m : Simulation S E) where
         told_is = ap (λ t. t ++ Err f ∷ []) far.told_is ∙ sym (ap (answers m C) more ∙ (answers_more C (take n steps) x ∙ ap (λ o. answers m C (take n steps) ++ result_and o (Ok tt) ∷ []) came));
       }
 
+  -- what is not refused is done
+  is_done : (o : Result (Core E) Refusal) → ((f : Refusal) → o ≡ Err f → ⊥) → (B : Core E) × (o ≡ Ok B)
+  is_done (Ok B) none = (B, refl)
+  is_done (Err f) none = absurd (none f refl)
+
   -- memory was refused to the next step
   pub broken_off : (steps : List Step) (n : ℕ) (C D B : Core E) (told : List (Result (Unit {0}) Refusal)) (fault : RunFault) (d : Step) → n < length steps → IsRun steps n C D told
-      → fault.step ≡ n + 1 → fault.answers.items ≡ told → IsInterrupted m (get_or steps n d) D B → IsBrokenOff m steps fault C B
-  broken_off steps n C D B told fault d within far number same left = record {
+      → fault.step ≡ n + 1 → fault.answers.items ≡ told → ((f : Refusal) → step m D (get_or steps n d) ≡ Err f → ⊥) → IsInterrupted m (get_or steps n d) D B
+      → IsBrokenOff m steps fault C B
+  broken_off steps n C D B told fault d within far number same none left = record {
     count = n;
     step = number;
     before = same ∙ far.told_is;
-    left = inr (get_or steps n d, slice_get-get_or steps n d within, subst (λ A. IsInterrupted m (get_or steps n d) A B) far.reached left);
+    left =
+        inr
+        (get_or steps n d, slice_get-get_or steps n d within, subst (λ A. (B : Core E) × (step m A (get_or steps n d) ≡ Ok B)) far.reached (is_done (step m D (get_or steps n d)) none), subst (λ A. IsInterrupted m (get_or steps n d) A B) far.reached left);
   }
 
 -- a machine that is the same as one that is the same
@@ -85,8 +93,10 @@ module _ (u v w : Warp) (same : IsSameMachine u v) (steps : List Step) (n : ℕ)
       subst (λ w. IsRun (simulation u.case) steps (n + 1) (core u) (core w) (told ++ Err f ∷ [])) (sym stays)
       (run_refused (simulation u.case) steps n (core u) (core v) told d f within far (subst (λ case. step (simulation case) (core v) (get_or steps n d) ≡ Err f) same.case refused))
 
-  pub one_cut : (d : Step) (fault : RunFault) → fault.step ≡ n + 1 → fault.answers.items ≡ told → IsInterrupted (simulation v.case) (get_or steps n d) (core v) (core w)
+  pub one_cut : (d : Step) (fault : RunFault) → fault.step ≡ n + 1 → fault.answers.items ≡ told
+      → ((f : Refusal) → step (simulation v.case) (core v) (get_or steps n d) ≡ Err f → ⊥) → IsInterrupted (simulation v.case) (get_or steps n d) (core v) (core w)
       → IsBrokenOff (simulation u.case) steps fault (core u) (core w)
-  one_cut d fault number before left =
+  one_cut d fault number before none left =
       broken_off (simulation u.case) steps n (core u) (core v) (core w) told fault d within far number before
+      (subst (λ case. (f : Refusal) → step (simulation case) (core v) (get_or steps n d) ≡ Err f → ⊥) same.case none)
       (subst (λ case. IsInterrupted (simulation case) (get_or steps n d) (core v) (core w)) same.case left)

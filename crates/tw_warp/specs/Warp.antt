@@ -116,10 +116,10 @@ module _ {S E : Type 0} (m : Simulation S E) where
     pub stays : message_at D.flight place ≡ Some message
     pub undone : D ≡ after_undos count (m.dst message.event) C
 
-  -- what a step leaves that memory was refused to: nothing has changed, but where a message was delivered
+  -- what a step leaves that memory was refused to: nothing has changed, but where a message was delivered. The bound takes no memory
   abbrev pub IsInterrupted : Step → Core E → Core E → Type 0
   IsInterrupted (Handle r) C D = D ≡ C
   IsInterrupted (Undo r) C D = D ≡ C
   IsInterrupted (Deliver place) C D = IsCutShort place C D
-  IsInterrupted Bound C D = D ≡ C
+  IsInterrupted Bound C D = ⊥
   IsInterrupted (Commit r) C D = D ≡ C

@@ -11,6 +11,7 @@ mod chunks;
 mod collecting;
 mod counts;
 mod flight;
+pub mod laws;
 mod least;
 mod opening;
 mod warp;

@@ -1,18 +1,19 @@
-ghost use Rattle.std.specs.Prelude.{◌≡◌, true, ◌≤◌, ◌<◌, ◌↔◌, ℕ, Ok, Err, length, IsErrOf, IsOk, OnErr, OnOk, IfErr, IfOk};
+ghost use Rattle.std.specs.Prelude.{◌≡◌, true, ◌≤◌, ◌<◌, ◌↔◌, ℕ, Ok, Err, length, IsErrOf, IsOk, OnErr, OnOk, IfErr, IfOk, reverse};
 ghost use Rattle.tw_shard.specs.Shard.{owns};
 ghost use Rattle.tw_warp.specs.Committed.{by_router, committed_events, count_ahead};
 ghost use Rattle.tw_warp.specs.Openings.{opening_machine};
 ghost use Rattle.tw_warp.specs.Runs.{IsBrokenOff};
 ghost use Rattle.tw_core.specs.declared.refusal.Refusal.{Refusal as ARefusal};
 ghost use Rattle.tw_core.specs.Machine.{IsOpening};
-ghost use Rattle.tw_core.specs.Run.{IsSeq};
+ghost use Rattle.tw_core.specs.Run.{AreCommitted, IsSeq};
 ghost use Rattle.tw_core.specs.Steps.{answers as core_answers, least_loose, run as core_run, step as core_step};
 ghost use Rattle.tw_model.specs.Case.{simulation};
 ghost use Rattle.tw_model.specs.declared.memory.OrMemory.TheVariants as or_memory;
 ghost use Rattle.tw_sim.specs.declared.machine.Step.TheVariants as steps;
+ghost use Rattle.tw_sim.specs.Seq.{log};
 ghost use Rattle.tw_sim.specs.Simulation.{state};
 ghost use Rattle.tw_model.specs.declared.limits.TheConstants.{LATEST};
-ghost use Rattle.tw_warp.specs.Warp.{IsCutShort, IsInterrupted, IsSameMachine, IsWarp, core, message_at, shard_of, worker_of};
+ghost use Rattle.tw_warp.specs.Warp.{IsCutShort, IsInterrupted, IsSameMachine, IsShare, IsWarp, core, message_at, shard_of, worker_of};
 
 use crate::calls::{commit_on, deliver_on, handle_on, undo_on};
 use crate::collecting::add_committed;
@@ -115,6 +116,7 @@ impl<'a> Warp<'a> {
         ensures unchanged { (f : ARefusal) → IsErrOf result (or_memory.Fault f) → self.new ≡ self.old }
         ensures memory { IsErrOf result or_memory.Memory → IsInterrupted (simulation self.old.case) step (core self.old) (core self.new) }
         ensures same { IsSameMachine self.old self.new }
+        ensures rising { self.old.bound ≤ self.new.bound }
         ensures seq { IsSeq (simulation self.new.case) (core self.new) }
     {
         match step {
@@ -140,6 +142,7 @@ impl<'a> Warp<'a> {
         ensures answers { IfOk result (λ v. v.items ≡ core_answers (simulation self.old.case) (core self.old) steps.now) }
         ensures fault { IfErr result (λ f. IsBrokenOff (simulation self.old.case) steps.now f (core self.old) (core self.new)) }
         ensures same { IsSameMachine self.old self.new }
+        ensures rising { self.old.bound ≤ self.new.bound }
         ensures seq { IsSeq (simulation self.new.case) (core self.new) }
     {
         let mut answers = Vec::new(*self.shards.allocator());
@@ -176,12 +179,24 @@ impl<'a> Warp<'a> {
         Ok(())
     }
 
-    /// The case.
+    /// The case. The machine is in a good state.
     pub fn case(&self) -> &'a Case
         ensures value { result.now ≡ self.now.case }
+        ensures machine { IsWarp self.now }
         ensures seq { IsSeq (simulation self.now.case) (core self.now) }
     {
         self.case
+    }
+
+    /// The message at a place in flight, from 1 in the order sent, as `Step::Deliver` names it. It takes no
+    /// memory. `None` where there is none.
+    pub fn message_at(&self, place: u64) -> Option<Signed<Event>>
+        ensures value { result ≡ message_at self.now.flight place }
+        ensures seq { IsSeq (simulation self.now.case) (core self.now) }
+    {
+        let flight = &self.flight;
+        let index = place.checked_sub(1)?;
+        flight.get(index as usize)
     }
 
     /// A list of the messages on their way, in the order sent, for which it takes memory.
@@ -219,10 +234,11 @@ impl<'a> Warp<'a> {
         self.shards.len()
     }
 
-    /// The shard of a worker, from 0.
+    /// The shard of a worker, from 0. It keeps the committed events of its routers.
     pub fn shard(&self, worker: usize) -> &Shard<'a>
         requires { worker < length self.now.shards }
-        ensures { result.now ≡ shard_of self.now worker }
+        ensures value { result.now ≡ shard_of self.now worker }
+        ensures share { IsShare self.now worker result.now }
     {
         &self.shards[worker]
     }
@@ -235,9 +251,11 @@ impl<'a> Warp<'a> {
         self.shard_for(router).router(router)
     }
 
-    /// The committed events of all routers, in their order.
+    /// The committed events of all routers, in their order. Where all that is handled below the bound is
+    /// committed, they are the one-thread run to the bound (`laws::good_is_seq`).
     pub fn committed(&self) -> Result<Vec<Event>, AllocError>
-        ensures { IfOk result (λ v. v.items ≡ committed_events self.now) }
+        ensures value { IfOk result (λ v. v.items ≡ committed_events self.now) }
+        ensures run { AreCommitted (simulation self.now.case) (core self.now) → IfOk result (λ v. v.items ≡ reverse (log (simulation self.now.case) self.now.bound)) }
     {
         let mut events = self.committed_by_router()?;
         events.sort_unstable();
@@ -305,6 +323,7 @@ impl<'a> Warp<'a> {
         ensures ok { OnOk result (core_step (simulation self.old.case) (core self.old) (steps.Handle router) ≡ Ok (core self.new)) }
         ensures refused { (f : ARefusal) → IsErrOf result (or_memory.Fault f) ↔ (core_step (simulation self.old.case) (core self.old) (steps.Handle router) ≡ Err f) }
         ensures err { OnErr result (self.new ≡ self.old) }
+        ensures bound { self.new.bound ≡ self.old.bound }
         ensures same { IsSameMachine self.old self.new }
         ensures seq { IsSeq (simulation self.new.case) (core self.new) }
     {
@@ -322,21 +341,12 @@ impl<'a> Warp<'a> {
         ensures ok { OnOk result (core_step (simulation self.old.case) (core self.old) (steps.Undo router) ≡ Ok (core self.new)) }
         ensures refused { (f : ARefusal) → IsErrOf result (or_memory.Fault f) ↔ (core_step (simulation self.old.case) (core self.old) (steps.Undo router) ≡ Err f) }
         ensures err { OnErr result (self.new ≡ self.old) }
+        ensures bound { self.new.bound ≡ self.old.bound }
         ensures same { IsSameMachine self.old self.new }
         ensures seq { IsSeq (simulation self.new.case) (core self.new) }
     {
         let worker = self.worker_of(router);
         undo_on(&mut self.shards[worker], &mut self.flight, router)
-    }
-
-    /// The message at a place in flight, from 1.
-    fn message_at(&self, place: u64) -> Option<Signed<Event>>
-        ensures value { result ≡ message_at self.now.flight place }
-        ensures seq { IsSeq (simulation self.now.case) (core self.now) }
-    {
-        let flight = &self.flight;
-        let index = place.checked_sub(1)?;
-        flight.get(index as usize)
     }
 
     /// The message at a place in flight, from 1, is delivered.
@@ -345,6 +355,7 @@ impl<'a> Warp<'a> {
         ensures refused { (f : ARefusal) → IsErrOf result (or_memory.Fault f) ↔ (core_step (simulation self.old.case) (core self.old) (steps.Deliver place) ≡ Err f) }
         ensures unchanged { (f : ARefusal) → IsErrOf result (or_memory.Fault f) → self.new ≡ self.old }
         ensures memory { IsErrOf result or_memory.Memory → IsCutShort (simulation self.old.case) place (core self.old) (core self.new) }
+        ensures bound { self.new.bound ≡ self.old.bound }
         ensures same { IsSameMachine self.old self.new }
         ensures seq { IsSeq (simulation self.new.case) (core self.new) }
     {
@@ -362,6 +373,7 @@ impl<'a> Warp<'a> {
         ensures ok { OnOk result (core_step (simulation self.old.case) (core self.old) (steps.Commit router) ≡ Ok (core self.new)) }
         ensures refused { (f : ARefusal) → IsErrOf result (or_memory.Fault f) ↔ (core_step (simulation self.old.case) (core self.old) (steps.Commit router) ≡ Err f) }
         ensures err { OnErr result (self.new ≡ self.old) }
+        ensures bound { self.new.bound ≡ self.old.bound }
         ensures same { IsSameMachine self.old self.new }
         ensures seq { IsSeq (simulation self.new.case) (core self.new) }
     {
@@ -372,6 +384,7 @@ impl<'a> Warp<'a> {
     /// The bound becomes the least time of all that is loose, and of the stop.
     fn advance_bound(&mut self)
         ensures done { core_step (simulation self.old.case) (core self.old) steps.Bound ≡ Ok (core self.new) }
+        ensures rising { self.old.bound ≤ self.new.bound }
         ensures same { IsSameMachine self.old self.new }
         ensures seq { IsSeq (simulation self.new.case) (core self.new) }
     {

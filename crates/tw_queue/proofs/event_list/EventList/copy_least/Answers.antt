@@ -12,11 +12,11 @@ use Rattle.tw_queue.proofs.event_list.EventList.copy_least.Goals as goal
 
 -- all events, in no order
 abbrev all : Inside → List Event
-all a = a.ring ++ heap_events (heap_items a.heap)
+all a = a.calendar ++ heap_events (heap_items a.heap)
 
 from_ring : (c : goal.After-copy_least) → OnTrue c.copy_least.result (Some c.copy_least.new.event ≡ slice_get (in_order event_before (all c.self.inside)) 0)
 from_ring c =
-    let first : slice_get (in_order event_before (all c.self.inside)) 0 ≡ slice_get c.self.inside.ring 0 = c.if-not-is_heap_first.ensures.ring in
+    let first : slice_get (in_order event_before (all c.self.inside)) 0 ≡ slice_get c.self.inside.calendar 0 = c.if-not-is_heap_first.ensures.calendar in
     subst (λ o. OnTrue c.copy_least.result (Some c.copy_least.new.event ≡ o)) (sym first) c.copy_least.ensures.some
 
 pub returns-then-not-is_heap_first-clause-some : goal.returns-then-not-is_heap_first-clause-some
@@ -30,7 +30,7 @@ returns-then-not-is_heap_first-clause-home c =
 
 pub returns-then-not-is_heap_first-clause-empty : goal.returns-then-not-is_heap_first-clause-empty
 returns-then-not-is_heap_first-clause-empty c =
-    let first : slice_get (in_order event_before (all c.self.inside)) 0 ≡ slice_get c.self.inside.ring 0 = c.if-not-is_heap_first.ensures.ring in
+    let first : slice_get (in_order event_before (all c.self.inside)) 0 ≡ slice_get c.self.inside.calendar 0 = c.if-not-is_heap_first.ensures.calendar in
     on_false c.copy_least.result (λ k. ap (λ q. q.events) (sym c.self.view_is) ∙ none_of (in_order event_before (all c.self.inside)) (first ∙ k)) c.copy_least.ensures.beyond
 
 pub returns-then-not-is_heap_first-clause-queue : goal.returns-then-not-is_heap_first-clause-queue

@@ -13,12 +13,12 @@ use Rattle.tw_queue.proofs.event_list.EventList.events.Goals as goal
 pub returns-in_err-events-clause-queue : goal.returns-in_err-events-clause-queue
 returns-in_err-events-clause-queue c =
     let a = c.self.inside in
-    subst IsQueue c.self.view_is (queue_of_events a.routers (heap_capacity a.heap - heap_len a.heap) (a.ring ++ heap_events (heap_items a.heap)) c.self.invariant.1)
+    subst IsQueue c.self.view_is (queue_of_events a.routers (heap_capacity a.heap - heap_len a.heap) (a.calendar ++ heap_events (heap_items a.heap)) c.self.invariant.1)
 
 pub returns-in_err-append_to-clause-queue : goal.returns-in_err-append_to-clause-queue
 returns-in_err-append_to-clause-queue c =
     let a = c.self.inside in
-    subst IsQueue c.self.view_is (queue_of_events a.routers (heap_capacity a.heap - heap_len a.heap) (a.ring ++ heap_events (heap_items a.heap)) c.self.invariant.1)
+    subst IsQueue c.self.view_is (queue_of_events a.routers (heap_capacity a.heap - heap_len a.heap) (a.calendar ++ heap_events (heap_items a.heap)) c.self.invariant.1)
 
 pub returns-clause-events : goal.returns-clause-events
 returns-clause-events c =
@@ -27,13 +27,13 @@ returns-clause-events c =
     let from = c.in_ok-events.ensures ∙ ap heap_events c.as_slice.ensures.value in
     let all = c.append_to.new.events.items in
     insert_all_in_order event_before event_same event_law all
-    ∙ in_order-times event_before event_same event_law all (a.ring ++ heap) (λ e.
+    ∙ in_order-times event_before event_same event_law all (a.calendar ++ heap) (λ e.
     let more = c.in_ok-append_to.ensures.ok e in
     let old = ap (times event_same e) from in
-    let sum = times-append e a.ring heap in
+    let sum = times-append e a.calendar heap in
     omega arith) ∙ ap (λ q. q.events) c.self.view_is
 
 pub returns-clause-queue : goal.returns-clause-queue
 returns-clause-queue c =
     let a = c.self.inside in
-    subst IsQueue c.self.view_is (queue_of_events a.routers (heap_capacity a.heap - heap_len a.heap) (a.ring ++ heap_events (heap_items a.heap)) c.self.invariant.1)
+    subst IsQueue c.self.view_is (queue_of_events a.routers (heap_capacity a.heap - heap_len a.heap) (a.calendar ++ heap_events (heap_items a.heap)) c.self.invariant.1)

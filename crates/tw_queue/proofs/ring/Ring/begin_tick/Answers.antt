@@ -1,5 +1,8 @@
-use Rattle.std.proofs.Common.{set, refl, ap, ◌∙◌, arith}
-use Rattle.tw_queue.proofs.Rings.{begin_order, begun_ring, later_ticks, taken_over}
+use Rattle.std.proofs.Common.{◌≡◌, ◌<◌, ◌≤◌, [], length, get_or, set, ap, ◌∙◌, arith}
+use Rattle.tw_event.specs.Order.{event_before}
+use Rattle.tw_queue.specs.InOrder.{in_order}
+use Rattle.tw_queue.specs.Table.{first_time}
+use Rattle.tw_queue.proofs.Rings.{begin_order, begun_ring, later_ticks, read_first}
 use Rattle.tw_queue.proofs.ring.Ring.begin_tick.Goals as goal
 
 pub invariant_of-self : goal.invariant_of-self
@@ -7,16 +10,29 @@ invariant_of-self c =
     let a = c.self.inside in
     let v = c.self.invariant in
     let p = c.first_place-place.result in
-    let place = c.first_place-place.ensures in
-    let filled = taken_over a.buckets v.number p place.within c.index-self-place.result c.index-self-place.is c.take_over.new.self c.take_over.ensures.events in
-    begun_ring a _ v p place.within place.least filled (omega arith) refl (ap (set a.buckets p) c.take_over.ensures.empty) refl
+    let f = c.first_place-place.ensures in
+    let m = c.without_mark-self-inside in
+    let b = c.index-self-place in
+    let b2 = c.index-self-place-2 in
+    let old = read_first a v p f b.result b.is in
+    let read = read_first a v p f b2.result b2.is in
+    let filled : c.take_over.new.self ≡ in_order event_before (get_or a.buckets p []) = c.take_over.ensures.events ∙ ap (in_order event_before) read in
+    let some : 0 < length (get_or a.buckets p []) = omega (arith, c.len-2.ensures, ap length old, c.if-len-eq0.false) in
+    let beyond : length a.hand ≤ a.taken = omega (arith, c.len.ensures, c.if-self-len.false) in
+    begun_ring a _ v p f some filled (omega arith) (c.first_time-self-inside.ensures ∙ ap first_time read) (ap (set a.buckets p) c.take_over.ensures.empty) m.ensures.same m.ensures.others
 
 pub returns : goal.returns
 returns c =
     let a = c.self.inside in
     let v = c.self.invariant in
     let p = c.first_place-place.result in
-    let place = c.first_place-place.ensures in
-    let filled = taken_over a.buckets v.number p place.within c.index-self-place.result c.index-self-place.is c.take_over.new.self c.take_over.ensures.events in
-    rw (filled, c.take_over.ensures.empty) (begin_order a.buckets v.number v.placed v.alike v.early a.times v.row p place.within place.least
-    ∙ later_ticks a.hand a.taken a.buckets c.args.self.now (omega (arith, c.len.ensures, c.if-self-len.false)) c.self.view_is)
+    let f = c.first_place-place.ensures in
+    let m = c.without_mark-self-inside in
+    let b = c.index-self-place in
+    let b2 = c.index-self-place-2 in
+    let old = read_first a v p f b.result b.is in
+    let read = read_first a v p f b2.result b2.is in
+    let filled : c.take_over.new.self ≡ in_order event_before (get_or a.buckets p []) = c.take_over.ensures.events ∙ ap (in_order event_before) read in
+    let some : 0 < length (get_or a.buckets p []) = omega (arith, c.len-2.ensures, ap length old, c.if-len-eq0.false) in
+    let beyond : length a.hand ≤ a.taken = omega (arith, c.len.ensures, c.if-self-len.false) in
+    rw (filled, c.take_over.ensures.empty) (begin_order a.tick a.marks a.buckets v.turn p f ∙ later_ticks a.hand a.taken a.buckets c.args.self.now beyond c.self.view_is)

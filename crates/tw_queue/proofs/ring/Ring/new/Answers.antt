@@ -1,9 +1,8 @@
 use Rattle.std.proofs.Common.{◌≡◌, ◌<◌, ℕ, [], length, get_or, rules, ap, arith}
 use Rattle.tw_event.specs.Order.{event_same}
 use Rattle.tw_sim.specs.Ordered.{times}
-use Rattle.tw_queue.specs.Ring.{slot_at}
-use Rattle.tw_queue.proofs.Lists.{in_order_none, none_placed}
-use Rattle.tw_queue.proofs.Rings.{empty_alike, empty_ring, empty_times}
+use Rattle.tw_queue.proofs.Lists.{in_order_none}
+use Rattle.tw_queue.proofs.Turns.{no_turn}
 use Rattle.tw_queue.proofs.ring.Ring.new.Goals as goal
 
 empty : (c : goal.After-from_fn) → (i : ℕ) → i < length c.from_fn.result → get_or c.from_fn.result i [] ≡ []
@@ -15,20 +14,12 @@ empty c i l =
     search rules
 
 pub invariant_of-result : goal.invariant_of-result
-invariant_of-result c =
-    let lists = c.from_fn.result in
-    let long = c.from_fn.ensures.items.long in
-    record {
-      taken = omega arith;
-      rising = rw c.new.ensures tt;
-      begun = λ e there. let z = ap (times event_same e) c.new.ensures in absurd (omega arith);
-      number = long;
-      placed = none_placed lists (empty c) (λ e. slot_at e.time);
-      alike = empty_alike lists (empty c);
-      row = empty_times 64 lists long (empty c);
-      after = λ e there. let z = empty_ring lists (empty c) e in absurd (omega arith);
-      early = λ e there. let z = empty_ring lists (empty c) e in absurd (omega arith);
-    }
+invariant_of-result c = record {
+  taken = omega arith;
+  rising = rw c.new.ensures tt;
+  begun = λ e there. let z = ap (times event_same e) c.new.ensures in absurd (omega arith);
+  turn = no_turn (λ e. e.time) 0 c.from_fn.result c.from_fn.ensures.items.long (empty c);
+}
 
 pub returns : goal.returns
 returns c = rw c.new.ensures (in_order_none c.from_fn.result (empty c))

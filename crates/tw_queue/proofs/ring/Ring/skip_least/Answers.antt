@@ -1,4 +1,4 @@
-use Rattle.std.proofs.Common.{◌≡◌, ◌<◌, ◌≤◌, ◌++◌, List, [], drop, length, get_or, set, refl, ap, sym, ◌∙◌, subst, arith}
+use Rattle.std.proofs.Common.{◌≡◌, ◌<◌, ◌≤◌, ◌++◌, List, [], drop, length, get_or, set, ap, sym, ◌∙◌, subst, arith}
 use Rattle.tw_event.specs.declared.event.Event.{Event}
 use Rattle.tw_event.specs.Order.{event_before, event_same}
 use Rattle.tw_sim.specs.Ordered.{times}
@@ -6,10 +6,12 @@ use Rattle.tw_sim.specs.Rising.{IsRising}
 use Rattle.tw_queue.specs.Buckets.{together}
 use Rattle.tw_queue.specs.InOrder.{in_order}
 use Rattle.tw_queue.specs.Ring.{hand_of}
+use Rattle.tw_queue.specs.Table.{first_time}
 use Rattle.tw_queue.proofs.Events.{event_law}
-use Rattle.tw_queue.proofs.Ordered.{rising-in_order}
-use Rattle.tw_queue.proofs.Rings.{begin_after, begin_begun, begin_order, begin_some, begun_ring}
-use Rattle.tw_queue.proofs.Rings.{drop_more, later_ticks, none_left, rest_taken, rising_rest, some_left, taken_over, times_rest}
+use Rattle.tw_queue.proofs.Merged.{nil_of}
+use Rattle.tw_queue.proofs.Ordered.{length-in_order, rising-in_order}
+use Rattle.tw_queue.proofs.Rings.{begin_after, begin_begun, begin_order, begun_ring, drop_more, later_ticks, read_first, rest_taken, rising_rest, some_left, times_rest}
+use Rattle.tw_queue.proofs.Turns.{none_marked}
 use Rattle.tw_queue.proofs.ring.Ring.skip_least.Goals as goal
 
 pub invariant_of-self : goal.invariant_of-self
@@ -22,12 +24,7 @@ invariant_of-self c =
       taken = omega arith;
       rising = subst (λ xs. IsRising event_before event_same xs) (sym next) (rising_rest (hand_of a) v.rising);
       begun = λ e there. v.begun e (times_rest e (hand_of a) (subst (λ xs. 0 < times event_same e xs) next there));
-      number = v.number;
-      placed = v.placed;
-      alike = v.alike;
-      row = v.row;
-      after = v.after;
-      early = v.early;
+      turn = v.turn;
     }
 
 pub returns-then-self-len : goal.returns-then-self-len
@@ -36,19 +33,22 @@ returns-then-self-len c =
     let v = c.self.invariant in
     let l : a.taken < length a.hand = omega (arith, c.len.ensures, c.if-self-len.true) in
     ap (λ hand. in_order event_before (hand ++ together a.buckets)) (drop_more a.taken a.hand)
-    ∙ rest_taken a.tick (together a.buckets) v.after (hand_of a) (some_left a.taken a.hand l) v.rising v.begun ∙ ap (drop 1) c.self.view_is
+    ∙ rest_taken a.tick (together a.buckets) v.turn.after (hand_of a) (some_left a.taken a.hand l) v.rising v.begun ∙ ap (drop 1) c.self.view_is
 
 over : (lists : List (List Event)) (now : List Event) → in_order event_before (together lists) ≡ now → together lists ≡ [] → now ≡ []
 unfolding in_order
 over lists now h none = sym h ∙ ap (in_order event_before) none
 
-pub returns-then-time : goal.returns-then-time
-returns-then-time c =
+pub returns-then-len-eq0 : goal.returns-then-len-eq0
+returns-then-len-eq0 c =
     let a = c.self.inside in
     let v = c.self.invariant in
-    let place = c.first_place-place.ensures in
+    let p = c.first_place-place.result in
+    let f = c.first_place-place.ensures in
+    let b = c.index-self-place in
+    let old = read_first a v p f b.result b.is in
     let beyond : length a.hand ≤ a.taken = omega (arith, c.len.ensures, c.if-self-len.false) in
-    let none = none_left a.buckets v.number v.placed v.alike v.early a.times v.row c.first_place-place.result place.within place.least c.if-time.true in
+    let none = none_marked (λ e. e.time) a.tick a.marks a.buckets v.turn p f (nil_of (get_or a.buckets p []) (omega (arith, c.len-2.ensures, ap length old, c.if-len-eq0.true))) in
     let z = over a.buckets c.args.self.now (later_ticks a.hand a.taken a.buckets c.args.self.now beyond c.self.view_is) none in
     z ∙ ap (drop 1) (sym z)
 
@@ -57,24 +57,34 @@ invariant_of-self-2 c =
     let a = c.self.inside in
     let v = c.self.invariant in
     let p = c.first_place-place.result in
-    let place = c.first_place-place.ensures in
-    let filled = taken_over a.buckets v.number p place.within c.index-self-place.result c.index-self-place.is c.take_over.new.self c.take_over.ensures.events in
-    let some = begin_some a.buckets v.number v.placed v.alike v.early a.times v.row p place.within place.least c.if-time.false in
-    let long = ap length filled in
-    begun_ring a _ v p place.within place.least filled (omega (arith, some)) refl (ap (set a.buckets p) c.take_over.ensures.empty) refl
+    let f = c.first_place-place.ensures in
+    let m = c.without_mark-self-inside in
+    let b = c.index-self-place in
+    let b2 = c.index-self-place-2 in
+    let old = read_first a v p f b.result b.is in
+    let read = read_first a v p f b2.result b2.is in
+    let filled : c.take_over.new.self ≡ in_order event_before (get_or a.buckets p []) = c.take_over.ensures.events ∙ ap (in_order event_before) read in
+    let some : 0 < length (get_or a.buckets p []) = omega (arith, c.len-2.ensures, ap length old, c.if-len-eq0.false) in
+    let beyond : length a.hand ≤ a.taken = omega (arith, c.len.ensures, c.if-self-len.false) in
+    let long = ap length filled ∙ length-in_order event_before event_same (get_or a.buckets p []) in
+    begun_ring a _ v p f some filled (omega (arith, some, long)) (c.first_time-self-inside.ensures ∙ ap first_time read) (ap (set a.buckets p) c.take_over.ensures.empty) m.ensures.same m.ensures.others
 
 pub returns : goal.returns
 returns c =
     let a = c.self.inside in
     let v = c.self.invariant in
     let p = c.first_place-place.result in
-    let place = c.first_place-place.ensures in
-    let filled = taken_over a.buckets v.number p place.within c.index-self-place.result c.index-self-place.is c.take_over.new.self c.take_over.ensures.events in
-    let some = begin_some a.buckets v.number v.placed v.alike v.early a.times v.row p place.within place.least c.if-time.false in
+    let f = c.first_place-place.ensures in
+    let m = c.without_mark-self-inside in
+    let b = c.index-self-place in
+    let b2 = c.index-self-place-2 in
+    let old = read_first a v p f b.result b.is in
+    let read = read_first a v p f b2.result b2.is in
+    let filled : c.take_over.new.self ≡ in_order event_before (get_or a.buckets p []) = c.take_over.ensures.events ∙ ap (in_order event_before) read in
+    let some : 0 < length (get_or a.buckets p []) = omega (arith, c.len-2.ensures, ap length old, c.if-len-eq0.false) in
     let beyond : length a.hand ≤ a.taken = omega (arith, c.len.ensures, c.if-self-len.false) in
-    rw (filled, c.take_over.ensures.empty) (rest_taken (get_or a.times p 0) (together (set a.buckets p []))
-    (begin_after a.buckets v.number v.placed v.alike v.early a.times v.row p place.within place.least)
-    (in_order event_before (get_or a.buckets p [])) some (rising-in_order event_before event_same event_law (get_or a.buckets p []))
-    (begin_begun a.buckets v.number v.placed v.alike v.early a.times v.row p place.within place.least)
-    ∙ ap (drop 1) (begin_order a.buckets v.number v.placed v.alike v.early a.times v.row p place.within place.least
-    ∙ later_ticks a.hand a.taken a.buckets c.args.self.now beyond c.self.view_is))
+    let long = length-in_order event_before event_same (get_or a.buckets p []) in
+    rw (filled, c.take_over.ensures.empty) (rest_taken (first_time (get_or a.buckets p [])) (together (set a.buckets p []))
+    (begin_after a.tick a.marks a.buckets v.turn p f m.result m.ensures.same m.ensures.others some) (in_order event_before (get_or a.buckets p []))
+    (omega (arith, some, long)) (rising-in_order event_before event_same event_law (get_or a.buckets p [])) (begin_begun a.tick a.marks a.buckets v.turn p f)
+    ∙ ap (drop 1) (begin_order a.tick a.marks a.buckets v.turn p f ∙ later_ticks a.hand a.taken a.buckets c.args.self.now beyond c.self.view_is))

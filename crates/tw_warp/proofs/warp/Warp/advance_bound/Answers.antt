@@ -1,13 +1,15 @@
-use Rattle.std.proofs.Common.{◌≡◌, Ok, map, ap, sym, ◌∙◌, subst}
+use Rattle.std.proofs.Common.{◌≡◌, ◌≤◌, Ok, map, ap, sym, ◌∙◌, subst, arith}
 use Rattle.std.specs.Vec.{with_items}
 use Rattle.std.proofs.lemmas.List.{with_items_is}
 use Rattle.tw_core.specs.Steps.{least_loose, step}
+use Rattle.tw_core.proofs.Steps.{next_keeps}
 use Rattle.tw_model.specs.Case.{simulation}
 use Rattle.tw_sim.specs.declared.machine.Step.TheVariants.{Bound}
 use Rattle.tw_warp.specs.Bounds.{raised}
 use Rattle.tw_warp.specs.Inside.{warp_of}
 use Rattle.tw_warp.specs.Warp.{IsWarp, Warp, core}
 use Rattle.tw_warp.proofs.Bounds.{at_bound, bound_step, raised_is}
+use Rattle.tw_warp.proofs.Moves.{law}
 use Rattle.tw_warp.proofs.Turns.{seq_of}
 use Rattle.tw_warp.proofs.warp.Warp.advance_bound.Goals as goal
 
@@ -37,3 +39,11 @@ returns-clause-done c =
 
 pub returns-clause-seq : goal.returns-clause-seq
 returns-clause-seq c = seq_of _ (invariant_of-self c)
+
+pub returns-clause-rising : goal.returns-clause-rising
+returns-clause-rising c =
+    let w = warp_of c.self.inside in
+    let rises : w.bound ≤ least_loose (simulation w.case) (core w) = (next_keeps (simulation w.case) (law w c.self.invariant) (core w) Bound c.self.invariant.good).bound in
+    let told : w.bound ≡ c.args.self.now.bound = ap (λ (v : Warp). v.bound) c.self.view_is in
+    let least = least_is c in
+    omega arith

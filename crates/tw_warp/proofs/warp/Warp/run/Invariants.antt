@@ -10,6 +10,7 @@ abbrev pub invariant-loop-step : goal.invariant-loop-step
 invariant-loop-step l = record {
   far : IsRun (simulation l.fn.self.case) l.steps l.step-index (core l.fn.self) (core l.self) l.answers.items;
   same : IsSameMachine l.fn.self l.self;
+  rising : l.fn.self.bound ≤ l.self.bound;
   seq : IsSeq (simulation l.self.case) (core l.self);
   count : vec_len l.answers ≡ l.step-index;
   room : length l.steps ≤ vec_capacity l.answers;

@@ -1,0 +1,81 @@
+"""Finds the functions of a source file, and their names in what the checker prints."""
+from __future__ import annotations
+
+import re
+from collections.abc import Sequence
+from dataclasses import dataclass
+from pathlib import PurePosixPath
+
+FUNCTION = re.compile(
+    r"( *)(?:pub(?:\([^)]*\))? )?(?:const )?(?:unsafe )?(?:extern \"C\" )?fn (\w+)"
+)
+BLOCK = re.compile(
+    r"(?:unsafe )?(?:impl\b(?P<impl>[^{]*)|(?:pub(?:\([^)]*\))? )?trait (?P<trait>\w+))"
+)
+
+
+@dataclass(frozen=True)
+class Function:
+    """A function by its path in the crate, as ('mail', 'Post', 'count'), and its first and last line, from 1."""
+
+    path: tuple[str, ...]
+    first: int
+    last: int
+
+    def is_named_by(self, words: Sequence[str]) -> bool:
+        """Whether the words, modules first, name this function, or a closure in it."""
+        plain = [word for word in words if word != "fn"]
+        head = plain[: len(self.path)]
+        if len(head) < len(self.path):
+            return False
+        return tuple(head[:-1]) == self.path[:-1] and head[-1].split("+")[0] == self.path[-1]
+
+
+def without_parameters(text: str) -> str:
+    """A type with neither type parameters nor lifetimes: `Tape` of `Tape<'_>`."""
+    while re.search(r"<[^<>]*>", text):
+        text = re.sub(r"<[^<>]*>", "", text)
+    return text.strip()
+
+
+def owner_of(block: re.Match[str]) -> str:
+    """What the checker calls a block of functions: the type, with the trait's name behind it where there is one."""
+    if block["trait"]:
+        return block["trait"]
+    names = without_parameters(block["impl"].replace("->", ""))
+    trait, _, of = re.sub(r"\bwhere\b.*", "", names, flags=re.DOTALL).rpartition(" for ")
+    return "".join(name.strip().lstrip("&").rpartition("::")[2] for name in (of, trait))
+
+
+def modules_of(file: str) -> tuple[str, ...]:
+    """The module that a file below src/ is: `src/mail/post.rt` is `mail::post`."""
+    parts = PurePosixPath(file).with_suffix("").parts[1:]
+    return parts[:-1] if parts[-1] in ("lib", "main", "mod") else parts
+
+
+def end_of(lines: Sequence[str], start: int, indent: str) -> int:
+    """The place of the line that ends what the line at `start` begins, in the layout of `rt fmt`."""
+    if lines[start].endswith((" {}", ";")):
+        return start
+    ends = (indent + "}", indent + "{}")
+    return next((at for at in range(start, len(lines)) if lines[at] in ends), len(lines) - 1)
+
+
+def functions_of(file: str, text: str) -> list[Function]:
+    """The functions of a file below src/, in the order in which they begin."""
+    lines = text.split("\n")
+    found: list[Function] = []
+    owner: tuple[str, ...] = ()
+    owner_ends = -1
+    for place, line in enumerate(lines):
+        if place > owner_ends:
+            owner = ()
+        # A header may go over several lines.
+        block = BLOCK.match(" ".join(lines[place : place + 6]).partition("{")[0])
+        if block:
+            owner, owner_ends = (owner_of(block),), end_of(lines, place, "")
+        function = FUNCTION.match(line)
+        if function:
+            path = (*modules_of(file), *(owner if function[1] else ()), function[2])
+            found.append(Function(path, place + 1, end_of(lines, place, function[1]) + 1))
+    return found

@@ -1,0 +1,78 @@
+"""What the tests of the tools share: how a tool or the built program is run, and how it should end."""
+from __future__ import annotations
+
+import subprocess
+import sys
+import unittest
+from dataclasses import dataclass
+from pathlib import Path
+from xml.etree import ElementTree
+
+TOP = Path(__file__).resolve().parent.parent
+INPUTS = TOP / "checks/inputs"
+CASES = TOP / "cases"
+sys.path.insert(0, str(TOP / "tools"))
+
+from twarp_tools import tutorial  # noqa: E402: it is found by the line above
+
+# The built program, where the command line of the tests names no other; None where what needs it is left out.
+program: Path | None = tutorial.PROGRAM
+
+
+@dataclass(frozen=True)
+class Done:
+    """How a command ended, and what it wrote."""
+
+    status: int
+    out: str
+    err: str
+
+
+def run(*words: object, stdin: str | bytes = "") -> Done:
+    given = stdin.encode() if isinstance(stdin, str) else stdin
+    done = subprocess.run([str(word) for word in words], input=given, capture_output=True, check=False)
+    return Done(done.returncode, done.stdout.decode(), done.stderr.decode())
+
+
+def tool(name: str, *words: object, stdin: str | bytes = "") -> Done:
+    """Runs a tool without site packages (-S), since it needs the standard library alone."""
+    return run(sys.executable, "-S", TOP / "tools" / name, *words, stdin=stdin)
+
+
+def need_program() -> Path:
+    if program is None:
+        raise unittest.SkipTest("it needs the program")
+    return program
+
+
+def twarp(*words: object, stdin: str) -> str:
+    return run(need_program(), *words, stdin=stdin).out
+
+
+def read(name: str) -> str:
+    return (INPUTS / name).read_text()
+
+
+def report_of(name: str, stop: int, *words: object) -> str:
+    return twarp("seq", "--stop", stop, "--log", *words, stdin=case_of(name))
+
+
+def case_of(name: str) -> str:
+    return (CASES / f"{name}.spp").read_text()
+
+
+def texts(svg: str) -> str:
+    """All words of a picture, tooltips among them, a line each."""
+    return "\n".join(element.text for element in ElementTree.fromstring(svg).iter() if element.text)
+
+
+class ToolTest(unittest.TestCase):
+    def assert_done(self, done: Done) -> str:
+        """Sees that a command ended well, and gives what it wrote on standard output."""
+        self.assertEqual((done.status, done.err), (0, ""))
+        return done.out
+
+    def assert_refused(self, done: Done, why: str) -> None:
+        """Sees that a command refused its input for this reason, and wrote nothing else."""
+        self.assertEqual((done.status, done.out), (1, ""), done.err)
+        self.assertIn(why, done.err)

@@ -1,0 +1,21 @@
+use Rattle.tw_event.specs.Order.{event_before, event_same}
+use Rattle.tw_sim.specs.Ordered.{times}
+use Rattle.tw_queue.specs.InOrder.{in_order}
+use Rattle.std.proofs.Common.{◌++◌, drop, ap, ◌∙◌, arith}
+use Rattle.tw_queue.proofs.Merged.{ring_taken}
+use Rattle.tw_queue.proofs.Stacked.{order_less, rest_counts}
+use Rattle.tw_queue.proofs.calendar.Calendar.skip_least.Goals as goal
+
+pub returns-in-None : goal.returns-in-None
+returns-in-None c =
+    let a = c.self.inside in
+    ap (λ ring. in_order event_before (ring ++ a.wheels)) c.skip_least.ensures ∙ ring_taken a.ring a.wheels c.in-None.ensures.ring ∙ ap (drop 1) c.self.view_is
+
+pub returns-in-Some : goal.returns-in-Some
+returns-in-Some c =
+    let a = c.self.inside in
+    let x = c.in-Some.first in
+    order_less x a.ring a.wheels a.ring c.remove.new.self c.in-Some.ensures.wheels (λ e.
+    let r = rest_counts e x a.wheels c.in-Some.ensures.there in
+    let m = ap (times event_same e) c.remove.ensures in
+    omega arith) ∙ ap (drop 1) c.self.view_is

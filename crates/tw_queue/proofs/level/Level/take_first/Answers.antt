@@ -1,0 +1,28 @@
+use Rattle.std.proofs.Common.{ap, ◌∙◌}
+use Rattle.tw_event.specs.Order.{event_same}
+use Rattle.tw_sim.specs.Ordered.{times}
+use Rattle.tw_queue.specs.Level.{width_of}
+use Rattle.tw_queue.proofs.Turns.{place_within, turn_emptied}
+use Rattle.tw_queue.proofs.Widths.{first_taken}
+use Rattle.tw_queue.proofs.level.Level.take_first.Goals as goal
+
+pub invariant_of-self : goal.invariant_of-self
+invariant_of-self c =
+    let a = c.self.inside in
+    let v = c.self.invariant in
+    let p = c.first_place-place.result in
+    let f = c.first_place-place.ensures in
+    let m = c.without_mark-self-inside in
+    record {
+      shift = v.shift;
+      turn =
+          rw (c.swap.ensures.x_after ∙ c.requires)
+          (turn_emptied (width_of a.shift) a.base a.marks a.buckets v.turn p (place_within (width_of a.shift) a.base a.marks a.buckets v.turn p f) m.result m.ensures.same m.ensures.others);
+    }
+
+pub returns : goal.returns
+returns c e =
+    let a = c.self.inside in
+    let p = c.first_place-place.result in
+    let taken = first_taken a.shift a.base a.marks a.buckets c.self.invariant.turn p c.first_place-place.ensures c.index-self-place.result c.index-self-place.is e in
+    rw (c.swap.ensures.x_after ∙ c.requires, c.swap.ensures.y_after) (taken ∙ ap (times event_same e) c.self.view_is)

@@ -1,0 +1,162 @@
+// One level of the wheels: events by widths of time.
+ghost use Rattle.std.specs.Prelude.{ℕ, ◌≡◌, ◌<◌, ◌≤◌, ◌+◌, ◌++◌, ◌↔◌, [], None, Some, IsTrue, OnOk, drop, slice_get};
+ghost use Rattle.std.specs.Bool.{OnFalse, OnTrue};
+ghost use Rattle.tw_event.specs.declared.event.Event.{Event as AnEvent};
+ghost use Rattle.tw_event.specs.Order.{event_before, event_same};
+ghost use Rattle.tw_queue.specs.Buckets.{together};
+ghost use Rattle.tw_sim.specs.Ordered.{insert, take_out, times};
+ghost use Rattle.tw_sim.specs.Rising.{IsRising};
+
+use crate::bucket::Bucket;
+use crate::marks::{first_place, is_ahead, marked_as, slot_of, with_mark, without_mark};
+use std::alloc::{AllocError, Global};
+use std::array;
+use std::marker::Model;
+use std::mem::swap;
+use tw_event::Event;
+
+/// Events in buckets, each for a width of 2^shift ticks.
+///
+/// An event at time t, in ticks, lies in the width number t / 2^shift, and this number mod 64 is that of its
+/// bucket. Only the 64 widths after a base have buckets, so that each bucket has one width.
+#[derive(Drop)]
+pub(crate) struct Level {
+    shift: u32,
+    // The number of a width that is begun.
+    base: u64,
+    marks: u64,
+    buckets: [Bucket; 64],
+}
+
+impl Model for Level {
+    ghost use Rattle.std.specs.Prelude.{List};
+    ghost use Rattle.tw_event.specs.declared.event.Event.{Event};
+    ghost use Rattle.tw_queue.specs.Level.{IsLevel, level_events};
+
+    ghost Value = { List Event };
+
+    ghost view = { level_events };
+
+    ghost invariant = { IsLevel };
+}
+
+impl Level {
+    /// No events, in buckets of 2^shift ticks.
+    pub(crate) fn new(alloc: Global, shift: u32) -> Level
+        requires { shift < 64 }
+        ensures { result ≡ [] }
+    {
+        Level {
+            shift,
+            base: 0,
+            marks: 0,
+            buckets: array::from_fn(|_| Bucket::new(alloc)),
+        }
+    }
+
+    /// Adds an event where one of the 64 widths has it and memory is not refused, and tells whether it did.
+    #[inline(always)]
+    pub(crate) fn insert(&mut self, event: &Event) -> bool
+        ensures added { OnTrue result (self.new ≡ insert event_before event.now self.old) }
+        ensures same { OnFalse result (self.new ≡ self.old) }
+    {
+        let width = event.time >> self.shift;
+        if !is_ahead(width, self.base) {
+            return false;
+        }
+        let slot = slot_of(width);
+        reuse_memory(&mut self.buckets, slot_of(self.base), slot);
+        if !self.buckets[slot].push(event) {
+            return false;
+        }
+        self.marks = with_mark(self.marks, slot);
+        true
+    }
+
+    /// The time, in ticks, at which the first width that has events begins, and `u64::MAX` where there is none.
+    pub(crate) fn start(&self) -> u64
+        ensures { (e : AnEvent) → 0 < times event_same e self.now → result ≤ e.time }
+    {
+        match self.buckets[first_place(self.marks, self.base)].first_time() {
+            Some(time) => time >> self.shift << self.shift,
+            None => u64::MAX,
+        }
+    }
+
+    /// The least event. The events are in order.
+    pub(crate) fn least(&self) -> Option<Event>
+        ensures least { result ≡ slice_get self.now 0 }
+        ensures rising { IsRising event_before event_same self.now }
+    {
+        self.buckets[first_place(self.marks, self.base)].least()
+    }
+
+    /// Gives the events of the first width that has any to an empty bucket.
+    pub(crate) fn take_first(&mut self, events: &mut Bucket)
+        requires { events.old ≡ [] }
+        ensures { (e : AnEvent) → times event_same e self.new + times event_same e events.new ≡ times event_same e self.old }
+    {
+        let place = first_place(self.marks, self.base);
+        swap(&mut self.buckets[place], events);
+        self.marks = without_mark(self.marks, place);
+    }
+
+    /// Takes one event that equals `event` out, and tells whether there was one.
+    pub(crate) fn remove(&mut self, event: &Event) -> bool
+        ensures found { IsTrue result ↔ (0 < times event_same event.now self.old) }
+        ensures events { self.new ≡ take_out event_same event.now self.old }
+        ensures same { OnFalse result (self.new ≡ self.old) }
+    {
+        let slot = slot_of(event.time >> self.shift);
+        let bucket = &mut self.buckets[slot];
+        let found = bucket.remove(event);
+        let has_more = bucket.len() > 0;
+        self.marks = marked_as(self.marks, slot, has_more);
+        found
+    }
+
+    /// The run has come to this time, in ticks, so that the widths after it may have buckets, as far as no event
+    /// is before them. No promise rests on it.
+    pub(crate) fn go_to(&mut self, time: u64)
+        ensures { self.new ≡ self.old }
+    {
+        let width = time >> self.shift;
+        if width <= self.base || self.start() >> self.shift <= width {
+            return;
+        }
+        self.base = width;
+    }
+
+    /// Puts its events at the end of a list.
+    pub(crate) fn append_to(&self, events: &mut Vec<Event>) -> Result<(), AllocError>
+        ensures { OnOk result ((e : AnEvent) → times event_same e events.new.items ≡ times event_same e self.now + times event_same e events.old.items) }
+    {
+        append_buckets(&self.buckets, events)
+    }
+}
+
+// Puts the events of buckets at the end of a list.
+fn append_buckets(buckets: &[Bucket], events: &mut Vec<Event>) -> Result<(), AllocError>
+    ensures { OnOk result (events.new.items ≡ events.old.items ++ together buckets.now) }
+{
+    for bucket in buckets {
+        bucket.append_to(events)?;
+    }
+    Ok(())
+}
+
+// Gives an empty bucket the memory of another empty one, as that of the width that is begun is, so that the
+// buckets together have the memory that all events need, and not each its own.
+#[inline(always)]
+fn reuse_memory(buckets: &mut [Bucket; 64], from: usize, to: usize)
+    requires from { from < 64 }
+    requires to { to < 64 }
+    ensures { buckets.new ≡ buckets.old }
+{
+    if buckets[to].len() != 0 {
+        return;
+    }
+    if buckets[from].len() == 0 {
+        buckets.swap(from, to);
+    }
+}

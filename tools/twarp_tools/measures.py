@@ -1,0 +1,152 @@
+"""What the links of a network measure: the delays and weights that a case is made of."""
+from __future__ import annotations
+
+import math
+from collections.abc import Callable
+from dataclasses import dataclass
+from fractions import Fraction
+
+from twarp_tools.case import GREATEST_DELAY, MOST_LINKS
+from twarp_tools.command import Refused
+from twarp_tools.network import Item, Network
+
+# Attributes of links that are read where the command line names none, in letters of any case.
+DISTANCES = ("delay", "latency", "distance", "dist", "length")
+WEIGHTS = ("weight", "metric", "cost")
+
+EARTH_RADIUS_KM = 6_371
+# What light goes in glass in a millisecond.
+KM_PER_TICK = 200
+
+GREATEST_VALUE = 10**15
+
+
+@dataclass(frozen=True)
+class Choice:
+    """What the command line says of delays and weights: names of attributes, and how much is a tick."""
+
+    delay: str | None
+    weight: str | None
+    per_tick: Fraction | None
+
+
+# What a link has of something, where it has it.
+Measure = Callable[[Item], Fraction | None]
+
+
+def measure_by(names: tuple[str, ...]) -> Measure:
+    """What the first of these attributes says, which is not below 0."""
+
+    def measure(link: Item) -> Fraction | None:
+        found = link.find(names)
+        return found.number_between(0, GREATEST_VALUE) if found else None
+
+    return measure
+
+
+def measure_on_globe(network: Network) -> Measure:
+    """The kilometres between a link's ends, where both have their place."""
+
+    def place_of(node: str) -> tuple[float, float] | None:
+        latitude, longitude = (network.nodes[node].find([name]) for name in ("latitude", "longitude"))
+        if not latitude or not longitude:
+            return None
+        return math.radians(latitude.number_between(-90, 90)), math.radians(longitude.number_between(-180, 180))
+
+    def measure(link: Item) -> Fraction | None:
+        places = [place for place in map(place_of, network.ends(link)) if place]
+        return Fraction(round(kilometres(*places))) if len(places) == 2 else None
+
+    return measure
+
+
+def kilometres(one: tuple[float, float], other: tuple[float, float]) -> float:
+    """The length of the great circle's arc, by the haversine formula."""
+    (latitude, longitude), (other_latitude, other_longitude) = one, other
+    height = math.sin((latitude - other_latitude) / 2) ** 2
+    width = math.sin((longitude - other_longitude) / 2) ** 2
+    share = height + math.cos(latitude) * math.cos(other_latitude) * width
+    return 2 * EARTH_RADIUS_KM * math.asin(math.sqrt(min(1.0, share)))
+
+
+def delay_measure(network: Network, choice: Choice) -> tuple[Measure, Fraction] | None:
+    """How links' delays are found, and how much of it is a tick; none where all are 1."""
+    if choice.delay:
+        names = known_names(network, (choice.delay,))
+        if not names:
+            raise Refused(f"refused option --delay: no link has the attribute {choice.delay}")
+        return measure_by(names), choice.per_tick or Fraction(1)
+    if names := known_names(network, DISTANCES):
+        return measure_by(names), choice.per_tick or Fraction(1)
+    if any(node.find(["latitude"]) and node.find(["longitude"]) for node in network.nodes.values()):
+        return measure_on_globe(network), choice.per_tick or Fraction(KM_PER_TICK)
+    if names := known_names(network, WEIGHTS):
+        return measure_by(names), choice.per_tick or Fraction(1)
+    return None
+
+
+def weight_measure(network: Network, choice: Choice) -> Measure | None:
+    """How links' weights are found; none where they are the delays."""
+    names = known_names(network, (choice.weight,) if choice.weight else WEIGHTS)
+    if choice.weight and not names:
+        raise Refused(f"refused option --weight: no link has the attribute {choice.weight}")
+    return measure_by(names) if names else None
+
+
+def known_names(network: Network, names: tuple[str, ...]) -> tuple[str, ...]:
+    """The first of these names that is one of some link's attributes, where there is one."""
+    return next(((name,) for name in names if any(link.find([name]) for link in network.links)), ())
+
+
+@dataclass(frozen=True, slots=True)
+class Measured:
+    """A link's delay and weight."""
+
+    delay: int
+    weight: Fraction
+
+
+class Joined:
+    """A network whose nodes are joined by one link each at most: the lightest, and of these the quickest."""
+
+    def __init__(self, network: Network, choice: Choice):
+        self.network = network
+        self.rows: dict[str, dict[str, Measured]] = {node: {} for node in network.nodes}
+        self.parallel = self.loops = self.unmeasured = 0
+        self.delay = delay_measure(network, choice)
+        self.weight = weight_measure(network, choice)
+        for link in network.links:
+            self.join(link)
+
+    def join(self, link: Item) -> None:
+        a, b = self.network.ends(link)
+        if a == b:
+            self.loops += 1
+            return
+        measured = self.measure(link)
+        known = self.rows[a].get(b)
+        if known:
+            self.parallel += 1
+            measured = min(known, measured, key=lambda one: (one.weight, one.delay))
+        elif max(len(self.rows[a]), len(self.rows[b])) == MOST_LINKS:
+            crowded = a if len(self.rows[a]) == MOST_LINKS else b
+            raise Refused.at_line(link.line, f"this is a 65th link of the node {self.network.name(crowded)}")
+        self.rows[a][b] = self.rows[b][a] = measured
+
+    def measure(self, link: Item) -> Measured:
+        delay = self.delay_of(link)
+        weight = self.weight(link) if self.weight else Fraction(delay)
+        return Measured(delay, Fraction(1) if weight is None else weight)
+
+    def delay_of(self, link: Item) -> int:
+        if not self.delay:
+            return 1
+        measure, per_tick = self.delay
+        distance = measure(link)
+        if distance is None:
+            self.unmeasured += 1
+            return 1
+        delay = max(1, round(distance / per_tick))
+        if delay > GREATEST_DELAY:
+            raise Refused.at_line(link.line, f"the delay of this link is {delay:,}: at most {GREATEST_DELAY:,} can be")
+        return delay

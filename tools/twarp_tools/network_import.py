@@ -1,0 +1,148 @@
+"""The tool import: a network in GraphML or GML becomes a case."""
+from __future__ import annotations
+
+import argparse
+from collections.abc import Iterator
+from fractions import Fraction
+from pathlib import Path
+from typing import BinaryIO
+
+from twarp_tools.case import MOST_NODES, MOST_PATHS, MOST_ROUTERS, Case, Link
+from twarp_tools.command import Parser, Refused, number_between, tell, write_output
+from twarp_tools.gml import read_gml
+from twarp_tools.graphml import read_graphml
+from twarp_tools.measures import DISTANCES, KM_PER_TICK, WEIGHTS, Choice, Joined, Measured
+from twarp_tools.network import Network
+from twarp_tools.packed import read_stream
+from twarp_tools.shortest import Shortest
+
+DESCRIPTION = f"""\
+Makes a case of a network in GraphML or GML, on standard output.
+
+Both are read as the Internet Topology Zoo publishes them, also packed by gzip or bzip2. The destination becomes router
+0, and the other nodes that a path leads from the routers 1, 2, .. in the order of the file.
+
+The delay of a link is its {", ".join(DISTANCES[:-1])} or {DISTANCES[-1]}, the first of these that some link has; else
+the distance of its ends on the globe, of {KM_PER_TICK} km a tick, where nodes have Latitude and Longitude; else its
+{", ".join(WEIGHTS[:-1])} or {WEIGHTS[-1]}; else 1. A tick is the least delay, and a link without the value has 1.
+
+All paths without a repeated node are permitted, as far as --paths goes: those of less weight first, then those of fewer
+links, then those by way of lower routers. The weight of a link is its {", ".join(WEIGHTS[:-1])} or {WEIGHTS[-1]}, the
+first of these that some link has, where a link without it has 1; else its delay.
+
+What is left out is told on standard error."""
+EXAMPLE = """\
+example:
+  tools/import --destination Vienna --map nodes.txt Geant2012.graphml > case.spp
+  tools/draw --names nodes.txt case.spp | dot -Tsvg > geant.svg"""
+
+
+def read_scale(word: str) -> Fraction:
+    """A positive number, as 1000 or 0.5."""
+    try:
+        scale = Fraction(word) if len(word) <= 20 and "e" not in word.lower() else Fraction(0)
+    except (ValueError, ZeroDivisionError):
+        scale = Fraction(0)
+    if scale <= 0:
+        raise argparse.ArgumentTypeError(f"{word!r} is no number above 0")
+    return scale
+
+
+def command_line() -> argparse.Namespace:
+    parser = Parser(DESCRIPTION, EXAMPLE)
+    parser.add_argument("input", metavar="FILE", nargs="?", default="-", help="the network; - is standard input")
+    parser.add_argument("--destination", metavar="NODE", required=True, help="where all paths lead to: a label or an id")
+    parser.add_argument("--delay", metavar="NAME", help="read the delays from this attribute of links")
+    parser.add_argument("--weight", metavar="NAME", help="rank by this attribute of links")
+    parser.add_argument(
+        "--per-tick",
+        metavar="NUMBER",
+        type=read_scale,
+        help=f"how much of a distance or a weight is a tick (default {KM_PER_TICK} on the globe, else 1)",
+    )
+    parser.add_argument(
+        "--paths",
+        metavar="N",
+        type=number_between(1, MOST_PATHS),
+        default=20,
+        help="permit at most N paths at a router (default %(default)s)",
+    )
+    parser.add_argument("--map", metavar="FILE", help="write the number and the label of each router into this file")
+    return parser.parse_args()
+
+
+def read_network(source: BinaryIO) -> Network:
+    """A network in XML, which begins with `<`, or in GML."""
+    text = source.read()
+    read = read_graphml if text.lstrip(b"\xef\xbb\xbf \t\r\n").startswith(b"<") else read_gml
+    return read(text.removeprefix(b"\xef\xbb\xbf"))
+
+
+def destination_of(network: Network, name: str) -> str:
+    """The node of this id, or else of this label."""
+    if name in network.nodes:
+        return name
+    found = [node for node in network.nodes if network.name(node) == name]
+    if len(found) != 1:
+        raise Refused(f"refused option --destination: {len(found)} nodes are called {name}")
+    return found[0]
+
+
+def routers_of(joined: Joined, destination: str) -> list[str]:
+    """The destination, and the nodes that a path leads from in the order of the file."""
+    reached, ahead = {destination}, [destination]
+    while ahead:
+        peers = [peer for peer in joined.rows[ahead.pop()] if peer not in reached]
+        reached.update(peers)
+        ahead += peers
+    routers = [destination, *(node for node in joined.rows if node in reached and node != destination)]
+    if len(routers) > MOST_ROUTERS:
+        node = joined.network.nodes[routers[MOST_ROUTERS]]
+        raise Refused.at_line(node.line, f"this is node {MOST_ROUTERS + 1:,}, and a case has {MOST_ROUTERS:,} at most")
+    return routers
+
+
+def links_of(rows: list[dict[int, Measured]]) -> Iterator[Link]:
+    for router, row in enumerate(rows):
+        yield from (Link(router, peer, row[peer].delay) for peer in sorted(row) if router < peer)
+
+
+def tell_cuts(joined: Joined, routers: list[str], shortest: Shortest, line: argparse.Namespace) -> None:
+    """Says on standard error what of the network is not in the case, or is there with a delay of its own."""
+    counts = {
+        "nodes left out that no path leads from": len(joined.rows) - len(routers),
+        "links left out because their ends are one node": joined.loops,
+        "links left out because their ends have a lighter or equal one": joined.parallel,
+        "links with the delay 1, because they have no value for it": joined.unmeasured,
+        f"routers with paths left out because each has at most {line.paths}": len(shortest.crowded),
+        f"routers with paths left out because these have more than {MOST_NODES} nodes": len(shortest.too_long),
+    }
+    for what, count in counts.items():
+        if count:
+            tell(f"{what}: {count:,}")
+
+
+def names_of(network: Network, routers: list[str]) -> str:
+    """A line for each router: its number and its name. A name that is a number alone would be read as an AS."""
+    names = (f"node {name}" if name.isdigit() else name for name in map(network.name, routers))
+    return "".join(f"{router} {name}\n" for router, name in enumerate(names))
+
+
+def read_joined(source: BinaryIO, line: argparse.Namespace) -> tuple[Joined, list[str]]:
+    """The network and the nodes that become routers. Here too, since what is wrong is told by the file's name."""
+    network = read_network(source)
+    joined = Joined(network, Choice(line.delay, line.weight, line.per_tick))
+    return joined, routers_of(joined, destination_of(network, line.destination))
+
+
+def main() -> None:
+    line = command_line()
+    joined, routers = read_stream(line.input, lambda source: read_joined(source, line))
+    numbers = {node: router for router, node in enumerate(routers)}
+    rows = [{numbers[peer]: measured for peer, measured in joined.rows[node].items()} for node in routers]
+    shortest = Shortest([{peer: row[peer].weight for peer in sorted(row)} for row in rows], line.paths)
+    paths = [path for router in range(1, len(rows)) for path in shortest.paths(router)]
+    tell_cuts(joined, routers, shortest, line)
+    if line.map:
+        Path(line.map).write_text(names_of(joined.network, routers), encoding="utf-8")
+    write_output(str(Case(len(rows), [*links_of(rows)], paths)))

@@ -1,0 +1,206 @@
+"""The tool page: the run of a case as one page to look at."""
+from __future__ import annotations
+
+import argparse
+import json
+import math
+from collections.abc import Iterator
+from html import escape
+from pathlib import Path
+from string import Template
+from xml.etree import ElementTree
+from xml.etree.ElementTree import Element
+
+from twarp_tools.axis import TimeAxis
+from twarp_tools.case import Case, read_case
+from twarp_tools.command import Input, Parser, Refused, write_output
+from twarp_tools.lanes import TOP, Sample, View, draw_legend, sample_line
+from twarp_tools.network_drawing import NetworkDrawing
+from twarp_tools.palette import DARK, LIGHT, PLACES
+from twarp_tools.part import add_part, subtitle_of, title_of, view_of_run
+from twarp_tools.recording import Json, Recording
+from twarp_tools.report import Report, read_report
+from twarp_tools.run import Run, follow
+from twarp_tools.run_picture import RunPicture
+from twarp_tools.svg import DEFINITIONS, STYLE, add
+
+DESCRIPTION = """\
+Makes a page of the run of a case on standard output: one HTML file that needs no network.
+
+It has the drawing of the network, the timeline, a slider of time that moves both, and each router's table. The report
+has to be one with --log. A page has at most 300 routers and 5,000 events; of more, choose a part."""
+EXAMPLE = """\
+example:
+  ./twarp seq --stop 20 --every 1 --log < cases/bad-gadget.spp | tools/page cases/bad-gadget.spp > bad-gadget.html"""
+
+PARTS = Path(__file__).resolve().parent / "page_parts"
+MOST_ROUTERS = 300
+MOST_EVENTS = 5_000
+# The slider stops at each tick where there are not more of them, else where something happens.
+MOST_TICKS = 2_000
+
+# How far the timeline goes on above its lanes, where the times stand, and beyond its ends.
+TIMES_HEIGHT = 24.0
+ABOVE, BELOW, BESIDE = 8.0, 22.0, 14.0
+
+
+def command_line() -> argparse.Namespace:
+    parser = Parser(DESCRIPTION, EXAMPLE)
+    parser.add_argument("case", metavar="CASE", help="the case; - is standard input")
+    parser.add_argument(
+        "report", metavar="REPORT", nargs="?", default="-", help="the report; standard input where none is given"
+    )
+    add_part(parser)
+    line = parser.parse_args()
+    if line.case == line.report == "-":
+        parser.error("only one of CASE and REPORT can be standard input")
+    return line
+
+
+def refuse_crowd(count: int, most: int, what: str) -> None:
+    if count > most:
+        raise Refused(
+            f"there are {count:,} {what} to be shown, and a page has at most {most:,}: "
+            "choose some by --from, --to and --routers"
+        )
+
+
+def stops_of(axis: TimeAxis, moments: set[int]) -> list[int]:
+    """The times at which the slider stops."""
+    folded = sum(end - start - 1 for start, end in axis.folds)
+    if axis.last - axis.first - folded >= MOST_TICKS:
+        return sorted({axis.first, axis.last, *moments})
+    ends = [axis.first - 1, *(end for fold in axis.folds for end in fold), axis.last + 1]
+    # Between two folds every tick is a stop, the ends of folds among them.
+    stops = {time for a, b in zip(ends[::2], ends[1::2]) for time in range(a, b + 1)}
+    return sorted(time for time in stops if axis.first <= time <= axis.last)
+
+
+class Page:
+    """What the page of a part of a run has."""
+
+    def __init__(self, case: Case, report: Report, run: Run, view: View, recording: Recording):
+        self.view = view
+        self.recording = recording
+        self.network = NetworkDrawing(case, view)
+        self.picture = RunPicture(case, report, run, view)
+        self.messages = recording.messages(run)
+        moments = {message[end] for message in self.messages for end in ("sent", "arrives")}
+        moments |= {event["time"] for event in recording.events}
+        self.stops = stops_of(self.picture.axis, {time for time in moments if view.first <= time <= view.last})
+
+    def html(self, title: str, subtitle: str) -> str:
+        parts = {
+            "title": escape(title),
+            "subtitle": escape(subtitle),
+            "last_stop": str(len(self.stops) - 1),
+            "style": style(),
+            "timeline": "\n".join(map(written, self.timeline())),
+            "marks": "\n".join(self.marks()),
+            "run": json.dumps(self.json(), separators=(",", ":")).replace("<", "\\u003c"),
+            "script": (PARTS / "page.js").read_text(),
+        }
+        return Template((PARTS / "page.html").read_text()).substitute(parts)
+
+    def json(self) -> Json:
+        """What the script has to know."""
+        return {
+            **self.network.json(),
+            "stops": self.stops,
+            "xs": [round(self.picture.axis.x(time), 1) for time in self.stops],
+            "places": [{"name": place.name, "fill": place.fill, "ink": place.ink} for place in PLACES],
+            "paths": list(self.recording.paths),
+            "routers": list(self.routers()),
+            "messages": self.messages,
+            "events": self.recording.events,
+        }
+
+    def routers(self) -> Iterator[Json]:
+        network = self.network
+        for router, point, words in zip(self.view.routers, network.points, network.words):
+            yield {
+                "router": router,
+                "name": self.view.names.get(router, ""),
+                "x": point.x + network.left,
+                "y": point.y + network.top,
+                "words_y": words.y + network.top,
+                "opening": self.recording.state(self.recording.opening[router]),
+            }
+
+    def timeline(self) -> list[Element]:
+        """The pictures that make the timeline: its corner, its times, its names, and its lanes with the cursor."""
+        lanes = self.picture.lanes
+        left, top = lanes.left - BESIDE, TOP - ABOVE
+        width, height = self.picture.right - left + BESIDE, lanes.bottom - top + BELOW
+        corner = pane("corner", 0, top - TIMES_HEIGHT, left, TIMES_HEIGHT)
+        times = pane("times", left, top - TIMES_HEIGHT, width, TIMES_HEIGHT)
+        names = pane("names", 0, top, left, height)
+        area = pane("area", left, top, width, height)
+        area.append(ElementTree.fromstring(DEFINITIONS.substitute(variables())))
+        self.picture.draw_onto(area, times, names)
+        add(area, "rect", class_="later", x=left, y=top, width=0, height=height)
+        add(area, "line", class_="cursor", x1=left, y1=top, x2=left, y2=lanes.bottom)
+        # The word `time` belongs above the names.
+        corner.append(times[0])
+        times.remove(times[0])
+        return [corner, times, names, area]
+
+    def marks(self) -> Iterator[str]:
+        """The legend, of the network's marks and then of the timeline's."""
+        for entry in [*NETWORK_MARKS, *self.picture.legend()]:
+            width = 40 + 6.9 * len(entry[0])
+            mark = pane("", 12, 0, width, 22)
+            draw_legend(mark, math.inf, 11, [entry])
+            yield f"<li>{written(mark)}</li>"
+
+
+def sample_dot(look: str) -> Sample:
+    def draw(parent: Element, x: float, y: float) -> None:
+        add(parent, "circle", class_=look, cx=x, cy=y, r=6)
+
+    return draw
+
+
+NETWORK_MARKS = [
+    ("message on its way", sample_dot("dot")),
+    ("on its way, without a path", sample_dot("dot withdrawal")),
+    ("on its way, will be dropped", sample_dot("dot lost")),
+    ("link that is down", sample_line(class_="wire down")),
+]
+
+
+def pane(look: str, x: float, y: float, width: float, height: float) -> Element:
+    """A picture that shows a part of a drawing, a pixel for each of its units."""
+    box = f"{x:.1f} {y:.1f} {width:.1f} {height:.1f}"
+    return Element("svg", {"class": look, "viewBox": box, "width": f"{width:.1f}", "height": f"{height:.1f}"})
+
+
+def written(picture: Element) -> str:
+    ElementTree.indent(picture, "")
+    return ElementTree.tostring(picture, "unicode")
+
+
+def variables() -> dict[str, str]:
+    """The colours as variables of the page, which stand for those on light or on dark ground."""
+    return {name: f"var(--{name})" for name in LIGHT}
+
+
+def style() -> str:
+    light, dark = ("".join(f"--{name}: {colour}; " for name, colour in table.items()) for table in (LIGHT, DARK))
+    root = f":root {{ color-scheme: light dark; {light}}}\n"
+    root += f"@media (prefers-color-scheme: dark) {{ :root {{ {dark}}} }}\n"
+    return root + STYLE.substitute(variables()) + (PARTS / "page.css").read_text()
+
+
+def main() -> None:
+    line = command_line()
+    case_text, report_text = Input.of(line.case), Input.of(line.report)
+    case = case_text.read(read_case)
+    report = report_text.read(lambda text: read_report(text, case.nodes))
+    view = view_of_run(line, case.nodes, report)
+    refuse_crowd(len(view.routers), MOST_ROUTERS, "routers")
+    recording = Recording(case, view)
+    run = report_text.read(lambda _: follow(case, report, recording))
+    refuse_crowd(len(recording.events), MOST_EVENTS, "events")
+    page = Page(case, report, run, view, recording)
+    write_output(page.html(f"{title_of(line)}: verdict {report.verdict}", subtitle_of(report)))

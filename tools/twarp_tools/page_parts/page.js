@@ -1,0 +1,357 @@
+"use strict";
+
+// The run as the tool `page` recorded it. A path stands by its number in run.paths, which has the nodes of each.
+const run = JSON.parse(document.getElementById("run").textContent);
+
+const ORIGIN = 0;
+const RADIUS = 15;
+const DOT = 6;
+// The names of the edges of boxes.
+const ACROSS = ["left", "right"];
+const DOWN = ["top", "bottom"];
+const STEP_MILLISECONDS = 700;
+const ARROW_HEAD = 9;
+const ARROW_INSET = RADIUS + 2;
+// How far messages stay from the middle of the routers that they come from and go to.
+const DOT_INSET = RADIUS + DOT + 2;
+// How far from a link's middle line an arrow (to its right) and a message (to its left) stand, seen in its direction.
+const ARROW_ASIDE = 5;
+const DOT_ASIDE = -7;
+
+const SVG = "http://www.w3.org/2000/svg";
+const byId = (id) => document.getElementById(id);
+const controls = Object.fromEntries(["time", "now", "router", "play", "whole"].map((id) => [id, byId(id)]));
+const points = new Map(run.routers.map((router) => [router.router, router]));
+const view = { stop: 0, router: (run.routers[1] ?? run.routers[0]).router };
+
+function add(parent, tag, attributes = {}, text = "") {
+  const isDrawn = parent instanceof SVGElement;
+  const element = isDrawn ? document.createElementNS(SVG, tag) : document.createElement(tag);
+  for (const [name, value] of Object.entries(attributes)) element.setAttribute(name, value);
+  element.append(text);
+  parent.append(element);
+  return element;
+}
+
+// What the run is at a time.
+
+const pathWords = (path) => `(${run.paths[path].join(" ")})`;
+const placeOf = (number) => run.places[Math.min(number, run.places.length - 1)];
+const countOf = (number, word) => `${number} ${word}${number === 1 ? "" : "s"}`;
+
+function apply(state, event) {
+  state.counters = event.counters;
+  if (event.rib !== undefined) state.rib = event.rib;
+  if (event.order) state.order = event.order;
+  if (event.row) state.rows = state.rows.map((row) => (row[0] === event.row[0] ? event.row : row));
+}
+
+/** The state of each router in view, after all that happens at the time. */
+function statesAt(time) {
+  const states = new Map(run.routers.map(({ router, opening }) => [router, { ...opening }]));
+  for (const event of run.events) {
+    if (event.time > time) break;
+    apply(states.get(event.router), event);
+  }
+  return states;
+}
+
+const messagesAt = (time) => run.messages.filter((message) => message.sent <= time && time < message.arrives);
+
+function isDown([a, b], states) {
+  return states.get(a).rows.some(([peer, , isUp]) => peer === b && !isUp);
+}
+
+// The network.
+
+const network = byId("network");
+network.setAttribute("viewBox", `0 0 ${run.width} ${run.height}`);
+const LAYERS = ["wires", "arrows", "delays", "dots", "routers"];
+const layers = Object.fromEntries(LAYERS.map((name) => [name, add(network, "g")]));
+
+/** Shows the network at its own size, with bars to scroll where it is larger than its pane, or as a whole. */
+function sizeNetwork() {
+  const isWhole = controls.whole.checked;
+  network.style.width = isWhole ? "100%" : `${run.width}px`;
+  network.style.maxHeight = isWhole ? "70vh" : "none";
+}
+
+/** How far a pane has to be scrolled, along an axis, to have a part of it in the middle; 0 where the part is seen. */
+function wayTo(part, pane, [start, end], covered = 0) {
+  const [inner, outer] = [part.getBoundingClientRect(), pane.getBoundingClientRect()];
+  const least = outer[start] + covered;
+  if (inner[start] >= least && inner[end] <= outer[end]) return 0;
+  return (inner[start] + inner[end] - least - outer[end]) / 2;
+}
+
+/** The point of a link from a to b at a part of its way between their edges, moved aside. */
+function along(a, b, part, aside, inset = RADIUS) {
+  const [from, to] = [points.get(a), points.get(b)];
+  const [x, y] = [to.x - from.x, to.y - from.y];
+  const length = Math.hypot(x, y);
+  const way = inset + part * (length - 2 * inset);
+  return [from.x + (x * way - y * aside) / length, from.y + (y * way + x * aside) / length];
+}
+
+function drawWire([a, b, delay, part]) {
+  const [from, to] = [points.get(a), points.get(b)];
+  const line = add(layers.wires, "line", { class: "wire", x1: from.x, y1: from.y, x2: to.x, y2: to.y });
+  add(line, "title", {}, `link ${a} ${b}, delay ${delay}`);
+  if (run.has_words) {
+    const [x, y] = along(a, b, part, 0, 0);
+    add(layers.delays, "text", { class: "delay", x, y: y + 4 }, delay.toLocaleString("en"));
+  }
+  return line;
+}
+
+function drawRouter({ router, x, y, words_y: wordsY, name }) {
+  const group = add(layers.routers, "g", { class: "router", "data-router": router });
+  const title = add(group, "title");
+  add(group, "circle", { class: "ring", cx: x, cy: y, r: RADIUS + 4 });
+  const side = 2 * RADIUS;
+  const body =
+    router === ORIGIN
+      ? add(group, "rect", { class: "body", x: x - RADIUS, y: y - RADIUS, width: side, height: side, rx: 3 })
+      : add(group, "circle", { class: "body", cx: x, cy: y, r: RADIUS });
+  const number = add(group, "text", { x, y: y + 4 }, router);
+  const words = run.has_words ? add(layers.routers, "text", { class: "words", x, y: wordsY + 4 }) : null;
+  group.addEventListener("click", () => choose(router));
+  return { group, title, body, number, words, name: `router ${router} ${name}`.trim() };
+}
+
+const wires = run.links.map(drawWire);
+const drawn = new Map(run.routers.map((router) => [router.router, drawRouter(router)]));
+
+function showRouter(router, state) {
+  const { group, title, body, number, words, name } = drawn.get(router);
+  const place = placeOf(state.order.indexOf(state.rib));
+  group.classList.toggle("pathless", !state.rib);
+  group.classList.toggle("chosen", router === view.router);
+  body.style.fill = state.rib ? place.fill : "";
+  number.style.fill = state.rib ? place.ink : "";
+  title.textContent = state.rib ? `${name}: ${pathWords(state.rib)}, its ${place.name} path` : `${name}: no path`;
+  if (words) words.textContent = state.rib ? pathWords(state.rib) : "no path";
+}
+
+/** The outline of an arrow beside a link from a to b, as points by their part of the way and how far aside they are. */
+function arrowOutline(a, b) {
+  const [from, to] = [points.get(a), points.get(b)];
+  const length = Math.hypot(to.x - from.x, to.y - from.y) - 2 * ARROW_INSET;
+  const neck = 1 - ARROW_HEAD / Math.max(2 * ARROW_HEAD, length);
+  const asides = { left: ARROW_ASIDE - 1.5, right: ARROW_ASIDE + 1.5 };
+  const head = [[neck, ARROW_ASIDE - 5], [1, ARROW_ASIDE], [neck, ARROW_ASIDE + 5]];
+  return [[0, asides.left], [neck, asides.left], ...head, [neck, asides.right], [0, asides.right]];
+}
+
+/** The arrow of a path in use, to the next router. */
+function showArrow(router, state) {
+  const next = run.paths[state.rib][1];
+  if (!points.has(next)) return;
+  const corners = arrowOutline(router, next).map(([part, aside]) => along(router, next, part, aside, ARROW_INSET));
+  const d = `M${corners.map(([x, y]) => `${x.toFixed(1)} ${y.toFixed(1)}`).join("L")}z`;
+  const place = placeOf(state.order.indexOf(state.rib));
+  const arrow = add(layers.arrows, "path", { class: "arrow", d, fill: place.fill });
+  add(arrow, "title", {}, `router ${router} uses ${pathWords(state.rib)}`);
+}
+
+/** Messages by what they have in common: the link, its direction and when they were sent. */
+function groups(messages) {
+  const found = new Map();
+  for (const message of messages) {
+    const key = `${message.from} ${message.to} ${message.sent}`;
+    found.set(key, [...(found.get(key) ?? []), message]);
+  }
+  return [...found.values()];
+}
+
+function showDot(messages, time) {
+  const last = messages[messages.length - 1];
+  const part = (time - last.sent) / (last.arrives - last.sent);
+  const [x, y] = along(last.from, last.to, part, DOT_ASIDE, DOT_INSET);
+  const look = ["dot", last.path ? "" : "withdrawal", last.is_dropped ? "lost" : ""].filter(Boolean).join(" ");
+  const dot = add(layers.dots, "circle", { class: look, cx: x, cy: y, r: DOT });
+  const words = messages.map(
+    ({ from, to, sent, arrives, path, is_dropped }) =>
+      `${from} to ${to}, sent ${sent}, arrives ${arrives}${is_dropped ? " and is dropped" : ""}: ${pathWords(path)}`,
+  );
+  add(dot, "title", {}, words.join("\n"));
+  if (messages.length > 1) add(layers.dots, "text", { class: "count", x, y: y + 3 }, messages.length);
+}
+
+function showNetwork(time, states) {
+  const messages = messagesAt(time);
+  layers.arrows.replaceChildren();
+  layers.dots.replaceChildren();
+  states.forEach((state, router) => showRouter(router, state));
+  states.forEach((state, router) => showArrow(router, state));
+  groups(messages).forEach((group) => showDot(group, time));
+  const down = run.links.map((link) => isDown(link, states));
+  wires.forEach((wire, place) => wire.classList.toggle("down", down[place]));
+  const pathless = [...states.values()].filter((state) => !state.rib).length;
+  byId("state").textContent = [
+    countOf(messages.length, "message") + " under way",
+    countOf(pathless, "router") + " without a path",
+    countOf(down.filter(Boolean).length, "link") + " down",
+  ].join(", ");
+}
+
+// The table of a router.
+
+function addTable(parent, caption, heads, rows) {
+  const table = add(parent, "table");
+  add(table, "caption", {}, caption);
+  const head = add(add(table, "thead"), "tr");
+  heads.forEach((word) => add(head, "th", { scope: "col" }, word));
+  const body = add(table, "tbody");
+  for (const { look = "", cells } of rows) {
+    const row = add(body, "tr", { class: look });
+    cells.forEach((cell) => row.append(cell));
+  }
+}
+
+function cell(words, look = "") {
+  const made = document.createElement("td");
+  made.className = look;
+  made.append(words);
+  return made;
+}
+
+function placeCell(number) {
+  const { name, fill, ink } = placeOf(number);
+  const isNamed = number < run.places.length - 1;
+  const made = cell("");
+  add(made, "span", { class: "place", style: `background:${fill};color:${ink}` }, isNamed ? name : number + 1);
+  return made;
+}
+
+/** Whether a neighbour offers the rest of a path: whether the router heard it last. */
+function isOffered(path, rows) {
+  const [, ...rest] = run.paths[path];
+  return rows.some(([, , , , heard]) => rest.length > 0 && run.paths[heard].join() === rest.join());
+}
+
+function pathRow(path, number, state) {
+  const isUsed = path === state.rib;
+  const now = isUsed ? "in use" : isOffered(path, state.rows) ? "offered" : "";
+  return { look: isUsed ? "used" : "", cells: [placeCell(number), cell(pathWords(path), "nodes"), cell(now)] };
+}
+
+function peerRow([peer, delay, isUp, session, heard]) {
+  const link = isUp ? "up" : "down";
+  const cells = [peer, delay.toLocaleString("en"), link, session].map((word) => cell(String(word)));
+  return { cells: [...cells, cell(heard ? pathWords(heard) : "no path", "nodes")] };
+}
+
+function showTable(time, state) {
+  const table = byId("table");
+  table.replaceChildren();
+  const use = state.rib ? `uses ${pathWords(state.rib)}` : "has no path";
+  const name = drawn.get(view.router).name;
+  add(table, "p", {}, `At ${time.toLocaleString("en")} ${name} ${use}.`);
+  const [sent, handled, dropped, changed] = state.counters;
+  add(table, "p", {}, `sent ${sent}, handled ${handled}, dropped ${dropped}, changed ${changed}`);
+  const paths = state.order.map((path, number) => pathRow(path, number, state));
+  addTable(table, "Permitted paths, the best first", ["Place", "Path", "Now"], paths);
+  addTable(table, "Neighbours", ["Router", "Delay", "Link", "Session", "Heard last"], state.rows.map(peerRow));
+}
+
+function showEvents(time) {
+  const list = byId("events");
+  list.replaceChildren();
+  const events = run.events.filter((event) => event.time === time);
+  events.forEach((event) => add(list, "li", {}, event.words));
+  if (!events.length) add(list, "li", {}, "nothing");
+  byId("events-title").textContent = `What happens at ${time.toLocaleString("en")}`;
+}
+
+// The timeline.
+
+const timeline = byId("timeline");
+const area = timeline.querySelector(".area");
+const [cursor, later] = [area.querySelector(".cursor"), area.querySelector(".later")];
+const [names, times] = [timeline.querySelector(".names"), timeline.querySelector(".times")];
+const lanes = new Map([...names.querySelectorAll(".name")].map((name, place) => [run.routers[place].router, name]));
+
+function showCursor(x) {
+  cursor.setAttribute("x1", x);
+  cursor.setAttribute("x2", x);
+  const { x: left, width } = area.viewBox.baseVal;
+  later.setAttribute("x", x);
+  later.setAttribute("width", Math.max(0, left + width - x));
+  timeline.scrollLeft += wayTo(cursor, timeline, ACROSS, names.clientWidth);
+}
+
+/** Goes to the time nearest to where the timeline was clicked. */
+function goToClick(click) {
+  const { x: left } = area.viewBox.baseVal;
+  const x = left + click.clientX - area.getBoundingClientRect().left;
+  const distances = run.xs.map((place) => Math.abs(place - x));
+  goTo(distances.indexOf(Math.min(...distances)));
+}
+
+// All together.
+
+function show() {
+  const time = run.stops[view.stop];
+  const words = `time ${time.toLocaleString("en")}`;
+  const states = statesAt(time);
+  controls.time.value = view.stop;
+  controls.time.setAttribute("aria-valuetext", words);
+  controls.now.textContent = time.toLocaleString("en");
+  controls.router.value = view.router;
+  showNetwork(time, states);
+  showTable(time, states.get(view.router));
+  showEvents(time);
+  showCursor(run.xs[view.stop]);
+}
+
+function goTo(stop) {
+  view.stop = Math.max(0, Math.min(stop, run.stops.length - 1));
+  show();
+}
+
+/** Shows a router's table, and the router in the network and in the timeline. */
+function choose(router) {
+  view.router = router;
+  show();
+  const pane = network.parentElement;
+  const { group } = drawn.get(router);
+  pane.scrollLeft += wayTo(group, pane, ACROSS);
+  pane.scrollTop += wayTo(group, pane, DOWN);
+  lanes.forEach((name, lane) => name.classList.toggle("chosen", lane === router));
+  timeline.scrollTop += wayTo(lanes.get(router), timeline, DOWN, times.clientHeight);
+}
+
+let timer = null;
+
+function stopPlaying() {
+  clearInterval(timer);
+  timer = null;
+  controls.play.textContent = "Play";
+}
+
+function playOn() {
+  goTo(view.stop + 1);
+  if (view.stop === run.stops.length - 1) stopPlaying();
+}
+
+function play() {
+  if (timer !== null) return stopPlaying();
+  if (view.stop === run.stops.length - 1) goTo(0);
+  timer = setInterval(playOn, STEP_MILLISECONDS);
+  controls.play.textContent = "Pause";
+}
+
+for (const { router, name } of run.routers) {
+  add(controls.router, "option", { value: router }, `${router} ${name}`.trim());
+}
+controls.time.addEventListener("input", () => goTo(Number(controls.time.value)));
+controls.router.addEventListener("change", () => choose(Number(controls.router.value)));
+byId("earlier").addEventListener("click", () => goTo(view.stop - 1));
+byId("later").addEventListener("click", () => goTo(view.stop + 1));
+controls.play.addEventListener("click", play);
+area.addEventListener("click", goToClick);
+lanes.forEach((name, router) => name.addEventListener("click", () => choose(router)));
+controls.whole.addEventListener("change", sizeNetwork);
+sizeNetwork();
+choose(view.router);

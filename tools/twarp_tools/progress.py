@@ -1,0 +1,70 @@
+"""How far long work is, told on standard error."""
+from __future__ import annotations
+
+import sys
+import time
+from pathlib import Path
+
+from twarp_tools.command import tell
+
+# Seconds from one telling to the next: on a terminal, where the line is drawn again, and elsewhere.
+REDRAW = 0.1
+NOW_AND_THEN = 10.0
+# Begins the line of a terminal again, and clears what stands behind.
+BEGIN, CLEAR = "\r", "\x1b[K"
+
+
+class Progress:
+    """Tells how many runs of all are done, at what rate, and how long the others will take."""
+
+    def __init__(self, total: int, is_quiet: bool):
+        self.total = total
+        self.is_quiet = is_quiet or sys.stderr is None
+        self.is_terminal = not self.is_quiet and sys.stderr.isatty()
+        self.begun = self.told = time.monotonic()
+
+    def words(self, done: int, now: float) -> str:
+        seconds = max(now - self.begun, 1e-9)
+        rate = done / seconds
+        left = f", {written_time((self.total - done) / rate)} left" if done else ""
+        if done == self.total:
+            left = f", {written_time(seconds)} in all"
+        return f"{done:,} of {self.total:,} runs, {rate:,.0f} a second{left}"
+
+    def show(self, done: int) -> None:
+        """Tells how far it is, where that is due."""
+        now = time.monotonic()
+        if not self.is_quiet and now - self.told >= (REDRAW if self.is_terminal else NOW_AND_THEN):
+            self.told = now
+            self.write(self.words(done, now))
+
+    def end(self, done: int) -> None:
+        """Tells how far it came."""
+        if not self.is_quiet:
+            self.write(self.words(done, time.monotonic()))
+            if self.is_terminal:
+                sys.stderr.write("\n")
+
+    def write(self, words: str) -> None:
+        if self.is_terminal:
+            sys.stderr.write(f"{BEGIN}{Path(sys.argv[0]).name}: {words}{CLEAR}")
+            sys.stderr.flush()
+        else:
+            tell(words)
+
+    def tell(self, message: str) -> None:
+        """Says something on a line of its own."""
+        if self.is_terminal:
+            sys.stderr.write(f"{BEGIN}{CLEAR}")
+        tell(message)
+
+
+def written_time(seconds: float) -> str:
+    """A stretch of time in words: seconds, or minutes and hours beside what is less."""
+    if seconds < 9.95:
+        return f"{seconds:.1f} s"
+    minutes, rest = divmod(round(seconds), 60)
+    hours, minutes = divmod(minutes, 60)
+    if hours:
+        return f"{hours} h {minutes} min"
+    return f"{minutes} min {rest} s" if minutes else f"{rest} s"

@@ -1,0 +1,115 @@
+"""A run as a page keeps it: how each router in view begins, and what each event changes at its router."""
+from __future__ import annotations
+
+from typing import Any
+
+from twarp_tools.case import Case
+from twarp_tools.event import Event, Fail, Restore, Swap, Update
+from twarp_tools.lanes import View
+from twarp_tools.lines import write_path
+from twarp_tools.protocol import Router, opening_routers
+from twarp_tools.run import Fate, Message, Run
+
+# What a page's script reads.
+Json = dict[str, Any]
+
+
+class Recording:
+    """The witness of a run. Paths stand in it by their numbers in `paths`, as the script wants them."""
+
+    def __init__(self, case: Case, view: View):
+        self.view = view
+        self.paths = case.path_numbers()
+        # The routers in view as they are before the first event in view, and as they were seen last.
+        self.opening = {router.node: router for router in opening_routers(case) if router.node in view.shown}
+        self.latest: dict[int, Router] = {}
+        self.events: list[Json] = []
+
+    def __call__(self, event: Event, router: Router) -> None:
+        if event.dst not in self.view.shown or event.time > self.view.last:
+            return
+        if event.time < self.view.first:
+            self.opening[event.dst] = router.copy()
+        else:
+            before = self.latest.get(event.dst) or self.opening[event.dst]
+            self.latest[event.dst] = router.copy()
+            self.events.append(self.event(event, before, router))
+
+    def event(self, event: Event, before: Router, after: Router) -> Json:
+        """What happens, in words, and what is other than before at the router."""
+        words = f"router {event.dst} {told(event, before, after)}{told_change(before, after)}"
+        made: Json = {"time": event.time, "router": after.node, "words": words, "counters": counters(after)}
+        if before.rib != after.rib:
+            made["rib"] = self.paths[after.rib]
+        if before.order != after.order:
+            made["order"] = self.order(after)
+        if (peer := peer_of(event)) is not None:
+            made["row"] = self.row(after, peer)
+        return made
+
+    def state(self, router: Router) -> Json:
+        """A router's whole state."""
+        rows = [self.row(router, peer) for peer in router.delays]
+        return {"rib": self.paths[router.rib], "order": self.order(router), "rows": rows, "counters": counters(router)}
+
+    def order(self, router: Router) -> list[int]:
+        return [self.paths[path] for path in router.order]
+
+    def row(self, router: Router, peer: int) -> list[int]:
+        """A neighbour, the delay of the link, whether it is up, its session, and the path heard last."""
+        heard = self.paths[router.heard.get(peer, ())]
+        return [peer, router.delays[peer], int(peer not in router.down), router.sessions[peer], heard]
+
+    def messages(self, run: Run) -> list[Json]:
+        """The messages between routers in view that are under way at some time in view."""
+        shown, meets = self.view.shown, self.view.meets
+        seen = (message for message in run.messages if {message.event.src, message.event.dst} <= shown)
+        return [self.message(message) for message in seen if meets(message.sent, message.event.time)]
+
+    def message(self, message: Message) -> Json:
+        event = message.event
+        return {
+            "from": event.src,
+            "to": event.dst,
+            "sent": message.sent,
+            "arrives": event.time,
+            "path": self.paths[message.update.path],
+            "is_dropped": message.fate is Fate.DROPPED,
+        }
+
+
+def counters(router: Router) -> list[int]:
+    return [router.sent, router.handled, router.dropped, router.changed]
+
+
+def peer_of(event: Event) -> int | None:
+    """The neighbour that an event is about."""
+    match event.body:
+        case Fail(peer) | Restore(peer):
+            return peer
+        case Update():
+            return event.src
+    return None
+
+
+def told(event: Event, before: Router, after: Router) -> str:
+    """What happens at the event's router."""
+    match event.body:
+        case Fail(peer):
+            return f"loses the link to {peer}"
+        case Restore(peer):
+            return f"has the link to {peer} again"
+        case Swap(first, second):
+            return f"exchanges places {first} and {second} of its order"
+        case Update(path) if after.dropped > before.dropped:
+            why = "since the link is down" if event.src in after.down else "which is of an earlier session"
+            return f"drops {write_path(path)} from {event.src}, {why}"
+        case Update(path):
+            return f"hears {write_path(path)} from {event.src}"
+    return "starts"
+
+
+def told_change(before: Router, after: Router) -> str:
+    if before.rib == after.rib:
+        return ""
+    return f" and takes {write_path(after.rib)}" if after.rib else " and has no path any more"

@@ -1,0 +1,75 @@
+"""Where a run stands, and whether its paths are stable there."""
+from __future__ import annotations
+
+from collections.abc import Iterator
+from dataclasses import dataclass
+
+from twarp_tools.case import ORIGIN, Case
+from twarp_tools.command import Refused
+from twarp_tools.event import Fail, Restore, Swap, opening_events
+from twarp_tools.lines import Nodes, write_path
+from twarp_tools.report import Report
+
+
+@dataclass
+class Standing:
+    """Where a run stands: the orders of paths, the links that are down, and each router's rib where that is known."""
+
+    orders: list[list[Nodes]]
+    down: set[frozenset[int]]
+    ribs: list[Nodes] | None
+
+
+def opening(case: Case) -> Standing:
+    return Standing(case.orders(), set(), None)
+
+
+def reached(case: Case, report: Report) -> Standing:
+    """Where the run stands that was reported: after what the scenario has below its bound."""
+    standing = opening(case)
+    scenes = (event for event in opening_events(case) if event.time < report.bound.value)
+    for scene in sorted(scenes, key=lambda scene: scene.key({})):
+        match scene.body:
+            case Fail(peer):
+                standing.down.add(frozenset((scene.dst, peer)))
+            case Restore(peer):
+                standing.down.discard(frozenset((scene.dst, peer)))
+            case Swap(first, second):
+                order, i, j = standing.orders[scene.dst], first - 1, second - 1
+                order[i], order[j] = order[j], order[i]
+    standing.ribs = [told.value.rib for told in report.routers]
+    for told in report.routers:
+        if told.value.rib and told.value.rib not in standing.orders[told.value.router]:
+            raise Refused.at_line(told.line, f"{write_path(told.value.rib)} is no path of this router in the case")
+    return standing
+
+
+@dataclass(frozen=True)
+class Unstable:
+    """A router whose rib is not the path that it would choose by what its neighbours use."""
+
+    router: int
+    rib: Nodes
+    choice: Nodes
+
+    def __str__(self) -> str:
+        return f"router {self.router} uses {write_path(self.rib)} and would choose {write_path(self.choice)}"
+
+
+def chosen_path(router: int, standing: Standing) -> Nodes:
+    """The first path of the router's order that goes on as a neighbour's rib, over a link that is up."""
+    if router == ORIGIN:
+        return (ORIGIN,)
+    ribs = standing.ribs or []
+    for path in standing.orders[router]:
+        if ribs[path[1]] == path[1:] and frozenset(path[:2]) not in standing.down:
+            return path
+    return ()
+
+
+def unstable_routers(standing: Standing) -> Iterator[Unstable]:
+    """The routers whose ribs are not as stable ones are by docs/PROTOCOL.md; there are none where paths are stable."""
+    for router, rib in enumerate(standing.ribs or []):
+        chosen = chosen_path(router, standing)
+        if rib != chosen:
+            yield Unstable(router, rib, chosen)

@@ -1,0 +1,54 @@
+"""What the script twarp needs of the toolchain: calls of its command rt that end with the script."""
+from __future__ import annotations
+
+import contextlib
+import shutil
+import signal
+import subprocess
+import sys
+from collections.abc import Iterator
+from pathlib import Path
+
+ROOT = Path(__file__).resolve().parent.parent.parent
+CRATE = ROOT / "crates/twarp"
+PROGRAM = CRATE / "out/twarp"
+RT = "rt"
+
+# Exit statuses of a shell: a command that is there and did not run, and one that is missing.
+NOT_RUN = 126
+MISSING = 127
+
+
+def tell(message: str) -> None:
+    print(f"twarp: {message}", file=sys.stderr, flush=True)
+
+
+def find_kit() -> Path | None:
+    """The toolchain's folder, or None with a word on standard error where it is not on the PATH."""
+    found = shutil.which(RT)
+    if found is None:
+        tell("the command rt of the Rattle toolchain is missing: put its folder bin on the PATH")
+        return None
+    return Path(found).resolve().parent.parent
+
+
+def end_with_signals() -> None:
+    """Has INT, TERM and HUP end this script as an exit does, which ends its children."""
+
+    def end(number: int, _frame: object) -> None:
+        sys.exit(128 + number)
+
+    for number in signal.SIGINT, signal.SIGTERM, signal.SIGHUP:
+        signal.signal(number, end)
+
+
+@contextlib.contextmanager
+def started(words: list[str], cwd: Path = CRATE, **how: object) -> Iterator[subprocess.Popen[bytes]]:
+    """A command in a crate, or else in that of the program. It is ended where this script is, by INT, TERM or HUP too."""
+    end_with_signals()
+    with subprocess.Popen(words, cwd=cwd, **how) as child:
+        try:
+            yield child
+        finally:
+            if child.poll() is None:
+                child.terminate()
