@@ -142,8 +142,9 @@ class CasesOfTheLiterature(ToolTest):
         told = re.findall(r"`((?:\./twarp|sed) [^`]+)`[^`]* says `(?:verdict )?([^`]+)`", page)
         self.assertGreaterEqual(len(told), len(re.findall("^### ", page, re.M)) - 1)
         with tempfile.TemporaryDirectory() as name:
-            tutorial.lay_out(Path(name), tools_common.need_program())
+            folder, program = Path(name), tools_common.need_program()
+            tutorial.lay_out(folder, program)
             for command, verdict in told:
                 with self.subTest(command):
-                    output = tutorial.run(tutorial.Command(0, command), Path(name))
+                    output = tutorial.run(tutorial.Command(0, command), folder, program)
                     self.assertEqual(output.splitlines()[-1], f"verdict {verdict}")
