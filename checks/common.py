@@ -13,7 +13,7 @@ STRAGGLER = CASES / "straggler.replay"
 PROGRAM = TOP / "crates/twarp/out/twarp"
 REPORT = TOP / "crates/twarp/stdout"
 REPLAYED = TOP / "checks/inputs/straggler-replay.txt"
-TESTS = TOP / "crates/tw_rows/out/tw_rows_tests"
+ROWS = ["tw_rows", "tw_machine_rows", "tw_program_rows"]
 
 # Seconds after which a run is ended, and counts as failed.
 LIMIT = 60
@@ -34,6 +34,11 @@ def run(words, stdin, **how):
 def input_of(words):
     """The input that a command is shown: a replay text for `replay`, and else a case."""
     return STRAGGLER if words[:1] == ["replay"] else DISAGREE
+
+
+def tests_of(crate):
+    """The built tests of a crate."""
+    return TOP / f"crates/{crate}/out/{crate}_tests"
 
 
 def need(built, words):

@@ -4,7 +4,7 @@
     programs.py                          after rt ci, or rt run in crates/twarp
 
 `stopped counter` is not among the checks: a counter goes to 2^48, and memory for the events of a run ends long before.
-Rows of crates/tw_rows show full counters by calls.
+Rows of crates/tw_rows show full counters by calls. The worked rows are in checks/rows.
 """
 import os
 import re
@@ -16,6 +16,7 @@ from functools import partial
 from typing import Callable, NamedTuple
 
 from common import CASES, DISAGREE, PROGRAM, REPLAYED, REPORT, STRAGGLER, Refuser, Tally, input_of, need, run
+from rows import all_rows
 
 NOTHING = os.devnull
 
@@ -27,13 +28,6 @@ COMMANDS = [["check"], SEQ, RUN, TRAIL, REPLAY]
 
 # A user that has no process of its own.
 NOBODY = 54321
-
-FOLLOWED = b"""\
-spp-trail 1
-router 2 sent 1 handled 3 dropped 1 changed 0 rib ()
-undo event 6 2 update 1 1 0 (1 0)
-router 2 sent 1 handled 2 dropped 0 changed 0 rib ()
-"""
 
 # What a line of the help begins with, for each command.
 HELP = {
@@ -66,6 +60,42 @@ RANGES = {
     "trail": ["0 to 1023", "1 to 1000000000", "0 to 1000000000"],
     "replay": ["1 to 1000000000", "1 to 16"],
 }
+
+# A text, and the line that each command answers to it.
+REFUSED = [
+    ("spp 1\nnodes 3\nlink 1 1 2\nend\n", "line 3 I2 SelfLink"),
+    ("spp 1\nnodes 3\nlink 0 1 1\nlink 1 2 1\npath 1 1 2 1 0\nend\n", "line 5 I7 PathRepeats"),
+    ("spp 1\nnodes 2\nlink 0 1 0\nend\n", "line 3 I4 Delay"),
+    ("spp 1\nnodes 007\nend\n", "line 2 X4 Number"),
+    ("spp 1\nnodes 1\n", "line 3 X6 End"),
+    ("spp 1\nnodes 2\nlink 1 1 0\nend\n", "line 3 I2 SelfLink"),
+    ("", "line 1 X6 End"),
+    ("spp 1\nnodes 3\nlink 0", "line 3 X3 Word"),
+    ("spp 1\nnodes 3\nlink 0 1 3", "line 3 X6 End"),
+    ("spp 1\r\n", "line 1 X1 Byte"),
+    ("spp 1\nlink 0 1 1\n", "line 2 X5 Order"),
+    ("spp 1\nnodes 9999999999\n", "line 2 I1 Range"),
+    ("spp 1\nnodes 99999999999\n", "line 2 X4 Number"),
+    ("spp 1\nnodes 2\nfail 1000000001 0 1\n", "line 3 I11 NoSuchLink"),
+    ("spp 1\nnodes 3\nlink 0 1 3\nlink 1 2 3\npath 1 1 0\npath 2 2 1 0\nfail 4 0 2\n", "line 7 I11 NoSuchLink"),
+    ("spp 1\nnodes 3\nlink 0 1 3\nlink 1 2 3\npath 1 1 0\npath 2 2 1 0\nswap 4 2 1 2\n", "line 7 I12 NoSuchPlace"),
+]
+
+# A text that goes on behind a case, and the line that each command whose input is a case answers to it.
+REFUSED_BEHIND_A_CASE = [
+    ("spp 1\nnodes 1\nend\nend\n", "line 4 X6 End"),
+    ("spp 1\nnodes 1\nend\n\n", "line 4 X3 Word"),
+    ("spp 1\nnodes 1\nend\nnodes 1\n", "line 4 X5 Order"),
+]
+
+# Steps behind DISAGREE that are broken off, and the line that `replay` answers.
+REFUSED_STEPS = [
+    ("", "line 11 X6 End"),
+    ("handle 0\ndeliver 2\n", "line 13 X6 End"),
+    ("handle 0\ndeliver 2", "line 12 X6 End"),
+    ("handle 0\nend", "line 12 X6 End"),
+    ("handle 0\ndeliver", "line 12 X3 Word"),
+]
 
 BAD_LINES = {
     "no command": [],
@@ -134,6 +164,11 @@ def due(name, words, source, status, out, err=b""):
     return Row(name, words, source, lambda done: differs(done, status, out, err))
 
 
+def worked():
+    for row in all_rows():
+        yield Row(f"{name_of(row.words)} of {row.source.name}", row.words, row.source, row.wrong)
+
+
 def answers():
     for case in sorted(CASES.glob("*.spp")):
         yield due(f"check of {case.name}", ["check"], case, 0, stated(case.read_text(encoding="ascii")))
@@ -141,8 +176,6 @@ def answers():
     for more in [], ["--workers", "1"], ["--workers", "3", "--batch", "1"], ["--workers", "16", "--batch", "4096"]:
         words = ["run", "--stop", "20", "--log", *more]
         yield due(name_of(words), words, DISAGREE, 0, REPORT.read_bytes())
-    words = ["trail", "--router", "2", "--stop", "8", "--keep", "2"]
-    yield due(name_of(words), words, CASES / "failure-and-repair.spp", 0, FOLLOWED)
     for count in "1", "2", "16":
         words = ["replay", "--stop", "20", "--workers", count]
         yield due(name_of(words), words, STRAGGLER, 0, REPLAYED.read_bytes())
@@ -158,7 +191,19 @@ def refusals(folder):
         yield due(f"{name_of(words)} of nothing", words, NOTHING, 1, b"refused line 1 X6 End\n")
     lines = len(DISAGREE.read_text().splitlines())
     yield due("a replay without its steps", REPLAY, DISAGREE, 1, b"refused line %d X6 End\n" % (lines + 1))
-    yield due("a router that is not there", no_such, DISAGREE, 1, b"refused option N1 Router\n")
+
+
+def refused_texts(folder):
+    """The texts of the tables, each in a file of its own in the folder, and every command that is to refuse it."""
+    of_a_case = [words for words in COMMANDS if words != REPLAY]
+    steps = [(DISAGREE.read_text() + steps, line) for steps, line in REFUSED_STEPS]
+    tables = (REFUSED, COMMANDS), (REFUSED_BEHIND_A_CASE, of_a_case), (steps, [REPLAY])
+    for number, (texts, commands) in enumerate(tables):
+        for place, (text, line) in enumerate(texts):
+            file = folder / f"refused-{number}-{place}"
+            file.write_bytes(text.encode())
+            for words in commands:
+                yield due(f"{name_of(words)} of {text!r}", words, file, 1, f"refused {line}\n".encode())
 
 
 def wrong_help(command, done):
@@ -189,7 +234,9 @@ def bad_lines():
 def rows(folder):
     """All rows, whose own inputs are put into the folder."""
     yield from answers()
+    yield from worked()
     yield from refusals(folder)
+    yield from refused_texts(folder)
     yield from helps()
     yield from bad_lines()
 

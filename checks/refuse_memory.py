@@ -1,12 +1,12 @@
 #!/usr/bin/env python3
 """Refuses each allocation in turn, of the worked rows and of the program.
 
-    refuse_memory.py [TEST ..]           after rt ci, or rt test in crates/tw_rows and rt run in crates/twarp
+    refuse_memory.py [TEST ..]           after rt ci, or rt test in each crate of rows and rt run in crates/twarp
 
-Each test of crates/tw_rows, or each that is named, runs once for each of its allocations, with just that one refused;
-it tries the call once more and must pass. Among them are a run by the threads of two workers that ended early and goes
-on from where it is, and one that wrote nothing and then its report. A test that does not end has failed, and is tried
-no further. The tests of LONG are left out where none is named: they call a program hundreds of times or start threads
+Each test of the crates of rows, or each that is named, runs once for each of its allocations, with just that one
+refused; it tries the call once more and must pass. Among them are a run by the threads of two workers that ended early
+and goes on from where it is, and one that wrote nothing and then its report. A test that does not end has failed, and
+is tried no further. The tests of LONG are left out where none is named: they call a program hundreds of times or start threads
 again and again, with no allocation that the others do not make.
 Each command of the program runs in the same way, on DISAGREE or on the replay of a straggler, and so do its help and
 a line that it does not accept. Refused memory must end it with status 2 and the line `stopped memory`, or
@@ -19,17 +19,13 @@ import sys
 import tempfile
 from concurrent.futures import ThreadPoolExecutor
 
-from common import LIMIT, PROGRAM, TESTS, Refuser, Tally, input_of, need, run
+from common import LIMIT, PROGRAM, ROWS, Refuser, Tally, input_of, need, run, tests_of
 
 LONG = [
     "programs::a_sink_that_fails_has_a_prefix",
-    "refusals::every_prefix_of_a_case_is_refused_near_its_end",
-    "refusals::the_first_bad_line_and_its_lowest_fault_are_named",
+    "readings::every_prefix_of_a_case_is_refused_near_its_end",
     "threads::a_run_goes_on_to_later_stops_and_to_no_earlier_one",
-    "threads::checkpoints_show_the_same",
     "threads::handling_happens_off_the_table",
-    "threads::the_report_is_that_of_one_thread",
-    "threads::the_verdict_is_the_same",
     "threads::workers_overlap",
 ]
 
@@ -41,6 +37,8 @@ LINES = [
     ["trail", "--router", "3", "--stop", "20", "--keep", "0"],
     ["replay", "--stop", "20"],
     ["replay", "--stop", "20", "--workers", "3"],
+    ["seq", "--stop", "20", "--every", "1"],
+    ["run", "--stop", "20", "--every", "1", "--workers", "2"],
     ["run", "--stop", "20", "--log", "--workers", "2"],
     ["--help"],
     ["seq", "--stop", "0"],
@@ -54,15 +52,19 @@ def end(done):
     return done.returncode, done.stdout, done.stderr
 
 
-def names_of_tests():
-    listed = subprocess.run([TESTS, "--list"], capture_output=True, text=True, check=True).stdout
-    return [line.removesuffix(": test") for line in listed.splitlines() if line.endswith(": test")]
+def named_tests():
+    """The file that has a test, by the test's name."""
+    found = {}
+    for tests in map(tests_of, ROWS):
+        listed = subprocess.run([tests, "--list"], capture_output=True, text=True, check=True).stdout
+        found |= {line.removesuffix(": test"): tests for line in listed.splitlines() if line.endswith(": test")}
+    return found
 
 
-def refuse_in_test(refuser, name):
+def refuse_in_test(refuser, tests, name):
     """How many allocations were refused, and what is wrong."""
     count, failed = 0, []
-    for number, done in refuser.each([TESTS, name], os.devnull):
+    for number, done in refuser.each([tests, name], os.devnull):
         count += 1
         if done.returncode is None:
             return count, f"it does not end in {LIMIT} seconds where allocation {number} is refused"
@@ -85,9 +87,10 @@ def refuse_in_program(refuser, line):
 
 
 def main():
-    need(TESTS, "rt test in crates/tw_rows")
+    for crate in ROWS:
+        need(tests_of(crate), f"rt test in crates/{crate}")
     need(PROGRAM, "rt run in crates/twarp")
-    known = names_of_tests()
+    known = named_tests()
     named = sys.argv[1:]
     tally = Tally()
     for name in {*LONG, *named} - {*known}:
@@ -95,7 +98,7 @@ def main():
     chosen = [name for name in known if name in named or not named and name not in LONG]
     with tempfile.TemporaryDirectory() as folder, ThreadPoolExecutor(os.cpu_count()) as pool:
         refuser = Refuser(folder)
-        jobs = {name: pool.submit(refuse_in_test, refuser, name) for name in chosen}
+        jobs = {name: pool.submit(refuse_in_test, refuser, known[name], name) for name in chosen}
         jobs |= {f"twarp {' '.join(line)}": pool.submit(refuse_in_program, refuser, line) for line in LINES}
         refused = 0
         for name, job in jobs.items():

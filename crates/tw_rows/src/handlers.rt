@@ -2,17 +2,17 @@
 
 ghost use Rattle.std.specs.Prelude.{◌≡◌, ◌<◌, IfOk};
 
-use crate::texts::{DISAGREE, FAILURE_AND_REPAIR, RANK_EXCHANGE};
+use crate::cases::case;
+use crate::texts::{DISAGREE, RANK_EXCHANGE};
 use smallvec::SmallVec;
 use std::alloc::Global;
 use tw_event::{Body, Event, PathNo};
 use tw_handlers::{Fault, Trail, handle, undo};
-use tw_instance::{Case, Instance};
+use tw_instance::Instance;
 use tw_lanes::first_equal;
 use tw_model::limits::MOST_COUNTED;
 use tw_model::{Counters, OrMemory};
 use tw_router::{OpenFault, Router};
-use tw_text::{TextFault, read_case, write_case};
 
 /// The update that router 1 gets from a neighbour.
 fn update(time: u64, src: u32, seq: u64, path: u32, session: u64) -> Event {
@@ -25,14 +25,6 @@ fn update(time: u64, src: u32, seq: u64, path: u32, session: u64) -> Event {
             path: PathNo(path),
             session,
         },
-    }
-}
-
-/// The case of a text, which is read once more where memory was refused.
-pub(crate) fn case(alloc: Global, text: &str) -> Result<Case, OrMemory<TextFault>> {
-    match read_case(alloc, text.as_bytes()) {
-        Err(OrMemory::Memory) => read_case(alloc, text.as_bytes()),
-        answer => answer,
     }
 }
 
@@ -248,18 +240,4 @@ fn counters_that_no_router_has_are_refused(rt: HostRuntime) {
     );
     counters.dropped = 2;
     assert!(rt; router(alloc, instance, counters).is_ok());
-}
-
-#[test]
-fn a_case_that_was_read_is_written_as_it_was(rt: HostRuntime) {
-    let alloc = rt.alloc();
-    for text in [DISAGREE, RANK_EXCHANGE, FAILURE_AND_REPAIR] {
-        let Ok(case) = case(alloc, text) else {
-            panic!(rt; "the case is refused")
-        };
-        let Ok(written) = write_case(alloc, &case).or_else(|_| write_case(alloc, &case)) else {
-            panic!(rt; "no memory")
-        };
-        assert!(rt; written.as_slice() == text.as_bytes());
-    }
 }

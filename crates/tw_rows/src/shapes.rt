@@ -3,8 +3,8 @@
 ghost use Rattle.std.specs.Prelude.{◌≤◌};
 ghost use Rattle.tw_model.specs.declared.limits.TheConstants.{LATEST};
 
-use crate::handlers::case;
-use crate::verdicts::DISAGREE_AT_ONCE;
+use crate::cases::case;
+use crate::texts::DISAGREE_AT_ONCE;
 use std::alloc::Global;
 use tw_instance::Case;
 use tw_seq::{OneThread, Running};

@@ -1,0 +1,50 @@
+"""The worked rows of the program in checks/rows: commands, and what each of them writes."""
+from __future__ import annotations
+
+import re
+from pathlib import Path
+from typing import Iterator, NamedTuple
+
+from common import TOP
+
+FOLDER = TOP / "checks/rows"
+COMMAND = re.compile(r"\$ twarp (.+) < (\S+)\n")
+EXIT = re.compile(r"^\[exit (\d)\]\n\Z", re.M)
+ANY_LINES = "...\n"
+
+
+class Due(NamedTuple):
+    """A command, the file that is its standard input, and how it ends."""
+
+    words: list[str]
+    source: Path
+    status: int
+    written: str
+
+    def wrong(self, done) -> str | None:
+        """What is wrong with how it ended, if anything."""
+        found = done.stdout.decode()
+        is_met = (
+            found.endswith("\n" + self.written.removeprefix(ANY_LINES))
+            if self.written.startswith(ANY_LINES)
+            else found == self.written
+        )
+        if is_met and (done.returncode, done.stderr) == (self.status, b""):
+            return None
+        return f"it ended with {(done.returncode, done.stdout, done.stderr)}, and {(self.status, self.written)} is due"
+
+
+def rows_of(text: str) -> Iterator[Due]:
+    """The rows of a file, which an empty line ends."""
+    for row in text.split("\n\n"):
+        *commands, written = re.split(r"^(?!\$ )", row if row.endswith("\n") else row + "\n", maxsplit=1, flags=re.M)
+        ended = EXIT.search(written)
+        status = int(ended[1]) if ended else 0
+        written = written[: ended.start()] if ended else written
+        for words, source in COMMAND.findall("".join(commands)):
+            yield Due(words.split(), TOP / source, status, written)
+
+
+def all_rows() -> Iterator[Due]:
+    for file in sorted(FOLDER.glob("*.txt")):
+        yield from rows_of(file.read_text(encoding="ascii"))

@@ -1,0 +1,429 @@
+//! The machine of all routers by calls.
+
+ghost use Rattle.std.specs.Prelude.{◌<◌};
+
+use crate::messages::{antimessage, early_offers_of_2, offers_of_1, offers_of_2, offers_of_origin};
+use std::alloc::{AllocError, Global};
+use tw_event::{Event, PathNo};
+use tw_instance::Case;
+use tw_model::Counters;
+use tw_rows::cases::case;
+use tw_rows::texts::{DISAGREE, DISAGREE_WITH_EQUAL_TIMES};
+use tw_sim::{Signed, Step};
+use tw_warp::{OrMemory, Refusal, StopLower, Warp};
+
+/// The machine of a case, to stop 20.
+fn machine<'a>(alloc: Global, case: &'a Case, workers: u32) -> Result<Warp<'a>, AllocError>
+    requires { 0 < workers }
+{
+    match Warp::new(alloc, case, workers, 20) {
+        Err(_) => Warp::new(alloc, case, workers, 20),
+        made => made,
+    }
+}
+
+/// Takes a step, once more where memory was refused.
+fn step(warp: &mut Warp<'_>, step: Step) -> Result<(), OrMemory<Refusal>> {
+    match warp.step(step) {
+        Err(OrMemory::Memory) => warp.step(step),
+        answer => answer,
+    }
+}
+
+/// The message of a letter: `m` and `n` are what the origin offers, `a` and `b` what router 2 offers early,
+/// `c` and `d` what router 1 offers, `e` and `f` what router 2 then offers; the capital is its antimessage.
+fn message(letter: u8) -> Option<Signed<Event>> {
+    let ([m, n], [a, b]) = (offers_of_origin(), early_offers_of_2());
+    let ([c, d], [e, f]) = (offers_of_1(), offers_of_2());
+    let message = match letter.to_ascii_lowercase() {
+        b'm' => m,
+        b'n' => n,
+        b'a' => a,
+        b'b' => b,
+        b'c' => c,
+        b'd' => d,
+        b'e' => e,
+        b'f' => f,
+        _ => return None,
+    };
+    Some(if letter.is_ascii_uppercase() {
+        antimessage(message)
+    } else {
+        message
+    })
+}
+
+/// Whether the messages of these letters are on their way, in this order.
+fn has_in_flight(warp: &Warp<'_>, letters: &str) -> bool {
+    let found = match warp.flight() {
+        Err(_) => warp.flight(),
+        found => found,
+    };
+    let Ok(flight) = found else {
+        return false;
+    };
+    let letters = letters.as_bytes();
+    flight.len() == letters.len()
+        && flight
+            .iter()
+            .zip(letters)
+            .all(|(found, letter)| message(*letter) == Some(*found))
+}
+
+/// Steps of the machine, each with the messages on their way after it: router 2 hears the origin before
+/// router 1, and takes back what it has sent when the earlier offer of router 1 comes.
+const STRAGGLER: [(Step, &str); 18] = [
+    (Step::Handle(0), "mn"),
+    (Step::Deliver(2), "m"),
+    (Step::Handle(2), "mab"),
+    (Step::Deliver(1), "ab"),
+    (Step::Handle(1), "abcd"),
+    (Step::Deliver(4), "abcAB"),
+    (Step::Handle(2), "abcABef"),
+    (Step::Handle(2), "abcABef"),
+    (Step::Deliver(1), "bcABef"),
+    (Step::Deliver(3), "bcBef"),
+    (Step::Deliver(3), "bcef"),
+    (Step::Deliver(1), "cef"),
+    (Step::Deliver(1), "ef"),
+    (Step::Handle(0), "ef"),
+    (Step::Deliver(1), "f"),
+    (Step::Handle(0), "f"),
+    (Step::Deliver(1), ""),
+    (Step::Handle(1), ""),
+];
+
+/// Whether each step is done and leaves these messages on their way.
+fn goes_so(warp: &mut Warp<'_>, steps: &[(Step, &str)]) -> bool {
+    for (next, letters) in steps {
+        if step(warp, *next) != Ok(()) || !has_in_flight(warp, letters) {
+            return false;
+        }
+    }
+    true
+}
+
+/// Whether the steps have these answers. Where memory was refused to one, it and the rest are taken once more.
+fn answers_so(warp: &mut Warp<'_>, steps: &[Step], answers: &[Result<(), Refusal>]) -> bool {
+    let fault = match warp.run(steps) {
+        Ok(found) => return found.as_slice() == answers,
+        Err(fault) => fault,
+    };
+    let done = fault.answers.len();
+    let (Some(rest), Some(first), Some(last)) = (
+        steps.get(done..),
+        answers.get(..done),
+        answers.get(done..),
+    ) else {
+        return false;
+    };
+    fault.step == done + 1
+        && fault.answers.as_slice() == first
+        && warp.run(rest).is_ok_and(|found| found.as_slice() == last)
+}
+
+/// Which of three routers a worker has.
+fn owned_by(warp: &Warp<'_>, worker: usize) -> Option<[bool; 3]> {
+    if worker >= warp.workers() {
+        return None;
+    }
+    let shard = warp.shard(worker);
+    Some([shard.owns(0), shard.owns(1), shard.owns(2)])
+}
+
+/// The path that a router has chosen, and what it counts.
+fn told(warp: &Warp<'_>, router: u32) -> Option<(PathNo, Counters)> {
+    if router >= warp.case().instance().nodes() {
+        return None;
+    }
+    let router = warp.router(router);
+    Some((router.rib(), router.counters()))
+}
+
+/// A path, and the counts of a router that has dropped nothing.
+fn counts(path: u32, sent: u64, handled: u64, changed: u64) -> Option<(PathNo, Counters)> {
+    let counters = Counters {
+        sent,
+        handled,
+        dropped: 0,
+        changed,
+    };
+    Some((PathNo(path), counters))
+}
+
+/// Whether the origin handles its start and undoes it, so many times.
+fn starts_over(warp: &mut Warp<'_>, times: u32) -> bool {
+    for _ in 0..times {
+        if step(warp, Step::Handle(0)) != Ok(()) || step(warp, Step::Undo(0)) != Ok(()) {
+            return false;
+        }
+    }
+    true
+}
+
+/// Whether what the origin offers and takes back is on its way, again and again.
+fn has_starts_in_flight(warp: &Warp<'_>) -> bool {
+    let found = match warp.flight() {
+        Err(_) => warp.flight(),
+        found => found,
+    };
+    let Ok(flight) = found else {
+        return false;
+    };
+    flight.iter().enumerate().all(|(place, found)| message(b"mnMN"[place % 4]) == Some(*found))
+}
+
+/// Which of the messages on their way comes next.
+#[derive(Clone, Copy)]
+enum Next {
+    First,
+    Middle,
+    Last,
+}
+
+/// Whether so many messages come, one by one, which are all.
+fn all_come(warp: &mut Warp<'_>, count: u64, next: Next) -> bool {
+    for come in 0..count {
+        let left = count - come;
+        let place = match next {
+            Next::First => 1,
+            Next::Middle => left / 2 + 1,
+            Next::Last => left,
+        };
+        if step(warp, Step::Deliver(place)) != Ok(()) {
+            return false;
+        }
+    }
+    step(warp, Step::Deliver(1)) == Err(OrMemory::Fault(Refusal::NoMessage))
+}
+
+/// Whether nothing but these numbers of messages is loose: on their way, pending and kept.
+fn has_loose(warp: &Warp<'_>, flight: u128, pending: u128, kept: u128) -> bool {
+    warp.flight_len() == flight && warp.pending_len() == pending && warp.kept_len() == kept
+}
+
+/// Whether the start of the origin and the events of these letters are committed, in this order.
+fn has_committed(warp: &Warp<'_>, letters: &str) -> bool {
+    let found = match warp.committed() {
+        Err(_) => warp.committed(),
+        found => found,
+    };
+    match found {
+        Ok(events) => are_of(&events, letters),
+        Err(_) => false,
+    }
+}
+
+/// Whether these are the start of the origin and the events of these letters, in this order.
+pub(crate) fn are_of(events: &[Event], letters: &str) -> bool {
+    let letters = letters.as_bytes();
+    match events {
+        [first, rest @ ..] => {
+            *first == Event::default()
+                && rest.len() == letters.len()
+                && rest.iter().zip(letters).all(|(event, letter)| {
+                    message(*letter)
+                        == Some(Signed {
+                            plus: true,
+                            event: *event,
+                        })
+                })
+        }
+        [] => false,
+    }
+}
+
+/// Whether the bound is then the stop, the routers are committed to it, and they are as one thread leaves them.
+fn ends_so(warp: &mut Warp<'_>) -> bool {
+    let steps = [
+        Step::Bound,
+        Step::Commit(0),
+        Step::Commit(1),
+        Step::Commit(2),
+    ];
+    answers_so(warp, &steps, &[Ok(()); 4])
+        && warp.bound() == 20
+        && warp.ahead() == 0
+        && has_committed(warp, "mcdfne")
+        && told(warp, 0) == counts(1, 2, 3, 1)
+        && told(warp, 1) == counts(3, 2, 2, 1)
+        && told(warp, 2) == counts(4, 2, 2, 1)
+}
+
+#[test]
+fn the_stop_never_falls(rt: HostRuntime) {
+    let alloc = rt.alloc();
+    let Ok(case) = case(alloc, DISAGREE) else {
+        panic!(rt; "the case is refused")
+    };
+    let Ok(mut warp) = machine(alloc, &case, 1) else {
+        panic!(rt; "no memory")
+    };
+    assert!(rt;
+        warp.set_stop(19) == Err(StopLower) && warp.set_stop(1_000_000_001) == Err(StopLower)
+    );
+    assert!(rt; warp.stop() == 20);
+    assert!(rt; warp.set_stop(20) == Ok(()) && warp.stop() == 20);
+    assert!(rt; warp.set_stop(30) == Ok(()) && warp.stop() == 30);
+}
+
+#[test]
+fn a_straggler_is_rolled_back(rt: HostRuntime) {
+    let alloc = rt.alloc();
+    let Ok(case) = case(alloc, DISAGREE) else {
+        panic!(rt; "the case is refused")
+    };
+    let Ok(mut warp) = machine(alloc, &case, 1) else {
+        panic!(rt; "no memory")
+    };
+    assert!(rt; goes_so(&mut warp, &STRAGGLER[..11]));
+    assert!(rt; warp.bound() == 0 && has_loose(&warp, 4, 0, 1) && warp.ahead() == 4);
+    assert!(rt; goes_so(&mut warp, &STRAGGLER[11..]));
+    assert!(rt; has_loose(&warp, 0, 0, 0) && ends_so(&mut warp));
+}
+
+#[test]
+fn a_straggler_is_rolled_back_with_a_router_for_each_worker(rt: HostRuntime) {
+    let alloc = rt.alloc();
+    let Ok(case) = case(alloc, DISAGREE) else {
+        panic!(rt; "the case is refused")
+    };
+    let Ok(mut warp) = machine(alloc, &case, 3) else {
+        panic!(rt; "no memory")
+    };
+    assert!(rt; goes_so(&mut warp, &STRAGGLER[..11]));
+    assert!(rt; warp.bound() == 0 && has_loose(&warp, 4, 0, 1) && warp.ahead() == 4);
+    assert!(rt; goes_so(&mut warp, &STRAGGLER[11..]));
+    assert!(rt; has_loose(&warp, 0, 0, 0) && ends_so(&mut warp));
+}
+
+#[test]
+fn what_is_taken_back_differs_in_its_path_alone(rt: HostRuntime) {
+    let alloc = rt.alloc();
+    let Ok(case) = case(alloc, DISAGREE_WITH_EQUAL_TIMES) else {
+        panic!(rt; "the case is refused")
+    };
+    let Ok(mut warp) = machine(alloc, &case, 1) else {
+        panic!(rt; "no memory")
+    };
+    let steps = [
+        Step::Handle(0),
+        Step::Deliver(1),
+        Step::Handle(1),
+        Step::Deliver(3),
+        Step::Handle(2),
+        Step::Deliver(1),
+        Step::Handle(2),
+        Step::Deliver(6),
+        Step::Deliver(4),
+    ];
+    assert!(rt; answers_so(&mut warp, &steps, &[Ok(()); 9]));
+    assert!(rt; warp.bound() == 0 && has_loose(&warp, 5, 2, 1) && warp.ahead() == 3);
+    assert!(rt; told(&warp, 0) == counts(1, 2, 1, 1));
+    assert!(rt; told(&warp, 1) == counts(3, 2, 1, 1));
+    assert!(rt; told(&warp, 2) == counts(5, 2, 1, 1));
+}
+
+#[test]
+fn an_event_pending_twice_is_handled_once(rt: HostRuntime) {
+    let alloc = rt.alloc();
+    let Ok(case) = case(alloc, DISAGREE) else {
+        panic!(rt; "the case is refused")
+    };
+    let Ok(mut warp) = machine(alloc, &case, 1) else {
+        panic!(rt; "no memory")
+    };
+    let steps = [
+        Step::Handle(0),
+        Step::Undo(0),
+        Step::Handle(0),
+        Step::Deliver(1),
+        Step::Deliver(4),
+        Step::Handle(1),
+        Step::Handle(1),
+        Step::Deliver(2),
+    ];
+    let mut answers = [Ok(()); 8];
+    answers[6] = Err(Refusal::Double);
+    assert!(rt; answers_so(&mut warp, &steps, &answers));
+    assert!(rt; warp.bound() == 0 && has_loose(&warp, 5, 0, 0) && has_in_flight(&warp, "nNncd"));
+    assert!(rt; told(&warp, 0) == counts(1, 2, 1, 1));
+    assert!(rt; told(&warp, 1) == counts(3, 2, 1, 1));
+    assert!(rt; told(&warp, 2) == counts(0, 0, 0, 0));
+}
+
+#[test]
+fn messages_come_from_anywhere(rt: HostRuntime) {
+    let alloc = rt.alloc();
+    let Ok(case) = case(alloc, DISAGREE) else {
+        panic!(rt; "the case is refused")
+    };
+    let Ok(mut warp) = machine(alloc, &case, 2) else {
+        panic!(rt; "no memory")
+    };
+    for next in [Next::First, Next::Middle, Next::Last] {
+        assert!(rt; starts_over(&mut warp, 400) && has_loose(&warp, 1_600, 1, 0));
+        assert!(rt; has_starts_in_flight(&warp) && all_come(&mut warp, 1_600, next));
+        assert!(rt; has_loose(&warp, 0, 1, 0) && warp.ahead() == 0);
+    }
+}
+
+#[test]
+fn what_cannot_be_done_is_refused(rt: HostRuntime) {
+    let alloc = rt.alloc();
+    let Ok(case) = case(alloc, DISAGREE) else {
+        panic!(rt; "the case is refused")
+    };
+    let Ok(mut warp) = machine(alloc, &case, 2) else {
+        panic!(rt; "no memory")
+    };
+    let refused = [
+        Step::Deliver(0),
+        Step::Handle(7),
+        Step::Undo(0),
+        Step::Commit(5),
+    ];
+    let why = [
+        Err(Refusal::NoMessage),
+        Err(Refusal::NotMine),
+        Err(Refusal::Nothing),
+        Err(Refusal::NotMine),
+    ];
+    assert!(rt; answers_so(&mut warp, &refused, &why));
+    assert!(rt;
+        answers_so(
+            &mut warp,
+            &[Step::Bound, Step::Handle(0), Step::Bound],
+            &[Ok(()); 3]
+        )
+    );
+    let refused = [
+        Step::Undo(0),
+        Step::Commit(0),
+        Step::Undo(0),
+        Step::Handle(0),
+    ];
+    let why = [
+        Err(Refusal::Committed),
+        Ok(()),
+        Err(Refusal::Committed),
+        Err(Refusal::Nothing),
+    ];
+    assert!(rt; answers_so(&mut warp, &refused, &why));
+    assert!(rt; warp.bound() == 1 && has_loose(&warp, 2, 0, 0) && has_in_flight(&warp, "mn"));
+    assert!(rt; told(&warp, 0) == counts(1, 2, 1, 1) && told(&warp, 1) == counts(0, 0, 0, 0));
+}
+
+#[test]
+fn the_routers_are_dealt_out_to_the_workers(rt: HostRuntime) {
+    let alloc = rt.alloc();
+    let Ok(case) = case(alloc, DISAGREE) else {
+        panic!(rt; "the case is refused")
+    };
+    let Ok(warp) = machine(alloc, &case, 2) else {
+        panic!(rt; "no memory")
+    };
+    assert!(rt; warp.workers() == 2);
+    assert!(rt; owned_by(&warp, 0) == Some([true, false, true]));
+    assert!(rt; owned_by(&warp, 1) == Some([false, true, false]));
+}

@@ -1,0 +1,97 @@
+//! A parallel run by calls, before its workers have taken a turn.
+
+ghost use Rattle.std.specs.Prelude.{◌≡◌, IfOk};
+ghost use Rattle.tw_parallel.specs.Sim.{KeepsEvents};
+
+use std::alloc::{AllocError, Global};
+use tw_event::{Body, Event, PathNo};
+use tw_instance::Case;
+use tw_model::{Counters, RouterEnd};
+use tw_parallel::{Ending, NotSettled, OrMemory, Sim, StopLower};
+use tw_rows::cases::case;
+use tw_rows::texts::DISAGREE;
+
+/// The run of a case as it begins, with two workers.
+pub(crate) fn sim<'a>(alloc: Global, case: &'a Case) -> Result<Sim<'a>, AllocError>
+    ensures { IfOk result (λ sim. sim.case ≡ case.now) }
+{
+    match Sim::open(alloc, case, 2, true) {
+        Err(_) => Sim::open(alloc, case, 2, true),
+        made => made,
+    }
+}
+
+/// What a run leaves that keeps its events, asked for once more where memory was refused.
+fn outcome(sim: &Sim<'_>) -> Result<Ending, OrMemory<NotSettled>>
+    requires { KeepsEvents sim.now }
+{
+    match sim.outcome(true) {
+        Err(OrMemory::Memory) => sim.outcome(true),
+        answer => answer,
+    }
+}
+
+/// Whether nothing is handled, and only the origin's start is pending.
+fn begins_so(ending: &Ending) -> bool {
+    let start = Event {
+        time: 0,
+        dst: 0,
+        src: 0,
+        seq: 0,
+        body: Body::Start,
+    };
+    let untouched = RouterEnd {
+        counters: Counters {
+            sent: 0,
+            handled: 0,
+            dropped: 0,
+            changed: 0,
+        },
+        rib: PathNo::EMPTY,
+    };
+    ending.stop == 0
+        && ending.events.is_empty()
+        && ending.routers.as_slice() == &[untouched, untouched, untouched][..]
+        && ending.pending.as_slice() == &[start][..]
+}
+
+/// Whether a run refuses to tell what it leaves, or its shape.
+fn is_refused(sim: &Sim<'_>) -> bool {
+    matches!(sim.outcome(false), Err(OrMemory::Fault(NotSettled)))
+        && matches!(sim.shape(), Err(OrMemory::Fault(NotSettled)))
+}
+
+#[test]
+fn a_run_that_begins_is_settled_at_stop_0(rt: HostRuntime) {
+    let alloc = rt.alloc();
+    let Ok(case) = case(alloc, DISAGREE) else {
+        panic!(rt; "the case is refused")
+    };
+    let Ok(sim) = sim(alloc, &case) else {
+        panic!(rt; "no memory")
+    };
+    assert!(rt; sim.workers() == 2 && sim.bound() == 0 && sim.stop() == 0 && sim.ahead() == 0);
+    assert!(rt; sim.is_settled() && sim.keeps_events());
+    let Ok(ending) = outcome(&sim) else {
+        panic!(rt; "not settled")
+    };
+    assert!(rt; begins_so(&ending));
+}
+
+#[test]
+fn a_stop_that_rises_is_still_to_be_reached(rt: HostRuntime) {
+    let alloc = rt.alloc();
+    let Ok(case) = case(alloc, DISAGREE) else {
+        panic!(rt; "the case is refused")
+    };
+    let Ok(mut sim) = sim(alloc, &case) else {
+        panic!(rt; "no memory")
+    };
+    assert!(rt; sim.raise_stop(20) == Ok(()) && sim.stop() == 20 && sim.bound() == 0);
+    assert!(rt;
+        sim.raise_stop(19) == Err(StopLower) && sim.raise_stop(1_000_000_001) == Err(StopLower)
+    );
+    assert!(rt; sim.stop() == 20 && is_refused(&sim));
+    let sim = Sim::of_parts(sim.into_parts());
+    assert!(rt; sim.stop() == 20 && !sim.is_settled());
+}

@@ -1,0 +1,225 @@
+//! What the programs write.
+
+ghost use Rattle.std.specs.Prelude.{◌≡◌, false};
+
+use crate::devices::{AMPLE, Endless, ShortPage, Tape};
+use crate::texts::{ALONE_LOG, ALONE_REPLAY, DISAGREE_LOG, DISAGREE_TRAIL};
+use std::alloc::Global;
+use tw_commands::{Cause, Status, check_io, replay_io, seq_io, trail_io};
+use tw_rows::texts::{ALONE, DISAGREE};
+
+/// A program, with its options.
+#[derive(Clone, Copy, Debug)]
+enum Asked {
+    Check,
+    /// With the log, and no checkpoints.
+    Seq { stop: u16 },
+    /// Of router 1 to stop 20, down to its first state.
+    Trail,
+    /// To stop 20, by one worker.
+    Replay,
+}
+
+fn run(
+    alloc: Global,
+    asked: Asked,
+    tape: &mut Tape<'_>,
+    page: &mut ShortPage,
+) -> Result<Status, Cause>
+    requires source { tape.old.failed ≡ false }
+    requires sink { page.old.failed ≡ false }
+{
+    match asked {
+        Asked::Check => check_io(alloc, tape, page),
+        Asked::Seq { stop } => seq_io(alloc, tape, page, u64::from(stop), None, true),
+        Asked::Trail => trail_io(alloc, tape, page, 1, 20, 0),
+        Asked::Replay => replay_io(alloc, tape, page, 20, 1),
+    }
+}
+
+/// How the program ends on a tape, and the page that it wrote, which takes `room` bytes, `most` in
+/// one call. It is run once more where memory was refused and nothing stands on the page.
+fn answer_from(
+    alloc: Global,
+    asked: Asked,
+    tape: Tape<'_>,
+    room: usize,
+    most: usize,
+) -> Option<(Result<Status, Cause>, ShortPage)>
+    requires { tape.failed ≡ false }
+{
+    for _ in 0..2 {
+        let Ok(mut page) = ShortPage::new(alloc, room, most) else {
+            continue;
+        };
+        let mut source = tape;
+        match run(alloc, asked, &mut source, &mut page) {
+            Err(Cause::Memory) if page.bytes().is_empty() => {}
+            status => return Some((status, page)),
+        }
+    }
+    None
+}
+
+/// The same, on a tape that gives the whole text.
+fn answer(
+    alloc: Global,
+    asked: Asked,
+    text: &str,
+    room: usize,
+    most: usize,
+) -> Option<(Result<Status, Cause>, ShortPage)> {
+    let tape = Tape::new(text.as_bytes(), usize::MAX);
+    answer_from(alloc, asked, tape, room, most)
+}
+
+/// Whether the program ends so, having written just this.
+fn answers(
+    alloc: Global,
+    asked: Asked,
+    text: &str,
+    status: Status,
+    written: &str,
+) -> bool {
+    match answer(alloc, asked, text, AMPLE, AMPLE) {
+        Some((ended, page)) => ended == Ok(status) && page.bytes() == written.as_bytes(),
+        None => false,
+    }
+}
+
+const ACCEPTED: &str = "accepted nodes 3 links 3 paths 4 scenario 0\n";
+
+/// The origin alone, which handles its start and commits it.
+const ALONE_STEPS: &str = "spp 1\nnodes 1\nend\nhandle 0\nbound\ncommit 0\nend\n";
+
+#[test]
+fn each_program_writes_to_the_byte(rt: HostRuntime) {
+    let rows = [
+        (ALONE, Asked::Seq { stop: 10 }, ALONE_LOG),
+        (DISAGREE, Asked::Trail, DISAGREE_TRAIL),
+        (DISAGREE, Asked::Check, ACCEPTED),
+        (ALONE_STEPS, Asked::Replay, ALONE_REPLAY),
+    ];
+    for (text, asked, written) in rows {
+        assert!(rt;
+            answers(rt.alloc(), asked, text, Status::Done, written),
+            "{asked:?}"
+        );
+    }
+}
+
+#[test]
+fn a_text_that_is_broken_off_is_refused(rt: HostRuntime) {
+    for asked in [Asked::Check, Asked::Seq { stop: 10 }, Asked::Trail, Asked::Replay] {
+        let line = "refused line 3 X6 End\n";
+        assert!(rt;
+            answers(rt.alloc(), asked, "spp 1\nnodes 1\n", Status::Refused, line),
+            "{asked:?}"
+        );
+    }
+}
+
+/// Whether each shorter page has a prefix of what the program writes on DISAGREE, and tells that
+/// it failed.
+fn fails_with_a_prefix(alloc: Global, asked: Asked, whole: &[u8], most: usize) -> bool {
+    for room in 0..whole.len() {
+        let Some((ended, page)) = answer(alloc, asked, DISAGREE, room, most) else {
+            return false;
+        };
+        if ended != Err(Cause::Device) || page.bytes() != &whole[..room] {
+            return false;
+        }
+    }
+    true
+}
+
+#[test]
+fn a_sink_that_fails_has_a_prefix(rt: HostRuntime) {
+    let asked = Asked::Seq { stop: 20 };
+    let rows = [(asked, DISAGREE_LOG), (Asked::Check, ACCEPTED)];
+    for (asked, text) in rows {
+        for most in [AMPLE, 1] {
+            assert!(rt;
+                fails_with_a_prefix(rt.alloc(), asked, text.as_bytes(), most),
+                "{asked:?}"
+            );
+        }
+    }
+}
+
+#[test]
+fn the_first_line_stands_where_a_sink_takes_thirteen_bytes(rt: HostRuntime) {
+    let asked = Asked::Seq { stop: 10 };
+    let Some((ended, page)) = answer(rt.alloc(), asked, ALONE, 13, AMPLE) else {
+        panic!(rt; "no answer")
+    };
+    assert!(rt; ended == Err(Cause::Device) && page.bytes() == b"spp-report 1\n".as_slice());
+}
+
+#[test]
+fn a_sink_may_take_a_byte_at_a_time(rt: HostRuntime) {
+    let asked = Asked::Seq { stop: 20 };
+    for (asked, text) in [(asked, DISAGREE_LOG), (Asked::Check, ACCEPTED)] {
+        let Some((ended, page)) = answer(rt.alloc(), asked, DISAGREE, AMPLE, 1) else {
+            panic!(rt; "no answer")
+        };
+        assert!(rt; ended == Ok(Status::Done) && page.bytes() == text.as_bytes());
+    }
+}
+
+#[test]
+fn a_source_that_fails_leaves_nothing_written(rt: HostRuntime) {
+    let seq = Asked::Seq { stop: 20 };
+    for asked in [Asked::Check, seq] {
+        for left in [0, 1, 20] {
+            let tape = Tape::new(DISAGREE.as_bytes(), left);
+            let Some((ended, page)) = answer_from(rt.alloc(), asked, tape, AMPLE, AMPLE) else {
+                panic!(rt; "no answer")
+            };
+            assert!(rt; ended == Err(Cause::Device) && page.bytes().is_empty());
+        }
+    }
+}
+
+/// How `check` ends on line ends without end, how many it read, and what it wrote. It is run once
+/// more where memory was refused.
+fn check_endless(alloc: Global) -> Option<(Result<Status, Cause>, usize, ShortPage)> {
+    for _ in 0..2 {
+        let Ok(mut page) = ShortPage::new(alloc, AMPLE, AMPLE) else {
+            continue;
+        };
+        let mut source = Endless::new();
+        match check_io(alloc, &mut source, &mut page) {
+            Err(Cause::Memory) => {}
+            ended => return Some((ended, source.given(), page)),
+        }
+    }
+    None
+}
+
+#[test]
+fn line_ends_without_end_are_refused(rt: HostRuntime) {
+    let Some((ended, read, page)) = check_endless(rt.alloc()) else {
+        panic!(rt; "no answer")
+    };
+    assert!(rt; ended == Ok(Status::Refused) && read == 67_108_864);
+    assert!(rt; page.bytes() == b"refused line 1 X2 Header\n".as_slice());
+}
+
+#[test]
+fn each_cause_to_stop_is_shown_in_two_words(rt: HostRuntime) {
+    let alloc = rt.alloc();
+    let texts = [
+        (Cause::Memory, "stopped memory"),
+        (Cause::CounterFull, "stopped counter"),
+        (Cause::NoThread, "stopped thread"),
+        (Cause::Device, "stopped device"),
+    ];
+    for (cause, text) in texts {
+        let Ok(shown) = format!(in alloc; "{cause}").or_else(|_| format!(in alloc; "{cause}"))
+        else {
+            panic!(rt; "no memory")
+        };
+        assert!(rt; shown.as_str() == text);
+    }
+}

@@ -1,0 +1,316 @@
+//! Parallel runs by threads.
+
+use crate::devices::{AMPLE, ShortPage, Tape};
+use crate::events::events;
+use crate::parallel::sim;
+use crate::texts::DISAGREE_LOG;
+use std::alloc::Global;
+use std::sync::Wait;
+use std::sync::atomic::{AtomicBool, AtomicU64, Ordering};
+use std::thread::{self, Threads};
+use tw_commands::{Cause, Status};
+use tw_instance::Case;
+use tw_parallel::{EndCause, Ended, Gate, OpenGate, Options, Sim, run_until};
+use tw_rows::cases::case;
+use tw_rows::texts::DISAGREE;
+use tw_run::run_io;
+use tw_table::Seat;
+
+/// How `run` to stop 20 by two workers ends on a text, with the log on the page that it wrote. It is run once
+/// more where memory or a thread was refused and it has written nothing.
+fn answer<X: Threads + Wait + Sync>(
+    rt: &X,
+    alloc: Global,
+    text: &str,
+) -> Option<(Result<Status, Cause>, ShortPage)> {
+    for _ in 0..2 {
+        let Ok(mut page) = ShortPage::new(alloc, AMPLE, AMPLE) else {
+            continue;
+        };
+        let mut tape = Tape::new(text.as_bytes(), usize::MAX);
+        match run_io(rt, alloc, &mut tape, &mut page, 20, None, true, 2, 64) {
+            Err(Cause::Memory | Cause::NoThread) if page.bytes().is_empty() => {}
+            ended => return Some((ended, page)),
+        }
+    }
+    None
+}
+
+#[test]
+fn a_report_refused_once_is_written_whole(rt: HostRuntime) {
+    let Some((ended, page)) = answer(&rt, rt.alloc(), DISAGREE) else {
+        panic!(rt; "no answer")
+    };
+    assert!(rt; ended == Ok(Status::Done) && page.bytes() == DISAGREE_LOG.as_bytes());
+}
+
+/// Runs on to a stop, once more where memory or a thread was refused.
+fn run_on<'a, X: Threads + Wait + Sync>(
+    rt: &X,
+    sim: Sim<'a>,
+    stop: u64,
+) -> Result<Sim<'a>, Ended<'a>> {
+    let options = Options { batch: 64 };
+    match run_until(rt, sim, stop, options, &OpenGate) {
+        Err(
+            Ended {
+                sim,
+                cause: EndCause::Memory | EndCause::NoThread,
+                ..
+            },
+        ) => run_until(rt, sim, stop, options, &OpenGate),
+        ended => ended,
+    }
+}
+
+/// Whether the first events of the run, so many, are committed.
+fn has_committed(sim: &Sim<'_>, count: usize) -> bool {
+    if !sim.keeps_events() {
+        return false;
+    }
+    let found = match sim.committed() {
+        Err(_) => sim.committed(),
+        found => found,
+    };
+    match found {
+        Ok(committed) => events().get(..count) == Some(committed.as_slice()),
+        Err(_) => false,
+    }
+}
+
+#[test]
+fn a_run_goes_on_to_later_stops_and_to_no_earlier_one(rt: HostRuntime) {
+    let alloc = rt.alloc();
+    let Ok(case) = case(alloc, DISAGREE) else {
+        panic!(rt; "the case is refused")
+    };
+    let Ok(mut sim) = sim(alloc, &case) else {
+        panic!(rt; "no memory")
+    };
+    for (stop, count) in [(3, 4), (7, 6), (20, 7)] {
+        sim = match run_on(&rt, sim, stop) {
+            Ok(sim) => sim,
+            Err(ended) => panic!(rt; "{:?}", ended.cause),
+        };
+        assert!(rt; sim.is_settled() && has_committed(&sim, count), "{stop}");
+    }
+    match run_on(&rt, sim, 19) {
+        Ok(_) => panic!(rt; "the stop falls"),
+        Err(ended) => {
+            assert!(rt; ended.cause == EndCause::StopLower && ended.bound == 20);
+            assert!(rt; ended.sim.stop() == 20 && has_committed(&ended.sim, 7));
+        }
+    }
+}
+
+#[test]
+fn a_run_that_ended_early_goes_on_from_there(rt: HostRuntime) {
+    let alloc = rt.alloc();
+    let Ok(case) = case(alloc, DISAGREE) else {
+        panic!(rt; "the case is refused")
+    };
+    let Ok(sim) = sim(alloc, &case) else {
+        panic!(rt; "no memory")
+    };
+    let Ok(sim) = run_on(&rt, sim, 20) else {
+        panic!(rt; "the run ended twice")
+    };
+    assert!(rt; sim.is_settled() && sim.bound() == 20 && has_committed(&sim, 7));
+}
+
+/// How often a worker looks for another before it goes on without it.
+const MOST_LOOKS: u32 = 1_000_000;
+
+/// Whether a flag is raised while it is looked at.
+fn is_raised(flag: &AtomicBool) -> bool {
+    for _ in 0..MOST_LOOKS {
+        if flag.load(Ordering::SeqCst) {
+            return true;
+        }
+        thread::yield_now();
+    }
+    false
+}
+
+/// The bounds that the seats of two workers showed last, and that of worker 1 after its first turn.
+#[derive(Drop)]
+struct Bounds {
+    last_of_0: AtomicU64,
+    last_of_1: AtomicU64,
+    first_of_1: AtomicU64,
+}
+
+impl Bounds {
+    fn new() -> Bounds {
+        Bounds {
+            last_of_0: AtomicU64::new(0),
+            last_of_1: AtomicU64::new(0),
+            first_of_1: AtomicU64::new(0),
+        }
+    }
+
+    fn note(&self, seat: &Seat, turn: u64) {
+        let bound = seat.bound();
+        if seat.worker() == 0 {
+            self.last_of_0.store(bound, Ordering::SeqCst);
+            return;
+        }
+        self.last_of_1.store(bound, Ordering::SeqCst);
+        if turn == 1 {
+            self.first_of_1.store(bound, Ordering::SeqCst);
+        }
+    }
+
+    fn ended_at(&self, stop: u64) -> bool {
+        self.last_of_0.load(Ordering::SeqCst) == stop
+            && self.last_of_1.load(Ordering::SeqCst) == stop
+    }
+}
+
+/// Worker 0 before it takes the table for the second time and worker 1 before it does for the first wait
+/// for each other there.
+#[derive(Drop)]
+struct Crossing {
+    has_come_0: AtomicBool,
+    has_come_1: AtomicBool,
+    has_missed: AtomicBool,
+    bounds: Bounds,
+}
+
+impl Crossing {
+    fn new() -> Crossing {
+        Crossing {
+            has_come_0: AtomicBool::new(false),
+            has_come_1: AtomicBool::new(false),
+            has_missed: AtomicBool::new(false),
+            bounds: Bounds::new(),
+        }
+    }
+
+    fn meet(&self, own: &AtomicBool, other: &AtomicBool) {
+        own.store(true, Ordering::SeqCst);
+        if !is_raised(other) {
+            self.has_missed.store(true, Ordering::SeqCst);
+        }
+    }
+}
+
+impl Gate for Crossing {
+    fn handling<R: Wait>(&self, _rt: &R, _worker: u32, _turn: u64) {}
+
+    fn enter<R: Wait>(&self, _rt: &R, worker: u32, turn: u64) {
+        match (worker, turn) {
+            (0, 2) => self.meet(&self.has_come_0, &self.has_come_1),
+            (1, 1) => self.meet(&self.has_come_1, &self.has_come_0),
+            _ => {}
+        }
+    }
+
+    fn turned(&self, seat: &Seat, turn: u64) {
+        self.bounds.note(seat, turn);
+    }
+}
+
+/// Worker 0 handles nothing before worker 1 has had its second turn, and worker 1 nothing before worker 0
+/// is about to.
+#[derive(Drop)]
+struct Overtaking {
+    has_begun_0: AtomicBool,
+    has_turned_1: AtomicBool,
+    has_missed: AtomicBool,
+    bounds: Bounds,
+}
+
+impl Overtaking {
+    fn new() -> Overtaking {
+        Overtaking {
+            has_begun_0: AtomicBool::new(false),
+            has_turned_1: AtomicBool::new(false),
+            has_missed: AtomicBool::new(false),
+            bounds: Bounds::new(),
+        }
+    }
+
+    fn wait_for(&self, flag: &AtomicBool) {
+        if !is_raised(flag) {
+            self.has_missed.store(true, Ordering::SeqCst);
+        }
+    }
+}
+
+impl Gate for Overtaking {
+    fn handling<R: Wait>(&self, _rt: &R, worker: u32, turn: u64) {
+        match (worker, turn) {
+            (0, 1) => {
+                self.has_begun_0.store(true, Ordering::SeqCst);
+                self.wait_for(&self.has_turned_1);
+            }
+            (1, 1) => self.wait_for(&self.has_begun_0),
+            _ => {}
+        }
+    }
+
+    fn enter<R: Wait>(&self, _rt: &R, _worker: u32, _turn: u64) {}
+
+    fn turned(&self, seat: &Seat, turn: u64) {
+        self.bounds.note(seat, turn);
+        if seat.worker() == 1 && turn == 2 {
+            self.has_turned_1.store(true, Ordering::SeqCst);
+        }
+    }
+}
+
+/// Whether two workers take a case to stop 20 at this gate; `None` where memory or a thread was refused.
+fn passes<G: Gate + Sync, X: Threads + Wait + Sync>(
+    rt: &X,
+    alloc: Global,
+    case: &Case,
+    gate: &G,
+) -> Option<bool> {
+    let Ok(sim) = Sim::open(alloc, case, 2, true) else {
+        return None;
+    };
+    match run_until(rt, sim, 20, Options { batch: 64 }, gate) {
+        Ok(sim) => Some(sim.bound() == 20),
+        Err(
+            Ended {
+                cause: EndCause::Memory | EndCause::NoThread,
+                ..
+            },
+        ) => None,
+        Err(_) => Some(false),
+    }
+}
+
+#[test]
+fn workers_overlap(rt: HostRuntime) {
+    let Ok(case) = case(rt.alloc(), DISAGREE) else {
+        panic!(rt; "the case is refused")
+    };
+    for _ in 0..2 {
+        let gate = Crossing::new();
+        if let Some(has_passed) = passes(&rt, rt.alloc(), &case, &gate) {
+            assert!(rt; has_passed && !gate.has_missed.load(Ordering::SeqCst));
+            assert!(rt; gate.bounds.ended_at(20));
+            assert!(rt; gate.bounds.first_of_1.load(Ordering::SeqCst) == 1);
+            return;
+        }
+    }
+    panic!(rt; "no memory")
+}
+
+#[test]
+fn handling_happens_off_the_table(rt: HostRuntime) {
+    let Ok(case) = case(rt.alloc(), DISAGREE) else {
+        panic!(rt; "the case is refused")
+    };
+    for _ in 0..2 {
+        let gate = Overtaking::new();
+        if let Some(has_passed) = passes(&rt, rt.alloc(), &case, &gate) {
+            assert!(rt; has_passed && !gate.has_missed.load(Ordering::SeqCst));
+            assert!(rt; gate.bounds.ended_at(20));
+            return;
+        }
+    }
+    panic!(rt; "no memory")
+}
