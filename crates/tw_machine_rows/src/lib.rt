@@ -4,6 +4,8 @@
 #![tactic(auto)]
 
 #[cfg(test)]
+mod ample;
+#[cfg(test)]
 mod exchange;
 #[cfg(test)]
 mod machine;

@@ -282,6 +282,29 @@ fn a_straggler_is_rolled_back(rt: HostRuntime) {
     assert!(rt; has_loose(&warp, 0, 0, 0) && ends_so(&mut warp));
 }
 
+/// The steps of the row, in one call.
+fn steps_of_the_row() -> [Step; 18] {
+    let mut steps = [Step::Bound; 18];
+    for (step, (next, _)) in steps.iter_mut().zip(&STRAGGLER) {
+        *step = *next;
+    }
+    steps
+}
+
+#[test]
+fn a_row_goes_on_where_it_was_broken_off_and_begins_again(rt: HostRuntime) {
+    let Ok(case) = case(rt.alloc(), DISAGREE) else {
+        panic!(rt; "the case is refused")
+    };
+    let steps = steps_of_the_row();
+    for _ in 0..2 {
+        let Ok(mut warp) = machine(rt.alloc(), &case, 2) else {
+            panic!(rt; "no memory")
+        };
+        assert!(rt; answers_so(&mut warp, &steps, &[Ok(()); 18]) && ends_so(&mut warp));
+    }
+}
+
 #[test]
 fn a_straggler_is_rolled_back_with_a_router_for_each_worker(rt: HostRuntime) {
     let alloc = rt.alloc();

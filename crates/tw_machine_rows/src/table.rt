@@ -22,7 +22,7 @@ use tw_workers::laws::shares_are_at_work;
 
 /// A worker at a table, with its routers and its hand.
 #[derive(Drop)]
-struct Sitting<'a> {
+pub(crate) struct Sitting<'a> {
     seat: Seat,
     shard: Shard<'a>,
     hand: Hand,
@@ -56,7 +56,7 @@ fn begin<'a>(
 }
 
 /// A table with that exchange, and its two workers.
-fn sit_down<'a, R: Wait>(
+pub(crate) fn sit_down<'a, R: Wait>(
     rt: &R,
     alloc: Global,
     case: &'a Case,

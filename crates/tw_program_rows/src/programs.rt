@@ -10,7 +10,7 @@ use tw_rows::texts::{ALONE, DISAGREE};
 
 /// A program, with its options.
 #[derive(Clone, Copy, Debug)]
-enum Asked {
+pub(crate) enum Asked {
     Check,
     /// With the log, and no checkpoints.
     Seq { stop: u16 },
@@ -20,7 +20,7 @@ enum Asked {
     Replay,
 }
 
-fn run(
+pub(crate) fn run(
     alloc: Global,
     asked: Asked,
     tape: &mut Tape<'_>,
@@ -90,7 +90,7 @@ fn answers(
 const ACCEPTED: &str = "accepted nodes 3 links 3 paths 4 scenario 0\n";
 
 /// The origin alone, which handles its start and commits it.
-const ALONE_STEPS: &str = "spp 1\nnodes 1\nend\nhandle 0\nbound\ncommit 0\nend\n";
+pub(crate) const ALONE_STEPS: &str = "spp 1\nnodes 1\nend\nhandle 0\nbound\ncommit 0\nend\n";
 
 #[test]
 fn each_program_writes_to_the_byte(rt: HostRuntime) {

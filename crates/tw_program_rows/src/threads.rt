@@ -9,6 +9,7 @@ use std::sync::Wait;
 use std::sync::atomic::{AtomicBool, AtomicU64, Ordering};
 use std::thread::{self, Threads};
 use tw_commands::{Cause, Status};
+use tw_event::Event;
 use tw_instance::Case;
 use tw_parallel::{EndCause, Ended, Gate, OpenGate, Options, Sim, run_until};
 use tw_rows::cases::case;
@@ -78,6 +79,31 @@ fn has_committed(sim: &Sim<'_>, count: usize) -> bool {
     }
 }
 
+/// Whether these are some events of the run, in their order, each of them below the bound.
+fn are_below(committed: &[Event], bound: u64) -> bool {
+    let events = events();
+    let mut rest: &[Event] = &events;
+    for event in committed {
+        let Some(place) = rest.iter().position(|next| next == event) else {
+            return false;
+        };
+        rest = rest.get(place + 1..).unwrap_or(&[]);
+        if event.time >= bound {
+            return false;
+        }
+    }
+    true
+}
+
+/// Whether what is committed is of the run, and below the bound.
+fn has_committed_some(sim: &Sim<'_>, bound: u64) -> bool {
+    sim.keeps_events()
+        && sim
+            .committed()
+            .or_else(|_| sim.committed())
+            .is_ok_and(|committed| are_below(&committed, bound))
+}
+
 #[test]
 fn a_run_goes_on_to_later_stops_and_to_no_earlier_one(rt: HostRuntime) {
     let alloc = rt.alloc();
@@ -111,6 +137,14 @@ fn a_run_that_ended_early_goes_on_from_there(rt: HostRuntime) {
     };
     let Ok(sim) = sim(alloc, &case) else {
         panic!(rt; "no memory")
+    };
+    let sim = match run_until(&rt, sim, 20, Options { batch: 64 }, &OpenGate) {
+        Ok(sim) => sim,
+        Err(ended) => {
+            assert!(rt; ended.cause == EndCause::Memory || ended.cause == EndCause::NoThread);
+            assert!(rt; has_committed_some(&ended.sim, ended.bound));
+            ended.sim
+        }
     };
     let Ok(sim) = run_on(&rt, sim, 20) else {
         panic!(rt; "the run ended twice")

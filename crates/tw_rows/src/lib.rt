@@ -10,6 +10,8 @@ pub mod cases;
 pub mod texts;
 
 #[cfg(test)]
+mod ample;
+#[cfg(test)]
 mod command_lines;
 #[cfg(test)]
 mod handlers;
