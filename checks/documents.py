@@ -5,7 +5,8 @@
 
 Of each document every word in backticks is looked up: a path must be that of a file or folder, and a name (of a crate,
 a function, a clause, a definition) must stand somewhere in the sources. What has spaces or the word NAME, and blocks of
-code, is let pass. In a table of promises, clauses named after functions must be clauses of one of these.
+code, is let pass. In a table of promises, clauses named after functions must be clauses of one of these. The list of
+files for a new kind of event must have each file that names a kind.
 """
 import collections
 import itertools
@@ -69,8 +70,32 @@ def misnamed_clauses(row, clauses):
                 yield f"{'::'.join(functions[-1])}: {name}"
 
 
+def listed(section: str) -> set[str]:
+    """The files under crates/ that the tables of a section name; one without a folder is in that of the one before."""
+    found, folder = set(), ""
+    for row in (line for line in section.splitlines() if line.startswith("|")):
+        for word in re.findall(r"`([\w./]+\.(?:rt|antt))`", row):
+            folder = word.rpartition("/")[0] or folder
+            found.add(f"{folder}/{word.rpartition('/')[2]}")
+    return found
+
+
+def left_out_of_kinds() -> list[str]:
+    """The files that name the kinds of event, and that the list for a new kind lacks."""
+    text = (TOP / "docs/ARCHITECTURE.md").read_text(encoding="utf-8")
+    section = text.partition("## To add a kind of event\n")[2].partition("\n## ")[0]
+    naming = {
+        str(file.relative_to(TOP / "crates"))
+        for file in files(CODE)
+        if re.search(r"\bRestore\b", file.read_text(encoding="utf-8"))
+    }
+    return sorted(naming - listed(section))
+
+
 def main():
     tally = Tally()
+    lost_kinds = left_out_of_kinds()
+    tally.add("the list for a new kind of event", lost_kinds and f"it lacks {', '.join(lost_kinds)}")
     clauses = clauses_by_function()
     sources = files([*SOURCES, *CODE])
     words = set(itertools.chain.from_iterable(re.findall(r"\w+", file.read_text(encoding="utf-8")) for file in sources))
