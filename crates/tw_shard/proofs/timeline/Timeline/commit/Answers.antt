@@ -1,11 +1,12 @@
-use Rattle.std.proofs.Common.{◌≡◌, ◌<◌, ◌≤◌, ◌++◌, nat_lt, reverse, take, ap, sym, ◌∙◌, subst}
+use Rattle.std.proofs.Common.{◌≡◌, ◌<◌, ◌≤◌, ◌++◌, drop, length, nat_lt, reverse, take, ap, sym, ◌∙◌, subst}
 use Rattle.std.specs.List.{AllByRecursion, prefix_len}
-use Rattle.tw_model.specs.Case.{IsCase}
-use Rattle.tw_shard.specs.Commit.{committed_to}
+use Rattle.tw_model.specs.Case.{IsCase, simulation}
+use Rattle.tw_shard.specs.Commit.{BeginsFrom, committed_to, not_before}
 use Rattle.tw_shard.specs.Past.{Past, run_of}
-use Rattle.tw_shard.specs.Timeline.{AreNoted, IsRunUntil, IsTimeline, Timeline, events_of, known, last_change_at, noted_change, timeline_of}
+use Rattle.tw_shard.specs.Timeline.{AreNoted, IsRunUntil, IsTimeline, Timeline, events_of, history, known, last_change_at, noted_change, timeline_of}
 use Rattle.tw_shard.proofs.Commits.{change_committed, gone_events, left_events, noted_left, past_early, same_history}
-use Rattle.tw_shard.proofs.LettingGo.{all_committed}
+use Rattle.tw_shard.proofs.LettingGo.{all_committed, all_stay, none_first}
+use Rattle.tw_sim.specs.Simulation.{IsFalling, below}
 use Rattle.tw_shard.proofs.timeline.Timeline.commit.Goals as goal
 
 pub add-requires : goal.add-requires
@@ -71,3 +72,27 @@ returns-clause-ok c =
     let gone = ap (λ (p : Past). p.events) past ∙ ap (λ l. l ++ a.past.events) (sym (gone_events bound n items first)) in
     (λ i. record { net = a.router.net; node = a.router.node; ahead = left i; past = gone i; done = (past i).done; case = (past i).case; keeps = (past i).keeps })
     ∙ ap (committed_to bound) c.self.view_is
+
+pub returns-clause-past : goal.returns-clause-past
+returns-clause-past c =
+    subst (λ (t : Timeline). IsFalling (simulation t.case) (history t) → c.add.new.self.events ≡ below (simulation t.case) c.args.bound (history t)) c.self.view_is
+    (λ falling.
+    let a = c.self.inside in
+    let bound = c.args.bound in
+    let n = c.first_before-count.result in
+    let items = a.ahead.items in
+    let first = c.first_before-count.ensures.value ∙ ap (prefix_len (λ d. nat_lt d.event.time bound)) c.deref.ensures.value in
+    let later : a.past.done ≤ bound = subst (λ (t : Timeline). t.done ≤ bound) (sym c.self.view_is) c.requires.done in
+    ap (λ (p : Past). p.events) (past_now c) ∙ sym (all_committed a.past.case c.self.invariant.is_case bound a.past.done n a.past.events items later first c.self.invariant.past falling))
+
+pub returns-clause-ahead : goal.returns-clause-ahead
+returns-clause-ahead c =
+    subst (λ (t : Timeline). IsFalling (simulation t.case) (history t) → events_of (reverse c.drop_first.new.steps.items) ≡ not_before c.args.bound (history t)) c.self.view_is
+    (λ falling.
+    let a = c.self.inside in
+    let bound = c.args.bound in
+    let n = c.first_before-count.result in
+    let items = a.ahead.items in
+    let first = c.first_before-count.ensures.value ∙ ap (prefix_len (λ d. nat_lt d.event.time bound)) c.deref.ensures.value in
+    let later : a.past.done ≤ bound = subst (λ (t : Timeline). t.done ≤ bound) (sym c.self.view_is) c.requires.done in
+    ap (λ l. events_of (reverse l)) c.drop_first.ensures ∙ sym (all_stay a.past.case c.self.invariant.is_case bound a.past.done n a.past.events items later first c.self.invariant.past falling))
