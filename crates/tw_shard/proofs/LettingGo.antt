@@ -11,7 +11,7 @@ use Rattle.tw_model.proofs.Lawful.{lawful, numbered}
 use Rattle.tw_model.specs.Case.{Case, IsCase, simulation}
 use Rattle.tw_shard.proofs.Commits.{all_pass, past_early, past_events, same_history}
 use Rattle.tw_shard.specs.declared.timeline.HandledEvent.{HandledEvent}
-use Rattle.tw_shard.specs.Commit.{BeginsFrom, not_before}
+use Rattle.tw_shard.specs.Commit.{not_before}
 use Rattle.tw_shard.specs.Past.{run_of}
 use Rattle.tw_shard.specs.Timeline.{events_of}
 use Rattle.tw_sim.proofs.Closed.{log_closed}
@@ -53,11 +53,6 @@ stops_at time (d ∷ steps) =
 -- the events of steps, the oldest of which is d
 oldest_last : (d : HandledEvent) (steps : List HandledEvent) → events_of (reverse (d ∷ steps)) ≡ events_of (reverse steps) ++ d.event ∷ []
 oldest_last d steps = ap events_of (reverse-append (d ∷ []) steps) ∙ map-append (λ (d : HandledEvent). d.event) (reverse steps) (d ∷ [])
-
--- no step is before a time that the oldest one is not before
-pub none_first : (time : ℕ) (steps : List HandledEvent) → BeginsFrom time (events_of (reverse steps)) → prefix_len (λ d. nat_lt d.event.time time) steps ≡ 0
-none_first time [] begins = refl
-none_first time (d ∷ steps) begins = rw (le-ltb d.event.time time (begins (events_of (reverse steps)) d.event (oldest_last d steps))) refl
 
 -- where no element passes a test, all pass the contrary
 all_others : {X : Type 0} (test : X → Bool) (xs : List X) → filter test xs ≡ [] → filter (λ x. not (test x)) xs ≡ xs
