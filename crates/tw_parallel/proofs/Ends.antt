@@ -34,7 +34,7 @@ use Rattle.tw_sim.specs.Simulation.{Simulation, IsFalling, IsLawful, only, times
 use Rattle.tw_sim.specs.declared.machine.Signed.{Signed}
 use Rattle.tw_table.specs.declared.hand.Hand.{Hand}
 use Rattle.tw_table.specs.Shares.{place_of, shares_of}
-use Rattle.tw_warp.proofs.Whole.{same_order}
+use Rattle.tw_warp.proofs.Dealt.{all_there, together}
 
 pub empty_of : {X : Type 0} (xs : List X) → length xs ≡ 0 → xs ≡ []
 empty_of [] h = refl
@@ -133,49 +133,6 @@ none_ahead s settled =
     all_zero (λ r. ahead_of s r) 0 s.case.net.nodes (λ r l.
     let same = ap length (settled.committed r (omega arith)) in omega arith)
 
--- ---- the events of a run in order
-
-module _ {S E : Type 0} (m : Simulation S E) (law : IsLawful m) where
-  -- the events of a falling history, each put in order before those that are there
-  behind : (e : E) (es acc : List E) → ((x : E) → 0 < times m x es → m.before x e ≡ true) → IsFalling m es → insert_all m es (e ∷ acc) ≡ reverse es ++ (e ∷ acc)
-  behind e [] acc first falling = refl
-  behind e (x ∷ es) acc first falling =
-      let earlier : m.before x e ≡ true = first x (in_head m law x es) in
-      rw (not_back m.before m.same (is_order m law) x e earlier)
-      (behind x es (e ∷ acc) falling.0 falling.1
-      ∙ (sym (append_assoc (reverse es) (x ∷ []) (e ∷ acc)) ∙ ap (λ ys. ys ++ (e ∷ acc)) (sym (reverse-append (x ∷ []) es))))
-
-  -- a falling history in order is that history the other way round
-  pub turned : (es : List E) → IsFalling m es → insert_all m es [] ≡ reverse es
-  turned [] falling = refl
-  turned (e ∷ es) falling = behind e es [] falling.0 falling.1 ∙ sym (reverse-append (e ∷ []) es)
-
-  -- the events of the routers from a on, where each router has its own of a list
-  record AreDealt (log : List E) (a n : ℕ) (e : E) (count : ℕ) : Type 0 where
-    pub within : a ≤ m.dst e → m.dst e < a + n → count ≡ times m e log
-    pub before : m.dst e < a → count ≡ 0
-    pub past : a + n ≤ m.dst e → count ≡ 0
-
-  dealt : (f : ℕ → List E) (log : List E) (a n : ℕ) (e : E) → ((r : ℕ) → r < a + n → f r ≡ only m r log) → AreDealt log a n e (times m e (flat_map f (range_with_len a n)))
-  dealt f log a zero e each = record { within = λ least most. absurd (omega arith); before = λ h. refl; past = λ h. refl }
-  dealt f log a (suc n) e each =
-      let more = dealt f log (a + 1) n e (λ r l. each r (omega arith)) in
-      let sum = times-append m e (f a) (flat_map f (range_with_len (a + 1) n)) in
-      let own : times m e (f a) ≡ times m e (only m a log) = ap (times m e) (each a (omega arith)) in
-      elim (cases_eq (m.dst e) a) [
-        | inl here ↦ (
-            let mine = times-filter-yes m law (λ x. m.dst x == a) e log (eq-eqb (m.dst e) a here) in
-            let others = more.before (omega arith) in
-            record { within = λ least most. omega arith; before = λ h. absurd (omega arith); past = λ h. absurd (omega arith) })
-        | inr apart ↦ (
-            let none_here = times-filter-no m law (λ x. m.dst x == a) e log (ne_eqb (m.dst e) a apart) in
-            record {
-              within = λ least most. let rest = more.within (grind arith) (omega arith) in omega arith;
-              before = λ h. let rest = more.before (omega arith) in omega arith;
-              past = λ h. let rest = more.past (omega arith) in omega arith;
-            })
-      ]
-
 -- ---- what is left at the stop
 
 module _ (s : Sim) (is : IsSim s) (settled : IsSettled s) where
@@ -190,32 +147,19 @@ module _ (s : Sim) (is : IsSim s) (settled : IsSettled s) where
   pub all_states : states_of s ≡ states_at s.case s.board.stop
   all_states = ap (λ f. map f (range_with_len 0 s.case.net.nodes)) (fun_ext ended.states)
 
-  -- no event of the run is for a router that is not there
-  all_there : (e : Event) → s.case.net.nodes ≤ e.dst → times (simulation s.case) e (log (simulation s.case) s.board.stop) ≡ 0
-  all_there e past =
-      let m = simulation s.case in
-      let run = log m s.board.stop in
-      none (times m e run) (λ some.
-      let mine = times-filter-yes m (law s is) (λ x. x.dst == e.dst) e run (eq-eqb e.dst e.dst refl) in
-      let there : times m e ((machine s).history e.dst) ≡ times m e (only m e.dst run) = ap (times m e) (ended.events e.dst) in
-      let suits = (good_of s is).suit e (omega arith) in
-      let receiver = (law s is).receiver e suits in
-      omega arith)
+  -- the run is falling
+  run_falls : IsFalling (simulation s.case) (log (simulation s.case) s.board.stop)
+  run_falls = (log_closed (simulation s.case) (law s is) (numbered s.case is.ruled.is_case) s.board.stop).falling
+
+  -- what a router has handled suits it
+  suits : (e : Event) → 0 < times (simulation s.case) e ((machine s).history e.dst) → (simulation s.case).suits e ≡ true
+  suits e there = (good_of s is).suit e (omega arith)
 
   -- the committed events are the run
   pub all_committed : committed_events s ≡ reverse (log (simulation s.case) s.board.stop)
   all_committed =
       let m = simulation s.case in
-      let run = log m s.board.stop in
-      let nodes = s.case.net.nodes in
-      let each = λ (r : ℕ) (l : r < 0 + nodes). settled.committed r (omega arith) ∙ ended.events r in
-      same_order m (law s is) (flat_map (λ r. committed m (machine s) r) (range_with_len 0 nodes)) run (λ e.
-      let counts = dealt m (law s is) (λ r. committed m (machine s) r) run 0 nodes e each in
-      elim (cases_Bool (nat_lt e.dst nodes)) [
-        | inl there ↦ counts.within (omega arith) (let h = ltb-true e.dst nodes there in omega arith)
-        | inr past ↦ (let h = ltb-false e.dst nodes past in counts.past (omega arith) ∙ sym (all_there e h))
-      ])
-      ∙ turned m (law s is) run (log_closed m (law s is) (numbered s.case is.ruled.is_case) s.board.stop).falling
+      together m (law s is) (log m s.board.stop) run_falls (machine s).history ended.events suits (λ r. committed m (machine s) r) (λ r l. settled.committed r (omega arith))
 
   -- the last change of a path is that of the run
   pub change_of_run : greatest (λ r. change_of s r) (range_with_len 0 s.case.net.nodes) ≡ last_change s.case (log (simulation s.case) s.board.stop)
@@ -224,10 +168,11 @@ module _ (s : Sim) (is : IsSim s) (settled : IsSettled s) where
       let nodes = s.case.net.nodes in
       let each = fun_ext (λ r. ap (last_change_at s.case.net r) (ended.events r)) in
       ap (λ f. greatest f (range_with_len 0 nodes)) each
-      ∙ last_of_all s.case is.ruled.is_case (log m s.board.stop) (log_closed m (law s is) (numbered s.case is.ruled.is_case) s.board.stop).falling (λ e some.
+      ∙ last_of_all s.case is.ruled.is_case (log m s.board.stop) run_falls (λ e some.
       elim (cases_Bool (nat_lt e.dst nodes)) [
         | inl there ↦ ltb-true e.dst nodes there
-        | inr past ↦ (let none_there = all_there e (ltb-false e.dst nodes past) in absurd (omega arith))
+        | inr past ↦ (
+            let none_there = all_there m (law s is) (log m s.board.stop) run_falls (machine s).history ended.events suits e (ltb-false e.dst nodes past) in absurd (omega arith))
       ])
 
 -- the shape at the stop

@@ -13,15 +13,16 @@ use Rattle.tw_core.proofs.Sums.{all_map}
 use Rattle.tw_event.specs.declared.event.Event.{Event}
 use Rattle.tw_handlers.specs.Record.{IsHandled}
 use Rattle.tw_handlers.specs.declared.record.UndoRecord.{UndoRecord}
-use Rattle.tw_model.specs.Case.{simulation}
+use Rattle.tw_model.specs.Case.{Case, simulation}
 use Rattle.tw_model.specs.Net.{Net}
 use Rattle.tw_model.specs.State.{State}
 use Rattle.tw_shard.specs.declared.timeline.HandledEvent.{HandledEvent}
-use Rattle.tw_shard.specs.Commit.{committed_at, committed_to, committing, count_left}
+use Rattle.tw_shard.specs.Commit.{committed_at, committed_to, committing, count_left, not_before}
 use Rattle.tw_shard.specs.Shard.{IsWhole, Shard, core, owns, timeline}
 use Rattle.tw_shard.specs.Timeline.{AreNoted, Timeline, changes_path, events_of, history, known, last_change_at, noted_change}
 use Rattle.tw_shard.proofs.Histories.{length-events, reverse-push}
-use Rattle.tw_shard.proofs.Shares.{put_same, read_put}
+use Rattle.tw_shard.proofs.Shares.{put_same, read_put, timeline_here}
+use Rattle.tw_sim.specs.Simulation.{IsFalling, below}
 
 -- the events of steps, in the other order
 pub events-reverse : (steps : List HandledEvent) → reverse (events_of (reverse steps)) ≡ events_of steps
@@ -245,3 +246,25 @@ module _ (s : Shard) (r : ℕ) (whole : IsWhole s) (mine : owns s r ≡ true) wh
   pub goes : (stop : ℕ) → committing stop s r ≡ Ok (core stop (committed_at s r))
   goes stop =
       ap (λ b. if b then Ok (with_commit (simulation s.case) (core stop s) r) else Err NotMine) mine ∙ ap (λ c. Ok c) (sym (core_committed stop))
+
+  -- what is said of a router's timeline after a commit, of a history of this case
+  committed_timeline : (P : Timeline → Case → List Event → Type 0) → P (committed_to s.bound (timeline s r)) (timeline s r).case (history (timeline s r))
+      → P (timeline (committed_at s r) r) s.case ((core 0 s).history r)
+  committed_timeline P told =
+      let t : Timeline = committed_to s.bound (timeline s r) in
+      let now : timeline (committed_at s r) r ≡ t = timeline_here s r t s.pending s.outgoing whole mine in
+      let here : (core 0 s).history r ≡ history (timeline s r) = rw mine refl in
+      subst (λ u. P u s.case ((core 0 s).history r)) (sym now)
+      (subst (P t s.case) (sym here) (subst (λ case. P t case (history (timeline s r))) (whole.routers r mine).case told))
+
+  -- where its history is in order, all before the bound is committed
+  pub past_committed : (IsFalling (simulation (timeline s r).case) (history (timeline s r))
+      → (committed_to s.bound (timeline s r)).past ≡ below (simulation (timeline s r).case) s.bound (history (timeline s r)))
+      → IsFalling (simulation s.case) ((core 0 s).history r) → (timeline (committed_at s r) r).past ≡ below (simulation s.case) s.bound ((core 0 s).history r)
+  past_committed = committed_timeline (λ t case h. IsFalling (simulation case) h → t.past ≡ below (simulation case) s.bound h)
+
+  -- and what can be undone still is all that is not before the bound
+  pub ahead_committed : (IsFalling (simulation (timeline s r).case) (history (timeline s r))
+      → (committed_to s.bound (timeline s r)).ahead ≡ not_before s.bound (history (timeline s r)))
+      → IsFalling (simulation s.case) ((core 0 s).history r) → (timeline (committed_at s r) r).ahead ≡ not_before s.bound ((core 0 s).history r)
+  ahead_committed = committed_timeline (λ t case h. IsFalling (simulation case) h → t.ahead ≡ not_before s.bound h)

@@ -1,8 +1,8 @@
 -- What a timeline lets go is the one-thread run's.
-use Rattle.std.proofs.Common.{◌≡◌, ◌⊎◌, ℕ, suc, ◌+◌, ◌<◌, ◌≤◌, Bool, true, false, List, [], ◌∷◌, ◌++◌, refl, ap, ap₂, sym, ◌∙◌, subst, inl, inr, arith, nat_lt, if◌then◌else◌}
-use Rattle.std.proofs.Common.{append_assoc, drop, reverse, take}
-use Rattle.std.proofs.lemmas.Bool.{cases_Bool, le-ltb, ltb-false}
-use Rattle.std.proofs.lemmas.List.{map-append, reverse-append}
+use Rattle.std.proofs.Common.{◌≡◌, ◌⊎◌, ℕ, suc, ◌+◌, ◌<◌, ◌≤◌, Bool, not, true, false, List, [], ◌∷◌, ◌++◌, refl, ap, ap₂, sym, ◌∙◌, subst, inl, inr, arith, nat_lt, if◌then◌else◌}
+use Rattle.std.proofs.Common.{append_assoc, drop, filter, length, reverse, take}
+use Rattle.std.proofs.lemmas.Bool.{cases_Bool, le-ltb, lt-ltb, ltb-false}
+use Rattle.std.proofs.lemmas.List.{append-nil, map-append, reverse-append}
 use Rattle.std.proofs.lemmas.List.Elements.{filter-append}
 use Rattle.std.specs.List.{AllByRecursion, prefix_len}
 use Rattle.tw_core.proofs.Counts.{none_there}
@@ -11,6 +11,7 @@ use Rattle.tw_model.proofs.Lawful.{lawful, numbered}
 use Rattle.tw_model.specs.Case.{Case, IsCase, simulation}
 use Rattle.tw_shard.proofs.Commits.{all_pass, past_early, past_events, same_history}
 use Rattle.tw_shard.specs.declared.timeline.HandledEvent.{HandledEvent}
+use Rattle.tw_shard.specs.Commit.{not_before}
 use Rattle.tw_shard.specs.Past.{run_of}
 use Rattle.tw_shard.specs.Timeline.{events_of}
 use Rattle.tw_sim.proofs.Closed.{log_closed}
@@ -49,6 +50,24 @@ stops_at time (d ∷ steps) =
       | inr late ↦ rw late (inr (d, steps, refl, ltb-false d.event.time time late))
     ]
 
+-- the events of steps, the oldest of which is d
+oldest_last : (d : HandledEvent) (steps : List HandledEvent) → events_of (reverse (d ∷ steps)) ≡ events_of (reverse steps) ++ d.event ∷ []
+oldest_last d steps = ap events_of (reverse-append (d ∷ []) steps) ∙ map-append (λ (d : HandledEvent). d.event) (reverse steps) (d ∷ [])
+
+-- where no element passes a test, all pass the contrary
+all_others : {X : Type 0} (test : X → Bool) (xs : List X) → filter test xs ≡ [] → filter (λ x. not (test x)) xs ≡ xs
+all_others test [] none = refl
+all_others test (x ∷ xs) none =
+    elim (cases_Bool (test x)) [
+      | inl passes ↦ (let some : x ∷ filter test xs ≡ [] = rw passes at none in let count = ap length some in absurd (omega arith))
+      | inr fails ↦ rw fails (ap (λ ys. x ∷ ys) (all_others test xs (rw fails at none)))
+    ]
+
+-- of events before a time none is left
+none_left : (time : ℕ) (events : List Event) → AllByRecursion (λ e. e.time < time) events → not_before time events ≡ []
+none_left time [] early = refl
+none_left time (e ∷ events) early = rw (lt-ltb e.time time early.0) (none_left time events early.1)
+
 module _ (case : Case) (is : IsCase case) (time : ℕ) where
   -- what stands in front of an event that is not before a time is not before it either
   late_front : (newer older : List Event) (e : Event) → IsFalling (simulation case) (newer ++ e ∷ older) → time ≤ e.time → below (simulation case) time (newer ++ e ∷ []) ≡ []
@@ -66,28 +85,37 @@ module _ (case : Case) (is : IsCase case) (time : ℕ) where
   none_early steps older (inr at) falling =
       let m = simulation case in
       let newer = events_of (reverse at.1) in
-      let split : events_of (reverse steps) ≡ newer ++ at.0.event ∷ [] =
-      ap (λ l. events_of (reverse l)) at.2
-      ∙ (ap events_of (reverse-append (at.0 ∷ []) at.1) ∙ map-append (λ (d : HandledEvent). d.event) (reverse at.1) (at.0 ∷ [])) in
+      let split : events_of (reverse steps) ≡ newer ++ at.0.event ∷ [] = ap (λ l. events_of (reverse l)) at.2 ∙ oldest_last at.0 at.1 in
       let parted : IsFalling m (newer ++ at.0.event ∷ older) =
       subst (IsFalling m) (append_assoc newer (at.0.event ∷ []) older) (subst (λ l. IsFalling m (l ++ older)) split falling) in
       ap (below m time) split ∙ late_front newer older at.0.event parted at.3
 
-  -- what becomes committed is all that is handled before the bound
-  pub all_committed : (done n : ℕ) (past : List Event) (steps : List HandledEvent) → done ≤ time → n ≡ prefix_len (λ d. nat_lt d.event.time time) steps
-      → AllByRecursion (λ e. e.time < done) past → IsFalling (simulation case) (events_of (reverse steps) ++ past)
-      → below (simulation case) time (events_of (reverse steps) ++ past) ≡ events_of (reverse (take n steps)) ++ past
-  all_committed done n past steps later first early falling =
-      let m = simulation case in
-      let p = λ (e : Event). nat_lt e.time time in
-      let newer = events_of (reverse (drop n steps)) in
-      let older = events_of (reverse (take n steps)) ++ past in
-      let same = same_history n past steps in
-      let stops : StopsAt time (drop n steps) = subst (λ k. StopsAt time (drop k steps)) (sym first) (stops_at time steps) in
-      let none_left : below m time newer ≡ [] = none_early (drop n steps) older stops (subst (IsFalling m) (sym same) falling) in
-      ap (below m time) (sym same)
-      ∙ (filter-append p newer older
-      ∙ ap₂ (λ xs ys. xs ++ ys) none_left (all_pass time older (past_early done time n past steps later first early)))
+  module _ (done n : ℕ) (past : List Event) (steps : List HandledEvent) (later : done ≤ time) (first : n ≡ prefix_len (λ d. nat_lt d.event.time time) steps)
+      (early : AllByRecursion (λ e. e.time < done) past) (falling : IsFalling (simulation case) (events_of (reverse steps) ++ past)) where
+    -- of the steps that stay none is before the bound
+    none_before : below (simulation case) time (events_of (reverse (drop n steps))) ≡ []
+    none_before =
+        none_early (drop n steps) (events_of (reverse (take n steps)) ++ past) (subst (λ k. StopsAt time (drop k steps)) (sym first) (stops_at time steps))
+        (subst (IsFalling (simulation case)) (sym (same_history n past steps)) falling)
+
+    -- what becomes committed is all that is handled before the bound
+    pub all_committed : below (simulation case) time (events_of (reverse steps) ++ past) ≡ events_of (reverse (take n steps)) ++ past
+    all_committed =
+        let newer = events_of (reverse (drop n steps)) in
+        let older = events_of (reverse (take n steps)) ++ past in
+        ap (below (simulation case) time) (sym (same_history n past steps))
+        ∙ (filter-append (λ e. nat_lt e.time time) newer older
+        ∙ ap₂ (λ xs ys. xs ++ ys) none_before (all_pass time older (past_early done time n past steps later first early)))
+
+    -- and what stays is all that is not before the bound
+    pub all_stay : not_before time (events_of (reverse steps) ++ past) ≡ events_of (reverse (drop n steps))
+    all_stay =
+        let newer = events_of (reverse (drop n steps)) in
+        let older = events_of (reverse (take n steps)) ++ past in
+        ap (not_before time) (sym (same_history n past steps))
+        ∙ (filter-append (λ e. not (nat_lt e.time time)) newer older
+        ∙ (ap₂ (λ xs ys. xs ++ ys) (all_others (λ e. nat_lt e.time time) newer none_before) (none_left time older (past_early done time n past steps later first early))
+        ∙ append-nil newer))
 
 -- ---- the committed events, and some more
 

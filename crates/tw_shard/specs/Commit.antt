@@ -1,5 +1,5 @@
 -- What a commit does at a router (after Jefferson, Virtual Time, 1985).
-use Rattle.std.specs.Prelude.{ℕ, ◌≡◌, ◌-◌, List, ◌++◌, drop, length, nat_lt, take, Result, Ok}
+use Rattle.std.specs.Prelude.{ℕ, ◌≡◌, ◌≤◌, ◌-◌, not, List, [], ◌∷◌, ◌++◌, drop, filter, length, nat_lt, take, Result, Ok}
 use Rattle.std.specs.List.{suffix_len}
 use Rattle.tw_core.specs.declared.refusal.Refusal.{Refusal}
 use Rattle.tw_core.specs.Machine.{Core}
@@ -21,9 +21,17 @@ committed_to bound t = record t {
   done = bound;
 }
 
--- none of the events that router r can undo becomes committed: the oldest of them is not before the bound
+-- the events that are not before this time
+abbrev pub not_before : ℕ → List Event → List Event
+not_before time events = filter (λ e. not (nat_lt e.time time)) events
+
+-- the oldest event of a list, which has the newest first, is not before this time, if there is one
+abbrev pub BeginsFrom : ℕ → List Event → Type 0
+BeginsFrom time events = (newer : List Event) (oldest : Event) → events ≡ newer ++ oldest ∷ [] → time ≤ oldest.time
+
+-- none of the events that router r can undo becomes committed
 abbrev pub HasNothingToCommit : Shard → ℕ → Type 0
-HasNothingToCommit s r = count_left s.bound (timeline s r).ahead ≡ length (timeline s r).ahead
+HasNothingToCommit s r = BeginsFrom s.bound (timeline s r).ahead
 
 -- router r has committed its events before the bound
 abbrev pub committed_at : Shard → ℕ → Shard

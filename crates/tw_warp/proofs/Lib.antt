@@ -11,4 +11,5 @@ pub mod Fronts
 pub mod Runs
 pub mod Openings
 pub mod CommittedEvents
+pub mod Dealt
 pub mod Together

@@ -1,11 +1,10 @@
 //! Messages in chunks, so that one can be taken out from anywhere without moving all that stand behind it.
-ghost use Rattle.std.specs.Prelude.{◌≡◌, ◌++◌, ◌+◌, length, map, slice_get, take, IfOk};
+ghost use Rattle.std.specs.Prelude.{◌≡◌, ◌++◌, ◌+◌, length, map, slice_get, take};
 ghost use Rattle.tw_core.specs.Steps.{least_time};
 ghost use Rattle.tw_model.specs.Case.{Case as ACase, simulation};
 ghost use Rattle.tw_warp.specs.Flight.{all_of, IsPlaceIn};
 
 use crate::least::least_in_flight;
-use std::alloc::{AllocError, Global};
 use tw_event::Event;
 use tw_sim::Signed;
 
@@ -72,22 +71,6 @@ pub(crate) fn count(chunks: &[Vec<Signed<Event>>], recent: &[Signed<Event>]) -> 
         count += chunk.len() as u128;
     }
     count
-}
-
-/// A list of the messages in chunks and behind them.
-pub(crate) fn gather(
-    alloc: Global,
-    chunks: &[Vec<Signed<Event>>],
-    recent: &[Signed<Event>],
-) -> Result<Vec<Signed<Event>>, AllocError>
-    ensures { IfOk result (λ v. v.items ≡ all_of chunks.now ++ recent.now) }
-{
-    let mut messages = Vec::new(alloc);
-    for chunk in chunks {
-        messages.extend_from_slice(chunk)?;
-    }
-    messages.extend_from_slice(recent)?;
-    Ok(messages)
 }
 
 /// The least time of messages in chunks, and of another time.

@@ -1,11 +1,11 @@
 //! The messages on their way.
-ghost use Rattle.std.specs.Prelude.{◌≡◌, ◌<◌, [], length, map, remove, slice_get, IfOk};
+ghost use Rattle.std.specs.Prelude.{◌≡◌, ◌<◌, [], length, map, remove, slice_get};
 ghost use Rattle.tw_core.specs.Steps.{least_time};
 ghost use Rattle.tw_model.specs.Case.{Case as ACase, simulation};
 
-use crate::chunks::{CHUNK, count, find, gather, join, least_in_chunks, pick};
+use crate::chunks::{CHUNK, count, find, join, least_in_chunks, pick};
 use crate::least::least_in_flight;
-use std::alloc::{AllocError, Global};
+use std::alloc::Global;
 use std::marker::Model;
 use std::mem;
 use tw_event::Event;
@@ -87,13 +87,6 @@ impl Flight {
         } else {
             self.recent.remove(spot.index);
         }
-    }
-
-    /// A list of the messages.
-    pub(crate) fn to_vec(&self) -> Result<Vec<Signed<Event>>, AllocError>
-        ensures { IfOk result (λ v. v.items ≡ self.now) }
-    {
-        gather(*self.recent.allocator(), &self.earlier, &self.recent)
     }
 
     /// The least time of the messages, and of another time.

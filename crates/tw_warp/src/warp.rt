@@ -188,8 +188,8 @@ impl<'a> Warp<'a> {
         self.case
     }
 
-    /// The message at a place in flight, from 1 in the order sent, as `Step::Deliver` names it. It takes no
-    /// memory. `None` where there is none.
+    /// The message at a place in flight, from 1 to `flight_len`, in the order sent, as `Step::Deliver` names it.
+    /// It takes no memory. `None` where there is none.
     pub fn message_at(&self, place: u64) -> Option<Signed<Event>>
         ensures value { result ≡ message_at self.now.flight place }
         ensures seq { IsSeq (simulation self.now.case) (core self.now) }
@@ -197,13 +197,6 @@ impl<'a> Warp<'a> {
         let flight = &self.flight;
         let index = place.checked_sub(1)?;
         flight.get(index as usize)
-    }
-
-    /// A list of the messages on their way, in the order sent, for which it takes memory.
-    pub fn flight(&self) -> Result<Vec<Signed<Event>>, AllocError>
-        ensures { IfOk result (λ v. v.items ≡ self.now.flight) }
-    {
-        self.flight.to_vec()
     }
 
     /// How many messages are on their way.

@@ -4,9 +4,10 @@ ghost use Rattle.tw_core.specs.declared.refusal.Refusal.{Refusal as ARefusal};
 ghost use Rattle.tw_core.specs.Machine.{committed};
 ghost use Rattle.tw_model.specs.Case.{simulation};
 ghost use Rattle.tw_model.specs.declared.memory.OrMemory.TheVariants as or_memory;
-ghost use Rattle.tw_shard.specs.Commit.{HasNothingToCommit, committed_at, committed_to, committing, count_left};
+ghost use Rattle.tw_shard.specs.Commit.{BeginsFrom, HasNothingToCommit, committed_at, committed_to, committing, not_before};
 ghost use Rattle.tw_shard.specs.Shard.{HasRun, IsSameShare, core, no_timeline, owns, timeline};
 ghost use Rattle.tw_shard.specs.Timeline.{IsRunUntil, history, last_change_at};
+ghost use Rattle.tw_sim.specs.Simulation.{IsFalling, below};
 
 use super::Shard;
 use crate::timeline::Timeline;
@@ -19,6 +20,7 @@ impl<'a> Shard<'a> {
     /// The events of a router that are before the bound become committed: they can be undone no more, and
     /// what undoing them would need is let go.
     ///
+    /// Where its history is in order, those that can still be undone are then all that are not before the bound.
     /// Where the shard's routers don't keep their committed events, what this one has handled before the
     /// bound is the one-thread run.
     ///
@@ -28,6 +30,10 @@ impl<'a> Shard<'a> {
         requires run { self.old.keeps ≡ false → owns self.old router ≡ true → HasRun self.old router }
         ensures ok { (stop : ℕ) → OnOk result (committing stop self.old router ≡ Ok (core stop self.new)) }
         ensures events { OnOk result (self.new ≡ committed_at self.old router) }
+        ensures past { let h = (core 0 self.old).history router in OnOk result (IsFalling (simulation self.old.case) h
+            → (timeline self.new router).past ≡ below (simulation self.old.case) self.old.bound h) }
+        ensures ahead { let h = (core 0 self.old).history router in OnOk result (IsFalling (simulation self.old.case) h
+            → (timeline self.new router).ahead ≡ not_before self.old.bound h) }
         ensures refused { (stop : ℕ) (f : ARefusal) → IsErrOf result (or_memory.Fault f) ↔ (committing stop self.old router ≡ Err f) }
         ensures err { OnErr result (self.new ≡ self.old) }
         ensures same { IsSameShare self.old self.new }
@@ -45,6 +51,10 @@ impl<'a> Shard<'a> {
         requires own { owns self.old router ≡ true }
         requires run { self.old.keeps ≡ false → HasRun self.old router }
         ensures ok { OnOk result (self.new ≡ committed_at self.old router) }
+        ensures past { let t = timeline self.old router in OnOk result (IsFalling (simulation t.case) (history t)
+            → (committed_to self.old.bound t).past ≡ below (simulation t.case) self.old.bound (history t)) }
+        ensures ahead { let t = timeline self.old router in OnOk result (IsFalling (simulation t.case) (history t)
+            → (committed_to self.old.bound t).ahead ≡ not_before self.old.bound (history t)) }
         ensures err { OnErr result (self.new ≡ self.old) }
         ensures free { HasNothingToCommit self.old router → IsOk result }
     {
@@ -110,8 +120,12 @@ fn commit_at(timelines: &mut [Timeline<'_>], place: usize, bound: u64) -> Result
     requires run { let t = slice_index_or timelines.old place no_timeline in t.keeps ≡ false → IsRunUntil bound t }
     ensures ok { OnOk result
         (timelines.new ≡ slice_set timelines.old place (committed_to bound (slice_index_or timelines.old place no_timeline))) }
+    ensures past { let t = slice_index_or timelines.old place no_timeline in OnOk result (IsFalling (simulation t.case) (history t)
+        → (committed_to bound t).past ≡ below (simulation t.case) bound (history t)) }
+    ensures ahead { let t = slice_index_or timelines.old place no_timeline in OnOk result (IsFalling (simulation t.case) (history t)
+        → (committed_to bound t).ahead ≡ not_before bound (history t)) }
     ensures err { OnErr result (timelines.new ≡ timelines.old) }
-    ensures free { let t = slice_index_or timelines.old place no_timeline in count_left bound t.ahead ≡ length t.ahead → IsOk result }
+    ensures free { BeginsFrom bound (slice_index_or timelines.old place no_timeline).ahead → IsOk result }
 {
     timelines[place].commit(bound)
 }

@@ -1,7 +1,9 @@
 ghost use Rattle.std.specs.Prelude.{◌≡◌, ◌+◌, ◌-◌, ◌≤◌, count_by, drop, false, filter, length, nat_lt, reverse, slice_get, true, IsOk, OnErr, OnOk};
 ghost use Rattle.std.specs.List.{prefix_len};
-ghost use Rattle.tw_shard.specs.Commit.{committed_to, count_left};
+ghost use Rattle.tw_model.specs.Case.{simulation};
+ghost use Rattle.tw_shard.specs.Commit.{BeginsFrom, committed_to, not_before};
 ghost use Rattle.tw_shard.specs.Timeline.{IsRunUntil, events_of, history, last_change_at, noted_change};
+ghost use Rattle.tw_sim.specs.Simulation.{IsFalling, below};
 
 use super::{HandledEvent, Timeline};
 use std::alloc::AllocError;
@@ -15,8 +17,11 @@ impl Timeline<'_> {
         requires done { self.old.done ≤ bound }
         requires run { self.old.keeps ≡ false → IsRunUntil bound self.old }
         ensures ok { OnOk result (self.new ≡ committed_to bound self.old) }
+        ensures past { OnOk result (IsFalling (simulation self.old.case) (history self.old)
+            → self.new.past ≡ below (simulation self.old.case) bound (history self.old)) }
+        ensures ahead { OnOk result (IsFalling (simulation self.old.case) (history self.old) → self.new.ahead ≡ not_before bound (history self.old)) }
         ensures err { OnErr result (self.new ≡ self.old) }
-        ensures free { count_left bound self.old.ahead ≡ length self.old.ahead → IsOk result }
+        ensures free { BeginsFrom bound self.old.ahead → IsOk result }
     {
         let count = first_before(&self.ahead, bound);
         let change = last_change_of(&self.ahead[..count], self.past_change);

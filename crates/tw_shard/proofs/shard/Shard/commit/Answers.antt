@@ -1,9 +1,30 @@
-use Rattle.std.proofs.Common.{Ok, ap, sym, ◌∙◌}
-use Rattle.tw_shard.specs.Shard.{core}
-use Rattle.tw_shard.proofs.Commits.{goes}
+use Rattle.std.proofs.Common.{◌≡◌, Ok, ap, sym, ◌∙◌, subst}
+use Rattle.tw_model.specs.Case.{simulation}
+use Rattle.tw_shard.specs.Commit.{not_before}
+use Rattle.tw_shard.specs.Shard.{Shard, core, timeline}
+use Rattle.tw_sim.specs.Simulation.{IsFalling, below}
+use Rattle.tw_shard.proofs.Commits.{ahead_committed, goes, past_committed}
 use Rattle.tw_shard.proofs.shard.Shard.commit.Goals as goal
 
 pub returns-clause-ok : goal.returns-clause-ok
 returns-clause-ok c = λ stop.
     let mine = sym c.owns.ensures.value ∙ c.if-not-owns.false in
     goes c.args.self.now c.args.router c.owns.ensures.whole mine stop ∙ ap (λ s. Ok (core stop s)) (sym c.in_ok-commit_own.ensures.ok)
+
+pub returns-clause-past : goal.returns-clause-past
+returns-clause-past c =
+    let s = c.args.self.now in
+    let r = c.args.router in
+    let mine = sym c.owns.ensures.value ∙ c.if-not-owns.false in
+    subst (λ (t : Shard). IsFalling (simulation s.case) ((core 0 s).history r) → (timeline t r).past ≡ below (simulation s.case) s.bound ((core 0 s).history r))
+    (sym c.in_ok-commit_own.ensures.ok)
+    (past_committed s r c.owns.ensures.whole mine c.in_ok-commit_own.ensures.past)
+
+pub returns-clause-ahead : goal.returns-clause-ahead
+returns-clause-ahead c =
+    let s = c.args.self.now in
+    let r = c.args.router in
+    let mine = sym c.owns.ensures.value ∙ c.if-not-owns.false in
+    subst (λ (t : Shard). IsFalling (simulation s.case) ((core 0 s).history r) → (timeline t r).ahead ≡ not_before s.bound ((core 0 s).history r))
+    (sym c.in_ok-commit_own.ensures.ok)
+    (ahead_committed s r c.owns.ensures.whole mine c.in_ok-commit_own.ensures.ahead)

@@ -1,11 +1,12 @@
 use Rattle.std.proofs.Common.{◌≡◌, ◌<◌, ◌≤◌, ◌++◌, nat_lt, reverse, take, ap, sym, ◌∙◌, subst}
 use Rattle.std.specs.List.{AllByRecursion, prefix_len}
-use Rattle.tw_model.specs.Case.{IsCase}
-use Rattle.tw_shard.specs.Commit.{committed_to}
+use Rattle.tw_model.specs.Case.{IsCase, simulation}
+use Rattle.tw_shard.specs.Commit.{committed_to, not_before}
 use Rattle.tw_shard.specs.Past.{Past, run_of}
-use Rattle.tw_shard.specs.Timeline.{AreNoted, IsRunUntil, IsTimeline, Timeline, events_of, known, last_change_at, noted_change, timeline_of}
+use Rattle.tw_shard.specs.Timeline.{AreNoted, IsRunUntil, IsTimeline, Timeline, events_of, history, known, last_change_at, noted_change, timeline_of}
 use Rattle.tw_shard.proofs.Commits.{change_committed, gone_events, left_events, noted_left, past_early, same_history}
-use Rattle.tw_shard.proofs.LettingGo.{all_committed}
+use Rattle.tw_shard.proofs.LettingGo.{all_committed, all_stay}
+use Rattle.tw_sim.specs.Simulation.{IsFalling, below}
 use Rattle.tw_shard.proofs.timeline.Timeline.commit.Goals as goal
 
 pub add-requires : goal.add-requires
@@ -25,6 +26,14 @@ invariant_of-self c =
     let a = c.self.inside in
     subst (λ (p : Past). IsTimeline (record { router = a.router; past = p; ahead = a.ahead; past_change = a.past_change })) (sym c.in_err-add.ensures.err) c.self.invariant
 
+-- how many events become committed
+first_now : (c : goal.After-self-1) → c.first_before-count.result ≡ prefix_len (λ d. nat_lt d.event.time c.args.bound) c.self.inside.ahead.items
+first_now c = c.first_before-count.ensures.value ∙ ap (prefix_len (λ d. nat_lt d.event.time c.args.bound)) c.deref.ensures.value
+
+-- the latest commit was not beyond the bound
+later : (c : goal.After-self-1) → c.self.inside.past.done ≤ c.args.bound
+later c = subst (λ (t : Timeline). t.done ≤ c.args.bound) (sym c.self.view_is) c.requires.done
+
 -- the committed events afterwards
 past_now : (c : goal.After-self-1) → c.add.new.self ≡ record c.self.inside.past { events = events_of (reverse (take c.first_before-count.result c.self.inside.ahead.items)) ++ c.self.inside.past.events; done = c.args.bound }
 past_now c =
@@ -41,8 +50,6 @@ invariant_of-self-2 c =
     let n = c.first_before-count.result in
     let items = a.ahead.items in
     let is = c.self.invariant in
-    let first = c.first_before-count.ensures.value ∙ ap (prefix_len (λ d. nat_lt d.event.time bound)) c.deref.ensures.value in
-    let later : a.past.done ≤ bound = subst (λ (t : Timeline). t.done ≤ bound) (sym c.self.view_is) c.requires.done in
     let past = past_now c in
     let ahead = c.drop_first.ensures in
     record {
@@ -50,7 +57,7 @@ invariant_of-self-2 c =
       noted =
           subst (λ (p : Past). AreNoted net node p.events (reverse c.drop_first.new.steps.items)) (sym past)
           (subst (λ l. AreNoted net node (events_of (reverse (take n items)) ++ a.past.events) (reverse l)) (sym ahead) (noted_left net node n a.past.events items is.noted));
-      past = subst (λ (p : Past). AllByRecursion (λ e. e.time < p.done) p.events) (sym past) (past_early a.past.done bound n a.past.events items later first is.past);
+      past = subst (λ (p : Past). AllByRecursion (λ e. e.time < p.done) p.events) (sym past) (past_early a.past.done bound n a.past.events items (later c) (first_now c) is.past);
       change =
           c.last_change_of-change.ensures
           ∙ (ap (λ steps. noted_change a.past_change (take n steps)) c.deref-2.ensures.value
@@ -65,9 +72,26 @@ returns-clause-ok c =
     let n = c.first_before-count.result in
     let items = a.ahead.items in
     let bound = c.args.bound in
-    let first = c.first_before-count.ensures.value ∙ ap (prefix_len (λ d. nat_lt d.event.time bound)) c.deref.ensures.value in
     let past = past_now c in
-    let left = ap (λ l. events_of (reverse l)) c.drop_first.ensures ∙ sym (left_events bound n items first) in
-    let gone = ap (λ (p : Past). p.events) past ∙ ap (λ l. l ++ a.past.events) (sym (gone_events bound n items first)) in
+    let left = ap (λ l. events_of (reverse l)) c.drop_first.ensures ∙ sym (left_events bound n items (first_now c)) in
+    let gone = ap (λ (p : Past). p.events) past ∙ ap (λ l. l ++ a.past.events) (sym (gone_events bound n items (first_now c))) in
     (λ i. record { net = a.router.net; node = a.router.node; ahead = left i; past = gone i; done = (past i).done; case = (past i).case; keeps = (past i).keeps })
     ∙ ap (committed_to bound) c.self.view_is
+
+pub returns-clause-past : goal.returns-clause-past
+returns-clause-past c =
+    subst (λ (t : Timeline). IsFalling (simulation t.case) (history t) → c.add.new.self.events ≡ below (simulation t.case) c.args.bound (history t)) c.self.view_is
+    (λ falling.
+    let a = c.self.inside in
+    let is = c.self.invariant in
+    ap (λ (p : Past). p.events) (past_now c)
+    ∙ sym (all_committed a.past.case is.is_case c.args.bound a.past.done c.first_before-count.result a.past.events a.ahead.items (later c) (first_now c) is.past falling))
+
+pub returns-clause-ahead : goal.returns-clause-ahead
+returns-clause-ahead c =
+    subst (λ (t : Timeline). IsFalling (simulation t.case) (history t) → events_of (reverse c.drop_first.new.steps.items) ≡ not_before c.args.bound (history t)) c.self.view_is
+    (λ falling.
+    let a = c.self.inside in
+    let is = c.self.invariant in
+    ap (λ l. events_of (reverse l)) c.drop_first.ensures
+    ∙ sym (all_stay a.past.case is.is_case c.args.bound a.past.done c.first_before-count.result a.past.events a.ahead.items (later c) (first_now c) is.past falling))
