@@ -4,7 +4,7 @@ use Rattle.std.proofs.lemmas.List.{length-map}
 use Rattle.tw_exchange.specs.Board.{Board, workers}
 use Rattle.tw_table.specs.declared.rule.View.{View}
 use Rattle.tw_table.specs.Shares.{Share}
-use Rattle.tw_table.specs.Views.{IsHolding, IsMet, IsWaiting, Knows, took}
+use Rattle.tw_table.specs.Views.{IsHolding, IsMet, IsVisitedBy, IsWaiting, Knows, taken, took}
 
 -- a list with one element
 pub one_alone : {X : Type 0} (f : X → ℕ) (d : X) (n : ℕ) (xs : List X) → map f xs ≡ n ∷ [] → xs ≡ get_or xs 0 d ∷ []
@@ -37,3 +37,8 @@ holding worker bound v w x waits is knows =
       share = waits.share;
       one = ap (λ n. n ∷ []) (sym (knows.workers (let l = ap length waits.share in let m = length-map v.shares worker_of in omega arith)));
     })
+
+-- and nothing is done to it yet
+pub not_visited : (worker : ℕ) (v w : View) (x : Board) → w ≡ took v x → IsVisitedBy worker (taken w) x
+not_visited worker v w x is =
+    subst (λ (u : View). IsVisitedBy worker (taken u) x) (sym is) (record { others = λ k other. refl; workers = refl; bound = omega arith; stop = refl })
