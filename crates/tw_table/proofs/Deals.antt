@@ -1,15 +1,14 @@
 -- A pass that is cut into seats, one by one.
-use Rattle.std.proofs.Common.{◌≡◌, ℕ, zero, suc, ◌+◌, ◌<◌, ◌≤◌, Bool, false, List, [], ◌∷◌, ◌++◌, Some, drop, length, map, slice_get, take, refl, ap, sym, ◌∙◌, subst, arith}
-use Rattle.std.proofs.lemmas.Option.{same_Some}
+use Rattle.std.proofs.Common.{◌≡◌, ℕ, zero, suc, ◌+◌, ◌<◌, ◌≤◌, Bool, false, List, [], ◌∷◌, ◌++◌, drop, get_or, length, map, take, refl, ap, sym, ◌∙◌, subst, arith}
 use Rattle.crossbeam_queue.specs.Passes.{Pass, view}
 use Rattle.std.specs.List.{AllByRecursion}
 use Rattle.tw_exchange.specs.Board.{Board, workers}
 use Rattle.tw_table.proofs.Joins.{only_share}
-use Rattle.tw_table.proofs.Lists.{all_append}
+use Rattle.tw_table.proofs.Lists.{all_append, all_map}
 use Rattle.tw_table.proofs.Seats.{worker_of}
 use Rattle.tw_table.specs.declared.rule.View.{View}
 use Rattle.tw_table.specs.declared.seat.Seat.{Seat}
-use Rattle.tw_table.specs.Seats.{share_at}
+use Rattle.tw_table.specs.Seats.{bound_at, halted_at, share_at, stop_at}
 use Rattle.tw_shard.specs.Shard.{Shard}
 use Rattle.tw_table.specs.declared.hand.Hand.{Hand}
 use Rattle.tw_table.specs.Shares.{Share, shares_of}
@@ -38,23 +37,33 @@ module _ {X : Type 0} where
   take_more : (k : ℕ) (xs : List X) → take (k + 1) xs ≡ take k xs ++ take 1 (drop k xs)
   take_more k xs = let e : k + 1 ≡ suc k = omega arith in ap (λ n. take n xs) e ∙ take_suc k xs
 
-  take_all : (n : ℕ) (xs : List X) → length xs ≡ n → take n xs ≡ xs
-  take_all zero [] e = refl
-  take_all zero (x ∷ xs) e = absurd (omega arith)
-  take_all (suc n) [] e = refl
-  take_all (suc n) (x ∷ xs) e = ap (λ l. x ∷ l) (take_all n xs (omega arith))
+  pub take_none : (xs : List X) → take 0 xs ≡ []
+  take_none [] = refl
+  take_none (x ∷ xs) = refl
+
+  take_all : (k : ℕ) (xs : List X) → length xs ≤ k → take k xs ≡ xs
+  take_all zero [] h = refl
+  take_all zero (x ∷ xs) h = absurd (omega arith)
+  take_all (suc k) [] h = refl
+  take_all (suc k) (x ∷ xs) h = ap (λ l. x ∷ l) (take_all k xs (omega arith))
+
+  pub long_take : (n : ℕ) (xs : List X) → n ≤ length xs → length (take n xs) ≡ n
+  long_take zero xs h = ap length (take_none xs)
+  long_take (suc n) [] h = absurd (omega arith)
+  long_take (suc n) (x ∷ xs) h = ap suc (long_take n xs (omega arith))
 
 pub long_map : {X Y : Type 0} (f : X → Y) (xs : List X) → length (map f xs) ≡ length xs
 long_map f [] = refl
 long_map f (x ∷ xs) = let s = long_map f xs in omega arith
 
 -- a shard with a hand is in the share at its place
-worker_at : (shards : List Shard) (hands : List Hand) (k : ℕ) (s : Shard) → k < length (shares_of shards hands) → slice_get shards k ≡ Some s
+worker_at : (shards : List Shard) (hands : List Hand) (n k : ℕ) (s : Shard) → n ≤ length (shares_of shards hands) → k < length (take n shards) → s ≡ get_or (take n shards) k s
     → map worker_of (take 1 (drop k (shares_of shards hands))) ≡ s.worker ∷ []
-worker_at [] hands k s h there = absurd (omega arith)
-worker_at (u ∷ shards) [] k s h there = absurd (omega arith)
-worker_at (u ∷ shards) (g ∷ hands) zero s h there = ap (λ (v : Shard). v.worker ∷ []) (same_Some u s there)
-worker_at (u ∷ shards) (g ∷ hands) (suc k) s h there = worker_at shards hands k s (omega arith) there
+worker_at shards hands zero k s most h there = absurd (let none = ap length (take_none shards) in omega arith)
+worker_at [] hands (suc n) k s most h there = absurd (omega arith)
+worker_at (u ∷ shards) [] (suc n) k s most h there = absurd (omega arith)
+worker_at (u ∷ shards) (g ∷ hands) (suc n) zero s most h there = ap (λ (v : Shard). v.worker ∷ []) (sym there)
+worker_at (u ∷ shards) (g ∷ hands) (suc n) (suc k) s most h there = worker_at shards hands n k s (omega arith) (omega arith) there
 
 -- there are no more shares than shards
 pub enough : (shards : List Shard) (hands : List Hand) → length (shares_of shards hands) ≤ length shards
@@ -83,9 +92,9 @@ pub record IsDealt (Of : Pass Board View → Type 0) (n bound stop : ℕ) (halte
   pub each : AllByRecursion (IsNew Of n bound stop halted) seats
 
 pub next_worker : (Of : Pass Board View → Type 0) (n bound stop : ℕ) (halted : Bool) (shards : List Shard) (hands : List Hand) (k : ℕ) (p : Pass Board View) (seats : List Seat) (s : Shard)
-    → IsDealt Of n bound stop halted (shares_of shards hands) k p seats → length (shares_of shards hands) ≡ n → k < n → slice_get shards k ≡ Some s
+    → IsDealt Of n bound stop halted (shares_of shards hands) k p seats → length (shares_of shards hands) ≡ n → k < length (take n shards) → s ≡ get_or (take n shards) k s
     → map worker_of (take 1 (view p).shares) ≡ s.worker ∷ []
-next_worker Of n bound stop halted shards hands k p seats s is many h there = ap (λ l. map worker_of (take 1 l)) is.left ∙ worker_at shards hands k s (omega arith) there
+next_worker Of n bound stop halted shards hands k p seats s is many h there = ap (λ l. map worker_of (take 1 l)) is.left ∙ worker_at shards hands n k s (omega arith) h there
 
 map_append : {X Y : Type 0} (f : X → Y) (xs ys : List X) → map f (xs ++ ys) ≡ map f xs ++ map f ys
 map_append f [] ys = refl
@@ -109,13 +118,24 @@ deals_next Of n bound stop halted all k p q seats s is of_q of_s others first sa
       (record { pass = of_s; workers = ap (λ (v : View). v.workers) first ∙ is.workers; bound_is = same; stop_is = ap (λ (v : View). v.stop) first ∙ is.stop_is; halted_is = told }, tt);
 }
 
-pub all_dealt : (Of : Pass Board View → Type 0) (n bound stop : ℕ) (halted : Bool) (all : List Share) (p : Pass Board View) (seats : List Seat) → IsDealt Of n bound stop halted all n p seats
-    → length all ≡ n → map share_at seats ≡ all
-all_dealt Of n bound stop halted all p seats is many = is.dealt ∙ take_all n all many
+-- once all shards are gone over, all shares have seats
+pub all_dealt : (Of : Pass Board View → Type 0) (n bound stop : ℕ) (halted : Bool) (shards : List Shard) (hands : List Hand) (k : ℕ) (p : Pass Board View) (seats : List Seat)
+    → IsDealt Of n bound stop halted (shares_of shards hands) k p seats → length (shares_of shards hands) ≡ n → length (take n shards) ≤ k → map share_at seats ≡ shares_of shards hands
+all_dealt Of n bound stop halted shards hands k p seats is many h =
+    let most = enough shards hands in
+    let long = long_take n shards (omega arith) in
+    is.dealt ∙ take_all k (shares_of shards hands) (omega arith)
 
-take_none : {X : Type 0} (xs : List X) → take 0 xs ≡ []
-take_none [] = refl
-take_none (x ∷ xs) = refl
+-- and each of them is a new one
+pub new_bounds : (Of : Pass Board View → Type 0) (n bound stop : ℕ) (halted : Bool) (seats : List Seat) → AllByRecursion (IsNew Of n bound stop halted) seats → AllByRecursion (λ s. bound_at s ≡ bound) seats
+new_bounds Of n bound stop halted seats new = all_map (IsNew Of n bound stop halted) (λ s. bound_at s ≡ bound) (λ s is. is.bound_is) seats new
+
+pub new_stops : (Of : Pass Board View → Type 0) (n bound stop : ℕ) (halted : Bool) (seats : List Seat) → AllByRecursion (IsNew Of n bound stop halted) seats → AllByRecursion (λ s. stop_at s ≡ stop) seats
+new_stops Of n bound stop halted seats new = all_map (IsNew Of n bound stop halted) (λ s. stop_at s ≡ stop) (λ s is. is.stop_is) seats new
+
+pub new_halted : (Of : Pass Board View → Type 0) (n bound stop : ℕ) (halted : Bool) (seats : List Seat) → AllByRecursion (IsNew Of n bound stop halted) seats
+    → AllByRecursion (λ s. halted_at s ≡ halted) seats
+new_halted Of n bound stop halted seats new = all_map (IsNew Of n bound stop halted) (λ s. halted_at s ≡ halted) (λ s is. is.halted_is) seats new
 
 pub deals_none : (Of : Pass Board View → Type 0) (x : Board) (halted : Bool) (all : List Share) (p : Pass Board View) (seats : List Seat) → seats ≡ [] → Of p → view p ≡ opened all x
     → IsDealt Of (workers x) x.bound x.stop halted all 0 p seats

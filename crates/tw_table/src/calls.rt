@@ -52,7 +52,8 @@ impl Table {
         let Ok((queue, mut pass)) = Queue::ruled(alloc, 1) else {
             return Err(exchange);
         };
-        let (bound, stop) = (exchange.bound(), exchange.stop());
+        let bound = exchange.bound();
+        let stop = exchange.stop();
         let halted = exchange.is_halted();
         lay::<Brand, R>(rt, &queue, &mut pass, exchange, shards, hands);
         for shard in &shards[..workers as usize] {

@@ -1,5 +1,5 @@
 //! All workers run.
-ghost use Rattle.std.specs.Prelude.{◌≡◌, ◌≤◌, Some, [], length, map, vec_capacity, vec_len};
+ghost use Rattle.std.specs.Prelude.{◌≡◌, ◌≤◌, Some, [], false, length, map, true, vec_capacity, vec_len};
 ghost use Rattle.std.specs.List.{AllByRecursion, AllZip};
 ghost use Rattle.tw_table.specs.Seats.{IsSeatOf, bound_at, share_at, stop_at, workers_at};
 ghost use Rattle.tw_table.specs.Shares.{IsWhole};
@@ -112,10 +112,20 @@ fn gather<W: Work + Send + Drop, G: Gate + Sync, R: Threads + Wait + Sync>(
         { start_all(scope, rt, table, gate, told, workers, seats, started) },
     );
     let mut gathered = join_all(rt, started, back, left);
-    if refused.into_inner() {
-        gathered.cause = Some(Cause::NoThread);
-    }
+    gathered.cause = cause_of(refused.into_inner(), gathered.cause);
     gathered
+}
+
+/// Why workers ended that told this, where a thread was refused or none was.
+fn cause_of(refused: bool, told: Option<Cause>) -> Option<Cause>
+    ensures thread { refused ≡ true → result ≡ Some cause.NoThread }
+    ensures told { refused ≡ false → result ≡ told }
+{
+    if refused {
+        Some(Cause::NoThread)
+    } else {
+        told
+    }
 }
 
 /// Workers that take no turn, for want of memory.
