@@ -2,4 +2,3 @@ pub mod Places
 pub mod Moves
 pub mod Visits
 pub mod Commits
-pub mod Turns

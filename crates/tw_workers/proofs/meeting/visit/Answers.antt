@@ -5,10 +5,11 @@ use Rattle.tw_table.specs.Seats.{exchange_of, share_of, taken_by}
 use Rattle.tw_table.specs.Shares.{MayBeGiven, board_of, share}
 use Rattle.tw_workers.proofs.Places.{drop_none}
 use Rattle.tw_workers.proofs.Visits.{IsVisited, for_memory, not_early, same_seat, stayed_given, visited_whole, work_given}
+use Rattle.tw_workers.proofs.meeting.visit.Goals.{After-told}
 use Rattle.tw_workers.proofs.meeting.visit.Goals as goal
 
 -- the exchange and what the worker has after a visit
-visit_given : (c : goal.In-Ok) → IsGiven (taken_by c.args.held.now) (share_of c.args.held.now) (exchange_of c.visit.new.self)
+visit_given : (c : After-told) → IsGiven (taken_by c.args.held.now) (share_of c.args.held.now) (exchange_of c.visit.new.self)
     (share c.raise_bound.new.self (record { mail = c.in-Ok.visit.mail; next = 0; out = c.replace-out.new.dest }))
 visit_given c =
     let x = taken_by c.args.held.now in

@@ -11,7 +11,7 @@ invariant-loop g l = record {
   seat_stop : stop_at l.seat ≡ l.self.stop;
   bound : bound_at l.fn.seat ≤ bound_at l.seat;
   first : halted_at l.fn.seat ≡ false;
-  open : halted_at l.seat ≡ false;
+  going : halted_at l.seat ≡ false;
   case : l.self.share.shard.case ≡ l.fn.self.share.shard.case;
   worker : l.self.share.shard.worker ≡ l.fn.self.share.shard.worker;
   workers : l.self.share.shard.workers ≡ l.fn.self.share.shard.workers;
