@@ -7,7 +7,7 @@ use Rattle.tw_table.specs.Seats.{IsSeatOf, share_at}
 use Rattle.tw_table.specs.Shares.{Share}
 use Rattle.tw_table.specs.declared.seat.Seat.{Seat}
 use Rattle.tw_table.specs.declared.table.Table.{Table}
-use Rattle.tw_threads.specs.Left.{HasLeft, IsFull, IsLeft}
+use Rattle.tw_threads.specs.Left.{HasLeft, IsLeft}
 use Rattle.tw_threads.specs.Started.{HaveLeft, IsSomeFull, IsStarted}
 use Rattle.tw_threads.specs.declared.joining.Cause.{Cause}
 use Rattle.tw_threads.specs.declared.joining.Cause.TheVariants as cause

@@ -20,4 +20,4 @@ returns-in_default-with_capacity-2 g c =
 pub returns : goal.returns
 returns g c =
     with_cause g.W.Work.share _ _ _ _ _ _ c.into_inner.result (c.join_all-gathered.ensures c.args.table.now c.args.seats.items c.scoped-started.ensures.1.1)
-    c.cause_of.ensures.thread c.cause_of.ensures.told
+    c.cause_of-gathered.ensures.thread c.cause_of-gathered.ensures.told
