@@ -6,7 +6,7 @@ use Rattle.tw_exchange.specs.Board.{Board, workers}
 use Rattle.tw_model.specs.Case.{Case}
 use Rattle.tw_parallel.specs.Sim.{IsSim, Sim}
 use Rattle.tw_shard.specs.Shard.{Shard}
-use Rattle.tw_table.specs.Seats.{bound_at}
+use Rattle.tw_table.specs.Seats.{bound_at, share_at, stop_at}
 use Rattle.tw_table.specs.Shares.{IsRuled, IsWhole, Share, shares_of}
 use Rattle.tw_table.specs.declared.hand.Hand.{Hand}
 use Rattle.tw_table.specs.declared.seat.Seat.{Seat}
@@ -56,9 +56,17 @@ long_shares [] (h ∷ hands) e = absurd (omega (arith, e))
 long_shares (s ∷ shards) [] e = absurd (omega (arith, e))
 long_shares (s ∷ shards) (h ∷ hands) e = ap suc (long_shares shards hands (omega (arith, e)))
 
-pub not_above : (n : ℕ) (seats : List Seat) → AllByRecursion (λ s. bound_at s ≡ n) seats → AllByRecursion (λ s. n ≤ bound_at s) seats
-not_above n [] h = tt
-not_above n (s ∷ seats) h = (let e : bound_at s ≡ n = h.0 in omega (arith, e), not_above n seats h.1)
+-- what all seats of a run know of its stop before and after is one number
+pub same_stop : (s : Sim) (stop : ℕ) (seats : List Seat) → IsSim s → map share_at seats ≡ s.shares → AllByRecursion (λ u. stop_at u ≡ s.board.stop) seats
+    → AllByRecursion (λ u. stop_at u ≡ stop) seats → stop ≡ s.board.stop
+same_stop s stop [] is own h k = absurd (let none = ap length own in let some = is.some in let all = is.ruled.count in omega (arith, none, some, all))
+same_stop s stop (u ∷ seats) is own h k = sym k.0 ∙ h.0
+
+-- and the bound is not below the one that they knew
+pub not_below : (s : Sim) (bound : ℕ) (seats : List Seat) → IsSim s → map share_at seats ≡ s.shares → AllByRecursion (λ u. bound_at u ≡ s.board.bound) seats
+    → AllByRecursion (λ u. bound_at u ≤ bound) seats → s.board.bound ≤ bound
+not_below s bound [] is own h k = absurd (let none = ap length own in let some = is.some in let all = is.ruled.count in omega (arith, none, some, all))
+not_below s bound (u ∷ seats) is own h k = (let e : bound_at u ≡ s.board.bound = h.0 in let l : bound_at u ≤ bound = k.0 in omega (arith, e, l))
 
 -- shares that keep their events as others do keep them where these do
 pub still_keep : (xs ys : List Share) → map (λ (t : Share). t.shard.keeps) ys ≡ map (λ (t : Share). t.shard.keeps) xs → AllByRecursion (λ (t : Share). t.shard.keeps ≡ true) xs

@@ -104,6 +104,13 @@ impl<'a> Shard<'a> {
         &self.timelines[self.place(router)]
     }
 
+    /// The worker whose routers it has. Workers are numbered from 0.
+    pub fn worker(&self) -> u32
+        ensures { result ≡ self.now.worker }
+    {
+        self.worker
+    }
+
     /// The events that wait for its routers.
     pub fn pending(&self) -> &Pending
         ensures { result.now.events ≡ self.now.pending }

@@ -1,5 +1,5 @@
 -- Seats that become one.
-use Rattle.std.proofs.Common.{◌≡◌, ℕ, ◌+◌, ◌<◌, false, List, [], ◌∷◌, ◌++◌, Some, length, map, slice_get, refl, ap, sym, ◌∙◌, subst, append_assoc, arith}
+use Rattle.std.proofs.Common.{◌≡◌, ℕ, ◌+◌, ◌<◌, ◌≤◌, false, List, [], ◌∷◌, ◌++◌, length, map, max, refl, ap, sym, ◌∙◌, subst, append_assoc, arith}
 use Rattle.crossbeam_queue.specs.Passes.{IsPassOf, IsSamePass, Pass, view}
 use Rattle.std.proofs.lemmas.List.{length-append}
 use Rattle.std.specs.List.{AllByRecursion}
@@ -26,14 +26,15 @@ only_share s = one_alone worker_of no_share s.worker (view s.pass).shares s.wait
 pub record IsJoined (t : Table) (all : List Seat) (p : Pass Board View) (left : List Seat) (n : ℕ) : Type 0 where
   pub queue : IsPassOf t.queue p
   pub workers : (view p).workers ≡ t.workers
+  pub stop : (view p).stop ≡ t.stop
   pub begun : (view p).opening ≡ false
   pub empty : (view p).held ≡ []
   pub some : 0 < length (view p).shares
   pub shares : (view p).shares ++ map share_at left ≡ map share_at all
   pub seats : AllByRecursion (IsSeatOf t) left
   pub len : length left ≡ n
-  -- it knows what the first of all knows
-  pub first : (s : Seat) → slice_get all 0 ≡ Some s → ((view p).stop ≡ stop_at s) × ((view p).seen ≡ bound_at s)
+  -- it has seen the greatest bound that those have seen
+  pub seen : (b : ℕ) → (view p).seen ≤ b → AllByRecursion (λ s. bound_at s ≤ b) left → AllByRecursion (λ s. bound_at s ≤ b) all
 
 pub joins_first : (t : Table) (all : List Seat) (s : Seat) (left : List Seat) (n : ℕ) → all ≡ s ∷ left → length all ≡ n + 1 → AllByRecursion (IsSeatOf t) all
     → IsJoined t all s.pass left n
@@ -42,16 +43,14 @@ joins_first t all s left n is long seats =
     record {
       queue = each.0.pass;
       workers = each.0.workers;
+      stop = each.0.stop;
       begun = s.waits.begun;
       empty = s.waits.empty;
       some = (let l = ap length (only_share s) in omega arith);
       shares = ap (λ ss. ss ++ map share_at left) (only_share s) ∙ ap (map share_at) (sym is);
       seats = each.1;
       len = (let l = ap length is in omega arith);
-      first = λ u there.
-          let at : slice_get all 0 ≡ Some s = ap (λ l. slice_get l 0) is in
-          let same : s ≡ u = cc in
-          (ap stop_at same, s.waits.seen ∙ ap bound_at same);
+      seen = λ b h others. subst (AllByRecursion (λ u. bound_at u ≤ b)) (sym is) ((let same = s.waits.seen in omega arith), others);
     }
 
 pub joins_next : (t : Table) (all : List Seat) (p q : Pass Board View) (s : Seat) (now left : List Seat) (n m : ℕ) → now ≡ s ∷ left → m + 1 ≡ n → IsJoined t all p now n
@@ -61,6 +60,7 @@ joins_next t all p q s now left n m is less old same told =
     record {
       queue = (same.0 ∙ old.queue.0, same.2 ∙ old.queue.1);
       workers = ap (λ (v : View). v.workers) told ∙ old.workers;
+      stop = ap (λ (v : View). v.stop) told ∙ old.stop;
       begun = ap (λ (v : View). v.opening) told ∙ old.begun;
       empty = ap (λ (v : View). v.held) told ∙ old.empty;
       some = (let l = ap (λ (v : View). length v.shares) told in let a = length-append (view p).shares (view s.pass).shares in let b = old.some in omega arith);
@@ -69,12 +69,20 @@ joins_next t all p q s now left n m is less old same told =
           ∙ (ap (λ ss. (view p).shares ++ (ss ++ map share_at left)) (only_share s) ∙ (ap (λ l. (view p).shares ++ map share_at l) (sym is) ∙ old.shares)));
       seats = each.1;
       len = (let l = ap length is in let k = old.len in omega arith);
-      first = λ u there. (ap (λ (v : View). v.stop) told ∙ (old.first u there).0, ap (λ (v : View). v.seen) told ∙ (old.first u there).1);
+      seen = λ b h others.
+          let both : max (view p).seen (view s.pass).seen ≤ b = subst (λ (n : ℕ). n ≤ b) (ap (λ (v : View). v.seen) told) h in
+          let same = s.waits.seen in
+          old.seen b (omega arith) (subst (AllByRecursion (λ u. bound_at u ≤ b)) (sym is) ((omega arith), others));
     }
 
 pub all_joined : (t : Table) (all : List Seat) (p : Pass Board View) (left : List Seat) → IsJoined t all p left 0 → (view p).shares ≡ map share_at all
 all_joined t all p [] is = sym (nil_right (view p).shares) ∙ is.shares
 all_joined t all p (s ∷ left) is = absurd (let l = is.len in omega arith)
+
+-- none of them has seen a bound beyond the one that it has seen
+pub all_seen : (t : Table) (all : List Seat) (p : Pass Board View) (left : List Seat) → IsJoined t all p left 0 → AllByRecursion (λ s. bound_at s ≤ (view p).seen) all
+all_seen t all p [] is = is.seen (view p).seen (omega arith) tt
+all_seen t all p (s ∷ left) is = absurd (let l = is.len in omega arith)
 
 -- where a pass stands for all workers, the exchange that it takes and their shares are a good state
 pub closed : (x : Board) (v : View) (shares : List Share) (n : ℕ) → v.shares ≡ shares → v.workers ≡ n → length shares ≡ n → 0 < n → IsMet v.shares x → Knows x v → IsWhole x shares
@@ -87,6 +95,16 @@ closed x v shares n is count long more met knows =
     whole_of met.case x shares
     (subst (IsRuled met.case x) (ap (λ l. v.shares ++ l) none ∙ (nil_right v.shares ∙ is)) met.ruled)
 
--- and what it knows of the stop and the bound is so
-pub closed_stop : (x : Board) (v : View) (shares : List Share) (n : ℕ) → v.shares ≡ shares → length shares ≡ n → 0 < n → Knows x v → x.stop ≡ v.stop
-closed_stop x v shares n is long more knows = (let a = ap length is in sym (knows.stop (omega arith)))
+-- its stop is the one that each seat knows
+pub closed_stop : (x : Board) (t : Table) (all : List Seat) → x.stop ≡ t.stop → AllByRecursion (IsSeatOf t) all → AllByRecursion (λ s. stop_at s ≡ x.stop) all
+closed_stop x t [] is seats = tt
+closed_stop x t (s ∷ all) is seats = (seats.0.stop ∙ sym is, closed_stop x t all is seats.1)
+
+-- and its bound is not below the one that any of them has seen
+pub closed_bound : (x : Board) (seen : ℕ) (all : List Seat) → seen ≤ x.bound → AllByRecursion (λ s. bound_at s ≤ seen) all → AllByRecursion (λ s. bound_at s ≤ x.bound) all
+closed_bound x seen [] le h = tt
+closed_bound x seen (s ∷ all) le h = ((let one : bound_at s ≤ seen = h.0 in omega arith), closed_bound x seen all le h.1)
+
+-- the stop of a pass that stands for some workers is the exchange's
+pub met_stop : (x : Board) (v : View) (shares : List Share) (n : ℕ) → v.shares ≡ shares → length shares ≡ n → 0 < n → Knows x v → x.stop ≡ v.stop
+met_stop x v shares n is long more knows = (let a = ap length is in sym (knows.stop (omega arith)))

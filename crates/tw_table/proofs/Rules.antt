@@ -1,18 +1,26 @@
 -- The rule over shares: they may stand in any order, and one of them is given.
-use Rattle.std.proofs.Common.{◌≡◌, ℕ, ◌+◌, ◌≤◌, List, [], ◌∷◌, length, map, Some, slice_get, refl, ap, sym, ◌∙◌, subst, arith}
+use Rattle.std.proofs.Common.{◌≡◌, ℕ, suc, ◌+◌, ◌<◌, ◌≤◌, true, List, [], ◌∷◌, length, map, Some, slice_get, flat_map, refl, ap, sym, ◌∙◌, subst, inl, inr, arith}
+use Rattle.std.proofs.lemmas.Bool.{cases_Bool, cases_lt}
+use Rattle.std.specs.Prelude.{slice_index_or}
 use Rattle.std.specs.List.{AllByRecursion}
 use Rattle.tw_core.specs.Good.{times_there}
 use Rattle.tw_core.specs.Parts.{times_wanted, total}
 use Rattle.tw_event.specs.declared.event.Event.{Event}
-use Rattle.tw_exchange.specs.Board.{Board, owner, workers}
+use Rattle.tw_exchange.specs.Board.{Board, IsBoard, all_mail, owner, workers}
 use Rattle.tw_model.proofs.Lawful.{lawful, numbered}
-use Rattle.tw_model.specs.Case.{Case, simulation}
+use Rattle.tw_model.specs.Case.{Case, IsCase, simulation}
 use Rattle.tw_rule.proofs.Gives.{rule_gives}
 use Rattle.tw_rule.proofs.Places.{all_at, get_map}
 use Rattle.tw_rule.proofs.Ruled.{before_of, good_of_rule, seq_of_rule}
+use Rattle.tw_rule.specs.Board as rule
+use Rattle.tw_rule.specs.Board.{times_among}
 use Rattle.tw_rule.specs.Place.{IsRunBefore, Place, whole}
 use Rattle.tw_rule.specs.Rule.{MayGive, Rule, Stands, is_at}
+use Rattle.tw_sim.specs.declared.machine.Signed.{Signed}
+use Rattle.tw_table.proofs.Lists.{all_append}
+use Rattle.tw_table.proofs.Visiting.{among_rest}
 use Rattle.tw_table.specs.Shares.{IsRuled, IsWhole, MayBeGiven, Share, board_of, place_of}
+use Rattle.tw_table.specs.Views.{IsVisitedBy}
 
 -- the same shares, in another order
 pub record AreSame (ss ts : List Share) : Type 1 where
@@ -62,8 +70,69 @@ any_order case x ss ts same ruled =
       };
     }
 
+-- ---- what a worker may give, and the exchange that its visits have left
+
+-- both, as the rule has them
+pub record IsGiven (x : Board) (s : Share) (y : Board) (t : Share) : Type 0 where
+  pub case : t.shard.case ≡ s.shard.case
+  pub give : MayGive (simulation s.shard.case) (owner (workers x)) (board_of x) (place_of s) (board_of y) (place_of t)
+
+-- its own part
+pub own_part : (x y : Board) (s t : Share) → IsGiven x s y t → MayBeGiven x s y t
+own_part x y s t is = record {
+  case = is.case;
+  worker = is.give.worker;
+  stands = is.give.stands;
+  moved = is.give.moved;
+  suit = λ e more. is.give.steps.board.suit e (omega arith);
+  done = is.give.done;
+}
+
+-- what holds of the mail of each worker holds of all mail
+all_of_mail : (P : Signed Event → Type 0) (mail : List (List (Signed Event))) → ((w : ℕ) → AllByRecursion P (slice_index_or mail w [])) → AllByRecursion P (flat_map (λ m. m) mail)
+all_of_mail P [] h = tt
+all_of_mail P (m ∷ mail) h = all_append P m (flat_map (λ n. n) mail) (h 0) (all_of_mail P mail (λ w. h (suc w)))
+
+-- and none of it is before the bound
+none_before : (case : Case) (is : IsCase case) (e : Event) (b : ℕ) (xs : List (Signed Event)) → AllByRecursion (λ m. b ≤ m.event.time) xs → 0 < times_among (simulation case) e xs
+    → b ≤ e.time
+none_before case is e b [] h some = absurd (omega arith)
+none_before case is e b (x ∷ xs) h some =
+    elim (cases_Bool ((simulation case).same e x.event)) [
+      | inl same ↦ subst (λ (y : Event). b ≤ y.time) (sym ((lawful case is).same_is e x.event same)) h.0
+      | inr other ↦ none_before case is e b xs h.1 (among_rest case is e x xs other some)
+    ]
+
+-- the whole of it, from its own part and what its visits have left
+pub with_visits : (x y : Board) (s t : Share) → IsCase s.shard.case → rule.IsBoard (simulation s.shard.case) (board_of x) → IsBoard y → IsVisitedBy s.shard.worker x y
+    → MayBeGiven x s y t → IsGiven x s y t
+with_visits x y s t is board whole visited may = record {
+  case = may.case;
+  give = record {
+    worker = may.worker;
+    steps = record {
+      others = visited.others;
+      workers = visited.workers;
+      bound = visited.bound;
+      stop = visited.stop;
+      board = record {
+        stop = whole.stop;
+        reported = whole.reported;
+        late = λ e some. none_before s.shard.case is e y.bound (all_mail y) (all_of_mail (λ m. y.bound ≤ m.event.time) y.mail whole.late) some;
+        suit = λ e some. elim (cases_lt (times_among (simulation s.shard.case) e (all_mail x)) (times_among (simulation s.shard.case) e (all_mail y))) [
+          | inl more ↦ may.suit e more
+          | inr none ↦ board.suit e (omega arith)
+        ];
+      };
+    };
+    stands = may.stands;
+    moved = may.moved;
+    done = may.done;
+  };
+}
+
 -- one of the workers gives back what it may
-pub given_one : (case : Case) (x y : Board) (s t : Share) (others : List Share) → IsRuled case x (s ∷ others) → MayBeGiven x s y t → IsRuled case y (t ∷ others)
+pub given_one : (case : Case) (x y : Board) (s t : Share) (others : List Share) → IsRuled case x (s ∷ others) → IsGiven x s y t → IsRuled case y (t ∷ others)
 given_one case x y s t others ruled may =
     let m = simulation case in
     let give : MayGive m (owner (workers x)) (board_of x) (place_of s) (board_of y) (place_of t)

@@ -1,10 +1,13 @@
 -- What a seat knows of its one share, and of the exchange while it has it.
-use Rattle.std.proofs.Common.{◌≡◌, ℕ, ◌<◌, List, [], ◌∷◌, drop, get_or, length, map, refl, ap, sym, subst, arith}
-use Rattle.std.proofs.lemmas.List.{length-map}
-use Rattle.tw_exchange.specs.Board.{Board, workers}
+use Rattle.std.proofs.Common.{◌≡◌, ℕ, ◌<◌, ◌≤◌, true, List, [], ◌∷◌, None, Option, Result, Ok, Err, drop, get_or, length, map, refl, ap, sym, ◌∙◌, subst, arith}
+use Rattle.std.proofs.lemmas.List.{get_or-set_other, length-map, length-set}
+use Rattle.std.specs.Prelude.{OnErr, OnOk}
+use Rattle.tw_event.specs.declared.event.Event.{Event}
+use Rattle.tw_exchange.specs.Board.{Board, handed, least_report, report_of, visited, workers}
+use Rattle.tw_sim.specs.declared.machine.Signed.{Signed}
 use Rattle.tw_table.specs.declared.rule.View.{View}
 use Rattle.tw_table.specs.Shares.{Share}
-use Rattle.tw_table.specs.Views.{IsHolding, IsMet, IsWaiting, Knows, took}
+use Rattle.tw_table.specs.Views.{IsHolding, IsMet, IsVisitedBy, IsWaiting, Knows, taken, took}
 
 -- a list with one element
 pub one_alone : {X : Type 0} (f : X → ℕ) (d : X) (n : ℕ) (xs : List X) → map f xs ≡ n ∷ [] → xs ≡ get_or xs 0 d ∷ []
@@ -37,3 +40,26 @@ holding worker bound v w x waits is knows =
       share = waits.share;
       one = ap (λ n. n ∷ []) (sym (knows.workers (let l = ap length waits.share in let m = length-map v.shares worker_of in omega arith)));
     })
+
+-- and nothing is done to it yet
+pub not_visited : (worker : ℕ) (v w : View) (x : Board) → w ≡ took v x → IsVisitedBy worker (taken w) x
+not_visited worker v w x is =
+    subst (λ (u : View). IsVisitedBy worker (taken u) x) (sym is) (record { others = λ k other. refl; workers = refl; bound = omega arith; stop = refl })
+
+-- a further visit leaves what visits leave
+pub visited_again : {A B : Type 0} (worker : ℕ) (x y z : Board) (out : List (Signed Event)) (report : Option ℕ) (r : Result A B) → IsVisitedBy worker x y
+    → OnOk r (z ≡ visited worker out report y) → OnErr r (z ≡ y) → y.bound ≤ z.bound → IsVisitedBy worker x z
+visited_again worker x y z out report (Ok a) before ok err rises =
+    let told = least_report report (handed worker out y) in
+    record {
+      others = λ w other. ap (λ b. report_of w b) ok ∙ (get_or-set_other y.reports worker w told None other ∙ before.others w other);
+      workers = ap (λ b. workers b) ok ∙ (length-set y.reports worker told ∙ before.workers);
+      bound = (let old = before.bound in omega arith);
+      stop = ap (λ (b : Board). b.stop) ok ∙ before.stop;
+    }
+visited_again worker x y z out report (Err b) before ok err rises = subst (IsVisitedBy worker x) (sym err) before
+
+-- and so does the mark that halts all
+pub visited_halted : (worker : ℕ) (x y z : Board) → IsVisitedBy worker x y → z ≡ record y { halted = true } → IsVisitedBy worker x z
+visited_halted worker x y z before is =
+    subst (IsVisitedBy worker x) (sym is) (record { others = before.others; workers = before.workers; bound = before.bound; stop = before.stop })

@@ -6,13 +6,14 @@ use Rattle.crossbeam_queue.proofs.Lists.{at_set}
 use Rattle.crossbeam_queue.specs.Fifo.{Forks, Learns, Merges, Pops, Pushes}
 use Rattle.std.specs.List.{AllByRecursion}
 use Rattle.tw_core.specs.Parts.{total}
-use Rattle.tw_exchange.specs.Board.{Board, workers}
-use Rattle.tw_model.specs.Case.{Case}
+use Rattle.tw_exchange.specs.Board.{Board, IsBoard, workers}
+use Rattle.tw_model.specs.Case.{Case, IsCase, simulation}
 use Rattle.tw_table.proofs.Lists.{all_append, all_apart, all_at, all_flat, all_left, all_map, all_right, all_set, around, flat_append, total_append, total_flat, total_set}
-use Rattle.tw_table.proofs.Rules.{AreSame, any_order, given_one}
+use Rattle.tw_rule.specs.Board as rule
+use Rattle.tw_table.proofs.Rules.{AreSame, IsGiven, any_order, given_one, with_visits}
 use Rattle.tw_table.specs.declared.rule.View.{View}
-use Rattle.tw_table.specs.Shares.{IsRuled, MayBeGiven, Share}
-use Rattle.tw_table.specs.Views.{Holds, Knows, Taken, all_held, all_shares, first_view, given, joined, opened, spent_view, took, with_first, with_others}
+use Rattle.tw_table.specs.Shares.{IsRuled, MayBeGiven, Share, board_of}
+use Rattle.tw_table.specs.Views.{Holds, IsVisitedBy, Knows, Taken, all_held, all_shares, first_view, given, joined, opened, spent_view, took, with_first, with_others}
 
 -- ---- lists of which one is empty
 
@@ -161,11 +162,18 @@ takes port v begun empty x items views (inr is) at =
       },
     )
 
+-- what a worker may give keeps the rule with what its visits have left
+is_given : (case : Case) (x y : Board) (s t : Share) (others : List Share) → IsRuled case x (s ∷ others) → IsBoard y → IsVisitedBy s.shard.worker x y → MayBeGiven x s y t
+    → IsGiven x s y t
+is_given case x y s t others ruled board visited may =
+    let same = sym ruled.cases.0 in
+    with_visits x y s t (subst IsCase same ruled.is_case) (subst (λ (c : Case). rule.IsBoard (simulation c) (board_of x)) same ruled.rule.board) board visited may
+
 -- a worker that has the exchange and its share gives both back
-pub gives : (port : ℕ) (v : View) (x y : Board) (s t : Share) → v.opening ≡ false → v.held ≡ x ∷ [] → v.shares ≡ s ∷ [] → MayBeGiven x s y t
-    → Pushes Holds 1 port v y (λ w. w ≡ given t v y)
-gives port v x y s t begun has mine may items views room (inl none) at = absurd (begun_not_first views port v begun none.1 at)
-gives port v x y s t begun has mine may items views room (inr is) at =
+pub gives : (port : ℕ) (v : View) (x y : Board) (s t : Share) → v.opening ≡ false → v.held ≡ x ∷ [] → v.shares ≡ s ∷ [] → IsBoard y → IsVisitedBy s.shard.worker x y
+    → MayBeGiven x s y t → Pushes Holds 1 port v y (λ w. w ≡ given t v y)
+gives port v x y s t begun has mine board visited may items views room (inl none) at = absurd (begun_not_first views port v begun none.1 at)
+gives port v x y s t begun has mine board visited may items views room (inr is) at =
     let w = given t v y in
     let h = holder items views port v x is.board at has is.one in
     let a = around (λ (u : View). u.shares) views port v at in
@@ -174,12 +182,12 @@ gives port v x y s t begun has mine may items views room (inr is) at =
     let front : IsRuled is.case x (s ∷ (a.front ++ a.rear))
     = subst (λ l. IsRuled is.case x (l ++ (a.front ++ a.rear))) mine
     (any_order is.case x (a.front ++ (v.shares ++ a.rear)) (v.shares ++ (a.front ++ a.rear)) (to_front a.front v.shares a.rear) old) in
-    let new = given_one is.case x y s t (a.front ++ a.rear) front may in
+    let new = given_one is.case x y s t (a.front ++ a.rear) front (is_given is.case x y s t (a.front ++ a.rear) front board visited may) in
     let knows = all_at (Knows is.board) views port v at is.each in
     let one : 0 < length v.shares = (let n = ap length mine in omega arith) in
-    let rises : is.board.bound ≤ y.bound = (let up = may.give.steps.bound in let b = ap (λ (b : Board). b.bound) h.one in omega arith) in
-    let same : workers y ≡ workers is.board = may.give.steps.workers ∙ ap (λ (b : Board). workers b) h.one in
-    let same_stop : y.stop ≡ is.board.stop = may.give.steps.stop ∙ ap (λ (b : Board). b.stop) h.one in
+    let rises : is.board.bound ≤ y.bound = (let up = visited.bound in let b = ap (λ (b : Board). b.bound) h.one in omega arith) in
+    let same : workers y ≡ workers is.board = visited.workers ∙ ap (λ (b : Board). workers b) h.one in
+    let same_stop : y.stop ≡ is.board.stop = visited.stop ∙ ap (λ (b : Board). b.stop) h.one in
     let weaker : (u : View) → Knows is.board u → Knows y u
     = λ u k. record { begun = k.begun; seen = (let b = k.seen in omega arith); workers = λ l. k.workers l ∙ sym same; stop = λ l. k.stop l ∙ sym same_stop } in (
       w,
@@ -261,6 +269,7 @@ merges port v other u begun more empty items views (inr is) at apart there =
     let two = set once other spent_view in
     let was : get_elem? views other ≡ some u = ⊎_elim (λ k. absurd (apart k.0)) (λ k. k.1) (at_set views port other w u there) in
     let knows = all_at (Knows is.board) views port v at is.each in
+    let also = all_at (Knows is.board) views other u was is.each in
     let h = around (λ (k : View). k.held) views port v at in
     let g = around (λ (k : View). k.held) once other u there in
     let held : all_held two ≡ all_held views
@@ -286,6 +295,7 @@ merges port v other u begun more empty items views (inr is) at apart there =
       one = ap (λ k. items ++ k) held ∙ is.one;
       ruled = any_order is.case is.board (all_shares views) (all_shares two) same is.ruled;
       each = all_set (Knows is.board) once other spent_view
-          (all_set (Knows is.board) views port w is.each (record { begun = begun; seen = knows.seen; workers = λ n. knows.workers more; stop = λ n. knows.stop more }))
+          (all_set (Knows is.board) views port w is.each
+              (record { begun = begun; seen = (let a = knows.seen in let b = also.seen in omega arith); workers = λ n. knows.workers more; stop = λ n. knows.stop more }))
           (record { begun = refl; seen = omega arith; workers = λ n. absurd (omega arith); stop = λ n. absurd (omega arith) });
     })

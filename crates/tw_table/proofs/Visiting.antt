@@ -27,7 +27,7 @@ module _ (case : Case) (is : IsCase case) (e : Event) where
   antimessages_sum (x ∷ xs) = ap (λ n. cond x.plus 0 (one (simulation case) e x.event) + n) (antimessages_sum xs) ∙ sym (sum_by-cons (λ s. cond s.plus 0 (one (simulation case) e s.event)) x xs)
 
   -- what is among messages, and is not the first, is among the others
-  among_rest : (x : Signed Event) (xs : List (Signed Event)) → (simulation case).same e x.event ≡ false → 0 < times_among (simulation case) e (x ∷ xs)
+  pub among_rest : (x : Signed Event) (xs : List (Signed Event)) → (simulation case).same e x.event ≡ false → 0 < times_among (simulation case) e (x ∷ xs)
       → 0 < times_among (simulation case) e xs
   among_rest x xs other some =
       let none : one (simulation case) e x.event ≡ 0 = ap (λ b. cond b (suc zero) zero) other in

@@ -1,8 +1,9 @@
 -- What contracts say of a table and of its seats (own).
 use Rattle.std.specs.Prelude.{ℕ, ◌≡◌, Bool, slice_index_or}
 use Rattle.crossbeam_queue.specs.Passes.{IsPassOf, view}
-use Rattle.tw_exchange.specs.Board.{Board, opening}
+use Rattle.tw_exchange.specs.Board.{Board}
 use Rattle.tw_table.specs.Shares.{Share, no_share}
+use Rattle.tw_table.specs.Views.{taken}
 use Rattle.tw_table.specs.declared.seat.Held.{Held}
 use Rattle.tw_table.specs.declared.seat.Seat.{Seat}
 use Rattle.tw_table.specs.declared.table.Table.{Table}
@@ -11,12 +12,17 @@ use Rattle.tw_table.specs.declared.table.Table.{Table}
 abbrev pub workers_at : Table → ℕ
 workers_at t = t.workers
 
+-- the stop of its exchange
+abbrev pub stop_on : Table → ℕ
+stop_on t = t.stop
+
 -- ---- a seat that waits
 
 -- the seat is one of this table
 pub record IsSeatOf (t : Table) (s : Seat) : Type 0 where
   pub pass : IsPassOf t.queue s.pass
   pub workers : (view s.pass).workers ≡ t.workers
+  pub stop : (view s.pass).stop ≡ t.stop
 
 -- its worker's share: the shard and the hand given last
 abbrev pub share_at : Seat → Share
@@ -40,6 +46,7 @@ stop_at s = (view s.pass).stop
 pub record IsHeldOf (t : Table) (h : Held) : Type 0 where
   pub pass : IsPassOf t.queue h.pass
   pub workers : (view h.pass).workers ≡ t.workers
+  pub stop : (view h.pass).stop ≡ t.stop
 
 -- its worker's share, as given last
 abbrev pub share_of : Held → Share
@@ -51,7 +58,7 @@ stop_of h = (view h.pass).stop
 
 -- the exchange as it was taken
 abbrev pub taken_by : Held → Board
-taken_by h = slice_index_or (view h.pass).held 0 (opening 0 0 0)
+taken_by h = taken (view h.pass)
 
 -- and as it is
 abbrev pub exchange_of : Held → Board

@@ -1,14 +1,16 @@
 -- What a worker has beside the exchange, and the rule over all workers (own, after Jefferson, Virtual Time, 1985).
-use Rattle.std.specs.Prelude.{◌≡◌, true, List, [], drop, length, map, zip}
+use Rattle.std.specs.Prelude.{ℕ, ◌+◌, ◌≡◌, ◌<◌, ◌≤◌, true, List, [], drop, length, map, zip}
 use Rattle.std.specs.List.{AllByRecursion}
-use Rattle.tw_core.specs.Good.{IsGood}
+use Rattle.tw_core.specs.Good.{IsGood, times_there}
+use Rattle.tw_core.specs.Machine.{antimessages, messages}
+use Rattle.tw_core.specs.Parts.{times_wanted}
 use Rattle.tw_core.specs.Run.{IsSeq}
 use Rattle.tw_event.specs.declared.event.Event.{Event}
 use Rattle.tw_exchange.specs.Board.{Board, all_mail, owner, workers}
 use Rattle.tw_model.specs.Case.{Case, IsCase, simulation}
 use Rattle.tw_rule.specs.Board as rule
-use Rattle.tw_rule.specs.Place.{Place}
-use Rattle.tw_rule.specs.Rule.{MayGive, Rule, assembled}
+use Rattle.tw_rule.specs.Place.{Place, whole}
+use Rattle.tw_rule.specs.Rule.{Rule, Stands, assembled}
 use Rattle.tw_shard.specs.Shard.{Shard, core, owns}
 use Rattle.tw_sim.specs.declared.machine.Signed.{Signed}
 use Rattle.tw_table.specs.declared.hand.Hand.{Hand}
@@ -75,11 +77,35 @@ pub record IsRuled (case : Case) (x : Board) (shares : List Share) : Type 0 wher
   pub count : length shares ≡ workers x
   pub rule : Rule (simulation case) (owner (workers x)) (board_of x) (map place_of shares)
 
--- the worker that took the exchange x, and left the share s, may give back y and leave t
+module _ (case : Case) (e : Event) where
+  -- how often an event is in the mail, as a message and as an antimessage
+  abbrev pub mailed : Board → ℕ
+  mailed x = messages (simulation case) e (all_mail x)
+
+  abbrev pub mailed_back : Board → ℕ
+  mailed_back x = antimessages (simulation case) e (all_mail x)
+
+  -- how often it should be with a worker, and how often it is there
+  abbrev pub wanted : Share → ℕ
+  wanted s = times_wanted (simulation case) (whole 0 (place_of s)) e
+
+  abbrev pub there : Share → ℕ
+  there s = times_there (simulation case) (whole 0 (place_of s)) e
+
+-- the worker that took the exchange x, and left the share s, may leave the share t with the exchange y, which it has visited
 pub record MayBeGiven (x : Board) (s : Share) (y : Board) (t : Share) : Type 0 where
-  -- its shard keeps the same case
+  -- its shard keeps the same case, and is the same worker's
   pub case : t.shard.case ≡ s.shard.case
-  pub give : MayGive (simulation s.shard.case) (owner (workers x)) (board_of x) (place_of s) (board_of y) (place_of t)
+  pub worker : t.shard.worker ≡ s.shard.worker
+  -- its place stands as it reported
+  pub stands : Stands (simulation s.shard.case) (owner (workers x)) (board_of y) (place_of t)
+  -- what it has less went to the mail, and what it has more came from there
+  pub moved : (e : Event) → wanted s.shard.case e t + there s.shard.case e s + (mailed_back s.shard.case e y + mailed s.shard.case e x)
+      ≡ wanted s.shard.case e s + there s.shard.case e t + (mailed s.shard.case e y + mailed_back s.shard.case e x)
+  -- what it added to the mail suits its receiver
+  pub suit : (e : Event) → mailed s.shard.case e x + mailed_back s.shard.case e x < mailed s.shard.case e y + mailed_back s.shard.case e y → (simulation s.shard.case).suits e ≡ true
+  -- no commit is taken back
+  pub done : (r : ℕ) → (place_of s).done r ≤ (place_of t).done r
 
 -- the exchange and the shares of all workers are, put together, a good state of the machine of their case
 pub record IsWhole (x : Board) (shares : List Share) : Type 0 where

@@ -1,7 +1,7 @@
 -- The rule of the table's queue: over the exchange in it, and over what each pass of it knows (own).
-use Rattle.std.specs.Prelude.{ℕ, ◌≡◌, ◌<◌, ◌≤◌, ◌⊎◌, true, false, List, [], ◌∷◌, ◌++◌, drop, length, map, take}
+use Rattle.std.specs.Prelude.{ℕ, ◌≡◌, ◌<◌, ◌≤◌, ◌⊎◌, true, false, List, [], ◌∷◌, ◌++◌, drop, length, map, max, slice_index_or, take}
 use Rattle.std.specs.List.{AllByRecursion, flat_map}
-use Rattle.tw_exchange.specs.Board.{Board, workers}
+use Rattle.tw_exchange.specs.Board.{Board, opening, report_of, workers}
 use Rattle.tw_model.specs.Case.{Case}
 use Rattle.tw_table.specs.declared.rule.View.{View}
 use Rattle.tw_table.specs.Shares.{IsRuled, Share}
@@ -32,9 +32,9 @@ with_first v = record v { shares = take 1 v.shares; held = [] }
 abbrev pub with_others : View → View
 with_others v = record v { shares = drop 1 v.shares }
 
--- with the shares of another pass as well
+-- with the shares of another pass as well, and the greater of the bounds that they have seen
 abbrev pub joined : View → View → View
-joined v w = record v { shares = v.shares ++ w.shares }
+joined v w = record v { shares = v.shares ++ w.shares; seen = max v.seen w.seen }
 
 -- without any
 abbrev pub spent_view : View
@@ -88,6 +88,18 @@ pub record Taken (v : View) (x : Board) (w : View) : Type 0 where
   pub knows : Knows x v
 
 -- ---- what a seat keeps
+
+-- the exchange as it was taken
+abbrev pub taken : View → Board
+taken v = slice_index_or v.held 0 (opening 0 0 0)
+
+-- what one worker has done to the exchange x so far, whose reports but its own, number of workers and stop are as they were, and whose
+-- bound has not fallen
+pub record IsVisitedBy (worker : ℕ) (x y : Board) : Type 0 where
+  pub others : (w : ℕ) → (w ≡ worker → ⊥) → report_of w y ≡ report_of w x
+  pub workers : workers y ≡ workers x
+  pub bound : x.bound ≤ y.bound
+  pub stop : y.stop ≡ x.stop
 
 -- the seat of a worker that has seen this bound, without the exchange
 pub record IsWaiting (worker bound : ℕ) (v : View) : Type 0 where

@@ -1,13 +1,12 @@
 //! What workers do at a table.
-ghost use Rattle.std.specs.Prelude.{◌≡◌, ◌<◌, ◌≤◌, ◌↔◌, ℕ, IfErr, IfOk, IsOk, false, List, [], ◌∷◌, Some, drop, length, map, slice_get, take, vec_len};
-ghost use Rattle.std.specs.List.{AllByRecursion, range_with_len};
+ghost use Rattle.std.specs.Prelude.{◌≡◌, ◌<◌, ◌≤◌, ◌↔◌, ℕ, IfErr, IfOk, IsOk, false, List, [], ◌∷◌, drop, length, map, take, vec_len};
+ghost use Rattle.std.specs.List.{AllByRecursion};
 ghost use Rattle.crossbeam_queue.specs.Fifo.{Learns, Pushes};
 ghost use Rattle.crossbeam_queue.specs.Passes.{IsPassOf, IsSamePass, ruled_capacity, view};
 ghost use Rattle.tw_exchange.specs.Board.{Board, IsBoard, workers};
 ghost use Rattle.tw_model.specs.Case.{Case};
 ghost use Rattle.tw_table.specs.declared.rule.View.{View as AView};
-ghost use Rattle.tw_table.specs.declared.seat.Seat.{Seat as ASeat};
-ghost use Rattle.tw_table.specs.Seats.{IsHeldOf, IsSeatOf, bound_at, exchange_of, halted_at, share_at, share_of, stop_at, stop_of, taken_by, workers_at};
+ghost use Rattle.tw_table.specs.Seats.{IsHeldOf, IsSeatOf, bound_at, exchange_of, halted_at, share_at, share_of, stop_at, stop_of, stop_on, taken_by, workers_at};
 ghost use Rattle.tw_table.specs.Shares.{IsRuled, IsWhole, MayBeGiven, Share as AShare, share, shares_of};
 ghost use Rattle.tw_table.specs.Views.{Holds, IsMet, Knows, first_view, given, opened, took};
 
@@ -25,8 +24,9 @@ use tw_shard::Shard;
 
 impl Table {
     /// A table with the exchange on it, and a seat for each of its workers, who have these shards and
-    /// hands, in the order of workers; there is one at least. With the exchange they keep the rule, as new
-    /// ones do. For want of memory the exchange comes back; no other call at the table takes any.
+    /// hands, in any order, in which the seats then are; there is one at least. With the exchange they keep
+    /// the rule, as new ones do. For want of memory the exchange comes back; no other call at the table
+    /// takes any.
     pub fn open<R: Wait>(
         rt: &R,
         alloc: Global,
@@ -35,13 +35,14 @@ impl Table {
         hands: &[Hand],
     ) -> Result<(Table, Vec<Seat>), Exchange>
         requires some { 0 < workers exchange }
-        requires order { map (λ s. s.shard.worker) (shares_of shards.now hands.now) ≡ range_with_len 0 (workers exchange) }
         requires ruled { (case : Case) × IsRuled case exchange (shares_of shards.now hands.now) }
         ensures workers { IfOk result (λ r. workers_at r.0 ≡ workers exchange) }
+        ensures stop { IfOk result (λ r. stop_on r.0 ≡ exchange.stop) }
         ensures seats { IfOk result (λ r. AllByRecursion (IsSeatOf r.0) r.1.items) }
         ensures shares { IfOk result (λ r. map share_at r.1.items ≡ shares_of shards.now hands.now) }
         ensures bounds { IfOk result (λ r. AllByRecursion (λ s. bound_at s ≡ exchange.bound) r.1.items) }
         ensures stops { IfOk result (λ r. AllByRecursion (λ s. stop_at s ≡ exchange.stop) r.1.items) }
+        ensures halted { IfOk result (λ r. AllByRecursion (λ s. halted_at s ≡ exchange.halted) r.1.items) }
         ensures back { IfErr result (λ x. x ≡ exchange) }
     {
         let workers = exchange.workers();
@@ -52,13 +53,19 @@ impl Table {
             return Err(exchange);
         };
         let bound = exchange.bound();
+        let stop = exchange.stop();
         let halted = exchange.is_halted();
         lay::<Brand, R>(rt, &queue, &mut pass, exchange, shards, hands);
-        for worker in 0..workers {
-            let seat = deal(&queue, &mut pass, worker, bound, halted);
+        for shard in &shards[..workers as usize] {
+            let seat = deal(&queue, &mut pass, shard.worker(), bound, halted);
             seats.push_reserved(seat);
         }
-        Ok((Table { queue, workers }, seats))
+        let table = Table {
+            queue,
+            workers,
+            stop,
+        };
+        Ok((table, seats))
     }
 
     /// Takes the exchange, once it is on the table. The seat is one of this table.
@@ -93,8 +100,8 @@ impl Table {
 
     /// Lays the exchange back on the table, and beside it the worker's shard and hand as they are now.
     ///
-    /// Of the caller it is asked that this worker may give them, which says nothing of the other workers'
-    /// shards and hands.
+    /// Of the caller it is asked that this worker may leave them with the exchange, which says nothing of the
+    /// other workers' shards, hands and reports.
     pub fn give<R: Wait>(&self, rt: &R, held: Held, shard: &Shard<'_>, hand: &Hand) -> Seat
         requires held { IsHeldOf self.now held }
         requires fair { MayBeGiven (taken_by held) (share_of held) (exchange_of held) (share shard.now hand.now) }
@@ -121,14 +128,14 @@ impl Table {
     }
 
     /// Takes the exchange off the table for good, where all its seats are handed in: it and what the
-    /// workers gave last are, put together, a good state of the machine. Its stop is the one that the first
-    /// seat knows, and its bound is not below the one that this seat saw last. Else both come back.
+    /// workers gave last are, put together, a good state of the machine. Its stop is the one that each seat
+    /// knows, and its bound is not below the one that any of them saw last. Else both come back.
     pub fn close<R: Wait>(rt: &R, table: Table, seats: Vec<Seat>) -> Result<Exchange, Missing>
         requires seats { AllByRecursion (IsSeatOf table) seats.items }
         ensures all { IsOk result ↔ (vec_len seats ≡ workers_at table) }
         ensures whole { IfOk result (λ x. IsWhole x (map share_at seats.items)) }
-        ensures stop { IfOk result (λ x. (s : ASeat) → slice_get seats.items 0 ≡ Some s → x.stop ≡ stop_at s) }
-        ensures bound { IfOk result (λ x. (s : ASeat) → slice_get seats.items 0 ≡ Some s → bound_at s ≤ x.bound) }
+        ensures stop { IfOk result (λ x. AllByRecursion (λ s. stop_at s ≡ x.stop) seats.items) }
+        ensures bound { IfOk result (λ x. AllByRecursion (λ s. bound_at s ≤ x.bound) seats.items) }
         ensures back { IfErr result (λ m. (m.table ≡ table) × (m.seats ≡ seats)) }
     {
         if seats.len() != table.workers as usize {
@@ -234,7 +241,8 @@ fn join_all(table: &Table, seats: Vec<Seat>) -> Ticket
     ensures begun { (view result).opening ≡ false }
     ensures empty { (view result).held ≡ [] }
     ensures shares { (view result).shares ≡ map share_at seats.items }
-    ensures first { (s : ASeat) → slice_get seats.items 0 ≡ Some s → ((view result).stop ≡ stop_at s) × ((view result).seen ≡ bound_at s) }
+    ensures stop { (view result).stop ≡ table.now.stop }
+    ensures seen { AllByRecursion (λ s. bound_at s ≤ (view result).seen) seats.items }
 {
     let mut seats = seats.into_iter();
     let Some(first) = seats.next() else {

@@ -2,7 +2,7 @@ ghost use Rattle.std.specs.Prelude.{◌≡◌, ◌↔◌, ◌<◌, ◌≤◌, If
 ghost use Rattle.std.specs.Result.{IsErrAnd};
 ghost use Rattle.crossbeam_queue.specs.Passes.{view};
 ghost use Rattle.tw_exchange.specs.Board.{workers};
-ghost use Rattle.tw_table.specs.Views.{IsHolding, IsWaiting};
+ghost use Rattle.tw_table.specs.Views.{IsHolding, IsVisitedBy, IsWaiting, taken};
 
 use crate::rule::Ticket;
 use tw_exchange::Exchange;
@@ -25,4 +25,5 @@ pub struct Held {
     pub(crate) pass: Ticket,
     pub(crate) ghost holds: { IsHolding worker (view pass) },
     pub(crate) ghost there: { worker < workers exchange },
+    pub(crate) ghost visited: { IsVisitedBy worker (taken (view pass)) exchange },
 }

@@ -9,6 +9,7 @@ use crate::seat::Seat;
 pub struct Table {
     pub(crate) queue: Queue,
     pub(crate) workers: u32,
+    pub(crate) stop: u64,
     pub(crate) ghost one: { ruled_capacity queue ≡ 1 },
     pub(crate) ghost some: { 0 < workers },
 }

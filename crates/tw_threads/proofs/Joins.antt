@@ -1,5 +1,5 @@
 -- Workers that are joined one after the other.
-use Rattle.std.proofs.Common.{◌≡◌, ◌⊎◌, inl, inr, ℕ, suc, zero, List, [], ◌∷◌, ◌++◌, Option, Some, None, length, map, refl, ap, sym, ◌∙◌, subst, append_assoc, arith, slice_get}
+use Rattle.std.proofs.Common.{◌≡◌, ◌⊎◌, inl, inr, ℕ, suc, zero, Bool, true, false, List, [], ◌∷◌, ◌++◌, Option, Some, None, length, map, refl, ap, sym, ◌∙◌, subst, append_assoc, arith, slice_get}
 use Rattle.std.proofs.lemmas.List.{append-nil, map-append}
 use Rattle.std.proofs.lemmas.Option.{none-some, same_Some}
 use Rattle.std.specs.List.{AllByRecursion, AllZip}
@@ -7,7 +7,7 @@ use Rattle.tw_table.specs.Seats.{IsSeatOf, share_at}
 use Rattle.tw_table.specs.Shares.{Share}
 use Rattle.tw_table.specs.declared.seat.Seat.{Seat}
 use Rattle.tw_table.specs.declared.table.Table.{Table}
-use Rattle.tw_threads.specs.Left.{HasLeft, IsFull, IsLeft}
+use Rattle.tw_threads.specs.Left.{HasLeft, IsLeft}
 use Rattle.tw_threads.specs.Started.{HaveLeft, IsSomeFull, IsStarted}
 use Rattle.tw_threads.specs.declared.joining.Cause.{Cause}
 use Rattle.tw_threads.specs.declared.joining.Cause.TheVariants as cause
@@ -119,6 +119,12 @@ module _ {W : Type 0} (share : W → Share) where
   }
 
   -- a run that lacks a thread tells nothing else
-  pub with_no_thread : (t : Table) (before after : List Seat) (workers : List W) (why : Option Cause) → HaveLeft share t before after workers why
+  with_no_thread : (t : Table) (before after : List Seat) (workers : List W) (why : Option Cause) → HaveLeft share t before after workers why
       → HaveLeft share t before after workers (Some cause.NoThread)
   with_no_thread t before after workers why h = record { left = h.left; shares = h.shares; full = λ e. absurd (one_cause (same_Some _ _ e)) }
+
+  pub with_cause : (t : Table) (before after : List Seat) (workers : List W) (why told : Option Cause) (refused : Bool) → HaveLeft share t before after workers why
+      → (refused ≡ true → told ≡ Some cause.NoThread) → (refused ≡ false → told ≡ why) → HaveLeft share t before after workers told
+  with_cause t before after workers why told true h thread other =
+      subst (HaveLeft share t before after workers) (sym (thread refl)) (with_no_thread t before after workers why h)
+  with_cause t before after workers why told false h thread other = subst (HaveLeft share t before after workers) (sym (other refl)) h

@@ -1,6 +1,5 @@
 -- How workers leave a table (own).
-use Rattle.std.specs.Prelude.{ℕ, ◌≡◌, ◌≤◌, Err, List, Some, map, slice_get, true}
-use Rattle.std.specs.List.{AllZip}
+use Rattle.std.specs.Prelude.{ℕ, ◌≡◌, ◌≤◌, Err, List, Some, slice_get, true}
 use Rattle.tw_core.specs.declared.refusal.Refusal.TheVariants as refusal
 use Rattle.tw_shard.specs.Shard.{Shard, handling}
 use Rattle.tw_table.specs.Seats.{IsSeatOf, bound_at, halted_at, share_at, stop_at}

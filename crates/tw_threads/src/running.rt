@@ -1,5 +1,5 @@
 //! All workers run.
-ghost use Rattle.std.specs.Prelude.{◌≡◌, ◌≤◌, ℕ, Some, [], length, map, vec_capacity, vec_len};
+ghost use Rattle.std.specs.Prelude.{◌≡◌, ◌≤◌, Some, [], false, length, map, true, vec_capacity, vec_len};
 ghost use Rattle.std.specs.List.{AllByRecursion, AllZip};
 ghost use Rattle.tw_table.specs.Seats.{IsSeatOf, bound_at, share_at, stop_at, workers_at};
 ghost use Rattle.tw_table.specs.Shares.{IsWhole};
@@ -52,10 +52,9 @@ pub fn run_all<W: Work + Send + Drop, G: Gate + Sync, R: Threads + Wait + Sync>(
     ensures numbers { map (λ w. (W.share w).shard.worker) result.workers.items ≡ map (λ w. (W.share w).shard.worker) workers.items }
     ensures counts { map (λ w. (W.share w).shard.workers) result.workers.items ≡ map (λ w. (W.share w).shard.workers) workers.items }
     ensures keeps { map (λ w. (W.share w).shard.keeps) result.workers.items ≡ map (λ w. (W.share w).shard.keeps) workers.items }
-    ensures stop { (stop : ℕ) → AllByRecursion (λ s. stop_at s ≡ stop) seats.items → result.exchange.stop ≡ stop }
-    ensures bound { (bound : ℕ) → AllByRecursion (λ s. bound ≤ bound_at s) seats.items → bound ≤ result.exchange.bound }
-    ensures full { (stop : ℕ) → AllByRecursion (λ s. stop_at s ≡ stop) seats.items → result.cause ≡ Some cause.CounterFull
-        → IsFullAhead stop (map W.share result.workers.items) }
+    ensures stop { AllByRecursion (λ s. stop_at s ≡ result.exchange.stop) seats.items }
+    ensures bound { AllByRecursion (λ s. bound_at s ≤ result.exchange.bound) seats.items }
+    ensures full { result.cause ≡ Some cause.CounterFull → IsFullAhead result.exchange.stop (map W.share result.workers.items) }
 {
     let gathered = gather(rt, alloc, &table, workers, seats, gate);
     let Gathered {
@@ -113,10 +112,20 @@ fn gather<W: Work + Send + Drop, G: Gate + Sync, R: Threads + Wait + Sync>(
         { start_all(scope, rt, table, gate, told, workers, seats, started) },
     );
     let mut gathered = join_all(rt, started, back, left);
-    if refused.into_inner() {
-        gathered.cause = Some(Cause::NoThread);
-    }
+    gathered.cause = cause_of(refused.into_inner(), gathered.cause);
     gathered
+}
+
+/// Why workers ended that told this, where a thread was refused or none was.
+fn cause_of(refused: bool, told: Option<Cause>) -> Option<Cause>
+    ensures thread { refused ≡ true → result ≡ Some cause.NoThread }
+    ensures told { refused ≡ false → result ≡ told }
+{
+    if refused {
+        Some(Cause::NoThread)
+    } else {
+        told
+    }
 }
 
 /// Workers that take no turn, for want of memory.

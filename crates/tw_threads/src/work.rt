@@ -1,8 +1,8 @@
-ghost use Rattle.std.specs.Prelude.{◌≡◌, ℕ, true};
+ghost use Rattle.std.specs.Prelude.{◌≡◌, ℕ, false, true};
 ghost use Rattle.tw_table.specs.Seats.{IsSeatOf, halted_at, share_at, stop_at};
 ghost use Rattle.tw_table.specs.Shares.{Share};
 ghost use Rattle.tw_threads.specs.Left.{HasLeft, IsFull};
-ghost use Rattle.tw_workers.specs.declared.working.Leaving.TheVariants.{CounterFull, Settled};
+ghost use Rattle.tw_workers.specs.declared.working.Leaving.TheVariants.{CounterFull, Halted, Settled};
 
 use std::sync::Wait;
 use tw_table::{Seat, Table};
@@ -14,8 +14,8 @@ pub trait Work {
 
     ghost stop: { Self → ℕ };
 
-    /// It takes turns until it may take no further one, and it is answered why. The seat is its own, at this
-    /// table, and what it gave there last it still has.
+    /// It takes turns until it may take no further one, and it is answered why: none where all workers were
+    /// told before to take none. The seat is its own, at this table, and what it gave there last it still has.
     fn work<G: Gate, R: Wait>(
         &mut self,
         rt: &R,
@@ -29,6 +29,8 @@ pub trait Work {
         ensures left { HasLeft table.now seat result.0 }
         ensures share { share_at result.0 ≡ share self.new }
         ensures halts { (result.1 ≡ Settled → ⊥) → halted_at result.0 ≡ true }
+        ensures open { result.1 ≡ Settled → halted_at result.0 ≡ false }
+        ensures obeys { halted_at seat ≡ true → (result.0 ≡ seat) × (result.1 ≡ Halted) }
         ensures full { result.1 ≡ CounterFull → IsFull (stop_at result.0) (share_at result.0).shard };
 
     /// It takes no turn, and tells all workers to take no further one. The seat is its own, at this table, and

@@ -21,7 +21,7 @@ use Rattle.tw_rule.specs.Rule.{MayGive, Stands}
 use Rattle.tw_sim.proofs.Counts.{one_self}
 use Rattle.tw_sim.specs.declared.machine.Signed.{Signed}
 use Rattle.tw_sim.specs.Simulation.{IsLawful, Simulation, one}
-use Rattle.tw_table.proofs.Rules.{given_one, run_before}
+use Rattle.tw_table.proofs.Rules.{IsGiven, given_one, own_part, run_before}
 use Rattle.tw_table.proofs.Visiting.{is_visit}
 use Rattle.tw_table.specs.declared.seat.Held.{Held}
 use Rattle.tw_table.specs.Seats.{IsSameSeat}
@@ -62,7 +62,7 @@ stayed_given x y stop s q met same kept as_before =
     let m = simulation s.shard.case in
     let who = owner (workers x) in
     let may = may_stay m (lawful s.shard.case at.is_case) who (board_of x) (place_of s) (place_of q) at.board at.stands (keeps_here x stop s q same kept) in
-    record { case = kept.case; give = subst (λ b. MayGive m who (board_of x) (place_of s) b (place_of q)) (sym as_before) may }
+    own_part x y s q (record { case = kept.case; give = subst (λ b. MayGive m who (board_of x) (place_of s) b (place_of q)) (sym as_before) may })
 
 -- ---- with a visit
 
@@ -119,9 +119,9 @@ place_told x y s q t is none =
     let same : left ≡ t = λ i. record { shard = sym is.shard i; mail = sym is.mail i; unsent = sym is.unsent i } in
     ap (λ l. record (place_of left) { mail = l ++ mail }) none ∙ ap place_of same
 
-pub visited_given : (x y : Board) (stop : ℕ) (s q t : Share) → IsMet (s ∷ []) x → IsBoard x → x.stop ≡ stop → Kept stop s q → q.mail ≡ [] → q.shard.outgoing ≡ [] → x.bound ≤ y.bound
-    → IsVisited x y s q t → MayBeGiven x s y t
-visited_given x y stop s q t met board same kept none sorted rises is =
+pub visited_whole : (x y : Board) (stop : ℕ) (s q t : Share) → IsMet (s ∷ []) x → IsBoard x → x.stop ≡ stop → Kept stop s q → q.mail ≡ [] → q.shard.outgoing ≡ [] → x.bound ≤ y.bound
+    → IsVisited x y s q t → IsGiven x s y t
+visited_whole x y stop s q t met board same kept none sorted rises is =
     let at = here x s met in
     let m = simulation s.shard.case in
     let law = lawful s.shard.case at.is_case in
@@ -144,6 +144,10 @@ visited_given x y stop s q t met board same kept none sorted rises is =
       give = subst (MayGive m who (board_of x) (place_of s) (board_of y)) (place_told x y s q t is none) may;
     }
 
+pub visited_given : (x y : Board) (stop : ℕ) (s q t : Share) → IsMet (s ∷ []) x → IsBoard x → x.stop ≡ stop → Kept stop s q → q.mail ≡ [] → q.shard.outgoing ≡ [] → x.bound ≤ y.bound
+    → IsVisited x y s q t → MayBeGiven x s y t
+visited_given x y stop s q t met board same kept none sorted rises is = own_part x y s t (visited_whole x y stop s q t met board same kept none sorted rises is)
+
 sooner : {S : Type 0} (m : Simulation S Event) (a b : ℕ) (p : Place Event) → b ≤ a → IsFrom m a p → IsFrom m b p
 sooner m a b p le from e h = let old = from e h in omega arith
 
@@ -164,7 +168,7 @@ at_work case x shares i s ruled place =
     }
 
 -- and so is a worker that has given what it may
-pub work_given : (x y : Board) (stop : ℕ) (s t : Share) → IsMet (s ∷ []) x → x.stop ≡ stop → MayBeGiven x s y t → IsAtWork stop t
+pub work_given : (x y : Board) (stop : ℕ) (s t : Share) → IsMet (s ∷ []) x → x.stop ≡ stop → IsGiven x s y t → IsAtWork stop t
 work_given x y stop s t met same may =
     subst (λ n. IsAtWork n t) (may.give.steps.stop ∙ same) (at_work met.case y (t ∷ met.others) 0 t (given_one met.case x y s t met.others met.ruled may) refl)
 

@@ -35,7 +35,7 @@ impl<'a> Worker<'a> {
     /// shard and hand as they are.
     ///
     /// Where it can't go on, it tells all workers to take no further turn, and gives its shard and hand as
-    /// they are then.
+    /// they are then. Where it was told so itself, it takes none.
     pub fn work<G: Gate, R: Wait>(
         &mut self,
         rt: &R,
@@ -58,8 +58,13 @@ impl<'a> Worker<'a> {
         ensures settled { result.1 ≡ leaving.Settled → bound_at result.0 ≡ self.new.stop }
         ensures committed { result.1 ≡ leaving.Settled → HasCommitted self.new }
         ensures halts { (result.1 ≡ leaving.Settled → ⊥) → halted_at result.0 ≡ true }
+        ensures open { result.1 ≡ leaving.Settled → halted_at result.0 ≡ false }
+        ensures obeys { halted_at seat ≡ true → (result.0 ≡ seat) × (result.1 ≡ leaving.Halted) × (self.new ≡ self.old) }
         ensures full { result.1 ≡ leaving.CounterFull → (r : ℕ) × (handling self.new.stop self.new.share.shard r ≡ Err refusal.CounterFull) }
     {
+        if seat.is_halted() {
+            return (seat, Leaving::Halted);
+        }
         let mut seat = seat;
         let mut turn: u64 = 0;
         let mut idle = 0;
@@ -87,7 +92,7 @@ impl<'a> Worker<'a> {
         idle.saturating_add(1)
     }
 
-    /// The worker takes a turn, and is told whether it leaves.
+    /// The worker, who was not told to take no further turn, takes one, and is told whether it leaves.
     fn take_turn<G: Gate, R: Wait>(
         &mut self,
         rt: &R,
@@ -99,6 +104,7 @@ impl<'a> Worker<'a> {
         requires seat { IsSeatOf table.now seat }
         requires share { share_at seat ≡ self.old.share }
         requires stop { stop_at seat ≡ self.old.stop }
+        requires open { halted_at seat ≡ false }
         ensures seat { IsSeatOf table.now result.0 }
         ensures share { share_at result.0 ≡ self.new.share }
         ensures stop { self.new.stop ≡ self.old.stop }
@@ -111,7 +117,8 @@ impl<'a> Worker<'a> {
         ensures settled { result.1 ≡ Some leaving.Settled → bound_at result.0 ≡ self.new.stop }
         ensures committed { result.1 ≡ Some leaving.Settled → HasCommitted self.new }
         ensures halts { IfSome result.1 (λ why. (why ≡ leaving.Settled → ⊥) → halted_at result.0 ≡ true) }
-        ensures obeys { halted_at result.0 ≡ true → result.1 ≡ None → ⊥ }
+        ensures goes_on { result.1 ≡ None → halted_at result.0 ≡ false }
+        ensures open { result.1 ≡ Some leaving.Settled → halted_at result.0 ≡ false }
         ensures full { result.1 ≡ Some leaving.CounterFull → (r : ℕ) × (handling self.new.stop self.new.share.shard r ≡ Err refusal.CounterFull) }
     {
         if let Err(leaving) = self.prepare(rt, gate, seat.worker(), turn) {

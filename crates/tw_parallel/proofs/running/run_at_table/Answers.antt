@@ -2,7 +2,7 @@ use Rattle.std.proofs.Common.{◌≡◌, ◌≤◌, Bool, true, List, length, ma
 use Rattle.std.proofs.lemmas.List.{length-map}
 use Rattle.std.specs.List.{AllByRecursion}
 use Rattle.tw_parallel.proofs.Crews.{all_at_work}
-use Rattle.tw_parallel.proofs.Rounds.{as_many, goes_on, long_shares, not_above, same_numbers, same_workers, still_keep}
+use Rattle.tw_parallel.proofs.Rounds.{as_many, goes_on, long_shares, not_below, same_numbers, same_stop, same_workers, still_keep}
 use Rattle.tw_parallel.specs.Inside.{run_of}
 use Rattle.tw_parallel.specs.Sim.{IsSim}
 use Rattle.tw_table.specs.Seats.{share_at, stop_at}
@@ -47,7 +47,9 @@ parts_of-shards-requires-clause-hands g c =
     (c.requires.room.hands.0, omega (arith, n, m))
 
 pub returns-clause-stop : goal.returns-clause-stop
-returns-clause-stop g c = c.run_all-ran.ensures.stop c.args.parts.exchange.stop c.in-Ok.ensures.stops
+returns-clause-stop g c =
+    same_stop (run_of c.args.parts) c.run_all-ran.result.exchange.stop c.in-Ok.opened.1.items c.requires.sim
+    (c.in-Ok.ensures.shares ∙ (λ i. shares_of (c.deref.ensures.value i) (c.deref-2.ensures.value i))) c.in-Ok.ensures.stops c.run_all-ran.ensures.stop
 
 pub returns-clause-sim : goal.returns-clause-sim
 returns-clause-sim g c =
@@ -61,7 +63,7 @@ returns-clause-sim g c =
     (goes_on (run_of parts) c.run_all-ran.result.exchange (map share new) c.requires.sim ran.whole
     (sym (mapped share (λ s. s.shard.case) new) ∙ (ran.cases ∙ (mapped share (λ s. s.shard.case) old ∙ ap (map (λ (s : Share). s.shard.case)) made)))
     (sym (mapped share (λ s. s.shard.worker) new) ∙ (ran.numbers ∙ (mapped share (λ s. s.shard.worker) old ∙ ap (map (λ (s : Share). s.shard.worker)) made)))
-    (ran.stop parts.exchange.stop c.in-Ok.ensures.stops))
+    (returns-clause-stop g c))
 
 pub returns-clause-workers : goal.returns-clause-workers
 returns-clause-workers g c =
@@ -84,12 +86,10 @@ returns-clause-keeps g c = λ kept.
     subst (AllByRecursion (λ (s : Share). s.shard.keeps ≡ true)) (sym c.parts_of-shards.ensures.shares) (still_keep all (map share new) same kept)
 
 pub returns-clause-bound : goal.returns-clause-bound
-returns-clause-bound g c = c.run_all-ran.ensures.bound c.args.parts.exchange.bound (not_above c.args.parts.exchange.bound c.in-Ok.opened.1.items c.in-Ok.ensures.bounds)
+returns-clause-bound g c =
+    not_below (run_of c.args.parts) c.run_all-ran.result.exchange.bound c.in-Ok.opened.1.items c.requires.sim
+    (c.in-Ok.ensures.shares ∙ (λ i. shares_of (c.deref.ensures.value i) (c.deref-2.ensures.value i))) c.in-Ok.ensures.bounds c.run_all-ran.ensures.bound
 
 pub returns-clause-full : goal.returns-clause-full
 returns-clause-full g c = λ is.
-    let ran = c.run_all-ran.ensures in
-    let stop = c.args.parts.exchange.stop in
-    let new = map (λ (w : Worker). w.share) c.run_all-ran.result.workers.items in
-    subst (IsFullAhead c.run_all-ran.result.exchange.stop) (sym c.parts_of-shards.ensures.shares)
-    (subst (λ n. IsFullAhead n new) (sym (ran.stop stop c.in-Ok.ensures.stops)) (ran.full stop c.in-Ok.ensures.stops is))
+    subst (IsFullAhead c.run_all-ran.result.exchange.stop) (sym c.parts_of-shards.ensures.shares) (c.run_all-ran.ensures.full is)

@@ -1,7 +1,7 @@
 use Rattle.std.proofs.Common.{◌≡◌, ◌∷◌, length, rules, sym, ◌∙◌, arith, subst, vec_len}
 use Rattle.std.specs.List.{AllByRecursion}
 use Rattle.std.specs.Vec.Iter.{into_iter_items, into_iter_len}
-use Rattle.tw_table.proofs.Joins.{IsJoined, all_joined, joins_first, joins_next}
+use Rattle.tw_table.proofs.Joins.{IsJoined, all_joined, all_seen, joins_first, joins_next}
 use Rattle.tw_table.proofs.Views.{merges}
 use Rattle.tw_table.specs.Seats.{IsSeatOf}
 use Rattle.tw_table.proofs.calls.join_all.Goals as goal
@@ -54,5 +54,11 @@ returns-clause-shares c =
     all_joined c.args.table.now c.args.seats.items c.loop-seat.pass left
     (subst (IsJoined c.args.table.now c.args.seats.items c.loop-seat.pass left) c.in-None.ensures.steps.0 c.loop-seat.invariant)
 
-pub returns-clause-first : goal.returns-clause-first
-returns-clause-first c = c.loop-seat.invariant.first
+pub returns-clause-stop : goal.returns-clause-stop
+returns-clause-stop c = c.loop-seat.invariant.stop
+
+pub returns-clause-seen : goal.returns-clause-seen
+returns-clause-seen c =
+    let left = into_iter_items c.loop-seat.seat-iterator in
+    all_seen c.args.table.now c.args.seats.items c.loop-seat.pass left
+    (subst (IsJoined c.args.table.now c.args.seats.items c.loop-seat.pass left) c.in-None.ensures.steps.0 c.loop-seat.invariant)

@@ -1,5 +1,5 @@
 use Rattle.std.proofs.Common.{ap}
-use Rattle.tw_threads.proofs.Joins.{have_stayed, with_no_thread}
+use Rattle.tw_threads.proofs.Joins.{have_stayed, with_cause}
 use Rattle.tw_threads.proofs.running.gather.Goals as goal
 
 pub returns-in_default : goal.returns-in_default
@@ -17,8 +17,7 @@ returns-in_default-with_capacity-2 g c =
     let told = c.unchanged-in_default-with_capacity-2.ensures in
     have_stayed g.W.Work.share _ _ _ _ _ _ (ap (λ v. v.items) told.seats) (ap (λ v. v.items) told.workers) told.cause c.requires.seats c.requires.shares
 
-pub returns-then-into_inner : goal.returns-then-into_inner
-returns-then-into_inner g c = with_no_thread g.W.Work.share _ _ _ _ _ (c.join_all-gathered.ensures c.args.table.now c.args.seats.items c.scoped-started.ensures.1.1)
-
-pub returns-else-into_inner : goal.returns-else-into_inner
-returns-else-into_inner g c = c.join_all-gathered.ensures c.args.table.now c.args.seats.items c.scoped-started.ensures.1.1
+pub returns : goal.returns
+returns g c =
+    with_cause g.W.Work.share _ _ _ _ _ _ c.into_inner.result (c.join_all-gathered.ensures c.args.table.now c.args.seats.items c.scoped-started.ensures.1.1)
+    c.cause_of-gathered.ensures.thread c.cause_of-gathered.ensures.told

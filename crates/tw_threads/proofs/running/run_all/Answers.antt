@@ -1,5 +1,5 @@
 use Rattle.std.proofs.Common.{◌≡◌, true≢false, length, rules, sym, ◌∙◌, vec_len}
-use Rattle.tw_threads.proofs.Ends.{all_left, bound_after, full_after, seats_after, some_left, stop_after, workers_keep}
+use Rattle.tw_threads.proofs.Ends.{all_left, bounds_before, full_after, seats_after, stops_before, workers_keep}
 use Rattle.tw_threads.proofs.running.run_all.Goals as goal
 
 pub close-requires : goal.close-requires
@@ -33,18 +33,12 @@ returns-clause-keeps g c =
     workers_keep g.W.Work.share (λ s. s.shard.keeps) c.args.table _ _ _ _ (λ s u is. is.keeps) h.left c.requires.shares h.shares
 
 pub returns-clause-stop : goal.returns-clause-stop
-returns-clause-stop g c = λ stop stops.
-    let left = c.gather-gathered.ensures.left in
-    let before : length c.args.seats.items ≡ vec_len c.args.seats = search rules in
-    stop_after c.args.table stop _ _ _ left (some_left c.args.table _ _ _ left before c.requires.all) c.in-Ok.ensures.stop stops
+returns-clause-stop g c = stops_before c.args.table _ _ _ c.gather-gathered.ensures.left c.in-Ok.ensures.stop
 
 pub returns-clause-bound : goal.returns-clause-bound
-returns-clause-bound g c = λ bound bounds.
-    let left = c.gather-gathered.ensures.left in
-    let before : length c.args.seats.items ≡ vec_len c.args.seats = search rules in
-    bound_after c.args.table bound _ _ _ left (some_left c.args.table _ _ _ left before c.requires.all) c.in-Ok.ensures.bound bounds
+returns-clause-bound g c = bounds_before c.args.table _ _ _ c.gather-gathered.ensures.left c.in-Ok.ensures.bound
 
 pub returns-clause-full : goal.returns-clause-full
-returns-clause-full g c = λ stop stops is.
+returns-clause-full g c = λ is.
     let h = c.gather-gathered.ensures in
-    full_after g.W.Work.share c.args.table stop _ _ _ h.left h.shares stops (h.full is)
+    full_after g.W.Work.share _ _ _ h.shares c.in-Ok.ensures.stop (h.full is)

@@ -1,13 +1,17 @@
 use Rattle.std.proofs.Common.{◌≡◌, ◌≤◌, ◌<◌, false, length, max, ap, sym, ◌∙◌, subst}
 use Rattle.tw_exchange.specs.Board.{handed, is_early, visited}
+use Rattle.tw_table.proofs.Rules.{IsGiven, own_part}
 use Rattle.tw_table.specs.Seats.{exchange_of, share_of, taken_by}
 use Rattle.tw_table.specs.Shares.{MayBeGiven, board_of, share}
 use Rattle.tw_workers.proofs.Places.{drop_none}
-use Rattle.tw_workers.proofs.Visits.{IsVisited, for_memory, not_early, same_seat, stayed_given, visited_given, work_given}
+use Rattle.tw_workers.proofs.Visits.{IsVisited, for_memory, not_early, same_seat, stayed_given, visited_whole, work_given}
+use Rattle.tw_workers.proofs.meeting.visit.Goals.{After-told}
 use Rattle.tw_workers.proofs.meeting.visit.Goals as goal
 
-pub returns-in-Ok-clause-given : goal.returns-in-Ok-clause-given
-returns-in-Ok-clause-given c =
+-- the exchange and what the worker has after a visit
+visit_given : (c : After-told) → IsGiven (taken_by c.args.held.now) (share_of c.args.held.now) (exchange_of c.visit.new.self)
+    (share c.raise_bound.new.self (record { mail = c.in-Ok.visit.mail; next = 0; out = c.replace-out.new.dest }))
+visit_given c =
     let x = taken_by c.args.held.now in
     let s = share_of c.args.held.now in
     let q = share c.args.shard.now c.args.hand.now in
@@ -25,12 +29,17 @@ returns-in-Ok-clause-given c =
       mail = drop_none c.in-Ok.visit.mail.items ∙ (told.mail ∙ (λ i. handed w (out i).items (fresh i)));
       unsent = ap (λ v. v.items) c.replace-out.ensures.after ∙ c.new.ensures.items;
     } in
-    visited_given x y c.args.stop s q t c.requires.met c.requires.board c.requires.stop c.requires.kept c.requires.delivered c.requires.sorted rises is
+    visited_whole x y c.args.stop s q t c.requires.met c.requires.board c.requires.stop c.requires.kept c.requires.delivered c.requires.sorted rises is
+
+pub returns-in-Ok-clause-given : goal.returns-in-Ok-clause-given
+returns-in-Ok-clause-given c =
+    own_part (taken_by c.args.held.now) (exchange_of c.visit.new.self) (share_of c.args.held.now)
+    (share c.raise_bound.new.self (record { mail = c.in-Ok.visit.mail; next = 0; out = c.replace-out.new.dest })) (visit_given c)
 
 pub returns-in-Ok-clause-work : goal.returns-in-Ok-clause-work
 returns-in-Ok-clause-work c =
     let t = share c.raise_bound.new.self (record { mail = c.in-Ok.visit.mail; next = 0; out = c.replace-out.new.dest }) in
-    work_given (taken_by c.args.held.now) (exchange_of c.visit.new.self) c.args.stop (share_of c.args.held.now) t c.requires.met c.requires.stop (returns-in-Ok-clause-given c)
+    work_given (taken_by c.args.held.now) (exchange_of c.visit.new.self) c.args.stop (share_of c.args.held.now) t c.requires.met c.requires.stop (visit_given c)
 
 pub returns-in-Err-clause-seat : goal.returns-in-Err-clause-seat
 returns-in-Err-clause-seat c = same_seat c.args.held.now c.visit.new.self c.halt_all.new.held c.visit.ensures.same c.halt_all.ensures.same

@@ -1,7 +1,7 @@
 use Rattle.std.proofs.Common.{◌≡◌, ◌∙◌, length, map, rules, arith, vec_len}
 use Rattle.crossbeam_queue.specs.Passes.{view}
 use Rattle.tw_table.proofs.Deals.{long_map}
-use Rattle.tw_table.proofs.Joins.{closed, closed_stop}
+use Rattle.tw_table.proofs.Joins.{closed, closed_bound, closed_stop, met_stop}
 use Rattle.tw_table.specs.Seats.{share_at}
 use Rattle.tw_table.proofs.table.Table.close.Goals as goal
 
@@ -15,13 +15,13 @@ returns-clause-whole g c =
     closed c.pop.result (view pass.result) (map share_at seats.items) c.args.table.workers pass.ensures.shares pass.ensures.workers as_many c.args.table.some told.met told.knows
 
 pub returns-clause-stop : goal.returns-clause-stop
-returns-clause-stop g c = λ s first.
+returns-clause-stop g c =
     let pass = c.join_all-pass in
     let seats = c.args.seats in
     let as_many : length (map share_at seats.items) ≡ c.args.table.workers
     = (let all : length seats.items ≡ vec_len seats = search rules in let long = long_map share_at seats.items in let same : vec_len seats ≡ c.args.table.workers = search rules in omega arith) in
-    closed_stop c.pop.result (view pass.result) (map share_at seats.items) c.args.table.workers pass.ensures.shares as_many c.args.table.some c.pop.ensures.knows
-    ∙ (pass.ensures.first s first).0
+    let same = met_stop c.pop.result (view pass.result) (map share_at seats.items) c.args.table.workers pass.ensures.shares as_many c.args.table.some c.pop.ensures.knows in
+    closed_stop c.pop.result c.args.table seats.items (same ∙ pass.ensures.stop) c.requires.seats
 
 pub returns-clause-bound : goal.returns-clause-bound
-returns-clause-bound g c = λ s first. (let same = (c.join_all-pass.ensures.first s first).1 in let seen = c.pop.ensures.knows.seen in omega arith)
+returns-clause-bound g c = closed_bound c.pop.result (view c.join_all-pass.result).seen c.args.seats.items c.pop.ensures.knows.seen c.join_all-pass.ensures.seen

@@ -1,9 +1,11 @@
+use Rattle.std.proofs.Common.{subst, sym}
 use Rattle.crossbeam_queue.specs.Passes.{view}
 use Rattle.tw_exchange.specs.Board.{opening, workers}
-use Rattle.tw_table.proofs.Seats.{one_alone, worker_of}
+use Rattle.tw_table.proofs.Seats.{one_alone, one_read, worker_of}
 use Rattle.tw_table.proofs.Views.{finds_empty, gives}
 use Rattle.tw_table.specs.Seats.{share_of, taken_by}
 use Rattle.tw_table.specs.Shares.{no_share, share}
+use Rattle.tw_table.specs.Views.{IsVisitedBy}
 use Rattle.tw_table.proofs.table.Table.give.Goals as goal
 
 pub push-requires-clause-keeps : goal.push-requires-clause-keeps
@@ -12,7 +14,8 @@ push-requires-clause-keeps g c =
     let v = view held.pass in
     gives _ v (taken_by held) _ (share_of held) (share c.args.shard.now c.args.hand.now) held.holds.begun
     (one_alone (λ x. workers x) (opening 0 0 0) v.workers v.held held.holds.one)
-    (one_alone worker_of no_share held.worker v.shares held.holds.share) c.requires.fair
+    (one_alone worker_of no_share held.worker v.shares held.holds.share) c.bound-bound.ensures.board
+    (subst (λ w. IsVisitedBy w (taken_by held) held.exchange) (sym (one_read worker_of no_share held.worker v.shares held.holds.share)) held.visited) c.requires.fair
 
 pub push-requires-clause-learns : goal.push-requires-clause-learns
 push-requires-clause-learns g c =

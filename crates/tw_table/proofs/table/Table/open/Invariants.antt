@@ -12,8 +12,8 @@ abbrev pub ghosts-lay-M-Outcome : goal.ghosts-lay-M-Outcome
 ghosts-lay-M-Outcome g a = record { then = λ v x w. w ≡ opened (shares_of a.shards.now a.hands.now) x }
 
 -- the first workers have their seats
-abbrev pub invariant-loop-worker : goal.invariant-loop-worker
-invariant-loop-worker g l =
-    IsDealt (IsPassOf l.queue) (workers l.fn.exchange) l.fn.exchange.bound l.fn.exchange.stop (shares_of l.fn.shards l.fn.hands) l.worker l.pass l.seats.items
-    × (vec_len l.seats ≡ l.worker)
+abbrev pub invariant-loop-shard : goal.invariant-loop-shard
+invariant-loop-shard g l =
+    IsDealt (IsPassOf l.queue) (workers l.fn.exchange) l.fn.exchange.bound l.fn.exchange.stop l.fn.exchange.halted (shares_of l.fn.shards l.fn.hands) l.shard-index l.pass l.seats.items
+    × (vec_len l.seats ≡ l.shard-index)
     × (workers l.fn.exchange ≤ vec_capacity l.seats)
