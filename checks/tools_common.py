@@ -1,6 +1,7 @@
 """What the tests of the tools share: how a tool or the built program is run, and how it should end."""
 from __future__ import annotations
 
+import shutil
 import subprocess
 import sys
 import unittest
@@ -8,15 +9,13 @@ from dataclasses import dataclass
 from pathlib import Path
 from xml.etree import ElementTree
 
-TOP = Path(__file__).resolve().parent.parent
-INPUTS = TOP / "checks/inputs"
-CASES = TOP / "cases"
-sys.path.insert(0, str(TOP / "tools"))
+from common import CASES, INPUTS, PROGRAM, TOP
 
-from twarp_tools import tutorial  # noqa: E402: it is found by the line above
+HAS_GRAPHVIZ = shutil.which("dot") is not None
+needs_graphviz = unittest.skipUnless(HAS_GRAPHVIZ, "Graphviz is not installed")
 
 # The built program, where the command line of the tests names no other; None where what needs it is left out.
-program: Path | None = tutorial.PROGRAM
+program: Path | None = PROGRAM
 
 
 @dataclass(frozen=True)

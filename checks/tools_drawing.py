@@ -1,40 +1,25 @@
-#!/usr/bin/env python3
-"""Tests the programs in tools/ and the commands of docs/TUTORIAL.md, on the built program.
-
-    checks/tools [--program FILE] [WORD ..]        after `rt ci`, or `./twarp --build`, has built the program
-    checks/tools --no-program [WORD ..]            leaves out what needs the program
-
-WORD picks the tests whose names have it. The last line is 'N passed, M failed'; what needs Graphviz or Chromium is left
-out where that is not installed, and a line says so. The inputs are in checks/inputs.
-"""
+"""Tests of the tools draw and timeline: what stands in their pictures, and what they refuse."""
 from __future__ import annotations
 
-import argparse
-import os
 import re
-import shutil
-import subprocess
-import sys
 import tempfile
-import unittest
-from collections import Counter
 from pathlib import Path
 from xml.etree import ElementTree
 from xml.etree.ElementTree import Element
 
-import tools_cases
-import tools_common
-import tools_import
-import tools_install
-import tools_page
-import tools_sweep
-from tools_common import CASES, INPUTS, TOP, Done, ToolTest, case_of, need_program, read, report_of, run, texts, tool, twarp
-from twarp_tools import tutorial
-
-MODULES = (tools_cases, tools_import, tools_install, tools_page, tools_sweep)
-
-HAS_GRAPHVIZ = shutil.which("dot") is not None
-needs_graphviz = unittest.skipUnless(HAS_GRAPHVIZ, "Graphviz is not installed")
+from tools_common import (
+    CASES,
+    INPUTS,
+    ToolTest,
+    case_of,
+    needs_graphviz,
+    read,
+    report_of,
+    run,
+    texts,
+    tool,
+    twarp,
+)
 
 
 def elements(svg: str, look: str) -> list[Element]:
@@ -43,182 +28,9 @@ def elements(svg: str, look: str) -> list[Element]:
     return [element for element in area.iter() if element.get("class") == look]
 
 
-class EveryTool(ToolTest):
-    NAMES = ("relationships", "import", "draw", "timeline", "page", "sweep", "pictures", "manual")
-
-    def test_help_has_an_example(self) -> None:
-        for name in self.NAMES:
-            with self.subTest(name):
-                out = self.assert_done(run(TOP / "tools" / name, "--help"))
-                self.assertIn(f"tools/{name}", out)
-                self.assertIn("example", out)
-
-    def test_statuses(self) -> None:
-        line, file = {}, TOP / "no such file"
-        needed = {
-            "relationships": ["--destination", "1"],
-            "draw": [],
-            "timeline": [],
-            "page": [],
-            "sweep": ["--delays", "1", "--stop", "1"],
-        }
-        for name, words in needed.items():
-            line[name] = tool(name, "--no-such-option").status, tool(name, *words, file).status
-        self.assertEqual(line, dict.fromkeys(line, (3, 2)))
-
-    def test_a_full_device_stops_the_tool(self) -> None:
-        with open("/dev/full", "wb") as full:
-            done = subprocess.run(
-                [TOP / "tools/draw", CASES / "disagree.spp"], stdout=full, stderr=subprocess.PIPE, check=False
-            )
-        self.assertEqual(done.returncode, 2)
-        self.assertRegex(done.stderr.decode(), r"^draw: stopped device: .*\n$")
-
-
-# The beginning of a case, and cases with what is repeated up to a limit: a star, a mesh and a chain of links.
-CASE = "spp 1\nnodes 3\nlink 0 1 1\nlink 1 2 1\n"
-STAR = "spp 1\nnodes 80\n" + "".join(f"link 0 {node} 1\n" for node in range(1, 65))
-MESH = "spp 1\nnodes 17\n" + "".join(f"link {a} {b} 1\n" for b in range(17) for a in range(b))
-CHAIN = "spp 1\nnodes 33\n" + "".join(f"link {node} {node + 1} 1\n" for node in range(32))
-MESH_PATHS = [f"path 1 1 {a} {b} 0\n" for a in range(2, 17) for b in range(2, 17) if a != b]
-CHAIN_PATH = " ".join(str(node) for node in range(32, -1, -1))
-# Each fault that a case can have, with its line and a text that has it.
-BAD_CASES = [
-    ("X1 Byte", 3, "spp 1\nnodes 3\nlink 0 1 A\nend\n"),
-    ("X2 Header", 1, "spp 2\nnodes 3\nend\n"),
-    ("X3 Word", 5, CASE + "links 0 2 1\nend\n"),
-    ("X3 Word", 5, CASE + "link 0 2\nend\n"),
-    ("X3 Word", 5, CASE + "link 0 2  1\nend\n"),
-    ("X3 Word", 5, CASE + "\nend\n"),
-    ("X4 Number", 5, CASE + "link 0 2 01\nend\n"),
-    ("X5 Order", 2, "spp 1\nlink 0 1 1\nend\n"),
-    ("X5 Order", 5, CASE + "nodes 3\nend\n"),
-    ("X5 Order", 6, CASE + "path 1 1 0\nlink 0 2 1\nend\n"),
-    ("X6 End", 5, CASE),
-    ("X6 End", 5, CASE + "end"),
-    ("X6 End", 6, CASE + "end\nend\n"),
-    ("X6 End", 1, ""),
-    ("I1 Range", 2, "spp 1\nnodes 1025\nend\n"),
-    ("I1 Range", 5, CASE + "link 0 3 1\nend\n"),
-    ("I2 SelfLink", 5, CASE + "link 2 2 1\nend\n"),
-    ("I3 TwiceLink", 5, CASE + "link 2 1 1\nend\n"),
-    ("I4 Delay", 5, CASE + "link 0 2 1000001\nend\n"),
-    ("I5 PathOwner", 5, CASE + "path 2 1 0\nend\n"),
-    ("I6 PathEnd", 5, CASE + "path 2 2 1\nend\n"),
-    ("I7 PathRepeats", 5, CASE + "path 2 2 1 2 1 0\nend\n"),
-    ("I8 PathNoLink", 5, CASE + "path 2 2 0\nend\n"),
-    ("I9 TwicePath", 6, CASE + "path 1 1 0\npath 1 1 0\nend\n"),
-    ("I10 TooMany", 67, STAR + "link 65 0 1\nend\n"),
-    ("I10 TooMany", 339, MESH + "".join(MESH_PATHS)),
-    ("I10 TooMany", 35, CHAIN + f"path 32 {CHAIN_PATH}\nend\n"),
-    ("I10 TooMany", 4101, CASE + "fail 1 0 1\n" * 4097),
-    ("I11 NoSuchLink", 5, CASE + "fail 1 0 2\nend\n"),
-    ("I12 NoSuchPlace", 5, CASE + "swap 1 1 1 1\nend\n"),
-    ("I13 Time", 5, CASE + "restore 1000000001 1 2\nend\n"),
-]
-
-
-class Cases(ToolTest):
-    def test_a_bad_line_is_named_as_twarp_names_it(self) -> None:
-        for fault, line, text in BAD_CASES:
-            with self.subTest(fault, text=text[-40:]):
-                self.assert_refused(tool("draw", stdin=text), f"standard input: refused line {line} {fault}\n")
-                if tools_common.program:
-                    self.assertEqual(twarp("check", stdin=text), f"refused line {line} {fault}\n")
-
-
-BAD_RELATIONSHIPS = [
-    ("10|20\n", 1, "2 fields"),
-    ("10|20|-1|bgp|2026\n", 1, "5 fields"),
-    ("# two\n10 20 -1\n", 2, "1 fields"),
-    ("10|AS20|-1\n", 1, "'AS20' is no AS number"),
-    ("0|20|-1\n", 1, "'0' is no AS number"),
-    ("10|4294967296|-1\n", 1, "'4294967296' is no AS number"),
-    ("10|20|1\n", 1, "the relationship '1' is neither -1 nor 0"),
-    ("10|10|0\n", 1, "AS 10 is its own neighbour"),
-    ("10|20|-1\n\n20|10|0\n", 3, "AS 20 and AS 10 stand together on line 1 already"),
-]
-
-
-class Relationships(ToolTest):
-    def make(self, *words: object, stdin: str = "") -> Done:
-        """The tool's answer, whose case twarp has to accept, where it is there."""
-        done = tool("relationships", *words, stdin=stdin)
-        self.assertEqual(done.status, 0, done.err)
-        if tools_common.program:
-            self.assertRegex(twarp("check", stdin=done.out), r"^accepted nodes")
-        return done
-
-    def test_the_case_and_the_numbers(self) -> None:
-        with tempfile.TemporaryDirectory() as folder:
-            numbers = Path(folder) / "numbers"
-            done = self.make("--destination", 40, "--delays", 3, "--map", numbers, INPUTS / "diamond.txt")
-            self.assertEqual(done.out, read("diamond.spp"))
-            self.assertEqual(numbers.read_text(), read("diamond.map"))
-        self.assertIn("no valley and at most 32 nodes: 1\n", done.err)
-
-    def test_what_is_cut_is_told(self) -> None:
-        done = self.make("--destination", 40, "--delays", 3, "--routers", 4, "--paths", 2, stdin=read("diamond.txt"))
-        self.assertEqual(done.out, read("diamond-cut.spp"))
-        self.assertIn("ASes left out, 4 nearer to AS 40 being taken: 4\n", done.err)
-        self.assertIn("paths left out because each has at most 2: 2\n", done.err)
-
-    def test_a_router_has_at_most_64_links(self) -> None:
-        star = "".join(f"1|{number}|-1\n" for number in range(2, 101))
-        done = self.make("--destination", 1, stdin=star)
-        self.assertEqual(done.out.count("link "), 64)
-        self.assertIn("with less than 64 links could be linked to: 35\n", done.err)
-        mesh = "".join(f"{a}|{b}|0\n" for a in range(1, 71) for b in range(a + 1, 71))
-        done = self.make("--destination", 1, stdin=mesh)
-        ends = Counter(end for line in re.findall("link .*", done.out) for end in line.split()[1:3])
-        self.assertEqual(max(ends.values()), 64)
-
-    def test_a_path_has_at_most_32_nodes(self) -> None:
-        chain = "".join(f"{number}|{number + 1}|-1\n" for number in range(1, 40))
-        done = self.make("--destination", 40, stdin=chain)
-        self.assertEqual(done.out.count("path "), 31)
-        self.assertIn("no valley and at most 32 nodes: 8\n", done.err)
-
-    def test_a_router_has_at_most_200_paths(self) -> None:
-        two_ways = "".join(
-            f"{low + 10}|{low + side}|-1\n{low + side}|{low}|-1\n" for low in range(10, 100, 10) for side in (1, 2)
-        )
-        done = self.make("--destination", 10, "--paths", 200, stdin=two_ways)
-        paths = Counter(line.split()[1] for line in re.findall("path .*", done.out))
-        self.assertEqual(max(paths.values()), 200)
-        self.assertIn("because each has at most 200", done.err)
-        self.assertEqual(tool("relationships", "--destination", 10, "--paths", 201, stdin=two_ways).status, 3)
-
-    def test_the_seed_decides_delays_and_failures(self) -> None:
-        words = ["--destination", 40, "--delays", "5-9", "--failures", 4, "--until", 50, INPUTS / "diamond.txt"]
-        one, again, other = (self.make("--seed", seed, *words).out for seed in (1, 1, 2))
-        self.assertEqual(one, again)
-        self.assertNotEqual(one, other)
-        delays = {int(line.split()[3]) for line in re.findall("link .*", one)}
-        self.assertLessEqual(delays, set(range(5, 10)))
-        self.assertGreater(len(delays), 1)
-        failed, repaired = (
-            {(a, b): int(time) for time, a, b in re.findall(rf"^{word} (\d+) (\d+) (\d+)$", one, re.M)}
-            for word in ("fail", "restore")
-        )
-        self.assertEqual((len(failed), failed.keys()), (4, repaired.keys()))
-        self.assertTrue(all(1 <= failed[link] < repaired[link] <= 50 for link in failed))
-
-    def test_a_bad_line_is_named(self) -> None:
-        for text, line, why in BAD_RELATIONSHIPS:
-            with self.subTest(text):
-                done = tool("relationships", "--destination", 10, stdin=text)
-                self.assert_refused(done, f"standard input: refused line {line}: ")
-                self.assertIn(why, done.err)
-
-    def test_options_that_the_input_does_not_meet(self) -> None:
-        self.assert_refused(tool("relationships", "--destination", 41, INPUTS / "diamond.txt"), "no AS 41")
-        done = tool("relationships", "--destination", 40, "--failures", 10, INPUTS / "diamond.txt")
-        self.assert_refused(done, "use 9 links")
-
-    def test_providers_in_a_circle_are_told(self) -> None:
-        done = self.make("--destination", 4, stdin="1|2|-1\n2|3|-1\n3|1|-1\n1|4|-1\n")
-        self.assertIn("each of these is a provider of the next", done.err)
+def total(report: str, counter: str) -> int:
+    """The sum of a counter over the routers of a report."""
+    return sum(map(int, re.findall(rf"^router .* {counter} (\d+)", report, re.M)))
 
 
 class Draw(ToolTest):
@@ -289,11 +101,6 @@ class Draw(ToolTest):
                     out = self.assert_done(tool("draw", *words, stdin=report if "-" in words else ""))
                     svg = self.assert_done(run("dot", "-Tsvg", stdin=out))
                     self.assertIn(name.stem, texts(svg))
-
-
-def total(report: str, counter: str) -> int:
-    """The sum of a counter over the routers of a report."""
-    return sum(map(int, re.findall(rf"^router .* {counter} (\d+)", report, re.M)))
 
 
 class Timeline(ToolTest):
@@ -463,65 +270,3 @@ class ReplayTimeline(ToolTest):
                         "timeline", steps.name, stdin=report.replace(old, new, 1) if source is report else report
                     )
                     self.assert_refused(done, why)
-
-
-class Tutorial(ToolTest):
-    def test_its_commands_and_pictures(self) -> None:
-        page = tutorial.PAGE.read_text()
-        with tempfile.TemporaryDirectory() as name:
-            folder = Path(name)
-            for command, output in tutorial.follow(page, folder, need_program()):
-                if HAS_GRAPHVIZ or "| dot " not in command.text:
-                    with self.subTest(command.text, line=command.line):
-                        self.assertEqual(output, command.output)
-            for picture in tutorial.pictures_of(page):
-                with self.subTest(picture):
-                    self.compare(folder / tutorial.WRITTEN / picture, tutorial.PICTURES / picture)
-
-    def compare(self, made: Path, kept: Path) -> None:
-        """Compares a picture with the one in docs: its bytes, or the words in it where dot made it, of any version."""
-        if kept.suffix == ".svg":
-            ElementTree.parse(kept)
-        if "Generated by graphviz" not in kept.read_text():
-            self.assertEqual(made.read_text(), kept.read_text())
-        elif HAS_GRAPHVIZ:
-            words = [
-                sorted(element.text for element in ElementTree.parse(file).iter() if (element.text or "").strip())
-                for file in (made, kept)
-            ]
-            self.assertEqual(*words)
-
-    def test_no_picture_is_left_over(self) -> None:
-        kept = {file.name for file in tutorial.PICTURES.iterdir()}
-        self.assertEqual(kept, set(tutorial.pictures_of(tutorial.PAGE.read_text())))
-
-
-def all_tests(words: list[str]) -> unittest.TestSuite:
-    modules = (sys.modules["__main__"], *MODULES)
-    loaded = [group for module in modules for group in unittest.defaultTestLoader.loadTestsFromModule(module)]
-    tests = [test for group in loaded for test in group]
-    return unittest.TestSuite(test for test in tests if not words or any(word in test.id() for word in words))
-
-
-def main() -> None:
-    parser = argparse.ArgumentParser(description=__doc__, formatter_class=argparse.RawDescriptionHelpFormatter)
-    parser.add_argument("words", metavar="WORD", nargs="*")
-    parser.add_argument("--program", type=Path, default=tools_common.program)
-    parser.add_argument("--no-program", dest="program", action="store_const", const=None)
-    line = parser.parse_args()
-    tools_common.program = line.program and line.program.absolute()
-    if line.program and not line.program.exists():
-        sys.exit(f"{line.program} is not there: rt ci builds it")
-    tests = all_tests(line.words)
-    result = unittest.TextTestRunner(stream=sys.stdout, verbosity=0).run(tests)
-    bad = {test.id().split(" ")[0] for test, _ in result.failures + result.errors}
-    skipped = {test.id().split(" ")[0]: why for test, why in result.skipped}
-    for name, why in skipped.items():
-        print(f"left out: {name}: {why}")
-    passed = result.testsRun - len({*bad, *skipped})
-    print(f"{passed} passed, {len(bad)} failed")
-    sys.exit(bool(bad or not passed))
-
-
-if __name__ == "__main__":
-    main()
