@@ -8,10 +8,10 @@ workers that wait for one another without end are found by that. A proof can say
 """
 from __future__ import annotations
 
-import random
 import tempfile
 from collections.abc import Callable, Sequence
 from pathlib import Path
+from random import Random
 from typing import NamedTuple
 
 from common import (
@@ -26,8 +26,9 @@ from common import (
     run_program,
 )
 
-# It is found by way of common.
-from bench import gadgets, hierarchy, mesh
+# Where they are is known from common.
+from at_scale import gadgets, hierarchy, mesh
+from twarp_tools.case import Case
 
 WORKERS = (1, 2, 3, 4, 8, 16)
 BATCHES = (1, 64, 4096)
@@ -40,7 +41,7 @@ LARGE_RUNS = 100
 class Made(NamedTuple):
     """How a case of the benchmark is made, and a stop that leads to about 10^5 events."""
 
-    make: Callable[[random.Random], str]
+    make: Callable[[Random], Case]
     stop: int
 
 
@@ -71,7 +72,7 @@ class Answer(NamedTuple):
 
 
 class Runs(NamedTuple):
-    """Runs with these words, by each of these numbers of workers and with each of these batches."""
+    """Runs with these words, by each number of workers here and with each batch."""
 
     words: Sequence[str]
     workers: Sequence[int]
@@ -99,7 +100,7 @@ def compare_made(tally: Tally, folder: Path) -> None:
     """The cases of the benchmark."""
     for name, (make, stop) in MADE.items():
         case = folder / f"{name}.spp"
-        case.write_text(make(random.Random(1)))
+        case.write_text(str(make(Random(1))))
         early = ["--stop", str(stop // 4)]
         every = str(max(1, stop // 40))
         compare(tally, case, Runs(["--stop", str(stop)], WORKERS, (64,)))

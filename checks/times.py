@@ -4,9 +4,9 @@
     python3 checks/times.py
 
 It looks once a second at the provers that the process which started it has begun. When it is told
-to stop (SIGTERM), it prints a line for each crate: minutes of processor time for proofs, for proofs
-of tests, and for wrong bodies. A prover's last second is not seen. What rt kept from an earlier run
-on this machine takes no time. No verdict rests on it.
+to stop (SIGTERM), it prints a line for each crate: minutes of processor time for proofs, for
+proofs of tests, and for wrong bodies. A prover's last second is not seen. What rt kept from an
+earlier run on this machine takes no time. No verdict rests on it.
 """
 from __future__ import annotations
 
