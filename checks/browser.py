@@ -15,7 +15,9 @@ from typing import Any
 
 NAMES = ("chromium", "chromium-browser", "google-chrome")
 PROGRAM = next(filter(None, map(shutil.which, NAMES)), None)
-OPTIONS = ("--headless=new", "--no-sandbox", "--disable-gpu", "--no-first-run", "--hide-scrollbars")
+OPTIONS = (
+    "--headless=new", "--no-sandbox", "--disable-gpu", "--no-first-run", "--hide-scrollbars"
+)
 
 # Seconds without a word after which the browser is given up.
 LIMIT = 60
@@ -32,7 +34,10 @@ class Browser:
         self.folder = tempfile.TemporaryDirectory(ignore_cleanup_errors=True)
         heard, self.told = os.pipe()
         self.heard, told = os.pipe()
-        words = [PROGRAM, *OPTIONS, f"--user-data-dir={self.folder.name}", "--remote-debugging-pipe", "about:blank"]
+        words = [
+            PROGRAM, *OPTIONS, f"--user-data-dir={self.folder.name}",
+            "--remote-debugging-pipe", "about:blank",
+        ]
         # The browser reads descriptor 3 and writes to descriptor 4.
         self.process = subprocess.Popen(
             ["sh", "-c", f'exec "$@" 3<&{heard} 4>&{told}', "sh", *words],
@@ -52,7 +57,12 @@ class Browser:
             self.ask(f"{domain}.enable")
         return self
 
-    def __exit__(self, kind: type[BaseException] | None, value: BaseException | None, at: TracebackType | None) -> None:
+    def __exit__(
+        self,
+        kind: type[BaseException] | None,
+        value: BaseException | None,
+        at: TracebackType | None,
+    ) -> None:
         os.close(self.told)
         os.close(self.heard)
         os.killpg(self.process.pid, signal.SIGKILL)
@@ -89,9 +99,16 @@ class Browser:
     def open(self, page: Path, width: int, *, is_dark: bool = False, height: int = 900) -> None:
         """Opens a page from the disk in a window of this size, and waits until it is loaded."""
         scheme = "dark" if is_dark else "light"
-        self.ask("Emulation.setEmulatedMedia", features=[{"name": "prefers-color-scheme", "value": scheme}])
         self.ask(
-            "Emulation.setDeviceMetricsOverride", width=width, height=height, deviceScaleFactor=1, mobile=width < 600
+            "Emulation.setEmulatedMedia",
+            features=[{"name": "prefers-color-scheme", "value": scheme}],
+        )
+        self.ask(
+            "Emulation.setDeviceMetricsOverride",
+            width=width,
+            height=height,
+            deviceScaleFactor=1,
+            mobile=width < 600,
         )
         self.events = []
         self.ask("Page.navigate", url=page.resolve().as_uri())
@@ -100,7 +117,9 @@ class Browser:
 
     def run(self, script: str) -> Any:
         """The value of an expression in the page."""
-        answer = self.ask("Runtime.evaluate", expression=script, returnByValue=True, awaitPromise=True)
+        answer = self.ask(
+            "Runtime.evaluate", expression=script, returnByValue=True, awaitPromise=True
+        )
         if "exceptionDetails" in answer:
             raise RuntimeError(answer["exceptionDetails"]["exception"]["description"])
         return answer["result"].get("value")
@@ -108,17 +127,33 @@ class Browser:
     def press(self, key: str) -> None:
         """Presses a key and lets it go."""
         for kind in "rawKeyDown", "keyUp":
-            self.ask("Input.dispatchKeyEvent", type=kind, key=key, code=key, windowsVirtualKeyCode=KEYS[key])
+            self.ask(
+                "Input.dispatchKeyEvent",
+                type=kind,
+                key=key,
+                code=key,
+                windowsVirtualKeyCode=KEYS[key],
+            )
 
     def faults(self) -> list[str]:
         """What went wrong in the page since it was opened: errors of its script, and what the console says of them."""
-        thrown = [event["params"] for event in self.events if event.get("method") == "Runtime.exceptionThrown"]
-        logged = [event["params"]["entry"] for event in self.events if event.get("method") == "Log.entryAdded"]
+        thrown = [
+            event["params"]
+            for event in self.events
+            if event.get("method") == "Runtime.exceptionThrown"
+        ]
+        logged = [
+            event["params"]["entry"]
+            for event in self.events
+            if event.get("method") == "Log.entryAdded"
+        ]
         return [said["exceptionDetails"]["text"] for said in thrown] + [entry["text"] for entry in logged]
 
     def requests(self) -> list[str]:
         """The addresses that the page asked for since it was opened."""
-        asked = (event for event in self.events if event.get("method") == "Network.requestWillBeSent")
+        asked = (
+            event for event in self.events if event.get("method") == "Network.requestWillBeSent"
+        )
         return [event["params"]["request"]["url"] for event in asked]
 
     def picture(self, file: Path) -> None:

@@ -15,8 +15,8 @@ from twarp_tools.lines import Nodes, read_path
 
 Assignment = tuple[Nodes, ...]
 
-# The stable assignments of each case, by what the source says or as its few routers let one see by hand; of a case with
-# a scenario those before it.
+# The stable assignments of each case, by what the source says or as its few routers let one see by
+# hand; of a case with a scenario those before it.
 STABLE: dict[str, set[Assignment]] = {
     "shortest-1": {((0,), (1, 0), (2, 0), (3, 0), (4, 2, 0))},
     "shortest-2": {((0,), (1, 0), (2, 0), (3, 0), (4, 3, 0))},
@@ -89,7 +89,8 @@ class CasesOfTheLiterature(ToolTest):
                 self.assertEqual(set(stable_assignments(text_of(name))), known)
 
     def test_shortest_paths_settle(self) -> None:
-        # Times 1 and 2: the origin's neighbours have their paths at 1, and router 4 hears of them at 2.
+        # Times 1 and 2: the origin's neighbours have their paths at 1, and router 4 hears of them
+        # at 2.
         for name in "shortest-1", "shortest-2":
             paths, verdict = self.seq(text_of(name), 100)
             self.assertEqual(({paths}, verdict), (STABLE[name], "verdict quiet 2"))
@@ -114,23 +115,28 @@ class CasesOfTheLiterature(ToolTest):
         for stop, paths in (20, meant), (40, failed), (60, wedged), (100, meant):
             with self.subTest(stop=stop):
                 self.assertEqual(self.seq(text, stop)[0], paths)
-        # At 60 router 1 loses its link, at 61 router 2 goes by way of 3, at 62 router 1 by way of both.
+        # At 60 router 1 loses its link, at 61 router 2 goes by way of 3, at 62 router 1 by way of
+        # both.
         self.assertEqual(self.seq(text, 100)[1], "verdict quiet 62")
         self.assert_quiet(re.sub("(fail 60|restore 80) 0 1\n", "", text), wedged)
 
     def test_one_violation_oscillates_until_it_is_mended(self) -> None:
         text = text_of("one-violation")
-        # All change to the path of two links at even times, and back at odd ones; 3 is the first time at which they
-        # have heard both kinds of paths.
+        # All change to the path of two links at even times, and back at odd ones; 3 is the first
+        # time at which they have heard both kinds of paths.
         self.assertEqual(self.seq(text, 100)[1], "verdict oscillates from 3 period 2")
         mended = with_lines(text, "swap 20 3 1 2")
-        # At 20 routers 1 and 2 change and router 3 no more; at 21 router 1 hears that router 2 goes by way of 3.
-        self.assertEqual(self.seq(mended, 100), (((0,), (1, 0), (2, 3, 0), (3, 0)), "verdict quiet 21"))
+        # At 20 routers 1 and 2 change and router 3 no more; at 21 router 1 hears that router 2
+        # goes by way of 3.
+        self.assertEqual(
+            self.seq(mended, 100), (((0,), (1, 0), (2, 3, 0), (3, 0)), "verdict quiet 21")
+        )
 
     def test_a_long_period_is_found_at_distant_checkpoints(self) -> None:
         text = text_of("slow-flap")
-        # Both change their paths at 1, 51, 101, ..: from 52 on, with what was sent to the origin at 51 still under way,
-        # all is every 100 ticks as it was. The first checkpoint from which this shows is 52, 60, 60 and 100.
+        # Both change their paths at 1, 51, 101, ..: from 52 on, with what was sent to the origin
+        # at 51 still under way, all is every 100 ticks as it was. The first checkpoint from which
+        # this shows is 52, 60, 60 and 100.
         verdicts = {every: self.seq(text, 1000, every)[1] for every in (1, 2, 10, 30, 100)}
         expected = {1: "open", 2: (52, 100), 10: (60, 100), 30: (60, 300), 100: (100, 100)}
         for every, known in expected.items():

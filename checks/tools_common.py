@@ -14,7 +14,8 @@ from common import CASES, INPUTS, PROGRAM, TOP
 HAS_GRAPHVIZ = shutil.which("dot") is not None
 needs_graphviz = unittest.skipUnless(HAS_GRAPHVIZ, "Graphviz is not installed")
 
-# The built program, where the command line of the tests names no other; None where what needs it is left out.
+# The built program, where the command line of the tests names no other; None where what needs it
+# is left out.
 program: Path | None = PROGRAM
 
 
@@ -29,7 +30,9 @@ class Done:
 
 def run(*words: object, stdin: str | bytes = "") -> Done:
     given = stdin.encode() if isinstance(stdin, str) else stdin
-    done = subprocess.run([str(word) for word in words], input=given, capture_output=True, check=False)
+    done = subprocess.run(
+        [str(word) for word in words], input=given, capture_output=True, check=False
+    )
     return Done(done.returncode, done.stdout.decode(), done.stderr.decode())
 
 
@@ -62,7 +65,9 @@ def case_of(name: str) -> str:
 
 def texts(svg: str) -> str:
     """All words of a picture, tooltips among them, a line each."""
-    return "\n".join(element.text for element in ElementTree.fromstring(svg).iter() if element.text)
+    return "\n".join(
+        element.text for element in ElementTree.fromstring(svg).iter() if element.text
+    )
 
 
 class ToolTest(unittest.TestCase):

@@ -24,7 +24,9 @@ from tools_common import (
 
 def elements(svg: str, look: str) -> list[Element]:
     """The elements of the class within the picture itself; those of its legend stand outside its clipped group."""
-    area = next(element for element in ElementTree.fromstring(svg).iter() if element.get("clip-path"))
+    area = next(
+        element for element in ElementTree.fromstring(svg).iter() if element.get("clip-path")
+    )
     return [element for element in area.iter() if element.get("class") == look]
 
 
@@ -36,17 +38,23 @@ def total(report: str, counter: str) -> int:
 class Draw(ToolTest):
     def test_a_case(self) -> None:
         out = self.assert_done(tool("draw", CASES / "disagree.spp"))
-        self.assertEqual(out, self.assert_done(tool("draw", "--title", "disagree", stdin=case_of("disagree"))))
+        self.assertEqual(
+            out, self.assert_done(tool("draw", "--title", "disagree", stdin=case_of("disagree")))
+        )
         self.assertIn('  1 -> 0 [label=" 1 ", style=solid]\n', out)
         self.assertIn('  2 -> 0 [label=" 5 ", style=solid]\n', out)
         self.assertIn('  1 -> 2 [xlabel="1", style=solid, constraint=false]\n', out)
         self.assertLess(out.index("(2 1 0)"), out.index("(2 0)"))
 
     def test_the_paths_of_a_report(self) -> None:
-        out = self.assert_done(tool("draw", CASES / "disagree.spp", INPUTS / "disagree-report.txt"))
+        out = self.assert_done(
+            tool("draw", CASES / "disagree.spp", INPUTS / "disagree-report.txt")
+        )
         self.assertIn("<B>disagree: verdict quiet 2</B>", out)
         self.assertIn('  1 -> 0 [label=" 1 ", dir=forward, color="#e69f00", penwidth=2]\n', out)
-        self.assertIn('  1 -> 2 [xlabel="1", dir=back, color="#0072b2", penwidth=2, constraint=false]\n', out)
+        self.assertIn(
+            '  1 -> 2 [xlabel="1", dir=back, color="#0072b2", penwidth=2, constraint=false]\n', out
+        )
         self.assertIn('  2 -> 0 [label=" 5 ", style=solid]\n', out)
 
     def test_a_link_that_is_down(self) -> None:
@@ -67,16 +75,24 @@ class Draw(ToolTest):
     def test_the_paths_of_one_router(self) -> None:
         out = self.assert_done(tool("draw", "--paths-of", 3, CASES / "bad-gadget.spp"))
         used = re.findall(r'(\d) -> (\d) .*dir=(\w+), color="([^"]+)"', out)
-        hops = {((tail, head) if way == "forward" else (head, tail), colour) for tail, head, way, colour in used}
+        hops = {
+            ((tail, head) if way == "forward" else (head, tail), colour)
+            for tail, head, way, colour in used
+        }
         best, second = "#0072b2", "#e69f00"
-        self.assertEqual(hops, {(("3", "4"), best), (("4", "2"), best), (("2", "0"), best), (("3", "0"), second)})
+        self.assertEqual(
+            hops,
+            {(("3", "4"), best), (("4", "2"), best), (("2", "0"), best), (("3", "0"), second)},
+        )
         self.assertNotIn("(4 2 0)", out)
 
     def test_names_and_long_lists(self) -> None:
         with tempfile.TemporaryDirectory() as folder:
             names = Path(folder) / "names"
             names.write_text("0 65001\n1 a <b> & c\n")
-            out = self.assert_done(tool("draw", "--names", names, "--list", 1, CASES / "disagree.spp"))
+            out = self.assert_done(
+                tool("draw", "--names", names, "--list", 1, CASES / "disagree.spp")
+            )
             self.assertIn("<B>0 AS65001</B>", out)
             self.assertIn("<B>1 a &lt;b&gt; &amp; c</B>", out)
             self.assertEqual(out.count("and 1 more"), 2)
@@ -84,13 +100,17 @@ class Draw(ToolTest):
             done = tool("draw", "--names", names, CASES / "disagree.spp")
             self.assert_refused(done, "refused line 2: router 0 has a name already")
             names.write_text("zero\n")
-            self.assert_refused(tool("draw", "--names", names, CASES / "disagree.spp"), "refused line 1: ")
+            self.assert_refused(
+                tool("draw", "--names", names, CASES / "disagree.spp"), "refused line 1: "
+            )
 
     def test_what_is_not_of_the_case(self) -> None:
         self.assert_refused(tool("draw", "--paths-of", 3, CASES / "disagree.spp"), "no router 3")
         report = read("disagree-report.txt").replace("rib (1 0)", "rib (1 9 0)")
         done = tool("draw", CASES / "disagree.spp", "-", stdin=report)
-        self.assert_refused(done, "standard input: refused line 12: (1 9 0) is no path of this router")
+        self.assert_refused(
+            done, "standard input: refused line 12: (1 9 0) is no path of this router"
+        )
 
     @needs_graphviz
     def test_graphviz_reads_it(self) -> None:
@@ -98,7 +118,9 @@ class Draw(ToolTest):
             report = twarp("seq", "--stop", 20, stdin=name.read_text())
             for words in [name], [name, "-"], ["--paths-of", 1, name]:
                 with self.subTest(words):
-                    out = self.assert_done(tool("draw", *words, stdin=report if "-" in words else ""))
+                    out = self.assert_done(
+                        tool("draw", *words, stdin=report if "-" in words else "")
+                    )
                     svg = self.assert_done(run("dot", "-Tsvg", stdin=out))
                     self.assertIn(name.stem, texts(svg))
 
@@ -110,7 +132,12 @@ class Timeline(ToolTest):
     def test_messages_bars_and_verdict(self) -> None:
         svg = self.draw("disagree", read("disagree-report.txt"))
         self.assertEqual(
-            (len(elements(svg, "message")), len(elements(svg, "bar")), len(elements(svg, "start"))), (6, 3, 1)
+            (
+                len(elements(svg, "message")),
+                len(elements(svg, "bar")),
+                len(elements(svg, "start")),
+            ),
+            (6, 3, 1),
         )
         words = texts(svg)
         self.assertIn("disagree: verdict quiet 2\n", words)
@@ -147,23 +174,32 @@ class Timeline(ToolTest):
                     for element in elements(svg, look)
                 ]
                 self.assertEqual(len(arrived), report.count(" update "))
-                self.assertEqual(len(arrived) + len(elements(svg, "message underway")), total(report, "sent"))
+                self.assertEqual(
+                    len(arrived) + len(elements(svg, "message underway")), total(report, "sent")
+                )
 
     def test_a_part_of_a_run(self) -> None:
-        svg = self.draw("bad-gadget", report_of("bad-gadget", 40), "--from", 10, "--to", 12, "--routers", "1,3-4")
+        svg = self.draw(
+            "bad-gadget", report_of("bad-gadget", 40), "--from", 10, "--to", 12,
+            "--routers", "1,3-4",
+        )
         self.assertEqual(re.findall(r'class="name"[^>]*>(\d)<', svg), ["1", "3", "4"])
         self.assertEqual(re.findall(r'class="quiet middle"[^>]*>(\d+)<', svg), ["10", "11", "12"])
 
     def test_a_crowd_asks_for_a_part(self) -> None:
         report = report_of("disagree-equal-delays", 2000)
         words = [CASES / "disagree-equal-delays.spp", "-"]
-        self.assert_refused(tool("timeline", *words, stdin=report), "choose some by --from, --to and --routers")
+        self.assert_refused(
+            tool("timeline", *words, stdin=report), "choose some by --from, --to and --routers"
+        )
         svg = self.assert_done(tool("timeline", *words, "--to", 700, stdin=report))
         self.assertGreater(len(elements(svg, "message")), 2700)
         self.assertLess(len(svg), 3_000_000)
 
     def test_silence_is_folded(self) -> None:
-        case = case_of("failure-and-repair").replace("fail 4", "fail 1000000").replace("restore 5", "restore 2000000")
+        case = case_of("failure-and-repair").replace("fail 4", "fail 1000000").replace(
+            "restore 5", "restore 2000000"
+        )
         with tempfile.NamedTemporaryFile("w", suffix=".spp") as file:
             file.write(case)
             file.flush()
@@ -198,11 +234,18 @@ class Timeline(ToolTest):
     def test_what_is_not_of_the_case(self) -> None:
         report = read("disagree-report.txt")
         short = re.sub(r"event .*\n", "", report)
-        self.assert_refused(tool("timeline", CASES / "disagree.spp", stdin=short), "refused line 4: no event")
-        self.assert_refused(tool("timeline", CASES / "disagree-equal-delays.spp", stdin=report), "refused line 6: ")
-        self.assert_refused(tool("timeline", CASES / "disagree.spp", "--routers", 3, stdin=report), "no router 3")
         self.assert_refused(
-            tool("timeline", CASES / "disagree.spp", "--from", 9, "--to", 8, stdin=report), "nothing is from"
+            tool("timeline", CASES / "disagree.spp", stdin=short), "refused line 4: no event"
+        )
+        self.assert_refused(
+            tool("timeline", CASES / "disagree-equal-delays.spp", stdin=report), "refused line 6: "
+        )
+        self.assert_refused(
+            tool("timeline", CASES / "disagree.spp", "--routers", 3, stdin=report), "no router 3"
+        )
+        self.assert_refused(
+            tool("timeline", CASES / "disagree.spp", "--from", 9, "--to", 8, stdin=report),
+            "nothing is from",
         )
 
     def test_exchanged_ranks_and_names(self) -> None:
@@ -216,14 +259,18 @@ class Timeline(ToolTest):
 
 class ReplayTimeline(ToolTest):
     def draw(self, name: str) -> str:
-        return self.assert_done(tool("timeline", INPUTS / f"{name}.txt", INPUTS / f"{name}-report.txt"))
+        return self.assert_done(
+            tool("timeline", INPUTS / f"{name}.txt", INPUTS / f"{name}-report.txt")
+        )
 
     def test_what_was_undone(self) -> None:
         svg = self.draw("rollback")
         words = texts(svg)
         self.assertIn("rollback: replay of 17 steps, 2 undone\n", words)
         self.assertIn("\nbound 6; undone: step 3 by step 6, step 14 by step 17\n", words)
-        self.assertIn("\nstep 3 handles event 5 2 update 0 1 0 (0): handled, then undone by step 6\n", words)
+        self.assertIn(
+            "\nstep 3 handles event 5 2 update 0 1 0 (0): handled, then undone by step 6\n", words
+        )
         self.assertEqual((len(elements(svg, "undone")), len(elements(svg, "undo"))), (2, 2))
         self.assertEqual(len(elements(svg, "bar")), 6)
         # Steps 6 and 17 take back two messages each; one of the four antimessages arrives.
@@ -267,6 +314,8 @@ class ReplayTimeline(ToolTest):
                     steps.write(text.replace(old, new, 1) if source is text else text)
                     steps.flush()
                     done = tool(
-                        "timeline", steps.name, stdin=report.replace(old, new, 1) if source is report else report
+                        "timeline",
+                        steps.name,
+                        stdin=report.replace(old, new, 1) if source is report else report,
                     )
                     self.assert_refused(done, why)

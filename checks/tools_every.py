@@ -33,13 +33,17 @@ class EveryTool(ToolTest):
     def test_a_full_device_stops_the_tool(self) -> None:
         with open("/dev/full", "wb") as full:
             done = subprocess.run(
-                [TOP / "tools/draw", CASES / "disagree.spp"], stdout=full, stderr=subprocess.PIPE, check=False
+                [TOP / "tools/draw", CASES / "disagree.spp"],
+                stdout=full,
+                stderr=subprocess.PIPE,
+                check=False,
             )
         self.assertEqual(done.returncode, 2)
         self.assertRegex(done.stderr.decode(), r"^draw: stopped device: .*\n$")
 
 
-# The beginning of a case, and cases with what is repeated up to a limit: a star, a mesh and a chain of links.
+# The beginning of a case, and cases with what is repeated up to a limit: a star, a mesh and a
+# chain of links.
 CASE = "spp 1\nnodes 3\nlink 0 1 1\nlink 1 2 1\n"
 STAR = "spp 1\nnodes 80\n" + "".join(f"link 0 {node} 1\n" for node in range(1, 65))
 MESH = "spp 1\nnodes 17\n" + "".join(f"link {a} {b} 1\n" for b in range(17) for a in range(b))
@@ -86,6 +90,8 @@ class Cases(ToolTest):
     def test_a_bad_line_is_named_as_twarp_names_it(self) -> None:
         for fault, line, text in BAD_CASES:
             with self.subTest(fault, text=text[-40:]):
-                self.assert_refused(tool("draw", stdin=text), f"standard input: refused line {line} {fault}\n")
+                self.assert_refused(
+                    tool("draw", stdin=text), f"standard input: refused line {line} {fault}\n"
+                )
                 if tools_common.program:
                     self.assertEqual(twarp("check", stdin=text), f"refused line {line} {fault}\n")

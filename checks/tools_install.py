@@ -42,7 +42,10 @@ def install(*words: object) -> Done:
 
 def files_of(folder: Path) -> dict[Path, bytes]:
     """The files and folders below a folder, with what the files hold."""
-    return {found: found.read_bytes() if found.is_file() else b"" for found in sorted(folder.rglob("*"))}
+    return {
+        found: found.read_bytes() if found.is_file() else b""
+        for found in sorted(folder.rglob("*"))
+    }
 
 
 class Installed(ToolTest):
@@ -64,13 +67,17 @@ class Installed(ToolTest):
                 self.assertTrue((self.prefix / name).is_file())
         bin_ = self.prefix / "bin"
         case = CASES / "disagree.spp"
-        report = self.assert_done(run(bin_ / "twarp", "seq", "--stop", 20, "--log", stdin=case.read_text()))
+        report = self.assert_done(
+            run(bin_ / "twarp", "seq", "--stop", 20, "--log", stdin=case.read_text())
+        )
         svg = self.assert_done(run(bin_ / "twarp-timeline", case, stdin=report))
         self.assertIn("disagree: verdict quiet 2", svg)
         page = self.assert_done(run(bin_ / "twarp-page", case, stdin=report))
         self.assertIn("</html>", page)
         for name in TOOLS:
-            self.assertIn(f"usage: twarp-{name} ", self.assert_done(run(bin_ / f"twarp-{name}", "--help")))
+            self.assertIn(
+                f"usage: twarp-{name} ", self.assert_done(run(bin_ / f"twarp-{name}", "--help"))
+            )
 
     def test_uninstalled_all_is_as_it_was(self) -> None:
         (self.prefix / "bin").mkdir(parents=True)
@@ -87,7 +94,9 @@ class Installed(ToolTest):
         self.install()
         self.assert_done(install("--prefix", self.prefix, "--uninstall"))
         self.assertEqual(files_of(self.folder), {})
-        self.assert_refused(install("--prefix", self.prefix, "--uninstall"), "no twarp is installed in")
+        self.assert_refused(
+            install("--prefix", self.prefix, "--uninstall"), "no twarp is installed in"
+        )
 
     def test_what_was_broken_off_can_be_taken_away(self) -> None:
         # A program that is none of twarp has no help of which a man page could be made.
@@ -175,5 +184,7 @@ class Completions(ToolTest):
         for shell in SHELLS:
             if shutil.which(shell):
                 with self.subTest(shell):
-                    done = subprocess.run([shell, "-n"], input=manual(shell).out.encode(), capture_output=True)
+                    done = subprocess.run(
+                        [shell, "-n"], input=manual(shell).out.encode(), capture_output=True
+                    )
                     self.assertEqual((done.returncode, done.stderr), (0, b""))

@@ -34,13 +34,18 @@ class Relationships(ToolTest):
     def test_the_case_and_the_numbers(self) -> None:
         with tempfile.TemporaryDirectory() as folder:
             numbers = Path(folder) / "numbers"
-            done = self.make("--destination", 40, "--delays", 3, "--map", numbers, INPUTS / "diamond.txt")
+            done = self.make(
+                "--destination", 40, "--delays", 3, "--map", numbers, INPUTS / "diamond.txt"
+            )
             self.assertEqual(done.out, read("diamond.spp"))
             self.assertEqual(numbers.read_text(), read("diamond.map"))
         self.assertIn("no valley and at most 32 nodes: 1\n", done.err)
 
     def test_what_is_cut_is_told(self) -> None:
-        done = self.make("--destination", 40, "--delays", 3, "--routers", 4, "--paths", 2, stdin=read("diamond.txt"))
+        done = self.make(
+            "--destination", 40, "--delays", 3, "--routers", 4, "--paths", 2,
+            stdin=read("diamond.txt"),
+        )
         self.assertEqual(done.out, read("diamond-cut.spp"))
         self.assertIn("ASes left out, 4 nearer to AS 40 being taken: 4\n", done.err)
         self.assertIn("paths left out because each has at most 2: 2\n", done.err)
@@ -52,7 +57,9 @@ class Relationships(ToolTest):
         self.assertIn("with less than 64 links could be linked to: 35\n", done.err)
         mesh = "".join(f"{a}|{b}|0\n" for a in range(1, 71) for b in range(a + 1, 71))
         done = self.make("--destination", 1, stdin=mesh)
-        ends = Counter(end for line in re.findall("link .*", done.out) for end in line.split()[1:3])
+        ends = Counter(
+            end for line in re.findall("link .*", done.out) for end in line.split()[1:3]
+        )
         self.assertEqual(max(ends.values()), 64)
 
     def test_a_path_has_at_most_32_nodes(self) -> None:
@@ -63,16 +70,23 @@ class Relationships(ToolTest):
 
     def test_a_router_has_at_most_200_paths(self) -> None:
         two_ways = "".join(
-            f"{low + 10}|{low + side}|-1\n{low + side}|{low}|-1\n" for low in range(10, 100, 10) for side in (1, 2)
+            f"{low + 10}|{low + side}|-1\n{low + side}|{low}|-1\n"
+            for low in range(10, 100, 10)
+            for side in (1, 2)
         )
         done = self.make("--destination", 10, "--paths", 200, stdin=two_ways)
         paths = Counter(line.split()[1] for line in re.findall("path .*", done.out))
         self.assertEqual(max(paths.values()), 200)
         self.assertIn("because each has at most 200", done.err)
-        self.assertEqual(tool("relationships", "--destination", 10, "--paths", 201, stdin=two_ways).status, 3)
+        self.assertEqual(
+            tool("relationships", "--destination", 10, "--paths", 201, stdin=two_ways).status, 3
+        )
 
     def test_the_seed_decides_delays_and_failures(self) -> None:
-        words = ["--destination", 40, "--delays", "5-9", "--failures", 4, "--until", 50, INPUTS / "diamond.txt"]
+        words = [
+            "--destination", 40, "--delays", "5-9", "--failures", 4, "--until", 50,
+            INPUTS / "diamond.txt",
+        ]
         one, again, other = (self.make("--seed", seed, *words).out for seed in (1, 1, 2))
         self.assertEqual(one, again)
         self.assertNotEqual(one, other)
@@ -80,7 +94,10 @@ class Relationships(ToolTest):
         self.assertLessEqual(delays, set(range(5, 10)))
         self.assertGreater(len(delays), 1)
         failed, repaired = (
-            {(a, b): int(time) for time, a, b in re.findall(rf"^{word} (\d+) (\d+) (\d+)$", one, re.M)}
+            {
+                (a, b): int(time)
+                for time, a, b in re.findall(rf"^{word} (\d+) (\d+) (\d+)$", one, re.M)
+            }
             for word in ("fail", "restore")
         )
         self.assertEqual((len(failed), failed.keys()), (4, repaired.keys()))
@@ -94,7 +111,9 @@ class Relationships(ToolTest):
                 self.assertIn(why, done.err)
 
     def test_options_that_the_input_does_not_meet(self) -> None:
-        self.assert_refused(tool("relationships", "--destination", 41, INPUTS / "diamond.txt"), "no AS 41")
+        self.assert_refused(
+            tool("relationships", "--destination", 41, INPUTS / "diamond.txt"), "no AS 41"
+        )
         done = tool("relationships", "--destination", 40, "--failures", 10, INPUTS / "diamond.txt")
         self.assert_refused(done, "use 9 links")
 

@@ -30,7 +30,11 @@ class Tutorial(ToolTest):
             self.assertEqual(made.read_text(), kept.read_text())
         elif HAS_GRAPHVIZ:
             words = [
-                sorted(element.text for element in ElementTree.parse(file).iter() if (element.text or "").strip())
+                sorted(
+                    element.text
+                    for element in ElementTree.parse(file).iter()
+                    if (element.text or "").strip()
+                )
                 for file in (made, kept)
             ]
             self.assertEqual(*words)

@@ -47,7 +47,9 @@ ERROR_OF_PROOF = re.compile(r"(?:\./)?proofs/(\S+)/[^/\s]+\.antt:\d+:\d+: error:
 ERROR_OF_SOURCE = re.compile(r"(?:note: )?(?:\./)?(src/\S+?):(\d+):\d+: (.*)")
 ERROR = re.compile(r"(note: )?\S+:\d+:\d+:")
 # An error of a proof that names what was taken away says nothing of the contract.
-OF_NAMES = re.compile(r"has no field|is not in scope|has no `|was not admitted|was rejected, w(as|ere) not checked")
+OF_NAMES = re.compile(
+    r"has no field|is not in scope|has no `|was not admitted|was rejected, w(as|ere) not checked"
+)
 AT_LIMIT = re.compile(r"antt ran out of|outgrew the memory limit|stopped at the step limit")
 
 Read = Callable[[str], str]
@@ -106,7 +108,9 @@ class WrongBody:
         for file, old, new in self.changes:
             text = changed.get(file) or texts.get(file) or read(file)
             if text.count(old) != 1:
-                raise DoesNotApply(f"an 'old:' text is in {file} {text.count(old)} times, and not once")
+                raise DoesNotApply(
+                    f"an 'old:' text is in {file} {text.count(old)} times, and not once"
+                )
             changed[file] = text.replace(old, new)
         return changed
 
@@ -327,7 +331,8 @@ class Batches:
                     texts |= body.applied(texts, self.room.read)
                     batch.append(body)
                 except DoesNotApply:
-                    # It applies alone, so another one of the batch has its text: it waits for the next.
+                    # It applies alone, so another one of the batch has its text: it waits for the
+                    # next.
                     pass
         self.together = [body for body in self.together if body not in batch]
         return batch, texts
@@ -380,8 +385,12 @@ class Batches:
         if said.status == 0:
             self.tell(body, "", "it is still proved")
         elif said.has_refused():
-            errors = [line for line in said.lines if ERROR.match(line) and not OF_NAMES.search(line)]
-            self.tell(body, (errors or ["only because a proof file names what it took away"])[0], "")
+            errors = [
+                line for line in said.lines if ERROR.match(line) and not OF_NAMES.search(line)
+            ]
+            self.tell(
+                body, (errors or ["only because a proof file names what it took away"])[0], ""
+            )
         elif said.status == 3 and any(map(AT_LIMIT.search, said.lines)):
             self.tell(body, "only by a limit of the prover", "")
         elif said.status == 1:
@@ -400,7 +409,12 @@ def changed_since(revision: str) -> set[str]:
     """The crates whose files differ from a revision."""
     asked = (["diff", "--name-only", revision], ["ls-files", "--others", "--exclude-standard"])
     told = [
-        subprocess.run(["git", "-C", TOP, *words, "--", "crates"], stdout=subprocess.PIPE, text=True, check=True)
+        subprocess.run(
+            ["git", "-C", TOP, *words, "--", "crates"],
+            stdout=subprocess.PIPE,
+            text=True,
+            check=True,
+        )
         for words in asked
     ]
     return {path.split("/")[1] for one in told for path in one.stdout.split()}
@@ -448,9 +462,12 @@ def main() -> None:
     words = argparse.ArgumentParser(
         description=__doc__, formatter_class=argparse.RawDescriptionHelpFormatter
     )
-    words.add_argument("--changed", metavar="REV", help="the crates whose files differ from this revision")
     words.add_argument(
-        "--jobs", metavar="N", type=int, default=os.cpu_count(), help="crates side by side (one for each processor)"
+        "--changed", metavar="REV", help="the crates whose files differ from this revision"
+    )
+    words.add_argument(
+        "--jobs", metavar="N", type=int, default=os.cpu_count(),
+        help="crates side by side (one for each processor)",
     )
     words.add_argument("crates", metavar="CRATE", nargs="*")
     asked = words.parse_args()
