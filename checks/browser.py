@@ -1,4 +1,7 @@
-"""Chromium without a window, driven by two pipes: it opens pages, runs scripts in them and takes pictures."""
+"""Chromium without a window, driven by two pipes.
+
+It opens pages, runs scripts in them and takes pictures.
+"""
 from __future__ import annotations
 
 import base64
@@ -27,7 +30,10 @@ KEYS = {"ArrowLeft": 37, "ArrowRight": 39, "Home": 36, "End": 35, "Tab": 9, "Ent
 
 
 class Browser:
-    """A browser with one tab, to be used in a `with` statement. It is asked by methods of the DevTools protocol."""
+    """A browser with one tab, to be used in a `with` statement.
+
+    It is asked by methods of the DevTools protocol.
+    """
 
     def __enter__(self) -> Browser:
         assert PROGRAM, "the caller has seen that there is a browser"
@@ -52,7 +58,8 @@ class Browser:
         self.rest, self.number, self.session = b"", 0, ""
         self.events: list[dict[str, Any]] = []
         target = self.ask("Target.createTarget", url="about:blank")["targetId"]
-        self.session = self.ask("Target.attachToTarget", targetId=target, flatten=True)["sessionId"]
+        attached = self.ask("Target.attachToTarget", targetId=target, flatten=True)
+        self.session = attached["sessionId"]
         for domain in "Page", "Runtime", "Network", "Log":
             self.ask(f"{domain}.enable")
         return self
@@ -70,7 +77,7 @@ class Browser:
         self.folder.cleanup()
 
     def ask(self, method: str, **words: Any) -> dict[str, Any]:
-        """Calls a method and gives its answer; what the browser tells meanwhile is kept in `events`."""
+        """Calls a method and gives its answer; what is told meanwhile is kept in `events`."""
         self.number += 1
         call = {"id": self.number, "method": method, "params": words}
         if self.session:
@@ -136,7 +143,7 @@ class Browser:
             )
 
     def faults(self) -> list[str]:
-        """What went wrong in the page since it was opened: errors of its script, and what the console says of them."""
+        """What went wrong in the page since it was opened: errors, and what the console says."""
         thrown = [
             event["params"]
             for event in self.events
@@ -147,7 +154,8 @@ class Browser:
             for event in self.events
             if event.get("method") == "Log.entryAdded"
         ]
-        return [said["exceptionDetails"]["text"] for said in thrown] + [entry["text"] for entry in logged]
+        errors = [said["exceptionDetails"]["text"] for said in thrown]
+        return errors + [entry["text"] for entry in logged]
 
     def requests(self) -> list[str]:
         """The addresses that the page asked for since it was opened."""

@@ -19,7 +19,6 @@ from common import (
     DISAGREE,
     LIMIT,
     REPORT,
-    Ended,
     Tally,
     name_of,
     need_program,

@@ -4,8 +4,8 @@
     checks/tools.py [--program FILE] [WORD ..]     once `rt ci`, or `./twarp --build`, has built it
     checks/tools.py --no-program [WORD ..]         leaves out what needs the program
 
-WORD picks the tests whose names have it. The last line is 'N passed, M failed'; what needs Graphviz
-or Chromium is left out where that is not installed, and a line says so. The inputs are in
+WORD picks the tests whose names have it. The last line is 'N passed, M failed'; what needs
+Graphviz or Chromium is left out where that is not installed, and a line says so. The inputs are in
 checks/inputs.
 """
 from __future__ import annotations

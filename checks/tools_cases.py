@@ -140,8 +140,9 @@ class CasesOfTheLiterature(ToolTest):
         verdicts = {every: self.seq(text, 1000, every)[1] for every in (1, 2, 10, 30, 100)}
         expected = {1: "open", 2: (52, 100), 10: (60, 100), 30: (60, 300), 100: (100, 100)}
         for every, known in expected.items():
-            words = known if isinstance(known, str) else f"oscillates from {known[0]} period {known[1]}"
-            self.assertEqual(verdicts[every], f"verdict {words}")
+            if known != "open":
+                known = f"oscillates from {known[0]} period {known[1]}"
+            self.assertEqual(verdicts[every], f"verdict {known}")
 
     def test_the_page_of_the_cases_says_what_its_commands_say(self) -> None:
         page = (CASES / "README.md").read_text()

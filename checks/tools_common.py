@@ -1,4 +1,4 @@
-"""What the tests of the tools share: how a tool or the built program is run, and how it should end."""
+"""What the tests of the tools share: how a tool or the program is run, and how it should end."""
 from __future__ import annotations
 
 import shutil
@@ -61,6 +61,12 @@ def report_of(name: str, stop: int, *words: object) -> str:
 
 def case_of(name: str) -> str:
     return (CASES / f"{name}.spp").read_text()
+
+
+def case_of_a_late_failure() -> str:
+    """The case failure-and-repair, with its failure and its repair after long silences."""
+    case = case_of("failure-and-repair").replace("fail 4", "fail 1000000")
+    return case.replace("restore 5", "restore 2000000")
 
 
 def texts(svg: str) -> str:

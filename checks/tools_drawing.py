@@ -12,6 +12,7 @@ from tools_common import (
     INPUTS,
     ToolTest,
     case_of,
+    case_of_a_late_failure,
     needs_graphviz,
     read,
     report_of,
@@ -23,7 +24,10 @@ from tools_common import (
 
 
 def elements(svg: str, look: str) -> list[Element]:
-    """The elements of the class within the picture itself; those of its legend stand outside its clipped group."""
+    """The elements of the class within the picture itself.
+
+    Those of its legend stand outside its clipped group.
+    """
     area = next(
         element for element in ElementTree.fromstring(svg).iter() if element.get("clip-path")
     )
@@ -161,7 +165,13 @@ class Timeline(ToolTest):
         self.assertEqual(len(elements(svg, "message underway")), 4)
 
     def test_as_many_marks_as_the_report_counts(self) -> None:
-        for name in "good-gadget", "bad-gadget", "ring-of-three", "rank-exchange", "failure-and-repair":
+        for name in (
+            "good-gadget",
+            "bad-gadget",
+            "ring-of-three",
+            "rank-exchange",
+            "failure-and-repair",
+        ):
             with self.subTest(name):
                 report = report_of(name, 20)
                 svg = self.draw(name, report)
@@ -197,9 +207,7 @@ class Timeline(ToolTest):
         self.assertLess(len(svg), 3_000_000)
 
     def test_silence_is_folded(self) -> None:
-        case = case_of("failure-and-repair").replace("fail 4", "fail 1000000").replace(
-            "restore 5", "restore 2000000"
-        )
+        case = case_of_a_late_failure()
         with tempfile.NamedTemporaryFile("w", suffix=".spp") as file:
             file.write(case)
             file.flush()

@@ -1,4 +1,4 @@
-"""Tests of what makes cases of files as they are published: relationships by a stream, and tools/import."""
+"""Tests of what makes cases of published files: relationships by a stream, and tools/import."""
 from __future__ import annotations
 
 import bz2
@@ -19,7 +19,7 @@ MOST_KILOBYTES = 500_000
 
 
 def published(lines: int) -> Iterator[str]:
-    """Relationships in the form of serial-2: comments, then pairs of ASes, each once and with its source."""
+    """Relationships in the form of serial-2: comments, then pairs of ASes with their sources."""
     draw = random.Random(1).random
     yield "# source:topology|BGP|20260101|none\n"
     for number in range(2, lines + 2):

@@ -120,7 +120,12 @@ class Installed(ToolTest):
                 shutil.rmtree(self.prefix)
 
     def test_command_lines(self) -> None:
-        for words in (), ("--prefix",), ("--perfix", "x"), ("--prefix", "x", "--uninstall", "--program", "y"):
+        for words in (
+            (),
+            ("--prefix",),
+            ("--perfix", "x"),
+            ("--prefix", "x", "--uninstall", "--program", "y"),
+        ):
             with self.subTest(words):
                 done = install(*words)
                 self.assertEqual((done.status, done.out), (3, ""))
@@ -155,8 +160,9 @@ class ManPage(ToolTest):
 def completed(script: str, line: str) -> set[str]:
     """What bash offers for the last word of a line, with this script."""
     words = line.split(" ")
-    calls = f"COMP_WORDS=({' '.join(repr(word) for word in words)}); COMP_CWORD={len(words) - 1}; _twarp"
-    done = run("bash", "--norc", "-c", f'{script}\n{calls}\nprintf "%s\\n" "${{COMPREPLY[@]}}"')
+    given = f"COMP_WORDS=({' '.join(map(repr, words))}); COMP_CWORD={len(words) - 1}"
+    shown = 'printf "%s\\n" "${COMPREPLY[@]}"'
+    done = run("bash", "--norc", "-c", "\n".join([script, given, "_twarp", shown]))
     assert (done.status, done.err) == (0, ""), done.err
     return set(done.out.split())
 

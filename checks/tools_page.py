@@ -1,4 +1,4 @@
-"""Tests of the tool `page`: what its pages hold and, where Chromium is installed, how they look and what they do."""
+"""Tests of the tool `page`: what its pages hold, and how they look and act in Chromium."""
 from __future__ import annotations
 
 import json
@@ -12,7 +12,7 @@ from pathlib import Path
 from typing import Any
 
 import browser
-from tools_common import CASES, ToolTest, case_of, read, report_of, tool, twarp
+from tools_common import CASES, ToolTest, case_of_a_late_failure, read, report_of, tool, twarp
 from twarp_tools.layout import distance, lay_out
 from twarp_tools.palette import DARK, LIGHT, PLACES
 from twarp_tools.report import read_report
@@ -20,7 +20,6 @@ from twarp_tools.report import read_report
 Json = dict[str, Any]
 
 needs_browser = unittest.skipUnless(browser.PROGRAM, "Chromium is not installed")
-
 
 
 def star_of(routers: int) -> str:
@@ -65,7 +64,7 @@ def luminance(colour: str) -> float:
 
 
 def contrast(one: str, other: str) -> float:
-    """The contrast of two colours as the Web Content Accessibility Guidelines define it, from 1 to 21."""
+    """The contrast of two colours by the Web Content Accessibility Guidelines, from 1 to 21."""
     dark, light = sorted(map(luminance, (one, other)))
     return (light + 0.05) / (dark + 0.05)
 
@@ -144,9 +143,7 @@ class Page(ToolTest):
         self.assertEqual(len(data_of(page)["routers"]), 300)
 
     def test_a_long_time_has_fewer_stops(self) -> None:
-        case = case_of("failure-and-repair").replace("fail 4", "fail 1000000").replace(
-            "restore 5", "restore 2000000"
-        )
+        case = case_of_a_late_failure()
         with tempfile.NamedTemporaryFile("w", suffix=".spp") as file:
             file.write(case)
             file.flush()
@@ -228,12 +225,15 @@ OVERLAPS = """(() => {
     const range = document.createRange();
     range.selectNodeContents(text);
     const group = parent.closest("svg, .pane") ?? document.body;
-    boxes.set(group, [...(boxes.get(group) ?? []), ...[...range.getClientRects()].map((box) => [text.data, box])]);
+    const found = [...range.getClientRects()].map((box) => [text.data, box]);
+    boxes.set(group, [...(boxes.get(group) ?? []), ...found]);
   }
   const meet = (a, b) => Math.min(a.right, b.right) - Math.max(a.left, b.left) > 1
     && Math.min(a.bottom, b.bottom) - Math.max(a.top, b.top) > 3;
   return [...boxes.values()].flatMap((row) => row.flatMap(([words, box], place) =>
-    row.slice(place + 1).filter(([, other]) => meet(box, other)).map(([others]) => `${words} | ${others}`)));
+    row.slice(place + 1)
+      .filter(([, other]) => meet(box, other))
+      .map(([others]) => `${words} | ${others}`)));
 })()"""
 # How far down the message from 0 to 2 is.
 HEIGHT_OF_DOT = """[...document.querySelectorAll('#network .dot')]
@@ -243,9 +243,17 @@ OUT_OF_PANE = """Object.entries({
   network: [drawn.get(149).group, network.parentElement],
   timeline: [lanes.get(149), timeline],
   time: [cursor, timeline],
-}).filter(([name, [part, pane]]) => (name !== "time" && wayTo(part, pane, DOWN)) || wayTo(part, pane, ACROSS))
+}).filter(([name, [part, pane]]) => (name !== "time" && wayTo(part, pane, DOWN))
+    || wayTo(part, pane, ACROSS))
   .map(([name]) => name)"""
 WORDS = "document.getElementById('{}').innerText"
+# The middle of what a selector finds, once it is in the window.
+CENTRE = """(() => {
+  const found = document.querySelector('SELECTOR');
+  found.scrollIntoView({block: 'center'});
+  const box = found.getBoundingClientRect();
+  return {x: box.x + box.width / 2, y: box.y + box.height / 2};
+})()"""
 
 
 @needs_browser
@@ -268,16 +276,8 @@ class PageInBrowser(ToolTest):
     def words(self, part: str) -> str:
         return self.browser.run(WORDS.format(part))
 
-    def centre(self, selector: str) -> dict[str, float]:
-        """The middle of what the selector finds, once it is in the window."""
-        return self.browser.run(
-            f"(() => {{ const found = document.querySelector('{selector}'); found.scrollIntoView({{block: 'center'}});"
-            "const box = found.getBoundingClientRect();"
-            "return {x: box.x + box.width / 2, y: box.y + box.height / 2}; })()"
-        )
-
     def click(self, selector: str) -> None:
-        place = self.centre(selector)
+        place = self.browser.run(CENTRE.replace("SELECTOR", selector))
         for kind in "mousePressed", "mouseReleased":
             self.browser.ask(
                 "Input.dispatchMouseEvent", type=kind, button="left", clickCount=1, **place

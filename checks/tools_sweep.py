@@ -15,14 +15,15 @@ from collections.abc import Iterator
 from contextlib import contextmanager
 from pathlib import Path
 
-from tools_common import CASES, INPUTS, TOP, Done, ToolTest, case_of, need_program, read, run, texts, tool, twarp
+from tools_common import CASES, INPUTS, TOP, Done, ToolTest, case_of, need_program, texts, tool
 
 
 def by_hand(one: int, two: int) -> dict[str, str]:
     """How DISAGREE ends where the origin's links have these delays and the third link one of 1.
 
-    The router that hears of the origin first takes its second path and tells the other, to which that is news where it
-    comes before the origin's own message; else both go back and forth, in turns of 2 ticks.
+    The router that hears of the origin first takes its second path and tells the other, to which
+    that is news where it comes before the origin's own message; else both go back and forth, in
+    turns of 2 ticks.
     """
     if abs(one - two) <= 1:
         return {"verdict": "oscillates", "rest": "", "period": "2", "outcome": ""}
@@ -49,7 +50,8 @@ class Sweep(ToolTest):
         """A program that is to be started in place of twarp, which the script calls by $TWARP."""
         with tempfile.TemporaryDirectory() as folder:
             file = Path(folder) / "stand-in"
-            file.write_text(f"#!/bin/sh\nTWARP='{need_program().resolve()}'\ncd '{folder}' || exit 9\n{script}\n")
+            head = f"#!/bin/sh\nTWARP='{need_program().resolve()}'\ncd '{folder}' || exit 9\n"
+            file.write_text(f"{head}{script}\n")
             file.chmod(0o755)
             yield file
 
@@ -132,7 +134,11 @@ class Sweep(ToolTest):
             "--delays", "1-3", "--links", "0-1", "--stop", 100, "--runs", 30,
             CASES / "disagree.spp",
         ]
-        script = 'cat > $$; if grep -q "^link 0 1 2$" $$; then echo stopped memory >&2; exit 2; fi; "$TWARP" "$@" < $$'
+        script = """
+cat > $$
+if grep -q "^link 0 1 2$" $$; then echo stopped memory >&2; exit 2; fi
+"$TWARP" "$@" < $$
+"""
         with self.stand_in(script) as start:
             done = self.sweep(*words, start=start)
         rows = list(csv.DictReader(done.out.splitlines()))
@@ -160,7 +166,10 @@ class Sweep(ToolTest):
         # A link that stays down, and ranks that were exchanged, count as they are at the end.
         broken = case_of("disagree").replace("end\n", "fail 5 0 1\nend\n")
         exchanged = case_of("rank-exchange")
-        for text, words in (broken, ["--failure-times", "0-9"]), (exchanged, ["--delays", "1-9", "--links", "0-2"]):
+        for text, words in (
+            (broken, ["--failure-times", "0-9"]),
+            (exchanged, ["--delays", "1-9", "--links", "0-2"]),
+        ):
             words += ["--stop", 200, "--every", 1, "--runs", 60, "--check", "stable"]
             self.assertIn("quiet", {row["verdict"] for row in self.rows(*words, stdin=text)})
         # The other outcome is stable too, but only since router 1 has come to prefer (1 2 0).
@@ -168,8 +177,8 @@ class Sweep(ToolTest):
             words = [
                 "--delays", 9, "--links", "0-2", "--stop", 100, "--runs", 1, "--check", "stable"
             ]
-            row = self.assert_done(self.sweep(*words, start=start, stdin=exchanged)).splitlines()[1]
-        self.assertRegex(row, "^1,9,quiet,")
+            out = self.assert_done(self.sweep(*words, start=start, stdin=exchanged))
+        self.assertRegex(out.splitlines()[1], "^1,9,quiet,")
 
     def test_paths_that_are_not_stable_are_shown(self) -> None:
         broken = case_of("disagree").replace("end\n", "fail 5 0 1\nend\n")
@@ -200,7 +209,11 @@ class Sweep(ToolTest):
                 )
 
     def test_an_interrupt_leaves_what_there_is(self) -> None:
-        script = 'echo >> begun; if [ "$(wc -l < begun)" -gt 12 ]; then : > hangs; sleep 60; fi; exec "$TWARP" "$@"'
+        script = """
+echo >> begun
+if [ "$(wc -l < begun)" -gt 12 ]; then : > hangs; sleep 60; fi
+exec "$TWARP" "$@"
+"""
         with self.stand_in(script) as start:
             words = [
                 "--delays", "1-9", "--stop", "100", "--runs", "500", "--jobs", "2",
@@ -251,7 +264,8 @@ class Sweep(ToolTest):
             "--failure-times", "9-1000000000", *stop, CASES / "failure-and-repair.spp"
         )
         self.assert_refused(late, "a repair would be at 1,000,000,001")
-        failures, both = ["--failure-times", 1, "--links", "0-1"], ["--relationships", "", "--delays", 1]
+        failures = ["--failure-times", 1, "--links", "0-1"]
+        both = ["--relationships", "", "--delays", 1]
         for words in [], failures, both, ["--delays", "3-2"]:
             with self.subTest(words):
                 self.assertEqual(self.sweep(*words, *stop, case).status, 3)

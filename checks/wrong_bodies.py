@@ -1,20 +1,23 @@
 #!/usr/bin/env python3
 """Tries the wrong bodies of crates in batches: the checker must refuse each.
 
-    wrong_bodies.py [--changed REV] [--jobs N] [CRATE ..]        all crates that have some, where none is named
+    wrong_bodies.py [--changed REV] [--jobs N] [CRATE ..]
 
-A wrong body is a file NAME.edit in a crate's must-fail/ or wrong-bodies/: `file:` names a file of the crate, and each
-pair of lines `old:`, `new:` puts one text in place of another that stands in it once. As many as change different
-functions go into one copy of the crate, which is checked once. A wrong body counts as refused where the checker tells
-an error of the very function that it changes: a function's proof rests on the contracts of what it calls and not on
-their bodies, so that refusals do not hide one another. What is not told of (its function waits for another one's
-proof, or its text stands twice once another one is there) goes into a later batch, and at last alone; so does what
-changes more than functions, as a definition. What is still proved alone has failed, and so has what does not apply or
-what the checker cannot read.
+Where no crate is named, these are all that have some. A wrong body is a file NAME.edit in a
+crate's must-fail/ or wrong-bodies/: `file:` names a file of the crate, and each pair of lines
+`old:`, `new:` puts one text in place of another that stands in it once. As many as change
+different functions go into one copy of the crate, which is checked once. A wrong body counts as
+refused where the checker tells an error of the very function that it changes: a function's proof
+rests on the contracts of what it calls and not on their bodies, so that refusals do not hide one
+another. What is not told of (its function waits for another one's proof, or its text stands twice
+once another one is there) goes into a later batch, and at last alone; so does what changes more
+than functions, as a definition. What is still proved alone has failed, and so has what does not
+apply or what the checker cannot read.
 
-It first checks each crate as it stands, by `rt check` in this checkout, and then works in a folder beside the
-repository, over what that check kept. --changed takes the crates whose files differ from the revision REV. There is a
-line for each wrong body, one for each crate with its processor time, and at last 'N passed, M failed'.
+It first checks each crate as it stands, by `rt check` in this checkout, and then works in a
+folder beside the repository, over what that check kept. --changed takes the crates whose files
+differ from the revision REV. There is a line for each wrong body, one for each crate with its
+processor time, and at last 'N passed, M failed'.
 """
 from __future__ import annotations
 
@@ -69,7 +72,10 @@ class DoesNotApply(Exception):
 
 
 def without_comments(text: str) -> list[str]:
-    """The lines of a source without `/* .. */`, by which a wrong body makes texts that it keeps stand apart."""
+    """The lines of a source without `/* .. */`.
+
+    A wrong body has such comments so that texts that it keeps stand apart.
+    """
     return [re.sub(r"/\*.*?\*/ ?", "", line) for line in text.split("\n")]
 
 
@@ -101,7 +107,10 @@ class WrongBody:
         return body
 
     def applied(self, texts: Texts, read: Read) -> Texts:
-        """The texts of the files that it changes; `texts` has those that are changed already, `read` gives the others."""
+        """The texts of the files that it changes.
+
+        `texts` has those that are changed already, `read` gives the others.
+        """
         if not self.changes:
             raise DoesNotApply("it has no 'old:' and 'new:' pair")
         changed: Texts = {}
@@ -123,7 +132,7 @@ class WrongBody:
             inside = functions_of(file, read(file))
             pairs = zip(without_comments(read(file)), without_comments(text))
             for line in (place for place, (one, other) in enumerate(pairs, 1) if one != other):
-                around = [it for it in inside if it.first <= line <= it.last]
+                around = [it for it in inside if it.has_line(line)]
                 if not around:
                     return None
                 found.add(around[-1])
@@ -149,12 +158,13 @@ class Said:
                 yield match[1].split("::")[1:], match[2]
 
     def errors_of(self, function: Function, file: str) -> Iterator[str]:
-        """What the check told of this function, in its proof, in its source, or for want of a proof of its own."""
+        """What the check told of this function, in its proof or source, or for want of a proof."""
         for line in self.lines:
             proof, source = ERROR_OF_PROOF.match(line), ERROR_OF_SOURCE.match(line)
-            if proof and function.is_named_by(proof[1].split("/")) and not OF_NAMES.search(proof[2]):
-                yield proof[2]
-            elif source and source[1] == file and function.first <= int(source[2]) <= function.last:
+            if proof and function.is_named_by(proof[1].split("/")):
+                if not OF_NAMES.search(proof[2]):
+                    yield proof[2]
+            elif source and source[1] == file and function.has_line(int(source[2])):
                 yield source[3]
         for words, verdict in self.verdicts():
             if function.is_named_by(words) and verdict.startswith("no proof: expected"):
@@ -207,7 +217,10 @@ def with_those_below(crate: str) -> list[str]:
 
 
 def copy_linked(folder: Path, to: Path) -> None:
-    """Copies a folder, where it is there; what was proved by links, since a check replaces such a file and changes none."""
+    """Copies a folder, where it is there; what was proved by links.
+
+    A check replaces such a file and changes none.
+    """
 
     def copy(one: str, other: str) -> None:
         if one.endswith(".oantt"):
@@ -243,7 +256,10 @@ class Room:
         return (self.original / file).read_text()
 
     def check(self, texts: Texts) -> Said:
-        """Checks the crate with these texts in place of its own, over what is kept of the crate as it stands."""
+        """Checks the crate with these texts in place of its own.
+
+        This goes over what is kept of the crate as it stands.
+        """
         shutil.rmtree(self.copy / "out", ignore_errors=True)
         copy_linked(self.original / "out/incremental", self.copy / "out/incremental")
         for file, text in texts.items():
@@ -287,7 +303,7 @@ class Waits:
 
 
 class Batches:
-    """Tries the wrong bodies of a crate, and tells of each why it was refused, or what is wrong with it."""
+    """Tries the wrong bodies of a crate, and tells why each was refused, or what is wrong."""
 
     def __init__(self, room: Room, tell: Callable[[WrongBody, str, str], None]) -> None:
         self.room = room
@@ -322,7 +338,7 @@ class Batches:
         return {function.path for body in bodies for function in self.functions[body]}
 
     def next_batch(self) -> tuple[list[WrongBody], Texts]:
-        """Takes the next wrong bodies to be tried together, and makes the texts that have them all."""
+        """Takes the next wrong bodies to be tried together, and makes the texts with them all."""
         batch: list[WrongBody] = []
         texts: Texts = {}
         for body in self.together:
@@ -338,7 +354,7 @@ class Batches:
         return batch, texts
 
     def is_apart(self, body: WrongBody, batch: list[WrongBody]) -> bool:
-        """Whether it changes other functions than the batch, and neither is known to wait for the other's."""
+        """Whether it changes other functions than the batch, and neither waits for the other's."""
         own, others = self.paths([body]), self.paths(batch)
         leads = self.waits.lead(own, others) or self.waits.lead(others, own)
         return not own & others and not leads
@@ -360,7 +376,7 @@ class Batches:
                 self.put_back(body)
 
     def part(self, batch: list[WrongBody]) -> None:
-        """One half of a batch that came to no verdict is tried alone, the other beside what comes later."""
+        """Tries one half of a batch without a verdict alone, the other beside what comes later."""
         half = len(batch) // 2
         self.alone += batch[:half]
         for body in batch[half:]:
@@ -371,7 +387,7 @@ class Batches:
         (self.alone if body.tries >= MOST_TOGETHER else self.together).append(body)
 
     def reason(self, body: WrongBody, texts: Texts, said: Said) -> str:
-        """The first thing that the check told of a function that the wrong body changes; nothing where it told none."""
+        """The first thing that the check told of a function that the wrong body changes."""
         paths = self.paths([body])
         for file in sorted({file for file, _, _ in body.changes}):
             for function in functions_of(file, texts[file]):
