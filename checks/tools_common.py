@@ -82,6 +82,12 @@ class ToolTest(unittest.TestCase):
         self.assertEqual((done.status, done.err), (0, ""))
         return done.out
 
+    def assert_makes_a_case(self, done: Done) -> Done:
+        """Sees that a command ended well, and that twarp accepts the case that it wrote."""
+        self.assertEqual(done.status, 0, done.err)
+        self.assertRegex(twarp("check", stdin=done.out), r"^accepted nodes")
+        return done
+
     def assert_refused(self, done: Done, why: str) -> None:
         """Sees that a command refused its input for this reason, and wrote nothing else."""
         self.assertEqual((done.status, done.out), (1, ""), done.err)

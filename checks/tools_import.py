@@ -10,7 +10,7 @@ import tempfile
 from collections.abc import Iterator
 from pathlib import Path
 
-from tools_common import TOP, Done, ToolTest, tool, twarp
+from tools_common import TOP, Done, ToolTest, tool
 
 LINES = 500_000
 ASES = 70_000
@@ -70,10 +70,7 @@ class Streams(ToolTest):
 
 class ConnectedPart(ToolTest):
     def make(self, *words: object, stdin: str) -> Done:
-        done = tool("relationships", *words, stdin=stdin)
-        self.assertEqual(done.status, 0, done.err)
-        self.assertRegex(twarp("check", stdin=done.out), r"^accepted nodes")
-        return done
+        return self.assert_makes_a_case(tool("relationships", *words, stdin=stdin))
 
     def test_each_router_has_a_path(self) -> None:
         tree = "".join(f"{number // 3}|{number}|-1\n" for number in range(3, 2000))
@@ -192,10 +189,7 @@ BAD_GRAPHML = [
 
 class Import(ToolTest):
     def make(self, *words: object, stdin: str) -> Done:
-        done = tool("import", *words, stdin=stdin)
-        self.assertEqual(done.status, 0, done.err)
-        self.assertRegex(twarp("check", stdin=done.out), r"^accepted nodes")
-        return done
+        return self.assert_makes_a_case(tool("import", *words, stdin=stdin))
 
     def test_gml_with_places_on_the_globe(self) -> None:
         with tempfile.TemporaryDirectory() as folder:

@@ -7,7 +7,7 @@ from collections import Counter
 from pathlib import Path
 
 import tools_common
-from tools_common import INPUTS, Done, ToolTest, read, tool, twarp
+from tools_common import INPUTS, Done, ToolTest, read, tool
 
 BAD_RELATIONSHIPS = [
     ("10|20\n", 1, "2 fields"),
@@ -26,9 +26,9 @@ class Relationships(ToolTest):
     def make(self, *words: object, stdin: str = "") -> Done:
         """The tool's answer, whose case twarp has to accept, where it is there."""
         done = tool("relationships", *words, stdin=stdin)
-        self.assertEqual(done.status, 0, done.err)
         if tools_common.program:
-            self.assertRegex(twarp("check", stdin=done.out), r"^accepted nodes")
+            return self.assert_makes_a_case(done)
+        self.assertEqual(done.status, 0, done.err)
         return done
 
     def test_the_case_and_the_numbers(self) -> None:

@@ -38,7 +38,9 @@ from pathlib import Path
 
 from common import TOP, Tally
 from functions import Function, functions_of
+from twarp_tools.schedule import below, graph_of
 
+CRATES = TOP / "crates.txt"
 FOLDERS = ("must-fail", "wrong-bodies")
 PARTS = ("src", "specs", "proofs")
 # How often a wrong body is tried beside others before it is tried alone.
@@ -195,24 +197,10 @@ def checked(folder: Path) -> Said:
 def crates() -> dict[str, list[str]]:
     """Each crate of crates.txt with what it uses."""
     found = {}
-    for line in (TOP / "crates.txt").read_text().split("\n"):
+    for line in CRATES.read_text().split("\n"):
         name, colon, uses = line.partition("#")[0].partition(":")
         if colon:
             found[name.split()[0]] = uses.split()
-    return found
-
-
-def with_those_below(crate: str) -> list[str]:
-    """A crate and the crates of this repository that it stands on, lowest first."""
-    known, found = crates(), list[str]()
-
-    def visit(name: str) -> None:
-        for used in known[name]:
-            if used in known and used not in found:
-                visit(used)
-        found.append(name)
-
-    visit(crate)
     return found
 
 
@@ -244,7 +232,7 @@ class Room:
         self.top.mkdir()
         subprocess.run(["git", "init", "-q", self.top], check=True)
         shutil.copy2(TOP / "HANDLES", self.top / "HANDLES")
-        known, copied = crates(), with_those_below(crate)
+        known, copied = crates(), below(graph_of(CRATES.read_text()), crate)
         lines = [f"{name}: {' '.join(known[name])}\n" for name in copied]
         (self.top / "crates.txt").write_text("".join(lines))
         for name in copied:
@@ -468,9 +456,10 @@ def chosen_crates(asked: argparse.Namespace) -> list[str]:
 
 def with_all_below(known: Iterable[str]) -> list[str]:
     """All crates, each behind those that it stands on."""
+    graph = graph_of(CRATES.read_text())
     found: dict[str, None] = {}
     for crate in known:
-        found |= dict.fromkeys(with_those_below(crate))
+        found |= dict.fromkeys(below(graph, crate))
     return list(found)
 
 
