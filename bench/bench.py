@@ -37,7 +37,7 @@ RUNS_IN_TURNS = 5
 class Asked(NamedTuple):
     """What a command line asks for."""
 
-    program: Path
+    program: str
     seed: int
     events: list[int]
     workers: list[int]
@@ -48,7 +48,7 @@ def handled(report: str) -> int:
     return sum(map(int, re.findall(r"^router .* handled (\d+)", report, re.M)))
 
 
-def find_stop(program: Path, case: Path, wanted: int) -> str:
+def find_stop(program: str, case: Path, wanted: int) -> str:
     """The first stop tried that leads to about so many events, by doubling, then by proportion."""
     stop = 16
     while True:
@@ -96,7 +96,7 @@ def counted(case: Path, words: Sequence[str], committed: int) -> str:
         return ""
     with open(case, "rb") as source:
         # The numbers of the stop, the workers and the batch.
-        line = [COUNTER, *words[2::2]]
+        line = [str(COUNTER), *words[2::2]]
         done = subprocess.run(line, stdin=source, capture_output=True, check=True, text=True)
     turns, _handled, undone = map(int, re.findall(r"\d+", done.stdout))
     return f", {turns} turns, {undone / committed:.3f} undone"
@@ -111,7 +111,7 @@ def lines_of(stop: str, asked: Asked) -> list[list[str]]:
     return lines
 
 
-def in_turns(program: Path, lines: Sequence[Sequence[str]], case: Path) -> list[Measured]:
+def in_turns(program: str, lines: Sequence[Sequence[str]], case: Path) -> list[Measured]:
     """Runs the program with each line in turn, some times over."""
     rounds = [
         [measure_once(program, words, case) for words in lines] for _ in range(RUNS_IN_TURNS)

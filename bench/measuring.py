@@ -47,7 +47,7 @@ def stored(text: str) -> Iterator[Path]:
         yield Path(file.name)
 
 
-def measure_once(program: Path, words: Sequence[str], source: Path) -> Measured:
+def measure_once(program: str, words: Sequence[str], source: Path) -> Measured:
     with tempfile.NamedTemporaryFile() as kept, open(source, "rb") as stdin:
         child = [sys.executable, "-c", CHILD, kept.name, program, *words]
         done = subprocess.run(child, stdin=stdin, capture_output=True, check=True)
@@ -60,7 +60,7 @@ def least(runs: Iterable[Measured]) -> Measured:
     return reduce(lambda one, other: other._replace(seconds=min(one[1], other[1])), runs)
 
 
-def measure(program: Path, words: Sequence[str], source: Path, times: int = 1) -> Measured:
+def measure(program: str, words: Sequence[str], source: Path, times: int = 1) -> Measured:
     """Runs the program so many times."""
     return least(measure_once(program, words, source) for _ in range(times))
 
@@ -72,5 +72,5 @@ def parser_of(description: str | None, actions: Sequence[str]) -> argparse.Argum
     )
     parser.add_argument("what", choices=actions)
     parser.add_argument("--seed", type=int, default=1)
-    parser.add_argument("--program", type=Path, default=PROGRAM)
+    parser.add_argument("--program", default=str(PROGRAM))
     return parser

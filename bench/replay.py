@@ -15,7 +15,6 @@ from __future__ import annotations
 
 import sys
 from collections.abc import Iterable, Iterator
-from pathlib import Path
 from random import Random
 
 from at_scale import cliques
@@ -97,7 +96,7 @@ def make(steps: int, flight: int, seed: int) -> str:
     return "".join([str(case), *lines, "end\n"])
 
 
-def run(program: Path, text: str, workers: Iterable[int]) -> None:
+def run(program: str, text: str, workers: Iterable[int]) -> None:
     with stored(text) as file:
         size = file.stat().st_size
         for count in workers:

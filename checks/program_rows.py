@@ -210,8 +210,8 @@ def refusals(folder: Path) -> Iterator[Row]:
 def refused_texts(folder: Path) -> Iterator[Row]:
     """The texts of the tables, each in a file in the folder, and every command that refuses it."""
     of_a_case = [words for words in COMMANDS if words != REPLAY]
-    steps = {DISAGREE.read_text() + steps: line for steps, line in REFUSED_STEPS.items()}
-    tables = (REFUSED, COMMANDS), (REFUSED_BEHIND_A_CASE, of_a_case), (steps, [REPLAY])
+    replays = {DISAGREE.read_text() + steps: line for steps, line in REFUSED_STEPS.items()}
+    tables = (REFUSED, COMMANDS), (REFUSED_BEHIND_A_CASE, of_a_case), (replays, [REPLAY])
     for number, (texts, commands) in enumerate(tables):
         for place, (text, line) in enumerate(texts.items()):
             file = folder / f"refused-{number}-{place}"

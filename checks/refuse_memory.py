@@ -103,7 +103,8 @@ def chosen_tests(known: dict[str, Path], named: list[str]) -> dict[str, Path]:
 
 
 def refuse_in_test(refuser: Refuser, tests: Path, name: str) -> Outcome:
-    count, failed = 0, []
+    count = 0
+    failed: list[int] = []
     for number, done in refuser.each([tests, name], NOTHING):
         count += 1
         if done.status is None:

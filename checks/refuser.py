@@ -80,11 +80,11 @@ class Refuser:
         self.marks = itertools.count()
         source = folder / "refuse.c"
         source.write_text(LIBRARY)
-        words = ["-shared", "-fPIC", "-nostdlib", "-fno-builtin", "-o", self.library, source]
-        subprocess.run([*compiler(), *words], check=True)
+        how = ["-shared", "-fPIC", "-nostdlib", "-fno-builtin"]
+        subprocess.run([*compiler(), *how, "-o", self.library, source], check=True)
 
     def run(self, number: int, words: Sequence[Word], stdin: Path) -> Ended | None:
-        """Refuses allocation 1, 2, .. up to the last, or to one with which the command hangs."""
+        """Refuses allocation 1, 2, .. to the last, or until the command does not end."""
         mark = self.folder / f"refused-{next(self.marks)}"
         env = {"LD_PRELOAD": str(self.library), "REFUSE": str(number), "REFUSED": str(mark)}
         done = run(words, stdin, env=env)

@@ -11,7 +11,6 @@ checks/inputs.
 from __future__ import annotations
 
 import argparse
-import sys
 import unittest
 from pathlib import Path
 
@@ -25,7 +24,7 @@ import tools_page
 import tools_relationships
 import tools_sweep
 import tools_tutorial
-from common import run_tests
+from common import need, run_tests
 
 MODULES = (
     tools_every,
@@ -57,8 +56,8 @@ def main() -> None:
     parser.add_argument("--no-program", dest="program", action="store_const", const=None)
     line = parser.parse_args()
     tools_common.program = line.program and line.program.absolute()
-    if line.program and not line.program.exists():
-        sys.exit(f"{line.program} is not there: rt ci builds it")
+    if line.program:
+        need(line.program, "./twarp --build")
     run_tests(all_tests(line.words))
 
 
