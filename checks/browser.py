@@ -1,4 +1,7 @@
-"""Chromium without a window, driven by two pipes: it opens pages, runs scripts in them and takes pictures."""
+"""Chromium without a window, driven by two pipes.
+
+It opens pages, runs scripts in them and takes pictures.
+"""
 from __future__ import annotations
 
 import base64
@@ -15,7 +18,9 @@ from typing import Any
 
 NAMES = ("chromium", "chromium-browser", "google-chrome")
 PROGRAM = next(filter(None, map(shutil.which, NAMES)), None)
-OPTIONS = ("--headless=new", "--no-sandbox", "--disable-gpu", "--no-first-run", "--hide-scrollbars")
+OPTIONS = (
+    "--headless=new", "--no-sandbox", "--disable-gpu", "--no-first-run", "--hide-scrollbars"
+)
 
 # Seconds without a word after which the browser is given up.
 LIMIT = 60
@@ -25,14 +30,20 @@ KEYS = {"ArrowLeft": 37, "ArrowRight": 39, "Home": 36, "End": 35, "Tab": 9, "Ent
 
 
 class Browser:
-    """A browser with one tab, to be used in a `with` statement. It is asked by methods of the DevTools protocol."""
+    """A browser with one tab, to be used in a `with` statement.
+
+    It is asked by methods of the DevTools protocol.
+    """
 
     def __enter__(self) -> Browser:
         assert PROGRAM, "the caller has seen that there is a browser"
         self.folder = tempfile.TemporaryDirectory(ignore_cleanup_errors=True)
         heard, self.told = os.pipe()
         self.heard, told = os.pipe()
-        words = [PROGRAM, *OPTIONS, f"--user-data-dir={self.folder.name}", "--remote-debugging-pipe", "about:blank"]
+        words = [
+            PROGRAM, *OPTIONS, f"--user-data-dir={self.folder.name}",
+            "--remote-debugging-pipe", "about:blank",
+        ]
         # The browser reads descriptor 3 and writes to descriptor 4.
         self.process = subprocess.Popen(
             ["sh", "-c", f'exec "$@" 3<&{heard} 4>&{told}', "sh", *words],
@@ -47,12 +58,18 @@ class Browser:
         self.rest, self.number, self.session = b"", 0, ""
         self.events: list[dict[str, Any]] = []
         target = self.ask("Target.createTarget", url="about:blank")["targetId"]
-        self.session = self.ask("Target.attachToTarget", targetId=target, flatten=True)["sessionId"]
+        attached = self.ask("Target.attachToTarget", targetId=target, flatten=True)
+        self.session = attached["sessionId"]
         for domain in "Page", "Runtime", "Network", "Log":
             self.ask(f"{domain}.enable")
         return self
 
-    def __exit__(self, kind: type[BaseException] | None, value: BaseException | None, at: TracebackType | None) -> None:
+    def __exit__(
+        self,
+        kind: type[BaseException] | None,
+        value: BaseException | None,
+        at: TracebackType | None,
+    ) -> None:
         os.close(self.told)
         os.close(self.heard)
         os.killpg(self.process.pid, signal.SIGKILL)
@@ -60,7 +77,7 @@ class Browser:
         self.folder.cleanup()
 
     def ask(self, method: str, **words: Any) -> dict[str, Any]:
-        """Calls a method and gives its answer; what the browser tells meanwhile is kept in `events`."""
+        """Calls a method and gives its answer; what is told meanwhile is kept in `events`."""
         self.number += 1
         call = {"id": self.number, "method": method, "params": words}
         if self.session:
@@ -89,9 +106,16 @@ class Browser:
     def open(self, page: Path, width: int, *, is_dark: bool = False, height: int = 900) -> None:
         """Opens a page from the disk in a window of this size, and waits until it is loaded."""
         scheme = "dark" if is_dark else "light"
-        self.ask("Emulation.setEmulatedMedia", features=[{"name": "prefers-color-scheme", "value": scheme}])
         self.ask(
-            "Emulation.setDeviceMetricsOverride", width=width, height=height, deviceScaleFactor=1, mobile=width < 600
+            "Emulation.setEmulatedMedia",
+            features=[{"name": "prefers-color-scheme", "value": scheme}],
+        )
+        self.ask(
+            "Emulation.setDeviceMetricsOverride",
+            width=width,
+            height=height,
+            deviceScaleFactor=1,
+            mobile=width < 600,
         )
         self.events = []
         self.ask("Page.navigate", url=page.resolve().as_uri())
@@ -100,7 +124,9 @@ class Browser:
 
     def run(self, script: str) -> Any:
         """The value of an expression in the page."""
-        answer = self.ask("Runtime.evaluate", expression=script, returnByValue=True, awaitPromise=True)
+        answer = self.ask(
+            "Runtime.evaluate", expression=script, returnByValue=True, awaitPromise=True
+        )
         if "exceptionDetails" in answer:
             raise RuntimeError(answer["exceptionDetails"]["exception"]["description"])
         return answer["result"].get("value")
@@ -108,17 +134,34 @@ class Browser:
     def press(self, key: str) -> None:
         """Presses a key and lets it go."""
         for kind in "rawKeyDown", "keyUp":
-            self.ask("Input.dispatchKeyEvent", type=kind, key=key, code=key, windowsVirtualKeyCode=KEYS[key])
+            self.ask(
+                "Input.dispatchKeyEvent",
+                type=kind,
+                key=key,
+                code=key,
+                windowsVirtualKeyCode=KEYS[key],
+            )
 
     def faults(self) -> list[str]:
-        """What went wrong in the page since it was opened: errors of its script, and what the console says of them."""
-        thrown = [event["params"] for event in self.events if event.get("method") == "Runtime.exceptionThrown"]
-        logged = [event["params"]["entry"] for event in self.events if event.get("method") == "Log.entryAdded"]
-        return [said["exceptionDetails"]["text"] for said in thrown] + [entry["text"] for entry in logged]
+        """What went wrong in the page since it was opened: errors, and what the console says."""
+        thrown = [
+            event["params"]
+            for event in self.events
+            if event.get("method") == "Runtime.exceptionThrown"
+        ]
+        logged = [
+            event["params"]["entry"]
+            for event in self.events
+            if event.get("method") == "Log.entryAdded"
+        ]
+        errors = [said["exceptionDetails"]["text"] for said in thrown]
+        return errors + [entry["text"] for entry in logged]
 
     def requests(self) -> list[str]:
         """The addresses that the page asked for since it was opened."""
-        asked = (event for event in self.events if event.get("method") == "Network.requestWillBeSent")
+        asked = (
+            event for event in self.events if event.get("method") == "Network.requestWillBeSent"
+        )
         return [event["params"]["request"]["url"] for event in asked]
 
     def picture(self, file: Path) -> None:

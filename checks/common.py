@@ -1,58 +1,95 @@
-"""What the checks share: the built programs, a count of what passes, and runs with one allocation refused."""
-import itertools
+"""What the checks share: where things are, how commands are run, and a count of what passes."""
+from __future__ import annotations
+
 import os
-import pathlib
-import shutil
 import subprocess
 import sys
+import unittest
+from collections.abc import Sequence
+from pathlib import Path
+from typing import Any, NamedTuple, NoReturn
 
-TOP = pathlib.Path(__file__).resolve().parent.parent
+TOP = Path(__file__).resolve().parent.parent
 CASES = TOP / "cases"
+INPUTS = TOP / "checks/inputs"
+NOTHING = Path(os.devnull)
 DISAGREE = CASES / "disagree.spp"
 STRAGGLER = CASES / "straggler.replay"
 PROGRAM = TOP / "crates/twarp/out/twarp"
 REPORT = TOP / "crates/twarp/stdout"
-REPLAYED = TOP / "checks/inputs/straggler-replay.txt"
-ROWS = ["tw_rows", "tw_machine_rows", "tw_program_rows"]
+REPLAYED = INPUTS / "straggler-replay.txt"
+ROWS = ("tw_rows", "tw_machine_rows", "tw_program_rows")
+
+# Whoever imports this module first finds those of bench/ and tools/ too.
+sys.path += [str(TOP / "bench"), str(TOP / "tools")]
 
 # Seconds after which a run is ended, and counts as failed.
 LIMIT = 60
 
+Word = str | bytes | Path
 
-def run(words, stdin, **how):
-    """How a command ends with this file, or folder, as its standard input; its status is None where it does not end."""
+
+class Ended(NamedTuple):
+    """How a command ended, and what it wrote into pipes; the status is None where it did not."""
+
+    status: int | None
+    out: bytes
+    err: bytes
+
+
+NO_MEMORY = Ended(2, b"", b"stopped memory\n")
+NO_THREAD = Ended(2, b"", b"stopped thread\n")
+NO_DEVICE = Ended(2, b"", b"stopped device\n")
+
+
+def run(words: Sequence[Word], stdin: Path, **how: Any) -> Ended:
+    """How a command ends with this file, or folder, as its standard input."""
     source = os.open(stdin, os.O_RDONLY)
     try:
         how = {"stdout": subprocess.PIPE, "stderr": subprocess.PIPE} | how
-        return subprocess.run(words, stdin=source, timeout=LIMIT, **how)
+        done = subprocess.run(words, stdin=source, timeout=LIMIT, check=False, **how)
     except subprocess.TimeoutExpired:
-        return subprocess.CompletedProcess(words, None, b"", b"")
+        return Ended(None, b"", b"")
     finally:
         os.close(source)
+    return Ended(done.returncode, done.stdout or b"", done.stderr or b"")
 
 
-def input_of(words):
+def run_program(words: Sequence[Word], stdin: Path, **how: Any) -> Ended:
+    return run([PROGRAM, *words], stdin, **how)
+
+
+def input_of(words: Sequence[str]) -> Path:
     """The input that a command is shown: a replay text for `replay`, and else a case."""
     return STRAGGLER if words[:1] == ["replay"] else DISAGREE
 
 
-def tests_of(crate):
+def name_of(words: Sequence[Word]) -> str:
+    """What a run of the program with these words is called."""
+    return f"twarp {' '.join(map(str, words))}"
+
+
+def tests_of(crate: str) -> Path:
     """The built tests of a crate."""
     return TOP / f"crates/{crate}/out/{crate}_tests"
 
 
-def need(built, words):
+def need(built: Path, words: str) -> None:
     if not built.exists():
         sys.exit(f"{built} is not there: it is made by {words}, and by rt ci")
+
+
+def need_program() -> None:
+    need(PROGRAM, "rt run in crates/twarp")
 
 
 class Tally:
     """Counts checks, and prints those that fail."""
 
-    def __init__(self):
+    def __init__(self) -> None:
         self.passed = self.failed = 0
 
-    def add(self, name, wrong):
+    def add(self, name: str, wrong: str | None) -> None:
         """A check that passed where nothing is wrong."""
         if not wrong:
             self.passed += 1
@@ -60,91 +97,23 @@ class Tally:
         self.failed += 1
         print(f"FAILED {name}: {wrong}", flush=True)
 
-    def end(self):
+    def end(self) -> NoReturn:
         print(f"{self.passed} passed, {self.failed} failed")
         sys.exit(self.failed > 0)
 
 
-# Refuses allocation number REFUSE, from 1, of all threads together, and writes a byte to the file REFUSED where there
-# was one. It includes no header, so that any C compiler makes it.
-LIBRARY = r"""
-typedef unsigned long size_t;
-void *dlsym(void *handle, const char *name);
-char *getenv(const char *name);
-unsigned long strtoul(const char *text, char **end, int base);
-int open(const char *file, int flags, ...);
-long write(int handle, const void *bytes, size_t size);
-int close(int handle);
-void _exit(int status);
-static void *const NEXT = (void *)-1L;
-static unsigned long wanted, seen;
-static int refuses(void) {
-    int handle;
-    if (!wanted) return 0;
-    if (__atomic_add_fetch(&seen, 1, __ATOMIC_SEQ_CST) != wanted) return 0;
-    handle = open(getenv("REFUSED"), 0101, 0600);
-    if (write(handle, "r", 1) != 1) _exit(99);
-    close(handle);
-    return 1;
-}
-__attribute__((constructor)) static void begin(void) {
-    const char *word = getenv("REFUSE");
-    seen = 0;
-    wanted = word ? strtoul(word, 0, 10) : 0;
-}
-void *malloc(size_t size) {
-    void *(*next)(size_t) = dlsym(NEXT, "malloc");
-    return refuses() ? 0 : next(size);
-}
-void *realloc(void *old, size_t size) {
-    void *(*next)(void *, size_t) = dlsym(NEXT, "realloc");
-    return refuses() ? 0 : next(old, size);
-}
-"""
+def test_name(test: unittest.TestCase) -> str:
+    """The name of a test, which its subtests have too."""
+    return test.id().split(" ")[0]
 
 
-def compiler():
-    """$CC, or cc, or the compiler of the toolchain that rt belongs to."""
-    if "CC" in os.environ:
-        return os.environ["CC"].split()
-    if shutil.which("cc"):
-        return ["cc"]
-    rt = shutil.which("rt")
-    clang = pathlib.Path(rt or "/").resolve().parent.parent / "toolchain/bin/clang"
-    if clang.exists():
-        return [clang, "-fuse-ld=lld"]
-    sys.exit("there is no C compiler: set CC")
-
-
-class Refuser:
-    """Runs commands with one allocation refused, by a library that it puts before the C library."""
-
-    def __init__(self, folder):
-        """The library is made in the folder."""
-        self.folder = pathlib.Path(folder)
-        self.library = self.folder / "refuse.so"
-        self.marks = itertools.count()
-        source = self.folder / "refuse.c"
-        source.write_text(LIBRARY)
-        words = ["-shared", "-fPIC", "-nostdlib", "-fno-builtin", "-o", self.library, source]
-        subprocess.run([*compiler(), *words], check=True)
-
-    def run(self, number, words, stdin):
-        """How the command ended with allocation `number`, from 1, refused; None where it ends and makes fewer."""
-        mark = self.folder / f"refused-{next(self.marks)}"
-        env = {"LD_PRELOAD": str(self.library), "REFUSE": str(number), "REFUSED": str(mark)}
-        done = run(words, stdin, env=env)
-        if not mark.exists():
-            return done if done.returncode is None else None
-        mark.unlink()
-        return done
-
-    def each(self, words, stdin):
-        """How the command ended with allocation 1, 2, .. refused, to the last, or to one with which it does not end."""
-        for number in itertools.count(1):
-            done = self.run(number, words, stdin)
-            if done is None:
-                return
-            yield number, done
-            if done.returncode is None:
-                return
+def run_tests(tests: unittest.TestSuite) -> NoReturn:
+    """Runs tests, says which are left out, and ends as a tally does. One at least has to pass."""
+    result = unittest.TextTestRunner(stream=sys.stdout, verbosity=0).run(tests)
+    bad = {test_name(test) for test, _ in result.failures + result.errors}
+    skipped = {test_name(test): why for test, why in result.skipped}
+    for name, why in skipped.items():
+        print(f"left out: {name}: {why}")
+    passed = result.testsRun - len({*bad, *skipped})
+    print(f"{passed} passed, {len(bad)} failed")
+    sys.exit(bool(bad or not passed))

@@ -16,11 +16,17 @@ BLOCK = re.compile(
 
 @dataclass(frozen=True)
 class Function:
-    """A function by its path in the crate, as ('mail', 'Post', 'count'), and its first and last line, from 1."""
+    """A function by its path in the crate, as ('mail', 'Post', 'count').
+
+    Its first and its last line are counted from 1.
+    """
 
     path: tuple[str, ...]
     first: int
     last: int
+
+    def has_line(self, line: int) -> bool:
+        return self.first <= line <= self.last
 
     def is_named_by(self, words: Sequence[str]) -> bool:
         """Whether the words, modules first, name this function, or a closure in it."""
@@ -39,7 +45,7 @@ def without_parameters(text: str) -> str:
 
 
 def owner_of(block: re.Match[str]) -> str:
-    """What the checker calls a block of functions: the type, with the trait's name behind it where there is one."""
+    """What the checker calls a block of functions: the type, and behind it the trait's name."""
     if block["trait"]:
         return block["trait"]
     names = without_parameters(block["impl"].replace("->", ""))
@@ -54,7 +60,7 @@ def modules_of(file: str) -> tuple[str, ...]:
 
 
 def end_of(lines: Sequence[str], start: int, indent: str) -> int:
-    """The place of the line that ends what the line at `start` begins, in the layout of `rt fmt`."""
+    """The place of the line that ends what the one at `start` begins, as `rt fmt` lays it out."""
     if lines[start].endswith((" {}", ";")):
         return start
     ends = (indent + "}", indent + "{}")

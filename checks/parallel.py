@@ -1,105 +1,135 @@
 #!/usr/bin/env python3
-"""Runs `twarp run` with several workers again and again, and compares what it writes with what `twarp seq` writes.
+"""Runs `twarp run` with several workers again and again, and compares it with `twarp seq`.
 
     parallel.py                          after rt ci, or rt run in crates/twarp
 
-Each run is ended after some seconds, and counts as failed: workers that wait for one another without end are found by
-that. A proof can say nothing of it.
+What both write has to be the same. Each run is ended after some seconds, and counts as failed:
+workers that wait for one another without end are found by that. A proof can say nothing of it.
 """
-import pathlib
-import random
-import subprocess
-import sys
+from __future__ import annotations
+
 import tempfile
+from collections.abc import Callable, Sequence
+from pathlib import Path
+from random import Random
+from typing import NamedTuple
 
-from common import CASES, DISAGREE, PROGRAM, REPORT, TOP, Tally, need
+from common import (
+    CASES,
+    DISAGREE,
+    LIMIT,
+    REPORT,
+    Tally,
+    name_of,
+    need_program,
+    run_program,
+)
 
-sys.path.append(str(TOP / "bench"))
-from bench import gadgets, hierarchy, mesh
+# Where they are is known from common.
+from at_scale import gadgets, hierarchy, mesh
+from twarp_tools.case import Case
 
-WORKERS = [1, 2, 3, 4, 8, 16]
-BATCHES = [1, 64, 4096]
-
-# Seconds after which a run is ended.
-LIMIT = 60
-
-# The stops lead to about 10^5 events.
-MADE = {"hierarchy": (hierarchy, 57998), "gadgets": (gadgets, 50), "mesh": (mesh, 765)}
+WORKERS = (1, 2, 3, 4, 8, 16)
+BATCHES = (1, 64, 4096)
 
 # Runs in a row of the smallest case and of a made one, each with every number of workers in turn.
 SMALL_RUNS = 1000
 LARGE_RUNS = 100
 
 
-def answer(words, case):
-    """The status and the output of the program, both None where it does not end."""
-    with open(case, "rb") as source:
-        try:
-            done = subprocess.run([PROGRAM, *words], stdin=source, capture_output=True, timeout=LIMIT)
-        except subprocess.TimeoutExpired:
-            return None, None
-    return done.returncode, done.stdout
+class Made(NamedTuple):
+    """How a case of the benchmark is made, and a stop that leads to about 10^5 events."""
+
+    make: Callable[[Random], Case]
+    stop: int
 
 
-def differs(found, wanted):
-    """What is wrong with an answer, if anything."""
-    if found == wanted:
-        return None
-    if found[0] is None:
-        return f"it did not end in {LIMIT} seconds"
-    return f"it ended with {found[0]} and {len(found[1])} bytes, and seq with {wanted[0]} and {len(wanted[1])}"
+MADE = {"hierarchy": Made(hierarchy, 57998), "gadgets": Made(gadgets, 50), "mesh": Made(mesh, 765)}
 
 
-def compare(tally, name, case, stop, workers, batch, more=()):
-    """One run beside `seq`, which is run for each number of words but once."""
-    words = ["--stop", str(stop), *more]
-    wanted = answer(["seq", *words], case)
-    for count in workers:
-        for size in batch:
-            run = ["run", *words, "--workers", str(count), "--batch", str(size)]
-            tally.add(f"twarp {' '.join(run)} of {name}", differs(answer(run, case), wanted))
+class Answer(NamedTuple):
+    """How the program ended, and what it wrote on standard output."""
+
+    status: int | None
+    out: bytes
+
+    @classmethod
+    def of(cls, words: Sequence[str], case: Path) -> Answer:
+        done = run_program(words, case)
+        return cls(done.status, done.out)
+
+    def differs(self, wanted: Answer) -> str | None:
+        """What is wrong with it, if anything."""
+        if self == wanted:
+            return None
+        if self.status is None:
+            return f"it did not end in {LIMIT} seconds"
+        return f"it ended {self}, and seq {wanted}"
+
+    def __str__(self) -> str:
+        return f"with {self.status} and {len(self.out)} bytes"
 
 
-def compare_stored(tally):
+class Runs(NamedTuple):
+    """Runs with these words, by each number of workers here and with each batch."""
+
+    words: Sequence[str]
+    workers: Sequence[int]
+    batches: Sequence[int]
+
+
+def compare(tally: Tally, case: Path, runs: Runs) -> None:
+    """Runs beside `seq`, which runs once."""
+    wanted = Answer.of(["seq", *runs.words], case)
+    for workers in runs.workers:
+        for batch in runs.batches:
+            words = ["run", *runs.words, "--workers", str(workers), "--batch", str(batch)]
+            wrong = Answer.of(words, case).differs(wanted)
+            tally.add(f"{name_of(words)} of {case.name}", wrong)
+
+
+def compare_stored(tally: Tally) -> None:
     """Each stored case, with checkpoints and without."""
     for case in sorted(CASES.glob("*.spp")):
         for more in ["--log"], ["--every", "1"], ["--every", "7"]:
-            compare(tally, case.name, case, 40, [1, 2, 5], [3], more)
+            compare(tally, case, Runs(["--stop", "40", *more], (1, 2, 5), (3,)))
 
 
-def compare_made(tally, folder):
+def compare_made(tally: Tally, folder: Path) -> None:
     """The cases of the benchmark."""
     for name, (make, stop) in MADE.items():
         case = folder / f"{name}.spp"
-        case.write_text(make(random.Random(1)))
-        compare(tally, name, case, stop, WORKERS, [64])
-        compare(tally, name, case, stop // 4, [2, 4], BATCHES, ["--log"])
-        compare(tally, name, case, stop // 4, [4], [64], ["--every", str(max(1, stop // 40))])
+        case.write_text(str(make(Random(1))))
+        early = ["--stop", str(stop // 4)]
+        every = str(max(1, stop // 40))
+        compare(tally, case, Runs(["--stop", str(stop)], WORKERS, (64,)))
+        compare(tally, case, Runs([*early, "--log"], (2, 4), BATCHES))
+        compare(tally, case, Runs([*early, "--every", every], (4,), (64,)))
 
 
-def repeat(tally, name, case, words, wanted, times):
+def repeat(tally: Tally, case: Path, words: Sequence[str], wanted: Answer, times: int) -> None:
     """So many runs in a row."""
     for number in range(times):
         run = ["run", *words, "--workers", str(WORKERS[number % len(WORKERS)])]
-        wrong = differs(answer(run, case), wanted)
+        wrong = Answer.of(run, case).differs(wanted)
         if wrong:
-            tally.add(f"run {number} of {times} in a row of {name}: twarp {' '.join(run)}", wrong)
+            name = f"run {number} of {times} in a row of {case.name}: {name_of(run)}"
+            tally.add(name, wrong)
             return
-    tally.add(f"{times} runs in a row of {name}", None)
+    tally.add(f"{times} runs in a row of {case.name}", None)
 
 
-def main():
-    need(PROGRAM, "rt run in crates/twarp")
+def main() -> None:
+    need_program()
     tally = Tally()
     with tempfile.TemporaryDirectory() as room:
-        folder = pathlib.Path(room)
+        folder = Path(room)
         compare_stored(tally)
         compare_made(tally, folder)
-        words = ["--stop", "20", "--log"]
-        repeat(tally, DISAGREE.name, DISAGREE, words, (0, REPORT.read_bytes()), SMALL_RUNS)
-        words = ["--stop", "10"]
-        made = folder / "gadgets.spp"
-        repeat(tally, made.name, made, words, answer(["seq", *words], made), LARGE_RUNS)
+        words, wanted = ["--stop", "20", "--log"], Answer(0, REPORT.read_bytes())
+        repeat(tally, DISAGREE, words, wanted, SMALL_RUNS)
+        made, words = folder / "gadgets.spp", ["--stop", "10"]
+        repeat(tally, made, words, Answer.of(["seq", *words], made), LARGE_RUNS)
     tally.end()
 
 

@@ -1,38 +1,62 @@
 #!/usr/bin/env python3
 """Refuses each allocation in turn, of the worked rows and of the program.
 
-    refuse_memory.py [TEST ..]           after rt ci, or rt test in each crate of rows and rt run in crates/twarp
+    refuse_memory.py [TEST ..]       after rt ci, or rt test in each crate of rows and rt run in
+                                     crates/twarp
 
-Each test of the crates of rows, or each that is named, runs once for each of its allocations, with just that one
-refused; it tries the call once more and must pass. Among them are a run by the threads of two workers that ended early
-and goes on from where it is, and one that wrote nothing and then its report. A test that does not end has failed, and
-is tried no further. The tests of LONG are left out where none is named: they call a program hundreds of times or start threads
-again and again, with no allocation that the others do not make. Those of the modules `ample` are left out too: they try
-no call again, and so fail where a call answers want of memory that nobody refused.
-Each command of the program runs in the same way, on DISAGREE or on the replay of a straggler, and so do its help and
-a line that it does not accept. Refused memory must end it with status 2 and the line `stopped memory`, or
-`stopped thread` where a thread needed it, with nothing on standard output; or, where the standard library then asks
-for less and gets it, it must end as it does with all its memory.
+Each test of the crates of rows, or each that is named, runs once for each of its allocations,
+with just that one refused; it tries the call once more and must pass. Among them are a run by the
+threads of two workers that ended early and goes on from where it is, and one that wrote nothing
+and then its report. A test that does not end has failed, and is tried no further. The tests of
+LONG are left out where none is named: they call a program hundreds of times or start threads again
+and again, with no allocation that the others do not make. Those of the modules `ample` are left
+out too: they try no call again, and so fail where a call answers want of memory that nobody
+refused.
+
+Each command of the program runs in the same way, on DISAGREE or on the replay of a straggler, and
+so do its help and a line that it does not accept. Refused memory must end it with status 2 and the
+line `stopped memory`, or `stopped thread` where a thread needed it, with nothing on standard
+output; or, where the standard library then asks for less and gets it, it must end as it does with
+all its memory.
 """
+from __future__ import annotations
+
 import os
 import subprocess
 import sys
 import tempfile
-from concurrent.futures import ThreadPoolExecutor
+from concurrent.futures import Future, ThreadPoolExecutor
+from pathlib import Path
+from typing import NamedTuple
 
-from common import LIMIT, PROGRAM, ROWS, Refuser, Tally, input_of, need, run, tests_of
+from common import (
+    LIMIT,
+    NO_MEMORY,
+    NO_THREAD,
+    NOTHING,
+    PROGRAM,
+    ROWS,
+    Tally,
+    input_of,
+    name_of,
+    need,
+    need_program,
+    run_program,
+    tests_of,
+)
+from refuser import Refuser
 
-LONG = [
+LONG = (
     "programs::a_sink_that_fails_has_a_prefix",
     "readings::every_prefix_of_a_case_is_refused_near_its_end",
     "threads::a_run_goes_on_to_later_stops_and_to_no_earlier_one",
     "threads::handling_happens_off_the_table",
     "threads::workers_overlap",
-]
+)
 
 AMPLE = "ample::"
 
-LINES = [
+LINES = (
     ["check"],
     ["seq", "--stop", "20"],
     ["seq", "--stop", "20", "--log"],
@@ -45,70 +69,95 @@ LINES = [
     ["run", "--stop", "20", "--log", "--workers", "2"],
     ["--help"],
     ["seq", "--stop", "0"],
-]
-
-STOPPED = (2, b"", b"stopped memory\n")
-NO_THREAD = (2, b"", b"stopped thread\n")
+)
 
 
-def end(done):
-    return done.returncode, done.stdout, done.stderr
+class Outcome(NamedTuple):
+    """How many allocations of a test or command were refused, and what is wrong, if anything."""
+
+    count: int
+    wrong: str | None
 
 
-def named_tests():
+def named_tests() -> dict[str, Path]:
     """The file that has a test, by the test's name."""
     found = {}
     for tests in map(tests_of, ROWS):
-        listed = subprocess.run([tests, "--list"], capture_output=True, text=True, check=True).stdout
-        found |= {line.removesuffix(": test"): tests for line in listed.splitlines() if line.endswith(": test")}
+        done = subprocess.run([tests, "--list"], stdout=subprocess.PIPE, text=True, check=True)
+        for line in done.stdout.splitlines():
+            name, colon, kind = line.rpartition(": ")
+            if colon and kind == "test":
+                found[name] = tests
     return found
 
 
-def refuse_in_test(refuser, tests, name):
-    """How many allocations were refused, and what is wrong."""
-    count, failed = 0, []
-    for number, done in refuser.each([tests, name], os.devnull):
+def chosen_tests(known: dict[str, Path], named: list[str]) -> dict[str, Path]:
+    """Those that are named, or else all that are not left out."""
+    if named:
+        return {name: tests for name, tests in known.items() if name in named}
+    return {
+        name: tests
+        for name, tests in known.items()
+        if name not in LONG and not name.startswith(AMPLE)
+    }
+
+
+def refuse_in_test(refuser: Refuser, tests: Path, name: str) -> Outcome:
+    count = 0
+    failed: list[int] = []
+    for number, done in refuser.each([tests, name], NOTHING):
         count += 1
-        if done.returncode is None:
-            return count, f"it does not end in {LIMIT} seconds where allocation {number} is refused"
-        if done.returncode != 0:
+        if done.status is None:
+            why = f"it does not end in {LIMIT} seconds where allocation {number} is refused"
+            return Outcome(count, why)
+        if done.status != 0:
             failed.append(number)
     if not count:
-        return 0, "no allocation was refused"
-    return count, failed and f"it fails where allocation {failed[0]} is refused, of {len(failed)} such"
+        return Outcome(0, "no allocation was refused")
+    if failed:
+        why = f"it fails where allocation {failed[0]} is refused, of {len(failed)} such"
+        return Outcome(count, why)
+    return Outcome(count, None)
 
 
-def refuse_in_program(refuser, line):
-    """How many allocations were refused, and what is wrong."""
-    words, source = [PROGRAM, *line], input_of(line)
-    whole = end(run(words, source))
-    ends = {number: end(done) for number, done in refuser.each(words, source)}
-    failed = [number for number, found in ends.items() if found not in (STOPPED, NO_THREAD, whole)]
-    if STOPPED not in ends.values():
-        return len(ends), "no refused allocation stopped it"
-    return len(ends), failed and f"allocation {failed[0]}: {ends[failed[0]]}"
+def refuse_in_program(refuser: Refuser, line: list[str]) -> Outcome:
+    source = input_of(line)
+    due = (NO_MEMORY, NO_THREAD, run_program(line, source))
+    ends = dict(refuser.each([PROGRAM, *line], source))
+    failed = [number for number, done in ends.items() if done not in due]
+    if NO_MEMORY not in ends.values():
+        return Outcome(len(ends), "no refused allocation stopped it")
+    if failed:
+        return Outcome(len(ends), f"allocation {failed[0]}: {ends[failed[0]]}")
+    return Outcome(len(ends), None)
 
 
-def main():
+def refuse_in_all(tests: dict[str, Path], tally: Tally) -> int:
+    """Tries the tests and each command of the program; gives how many allocations were refused."""
+    refused = 0
+    with tempfile.TemporaryDirectory() as folder, ThreadPoolExecutor(os.cpu_count()) as pool:
+        refuser = Refuser(Path(folder))
+        jobs: dict[str, Future[Outcome]] = {}
+        for name, file in tests.items():
+            jobs[name] = pool.submit(refuse_in_test, refuser, file, name)
+        for line in LINES:
+            jobs[name_of(line)] = pool.submit(refuse_in_program, refuser, line)
+        for name, job in jobs.items():
+            outcome = job.result()
+            refused += outcome.count
+            tally.add(name, outcome.wrong)
+    return refused
+
+
+def main() -> None:
     for crate in ROWS:
         need(tests_of(crate), f"rt test in crates/{crate}")
-    need(PROGRAM, "rt run in crates/twarp")
-    known = named_tests()
-    named = sys.argv[1:]
+    need_program()
+    known, named = named_tests(), sys.argv[1:]
     tally = Tally()
-    for name in {*LONG, *named} - {*known}:
+    for name in sorted({*LONG, *named} - {*known}):
         tally.add(name, "there is no such test")
-    left_out = {name for name in known if name in LONG or name.startswith(AMPLE)}
-    chosen = [name for name in known if name in named or not named and name not in left_out]
-    with tempfile.TemporaryDirectory() as folder, ThreadPoolExecutor(os.cpu_count()) as pool:
-        refuser = Refuser(folder)
-        jobs = {name: pool.submit(refuse_in_test, refuser, known[name], name) for name in chosen}
-        jobs |= {f"twarp {' '.join(line)}": pool.submit(refuse_in_program, refuser, line) for line in LINES}
-        refused = 0
-        for name, job in jobs.items():
-            count, wrong = job.result()
-            refused += count
-            tally.add(name, wrong)
+    refused = refuse_in_all(chosen_tests(known, named), tally)
     print(f"{refused} allocations refused in turn")
     tally.end()
 

@@ -2,10 +2,11 @@
 from __future__ import annotations
 
 import re
+from collections.abc import Iterator
 from pathlib import Path
-from typing import Iterator, NamedTuple
+from typing import NamedTuple
 
-from common import TOP
+from common import TOP, Ended
 
 FOLDER = TOP / "checks/rows"
 COMMAND = re.compile(r"\$ twarp (.+) < (\S+)\n")
@@ -21,23 +22,23 @@ class Due(NamedTuple):
     status: int
     written: str
 
-    def wrong(self, done) -> str | None:
+    def wrong(self, done: Ended) -> str | None:
         """What is wrong with how it ended, if anything."""
-        found = done.stdout.decode()
-        is_met = (
-            found.endswith("\n" + self.written.removeprefix(ANY_LINES))
-            if self.written.startswith(ANY_LINES)
-            else found == self.written
-        )
-        if is_met and (done.returncode, done.stderr) == (self.status, b""):
+        if self.is_met_by(done.out.decode()) and (done.status, done.err) == (self.status, b""):
             return None
-        return f"it ended with {(done.returncode, done.stdout, done.stderr)}, and {(self.status, self.written)} is due"
+        return f"it ended with {done}, and {(self.status, self.written)} is due"
+
+    def is_met_by(self, out: str) -> bool:
+        if self.written.startswith(ANY_LINES):
+            return out.endswith("\n" + self.written.removeprefix(ANY_LINES))
+        return out == self.written
 
 
 def rows_of(text: str) -> Iterator[Due]:
     """The rows of a file, which an empty line ends."""
     for row in text.split("\n\n"):
-        *commands, written = re.split(r"^(?!\$ )", row if row.endswith("\n") else row + "\n", maxsplit=1, flags=re.M)
+        ended_row = row if row.endswith("\n") else row + "\n"
+        *commands, written = re.split(r"^(?!\$ )", ended_row, maxsplit=1, flags=re.M)
         ended = EXIT.search(written)
         status = int(ended[1]) if ended else 0
         written = written[: ended.start()] if ended else written

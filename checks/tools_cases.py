@@ -8,15 +8,15 @@ from itertools import product
 from pathlib import Path
 
 import tools_common
-from tools_common import CASES, ToolTest, twarp
+from tools_common import CASES, ToolTest, case_of, twarp
 from twarp_tools import tutorial
 from twarp_tools.case import ORIGIN, read_case
 from twarp_tools.lines import Nodes, read_path
 
 Assignment = tuple[Nodes, ...]
 
-# The stable assignments of each case, by what the source says or as its few routers let one see by hand; of a case with
-# a scenario those before it.
+# The stable assignments of each case, by what the source says or as its few routers let one see by
+# hand; of a case with a scenario those before it.
 STABLE: dict[str, set[Assignment]] = {
     "shortest-1": {((0,), (1, 0), (2, 0), (3, 0), (4, 2, 0))},
     "shortest-2": {((0,), (1, 0), (2, 0), (3, 0), (4, 3, 0))},
@@ -33,10 +33,6 @@ STABLE: dict[str, set[Assignment]] = {
     "disagree": {((0,), (1, 0), (2, 1, 0)), ((0,), (1, 2, 0), (2, 0))},
     "slow-flap": {((0,), (1, 0), (2, 1, 0)), ((0,), (1, 2, 0), (2, 0))},
 }
-
-
-def text_of(name: str) -> str:
-    return (CASES / f"{name}.spp").read_text()
 
 
 def with_lines(text: str, *lines: str) -> str:
@@ -86,56 +82,63 @@ class CasesOfTheLiterature(ToolTest):
     def test_how_many_assignments_are_stable(self) -> None:
         for name, known in STABLE.items():
             with self.subTest(name):
-                self.assertEqual(set(stable_assignments(text_of(name))), known)
+                self.assertEqual(set(stable_assignments(case_of(name))), known)
 
     def test_shortest_paths_settle(self) -> None:
-        # Times 1 and 2: the origin's neighbours have their paths at 1, and router 4 hears of them at 2.
+        # Times 1 and 2: the origin's neighbours have their paths at 1, and router 4 hears of them
+        # at 2.
         for name in "shortest-1", "shortest-2":
-            paths, verdict = self.seq(text_of(name), 100)
+            paths, verdict = self.seq(case_of(name), 100)
             self.assertEqual(({paths}, verdict), (STABLE[name], "verdict quiet 2"))
 
     def test_naughty_gadget_may_settle_or_not(self) -> None:
-        text = text_of("naughty-gadget")
+        text = case_of("naughty-gadget")
         self.assert_oscillates(text)
         (stable,) = STABLE["naughty-gadget"]
         self.assert_quiet(text.replace("link 2 4 1", "link 2 4 2"), stable)
 
     def test_bad_backup_is_bad_gadget_once_its_link_has_failed(self) -> None:
-        text = text_of("bad-backup")
+        text = case_of("bad-backup")
         self.assertEqual({self.seq(text, 20)[0]}, STABLE["bad-backup"])
         self.assert_oscillates(text)
-        self.assertEqual(without_link(text, 0, 4), text_of("bad-gadget"))
+        self.assertEqual(without_link(text, 0, 4), case_of("bad-gadget"))
         self.assert_quiet(with_lines(text, "restore 100 0 4"), *STABLE["bad-backup"])
 
     def test_a_wedgie_stays_until_the_other_link_fails(self) -> None:
-        text = text_of("wedgie")
+        text = case_of("wedgie")
         meant, wedged = ((0,), (1, 2, 3, 0), (2, 3, 0), (3, 0)), ((0,), (1, 0), (2, 1, 0), (3, 0))
         failed = ((0,), (1, 0), (2, 1, 0), (3, 2, 1, 0))
         for stop, paths in (20, meant), (40, failed), (60, wedged), (100, meant):
             with self.subTest(stop=stop):
                 self.assertEqual(self.seq(text, stop)[0], paths)
-        # At 60 router 1 loses its link, at 61 router 2 goes by way of 3, at 62 router 1 by way of both.
+        # At 60 router 1 loses its link, at 61 router 2 goes by way of 3, at 62 router 1 by way of
+        # both.
         self.assertEqual(self.seq(text, 100)[1], "verdict quiet 62")
         self.assert_quiet(re.sub("(fail 60|restore 80) 0 1\n", "", text), wedged)
 
     def test_one_violation_oscillates_until_it_is_mended(self) -> None:
-        text = text_of("one-violation")
-        # All change to the path of two links at even times, and back at odd ones; 3 is the first time at which they
-        # have heard both kinds of paths.
+        text = case_of("one-violation")
+        # All change to the path of two links at even times, and back at odd ones; 3 is the first
+        # time at which they have heard both kinds of paths.
         self.assertEqual(self.seq(text, 100)[1], "verdict oscillates from 3 period 2")
         mended = with_lines(text, "swap 20 3 1 2")
-        # At 20 routers 1 and 2 change and router 3 no more; at 21 router 1 hears that router 2 goes by way of 3.
-        self.assertEqual(self.seq(mended, 100), (((0,), (1, 0), (2, 3, 0), (3, 0)), "verdict quiet 21"))
+        # At 20 routers 1 and 2 change and router 3 no more; at 21 router 1 hears that router 2
+        # goes by way of 3.
+        self.assertEqual(
+            self.seq(mended, 100), (((0,), (1, 0), (2, 3, 0), (3, 0)), "verdict quiet 21")
+        )
 
     def test_a_long_period_is_found_at_distant_checkpoints(self) -> None:
-        text = text_of("slow-flap")
-        # Both change their paths at 1, 51, 101, ..: from 52 on, with what was sent to the origin at 51 still under way,
-        # all is every 100 ticks as it was. The first checkpoint from which this shows is 52, 60, 60 and 100.
+        text = case_of("slow-flap")
+        # Both change their paths at 1, 51, 101, ..: from 52 on, with what was sent to the origin
+        # at 51 still under way, all is every 100 ticks as it was. The first checkpoint from which
+        # this shows is 52, 60, 60 and 100.
         verdicts = {every: self.seq(text, 1000, every)[1] for every in (1, 2, 10, 30, 100)}
         expected = {1: "open", 2: (52, 100), 10: (60, 100), 30: (60, 300), 100: (100, 100)}
         for every, known in expected.items():
-            words = known if isinstance(known, str) else f"oscillates from {known[0]} period {known[1]}"
-            self.assertEqual(verdicts[every], f"verdict {words}")
+            if known != "open":
+                known = f"oscillates from {known[0]} period {known[1]}"
+            self.assertEqual(verdicts[every], f"verdict {known}")
 
     def test_the_page_of_the_cases_says_what_its_commands_say(self) -> None:
         page = (CASES / "README.md").read_text()

@@ -1,6 +1,7 @@
-"""What the tests of the tools share: how a tool or the built program is run, and how it should end."""
+"""What the tests of the tools share: how a tool or the program is run, and how it should end."""
 from __future__ import annotations
 
+import shutil
 import subprocess
 import sys
 import unittest
@@ -8,15 +9,14 @@ from dataclasses import dataclass
 from pathlib import Path
 from xml.etree import ElementTree
 
-TOP = Path(__file__).resolve().parent.parent
-INPUTS = TOP / "checks/inputs"
-CASES = TOP / "cases"
-sys.path.insert(0, str(TOP / "tools"))
+from common import CASES, INPUTS, PROGRAM, TOP
 
-from twarp_tools import tutorial  # noqa: E402: it is found by the line above
+HAS_GRAPHVIZ = shutil.which("dot") is not None
+needs_graphviz = unittest.skipUnless(HAS_GRAPHVIZ, "Graphviz is not installed")
 
-# The built program, where the command line of the tests names no other; None where what needs it is left out.
-program: Path | None = tutorial.PROGRAM
+# The built program, where the command line of the tests names no other; None where what needs it
+# is left out.
+program: Path | None = PROGRAM
 
 
 @dataclass(frozen=True)
@@ -30,7 +30,9 @@ class Done:
 
 def run(*words: object, stdin: str | bytes = "") -> Done:
     given = stdin.encode() if isinstance(stdin, str) else stdin
-    done = subprocess.run([str(word) for word in words], input=given, capture_output=True, check=False)
+    done = subprocess.run(
+        [str(word) for word in words], input=given, capture_output=True, check=False
+    )
     return Done(done.returncode, done.stdout.decode(), done.stderr.decode())
 
 
@@ -61,9 +63,17 @@ def case_of(name: str) -> str:
     return (CASES / f"{name}.spp").read_text()
 
 
+def case_of_a_late_failure() -> str:
+    """The case failure-and-repair, with its failure and its repair after long silences."""
+    case = case_of("failure-and-repair").replace("fail 4", "fail 1000000")
+    return case.replace("restore 5", "restore 2000000")
+
+
 def texts(svg: str) -> str:
     """All words of a picture, tooltips among them, a line each."""
-    return "\n".join(element.text for element in ElementTree.fromstring(svg).iter() if element.text)
+    return "\n".join(
+        element.text for element in ElementTree.fromstring(svg).iter() if element.text
+    )
 
 
 class ToolTest(unittest.TestCase):
@@ -71,6 +81,12 @@ class ToolTest(unittest.TestCase):
         """Sees that a command ended well, and gives what it wrote on standard output."""
         self.assertEqual((done.status, done.err), (0, ""))
         return done.out
+
+    def assert_makes_a_case(self, done: Done) -> Done:
+        """Sees that a command ended well, and that twarp accepts the case that it wrote."""
+        self.assertEqual(done.status, 0, done.err)
+        self.assertRegex(twarp("check", stdin=done.out), r"^accepted nodes")
+        return done
 
     def assert_refused(self, done: Done, why: str) -> None:
         """Sees that a command refused its input for this reason, and wrote nothing else."""

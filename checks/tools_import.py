@@ -1,4 +1,4 @@
-"""Tests of what makes cases of files as they are published: relationships by a stream, and tools/import."""
+"""Tests of what makes cases of published files: relationships by a stream, and tools/import."""
 from __future__ import annotations
 
 import bz2
@@ -10,7 +10,7 @@ import tempfile
 from collections.abc import Iterator
 from pathlib import Path
 
-from tools_common import TOP, Done, ToolTest, tool, twarp
+from tools_common import TOP, Done, ToolTest, tool
 
 LINES = 500_000
 ASES = 70_000
@@ -19,11 +19,12 @@ MOST_KILOBYTES = 500_000
 
 
 def published(lines: int) -> Iterator[str]:
-    """Relationships in the form of serial-2: comments, then pairs of ASes, each once and with its source."""
+    """Relationships in the form of serial-2: comments, then pairs of ASes with their sources."""
     draw = random.Random(1).random
     yield "# source:topology|BGP|20260101|none\n"
     for number in range(2, lines + 2):
-        # Each pair is another, since the AS above the first round is paired with others in the next ones.
+        # Each pair is another, since the AS above the first round is paired with others in the
+        # next ones.
         low, turn = number % ASES + 2, number // ASES
         yield f"{1 + int(low * draw()) // 8 * 8 + turn}|{low * 8}|{-1 if turn else 0}|bgp\n"
 
@@ -40,7 +41,9 @@ class Streams(ToolTest):
         self.assertEqual(done.status, 0, done.err)
         self.assertIn("nodes 1024\n", done.out)
         # Processor time, since other programs may take turns with this one.
-        self.assertLess(after.ru_utime + after.ru_stime - before.ru_utime - before.ru_stime, MOST_SECONDS)
+        self.assertLess(
+            after.ru_utime + after.ru_stime - before.ru_utime - before.ru_stime, MOST_SECONDS
+        )
         # The greatest size that any command had until now.
         self.assertLess(after.ru_maxrss, MOST_KILOBYTES)
 
@@ -57,23 +60,26 @@ class Streams(ToolTest):
     def test_serial_1_and_serial_2(self) -> None:
         one = "# inferred clique: 1 2\n1|2|0\n2|3|-1\n"
         two = "# source:topology|BGP|x\n1|2|0|mlp\n2|3|-1|bgp\n"
-        outs = [self.assert_done(tool("relationships", "--destination", 3, stdin=text)) for text in (one, two)]
+        outs = [
+            self.assert_done(tool("relationships", "--destination", 3, stdin=text))
+            for text in (one, two)
+        ]
         self.assertEqual(*outs)
         self.assertIn("nodes 3\n", outs[0])
 
 
 class ConnectedPart(ToolTest):
     def make(self, *words: object, stdin: str) -> Done:
-        done = tool("relationships", *words, stdin=stdin)
-        self.assertEqual(done.status, 0, done.err)
-        self.assertRegex(twarp("check", stdin=done.out), r"^accepted nodes")
-        return done
+        return self.assert_makes_a_case(tool("relationships", *words, stdin=stdin))
 
     def test_each_router_has_a_path(self) -> None:
         tree = "".join(f"{number // 3}|{number}|-1\n" for number in range(3, 2000))
         done = self.make("--destination", 1000, "--keep-connected", 40, "--seed", 5, stdin=tree)
         self.assertIn("nodes 40\n", done.out)
-        self.assertEqual({int(owner) for owner in re.findall(r"^path (\d+) ", done.out, re.M)}, set(range(1, 40)))
+        self.assertEqual(
+            {int(owner) for owner in re.findall(r"^path (\d+) ", done.out, re.M)},
+            set(range(1, 40)),
+        )
         self.assertIn("ASes left out, 40 being drawn: 1,959\n", done.err)
 
     def test_the_seed_decides_and_not_the_order_of_lines(self) -> None:
@@ -88,10 +94,13 @@ class ConnectedPart(ToolTest):
         done = self.make("--destination", 1, "--keep-connected", 65, stdin=star)
         self.assertIn("nodes 65\n", done.out)
         for words in ["--keep-connected", 0], ["--keep-connected", 9, "--routers", 9]:
-            self.assertEqual(tool("relationships", "--destination", 1, *words, stdin=star).status, 3)
+            self.assertEqual(
+                tool("relationships", "--destination", 1, *words, stdin=star).status, 3
+            )
 
 
-# Three nodes in the form of the Topology Zoo: Vienna and Munich are 355 km apart, and the third has no place.
+# Three nodes in the form of the Topology Zoo: Vienna and Munich are 355 km apart, and the third
+# has no place.
 GML = """\
 Creator "Topology Zoo Toolset"
 graph [
@@ -180,10 +189,7 @@ BAD_GRAPHML = [
 
 class Import(ToolTest):
     def make(self, *words: object, stdin: str) -> Done:
-        done = tool("import", *words, stdin=stdin)
-        self.assertEqual(done.status, 0, done.err)
-        self.assertRegex(twarp("check", stdin=done.out), r"^accepted nodes")
-        return done
+        return self.assert_makes_a_case(tool("import", *words, stdin=stdin))
 
     def test_gml_with_places_on_the_globe(self) -> None:
         with tempfile.TemporaryDirectory() as folder:
@@ -194,19 +200,28 @@ class Import(ToolTest):
             drawn = self.assert_done(tool("draw", "--names", names, stdin=done.out))
         self.assertIn("<B>1 München</B>", drawn)
         self.assertIn("a lighter or equal one: 1\n", done.err)
-        self.assertIn("link 0 1 36\n", self.make("--destination", 0, "--per-tick", 10, stdin=GML).out)
+        self.assertIn(
+            "link 0 1 36\n", self.make("--destination", 0, "--per-tick", 10, stdin=GML).out
+        )
 
     def test_graphml_with_a_distance_and_a_weight(self) -> None:
         out = self.assert_done(self.make("--destination", "n0", stdin=GRAPHML))
         self.assertEqual(re.findall("link.*", out), ["link 0 1 1", "link 0 2 30", "link 1 2 70"])
         self.assertIn(BY_WEIGHT, out)
-        self.assertIn(BY_DISTANCE, self.make("--destination", "n0", "--weight", "Distance", stdin=GRAPHML).out)
-        out = self.make("--destination", "n0", "--delay", "weight", "--per-tick", "0.5", stdin=GRAPHML).out
+        self.assertIn(
+            BY_DISTANCE,
+            self.make("--destination", "n0", "--weight", "Distance", stdin=GRAPHML).out,
+        )
+        out = self.make(
+            "--destination", "n0", "--delay", "weight", "--per-tick", "0.5", stdin=GRAPHML
+        ).out
         self.assertEqual(re.findall("link.*", out), ["link 0 1 20", "link 0 2 5", "link 1 2 2"])
 
     def test_packed_it_is_the_same(self) -> None:
         out = self.make("--destination", "B", stdin=GRAPHML).out
-        self.assertEqual(tool("import", "--destination", "B", stdin=gzip.compress(GRAPHML.encode())).out, out)
+        self.assertEqual(
+            tool("import", "--destination", "B", stdin=gzip.compress(GRAPHML.encode())).out, out
+        )
 
     def test_at_most_so_many_paths(self) -> None:
         done = self.make("--destination", "n0", "--paths", 1, stdin=GRAPHML)
@@ -233,19 +248,32 @@ class Import(ToolTest):
     def test_a_node_has_at_most_64_links(self) -> None:
         star = "graph [\n" + "".join(f"node [ id {node} ]\n" for node in range(66))
         star += "".join(f"edge [ source 0 target {node} ]\n" for node in range(1, 66)) + "]\n"
-        self.assert_refused(tool("import", "--destination", 0, stdin=star), "line 132: this is a 65th link of the node 0")
+        self.assert_refused(
+            tool("import", "--destination", 0, stdin=star),
+            "line 132: this is a 65th link of the node 0",
+        )
 
     def test_options_that_the_network_does_not_meet(self) -> None:
         for words, why in (
             (["--destination", "Bonn"], "refused option --destination: 0 nodes are called Bonn"),
             (["--destination", "A"], "refused option --destination: 2 nodes are called A"),
-            (["--destination", "B", "--delay", "time"], "refused option --delay: no link has the attribute time"),
-            (["--destination", "B", "--weight", "time"], "refused option --weight: no link has the attribute time"),
+            (
+                ["--destination", "B", "--delay", "time"],
+                "refused option --delay: no link has the attribute time",
+            ),
+            (
+                ["--destination", "B", "--weight", "time"],
+                "refused option --weight: no link has the attribute time",
+            ),
         ):
             with self.subTest(words):
                 self.assert_refused(tool("import", *words, stdin=GRAPHML), why)
-        self.assertEqual(tool("import", "--destination", "B", "--per-tick", "0", stdin=GRAPHML).status, 3)
+        self.assertEqual(
+            tool("import", "--destination", "B", "--per-tick", "0", stdin=GRAPHML).status, 3
+        )
 
     def test_no_entities_of_ones_own(self) -> None:
         text = GRAPHML.replace("<graphml", '<!DOCTYPE graphml [<!ENTITY a "b">]><graphml', 1)
-        self.assert_refused(tool("import", "--destination", "B", stdin=text), "entities of one's own are not taken")
+        self.assert_refused(
+            tool("import", "--destination", "B", stdin=text), "entities of one's own are not taken"
+        )

@@ -42,7 +42,10 @@ def install(*words: object) -> Done:
 
 def files_of(folder: Path) -> dict[Path, bytes]:
     """The files and folders below a folder, with what the files hold."""
-    return {found: found.read_bytes() if found.is_file() else b"" for found in sorted(folder.rglob("*"))}
+    return {
+        found: found.read_bytes() if found.is_file() else b""
+        for found in sorted(folder.rglob("*"))
+    }
 
 
 class Installed(ToolTest):
@@ -64,13 +67,17 @@ class Installed(ToolTest):
                 self.assertTrue((self.prefix / name).is_file())
         bin_ = self.prefix / "bin"
         case = CASES / "disagree.spp"
-        report = self.assert_done(run(bin_ / "twarp", "seq", "--stop", 20, "--log", stdin=case.read_text()))
+        report = self.assert_done(
+            run(bin_ / "twarp", "seq", "--stop", 20, "--log", stdin=case.read_text())
+        )
         svg = self.assert_done(run(bin_ / "twarp-timeline", case, stdin=report))
         self.assertIn("disagree: verdict quiet 2", svg)
         page = self.assert_done(run(bin_ / "twarp-page", case, stdin=report))
         self.assertIn("</html>", page)
         for name in TOOLS:
-            self.assertIn(f"usage: twarp-{name} ", self.assert_done(run(bin_ / f"twarp-{name}", "--help")))
+            self.assertIn(
+                f"usage: twarp-{name} ", self.assert_done(run(bin_ / f"twarp-{name}", "--help"))
+            )
 
     def test_uninstalled_all_is_as_it_was(self) -> None:
         (self.prefix / "bin").mkdir(parents=True)
@@ -87,7 +94,9 @@ class Installed(ToolTest):
         self.install()
         self.assert_done(install("--prefix", self.prefix, "--uninstall"))
         self.assertEqual(files_of(self.folder), {})
-        self.assert_refused(install("--prefix", self.prefix, "--uninstall"), "no twarp is installed in")
+        self.assert_refused(
+            install("--prefix", self.prefix, "--uninstall"), "no twarp is installed in"
+        )
 
     def test_what_was_broken_off_can_be_taken_away(self) -> None:
         # A program that is none of twarp has no help of which a man page could be made.
@@ -111,7 +120,12 @@ class Installed(ToolTest):
                 shutil.rmtree(self.prefix)
 
     def test_command_lines(self) -> None:
-        for words in (), ("--prefix",), ("--perfix", "x"), ("--prefix", "x", "--uninstall", "--program", "y"):
+        for words in (
+            (),
+            ("--prefix",),
+            ("--perfix", "x"),
+            ("--prefix", "x", "--uninstall", "--program", "y"),
+        ):
             with self.subTest(words):
                 done = install(*words)
                 self.assertEqual((done.status, done.out), (3, ""))
@@ -146,8 +160,9 @@ class ManPage(ToolTest):
 def completed(script: str, line: str) -> set[str]:
     """What bash offers for the last word of a line, with this script."""
     words = line.split(" ")
-    calls = f"COMP_WORDS=({' '.join(repr(word) for word in words)}); COMP_CWORD={len(words) - 1}; _twarp"
-    done = run("bash", "--norc", "-c", f'{script}\n{calls}\nprintf "%s\\n" "${{COMPREPLY[@]}}"')
+    given = f"COMP_WORDS=({' '.join(map(repr, words))}); COMP_CWORD={len(words) - 1}"
+    shown = 'printf "%s\\n" "${COMPREPLY[@]}"'
+    done = run("bash", "--norc", "-c", "\n".join([script, given, "_twarp", shown]))
     assert (done.status, done.err) == (0, ""), done.err
     return set(done.out.split())
 
@@ -175,5 +190,7 @@ class Completions(ToolTest):
         for shell in SHELLS:
             if shutil.which(shell):
                 with self.subTest(shell):
-                    done = subprocess.run([shell, "-n"], input=manual(shell).out.encode(), capture_output=True)
+                    done = subprocess.run(
+                        [shell, "-n"], input=manual(shell).out.encode(), capture_output=True
+                    )
                     self.assertEqual((done.returncode, done.stderr), (0, b""))

@@ -1,4 +1,4 @@
-"""Tests of the tool `page`: what its pages hold and, where Chromium is installed, how they look and what they do."""
+"""Tests of the tool `page`: what its pages hold, and how they look and act in Chromium."""
 from __future__ import annotations
 
 import json
@@ -12,7 +12,7 @@ from pathlib import Path
 from typing import Any
 
 import browser
-from tools_common import CASES, ToolTest, case_of, read, report_of, tool, twarp
+from tools_common import CASES, ToolTest, case_of_a_late_failure, read, report_of, tool, twarp
 from twarp_tools.layout import distance, lay_out
 from twarp_tools.palette import DARK, LIGHT, PLACES
 from twarp_tools.report import read_report
@@ -20,7 +20,6 @@ from twarp_tools.report import read_report
 Json = dict[str, Any]
 
 needs_browser = unittest.skipUnless(browser.PROGRAM, "Chromium is not installed")
-
 
 
 def star_of(routers: int) -> str:
@@ -48,7 +47,9 @@ def states_at_the_end(data: Json) -> dict[int, Json]:
         state = states[event["router"]]
         state |= {name: event[name] for name in ("counters", "rib", "order") if name in event}
         if "row" in event:
-            state["rows"] = [event["row"] if row[0] == event["row"][0] else row for row in state["rows"]]
+            state["rows"] = [
+                event["row"] if row[0] == event["row"][0] else row for row in state["rows"]
+            ]
     return states
 
 
@@ -56,26 +57,35 @@ def luminance(colour: str) -> float:
     digits = colour.removeprefix("#")
     digits = "".join(2 * digit for digit in digits) if len(digits) == 3 else digits
     parts = [int(digits[place : place + 2], 16) / 255 for place in (0, 2, 4)]
-    red, green, blue = (part / 12.92 if part <= 0.04045 else ((part + 0.055) / 1.055) ** 2.4 for part in parts)
+    red, green, blue = (
+        part / 12.92 if part <= 0.04045 else ((part + 0.055) / 1.055) ** 2.4 for part in parts
+    )
     return 0.2126 * red + 0.7152 * green + 0.0722 * blue
 
 
 def contrast(one: str, other: str) -> float:
-    """The contrast of two colours as the Web Content Accessibility Guidelines define it, from 1 to 21."""
+    """The contrast of two colours by the Web Content Accessibility Guidelines, from 1 to 21."""
     dark, light = sorted(map(luminance, (one, other)))
     return (light + 0.05) / (dark + 0.05)
 
 
 class Page(ToolTest):
     def make(self, name: str, report: str, *words: object) -> Json:
-        return data_of(self.assert_done(tool("page", CASES / f"{name}.spp", "-", *words, stdin=report)))
+        return data_of(
+            self.assert_done(tool("page", CASES / f"{name}.spp", "-", *words, stdin=report))
+        )
 
     def test_what_happens_in_disagree(self) -> None:
         data = self.make("disagree", read("disagree-report.txt"))
         self.assertEqual(data["stops"], list(range(8)))
-        self.assertEqual((len(data["routers"]), len(data["links"]), len(data["messages"])), (3, 3, 6))
+        self.assertEqual(
+            (len(data["routers"]), len(data["links"]), len(data["messages"])), (3, 3, 6)
+        )
         words = [event["words"] for event in data["events"]]
-        self.assertEqual(words[:2], ["router 0 starts and takes (0)", "router 1 hears (0) from 0 and takes (1 0)"])
+        self.assertEqual(
+            words[:2],
+            ["router 0 starts and takes (0)", "router 1 hears (0) from 0 and takes (1 0)"],
+        )
         self.assertEqual(words[5], "router 2 hears (0) from 0")
 
     def test_a_failure_a_repair_and_a_dropped_message(self) -> None:
@@ -84,7 +94,9 @@ class Page(ToolTest):
         self.assertIn("router 1 loses the link to 2", words)
         self.assertIn("router 2 has the link to 1 again", words)
         self.assertIn("router 2 drops (1 0) from 1, which is of an earlier session", words)
-        self.assertEqual([message["arrives"] for message in data["messages"] if message["is_dropped"]], [6])
+        self.assertEqual(
+            [message["arrives"] for message in data["messages"] if message["is_dropped"]], [6]
+        )
 
     def test_the_last_states_are_the_reports(self) -> None:
         for file in sorted(CASES.glob("*.spp")):
@@ -96,7 +108,10 @@ class Page(ToolTest):
                     for told in read_report(report.encode(), len(states)).routers:
                         line, state = told.value, states[told.value.router]
                         self.assertEqual(data["paths"][state["rib"]], list(line.rib))
-                        self.assertEqual(state["counters"], [line.sent, line.handled, line.dropped, line.changed])
+                        self.assertEqual(
+                            state["counters"],
+                            [line.sent, line.handled, line.dropped, line.changed],
+                        )
 
     def test_a_part_of_a_run(self) -> None:
         report = report_of("bad-gadget", 40)
@@ -110,24 +125,32 @@ class Page(ToolTest):
         name = "disagree-equal-delays"
         report = report_of(name, 2000)
         done = tool("page", CASES / f"{name}.spp", "-", stdin=report)
-        self.assert_refused(done, "events to be shown, and a page has at most 5,000: choose some by --from")
+        self.assert_refused(
+            done, "events to be shown, and a page has at most 5,000: choose some by --from"
+        )
         self.make(name, report, "--to", 600)
         with tempfile.NamedTemporaryFile("w", suffix=".spp") as file:
             file.write(star_of(301))
             file.flush()
             report = twarp("seq", "--stop", 50, "--log", stdin=star_of(301))
             done = tool("page", file.name, "-", stdin=report)
-            self.assert_refused(done, "there are 301 routers to be shown, and a page has at most 300")
-            page = self.assert_done(tool("page", file.name, "-", "--routers", "0-299", stdin=report))
+            self.assert_refused(
+                done, "there are 301 routers to be shown, and a page has at most 300"
+            )
+            page = self.assert_done(
+                tool("page", file.name, "-", "--routers", "0-299", stdin=report)
+            )
         self.assertEqual(len(data_of(page)["routers"]), 300)
 
     def test_a_long_time_has_fewer_stops(self) -> None:
-        case = case_of("failure-and-repair").replace("fail 4", "fail 1000000").replace("restore 5", "restore 2000000")
+        case = case_of_a_late_failure()
         with tempfile.NamedTemporaryFile("w", suffix=".spp") as file:
             file.write(case)
             file.flush()
             report = twarp("seq", "--stop", 3_000_000, "--log", stdin=case)
-            data = data_of(self.assert_done(tool("page", file.name, "-", "--to", 1_000_000_000, stdin=report)))
+            data = data_of(
+                self.assert_done(tool("page", file.name, "-", "--to", 1_000_000_000, stdin=report))
+            )
         self.assertLess(len(data["stops"]), 40)
         self.assertLessEqual({0, 1_000_000, 2_000_000, 1_000_000_000}, set(data["stops"]))
 
@@ -137,16 +160,27 @@ class Page(ToolTest):
             names.flush()
             words = ["--names", names.name, "--title", "<i>", CASES / "disagree.spp", "-"]
             page = self.assert_done(tool("page", *words, stdin=read("disagree-report.txt")))
-        self.assertEqual([router["name"] for router in data_of(page)["routers"]], ["", "</script><b> & co", "AS65002"])
+        self.assertEqual(
+            [router["name"] for router in data_of(page)["routers"]],
+            ["", "</script><b> & co", "AS65002"],
+        )
         self.assertIn("<h1>&lt;i&gt;: verdict quiet 2</h1>", page)
         self.assertNotIn("<b>", page)
 
     def test_what_is_refused(self) -> None:
         report = read("disagree-report.txt")
         words = [CASES / "disagree.spp", "-"]
-        self.assert_refused(tool("page", *words, stdin=report.replace("spp-report 1", "spp-replay 1")), "line 1: ")
-        self.assert_refused(tool("page", *words, stdin=re.sub("event .*\n", "", report)), "refused line 4: no event")
-        self.assert_refused(tool("page", *words, stdin=report.replace("event 2 0", "event 3 0")), "refused line 6: ")
+        self.assert_refused(
+            tool("page", *words, stdin=report.replace("spp-report 1", "spp-replay 1")), "line 1: "
+        )
+        self.assert_refused(
+            tool("page", *words, stdin=re.sub("event .*\n", "", report)),
+            "refused line 4: no event",
+        )
+        self.assert_refused(
+            tool("page", *words, stdin=report.replace("event 2 0", "event 3 0")),
+            "refused line 6: ",
+        )
         self.assert_refused(tool("page", "--routers", 3, *words, stdin=report), "no router 3")
 
 
@@ -159,7 +193,9 @@ class PageDrawing(ToolTest):
             with self.subTest(name):
                 points = lay_out(neighbours, 80, 50, 0)
                 self.assertEqual(points, lay_out(neighbours, 80, 50, 0))
-                self.assertEqual((min(point.x for point in points), min(point.y for point in points)), (0, 0))
+                self.assertEqual(
+                    (min(point.x for point in points), min(point.y for point in points)), (0, 0)
+                )
                 self.assertTrue(all(distance(a, b) >= 49.8 for a, b in combinations(points, 2)))
 
     def test_linked_routers_are_near(self) -> None:
@@ -189,12 +225,15 @@ OVERLAPS = """(() => {
     const range = document.createRange();
     range.selectNodeContents(text);
     const group = parent.closest("svg, .pane") ?? document.body;
-    boxes.set(group, [...(boxes.get(group) ?? []), ...[...range.getClientRects()].map((box) => [text.data, box])]);
+    const found = [...range.getClientRects()].map((box) => [text.data, box]);
+    boxes.set(group, [...(boxes.get(group) ?? []), ...found]);
   }
   const meet = (a, b) => Math.min(a.right, b.right) - Math.max(a.left, b.left) > 1
     && Math.min(a.bottom, b.bottom) - Math.max(a.top, b.top) > 3;
   return [...boxes.values()].flatMap((row) => row.flatMap(([words, box], place) =>
-    row.slice(place + 1).filter(([, other]) => meet(box, other)).map(([others]) => `${words} | ${others}`)));
+    row.slice(place + 1)
+      .filter(([, other]) => meet(box, other))
+      .map(([others]) => `${words} | ${others}`)));
 })()"""
 # How far down the message from 0 to 2 is.
 HEIGHT_OF_DOT = """[...document.querySelectorAll('#network .dot')]
@@ -204,9 +243,17 @@ OUT_OF_PANE = """Object.entries({
   network: [drawn.get(149).group, network.parentElement],
   timeline: [lanes.get(149), timeline],
   time: [cursor, timeline],
-}).filter(([name, [part, pane]]) => (name !== "time" && wayTo(part, pane, DOWN)) || wayTo(part, pane, ACROSS))
+}).filter(([name, [part, pane]]) => (name !== "time" && wayTo(part, pane, DOWN))
+    || wayTo(part, pane, ACROSS))
   .map(([name]) => name)"""
 WORDS = "document.getElementById('{}').innerText"
+# The middle of what a selector finds, once it is in the window.
+CENTRE = """(() => {
+  const found = document.querySelector('SELECTOR');
+  found.scrollIntoView({block: 'center'});
+  const box = found.getBoundingClientRect();
+  return {x: box.x + box.width / 2, y: box.y + box.height / 2};
+})()"""
 
 
 @needs_browser
@@ -229,18 +276,12 @@ class PageInBrowser(ToolTest):
     def words(self, part: str) -> str:
         return self.browser.run(WORDS.format(part))
 
-    def centre(self, selector: str) -> dict[str, float]:
-        """The middle of what the selector finds, once it is in the window."""
-        return self.browser.run(
-            f"(() => {{ const found = document.querySelector('{selector}'); found.scrollIntoView({{block: 'center'}});"
-            "const box = found.getBoundingClientRect();"
-            "return {x: box.x + box.width / 2, y: box.y + box.height / 2}; })()"
-        )
-
     def click(self, selector: str) -> None:
-        place = self.centre(selector)
+        place = self.browser.run(CENTRE.replace("SELECTOR", selector))
         for kind in "mousePressed", "mouseReleased":
-            self.browser.ask("Input.dispatchMouseEvent", type=kind, button="left", clickCount=1, **place)
+            self.browser.ask(
+                "Input.dispatchMouseEvent", type=kind, button="left", clickCount=1, **place
+            )
 
     def looks(self) -> Iterator[tuple[int, bool]]:
         for width in 1280, 390:
@@ -250,7 +291,9 @@ class PageInBrowser(ToolTest):
     def test_the_slider_by_keyboard(self) -> None:
         self.browser.open(self.make("disagree", read("disagree-report.txt")), 1280)
         self.assertEqual(self.words("now"), "0")
-        self.assertEqual(self.words("state"), "2 messages under way, 2 routers without a path, 0 links down")
+        self.assertEqual(
+            self.words("state"), "2 messages under way, 2 routers without a path, 0 links down"
+        )
         self.browser.press("Tab")
         self.assertEqual(self.browser.run("document.activeElement.id"), "time")
         self.browser.press("ArrowRight")
@@ -261,8 +304,12 @@ class PageInBrowser(ToolTest):
         self.assertIn("router 2 hears (1 0) from 1 and takes (2 1 0)", self.words("events"))
         self.browser.press("End")
         self.assertEqual(self.words("now"), "7")
-        self.assertEqual(self.words("state"), "0 messages under way, 0 routers without a path, 0 links down")
-        self.assertEqual(self.browser.run("document.activeElement.getAttribute('aria-valuetext')"), "time 7")
+        self.assertEqual(
+            self.words("state"), "0 messages under way, 0 routers without a path, 0 links down"
+        )
+        self.assertEqual(
+            self.browser.run("document.activeElement.getAttribute('aria-valuetext')"), "time 7"
+        )
         self.browser.press("Home")
         self.assertEqual(self.words("now"), "0")
 
@@ -274,14 +321,20 @@ class PageInBrowser(ToolTest):
             self.click("#later")
         self.assertEqual(len(set(heights)), 5)
         self.assertEqual(self.words("now"), "5")
-        self.assertNotIn("0 to 2", self.browser.run("document.getElementById('network').textContent"))
+        self.assertNotIn(
+            "0 to 2", self.browser.run("document.getElementById('network').textContent")
+        )
 
     def test_a_failure(self) -> None:
-        self.browser.open(self.make("failure-and-repair", read("failure-and-repair-report.txt")), 390)
+        self.browser.open(
+            self.make("failure-and-repair", read("failure-and-repair-report.txt")), 390
+        )
         for time, state in (4, "1 link down"), (5, "0 links down"):
             self.browser.run(f"goTo({time})")
             self.assertIn(state, self.words("state"))
-        self.assertEqual(self.browser.run("document.querySelectorAll('#network .dot.lost').length"), 1)
+        self.assertEqual(
+            self.browser.run("document.querySelectorAll('#network .dot.lost').length"), 1
+        )
         self.browser.run("choose(2)")
         self.browser.run("goTo(4)")
         self.assertRegex(self.words("table"), r"1\s+3\s+down\s+0\s+no path")
@@ -330,7 +383,11 @@ class PageInBrowser(ToolTest):
                     self.browser.run("goTo(5)")
                     self.assertEqual(self.browser.faults(), [])
                     self.assertEqual(self.browser.requests(), [page.resolve().as_uri()])
-                    self.assertLessEqual(self.browser.run("document.documentElement.scrollWidth"), width)
+                    self.assertLessEqual(
+                        self.browser.run("document.documentElement.scrollWidth"), width
+                    )
                     self.assertEqual(self.browser.run(OVERLAPS), [])
                     ground = self.browser.run("getComputedStyle(document.body).backgroundColor")
-                    self.assertEqual(ground, "rgb(21, 24, 28)" if is_dark else "rgb(255, 255, 255)")
+                    self.assertEqual(
+                        ground, "rgb(21, 24, 28)" if is_dark else "rgb(255, 255, 255)"
+                    )

@@ -1,20 +1,23 @@
 #!/usr/bin/env python3
 """Tries the wrong bodies of crates in batches: the checker must refuse each.
 
-    wrong_bodies.py [--changed REV] [--jobs N] [CRATE ..]        all crates that have some, where none is named
+    wrong_bodies.py [--changed REV] [--jobs N] [CRATE ..]
 
-A wrong body is a file NAME.edit in a crate's must-fail/ or wrong-bodies/: `file:` names a file of the crate, and each
-pair of lines `old:`, `new:` puts one text in place of another that stands in it once. As many as change different
-functions go into one copy of the crate, which is checked once. A wrong body counts as refused where the checker tells
-an error of the very function that it changes: a function's proof rests on the contracts of what it calls and not on
-their bodies, so that refusals do not hide one another. What is not told of (its function waits for another one's
-proof, or its text stands twice once another one is there) goes into a later batch, and at last alone; so does what
-changes more than functions, as a definition. What is still proved alone has failed, and so has what does not apply or
-what the checker cannot read.
+Where no crate is named, these are all that have some. A wrong body is a file NAME.edit in a
+crate's must-fail/ or wrong-bodies/: `file:` names a file of the crate, and each pair of lines
+`old:`, `new:` puts one text in place of another that stands in it once. As many as change
+different functions go into one copy of the crate, which is checked once. A wrong body counts as
+refused where the checker tells an error of the very function that it changes: a function's proof
+rests on the contracts of what it calls and not on their bodies, so that refusals do not hide one
+another. What is not told of (its function waits for another one's proof, or its text stands twice
+once another one is there) goes into a later batch, and at last alone; so does what changes more
+than functions, as a definition. What is still proved alone has failed, and so has what does not
+apply or what the checker cannot read.
 
-It first checks each crate as it stands, by `rt check` in this checkout, and then works in a folder beside the
-repository, over what that check kept. --changed takes the crates whose files differ from the revision REV. There is a
-line for each wrong body, one for each crate with its processor time, and at last 'N passed, M failed'.
+It first checks each crate as it stands, by `rt check` in this checkout, and then works in a
+folder beside the repository, over what that check kept. --changed takes the crates whose files
+differ from the revision REV. There is a line for each wrong body, one for each crate with its
+processor time, and at last 'N passed, M failed'.
 """
 from __future__ import annotations
 
@@ -35,7 +38,9 @@ from pathlib import Path
 
 from common import TOP, Tally
 from functions import Function, functions_of
+from twarp_tools.schedule import below, graph_of
 
+CRATES = TOP / "crates.txt"
 FOLDERS = ("must-fail", "wrong-bodies")
 PARTS = ("src", "specs", "proofs")
 # How often a wrong body is tried beside others before it is tried alone.
@@ -47,7 +52,9 @@ ERROR_OF_PROOF = re.compile(r"(?:\./)?proofs/(\S+)/[^/\s]+\.antt:\d+:\d+: error:
 ERROR_OF_SOURCE = re.compile(r"(?:note: )?(?:\./)?(src/\S+?):(\d+):\d+: (.*)")
 ERROR = re.compile(r"(note: )?\S+:\d+:\d+:")
 # An error of a proof that names what was taken away says nothing of the contract.
-OF_NAMES = re.compile(r"has no field|is not in scope|has no `|was not admitted|was rejected, w(as|ere) not checked")
+OF_NAMES = re.compile(
+    r"has no field|is not in scope|has no `|was not admitted|was rejected, w(as|ere) not checked"
+)
 AT_LIMIT = re.compile(r"antt ran out of|outgrew the memory limit|stopped at the step limit")
 
 Read = Callable[[str], str]
@@ -67,7 +74,10 @@ class DoesNotApply(Exception):
 
 
 def without_comments(text: str) -> list[str]:
-    """The lines of a source without `/* .. */`, by which a wrong body makes texts that it keeps stand apart."""
+    """The lines of a source without `/* .. */`.
+
+    A wrong body has such comments so that texts that it keeps stand apart.
+    """
     return [re.sub(r"/\*.*?\*/ ?", "", line) for line in text.split("\n")]
 
 
@@ -99,14 +109,19 @@ class WrongBody:
         return body
 
     def applied(self, texts: Texts, read: Read) -> Texts:
-        """The texts of the files that it changes; `texts` has those that are changed already, `read` gives the others."""
+        """The texts of the files that it changes.
+
+        `texts` has those that are changed already, `read` gives the others.
+        """
         if not self.changes:
             raise DoesNotApply("it has no 'old:' and 'new:' pair")
         changed: Texts = {}
         for file, old, new in self.changes:
             text = changed.get(file) or texts.get(file) or read(file)
             if text.count(old) != 1:
-                raise DoesNotApply(f"an 'old:' text is in {file} {text.count(old)} times, and not once")
+                raise DoesNotApply(
+                    f"an 'old:' text is in {file} {text.count(old)} times, and not once"
+                )
             changed[file] = text.replace(old, new)
         return changed
 
@@ -119,7 +134,7 @@ class WrongBody:
             inside = functions_of(file, read(file))
             pairs = zip(without_comments(read(file)), without_comments(text))
             for line in (place for place, (one, other) in enumerate(pairs, 1) if one != other):
-                around = [it for it in inside if it.first <= line <= it.last]
+                around = [it for it in inside if it.has_line(line)]
                 if not around:
                     return None
                 found.add(around[-1])
@@ -145,12 +160,13 @@ class Said:
                 yield match[1].split("::")[1:], match[2]
 
     def errors_of(self, function: Function, file: str) -> Iterator[str]:
-        """What the check told of this function, in its proof, in its source, or for want of a proof of its own."""
+        """What the check told of this function, in its proof or source, or for want of a proof."""
         for line in self.lines:
             proof, source = ERROR_OF_PROOF.match(line), ERROR_OF_SOURCE.match(line)
-            if proof and function.is_named_by(proof[1].split("/")) and not OF_NAMES.search(proof[2]):
-                yield proof[2]
-            elif source and source[1] == file and function.first <= int(source[2]) <= function.last:
+            if proof and function.is_named_by(proof[1].split("/")):
+                if not OF_NAMES.search(proof[2]):
+                    yield proof[2]
+            elif source and source[1] == file and function.has_line(int(source[2])):
                 yield source[3]
         for words, verdict in self.verdicts():
             if function.is_named_by(words) and verdict.startswith("no proof: expected"):
@@ -181,29 +197,18 @@ def checked(folder: Path) -> Said:
 def crates() -> dict[str, list[str]]:
     """Each crate of crates.txt with what it uses."""
     found = {}
-    for line in (TOP / "crates.txt").read_text().split("\n"):
+    for line in CRATES.read_text().split("\n"):
         name, colon, uses = line.partition("#")[0].partition(":")
         if colon:
             found[name.split()[0]] = uses.split()
     return found
 
 
-def with_those_below(crate: str) -> list[str]:
-    """A crate and the crates of this repository that it stands on, lowest first."""
-    known, found = crates(), list[str]()
-
-    def visit(name: str) -> None:
-        for used in known[name]:
-            if used in known and used not in found:
-                visit(used)
-        found.append(name)
-
-    visit(crate)
-    return found
-
-
 def copy_linked(folder: Path, to: Path) -> None:
-    """Copies a folder, where it is there; what was proved by links, since a check replaces such a file and changes none."""
+    """Copies a folder, where it is there; what was proved by links.
+
+    A check replaces such a file and changes none.
+    """
 
     def copy(one: str, other: str) -> None:
         if one.endswith(".oantt"):
@@ -227,7 +232,7 @@ class Room:
         self.top.mkdir()
         subprocess.run(["git", "init", "-q", self.top], check=True)
         shutil.copy2(TOP / "HANDLES", self.top / "HANDLES")
-        known, copied = crates(), with_those_below(crate)
+        known, copied = crates(), below(graph_of(CRATES.read_text()), crate)
         lines = [f"{name}: {' '.join(known[name])}\n" for name in copied]
         (self.top / "crates.txt").write_text("".join(lines))
         for name in copied:
@@ -239,7 +244,10 @@ class Room:
         return (self.original / file).read_text()
 
     def check(self, texts: Texts) -> Said:
-        """Checks the crate with these texts in place of its own, over what is kept of the crate as it stands."""
+        """Checks the crate with these texts in place of its own.
+
+        This goes over what is kept of the crate as it stands.
+        """
         shutil.rmtree(self.copy / "out", ignore_errors=True)
         copy_linked(self.original / "out/incremental", self.copy / "out/incremental")
         for file, text in texts.items():
@@ -283,7 +291,7 @@ class Waits:
 
 
 class Batches:
-    """Tries the wrong bodies of a crate, and tells of each why it was refused, or what is wrong with it."""
+    """Tries the wrong bodies of a crate, and tells why each was refused, or what is wrong."""
 
     def __init__(self, room: Room, tell: Callable[[WrongBody, str, str], None]) -> None:
         self.room = room
@@ -318,7 +326,7 @@ class Batches:
         return {function.path for body in bodies for function in self.functions[body]}
 
     def next_batch(self) -> tuple[list[WrongBody], Texts]:
-        """Takes the next wrong bodies to be tried together, and makes the texts that have them all."""
+        """Takes the next wrong bodies to be tried together, and makes the texts with them all."""
         batch: list[WrongBody] = []
         texts: Texts = {}
         for body in self.together:
@@ -327,13 +335,14 @@ class Batches:
                     texts |= body.applied(texts, self.room.read)
                     batch.append(body)
                 except DoesNotApply:
-                    # It applies alone, so another one of the batch has its text: it waits for the next.
+                    # It applies alone, so another one of the batch has its text: it waits for the
+                    # next.
                     pass
         self.together = [body for body in self.together if body not in batch]
         return batch, texts
 
     def is_apart(self, body: WrongBody, batch: list[WrongBody]) -> bool:
-        """Whether it changes other functions than the batch, and neither is known to wait for the other's."""
+        """Whether it changes other functions than the batch, and neither waits for the other's."""
         own, others = self.paths([body]), self.paths(batch)
         leads = self.waits.lead(own, others) or self.waits.lead(others, own)
         return not own & others and not leads
@@ -355,7 +364,7 @@ class Batches:
                 self.put_back(body)
 
     def part(self, batch: list[WrongBody]) -> None:
-        """One half of a batch that came to no verdict is tried alone, the other beside what comes later."""
+        """Tries one half of a batch without a verdict alone, the other beside what comes later."""
         half = len(batch) // 2
         self.alone += batch[:half]
         for body in batch[half:]:
@@ -366,7 +375,7 @@ class Batches:
         (self.alone if body.tries >= MOST_TOGETHER else self.together).append(body)
 
     def reason(self, body: WrongBody, texts: Texts, said: Said) -> str:
-        """The first thing that the check told of a function that the wrong body changes; nothing where it told none."""
+        """The first thing that the check told of a function that the wrong body changes."""
         paths = self.paths([body])
         for file in sorted({file for file, _, _ in body.changes}):
             for function in functions_of(file, texts[file]):
@@ -380,8 +389,12 @@ class Batches:
         if said.status == 0:
             self.tell(body, "", "it is still proved")
         elif said.has_refused():
-            errors = [line for line in said.lines if ERROR.match(line) and not OF_NAMES.search(line)]
-            self.tell(body, (errors or ["only because a proof file names what it took away"])[0], "")
+            errors = [
+                line for line in said.lines if ERROR.match(line) and not OF_NAMES.search(line)
+            ]
+            self.tell(
+                body, (errors or ["only because a proof file names what it took away"])[0], ""
+            )
         elif said.status == 3 and any(map(AT_LIMIT.search, said.lines)):
             self.tell(body, "only by a limit of the prover", "")
         elif said.status == 1:
@@ -400,7 +413,12 @@ def changed_since(revision: str) -> set[str]:
     """The crates whose files differ from a revision."""
     asked = (["diff", "--name-only", revision], ["ls-files", "--others", "--exclude-standard"])
     told = [
-        subprocess.run(["git", "-C", TOP, *words, "--", "crates"], stdout=subprocess.PIPE, text=True, check=True)
+        subprocess.run(
+            ["git", "-C", TOP, *words, "--", "crates"],
+            stdout=subprocess.PIPE,
+            text=True,
+            check=True,
+        )
         for words in asked
     ]
     return {path.split("/")[1] for one in told for path in one.stdout.split()}
@@ -438,9 +456,10 @@ def chosen_crates(asked: argparse.Namespace) -> list[str]:
 
 def with_all_below(known: Iterable[str]) -> list[str]:
     """All crates, each behind those that it stands on."""
+    graph = graph_of(CRATES.read_text())
     found: dict[str, None] = {}
     for crate in known:
-        found |= dict.fromkeys(with_those_below(crate))
+        found |= dict.fromkeys(below(graph, crate))
     return list(found)
 
 
@@ -448,9 +467,12 @@ def main() -> None:
     words = argparse.ArgumentParser(
         description=__doc__, formatter_class=argparse.RawDescriptionHelpFormatter
     )
-    words.add_argument("--changed", metavar="REV", help="the crates whose files differ from this revision")
     words.add_argument(
-        "--jobs", metavar="N", type=int, default=os.cpu_count(), help="crates side by side (one for each processor)"
+        "--changed", metavar="REV", help="the crates whose files differ from this revision"
+    )
+    words.add_argument(
+        "--jobs", metavar="N", type=int, default=os.cpu_count(),
+        help="crates side by side (one for each processor)",
     )
     words.add_argument("crates", metavar="CRATE", nargs="*")
     asked = words.parse_args()

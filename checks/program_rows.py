@@ -1,0 +1,257 @@
+"""The rows of the program that need an input and a command line alone, and what is due in each."""
+from __future__ import annotations
+
+import re
+from collections import Counter
+from collections.abc import Callable, Iterator, Sequence
+from functools import partial
+from pathlib import Path
+from typing import NamedTuple
+
+from common import CASES, DISAGREE, NOTHING, REPLAYED, REPORT, STRAGGLER, Ended, Word, name_of
+from rows import all_rows
+
+SEQ = ["seq", "--stop", "20", "--log"]
+RUN = ["run", "--stop", "20", "--log", "--workers", "2"]
+TRAIL = ["trail", "--router", "1", "--stop", "20", "--keep", "0"]
+REPLAY = ["replay", "--stop", "20", "--workers", "2"]
+COMMANDS = [["check"], SEQ, RUN, TRAIL, REPLAY]
+
+# What a line of the help begins with, for each command.
+HELP = {
+    "": [
+        "Usage: twarp ",
+        "  check ",
+        "  seq ",
+        "  run ",
+        "  trail ",
+        "  replay ",
+        "Exit status:",
+        "  0  ",
+        "  1  ",
+        "  2  ",
+        "  3  ",
+    ],
+    "check": ["Usage: twarp check", "Exit status:"],
+    "seq": ["Usage: twarp seq ", "      --stop <TICKS>", "      --log", "Exit status:"],
+    "run": [
+        "Usage: twarp run ",
+        "      --stop <TICKS>",
+        "      --every <TICKS>",
+        "      --log",
+        "      --workers <COUNT>",
+        "      --batch <COUNT>",
+        "Exit status:",
+    ],
+    "trail": [
+        "Usage: twarp trail ",
+        "      --router <NUMBER>",
+        "      --stop <TICKS>",
+        "      --keep <COUNT>",
+        "Exit status:",
+    ],
+    "replay": [
+        "Usage: twarp replay ",
+        "      --stop <TICKS>",
+        "      --workers <COUNT>",
+        "Exit status:",
+    ],
+}
+
+# What the help of a command says somewhere: the ranges of its numbers, and what they are where no
+# number is given.
+RANGES = {
+    "seq": ["1 to 1000000000"],
+    "run": ["1 to 1000000000", "1 to 16, and 4", "1 to 4096, or else 64"],
+    "trail": ["0 to 1023", "1 to 1000000000", "0 to 1000000000"],
+    "replay": ["1 to 1000000000", "1 to 16"],
+}
+
+# The beginning of a case, of six lines.
+TWO_LINKS = "spp 1\nnodes 3\nlink 0 1 3\nlink 1 2 3\npath 1 1 0\npath 2 2 1 0\n"
+
+# A text, and the line that each command answers to it.
+REFUSED = {
+    "spp 1\nnodes 3\nlink 1 1 2\nend\n": "line 3 I2 SelfLink",
+    "spp 1\nnodes 3\nlink 0 1 1\nlink 1 2 1\npath 1 1 2 1 0\nend\n": "line 5 I7 PathRepeats",
+    "spp 1\nnodes 2\nlink 0 1 0\nend\n": "line 3 I4 Delay",
+    "spp 1\nnodes 007\nend\n": "line 2 X4 Number",
+    "spp 1\nnodes 1\n": "line 3 X6 End",
+    "spp 1\nnodes 2\nlink 1 1 0\nend\n": "line 3 I2 SelfLink",
+    "": "line 1 X6 End",
+    "spp 1\nnodes 3\nlink 0": "line 3 X3 Word",
+    "spp 1\nnodes 3\nlink 0 1 3": "line 3 X6 End",
+    "spp 1\r\n": "line 1 X1 Byte",
+    "spp 1\nlink 0 1 1\n": "line 2 X5 Order",
+    "spp 1\nnodes 9999999999\n": "line 2 I1 Range",
+    "spp 1\nnodes 99999999999\n": "line 2 X4 Number",
+    "spp 1\nnodes 2\nfail 1000000001 0 1\n": "line 3 I11 NoSuchLink",
+    TWO_LINKS + "fail 4 0 2\n": "line 7 I11 NoSuchLink",
+    TWO_LINKS + "swap 4 2 1 2\n": "line 7 I12 NoSuchPlace",
+}
+
+# A text that goes on behind a case, and the line that each command whose input is a case answers.
+REFUSED_BEHIND_A_CASE = {
+    "spp 1\nnodes 1\nend\nend\n": "line 4 X6 End",
+    "spp 1\nnodes 1\nend\n\n": "line 4 X3 Word",
+    "spp 1\nnodes 1\nend\nnodes 1\n": "line 4 X5 Order",
+}
+
+# Steps behind DISAGREE that are broken off, and the line that `replay` answers.
+REFUSED_STEPS = {
+    "": "line 11 X6 End",
+    "handle 0\ndeliver 2\n": "line 13 X6 End",
+    "handle 0\ndeliver 2": "line 12 X6 End",
+    "handle 0\nend": "line 12 X6 End",
+    "handle 0\ndeliver": "line 12 X3 Word",
+}
+
+BAD_LINES: dict[str, Sequence[Word]] = {
+    "no command": [],
+    "an unknown command": ["sequence"],
+    "an option in place of a command": ["--stop", "20"],
+    "an unknown option": ["seq", "--stop", "20", "--loud"],
+    "another command's option": ["check", "--stop", "20"],
+    "a word too many": ["check", "case"],
+    "an option given twice": ["seq", "--stop", "20", "--stop", "20"],
+    "an option without its number": ["seq", "--stop"],
+    "no stop": ["seq", "--log"],
+    "no router": ["trail", "--stop", "20", "--keep", "0"],
+    "no stop of a trail": ["trail", "--router", "1", "--keep", "0"],
+    "no keep": ["trail", "--router", "1", "--stop", "20"],
+    "a stop of 0": ["seq", "--stop", "0"],
+    "a stop past its limit": ["seq", "--stop", "1000000001"],
+    "a stop below 0": ["seq", "--stop", "-1"],
+    "a stop that no u64 holds": ["seq", "--stop", "18446744073709551616"],
+    "a stop that is no number": ["seq", "--stop", "soon"],
+    "a router past its limit": ["trail", "--router", "1024", "--stop", "20", "--keep", "0"],
+    "a keep past its limit": ["trail", "--router", "1", "--stop", "20", "--keep", "1000000001"],
+    "no stop of a replay": ["replay", "--workers", "2"],
+    "no worker": ["replay", "--stop", "20", "--workers", "0"],
+    "a worker too many": ["replay", "--stop", "20", "--workers", "17"],
+    "a replay that is to be logged": ["replay", "--stop", "20", "--log"],
+    "no stop of a run": ["run", "--workers", "2"],
+    "a run by no worker": ["run", "--stop", "20", "--workers", "0"],
+    "a run by a worker too many": ["run", "--stop", "20", "--workers", "17"],
+    "a batch of 0": ["run", "--stop", "20", "--batch", "0"],
+    "a batch past its limit": ["run", "--stop", "20", "--batch", "4097"],
+    "a batch of one thread": ["seq", "--stop", "20", "--batch", "64"],
+    "a word that is no UTF-8": ["seq", "--stop", b"\xff"],
+}
+
+
+def differs(done: Ended, due: Ended) -> str | None:
+    """What is wrong with how a command ended, if anything."""
+    return None if done == due else f"it ended with {done}, and {due} is due"
+
+
+def stated(text: str) -> bytes:
+    """The line of `twarp check` for a case, by counting its lines."""
+    lines = [line.split() for line in text.splitlines()]
+    of_kind = Counter(line[0] for line in lines)
+    scenes = of_kind["fail"] + of_kind["restore"] + of_kind["swap"]
+    return (
+        f"accepted nodes {lines[1][1]} links {of_kind['link']} paths {of_kind['path']} "
+        f"scenario {scenes}\n"
+    ).encode()
+
+
+class Row(NamedTuple):
+    """A run, and what judges its end: it gives what is wrong, if anything."""
+
+    name: str
+    words: Sequence[Word]
+    source: Path
+    wrong: Callable[[Ended], str | None]
+
+
+def row(name: str, words: Sequence[Word], source: Path, status: int, out: bytes) -> Row:
+    """A row of which nothing is written on standard error."""
+    return Row(name, words, source, partial(differs, due=Ended(status, out, b"")))
+
+
+def worked() -> Iterator[Row]:
+    for due in all_rows():
+        yield Row(f"{name_of(due.words)} of {due.source.name}", due.words, due.source, due.wrong)
+
+
+def answers() -> Iterator[Row]:
+    report, replayed = REPORT.read_bytes(), REPLAYED.read_bytes()
+    for case in sorted(CASES.glob("*.spp")):
+        line = stated(case.read_text(encoding="ascii"))
+        yield row(f"check of {case.name}", ["check"], case, 0, line)
+    yield row(name_of(SEQ), SEQ, DISAGREE, 0, report)
+    for more in (
+        [],
+        ["--workers", "1"],
+        ["--workers", "3", "--batch", "1"],
+        ["--workers", "16", "--batch", "4096"],
+    ):
+        words = ["run", "--stop", "20", "--log", *more]
+        yield row(name_of(words), words, DISAGREE, 0, report)
+    for count in "1", "2", "16":
+        words = ["replay", "--stop", "20", "--workers", count]
+        yield row(name_of(words), words, STRAGGLER, 0, replayed)
+
+
+def refusals(folder: Path) -> Iterator[Row]:
+    """Texts that are refused. One of them is put into the folder."""
+    bad = folder / "bad.spp"
+    bad.write_text("spp 1\nnodes 0\nend\n")
+    no_such = ["trail", "--router", "3", "--stop", "20", "--keep", "0"]
+    for words in [*COMMANDS, no_such]:
+        yield row(f"{name_of(words)} of no case", words, bad, 1, b"refused line 2 I1 Range\n")
+        yield row(f"{name_of(words)} of nothing", words, NOTHING, 1, b"refused line 1 X6 End\n")
+    lines = len(DISAGREE.read_text().splitlines())
+    refused = f"refused line {lines + 1} X6 End\n".encode()
+    yield row("a replay without its steps", REPLAY, DISAGREE, 1, refused)
+
+
+def refused_texts(folder: Path) -> Iterator[Row]:
+    """The texts of the tables, each in a file in the folder, and every command that refuses it."""
+    of_a_case = [words for words in COMMANDS if words != REPLAY]
+    replays = {DISAGREE.read_text() + steps: line for steps, line in REFUSED_STEPS.items()}
+    tables = (REFUSED, COMMANDS), (REFUSED_BEHIND_A_CASE, of_a_case), (replays, [REPLAY])
+    for number, (texts, commands) in enumerate(tables):
+        for place, (text, line) in enumerate(texts.items()):
+            file = folder / f"refused-{number}-{place}"
+            file.write_bytes(text.encode())
+            for words in commands:
+                refused = f"refused {line}\n".encode()
+                yield row(f"{name_of(words)} of {text!r}", words, file, 1, refused)
+
+
+def wrong_help(command: str, done: Ended) -> str | None:
+    if (done.status, done.err) != (0, b""):
+        return f"it ended with {done}"
+    said = done.out.decode()
+    lacks = [head for head in HELP[command] if not re.search(f"^{re.escape(head)}", said, re.M)]
+    lacks += [words for words in RANGES.get(command, []) if words not in said]
+    return f"it does not say {lacks}" if lacks else None
+
+
+def helps() -> Iterator[Row]:
+    for command in HELP:
+        own = [command] * bool(command)
+        for words in [*own, "--help"], [*own, "-h"], ["help", *own]:
+            yield Row(name_of(words), words, NOTHING, partial(wrong_help, command))
+
+
+def wrong_bad_line(done: Ended) -> str | None:
+    is_told = done.err.startswith(b"error: ") and done.err.endswith(b"\n")
+    return None if is_told and done[:2] == (3, b"") else f"it ended with {done}"
+
+
+def bad_lines() -> Iterator[Row]:
+    for name, words in BAD_LINES.items():
+        yield Row(name, words, DISAGREE, wrong_bad_line)
+
+
+def rows(folder: Path) -> Iterator[Row]:
+    """All rows, whose own inputs are put into the folder."""
+    yield from answers()
+    yield from worked()
+    yield from refusals(folder)
+    yield from refused_texts(folder)
+    yield from helps()
+    yield from bad_lines()

@@ -1,0 +1,104 @@
+"""Runs of commands with one allocation refused."""
+from __future__ import annotations
+
+import itertools
+import os
+import shutil
+import subprocess
+import sys
+from collections.abc import Iterator, Sequence
+from pathlib import Path
+from typing import NamedTuple
+
+from common import Ended, Word, run
+
+# Refuses allocation number REFUSE, from 1, of all threads together, and writes a byte to the file
+# REFUSED where there was one. It includes no header, so that any C compiler makes it.
+LIBRARY = r"""
+typedef unsigned long size_t;
+void *dlsym(void *handle, const char *name);
+char *getenv(const char *name);
+unsigned long strtoul(const char *text, char **end, int base);
+int open(const char *file, int flags, ...);
+long write(int handle, const void *bytes, size_t size);
+int close(int handle);
+void _exit(int status);
+static void *const NEXT = (void *)-1L;
+static unsigned long wanted, seen;
+static int refuses(void) {
+    int handle;
+    if (!wanted) return 0;
+    if (__atomic_add_fetch(&seen, 1, __ATOMIC_SEQ_CST) != wanted) return 0;
+    handle = open(getenv("REFUSED"), 0101, 0600);
+    if (write(handle, "r", 1) != 1) _exit(99);
+    close(handle);
+    return 1;
+}
+__attribute__((constructor)) static void begin(void) {
+    const char *word = getenv("REFUSE");
+    seen = 0;
+    wanted = word ? strtoul(word, 0, 10) : 0;
+}
+void *malloc(size_t size) {
+    void *(*next)(size_t) = dlsym(NEXT, "malloc");
+    return refuses() ? 0 : next(size);
+}
+void *realloc(void *old, size_t size) {
+    void *(*next)(void *, size_t) = dlsym(NEXT, "realloc");
+    return refuses() ? 0 : next(old, size);
+}
+"""
+
+
+def compiler() -> list[str]:
+    """$CC, or cc, or the compiler of the toolchain that rt belongs to."""
+    if "CC" in os.environ:
+        return os.environ["CC"].split()
+    if shutil.which("cc"):
+        return ["cc"]
+    rt = shutil.which("rt")
+    clang = Path(rt or "/").resolve().parent.parent / "toolchain/bin/clang"
+    if clang.exists():
+        return [str(clang), "-fuse-ld=lld"]
+    sys.exit("there is no C compiler: set CC")
+
+
+class Refusal(NamedTuple):
+    """How a command ended with the allocation of this number, from 1, refused."""
+
+    number: int
+    ended: Ended
+
+
+class Refuser:
+    """Runs commands with one allocation refused, by a library put before the C library."""
+
+    def __init__(self, folder: Path) -> None:
+        """The library is made in the folder."""
+        self.folder = folder
+        self.library = folder / "refuse.so"
+        self.marks = itertools.count()
+        source = folder / "refuse.c"
+        source.write_text(LIBRARY)
+        how = ["-shared", "-fPIC", "-nostdlib", "-fno-builtin"]
+        subprocess.run([*compiler(), *how, "-o", self.library, source], check=True)
+
+    def run(self, number: int, words: Sequence[Word], stdin: Path) -> Ended | None:
+        """Refuses allocation 1, 2, .. to the last, or until the command does not end."""
+        mark = self.folder / f"refused-{next(self.marks)}"
+        env = {"LD_PRELOAD": str(self.library), "REFUSE": str(number), "REFUSED": str(mark)}
+        done = run(words, stdin, env=env)
+        if not mark.exists():
+            return done if done.status is None else None
+        mark.unlink()
+        return done
+
+    def each(self, words: Sequence[Word], stdin: Path) -> Iterator[Refusal]:
+        """Refuses allocation 1, 2, .. to the last, or to one with which the command never ends."""
+        for number in itertools.count(1):
+            done = self.run(number, words, stdin)
+            if done is None:
+                return
+            yield Refusal(number, done)
+            if done.status is None:
+                return
