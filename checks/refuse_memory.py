@@ -17,7 +17,8 @@ Each command of the program runs in the same way, on DISAGREE or on the replay o
 so do its help and a line that it does not accept. Refused memory must end it with status 2 and the
 line `stopped memory`, or `stopped thread` where a thread needed it, with nothing on standard
 output; or, where the standard library then asks for less and gets it, it must end as it does with
-all its memory.
+all its memory. Of a run by one worker the allocation that starts its thread is the only one that
+may be told as a refused thread. Of runs by 1 to 16 workers each thread is refused in turn.
 """
 from __future__ import annotations
 
@@ -30,6 +31,7 @@ from pathlib import Path
 from typing import NamedTuple
 
 from common import (
+    DISAGREE,
     LIMIT,
     NO_MEMORY,
     NO_THREAD,
@@ -132,6 +134,29 @@ def refuse_in_program(refuser: Refuser, line: list[str]) -> Outcome:
     return Outcome(len(ends), None)
 
 
+def run_by(workers: int) -> list[str]:
+    return ["run", "--stop", "20", "--log", "--workers", str(workers)]
+
+
+def refuse_start(refuser: Refuser) -> Outcome:
+    """Which allocations of a run by one worker are told as a refused thread."""
+    words = [PROGRAM, *run_by(1)]
+    due = [refuser.allocations_before_threads(words, DISAGREE)]
+    ends = dict(refuser.each(words, DISAGREE))
+    told = [number for number, done in ends.items() if done == NO_THREAD]
+    if told == due:
+        return Outcome(len(ends), None)
+    return Outcome(len(ends), f"allocations {told} are told as a refused thread, and {due} are due")
+
+
+def refuse_threads(refuser: Refuser, workers: int) -> Outcome:
+    """Whether a run whose threads are refused in turn stops for a thread, and has as many."""
+    words = [PROGRAM, *run_by(workers)]
+    ends = [refuser.run_without_thread(number, words, DISAGREE) for number in range(1, workers + 2)]
+    due = [NO_THREAD] * workers + [None]
+    return Outcome(0, None if ends == due else f"its threads refused in turn, it ended with {ends}")
+
+
 def refuse_in_all(tests: dict[str, Path], tally: Tally) -> int:
     """Tries the tests and each command of the program; gives how many allocations were refused."""
     refused = 0
@@ -142,6 +167,10 @@ def refuse_in_all(tests: dict[str, Path], tally: Tally) -> int:
             jobs[name] = pool.submit(refuse_in_test, refuser, file, name)
         for line in LINES:
             jobs[name_of(line)] = pool.submit(refuse_in_program, refuser, line)
+        jobs["what is told as a refused thread"] = pool.submit(refuse_start, refuser)
+        for workers in (1, 2, 5, 16):
+            name = f"{name_of(run_by(workers))} with each thread refused"
+            jobs[name] = pool.submit(refuse_threads, refuser, workers)
         for name, job in jobs.items():
             outcome = job.result()
             refused += outcome.count
