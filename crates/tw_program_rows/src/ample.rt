@@ -49,7 +49,7 @@ fn a_source_is_read_whole(rt: HostRuntime) {
 }
 
 #[test]
-fn a_run_by_threads_tells_all_that_it_leaves(rt: HostRuntime) {
+fn a_parallel_run_succeeds(rt: HostRuntime) {
     let Ok(case) = case(rt.alloc(), DISAGREE) else {
         panic!(rt; "refused")
     };
