@@ -74,13 +74,7 @@ fn answer(
 }
 
 /// Whether the program ends so, having written just this.
-fn answers(
-    alloc: Global,
-    asked: Asked,
-    text: &str,
-    status: Status,
-    written: &str,
-) -> bool {
+fn answers(alloc: Global, asked: Asked, text: &str, status: Status, written: &str) -> bool {
     match answer(alloc, asked, text, AMPLE, AMPLE) {
         Some((ended, page)) => ended == Ok(status) && page.bytes() == written.as_bytes(),
         None => false,
@@ -110,7 +104,12 @@ fn each_program_writes_to_the_byte(rt: HostRuntime) {
 
 #[test]
 fn a_text_that_is_broken_off_is_refused(rt: HostRuntime) {
-    for asked in [Asked::Check, Asked::Seq { stop: 10 }, Asked::Trail, Asked::Replay] {
+    for asked in [
+        Asked::Check,
+        Asked::Seq { stop: 10 },
+        Asked::Trail,
+        Asked::Replay,
+    ] {
         let line = "refused line 3 X6 End\n";
         assert!(rt;
             answers(rt.alloc(), asked, "spp 1\nnodes 1\n", Status::Refused, line),

@@ -1,11 +1,9 @@
 //! Calls that may answer want of memory, each with memory enough: none of them does, at its first try.
 
-ghost use Rattle.std.specs.Prelude.{◌≡◌};
-
 use crate::texts::{DISAGREE, DISAGREE_AT_ONCE, RANK_EXCHANGE};
 use smallvec::SmallVec;
 use std::alloc::Global;
-use tw_event::{Event, PathNo};
+use tw_event::{Body, Event, PathNo};
 use tw_handlers::{Trail, handle, undo};
 use tw_instance::{Case, Instance, Link, PermittedPath, Scene};
 use tw_options::options;
@@ -57,14 +55,16 @@ fn goes_and_comes_back(alloc: Global, instance: &Instance) -> bool {
     if instance.nodes() < 2 {
         return false;
     }
-    let (Ok(mut router), Ok(other)) = (Router::new(alloc, instance, 1), Router::new(alloc, instance, 1))
-    else {
+    let (Ok(mut router), Ok(other)) = (
+        Router::new(alloc, instance, 1),
+        Router::new(alloc, instance, 1),
+    ) else {
         return false;
     };
     let swap = Event {
         dst: 1,
         src: 1,
-        body: tw_event::Body::Swap(1, 2),
+        body: Body::Swap(1, 2),
         ..Event::default()
     };
     let mut sends = SmallVec::new(alloc);
@@ -113,7 +113,11 @@ fn events_wait_by_time(rt: HostRuntime) {
 fn shapes_are_gathered(rt: HostRuntime) {
     let mut builder = ShapeBuilder::new(rt.alloc(), 4);
     assert!(rt; builder.reserve(1, 0, 1).is_ok());
-    assert!(rt; builder.add_router(PathNo::ORIGIN, &[], &[PathNo::ORIGIN], 0).is_ok());
+    assert!(rt;
+        builder
+            .add_router(PathNo::ORIGIN, &[], &[PathNo::ORIGIN], 0)
+            .is_ok()
+    );
     assert!(rt; Watch::new(rt.alloc(), 1).is_ok());
 }
 

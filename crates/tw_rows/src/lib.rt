@@ -6,11 +6,9 @@
 //! with the N-th.
 #![tactic(auto)]
 
-pub mod cases;
-pub mod texts;
-
 #[cfg(test)]
 mod ample;
+pub mod cases;
 #[cfg(test)]
 mod command_lines;
 #[cfg(test)]
@@ -23,3 +21,4 @@ mod pending;
 mod readings;
 #[cfg(test)]
 mod shapes;
+pub mod texts;
