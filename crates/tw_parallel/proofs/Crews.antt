@@ -1,5 +1,5 @@
 -- Workers that are made of shards and hands, and shards and hands that workers leave.
-use Rattle.std.proofs.Common.{◌≡◌, ℕ, suc, zero, ◌+◌, List, [], ◌∷◌, ◌++◌, Some, length, map, refl, ap, sym, ◌∙◌, subst, append_assoc, arith, slice_get}
+use Rattle.std.proofs.Common.{◌≡◌, ℕ, suc, List, [], ◌∷◌, ◌++◌, Some, length, map, refl, ap, sym, ◌∙◌, subst, append_assoc, arith, slice_get}
 use Rattle.std.proofs.lemmas.List.{append-nil, map-append}
 use Rattle.std.specs.List.{AllByRecursion}
 use Rattle.tw_shard.specs.Shard.{Shard}

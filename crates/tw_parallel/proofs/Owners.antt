@@ -21,7 +21,6 @@ use Rattle.tw_rule.specs.Rule.{Stands}
 use Rattle.tw_shard.specs.Shard.{Shard, core, owns}
 use Rattle.tw_shard.specs.Timeline.{last_change_at}
 use Rattle.tw_sim.specs.Simulation.{IsLawful, below}
-use Rattle.tw_table.proofs.Deals.{as_many}
 use Rattle.tw_table.specs.declared.hand.Hand.{Hand}
 use Rattle.tw_table.specs.Shares.{Share, board_of, place_of, share, shares_of}
 use Rattle.tw_warp.specs.Committed.{oldest}
@@ -45,7 +44,7 @@ module _ (s : Sim) (is : IsSim s) where
   seq_of = seq_of_rule (simulation s.case) law (owner (workers s.board)) (numbered s.case is.ruled.is_case) (board_of s.board) (map place_of s.shares) is.ruled.rule
 
   pub long : length s.shares ≡ workers s.board
-  long = as_many 0 (workers s.board) s.shares is.order
+  long = is.ruled.count
 
   -- the share at the place of a router's worker
   has_at : (r : ℕ) → r < s.case.net.nodes → (t : Share) → slice_get s.shares (r % workers s.board) ≡ Some t → Has s r t.shard

@@ -296,6 +296,6 @@ merges port v other u begun more empty items views (inr is) at apart there =
       ruled = any_order is.case is.board (all_shares views) (all_shares two) same is.ruled;
       each = all_set (Knows is.board) once other spent_view
           (all_set (Knows is.board) views port w is.each
-              (record { begun = begun; seen = (let a = knows.seen in let b = also.seen in omega arith); workers = λ n. knows.workers more; stop = λ n. knows.stop more }))
+          (record { begun = begun; seen = (let a = knows.seen in let b = also.seen in omega arith); workers = λ n. knows.workers more; stop = λ n. knows.stop more }))
           (record { begun = refl; seen = omega arith; workers = λ n. absurd (omega arith); stop = λ n. absurd (omega arith) });
     })

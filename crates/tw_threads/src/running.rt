@@ -121,11 +121,7 @@ fn cause_of(refused: bool, told: Option<Cause>) -> Option<Cause>
     ensures thread { refused ≡ true → result ≡ Some cause.NoThread }
     ensures told { refused ≡ false → result ≡ told }
 {
-    if refused {
-        Some(Cause::NoThread)
-    } else {
-        told
-    }
+    if refused { Some(Cause::NoThread) } else { told }
 }
 
 /// Workers that take no turn, for want of memory.
