@@ -89,6 +89,32 @@ impl Calendar {
         }
     }
 
+    /// Copies the least event, where it is one of the tick at hand and before a limit, in ticks, and tells whether
+    /// it did.
+    #[inline(always)]
+    pub(crate) fn copy_hand(&self, limit: u64, event: &mut Event) -> bool
+        ensures some { OnTrue result (Some event.new ≡ slice_get self.now 0) }
+        ensures before { OnTrue result (first_time self.now < limit) }
+        ensures rising { IsRising event_before event_same self.now }
+        ensures none { OnFalse result (event.new ≡ event.old) }
+    {
+        let _ = self.ring.taken();
+        self.ring.copy_hand(limit.min(self.wheels.soonest()), event)
+    }
+
+    /// Takes out the least event, where it is one of the tick at hand and before a limit, in ticks, and tells
+    /// whether it did.
+    #[inline(always)]
+    pub(crate) fn skip_hand(&mut self, limit: u64) -> bool
+        ensures taken { OnTrue result (self.new ≡ drop 1 self.old) }
+        ensures before { OnTrue result (first_time self.old < limit) }
+        ensures rising { IsRising event_before event_same self.old }
+        ensures same { OnFalse result (self.new ≡ self.old) }
+    {
+        let _ = self.ring.taken();
+        self.ring.skip_hand(limit.min(self.wheels.soonest()))
+    }
+
     /// A time, in ticks, that no event is before. The events are in order.
     #[inline(always)]
     pub(crate) fn soonest(&self) -> u64
