@@ -10,7 +10,6 @@ ghost use Rattle.tw_sim.specs.Rising.{IsRising};
 
 use crate::ring::Ring;
 use crate::search::comes_before;
-use crate::update::Update;
 use crate::wheels::Wheels;
 use std::alloc::{AllocError, Global};
 use std::marker::Model;
@@ -54,10 +53,6 @@ impl Calendar {
     {
         if self.ring.insert(event) {
             return true;
-        }
-        // What the ring never takes has no way down.
-        if Update::of(event).is_none() {
-            return false;
         }
         self.wheels.insert(event)
     }
