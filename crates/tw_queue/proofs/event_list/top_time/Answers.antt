@@ -1,4 +1,3 @@
-use Rattle.std.proofs.Common.{◌≤◌}
 use Rattle.std.specs.BinaryHeap.{heap_items}
 use Rattle.tw_queue.specs.Heap.{heap_events}
 use Rattle.tw_queue.proofs.Events.{first_of_heap, least_is, not_earlier}

@@ -2,7 +2,7 @@ use Rattle.tw_event.specs.Order.{event_before, event_same}
 use Rattle.tw_sim.specs.Rising.{IsRising}
 use Rattle.tw_queue.specs.InOrder.{in_order}
 use Rattle.tw_queue.specs.Table.{first_time}
-use Rattle.std.proofs.Common.{◌≡◌, ◌<◌, ◌++◌, drop, slice_get, ap, sym, ◌∙◌, subst, arith}
+use Rattle.std.proofs.Common.{◌≡◌, ◌<◌, ◌++◌, drop, slice_get, ap, ◌∙◌, subst, arith}
 use Rattle.tw_queue.proofs.Events.{event_law}
 use Rattle.tw_queue.proofs.Merged.{first_time_of, on_both, on_true, ring_taken, sooner_ring}
 use Rattle.tw_queue.proofs.Ordered.{rising-in_order}

@@ -1,4 +1,4 @@
-use Rattle.std.proofs.Common.{◌≡◌, ◌<◌, ◌≤◌, length, slice_get, ap, sym, ◌∙◌, arith}
+use Rattle.std.proofs.Common.{◌≡◌, ◌<◌, length, slice_get, ap, ◌∙◌, arith}
 use Rattle.tw_queue.specs.Buckets.{together}
 use Rattle.tw_queue.specs.Ring.{hand_of}
 use Rattle.tw_queue.specs.Table.{first_time}
