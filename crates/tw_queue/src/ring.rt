@@ -131,7 +131,7 @@ impl Ring {
         ensures before { OnTrue result (first_time self.old < limit) }
         ensures same { OnFalse result (self.new ≡ self.old) }
     {
-        if self.taken >= self.hand.len() || self.hand.time() >= limit {
+        if self.hand.time() >= limit || self.taken >= self.hand.len() {
             return false;
         }
         self.taken += 1;
