@@ -282,3 +282,15 @@ soonest_told m xs ys h k (Some e) q =
 pub sooner_by_time : (top : Event) (xs : List Event) (n : ℕ) → top.time < n → IfSome (slice_get xs 0) (λ e. n ≤ e.time) → IfSome (slice_get xs 0) (λ e. true ≡ event_before top e)
 sooner_by_time top [] n l h = tt
 sooner_by_time top (x ∷ xs) n l h = sym (before_by_time top x (λ q. omega arith) ∙ lt-ltb top.time x.time (omega arith))
+
+-- what is told of two facts with an answer
+pub on_both : {P Q R : Type 0} (b : Bool) → (P → Q → R) → OnTrue b P → OnTrue b Q → OnTrue b R
+on_both true f p q = f p q
+on_both false f p q = tt
+
+-- lists with the same first event have the same first time
+pub first_time_of : (xs ys : List Event) → slice_get xs 0 ≡ slice_get ys 0 → first_time xs ≡ first_time ys
+first_time_of [] [] h = refl
+first_time_of [] (y ∷ ys) h = absurd (none-some y h)
+first_time_of (x ∷ xs) [] h = absurd (none-some x (sym h))
+first_time_of (x ∷ xs) (y ∷ ys) h = ap (λ e. e.time) (same_some x y h)

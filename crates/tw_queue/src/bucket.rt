@@ -7,6 +7,7 @@ ghost use Rattle.tw_queue.specs.InOrder.{least_with};
 ghost use Rattle.tw_sim.specs.Ordered.{take_out, times};
 
 use crate::search::{least_of, remove_from};
+use crate::update::Update;
 use std::alloc::{AllocError, Global};
 use std::marker::Model;
 use tw_event::Event;
@@ -44,13 +45,17 @@ impl Bucket {
         self.events.len()
     }
 
-    /// Puts an event in, where memory is not refused, and tells whether it did.
+    /// Puts an event in, where it is a path that arrives and memory is not refused, and tells whether it did.
     #[inline(always)]
     pub(crate) fn push(&mut self, event: &Event) -> bool
         ensures added { OnTrue result (self.new ≡ self.old ++ event.now ∷ []) }
         ensures same { OnFalse result (self.new ≡ self.old) }
     {
-        self.events.push(*event).is_ok()
+        // Field by field: a copy of the whole would wait for the fields, which were just written one by one.
+        match Update::of(event) {
+            Some(update) => self.events.push(update.at(event.time)).is_ok(),
+            None => false,
+        }
     }
 
     /// The time of the event put in first, in ticks.

@@ -10,7 +10,6 @@ ghost use Rattle.tw_sim.specs.Rising.{IsRising};
 
 use crate::ring::Ring;
 use crate::search::comes_before;
-use crate::update::Update;
 use crate::wheels::Wheels;
 use std::alloc::{AllocError, Global};
 use std::marker::Model;
@@ -55,10 +54,6 @@ impl Calendar {
         if self.ring.insert(event) {
             return true;
         }
-        // What the ring never takes has no way down.
-        if Update::of(event).is_none() {
-            return false;
-        }
         self.wheels.insert(event)
     }
 
@@ -87,6 +82,32 @@ impl Calendar {
             None => self.ring.least_time(),
             Some(first) => first.time,
         }
+    }
+
+    /// Copies the least event, where it is one of the tick at hand and before a limit, in ticks, and tells whether
+    /// it did.
+    #[inline(always)]
+    pub(crate) fn copy_hand(&self, limit: u64, event: &mut Event) -> bool
+        ensures some { OnTrue result (Some event.new ≡ slice_get self.now 0) }
+        ensures before { OnTrue result (first_time self.now < limit) }
+        ensures rising { IsRising event_before event_same self.now }
+        ensures none { OnFalse result (event.new ≡ event.old) }
+    {
+        let _ = self.ring.taken();
+        self.ring.copy_hand(limit.min(self.wheels.soonest()), event)
+    }
+
+    /// Takes out the least event, where it is one of the tick at hand and before a limit, in ticks, and tells
+    /// whether it did.
+    #[inline(always)]
+    pub(crate) fn skip_hand(&mut self, limit: u64) -> bool
+        ensures taken { OnTrue result (self.new ≡ drop 1 self.old) }
+        ensures before { OnTrue result (first_time self.old < limit) }
+        ensures rising { IsRising event_before event_same self.old }
+        ensures same { OnFalse result (self.new ≡ self.old) }
+    {
+        let _ = self.ring.taken();
+        self.ring.skip_hand(limit.min(self.wheels.soonest()))
     }
 
     /// A time, in ticks, that no event is before. The events are in order.

@@ -1,11 +1,12 @@
-ghost use Rattle.std.specs.Prelude.{◌≡◌, ◌+◌, ◌++◌, ◌<◌, ◌≤◌, IfNone, IfOk, IfSome, IsOk, IsTrue, OnErr, OnOk, Some, [], drop, length, option_map, slice_get};
+ghost use Rattle.std.specs.Prelude.{ℕ, ◌≡◌, ◌+◌, ◌++◌, ◌<◌, ◌≤◌, IfNone, IfOk, IfSome, IsOk, IsTrue, None, OnErr, OnOk, Some, [], drop, length, option_map, slice_get};
 ghost use Rattle.std.specs.BinaryHeap.{heap_items, IsHeap};
 ghost use Rattle.std.specs.Bool.{OnFalse, OnTrue};
-ghost use Rattle.tw_event.specs.Order.{event_before};
+ghost use Rattle.tw_event.specs.declared.event.Event.{Event as AnEvent};
+ghost use Rattle.tw_event.specs.Order.{event_before, event_same};
 ghost use Rattle.tw_queue.specs.Heap.{heap_events};
 ghost use Rattle.tw_queue.specs.InOrder.{in_order};
 ghost use Rattle.tw_queue.specs.Queue.{IsQueue};
-ghost use Rattle.tw_sim.specs.Ordered.{insert, insert_all};
+ghost use Rattle.tw_sim.specs.Ordered.{insert, insert_all, times};
 
 use crate::calendar::Calendar;
 use crate::search::comes_before;
@@ -119,10 +120,11 @@ impl EventList {
         ensures none { OnFalse result (event.new ≡ event.old) }
         ensures queue { IsQueue self.now }
     {
-        if !is_heap_first(&self.calendar, &self.heap) {
-            return self.calendar.copy_least(event);
+        // Of most calls this is the answer, and costs little.
+        if self.calendar.copy_hand(top_time(&self.heap), event) {
+            return true;
         }
-        copy_top(&self.heap, event)
+        copy_first(&self.calendar, &self.heap, event)
     }
 
     /// Takes out the least event, where there is one.
@@ -132,6 +134,10 @@ impl EventList {
         ensures routers { self.new.routers ≡ self.old.routers }
         ensures room { self.old.room ≤ self.new.room }
     {
+        // Of most calls this is all, and costs little.
+        if self.calendar.skip_hand(top_time(&self.heap)) {
+            return;
+        }
         if !is_heap_first(&self.calendar, &self.heap) {
             self.calendar.skip_least();
             return;
@@ -166,11 +172,7 @@ impl EventList {
         if self.calendar.has_tick_at_hand() {
             return;
         }
-        let latest = match self.heap.peek() {
-            Some(first) => first.0.time,
-            None => u64::MAX,
-        };
-        self.calendar.begin_tick(latest);
+        self.calendar.begin_tick(top_time(&self.heap));
     }
 
     /// All events, in any order.
@@ -194,8 +196,33 @@ impl EventList {
     }
 }
 
-// Whether the least event of all is that of the heap, and not that of the calendar.
+// The time of a heap's least event, in ticks, and `u64::MAX` where there is none.
 #[inline(always)]
+fn top_time(heap: &BinaryHeap<Reverse<Event>>) -> u64
+    requires { IsHeap ⟦<Reverse<Event> as Ord>⟧.cmp (heap_items heap.now) }
+    ensures { (e : AnEvent) → 0 < times event_same e (heap_events (heap_items heap.now)) → result ≤ e.time }
+{
+    match heap.peek() {
+        Some(top) => top.0.time,
+        None => u64::MAX,
+    }
+}
+
+// Copies the least event of a calendar and of a heap, where there is one, and tells whether there is.
+#[inline(never)]
+fn copy_first(calendar: &Calendar, heap: &BinaryHeap<Reverse<Event>>, event: &mut Event) -> bool
+    requires { IsHeap ⟦<Reverse<Event> as Ord>⟧.cmp (heap_items heap.now) }
+    ensures some { OnTrue result (Some event.new ≡ slice_get (in_order event_before (calendar.now ++ heap_events (heap_items heap.now))) 0) }
+    ensures beyond { OnFalse result (slice_get (in_order event_before (calendar.now ++ heap_events (heap_items heap.now))) 0 ≡ None) }
+    ensures none { OnFalse result (event.new ≡ event.old) }
+{
+    if !is_heap_first(calendar, heap) {
+        return calendar.copy_least(event);
+    }
+    copy_top(heap, event)
+}
+
+// Whether the least event of all is that of the heap, and not that of the calendar.
 fn is_heap_first(calendar: &Calendar, heap: &BinaryHeap<Reverse<Event>>) -> bool
     requires { IsHeap ⟦<Reverse<Event> as Ord>⟧.cmp (heap_items heap.now) }
     ensures heap { OnTrue result

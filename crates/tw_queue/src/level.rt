@@ -26,6 +26,8 @@ pub(crate) struct Level {
     base: u64,
     marks: u64,
     buckets: [Bucket; 64],
+    // A bit for each empty bucket that has memory, as far as that is known.
+    spares: u64,
 }
 
 impl Model for Level {
@@ -51,6 +53,7 @@ impl Level {
             base: 0,
             marks: 0,
             buckets: array::from_fn(|_| Bucket::new(alloc)),
+            spares: 0,
         }
     }
 
@@ -65,7 +68,7 @@ impl Level {
             return false;
         }
         let slot = slot_of(width);
-        reuse_memory(&mut self.buckets, slot_of(self.base), slot);
+        reuse_memory(&mut self.buckets, &mut self.spares, slot);
         if !self.buckets[slot].push(event) {
             return false;
         }
@@ -99,6 +102,7 @@ impl Level {
         let place = first_place(self.marks, self.base);
         swap(&mut self.buckets[place], events);
         self.marks = without_mark(self.marks, place);
+        self.spares = with_mark(self.spares, place);
     }
 
     /// Takes one event that equals `event` out, and tells whether there was one.
@@ -145,18 +149,19 @@ fn append_buckets(buckets: &[Bucket], events: &mut Vec<Event>) -> Result<(), All
     Ok(())
 }
 
-// Gives an empty bucket the memory of another empty one, as that of the width that is begun is, so that the
-// buckets together have the memory that all events need, and not each its own.
+// Gives an empty bucket the memory of another empty one, so that the buckets together have the memory that all
+// events need, and not each its own.
 #[inline(always)]
-fn reuse_memory(buckets: &mut [Bucket; 64], from: usize, to: usize)
-    requires from { from < 64 }
-    requires to { to < 64 }
+fn reuse_memory(buckets: &mut [Bucket; 64], spares: &mut u64, to: usize)
+    requires { to < 64 }
     ensures { buckets.new ≡ buckets.old }
 {
-    if buckets[to].len() != 0 {
+    if buckets[to].len() != 0 || *spares == 0 {
         return;
     }
+    let from = slot_of(u64::from(spares.trailing_zeros()));
     if buckets[from].len() == 0 {
         buckets.swap(from, to);
     }
+    *spares = without_mark(*spares, from);
 }

@@ -1,7 +1,7 @@
 //! Numbers that no clause sees: another one costs time alone.
 
 // A tick with fewer events is sorted as soon as it would be dealt.
-const FEWEST_EVENTS: usize = 64;
+const FEWEST_EVENTS: usize = 24;
 
 // Dealing goes through the lists of all receivers, so there is at least one event for so many of them.
 const RECEIVERS_FOR_ONE_EVENT: usize = 4;

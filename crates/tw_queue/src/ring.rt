@@ -27,6 +27,8 @@ pub(crate) struct Ring {
     tick: u64,
     marks: u64,
     buckets: [Tick; 64],
+    // A bit for each empty bucket that has memory, as far as that is known.
+    spares: u64,
     // A list for each router, for ticks that are put in order by receiver.
     receivers: Vec<Tick>,
 }
@@ -55,6 +57,7 @@ impl Ring {
             tick: 0,
             marks: 0,
             buckets: array::from_fn(|_| Tick::new(alloc)),
+            spares: 0,
             receivers,
         })
     }
@@ -74,7 +77,7 @@ impl Ring {
             return false;
         };
         let slot = slot_of(time);
-        reuse_memory(&mut self.buckets, slot_of(self.tick), slot);
+        reuse_memory(&mut self.buckets, &mut self.spares, slot);
         if !self.buckets[slot].push(time, &update) {
             return false;
         }
@@ -104,6 +107,35 @@ impl Ring {
             return self.hand.time();
         }
         self.buckets[first_place(self.marks, self.tick)].first_time()
+    }
+
+    /// Copies the next event of the tick at hand, where there is one and it is before a limit, in ticks, and tells
+    /// whether it did.
+    #[inline(always)]
+    pub(crate) fn copy_hand(&self, limit: u64, event: &mut Event) -> bool
+        ensures some { OnTrue result (Some event.new ≡ slice_get self.now 0) }
+        ensures before { OnTrue result (first_time self.now < limit) }
+        ensures none { OnFalse result (event.new ≡ event.old) }
+    {
+        if self.taken >= self.hand.len() || self.hand.time() >= limit {
+            return false;
+        }
+        self.hand.copy(self.taken, event)
+    }
+
+    /// Takes out the next event of the tick at hand, where there is one and it is before a limit, in ticks, and
+    /// tells whether it did.
+    #[inline(always)]
+    pub(crate) fn skip_hand(&mut self, limit: u64) -> bool
+        ensures taken { OnTrue result (self.new ≡ drop 1 self.old) }
+        ensures before { OnTrue result (first_time self.old < limit) }
+        ensures same { OnFalse result (self.new ≡ self.old) }
+    {
+        if self.hand.time() >= limit || self.taken >= self.hand.len() {
+            return false;
+        }
+        self.taken += 1;
+        true
     }
 
     /// How many events of the tick at hand are taken out. The events are in order.
@@ -149,6 +181,7 @@ impl Ring {
         self.hand.take_over(bucket, &mut self.receivers);
         self.taken = 0;
         self.marks = without_mark(self.marks, place);
+        self.spares = with_mark(self.spares, place);
     }
 
     /// Takes out the least event, where there is one.
@@ -169,6 +202,7 @@ impl Ring {
         self.hand.take_over(bucket, &mut self.receivers);
         self.taken = 1;
         self.marks = without_mark(self.marks, place);
+        self.spares = with_mark(self.spares, place);
     }
 
     /// Puts its events at the end of a list.
@@ -190,18 +224,19 @@ fn count_all(ticks: &[Tick]) -> usize {
         .fold(0, |count: usize, tick| count.saturating_add(tick.len()))
 }
 
-// Gives an empty bucket the memory of another empty one, as that of the tick at hand is: it is still in the
-// nearest caches, and so a run goes through the same memory again and again, and not through 64 buckets' in turn.
+// Gives an empty bucket the memory of another empty one, so that the buckets together have the memory that all
+// events need, and not each its own.
 #[inline(always)]
-fn reuse_memory(buckets: &mut [Tick; 64], from: usize, to: usize)
-    requires from { from < 64 }
-    requires to { to < 64 }
+fn reuse_memory(buckets: &mut [Tick; 64], spares: &mut u64, to: usize)
+    requires { to < 64 }
     ensures { buckets.new ≡ buckets.old }
 {
-    if buckets[to].len() != 0 {
+    if buckets[to].len() != 0 || *spares == 0 {
         return;
     }
+    let from = slot_of(u64::from(spares.trailing_zeros()));
     if buckets[from].len() == 0 {
         buckets.swap(from, to);
     }
+    *spares = without_mark(*spares, from);
 }

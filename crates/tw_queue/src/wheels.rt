@@ -10,6 +10,7 @@ ghost use Rattle.tw_sim.specs.Rising.{IsRising};
 
 use crate::bucket::Bucket;
 use crate::level::Level;
+use crate::marks::BUCKETS;
 use crate::ring::Ring;
 use crate::search::earlier_of;
 use std::alloc::{AllocError, Global};
@@ -27,6 +28,8 @@ const LEVELS: usize = 3;
 pub(crate) struct Wheels {
     // No event is before this time.
     soonest: u64,
+    // The number of the lowest level's bucket for the time to which the run has come.
+    begun: u64,
     levels: [Level; 3],
     // Events on their way down, of which there are some between calls only where memory was refused for them.
     moving: Bucket,
@@ -51,6 +54,7 @@ impl Wheels {
     {
         Wheels {
             soonest: u64::MAX,
+            begun: 0,
             levels: [
                 Level::new(alloc, 6),
                 Level::new(alloc, 12),
@@ -102,6 +106,11 @@ impl Wheels {
     pub(crate) fn go_to(&mut self, time: u64)
         ensures { self.new ≡ self.old }
     {
+        // Within a bucket of the lowest level nothing changes for any level.
+        if time / BUCKETS == self.begun {
+            return;
+        }
+        self.begun = time / BUCKETS;
         go_to_each(&mut self.levels, time);
     }
 
@@ -129,8 +138,10 @@ impl Wheels {
             return;
         }
         take_down(&mut self.levels, number, &mut self.moving);
-        ring.go_to(start.saturating_sub(1));
-        go_to_each(&mut self.levels, start);
+        // So that the levels below, and the ring, have buckets from the start on.
+        let before = start.saturating_sub(1);
+        ring.go_to(before);
+        go_to_each(&mut self.levels, before);
         put_each(&mut self.moving, ring, &mut self.levels);
     }
 

@@ -1,4 +1,4 @@
-use Rattle.std.proofs.Common.{◌≡◌, ◌<◌, ◌-◌, ◌++◌, List, Some, length, slice_get, ap, sym, ◌∙◌, subst, arith}
+use Rattle.std.proofs.Common.{◌≡◌, ◌<◌, ◌-◌, ◌++◌, List, Some, slice_get, ap, sym, ◌∙◌, subst, arith}
 use Rattle.std.specs.BinaryHeap.{heap_items, heap_len, heap_capacity}
 use Rattle.std.specs.Bool.{OnTrue}
 use Rattle.tw_event.specs.declared.event.Event.{Event}
@@ -7,54 +7,39 @@ use Rattle.tw_queue.specs.Heap.{heap_events}
 use Rattle.tw_queue.specs.InOrder.{in_order}
 use Rattle.tw_queue.specs.Queue.{IsQueue}
 use Rattle.tw_queue.specs.declared.event_list.EventList.TheInside.{Inside}
-use Rattle.tw_queue.proofs.Merged.{home_first, none_of, on_false, on_true, queue_of_events}
+use Rattle.tw_queue.proofs.Merged.{home_first, none_of, on_false, on_true, queue_of_events, sooner_ring}
 use Rattle.tw_queue.proofs.event_list.EventList.copy_least.Goals as goal
 
 -- all events, in no order
 abbrev all : Inside → List Event
 all a = a.calendar ++ heap_events (heap_items a.heap)
 
-from_ring : (c : goal.After-copy_least) → OnTrue c.copy_least.result (Some c.copy_least.new.event ≡ slice_get (in_order event_before (all c.self.inside)) 0)
-from_ring c =
-    let first : slice_get (in_order event_before (all c.self.inside)) 0 ≡ slice_get c.self.inside.calendar 0 = c.if-not-is_heap_first.ensures.calendar in
-    subst (λ o. OnTrue c.copy_least.result (Some c.copy_least.new.event ≡ o)) (sym first) c.copy_least.ensures.some
+from_hand : (c : goal.Then-copy_hand) → Some c.copy_hand.new.event ≡ slice_get (in_order event_before (all c.self.inside)) 0
+from_hand c =
+    let a = c.self.inside in
+    let told = c.if-copy_hand.ensures in
+    told.some ∙ sym (sooner_ring a.calendar (heap_events (heap_items a.heap)) c.top_time.result told.rising (omega (arith, c.top_time.type_inv)) told.before c.top_time.ensures)
 
-pub returns-then-not-is_heap_first-clause-some : goal.returns-then-not-is_heap_first-clause-some
-returns-then-not-is_heap_first-clause-some c =
-    subst (λ q. OnTrue c.copy_least.result (Some c.copy_least.new.event ≡ slice_get q.events 0)) c.self.view_is (from_ring c)
+pub returns-then-copy_hand-clause-some : goal.returns-then-copy_hand-clause-some
+returns-then-copy_hand-clause-some c = from_hand c ∙ ap (λ q. slice_get q.events 0) c.self.view_is
 
-pub returns-then-not-is_heap_first-clause-home : goal.returns-then-not-is_heap_first-clause-home
-returns-then-not-is_heap_first-clause-home c =
-    subst (λ q. OnTrue c.copy_least.result (c.copy_least.new.event.dst < q.routers)) c.self.view_is
-    (on_true c.copy_least.result (λ k. home_first c.self.inside.routers (all c.self.inside) c.copy_least.new.event c.self.invariant.1 (sym k)) (from_ring c))
+pub returns-then-copy_hand-clause-home : goal.returns-then-copy_hand-clause-home
+returns-then-copy_hand-clause-home c =
+    subst (λ q. c.copy_hand.new.event.dst < q.routers) c.self.view_is (home_first c.self.inside.routers (all c.self.inside) c.copy_hand.new.event c.self.invariant.1 (sym (from_hand c)))
 
-pub returns-then-not-is_heap_first-clause-empty : goal.returns-then-not-is_heap_first-clause-empty
-returns-then-not-is_heap_first-clause-empty c =
-    let first : slice_get (in_order event_before (all c.self.inside)) 0 ≡ slice_get c.self.inside.calendar 0 = c.if-not-is_heap_first.ensures.calendar in
-    on_false c.copy_least.result (λ k. ap (λ q. q.events) (sym c.self.view_is) ∙ none_of (in_order event_before (all c.self.inside)) (first ∙ k)) c.copy_least.ensures.beyond
-
-pub returns-then-not-is_heap_first-clause-queue : goal.returns-then-not-is_heap_first-clause-queue
-returns-then-not-is_heap_first-clause-queue c =
+pub returns-then-copy_hand-clause-queue : goal.returns-then-copy_hand-clause-queue
+returns-then-copy_hand-clause-queue c =
     let a = c.self.inside in
     subst IsQueue c.self.view_is (queue_of_events a.routers (heap_capacity a.heap - heap_len a.heap) (all a) c.self.invariant.1)
 
-from_heap : (c : goal.After-copy_top) → OnTrue c.copy_top.result (Some c.copy_top.new.event ≡ slice_get (in_order event_before (all c.self.inside)) 0)
-from_heap c =
-    let first : slice_get (in_order event_before (all c.self.inside)) 0 ≡ slice_get (in_order event_before (heap_events (heap_items c.self.inside.heap))) 0 = c.if-not-is_heap_first.ensures.heap in
-    subst (λ o. OnTrue c.copy_top.result (Some c.copy_top.new.event ≡ o)) (sym first) c.copy_top.ensures.some
-
-pub returns-clause-some : goal.returns-clause-some
-returns-clause-some c =
-    subst (λ q. OnTrue c.copy_top.result (Some c.copy_top.new.event ≡ slice_get q.events 0)) c.self.view_is (from_heap c)
-
 pub returns-clause-home : goal.returns-clause-home
 returns-clause-home c =
-    subst (λ q. OnTrue c.copy_top.result (c.copy_top.new.event.dst < q.routers)) c.self.view_is
-    (on_true c.copy_top.result (λ k. home_first c.self.inside.routers (all c.self.inside) c.copy_top.new.event c.self.invariant.1 (sym k)) (from_heap c))
+    subst (λ q. OnTrue c.copy_first.result (c.copy_first.new.event.dst < q.routers)) c.self.view_is
+    (on_true c.copy_first.result (λ k. home_first c.self.inside.routers (all c.self.inside) c.copy_first.new.event c.self.invariant.1 (sym k)) c.copy_first.ensures.some)
 
 pub returns-clause-empty : goal.returns-clause-empty
 returns-clause-empty c =
-    on_false c.copy_top.result (λ k. let n = ap (λ items. length items) k in absurd (omega (arith, c.if-not-is_heap_first.ensures.some))) c.copy_top.ensures.beyond
+    on_false c.copy_first.result (λ k. ap (λ q. q.events) (sym c.self.view_is) ∙ none_of (in_order event_before (all c.self.inside)) k) c.copy_first.ensures.beyond
 
 pub returns-clause-queue : goal.returns-clause-queue
 returns-clause-queue c =
