@@ -1,8 +1,8 @@
 -- A run that has come to its stop leaves what the one-thread run leaves.
-use Rattle.std.proofs.Common.{◌≡◌, ℕ, zero, suc, ◌+◌, ◌<◌, ◌≤◌, ◌==◌, Bool, IsTrue, true, List, [], ◌∷◌, ◌++◌, append_assoc, drop, filter, flat_map, length, map, nat_lt, reverse, slice_index, refl, ap, sym, ◌∙◌, subst, inl, inr, arith}
+use Rattle.std.proofs.Common.{◌≡◌, ℕ, zero, suc, ◌+◌, ◌<◌, ◌≤◌, Bool, IsTrue, true, List, [], ◌∷◌, ◌++◌, drop, filter, flat_map, length, map, nat_lt, reverse, slice_index, refl, ap, sym, ◌∙◌, subst, inl, inr, arith}
 use Rattle.std.proofs.Math.Path.{fun_ext}
-use Rattle.std.proofs.lemmas.Bool.{cases_Bool, cases_eq, eq-eqb, ltb-false, ltb-true, ne_eqb}
-use Rattle.std.proofs.lemmas.List.{length-append, map-append, reverse-append}
+use Rattle.std.proofs.lemmas.Bool.{cases_Bool, cases_eq, ltb-false, ltb-true}
+use Rattle.std.proofs.lemmas.List.{length-append, map-append}
 use Rattle.std.proofs.lemmas.List.FromFn.{map-range_with_len_more}
 use Rattle.std.specs.List.{range_with_len}
 use Rattle.tw_core.proofs.Headline.{at_end}
@@ -26,11 +26,10 @@ use Rattle.tw_shape.specs.Shape.{Draft, Shape, bare, seen_from, shape}
 use Rattle.tw_shard.specs.Shard.{Shard}
 use Rattle.tw_shard.specs.Timeline.{last_change_at}
 use Rattle.tw_sim.proofs.Closed.{log_closed}
-use Rattle.tw_sim.proofs.Counts.{in_head, is_order, none, times-append, times-filter-no, times-filter-yes, times-insert_all}
+use Rattle.tw_sim.proofs.Counts.{times-insert_all}
 use Rattle.tw_sim.proofs.Rising.{IsRising, rising-insert_all, same_rising}
-use Rattle.tw_sim.proofs.Ordered.{not_back}
 use Rattle.tw_sim.specs.Seq.{insert_all, log}
-use Rattle.tw_sim.specs.Simulation.{Simulation, IsFalling, IsLawful, only, times}
+use Rattle.tw_sim.specs.Simulation.{IsFalling, times}
 use Rattle.tw_sim.specs.declared.machine.Signed.{Signed}
 use Rattle.tw_table.specs.declared.hand.Hand.{Hand}
 use Rattle.tw_table.specs.Shares.{place_of, shares_of}
