@@ -146,15 +146,18 @@ def refuse_start(refuser: Refuser) -> Outcome:
     told = [number for number, done in ends.items() if done == NO_THREAD]
     if told == due:
         return Outcome(len(ends), None)
-    return Outcome(len(ends), f"allocations {told} are told as a refused thread, and {due} are due")
+    why = f"allocations {told} are told as a refused thread, and {due} are due"
+    return Outcome(len(ends), why)
 
 
 def refuse_threads(refuser: Refuser, workers: int) -> Outcome:
     """Whether a run whose threads are refused in turn stops for a thread, and has as many."""
     words = [PROGRAM, *run_by(workers)]
-    ends = [refuser.run_without_thread(number, words, DISAGREE) for number in range(1, workers + 2)]
+    numbers = range(1, workers + 2)
+    ends = [refuser.run_without_thread(number, words, DISAGREE) for number in numbers]
     due = [NO_THREAD] * workers + [None]
-    return Outcome(0, None if ends == due else f"its threads refused in turn, it ended with {ends}")
+    wrong = None if ends == due else f"its threads refused in turn, it ended with {ends}"
+    return Outcome(0, wrong)
 
 
 def refuse_in_all(tests: dict[str, Path], tally: Tally) -> int:

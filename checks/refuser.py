@@ -12,10 +12,10 @@ from typing import NamedTuple
 
 from common import Ended, Word, run
 
-# Refuses allocation number REFUSE, from 1, of all threads together, or thread number REFUSE_THREAD,
-# and writes a byte to the file REFUSED where there was one. The file STARTED gets as many bytes as
-# allocations were made before the first thread. It includes no header, so that any C compiler makes
-# it.
+# Refuses allocation number REFUSE, from 1, of all threads together, or thread number
+# REFUSE_THREAD, and writes a byte to the file REFUSED where there was one. The file STARTED gets
+# as many bytes as allocations were made before the first thread. It includes no header, so that
+# any C compiler makes it.
 LIBRARY = r"""
 typedef unsigned long size_t;
 void *dlsym(void *handle, const char *name);
