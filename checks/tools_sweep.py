@@ -36,6 +36,11 @@ def by_hand(one: int, two: int) -> dict[str, str]:
     }
 
 
+def heed_interrupts() -> None:
+    """What a shell begins in the background ignores interrupts, and so would what it begins."""
+    signal.signal(signal.SIGINT, signal.default_int_handler)
+
+
 class Sweep(ToolTest):
     TWO_DELAYS = ("--delays", "1-10", "--links", "0-1,2-0", "--stop", 100, "--every", 1)
 
@@ -223,7 +228,9 @@ exec "$TWARP" "$@"
                 sys.executable, "-S", TOP / "tools/sweep", "--program", start, "--quiet", *words
             ]
             pipe = subprocess.PIPE
-            with subprocess.Popen(command, stdout=pipe, stderr=pipe, text=True) as process:
+            with subprocess.Popen(
+                command, stdout=pipe, stderr=pipe, text=True, preexec_fn=heed_interrupts
+            ) as process:
                 while process.poll() is None and not (start.parent / "hangs").exists():
                     time.sleep(0.05)
                 process.send_signal(signal.SIGINT)
