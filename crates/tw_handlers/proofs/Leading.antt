@@ -1,12 +1,10 @@
 -- One event more, or one less, of those that led to the present state.
 use Rattle.std.proofs.Common.{◌≡◌, ℕ, ◌+◌, ◌-◌, arith, length, get_or, take, ap₂, List, [], ◌∷◌, ◌++◌, sym, ap, ◌∙◌, refl, subst}
 use Rattle.std.proofs.lemmas.List.{length_push, map_push, take_all, take_more}
-use Rattle.tw_event.specs.declared.event.Event.{Event}
 use Rattle.tw_model.specs.Net.{Net}
 use Rattle.tw_model.specs.State.{Router, State}
 use Rattle.tw_model.specs.Effect.{effect}
 use Rattle.tw_model.specs.History.{state_after, undone}
-use Rattle.tw_handlers.specs.declared.record.UndoRecord.{UndoRecord}
 use Rattle.tw_handlers.specs.declared.trail.Done.{Done}
 use Rattle.tw_handlers.specs.Record.{IsHandled}
 use Rattle.tw_handlers.specs.Trail.{History, IsTrail, Leads, handled_events, history_of, state_at_start}
