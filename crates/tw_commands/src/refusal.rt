@@ -5,8 +5,7 @@ ghost use Rattle.tw_text.specs.FaultNames.{refusal_text};
 
 use crate::cause::{Cause, Status};
 use tw_device::Sink;
-use tw_report::Word::{Name, Number};
-use tw_report::put_line;
+use tw_report::{Refused, put_refused};
 use tw_text::TextFault;
 
 /// Writes where and why a text is refused.
@@ -14,8 +13,7 @@ pub fn refuse<W: Sink>(sink: &mut W, fault: TextFault) -> Result<Status, Cause>
     requires { W.failed sink.old ≡ false }
     ensures { Leaves result (refusal_output (refusal_text fault ++ 10 ∷ [])) ⊥ (W.written sink.old) (W.written sink.new) (W.failed sink.new) }
 {
-    let (code, name) = (Name(fault.fault.code()), Name(fault.fault.name()));
-    let line = Number(fault.line as u64);
-    put_line(sink, &[Name("refused"), Name("line"), line, code, name])?;
+    let line = Refused::TextLine(fault.line);
+    put_refused(sink, line, fault.fault.code(), fault.fault.name())?;
     Ok(Status::Refused)
 }

@@ -13,8 +13,7 @@ use std::alloc::{AllocError, Global};
 use tw_device::{Page, Sink, Source, put_all};
 use tw_event::Event;
 use tw_instance::Case;
-use tw_report::Word::Name;
-use tw_report::put_line;
+use tw_report::{Refused, put_refused};
 use tw_seq::{LoggedRun, Running};
 
 /// The command `trail`: lets one router handle its events of a run once more and undo the last ones.
@@ -36,10 +35,7 @@ impl Command for Trail {
 
     fn answer<W: Sink>(&self, alloc: Global, case: &Case, sink: &mut W) -> Result<Status, Cause> {
         if self.router >= case.instance().nodes() {
-            put_line(
-                sink,
-                &[Name("refused"), Name("option"), Name("N1"), Name("Router")],
-            )?;
+            put_refused(sink, Refused::CommandOption, "N1", "Router")?;
             return Ok(Status::Refused);
         }
         let mut run = LoggedRun::new(alloc, case)?;

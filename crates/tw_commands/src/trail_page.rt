@@ -17,7 +17,7 @@ use tw_handlers::{CounterFull, Trail};
 use tw_instance::Instance;
 use tw_model::{OrMemory, RouterEnd};
 use tw_report::Word::Name;
-use tw_report::{put_event, put_line, put_router};
+use tw_report::{EventPage, put_line, put_router};
 use tw_router::Router;
 
 /// A router after these events, what undoing all but the first `keep` takes back, and the router after
@@ -102,10 +102,18 @@ fn put_undone(
     ensures trail { OnOk result (trail.new ≡ record trail.old { events = take keep events.now }) }
     ensures still { OnOk result (page.new.failed ≡ false) }
 {
+    let mut event_page = EventPage::new();
     let mut left = events.len();
     while keep < left {
         left -= 1;
-        undo_last(alloc, page, instance, trail, &events[left])?;
+        undo_last(
+            alloc,
+            page,
+            &mut event_page,
+            instance,
+            trail,
+            &events[left],
+        )?;
     }
     Ok(())
 }
@@ -114,6 +122,7 @@ fn put_undone(
 fn undo_last(
     alloc: Global,
     page: &mut Page,
+    event_page: &mut EventPage,
     instance: &Instance,
     trail: &mut Trail<'_>,
     event: &Event,
@@ -130,13 +139,14 @@ fn undo_last(
 {
     let mut sends = SmallVec::new(alloc);
     trail.undo_to(instance, trail.len() - 1, &mut sends)?;
-    put_undo(page, instance, event, &sends)?;
+    put_undo(page, event_page, instance, event, &sends)?;
     Ok(())
 }
 
 /// Puts the lines of an event that is undone.
 fn put_undo<S: Sink>(
     sink: &mut S,
+    event_page: &mut EventPage,
     instance: &Instance,
     event: &Event,
     sends: &[Event],
@@ -147,28 +157,38 @@ fn put_undo<S: Sink>(
     ensures { Puts result (S.written sink.old) (S.written sink.new) (S.failed sink.new) (undo_lines instance.now event.now sends.now) }
 {
     put_all(sink, b"undo ")?;
-    put_event(sink, instance, event)?;
-    put_sends(sink, instance, sends)
+    event_page.put_event(sink, instance, event)?;
+    put_sends(sink, event_page, instance, sends)
 }
 
 /// Puts the lines of what an event had sent.
-fn put_sends<S: Sink>(sink: &mut S, instance: &Instance, sends: &[Event]) -> Result<(), Failed>
+fn put_sends<S: Sink>(
+    sink: &mut S,
+    event_page: &mut EventPage,
+    instance: &Instance,
+    sends: &[Event],
+) -> Result<(), Failed>
     requires open { S.failed sink.old ≡ false }
     requires paths { All (λ x. NamesPath instance.now x.body) sends.now }
     ensures { Puts result (S.written sink.old) (S.written sink.new) (S.failed sink.new) (send_lines instance.now sends.now) }
 {
     for send in sends {
-        put_send(sink, instance, send)?;
+        put_send(sink, event_page, instance, send)?;
     }
     Ok(())
 }
 
 /// Puts the line of a message that was sent.
-fn put_send<S: Sink>(sink: &mut S, instance: &Instance, send: &Event) -> Result<(), Failed>
+fn put_send<S: Sink>(
+    sink: &mut S,
+    event_page: &mut EventPage,
+    instance: &Instance,
+    send: &Event,
+) -> Result<(), Failed>
     requires open { S.failed sink.old ≡ false }
     requires path { NamesPath instance.now send.now.body }
     ensures { Puts result (S.written sink.old) (S.written sink.new) (S.failed sink.new) (send_line instance.now send.now) }
 {
     put_all(sink, b"send ")?;
-    put_event(sink, instance, send)
+    event_page.put_event(sink, instance, send)
 }

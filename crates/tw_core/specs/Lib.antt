@@ -3,3 +3,4 @@ pub mod Steps
 pub mod Good
 pub mod Run
 pub mod Parts
+pub mod RefusalNames

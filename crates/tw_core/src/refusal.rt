@@ -1,3 +1,6 @@
+ghost use Rattle.std.specs.Prelude.{◌≡◌};
+ghost use Rattle.tw_core.specs.RefusalNames.{refusal_label};
+
 use thiserror::Error;
 
 /// Why a step of the machine is refused and changes nothing.
@@ -21,4 +24,35 @@ pub enum Refusal {
     /// A counter of the router would pass its limit.
     #[error("a counter of the router would pass its limit")]
     CounterFull,
+}
+
+impl Refusal {
+    /// The code, as `S1`.
+    pub fn code(self) -> &'static str
+        ensures { result.now ≡ (refusal_label self).0 }
+    {
+        self.label().0
+    }
+
+    /// The name, as `NotMine`.
+    pub fn name(self) -> &'static str
+        ensures { result.now ≡ (refusal_label self).1 }
+    {
+        self.label().1
+    }
+
+    /// The code and the name.
+    fn label(self) -> (&'static str, &'static str)
+        ensures code { result.0.now ≡ (refusal_label self).0 }
+        ensures name { result.1.now ≡ (refusal_label self).1 }
+    {
+        match self {
+            Refusal::NotMine => ("S1", "NotMine"),
+            Refusal::Nothing => ("S2", "Nothing"),
+            Refusal::Double => ("S3", "Double"),
+            Refusal::Committed => ("S5", "Committed"),
+            Refusal::NoMessage => ("K1", "NoMessage"),
+            Refusal::CounterFull => ("H2", "CounterFull"),
+        }
+    }
 }

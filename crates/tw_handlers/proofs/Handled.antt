@@ -1,8 +1,8 @@
 -- What the present state and a record tell of the event that was handled.
-use Rattle.std.proofs.Common.{◌≡◌, ℕ, sym, ap₂, ◌∙◌}
+use Rattle.std.proofs.Common.{◌≡◌, ℕ, sym, ap₂, ◌∙◌, subst}
 use Rattle.tw_event.specs.declared.event.Event.{Event}
 use Rattle.tw_model.specs.Net.{Net}
-use Rattle.tw_model.specs.State.{State}
+use Rattle.tw_model.specs.State.{IsState, State}
 use Rattle.tw_model.specs.Effect.{effect}
 use Rattle.tw_handlers.specs.declared.record.UndoRecord.{UndoRecord}
 use Rattle.tw_handlers.specs.Record.{IsHandled}
@@ -14,6 +14,10 @@ pub state_before-handled : (net : Net) (v : ℕ) (s : State) (e : Event) (u : Un
     → IsHandled net v s e u present → state_before net v present e u ≡ s
 state_before-handled net v s e u present h =
     ap₂ (λ x y. state_before net v x e y) (sym h.state) (sym h.note) ∙ state_before-effect net v s e h.is_state h.fits
+
+pub IsState-before : (net : Net) (v : ℕ) (s : State) (e : Event) (u : UndoRecord) (present : State)
+    → IsHandled net v s e u present → IsState net v (state_before net v present e u)
+IsState-before net v s e u present h = subst (IsState net v) (sym (state_before-handled net v s e u present h)) h.is_state
 
 -- what it sent
 pub sends_again-handled : (net : Net) (v : ℕ) (s : State) (e : Event) (u : UndoRecord) (present : State)

@@ -1,12 +1,10 @@
 -- One event more, or one less, of those that led to the present state.
 use Rattle.std.proofs.Common.{◌≡◌, ℕ, ◌+◌, ◌-◌, arith, length, get_or, take, ap₂, List, [], ◌∷◌, ◌++◌, sym, ap, ◌∙◌, refl, subst}
 use Rattle.std.proofs.lemmas.List.{length_push, map_push, take_all, take_more}
-use Rattle.tw_event.specs.declared.event.Event.{Event}
 use Rattle.tw_model.specs.Net.{Net}
-use Rattle.tw_model.specs.State.{IsState, Router, State}
+use Rattle.tw_model.specs.State.{Router, State}
 use Rattle.tw_model.specs.Effect.{effect}
 use Rattle.tw_model.specs.History.{state_after, undone}
-use Rattle.tw_handlers.specs.declared.record.UndoRecord.{UndoRecord}
 use Rattle.tw_handlers.specs.declared.trail.Done.{Done}
 use Rattle.tw_handlers.specs.Record.{IsHandled}
 use Rattle.tw_handlers.specs.Trail.{History, IsTrail, Leads, handled_events, history_of, state_at_start}
@@ -88,22 +86,6 @@ history-push router later steps items d s is with h k =
     ap₂ history_of is with
     ∙ (history-from router.net router.node start s (steps ++ d ∷ []) (leads-push router.net router.node start router.state s steps d h at)
     ∙ ap (λ events. record { opening = record router { state = start }; events = events }) (handled_events-push steps d))
-
--- going back over the event that was handled
-pub IsState-back : (router later : Router) (s : State) (e : Event) (u : UndoRecord) → later ≡ record router { state = s }
-    → IsHandled router.net router.node router.state e u later.state → IsState later.net later.node (state_before later.net later.node later.state e u)
-IsState-back router later s e u is h =
-    let at : IsHandled router.net router.node router.state e u s = subst (λ (r : Router). IsHandled router.net router.node router.state e u r.state) is h in
-    let valid : IsState router.net router.node (state_before router.net router.node s e u) =
-    subst (IsState router.net router.node) (sym (state_before-handled router.net router.node router.state e u s at)) h.is_state in
-    subst (λ (r : Router). IsState r.net r.node (state_before r.net r.node r.state e u)) (sym is) valid
-
-pub router-back : (router later : Router) (s : State) (e : Event) (u : UndoRecord) → later ≡ record router { state = s }
-    → IsHandled router.net router.node router.state e u later.state → record later { state = state_before later.net later.node later.state e u } ≡ router
-router-back router later s e u is h =
-    let at : IsHandled router.net router.node router.state e u s = subst (λ (r : Router). IsHandled router.net router.node router.state e u r.state) is h in
-    ap (λ (r : Router). record r { state = state_before r.net r.node r.state e u }) is
-    ∙ ap (λ (x : State). record router { state = x }) (state_before-handled router.net router.node router.state e u s at)
 
 -- the state before the last event of a trail
 abbrev pub before_last : Router → List Done → List Done → State

@@ -22,4 +22,4 @@ pub use fit::{does_fit, does_suit};
 pub use handling::{handle, handle_fitting};
 pub use record::UndoRecord;
 pub use trail::Trail;
-pub use undoing::undo;
+pub use undoing::{take_back, undo};

@@ -8,7 +8,7 @@ use crate::fault::{CounterFull, Fault};
 use crate::fit::does_fit;
 use crate::handling::handle_fitting;
 use crate::record::UndoRecord;
-use crate::undoing::{go_back, undo};
+use crate::undoing::{take_back, undo};
 use smallvec::SmallVec;
 use std::alloc::{AllocError, Global};
 use std::marker::Model;
@@ -175,7 +175,7 @@ fn advance(
     match steps.push(done) {
         Ok(()) => Ok(()),
         Err(_) => {
-            go_back(instance, router, event, note);
+            take_back(instance, router, event, note);
             Err(OrMemory::Memory)
         }
     }

@@ -42,7 +42,7 @@ pub fn undo(
     ensures unsent { OnErr result (sends.new.items ≡ sends.old.items) }
 {
     send_again(instance, router, event, note, sends)?;
-    go_back(instance, router, event, note);
+    take_back(instance, router, event, note);
     Ok(())
 }
 
@@ -133,15 +133,14 @@ fn send_restored(
     Ok(())
 }
 
-/// Puts the router into the state from which the event led.
-pub(crate) fn go_back(instance: &Instance, router: &mut Router<'_>, event: &Event, note: UndoRecord)
+/// Takes back the event that the router handled last, as `undo` does, but for what the event had sent. This
+/// cannot fail.
+///
+/// The instance is the router's own, and the record is the answer of handling the event.
+pub fn take_back(instance: &Instance, router: &mut Router<'_>, event: &Event, note: UndoRecord)
     requires own { instance.now ≡ router.old.net }
-    requires fits { IsTrue (fits router.old.net router.old.node event.now) }
-    requires rib { IsPath router.old.net note.rib }
-    requires heard { IsPath router.old.net note.heard }
-    requires earlier { IsState router.old.net router.old.node (state_before router.old.net router.old.node router.old.state event.now note) }
-    ensures { router.new
-        ≡ record router.old { state = state_before router.old.net router.old.node router.old.state event.now note } }
+    requires handled { (s : AState) × CameFrom router.old event.now note s }
+    ensures { (s : AState) → CameFrom router.old event.now note s → router.new ≡ record router.old { state = s } }
 {
     let counters = counters_before(instance, router, event, note);
     if note.changed {

@@ -7,7 +7,7 @@ use Rattle.tw_event.specs.declared.event.PathNo.{PathNo}
 use Rattle.tw_model.specs.declared.net.Hop.{Hop}
 use Rattle.tw_model.specs.declared.net.Link.{Link}
 use Rattle.tw_model.specs.PermittedPath.{PermittedPath}
-use Rattle.tw_model.specs.Net.{Net, IsPath, hops_of, origin_path, path, paths, paths_of}
+use Rattle.tw_model.specs.Net.{Net, IsPath, hops_of, origin_path, path, paths, paths_of, bare_net}
 use Rattle.tw_model.specs.Rules.{IsNet, link_fault, nodes_fault, path_fault}
 use Rattle.tw_model.proofs.Grown.{net_alone, net_with_path}
 use Rattle.tw_model.proofs.Nets.{nodes_within}
@@ -19,7 +19,6 @@ use Rattle.tw_instance.proofs.Links.{next_link, no_links}
 use Rattle.tw_instance.proofs.Paths.{path-origin}
 use Rattle.tw_instance.proofs.Rows.{table_empty, table_link, table_opening, table_push}
 use Rattle.tw_instance.proofs.Sound.{is_router}
-use Rattle.tw_instance.proofs.Told.{bare_net}
 
 -- a net that keeps the rules, with its tables
 pub record IsTabled {X Y Z : Type 0} (net : Net) (hops : List (Vec Hop X)) (permitted : List (Vec PathNo Y)) (tail_hashes : List (Vec ℕ Z)) : Type 0 where

@@ -7,14 +7,13 @@ use Rattle.std.proofs.lemmas.Option.{get_or_from_slice_get, slice_get-get_or, sl
 use Rattle.tw_event.specs.declared.event.PathNo.{PathNo}
 use Rattle.tw_model.specs.declared.net.Link.{Link}
 use Rattle.tw_model.specs.PermittedPath.{PermittedPath}
-use Rattle.tw_model.specs.Net.{Net, begins_at, is_own, path, paths_of}
+use Rattle.tw_model.specs.Net.{Net, begins_at, is_own, path, paths_of, bare_net}
 use Rattle.tw_model.specs.Rules.{path_fault}
 use Rattle.tw_model.proofs.Paths.{own_is_path}
 use Rattle.tw_instance.specs.Places.{ArePlaces}
 use Rattle.tw_instance.proofs.Growing.{next_number, path_kept, path_new}
 use Rattle.tw_instance.proofs.Paths.{path-origin}
 use Rattle.tw_instance.proofs.Permitted.{begins_owner, is_listed, length-paths, next_path, none_permitted}
-use Rattle.tw_instance.proofs.Told.{bare_net}
 
 -- what is found in a list is found in a longer one
 get_more : (xs ys : List PathNo) (k : ℕ) (x : PathNo) → slice_get xs k ≡ Some x → slice_get (xs ++ ys) k ≡ Some x

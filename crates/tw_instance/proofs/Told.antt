@@ -10,7 +10,7 @@ use Rattle.tw_model.specs.declared.memory.OrMemory.TheVariants.{Fault, Memory}
 use Rattle.tw_model.specs.declared.net.Link.{Link}
 use Rattle.tw_model.specs.declared.rule.Rule.{Rule}
 use Rattle.tw_model.specs.PermittedPath.{PermittedPath}
-use Rattle.tw_model.specs.Net.{Net}
+use Rattle.tw_model.specs.Net.{Net, bare_net}
 use Rattle.tw_model.specs.Rules.{path_fault}
 use Rattle.tw_instance.specs.Build.{IsRefusedAt, JudgedItem, NoneBreaks, TellsOf, judged_links, judged_paths}
 use Rattle.tw_instance.specs.declared.refusal.At.{At}
@@ -47,10 +47,6 @@ told_later result ((item, broken) ∷ xs) ys all h =
     told_after result broken item (xs ++ ys) (All-head (λ item. item.1 ≡ None) (item, broken) xs all) (told_later result xs ys (All-tail (λ item. item.1 ≡ None) (item, broken) xs all) h)
 
 -- ---- in a build
-
--- an instance with no item
-abbrev pub bare_net : ℕ → Net
-bare_net nodes = record { nodes = nodes; links = []; permitted = [] }
 
 -- the links are judged after none
 pub same_links : (net : Net) (nodes : ℕ) (given links : List Link) → net ≡ bare_net nodes → given ≡ links → judged_links net 1 given ≡ judged_links (bare_net nodes) 1 links

@@ -6,7 +6,7 @@ use Rattle.tw_model.specs.declared.memory.OrMemory.TheVariants.{Fault, Memory}
 use Rattle.tw_model.specs.declared.net.Link.{Link as ALink}
 use Rattle.tw_model.specs.declared.rule.Rule.{Rule}
 use Rattle.tw_model.specs.PermittedPath.{PermittedPath}
-use Rattle.tw_model.specs.Net.{Net}
+use Rattle.tw_model.specs.Net.{Net, bare_net}
 use Rattle.tw_model.specs.Rules.{link_fault, nodes_fault, path_fault, scene_fault}
 use Rattle.tw_instance.specs.declared.refusal.At.{At}
 use Rattle.tw_instance.specs.declared.refusal.Item.{Item}
@@ -42,7 +42,7 @@ judged_scenes net count (s ∷ scenes) = (Scene (count + 1), scene_fault net cou
 -- the items of a whole instance: the number of routers, the links, the permitted paths
 abbrev pub judged_instance : ℕ → List ALink → List PermittedPath → List JudgedItem
 judged_instance nodes links paths =
-    let of_links = judged_links (record { nodes = nodes; links = []; permitted = [] }) 1 links in
+    let of_links = judged_links (bare_net nodes) 1 links in
     let of_paths = judged_paths (record { nodes = nodes; links = links; permitted = [] }) 1 paths in
     (Nodes, nodes_fault nodes) ∷ of_links ++ of_paths
 

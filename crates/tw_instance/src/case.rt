@@ -1,6 +1,6 @@
 ghost use Rattle.std.specs.Prelude.{◌≡◌, ◌↔◌, length, [], ◌∷◌, ◌++◌, IfOk, OnErr, OnOk, slice_get, List};
 ghost use Rattle.tw_model.specs.declared.rule.Rule.{Rule as ARule};
-ghost use Rattle.tw_model.specs.Case.{IsCase, opening_events};
+ghost use Rattle.tw_model.specs.Case.{IsCase, bare_case, opening_events};
 ghost use Rattle.tw_model.specs.Rules.{scene_fault};
 ghost use Rattle.tw_instance.specs.Build.{TellsOf, judged_case, judged_scenes};
 
@@ -37,7 +37,7 @@ impl Model for Case {
 impl Case {
     /// A case of this instance with an empty scenario.
     pub fn new(alloc: Global, mut instance: Instance) -> Result<Case, AllocError>
-        ensures { IfOk result (λ c. c ≡ record { net = instance; scenes = [] }) }
+        ensures { IfOk result (λ c. c ≡ bare_case instance) }
     {
         // Each instance keeps the rules, which this read tells.
         let _ = instance.nodes();

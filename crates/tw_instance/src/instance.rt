@@ -4,7 +4,7 @@ ghost use Rattle.std.specs.List.Sorted.{IsStrictlyIncreasing};
 ghost use Rattle.tw_event.specs.declared.event.PathNo.{PathNo as APathNo};
 ghost use Rattle.tw_model.specs.declared.limits.TheConstants.{LONGEST_DELAY, MOST_LINKS, MOST_PATHS, MOST_ROUTERS};
 ghost use Rattle.tw_model.specs.declared.rule.Rule.{Rule as ARule};
-ghost use Rattle.tw_model.specs.Net.{IsPath, empty_path, hops_of, is_own, origin_path, path, paths, paths_of, same_path};
+ghost use Rattle.tw_model.specs.Net.{IsPath, bare_net, empty_path, hops_of, is_own, origin_path, path, paths, paths_of, same_path};
 ghost use Rattle.tw_model.specs.Rules.{IsNet, is_linked, link_fault, nodes_fault, path_fault};
 ghost use Rattle.tw_model.specs.State.{has_peer, hop, slot as slot_of};
 ghost use Rattle.tw_instance.specs.Build.{TellsOf, judged_instance, judged_links, judged_paths};
@@ -58,7 +58,7 @@ impl Model for Instance {
 impl Instance {
     /// An instance of so many routers, 1 to 1,024, with no link and no permitted path.
     pub fn new(alloc: Global, nodes: u32) -> Result<Instance, OrMemory<Rule>>
-        ensures ok { IfOk result (λ i. i ≡ record { nodes = nodes; links = []; permitted = [] }) }
+        ensures ok { IfOk result (λ i. i ≡ bare_net nodes) }
         ensures rule { (r : ARule) → (result ≡ Err (OrMemory.Fault r)) ↔ (nodes_fault nodes ≡ Some r) }
         ensures kept { OnOk result (nodes_fault nodes ≡ None) }
     {

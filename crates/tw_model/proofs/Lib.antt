@@ -2,6 +2,7 @@ pub mod Unbroken
 pub mod Grown
 pub mod Nets
 pub mod Paths
+pub mod Lengths
 pub mod Within
 pub mod Sends
 pub mod Suits

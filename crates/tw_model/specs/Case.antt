@@ -9,7 +9,7 @@ use Rattle.tw_event.specs.Order.{event_cmp}
 use Rattle.tw_model.specs.declared.case.Scene.{Scene}
 use Rattle.tw_model.specs.declared.case.Scene.TheVariants as scene
 use Rattle.tw_model.specs.declared.limits.TheConstants.{MOST_COUNTED, MOST_LINKS}
-use Rattle.tw_model.specs.Net.{Net}
+use Rattle.tw_model.specs.Net.{Net, no_net}
 use Rattle.tw_model.specs.Rules.{IsNet, ScenesFollow}
 use Rattle.tw_model.specs.State.{State, opening}
 use Rattle.tw_model.specs.Effect.{effect, is_full, suits}
@@ -19,6 +19,14 @@ use Rattle.tw_sim.specs.Simulation.{Simulation}
 pub record Case : Type 0 where
   pub net : Net
   pub scenes : List Scene
+
+-- an instance to which nothing happens
+abbrev pub bare_case : Net → Case
+bare_case net = record { net = net; scenes = [] }
+
+-- what stands where there is no case
+abbrev pub no_case : Case
+no_case = bare_case no_net
 
 -- a case that keeps the rules
 pub record IsCase (case : Case) : Type 0 where

@@ -14,6 +14,14 @@ pub record Net : Type 0 where
   pub links : List Link
   pub permitted : List PermittedPath
 
+-- so many routers, with no link and no permitted path
+abbrev pub bare_net : ℕ → Net
+bare_net nodes = record { nodes = nodes; links = []; permitted = [] }
+
+-- what stands where there is no net
+abbrev pub no_net : Net
+no_net = bare_net 0
+
 -- whether the link is between v and w, in either order
 abbrev pub joins : ℕ → ℕ → Link → Bool
 joins v w l = (l.first == v && l.second == w) || (l.first == w && l.second == v)

@@ -1,5 +1,5 @@
 -- What a router knows, and how it begins (Griffin, Shepherd, Wilfong 2002; sessions and counters own).
-use Rattle.std.specs.Prelude.{ℕ, ◌≡◌, ◌≢◌, ◌≤◌, ◌==◌, Bool, true, not, ◌&&◌, List, ◌∷◌, length, map, nat_lt, slice_index_or, if◌then◌else◌}
+use Rattle.std.specs.Prelude.{ℕ, ◌≡◌, ◌≢◌, ◌≤◌, ◌==◌, Bool, true, not, ◌&&◌, List, [], ◌∷◌, length, map, nat_lt, slice_index_or, if◌then◌else◌}
 use Rattle.std.specs.List.{All, AllPairs, find, list_any, position_or_len}
 use Rattle.std.specs.Option.{unwrap_or}
 use Rattle.tw_event.specs.declared.event.PathNo.{PathNo}
@@ -7,7 +7,7 @@ use Rattle.tw_model.specs.declared.limits.TheConstants.{MOST_COUNTED}
 use Rattle.tw_model.specs.declared.net.Hop.{Hop}
 use Rattle.tw_model.specs.declared.state.Counters.{Counters}
 use Rattle.tw_model.specs.declared.state.Row.{Row}
-use Rattle.tw_model.specs.Net.{Net, IsPath, empty_path, origin_path, path, same_path, is_own, hops_of, paths_of}
+use Rattle.tw_model.specs.Net.{Net, IsPath, empty_path, origin_path, path, same_path, is_own, hops_of, no_net, paths_of}
 
 -- one row for each neighbour in ascending order; the permitted paths best first
 pub record State : Type 0 where
@@ -75,6 +75,10 @@ row s k = slice_index_or s.rows k no_row
 -- nothing is counted yet
 abbrev pub no_counts : Counters
 no_counts = record { sent = 0; handled = 0; dropped = 0; changed = 0 }
+
+-- what stands where there is no router
+abbrev pub no_router : Router
+no_router = record { net = no_net; node = 0; state = record { rib = empty_path; rows = []; order = []; counters = no_counts } }
 
 -- the row with which a link begins: up, in its first session, with nothing heard
 abbrev pub fresh_row : Hop → Row

@@ -1,4 +1,4 @@
--- The words of the lines of events and routers (own).
+-- The words of the lines of events, routers and refusals (own).
 use Rattle.std.specs.Prelude.{ℕ, List, [], ◌∷◌, codes}
 use Rattle.std.specs.Fmt.{decimal}
 use Rattle.tw_event.specs.declared.event.Body.{Body}
@@ -6,6 +6,8 @@ use Rattle.tw_event.specs.declared.event.Body.TheVariants.{Start, Fail, Restore,
 use Rattle.tw_event.specs.declared.event.Event.{Event}
 use Rattle.tw_model.specs.declared.outcome.RouterEnd.{RouterEnd}
 use Rattle.tw_model.specs.Net.{Net, IsPath, path}
+use Rattle.tw_report.specs.declared.lines.Refused.{Refused}
+use Rattle.tw_report.specs.declared.lines.Refused.TheVariants.{CommandOption, Step, TextLine}
 use Rattle.tw_report.specs.Words.{path_text}
 
 -- what happens, with the sender's number of it
@@ -25,6 +27,12 @@ abbrev pub router_words : Net → ℕ → RouterEnd → List (List ℕ)
 router_words net v r =
     codes "router" ∷ decimal v ∷ codes "sent" ∷ decimal r.counters.sent ∷ codes "handled" ∷ decimal r.counters.handled
     ∷ codes "dropped" ∷ decimal r.counters.dropped ∷ codes "changed" ∷ decimal r.counters.changed ∷ codes "rib" ∷ path_text (path net r.rib) ∷ []
+
+-- what is refused, with the code and the name of the reason
+abbrev pub refused_words : Refused → List ℕ → List ℕ → List (List ℕ)
+refused_words (TextLine n) code name = codes "refused" ∷ codes "line" ∷ decimal n ∷ code ∷ name ∷ []
+refused_words CommandOption code name = codes "refused" ∷ codes "option" ∷ code ∷ name ∷ []
+refused_words (Step n) code name = codes "step" ∷ decimal n ∷ codes "refused" ∷ code ∷ name ∷ []
 
 -- the path that a body names is one of the net
 abbrev pub NamesPath : Net → Body → Type 0

@@ -1,19 +1,8 @@
 -- The line of an event in pieces, as they stand one after the other (own).
 use Rattle.std.specs.Prelude.{ℕ, List, [], ◌∷◌, ◌++◌, codes}
 use Rattle.std.specs.Fmt.{decimal}
-use Rattle.tw_event.specs.declared.event.Body.{Body}
-use Rattle.tw_event.specs.declared.event.Body.TheVariants.{Start, Fail, Restore, Swap, Update}
 use Rattle.tw_event.specs.declared.event.Event.{Event}
-use Rattle.tw_model.specs.Net.{Net, path}
 use Rattle.tw_report.specs.Words.{path_text, spaced_number}
-
--- the path that the line of an event shows
-abbrev pub shown_path : Net → Body → List ℕ
-shown_path net Start = []
-shown_path net (Fail w) = []
-shown_path net (Restore w) = []
-shown_path net (Swap i j) = []
-shown_path net (Update q n) = path net q
 
 -- with its time and its receiver
 unfoldable pub head_text : Event → List ℕ

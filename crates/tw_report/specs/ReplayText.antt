@@ -3,13 +3,14 @@ use Rattle.std.specs.Prelude.{ℕ, List, [], ◌∷◌, ◌++◌, codes, Result,
 use Rattle.std.specs.Fmt.{decimal}
 use Rattle.std.specs.List.{All, enumerate_from, flat_map}
 use Rattle.tw_core.specs.declared.refusal.Refusal.{Refusal}
-use Rattle.tw_core.specs.declared.refusal.Refusal.TheVariants.{NotMine, Nothing, Double, Committed, NoMessage, CounterFull}
+use Rattle.tw_core.specs.RefusalNames.{refusal_label}
 use Rattle.tw_event.specs.declared.event.Event.{Event}
 use Rattle.tw_model.specs.declared.outcome.RouterEnd.{RouterEnd}
 use Rattle.tw_model.specs.Net.{Net, IsPath}
 use Rattle.tw_report.specs.declared.replay.Counts.{Counts}
 use Rattle.tw_report.specs.declared.replay.Replay.{Replay}
-use Rattle.tw_report.specs.Lines.{NamesPath}
+use Rattle.tw_report.specs.declared.lines.Refused.TheVariants.{Step}
+use Rattle.tw_report.specs.Lines.{NamesPath, refused_words}
 use Rattle.tw_report.specs.Report.{event_lines, router_lines}
 use Rattle.tw_report.specs.Words.{line}
 
@@ -32,23 +33,10 @@ replayed_of r = record {
   routers = r.routers.items;
 }
 
--- the code and the name of a refusal
-abbrev pub refusal_label : Refusal → List ℕ × List ℕ
-refusal_label NotMine = (codes "S1", codes "NotMine")
-refusal_label Nothing = (codes "S2", codes "Nothing")
-refusal_label Double = (codes "S3", codes "Double")
-refusal_label Committed = (codes "S5", codes "Committed")
-refusal_label NoMessage = (codes "K1", codes "NoMessage")
-refusal_label CounterFull = (codes "H2", codes "CounterFull")
-
--- whether a step was done, or why not
-abbrev pub answer_words : Result (Unit {0}) Refusal → List (List ℕ)
-answer_words (Ok x) = codes "ok" ∷ []
-answer_words (Err f) = codes "refused" ∷ (refusal_label f).0 ∷ (refusal_label f).1 ∷ []
-
--- step n, with its answer
+-- step n, and whether it was done, or why not
 abbrev pub step_words : ℕ → Result (Unit {0}) Refusal → List (List ℕ)
-step_words n answer = codes "step" ∷ decimal n ∷ answer_words answer
+step_words n (Ok x) = codes "step" ∷ decimal n ∷ codes "ok" ∷ []
+step_words n (Err f) = refused_words (Step n) (refusal_label f).0 (refusal_label f).1
 
 -- of each step a line, numbered from n
 abbrev pub step_lines : ℕ → List (Result (Unit {0}) Refusal) → List ℕ

@@ -1,25 +1,63 @@
-//! Lines of events, gathered on a page so that many of them are put at once.
+//! Lines of events, written onto a page so that many of them are put at once.
 
-ghost use Rattle.std.specs.Prelude.{◌≡◌, ◌+◌, ◌≤◌, ◌++◌, false, length, nat_le, take};
+ghost use Rattle.std.specs.Prelude.{◌≡◌, ◌+◌, ◌<◌, ◌≤◌, ◌++◌, false, length, take};
 ghost use Rattle.std.specs.List.{All};
 ghost use Rattle.tw_device.specs.Sink.{Puts};
 ghost use Rattle.tw_report.specs.Lines.{NamesPath, event_words};
-ghost use Rattle.tw_report.specs.Pieces.{head_text, link_text, shown_path, swap_text, update_text};
+ghost use Rattle.tw_report.specs.Pieces.{head_text, link_text, swap_text, update_text};
 ghost use Rattle.tw_report.specs.Report.{event_lines};
 ghost use Rattle.tw_report.specs.Words.{line};
 
-use crate::lines::put_event;
 use crate::numerals::Numerals;
 use crate::spelled::{PAGE, spell, spell_next, spell_number, spell_path};
+use std::marker::Model;
 use tw_device::{Failed, Sink, put_all};
 use tw_event::{Body, Event};
 use tw_instance::Instance;
 use tw_model::limits::MOST_NODES;
 
-/// Puts the line of each event.
+/// Where lines of events are written before they are put.
 ///
-/// The first event, and each one whose line might not fit on what is left of a page, goes by itself, and
-/// the lines after it go page by page.
+/// One serves for any number of lines. Nothing stays on it from one call to the next.
+#[derive(Drop)]
+pub struct EventPage {
+    bytes: [u8; PAGE],
+    numerals: Numerals,
+}
+
+impl Model for EventPage {
+    ghost Value = { Unit {0} };
+
+    ghost view = { λ page. tt };
+}
+
+impl EventPage {
+    /// A page with no line.
+    pub fn new() -> EventPage {
+        let mut bytes = [0; PAGE];
+        let numerals = Numerals::new(&mut bytes);
+        EventPage { bytes, numerals }
+    }
+
+    /// Puts the line of an event: `event`, its time, its receiver and what happens. Takes no memory.
+    ///
+    /// The path of an update is one of the instance.
+    pub fn put_event<S: Sink>(
+        &mut self,
+        sink: &mut S,
+        instance: &Instance,
+        event: &Event,
+    ) -> Result<(), Failed>
+        requires path { NamesPath instance.now event.now.body }
+        requires open { S.failed sink.old ≡ false }
+        ensures { Puts result (S.written sink.old) (S.written sink.new) (S.failed sink.new) (line (event_words instance.now event.now)) }
+    {
+        let end = spell_event(&mut self.bytes, 0, &self.numerals, instance, event);
+        put_all(sink, &self.bytes[..end])
+    }
+}
+
+/// Puts the line of each event, page by page.
 pub(crate) fn put_events<S: Sink>(
     sink: &mut S,
     instance: &Instance,
@@ -29,14 +67,12 @@ pub(crate) fn put_events<S: Sink>(
     requires open { S.failed sink.old ≡ false }
     ensures { Puts result (S.written sink.old) (S.written sink.new) (S.failed sink.new) (event_lines instance.now events.now) }
 {
-    let mut page = [0; PAGE];
-    let numerals = Numerals::new(&mut page);
+    let mut page = EventPage::new();
     let mut rest = events;
-    while let [first, more @ ..] = rest {
-        put_event(sink, instance, first)?;
-        let (count, end) = fill_page(&mut page, &numerals, instance, more);
-        put_all(sink, &page[..end])?;
-        rest = more.split_at(count).1;
+    while !rest.is_empty() {
+        let (count, end) = fill_page(&mut page.bytes, &page.numerals, instance, rest);
+        put_all(sink, &page.bytes[..end])?;
+        rest = rest.split_at(count).1;
     }
     Ok(())
 }
@@ -55,12 +91,13 @@ fn fill_page(
 ) -> (usize, usize)
     requires paths { All (λ e. NamesPath instance.now e.body) events.now }
     ensures count { result.0 ≤ length events.now }
-    ensures end { result.1 ≤ length page.new }
+    ensures some { 0 < length events.now → 0 < result.0 }
+    ensures end { result.1 ≤ PAGE }
     ensures text { take result.1 page.new ≡ event_lines instance.now (take result.0 events.now) }
 {
     let mut end = 0;
     for (count, event) in events.iter().enumerate() {
-        if end > PAGE - LINE || !is_short(instance, event) {
+        if end > PAGE - LINE {
             return (count, end);
         }
         end = spell_event(page, end, numerals, instance, event);
@@ -68,18 +105,8 @@ fn fill_page(
     (events.len(), end)
 }
 
-/// Whether the path of an event has no more nodes than a line has room for.
-fn is_short(instance: &Instance, event: &Event) -> bool
-    requires path { NamesPath instance.now event.now.body }
-    ensures { result ≡ nat_le (length (shown_path instance.now event.now.body)) 32 }
-{
-    match event.body {
-        Body::Update { path, .. } => instance.path(path).len() <= MOST_NODES,
-        _ => true,
-    }
-}
-
 /// Writes the line of an event.
+#[inline(always)]
 fn spell_event(
     page: &mut [u8; PAGE],
     at: usize,
@@ -88,7 +115,6 @@ fn spell_event(
     event: &Event,
 ) -> usize
     requires path { NamesPath instance.now event.now.body }
-    requires short { length (shown_path instance.now event.now.body) ≤ 32 }
     requires room { at + 793 ≤ length page.old }
     ensures end { result ≤ at + 793 }
     ensures text { take result page.new ≡ take at page.old ++ line (event_words instance.now event.now) }

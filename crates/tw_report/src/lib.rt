@@ -17,7 +17,8 @@ mod short_numbers;
 mod spelled;
 mod words;
 
-pub use lines::{put_event, put_router};
+pub use event_page::EventPage;
+pub use lines::{Refused, put_refused, put_router};
 pub use replay::{Counts, Replay, write_replay};
 pub use report::write_report;
 pub use words::{Word, put_line};

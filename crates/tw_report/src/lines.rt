@@ -1,59 +1,14 @@
 ghost use Rattle.std.specs.Prelude.{◌≡◌, false};
 ghost use Rattle.tw_device.specs.Sink.{Puts};
 ghost use Rattle.tw_model.specs.Net.{IsPath};
-ghost use Rattle.tw_report.specs.Lines.{NamesPath, event_words, router_words};
+ghost use Rattle.tw_report.specs.Lines.{refused_words, router_words};
 ghost use Rattle.tw_report.specs.Words.{line};
 
 use crate::words::Word::{Name, Number, Path};
 use crate::words::put_line;
 use tw_device::{Failed, Sink};
-use tw_event::{Body, Event};
 use tw_instance::Instance;
 use tw_model::RouterEnd;
-
-/// Puts the line of an event: `event`, its time, its receiver and what happens. Takes no memory.
-///
-/// The path of an update is one of the instance.
-pub fn put_event<S: Sink>(sink: &mut S, instance: &Instance, event: &Event) -> Result<(), Failed>
-    requires path { NamesPath instance.now event.now.body }
-    requires open { S.failed sink.old ≡ false }
-    ensures { Puts result (S.written sink.old) (S.written sink.new) (S.failed sink.new) (line (event_words instance.now event.now)) }
-{
-    let (event_name, seq) = (Name("event"), Number(event.seq));
-    let (time, dst) = (Number(event.time), Number(u64::from(event.dst)));
-    match event.body {
-        Body::Start => put_line(sink, &[event_name, time, dst, Name("start")]),
-        Body::Fail(peer) => {
-            let peer = Number(u64::from(peer));
-            put_line(sink, &[event_name, time, dst, Name("fail"), peer, seq])
-        }
-        Body::Restore(peer) => {
-            let peer = Number(u64::from(peer));
-            put_line(sink, &[event_name, time, dst, Name("restore"), peer, seq])
-        }
-        Body::Swap(i, j) => {
-            let (i, j) = (Number(u64::from(i)), Number(u64::from(j)));
-            put_line(sink, &[event_name, time, dst, Name("swap"), seq, i, j])
-        }
-        Body::Update { path, session } => {
-            let (src, session) = (Number(u64::from(event.src)), Number(session));
-            let path = Path(instance.path(path));
-            put_line(
-                sink,
-                &[
-                    event_name,
-                    time,
-                    dst,
-                    Name("update"),
-                    src,
-                    seq,
-                    session,
-                    path,
-                ],
-            )
-        }
-    }
-}
 
 /// Puts the line of a router: `router`, its number, its counters and its path. Takes no memory.
 ///
@@ -86,4 +41,39 @@ pub fn put_router<S: Sink>(
             Path(instance.path(end.rib)),
         ],
     )
+}
+
+/// What a line tells to be refused.
+#[derive(Clone, Copy, PartialEq, Eq, Debug)]
+pub enum Refused {
+    /// A line of a text, numbered from 1.
+    TextLine(usize),
+    /// An option of a command.
+    CommandOption,
+    /// A step of a machine, numbered from 1.
+    Step(usize),
+}
+
+/// Puts the line of what is refused, with the code and the name of the reason. Takes no memory.
+pub fn put_refused<S: Sink>(
+    sink: &mut S,
+    refused: Refused,
+    code: &'static str,
+    name: &'static str,
+) -> Result<(), Failed>
+    requires { S.failed sink.old ≡ false }
+    ensures { Puts result (S.written sink.old) (S.written sink.new) (S.failed sink.new) (line (refused_words refused code.now name.now)) }
+{
+    let (word, code, name) = (Name("refused"), Name(code), Name(name));
+    match refused {
+        Refused::TextLine(number) => {
+            let number = Number(number as u64);
+            put_line(sink, &[word, Name("line"), number, code, name])
+        }
+        Refused::CommandOption => put_line(sink, &[word, Name("option"), code, name]),
+        Refused::Step(number) => {
+            let number = Number(number as u64);
+            put_line(sink, &[Name("step"), number, word, code, name])
+        }
+    }
 }

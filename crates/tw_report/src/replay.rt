@@ -1,9 +1,10 @@
 ghost use Rattle.std.specs.Prelude.{◌≡◌, false};
 ghost use Rattle.tw_device.specs.Sink.{Puts};
-ghost use Rattle.tw_report.specs.ReplayText.{ShowsPaths, refusal_label, replay_text, replayed_of, standing_lines, step_lines, step_words, told_lines};
+ghost use Rattle.tw_report.specs.ReplayText.{ShowsPaths, replay_text, replayed_of, standing_lines, step_lines, step_words, told_lines};
 ghost use Rattle.tw_report.specs.Words.{line};
 
 use crate::event_page::put_events;
+use crate::lines::{Refused, put_refused};
 use crate::report::put_routers;
 use crate::words::Word::{Count, Name, Number};
 use crate::words::put_line;
@@ -86,29 +87,9 @@ fn put_step<S: Sink>(sink: &mut S, step: usize, answer: Result<(), Refusal>) -> 
     requires open { S.failed sink.old ≡ false }
     ensures { Puts result (S.written sink.old) (S.written sink.new) (S.failed sink.new) (line (step_words step answer)) }
 {
-    let (step_name, number) = (Name("step"), Number(step as u64));
     match answer {
-        Ok(()) => put_line(sink, &[step_name, number, Name("ok")]),
-        Err(refusal) => {
-            let (code, name) = refusal_label(refusal);
-            let (code, name) = (Name(code), Name(name));
-            put_line(sink, &[step_name, number, Name("refused"), code, name])
-        }
-    }
-}
-
-/// The code and the name of a refusal.
-fn refusal_label(refusal: Refusal) -> (&'static str, &'static str)
-    ensures code { result.0.now ≡ (refusal_label refusal).0 }
-    ensures name { result.1.now ≡ (refusal_label refusal).1 }
-{
-    match refusal {
-        Refusal::NotMine => ("S1", "NotMine"),
-        Refusal::Nothing => ("S2", "Nothing"),
-        Refusal::Double => ("S3", "Double"),
-        Refusal::Committed => ("S5", "Committed"),
-        Refusal::NoMessage => ("K1", "NoMessage"),
-        Refusal::CounterFull => ("H2", "CounterFull"),
+        Ok(()) => put_line(sink, &[Name("step"), Number(step as u64), Name("ok")]),
+        Err(refusal) => put_refused(sink, Refused::Step(step), refusal.code(), refusal.name()),
     }
 }
 

@@ -2,11 +2,11 @@
 use Rattle.std.proofs.Common.{◌≡◌, ℕ, zero, suc, ◌+◌, ◌<◌, List, [], ◌∷◌, length, map, set, get_or, refl, arith}
 use Rattle.tw_event.specs.declared.event.Event.{Event}
 use Rattle.tw_model.specs.Net.{Net}
-use Rattle.tw_model.specs.State.{Router, opening}
+use Rattle.tw_model.specs.State.{Router, no_router, opening}
 use Rattle.tw_model.proofs.Rises.{rises_acts}
 use Rattle.tw_handlers.specs.Calls.{after_event}
 use Rattle.tw_seq.specs.Thread.{count_of}
-use Rattle.tw_seq.specs.Turn.{receiver, no_router}
+use Rattle.tw_seq.specs.Turn.{receiver}
 
 -- routers that begin have counted none
 pub count_opening : (net : Net) (nodes : List ℕ) → count_of (map (λ r. record { net = net; node = r; state = opening net r }) nodes) ≡ 0

@@ -9,7 +9,7 @@ ghost use Rattle.tw_seq.specs.Run.{IsBegun, IsNext, IsNextRun, IsStuck, NoneBefo
 
 use crate::routers::{gather, opening_routers, router_ends};
 use crate::running::Running;
-use crate::turn::{handle_at, move_each, opening_queue, undo_at};
+use crate::turn::{fault_at, handle_at, move_each, opening_queue};
 use smallvec::SmallVec;
 use std::alloc::{AllocError, Global};
 use std::marker::Model;
@@ -169,16 +169,9 @@ impl<'a> OneThread<'a> {
         ensures full { result ≡ or_memory.Fault counter_full → IsStuck self.old }
         ensures stuck { IsStuck self.old → result ≡ or_memory.Fault counter_full }
     {
+        let alloc = *self.routers.allocator();
         let instance = self.case.instance();
-        let mut sends: SmallVec<Event, 8> = SmallVec::new(*self.routers.allocator());
-        match handle_at(instance, &mut self.routers, event, &mut sends) {
-            Ok(note) => {
-                prove!(sends.len() <= sends.capacity());
-                undo_at(instance, &mut self.routers, event, note, &mut sends);
-                OrMemory::Memory
-            }
-            Err(fault) => fault,
-        }
+        fault_at(alloc, instance, &mut self.routers, event)
     }
 }
 

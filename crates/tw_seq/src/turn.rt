@@ -2,9 +2,8 @@ ghost use Rattle.std.specs.Prelude.{◌≡◌, ◌≤◌, ◌<◌, [], ◌++◌,
 ghost use Rattle.tw_event.specs.Order.{event_before};
 ghost use Rattle.tw_model.specs.Case.{opening_events};
 ghost use Rattle.tw_model.specs.declared.memory.OrMemory.TheVariants as or_memory;
-ghost use Rattle.tw_model.specs.Effect.{effect, fits};
+ghost use Rattle.tw_model.specs.Effect.{fits};
 ghost use Rattle.tw_sim.specs.Ordered.{insert_all};
-ghost use Rattle.tw_model.specs.State.{State};
 ghost use Rattle.tw_handlers.specs.Calls.{after_event, counter_full, effect_at, is_full_at};
 ghost use Rattle.tw_handlers.specs.Record.{IsHandled};
 ghost use Rattle.tw_queue.specs.Queue.{AreFor};
@@ -13,7 +12,7 @@ ghost use Rattle.tw_seq.specs.Turn.{receiver};
 use smallvec::SmallVec;
 use std::alloc::{AllocError, Global};
 use tw_event::Event;
-use tw_handlers::{CounterFull, UndoRecord, handle_fitting, undo};
+use tw_handlers::{CounterFull, UndoRecord, handle_fitting, take_back};
 use tw_instance::{Case, Instance};
 use tw_model::OrMemory;
 use tw_queue::EventList;
@@ -47,26 +46,29 @@ pub(crate) fn handle_at(
     handle_fitting(instance, router, event, sends)
 }
 
-/// Takes back the event that its router handled last. This cannot fail: the list that held what the event
-/// sent has room for it again.
-pub(crate) fn undo_at(
+/// Why an event is not handled at its router where there is no memory for that: a full counter, or want of
+/// memory. It leaves all routers as they were.
+pub(crate) fn fault_at(
+    alloc: Global,
     instance: &Instance,
     routers: &mut [Router<'_>],
     event: &Event,
-    note: UndoRecord,
-    sends: &mut SmallVec<Event, 8>,
-)
+) -> OrMemory<CounterFull>
     requires within { event.now.dst < length routers.old }
     requires net { (receiver routers.old event.now).net ≡ instance.now }
-    requires handled { let router = receiver routers.old event.now in (s : State)
-        × IsHandled router.net router.node s event.now note router.state × (length (effect router.net router.node s event.now).sends ≤ sends.old.capacity) }
-    ensures { let router = receiver routers.old event.now in (s : State)
-        → IsHandled router.net router.node s event.now note router.state
-        → routers.new ≡ slice_set routers.old event.now.dst (record router { state = s }) }
+    requires fits { let router = receiver routers.old event.now in IsTrue (fits router.net router.node event.now) }
+    ensures same { routers.new ≡ routers.old }
+    ensures full { result ≡ or_memory.Fault counter_full ↔ IsTrue (is_full_at (receiver routers.old event.now) event.now) }
 {
     let router = &mut routers[event.dst as usize];
-    sends.clear();
-    undo(instance, router, event, note, sends).unwrap();
+    let mut sends: SmallVec<Event, 8> = SmallVec::new(alloc);
+    match handle_fitting(instance, router, event, &mut sends) {
+        Ok(note) => {
+            take_back(instance, router, event, note);
+            OrMemory::Memory
+        }
+        Err(fault) => fault,
+    }
 }
 
 /// Adds events for which there is room, each in its place.

@@ -7,8 +7,9 @@ use Rattle.tw_core.specs.Machine.{Core}
 use Rattle.tw_core.specs.Steps.{first_pending, handle, is_newest, undo}
 use Rattle.tw_event.specs.declared.event.Event.{Event}
 use Rattle.tw_event.specs.Order.{event_before, event_same}
-use Rattle.tw_model.specs.Case.{Case, IsCase, opening_events, simulation}
+use Rattle.tw_model.specs.Case.{Case, IsCase, no_case, opening_events, simulation}
 use Rattle.tw_model.specs.Effect.{suits}
+use Rattle.tw_model.specs.Net.{no_net}
 use Rattle.tw_shard.specs.Past.{run_of}
 use Rattle.tw_shard.specs.Timeline.{Timeline, history, sends_after, signed}
 use Rattle.tw_sim.specs.declared.machine.Signed.{Signed}
@@ -42,12 +43,26 @@ place s r = r / s.workers
 -- what stands where there is no router
 abbrev pub no_timeline : Timeline
 no_timeline = record {
-  net = record { nodes = 0; links = []; permitted = [] };
+  net = no_net;
   node = 0;
   ahead = [];
   past = [];
   done = 0;
-  case = record { net = record { nodes = 0; links = []; permitted = [] }; scenes = [] };
+  case = no_case;
+  keeps = true;
+}
+
+-- what stands where there is no shard
+abbrev pub no_shard : Shard
+no_shard = record {
+  case = no_case;
+  worker = 0;
+  workers = 0;
+  timelines = [];
+  pending = [];
+  kept = [];
+  outgoing = [];
+  bound = 0;
   keeps = true;
 }
 

@@ -6,10 +6,8 @@ ghost use Rattle.tw_core.specs.Steps.{is_newest};
 ghost use Rattle.tw_model.specs.Case.{Case as ACase, simulation};
 ghost use Rattle.tw_handlers.specs.Calls.{counter_full, is_full_at};
 ghost use Rattle.tw_model.specs.declared.memory.OrMemory.TheVariants as or_memory;
-ghost use Rattle.tw_model.specs.Effect.{effect, fits};
+ghost use Rattle.tw_model.specs.Effect.{fits};
 ghost use Rattle.tw_model.specs.Rules.{IsNet};
-ghost use Rattle.tw_model.specs.State.{State as AState};
-ghost use Rattle.tw_handlers.specs.Record.{CameFrom};
 ghost use Rattle.tw_event.specs.Order.{event_same};
 ghost use Rattle.tw_sim.specs.Ordered.{times};
 ghost use Rattle.tw_shard.specs.Timeline.{history, opening_timeline, router_of as router_of_timeline, sends_after, signed};
@@ -21,8 +19,8 @@ use smallvec::SmallVec;
 use std::alloc::{AllocError, Global};
 use std::marker::Model;
 use tw_event::Event;
-use tw_handlers::{CounterFull, UndoRecord, handle_fitting, undo};
-use tw_instance::{Case, Instance};
+use tw_handlers::{CounterFull, UndoRecord, handle_fitting, take_back, undo};
+use tw_instance::Case;
 use tw_model::OrMemory;
 use tw_model::limits::MOST_LINKS;
 use tw_router::Router;
@@ -147,7 +145,7 @@ impl<'a> Timeline<'a> {
         sends.clear();
         let note = handle_fitting(instance, &mut self.router, event, sends)?;
         if let Err(error) = make_room(&mut self.ahead, outgoing, sends.len()) {
-            take_back(instance, &mut self.router, event, note, sends);
+            take_back(instance, &mut self.router, event, note);
             return Err(OrMemory::from(error));
         }
         self.ahead.push_reserved(HandledEvent {
@@ -212,24 +210,6 @@ fn make_room(
     ahead.reserve(1)?;
     outgoing.reserve(count)?;
     Ok(())
-}
-
-/// Takes back the event that the router handled last. This cannot fail: the list that held what the event
-/// sent has room for it again.
-fn take_back(
-    instance: &Instance,
-    router: &mut Router<'_>,
-    event: &Event,
-    note: UndoRecord,
-    sends: &mut SmallVec<Event, 8>,
-)
-    requires own { instance.now ≡ router.old.net }
-    requires handled { (s : AState) × CameFrom router.old event.now note s
-        × (length (effect router.old.net router.old.node s event.now).sends ≤ sends.old.capacity) }
-    ensures { (s : AState) → CameFrom router.old event.now note s → router.new ≡ record router.old { state = s } }
-{
-    sends.clear();
-    undo(instance, router, event, note, sends).unwrap();
 }
 
 /// Adds events as messages, or as their antimessages, for which there is room.

@@ -11,7 +11,7 @@ use Rattle.tw_model.specs.Case.{Case, IsCase, simulation}
 use Rattle.tw_rule.specs.Board as rule
 use Rattle.tw_rule.specs.Place.{Place, whole}
 use Rattle.tw_rule.specs.Rule.{Rule, Stands, assembled}
-use Rattle.tw_shard.specs.Shard.{Shard, core, owns}
+use Rattle.tw_shard.specs.Shard.{Shard, core, no_shard, owns}
 use Rattle.tw_sim.specs.declared.machine.Signed.{Signed}
 use Rattle.tw_table.specs.declared.hand.Hand.{Hand}
 
@@ -33,21 +33,7 @@ shares_of shards hands = map (λ (p : Shard × Hand). share p.0 p.1) (zip shards
 
 -- what stands where there is none
 abbrev pub no_share : Share
-no_share = record {
-  shard = record {
-    case = record { net = record { nodes = 0; links = []; permitted = [] }; scenes = [] };
-    worker = 0;
-    workers = 0;
-    timelines = [];
-    pending = [];
-    kept = [];
-    outgoing = [];
-    bound = 0;
-    keeps = true;
-  };
-  mail = [];
-  unsent = [];
-}
+no_share = record { shard = no_shard; mail = []; unsent = [] }
 
 -- a worker's share, as the rule sees it
 abbrev pub place_of : Share → Place Event

@@ -4,8 +4,8 @@ use Rattle.std.specs.List.{find, list_all}
 use Rattle.std.specs.Result.{result_map_both}
 use Rattle.std.specs.declared.alloc.Global.{Global}
 use Rattle.std.specs.declared.vec.Vec.{Vec}
-use Rattle.tw_model.specs.Case.{Case}
-use Rattle.tw_model.specs.Net.{Net}
+use Rattle.tw_model.specs.Case.{Case, bare_case}
+use Rattle.tw_model.specs.Net.{Net, bare_net}
 use Rattle.tw_model.specs.PermittedPath.{PermittedPath}
 use Rattle.tw_model.specs.Rules.{link_fault, nodes_fault, path_fault, rules_in_order, scene_fault}
 use Rattle.tw_model.specs.declared.case.Scene.{Scene}
@@ -76,15 +76,15 @@ before_paths d ended = Err x.Order
 
 -- the case to which scenes may be added, where the line has its end
 abbrev pub before_scenes : Draft → Bool → Result Case LineFault
-before_scenes (Links net) ended = check_ended ended (record { net = net; scenes = [] })
-before_scenes (Paths net) ended = check_ended ended (record { net = net; scenes = [] })
+before_scenes (Links net) ended = check_ended ended (bare_case net)
+before_scenes (Paths net) ended = check_ended ended (bare_case net)
 before_scenes (Scenes case) ended = check_ended ended case
 before_scenes (Done case) ended = Err x.End
 before_scenes d ended = Err x.Order
 
 -- a number of routers that keeps the rules, as an instance
 abbrev pub with_nodes : ℕ → Result Draft LineFault
-with_nodes n = unless_fault (of_rule (nodes_fault n)) (Links (record { nodes = n; links = []; permitted = [] }))
+with_nodes n = unless_fault (of_rule (nodes_fault n)) (Links (bare_net n))
 
 -- the instance with one more link that keeps the rules
 abbrev pub with_link : Net → Link → Result Draft LineFault

@@ -1,7 +1,7 @@
 -- Which faults a line has, and what a line without a fault adds (own; the table stands in docs/FORMATS.md).
 use Rattle.std.specs.Prelude.{ℕ, Bool, true, false, not, ◌||◌, ◌&&◌, List, [], ◌∷◌, ◌++◌, length, map, Option, Some, None, Result, Ok, Err, bytes_eq, codes}
 use Rattle.std.specs.List.{find, list_all}
-use Rattle.tw_model.specs.Net.{Net}
+use Rattle.tw_model.specs.Net.{Net, bare_net, no_net}
 use Rattle.tw_model.specs.Rules.{nodes_break, link_breaks, path_breaks, scene_breaks, rules_in_order}
 use Rattle.tw_model.specs.declared.case.Scene.{Scene}
 use Rattle.tw_model.specs.declared.rule.Rule.{Rule}
@@ -12,11 +12,7 @@ use Rattle.tw_text.specs.declared.text_fault.LineFault.TheVariants as x
 use Rattle.tw_text.specs.Statements.{Statement, nodes_line, link_line, path_line, scene_line, end_line, statement_of}
 use Rattle.tw_text.specs.Words.{is_plain, words}
 
--- the instance before line 2
-abbrev pub no_net : Net
-no_net = record { nodes = 0; links = []; permitted = [] }
-
--- the instance that the lines before have given
+-- the instance that the lines before have given: none before line 2
 abbrev pub net_of : Draft → Net
 net_of Start = no_net
 net_of Header = no_net
@@ -104,7 +100,7 @@ fault_of d line ended = find (holds d line ended) faults_in_order
 
 -- what a statement without a fault adds
 abbrev pub with_statement : Draft → Statement → Draft
-with_statement d (nodes_line n) = Links (record { nodes = n; links = []; permitted = [] })
+with_statement d (nodes_line n) = Links (bare_net n)
 with_statement d (link_line l) = Links (let net = net_of d in record net { links = net.links ++ l ∷ [] })
 with_statement d (path_line p) = Paths (let net = net_of d in record net { permitted = net.permitted ++ p ∷ [] })
 with_statement d (scene_line s) = Scenes (record { net = net_of d; scenes = scenes_of d ++ s ∷ [] })

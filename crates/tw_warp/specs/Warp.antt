@@ -10,6 +10,7 @@ use Rattle.tw_event.specs.Order.{event_before}
 use Rattle.tw_model.specs.Case.{Case, IsCase, simulation}
 use Rattle.tw_model.specs.declared.limits.TheConstants.{LATEST}
 use Rattle.tw_shard.specs.Shard.{Shard}
+pub use Rattle.tw_shard.specs.Shard.{no_shard}
 use Rattle.tw_shard.specs.Shard as share
 use Rattle.tw_sim.specs.declared.machine.Signed.{Signed}
 use Rattle.tw_sim.specs.declared.machine.Step.{Step}
@@ -25,20 +26,6 @@ pub record Warp : Type 0 where
   pub flight : List (Signed Event)
   pub bound : ℕ
   pub stop : ℕ
-
--- what stands where there is no shard
-abbrev pub no_shard : Shard
-no_shard = record {
-  case = record { net = record { nodes = 0; links = []; permitted = [] }; scenes = [] };
-  worker = 0;
-  workers = 0;
-  timelines = [];
-  pending = [];
-  kept = [];
-  outgoing = [];
-  bound = 0;
-  keeps = true;
-}
 
 -- the shard of this worker
 abbrev pub shard_of : Warp → ℕ → Shard

@@ -7,7 +7,7 @@ pub returns : goal.returns
 returns g c =
     record {
       as_told = refl;
-      whole = subst (λ text. Appends (g.W.Sink.written c.args.sink.now) (g.W.Sink.written c.put_line.new.sink) text)
-          (refusal_line c.args.fault _ _ c.code.ensures c.name.ensures) c.in_ok-put_line.ensures.0;
-      still = c.in_ok-put_line.ensures.1;
+      whole = subst (λ text. Appends (g.W.Sink.written c.args.sink.now) (g.W.Sink.written c.put_refused.new.sink) text)
+          (refusal_line c.args.fault _ _ c.code.ensures c.name.ensures) c.in_ok-put_refused.ensures.0;
+      still = c.in_ok-put_refused.ensures.1;
     }

@@ -1,7 +1,5 @@
-use Rattle.std.proofs.Common.{rules, ap, ◌∙◌}
-use Rattle.tw_model.specs.declared.state.Row.{Row}
+use Rattle.std.proofs.Common.{rules, ap}
 use Rattle.tw_model.specs.State.{State}
-use Rattle.tw_model.specs.Effect.{with_row}
 use Rattle.tw_handlers.proofs.Rows.{back-row}
 use Rattle.tw_handlers.proofs.settle.settle_with_heard.Goals as goal
 

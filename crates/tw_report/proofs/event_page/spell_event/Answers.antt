@@ -1,7 +1,13 @@
+use Rattle.std.proofs.Common.{◌≤◌, length, sym, subst}
+use Rattle.tw_model.proofs.Lengths.{path_short}
 use Rattle.tw_report.proofs.Joins.{spelled_both}
 use Rattle.tw_report.proofs.Pieces.{line_in_pieces, tail_text}
 use Rattle.tw_report.specs.Pieces.{head_text, update_text}
 use Rattle.tw_report.proofs.event_page.spell_event.Goals as goal
+
+pub spell_update-requires-clause-short : goal.spell_update-requires-clause-short
+spell_update-requires-clause-short c =
+    subst (λ nodes. length nodes ≤ 32) (sym c.path.ensures.value) (path_short c.args.instance.now c.path.ensures.net c.in-Update.path)
 
 pub returns-in-Start-clause-text : goal.returns-in-Start-clause-text
 returns-in-Start-clause-text c =
