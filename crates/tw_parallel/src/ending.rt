@@ -13,29 +13,13 @@ use crate::counts::{count_held, count_mail, count_outgoing};
 use crate::sim::Sim;
 use std::alloc::AllocError;
 use thiserror::Error;
-use tw_event::Event;
-use tw_model::{OrMemory, RouterEnd};
+use tw_model::{OrMemory, Outcome, RouterEnd};
 use tw_shape::{Shape, ShapeBuilder};
 
 /// The bound is below the stop, a message is on its way, or a handled event is not committed.
 #[derive(Clone, Copy, PartialEq, Eq, Debug, Error)]
 #[error("the run has not come to its stop")]
 pub struct NotSettled;
-
-/// What a parallel run leaves at its stop.
-#[derive(Drop, Debug)]
-pub struct Ending {
-    /// The stop, in ticks: all events before it were handled.
-    pub stop: u64,
-    /// The events handled, in their order, or none where they were not asked for.
-    pub events: Vec<Event>,
-    /// How each router stands, in ascending order.
-    pub routers: Vec<RouterEnd>,
-    /// The events pending, in their order; none of them is before the stop.
-    pub pending: Vec<Event>,
-    /// The time in ticks of the last event that changed a router's path, or 0.
-    pub last_change: u64,
-}
 
 impl Sim<'_> {
     /// Whether the run has come to its stop: the bound is the stop, no message is on its way, and every
@@ -69,42 +53,46 @@ impl Sim<'_> {
     /// What the run leaves at its stop, its events only where `log` asks for them: all of it is that of the
     /// one-thread run, whatever the number of workers. A run of which they are asked keeps them. It is refused
     /// where the run has not come to its stop.
-    pub fn outcome(&self, log: bool) -> Result<Ending, OrMemory<NotSettled>>
+    pub fn outcome(&self, log: bool) -> Result<Outcome, OrMemory<NotSettled>>
         requires { log ≡ true → KeepsEvents self.now }
         ensures settled { OnOk result (IsSettled self.now) }
         ensures refused { IsErrOf result (or_memory.Fault not_settled) ↔ (IsSettled self.now → ⊥) }
-        ensures stop { IfOk result (λ e. e.stop ≡ self.now.board.stop) }
-        ensures events { IfOk result (λ e. e.events.items ≡ logged log self.now.case self.now.board.stop) }
-        ensures routers { IfOk result (λ e. e.routers.items ≡ map end_of (states_at self.now.case self.now.board.stop)) }
-        ensures pending { IfOk result (λ e. e.pending.items ≡ rest (simulation self.now.case) self.now.board.stop) }
-        ensures last_change { IfOk result (λ e. e.last_change ≡ last_change self.now.case (run_log (simulation self.now.case) self.now.board.stop)) }
+        ensures stop { IfOk result (λ left. left.stop ≡ self.now.board.stop) }
+        ensures bound { IfOk result (λ left. left.bound ≡ self.now.board.stop) }
+        ensures events { IfOk result (λ left. left.events.items ≡ logged log self.now.case self.now.board.stop) }
+        ensures routers { IfOk result (λ left. left.routers.items ≡ map end_of (states_at self.now.case self.now.board.stop)) }
+        ensures pending { IfOk result (λ left. left.pending.items ≡ rest (simulation self.now.case) self.now.board.stop) }
+        ensures last_change { IfOk result (λ left. left.last_change ≡ last_change self.now.case (run_log (simulation self.now.case) self.now.board.stop)) }
     {
         if !self.is_settled() {
             return Err(OrMemory::Fault(NotSettled));
         }
-        match self.ending(log) {
-            Ok(ending) => Ok(ending),
+        match self.settled_outcome(log) {
+            Ok(outcome) => Ok(outcome),
             Err(AllocError) => Err(OrMemory::Memory),
         }
     }
 
     /// What a run leaves that has come to its stop.
-    fn ending(&self, log: bool) -> Result<Ending, AllocError>
+    fn settled_outcome(&self, log: bool) -> Result<Outcome, AllocError>
         requires settled { IsSettled self.now }
         requires log { log ≡ true → KeepsEvents self.now }
-        ensures stop { IfOk result (λ e. e.stop ≡ self.now.board.stop) }
-        ensures events { IfOk result (λ e. e.events.items ≡ logged log self.now.case self.now.board.stop) }
-        ensures routers { IfOk result (λ e. e.routers.items ≡ map end_of (states_at self.now.case self.now.board.stop)) }
-        ensures pending { IfOk result (λ e. e.pending.items ≡ rest (simulation self.now.case) self.now.board.stop) }
-        ensures last_change { IfOk result (λ e. e.last_change ≡ last_change self.now.case (run_log (simulation self.now.case) self.now.board.stop)) }
+        ensures stop { IfOk result (λ left. left.stop ≡ self.now.board.stop) }
+        ensures bound { IfOk result (λ left. left.bound ≡ self.now.board.stop) }
+        ensures events { IfOk result (λ left. left.events.items ≡ logged log self.now.case self.now.board.stop) }
+        ensures routers { IfOk result (λ left. left.routers.items ≡ map end_of (states_at self.now.case self.now.board.stop)) }
+        ensures pending { IfOk result (λ left. left.pending.items ≡ rest (simulation self.now.case) self.now.board.stop) }
+        ensures last_change { IfOk result (λ left. left.last_change ≡ last_change self.now.case (run_log (simulation self.now.case) self.now.board.stop)) }
     {
         let events = if log {
             self.committed()?
         } else {
             Vec::new(*self.shards.allocator())
         };
-        Ok(Ending {
+        Ok(Outcome {
             stop: self.stop(),
+            // Nothing pending is before the stop, so all before it is handled.
+            bound: self.stop(),
             events,
             routers: self.router_ends()?,
             pending: self.pending()?,

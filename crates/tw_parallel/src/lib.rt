@@ -16,9 +16,9 @@ mod opening;
 mod running;
 mod sim;
 
-pub use ending::{Ending, NotSettled};
-pub use running::{EndCause, Ended, Options, run_until};
+pub use ending::NotSettled;
+pub use running::{Ended, Options, run_until};
 pub use sim::{Parts, Sim};
-pub use tw_model::OrMemory;
-pub use tw_threads::{Gate, OpenGate};
+pub use tw_model::{OrMemory, Outcome};
+pub use tw_threads::{EndCause, Gate, OpenGate};
 pub use tw_warp::StopLower;

@@ -7,17 +7,15 @@ ghost use Rattle.tw_parallel.specs.Ending.{IsSettled};
 ghost use Rattle.tw_parallel.specs.Inside.{HasHands, run_of};
 ghost use Rattle.tw_parallel.specs.Crew.{HasRoom};
 ghost use Rattle.tw_parallel.specs.Sim.{IsSim, KeepsEvents};
-ghost use Rattle.tw_parallel.specs.declared.running.EndCause.TheVariants as end_cause;
 ghost use Rattle.tw_threads.specs.Left.{IsFullAhead};
-ghost use Rattle.tw_threads.specs.declared.joining.Cause.TheVariants as cause;
+ghost use Rattle.tw_threads.specs.declared.end_cause.EndCause.TheVariants as end_cause;
 
 use crate::crew::{Room, parts_of, room_for, workers_of};
 use crate::sim::{Parts, Sim};
 use std::sync::Wait;
 use std::thread::Threads;
-use thiserror::Error;
 use tw_table::Table;
-use tw_threads::{Cause, Gate, run_all};
+use tw_threads::{EndCause, Gate, run_all};
 use tw_workers::laws::shares_are_at_work;
 
 /// How the workers of a run work.
@@ -25,23 +23,6 @@ use tw_workers::laws::shares_are_at_work;
 pub struct Options {
     /// How many events a worker handles at most between two meetings. 0 is taken as 1.
     pub batch: u32,
-}
-
-/// Why a run ended before its stop.
-#[derive(Clone, Copy, PartialEq, Eq, Debug, Error)]
-pub enum EndCause {
-    /// Memory was refused.
-    #[error("no memory")]
-    Memory,
-    /// A counter of a router would pass its limit.
-    #[error("a counter is full")]
-    CounterFull,
-    /// A thread was refused.
-    #[error("no thread")]
-    NoThread,
-    /// The stop is below that of the run, or past 1,000,000,000.
-    #[error("the stop is lower than that of the run, or past its limit")]
-    StopLower,
 }
 
 /// A run that ended before its stop.
@@ -120,7 +101,7 @@ fn run<'a, G: Gate + Sync, R: Threads + Wait + Sync>(
         let (next, cause) = run_once(rt, sim, batch, gate);
         sim = next;
         if let Some(cause) = cause {
-            return Err(end_with(sim, told_by(cause)));
+            return Err(end_with(sim, cause));
         }
     }
     unreachable!()
@@ -140,38 +121,25 @@ fn end_with<'a>(sim: Sim<'a>, why: EndCause) -> Ended<'a>
     }
 }
 
-/// Why a run ended whose workers ended for this.
-fn told_by(why: Cause) -> EndCause
-    ensures lower { result ≡ end_cause.StopLower → ⊥ }
-    ensures memory { (result ≡ end_cause.Memory) ↔ (why ≡ cause.Memory) }
-    ensures full { (result ≡ end_cause.CounterFull) ↔ (why ≡ cause.CounterFull) }
-    ensures thread { (result ≡ end_cause.NoThread) ↔ (why ≡ cause.NoThread) }
-{
-    match why {
-        Cause::Memory => EndCause::Memory,
-        Cause::CounterFull => EndCause::CounterFull,
-        Cause::NoThread => EndCause::NoThread,
-    }
-}
-
 /// Its workers take turns until they all have left.
 fn run_once<'a, G: Gate + Sync, R: Threads + Wait + Sync>(
     rt: &R,
     sim: Sim<'a>,
     batch: u32,
     gate: &G,
-) -> (Sim<'a>, Option<Cause>)
+) -> (Sim<'a>, Option<EndCause>)
     ensures sim { IsSim result.0 }
     ensures case { result.0.case ≡ sim.entry.case }
     ensures stop { result.0.board.stop ≡ sim.entry.board.stop }
     ensures workers { workers result.0.board ≡ workers sim.entry.board }
     ensures keeps { KeepsEvents sim.entry → KeepsEvents result.0 }
     ensures bound { sim.entry.board.bound ≤ result.0.board.bound }
-    ensures full { result.1 ≡ Some cause.CounterFull → IsFullAhead result.0.board.stop result.0.shares }
+    ensures lower { result.1 ≡ Some end_cause.StopLower → ⊥ }
+    ensures full { result.1 ≡ Some end_cause.CounterFull → IsFullAhead result.0.board.stop result.0.shares }
 {
     let parts = sim.into_parts();
     let Ok(room) = room_for(*parts.shards.allocator(), parts.shards.len()) else {
-        return (Sim::of_parts(parts), Some(Cause::Memory));
+        return (Sim::of_parts(parts), Some(EndCause::Memory));
     };
     let (parts, cause) = run_at_table(rt, parts, batch, gate, room);
     (Sim::of_parts(parts), cause)
@@ -184,7 +152,7 @@ fn run_at_table<'a, G: Gate + Sync, R: Threads + Wait + Sync>(
     batch: u32,
     gate: &G,
     room: Room<'a>,
-) -> (Parts<'a>, Option<Cause>)
+) -> (Parts<'a>, Option<EndCause>)
     requires sim { IsSim (run_of parts) }
     requires hands { HasHands parts }
     requires room { HasRoom (length parts.shards.items) room }
@@ -195,7 +163,8 @@ fn run_at_table<'a, G: Gate + Sync, R: Threads + Wait + Sync>(
     ensures workers { workers (run_of result.0).board ≡ workers (run_of parts.entry).board }
     ensures keeps { KeepsEvents (run_of parts.entry) → KeepsEvents (run_of result.0) }
     ensures bound { (run_of parts.entry).board.bound ≤ (run_of result.0).board.bound }
-    ensures full { result.1 ≡ Some cause.CounterFull → IsFullAhead (run_of result.0).board.stop (run_of result.0).shares }
+    ensures lower { result.1 ≡ Some end_cause.StopLower → ⊥ }
+    ensures full { result.1 ≡ Some end_cause.CounterFull → IsFullAhead (run_of result.0).board.stop (run_of result.0).shares }
 {
     let Parts {
         case,
@@ -214,7 +183,7 @@ fn run_at_table<'a, G: Gate + Sync, R: Threads + Wait + Sync>(
                 shards,
                 hands,
             };
-            return (parts, Some(Cause::Memory));
+            return (parts, Some(EndCause::Memory));
         }
     };
     shares_are_at_work();

@@ -6,8 +6,8 @@ ghost use Rattle.tw_parallel.specs.Sim.{KeepsEvents};
 use std::alloc::{AllocError, Global};
 use tw_event::{Body, Event, PathNo};
 use tw_instance::Case;
-use tw_model::{Counters, RouterEnd};
-use tw_parallel::{Ending, NotSettled, OrMemory, Sim, StopLower};
+use tw_model::{Counters, Outcome, RouterEnd};
+use tw_parallel::{NotSettled, OrMemory, Sim, StopLower};
 use tw_rows::cases::case;
 use tw_rows::texts::DISAGREE;
 
@@ -22,7 +22,7 @@ pub(crate) fn sim<'a>(alloc: Global, case: &'a Case) -> Result<Sim<'a>, AllocErr
 }
 
 /// What a run leaves that keeps its events, asked for once more where memory was refused.
-fn outcome(sim: &Sim<'_>) -> Result<Ending, OrMemory<NotSettled>>
+fn outcome(sim: &Sim<'_>) -> Result<Outcome, OrMemory<NotSettled>>
     requires { KeepsEvents sim.now }
 {
     match sim.outcome(true) {
@@ -32,7 +32,7 @@ fn outcome(sim: &Sim<'_>) -> Result<Ending, OrMemory<NotSettled>>
 }
 
 /// Whether nothing is handled, and only the origin's start is pending.
-fn begins_so(ending: &Ending) -> bool {
+fn begins_so(outcome: &Outcome) -> bool {
     let start = Event {
         time: 0,
         dst: 0,
@@ -49,10 +49,10 @@ fn begins_so(ending: &Ending) -> bool {
         },
         rib: PathNo::EMPTY,
     };
-    ending.stop == 0
-        && ending.events.is_empty()
-        && ending.routers.as_slice() == &[untouched, untouched, untouched][..]
-        && ending.pending.as_slice() == &[start][..]
+    outcome.stop == 0
+        && outcome.events.is_empty()
+        && outcome.routers.as_slice() == &[untouched, untouched, untouched][..]
+        && outcome.pending.as_slice() == &[start][..]
 }
 
 /// Whether a run refuses to tell what it leaves, or its shape.
@@ -72,10 +72,10 @@ fn a_run_that_begins_is_settled_at_stop_0(rt: HostRuntime) {
     };
     assert!(rt; sim.workers() == 2 && sim.bound() == 0 && sim.stop() == 0 && sim.ahead() == 0);
     assert!(rt; sim.is_settled() && sim.keeps_events());
-    let Ok(ending) = outcome(&sim) else {
+    let Ok(outcome) = outcome(&sim) else {
         panic!(rt; "not settled")
     };
-    assert!(rt; begins_so(&ending));
+    assert!(rt; begins_so(&outcome));
 }
 
 #[test]

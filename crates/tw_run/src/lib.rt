@@ -8,10 +8,10 @@
 //! Not proved: that threads run side by side, that the run ends, and that neither memory nor a thread is refused.
 #![tactic(auto)]
 
+mod cause;
 mod ending;
 mod run;
 mod segments;
-mod stopped;
 
 pub use run::run_io;
 pub use tw_commands::{Cause, Status};

@@ -1,17 +1,16 @@
 ghost use Rattle.std.specs.Prelude.{◌≡◌, ◌≤◌, ◌<◌, false, IfOk, IfSome, IsErrOf, OnOk};
+ghost use Rattle.tw_commands.specs.declared.cause.Cause.TheVariants as cause;
 ghost use Rattle.tw_commands.specs.Seq.{GetsStuckFor, found_to, seq_output, seq_report, shown};
 ghost use Rattle.tw_device.specs.Source.{LosesInput, TakesInput};
 ghost use Rattle.tw_model.specs.Summary.{summary_of};
 ghost use Rattle.tw_model.specs.declared.limits.TheConstants.{LATEST};
 ghost use Rattle.tw_run.specs.Asked.{IsReady};
 ghost use Rattle.tw_run.specs.Threaded.{AnswersThreaded, LeavesThreaded};
-ghost use Rattle.tw_run.specs.declared.stopped.Stopped.TheVariants as stopped;
 ghost use Rattle.tw_seq.specs.Outcome.{outcome_of as outcome_of_run};
 ghost use Rattle.tw_seq.specs.Run.{GetsStuck, complete_run};
 
 use crate::ending::outcome_of;
 use crate::segments::run_through;
-use crate::stopped::Stopped;
 use std::alloc::Global;
 use std::sync::Wait;
 use std::thread::Threads;
@@ -119,17 +118,16 @@ fn run_case<X: Threads + Wait + Sync>(
     alloc: Global,
     case: &Case,
     asked: Asked,
-) -> Result<(Outcome, Option<Finding>), Stopped>
+) -> Result<(Outcome, Option<Finding>), Cause>
     requires ready { IsReady asked }
     ensures outcome { IfOk result (λ left. summary_of left.0 ≡ shown asked.log (outcome_of_run (complete_run case.now asked.stop))) }
     ensures found { IfOk result (λ left. left.1 ≡ found_to case.now asked.stop asked.every) }
-    ensures full { IsErrOf result stopped.CounterFull → GetsStuck case.now asked.stop }
+    ensures device { IsErrOf result cause.Device → ⊥ }
+    ensures full { IsErrOf result cause.CounterFull → GetsStuck case.now asked.stop }
 {
     match run_by_workers(rt, alloc, case, asked) {
-        Ok(left) => Ok(left),
-        Err(Stopped::Memory) => Err(Stopped::Memory),
-        Err(Stopped::NoThread) => Err(Stopped::NoThread),
-        Err(Stopped::CounterFull) => run_alone(alloc, case, asked),
+        Err(Cause::CounterFull) => run_alone(alloc, case, asked),
+        left => left,
     }
 }
 
@@ -139,10 +137,11 @@ fn run_by_workers<X: Threads + Wait + Sync>(
     alloc: Global,
     case: &Case,
     asked: Asked,
-) -> Result<(Outcome, Option<Finding>), Stopped>
+) -> Result<(Outcome, Option<Finding>), Cause>
     requires ready { IsReady asked }
     ensures outcome { IfOk result (λ left. summary_of left.0 ≡ shown asked.log (outcome_of_run (complete_run case.now asked.stop))) }
     ensures found { IfOk result (λ left. left.1 ≡ found_to case.now asked.stop asked.every) }
+    ensures device { IsErrOf result cause.Device → ⊥ }
 {
     let sim = Sim::open(alloc, case, asked.workers, asked.log)?;
     let (sim, found) = run_through(rt, alloc, sim, asked.stop, asked.every, asked.batch)?;
@@ -150,19 +149,16 @@ fn run_by_workers<X: Threads + Wait + Sync>(
 }
 
 /// The same on one thread.
-fn run_alone(
-    alloc: Global,
-    case: &Case,
-    asked: Asked,
-) -> Result<(Outcome, Option<Finding>), Stopped>
+fn run_alone(alloc: Global, case: &Case, asked: Asked) -> Result<(Outcome, Option<Finding>), Cause>
     requires ready { IsReady asked }
     ensures outcome { IfOk result (λ left. summary_of left.0 ≡ shown asked.log (outcome_of_run (complete_run case.now asked.stop))) }
     ensures found { IfOk result (λ left. left.1 ≡ found_to case.now asked.stop asked.every) }
-    ensures full { IsErrOf result stopped.CounterFull → GetsStuck case.now asked.stop }
+    ensures device { IsErrOf result cause.Device → ⊥ }
+    ensures full { IsErrOf result cause.CounterFull → GetsStuck case.now asked.stop }
 {
     match run_on_one_thread(alloc, case, asked.stop, asked.every, asked.log) {
         Ok(left) => Ok(left),
-        Err(OrMemory::Memory) => Err(Stopped::Memory),
-        Err(OrMemory::Fault(CounterFull)) => Err(Stopped::CounterFull),
+        Err(OrMemory::Memory) => Err(Cause::Memory),
+        Err(OrMemory::Fault(CounterFull)) => Err(Cause::CounterFull),
     }
 }

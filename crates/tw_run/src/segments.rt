@@ -1,4 +1,5 @@
-ghost use Rattle.std.specs.Prelude.{◌≡◌, ◌≤◌, ◌<◌, ◌/◌, IfOk, IfSome};
+ghost use Rattle.std.specs.Prelude.{◌≡◌, ◌≤◌, ◌<◌, ◌/◌, IfOk, IfSome, IsErrOf};
+ghost use Rattle.tw_commands.specs.declared.cause.Cause.TheVariants as cause;
 ghost use Rattle.tw_commands.specs.Seq.{found_to};
 ghost use Rattle.tw_model.specs.declared.limits.TheConstants.{LATEST};
 ghost use Rattle.tw_parallel.specs.Ending.{IsSettled};
@@ -6,10 +7,11 @@ ghost use Rattle.tw_parallel.specs.Sim.{IsSim, KeepsEvents};
 ghost use Rattle.tw_shape.specs.Shape.{shape as shape_at};
 ghost use Rattle.tw_shape.specs.Verdict.{finding};
 
-use crate::stopped::Stopped;
+use crate::cause::cause_of;
 use std::alloc::{AllocError, Global};
 use std::sync::Wait;
 use std::thread::Threads;
+use tw_commands::Cause;
 use tw_parallel::{NotSettled, OpenGate, Options, OrMemory, Sim, run_until};
 use tw_shape::{Finding, Shape, Watch};
 
@@ -19,7 +21,7 @@ fn run_to<'a, X: Threads + Wait + Sync>(
     sim: Sim<'a>,
     stop: u64,
     batch: u32,
-) -> Result<Sim<'a>, Stopped>
+) -> Result<Sim<'a>, Cause>
     requires stop { sim.board.stop ≤ stop }
     requires latest { stop ≤ LATEST }
     ensures settled { IfOk result (λ s. IsSettled s) }
@@ -27,10 +29,11 @@ fn run_to<'a, X: Threads + Wait + Sync>(
     ensures case { IfOk result (λ s. s.case ≡ sim.entry.case) }
     ensures stop { IfOk result (λ s. s.board.stop ≡ stop) }
     ensures keeps { KeepsEvents sim.entry → IfOk result (λ s. KeepsEvents s) }
+    ensures device { IsErrOf result cause.Device → ⊥ }
 {
     match run_until(rt, sim, stop, Options { batch }, &OpenGate) {
         Ok(sim) => Ok(sim),
-        Err(ended) => Err(Stopped::of(ended.cause)),
+        Err(ended) => Err(cause_of(ended.cause)),
     }
 }
 
@@ -43,7 +46,7 @@ pub(crate) fn run_through<'a, X: Threads + Wait + Sync>(
     stop: u64,
     every: Option<u64>,
     batch: u32,
-) -> Result<(Sim<'a>, Option<Finding>), Stopped>
+) -> Result<(Sim<'a>, Option<Finding>), Cause>
     requires opening { sim.board.stop ≡ 0 }
     requires stop { stop ≤ LATEST }
     requires every { IfSome every (λ n. (0 < n) × (n ≤ LATEST)) }
@@ -51,6 +54,7 @@ pub(crate) fn run_through<'a, X: Threads + Wait + Sync>(
     ensures case { IfOk result (λ left. left.0.case ≡ sim.entry.case) }
     ensures stop { IfOk result (λ left. left.0.board.stop ≡ stop) }
     ensures keeps { KeepsEvents sim.entry → IfOk result (λ left. KeepsEvents left.0) }
+    ensures device { IsErrOf result cause.Device → ⊥ }
     ensures found { IfOk result (λ left. left.1 ≡ found_to sim.entry.case stop every) }
 {
     match every {
@@ -71,7 +75,7 @@ fn run_watched<'a, X: Threads + Wait + Sync>(
     stop: u64,
     every: u64,
     batch: u32,
-) -> Result<(Sim<'a>, Option<Finding>), Stopped>
+) -> Result<(Sim<'a>, Option<Finding>), Cause>
     requires opening { sim.board.stop ≡ 0 }
     requires stop { stop ≤ LATEST }
     requires some { 0 < every }
@@ -80,6 +84,7 @@ fn run_watched<'a, X: Threads + Wait + Sync>(
     ensures case { IfOk result (λ left. left.0.case ≡ sim.entry.case) }
     ensures stop { IfOk result (λ left. left.0.board.stop ≡ stop) }
     ensures keeps { KeepsEvents sim.entry → IfOk result (λ left. KeepsEvents left.0) }
+    ensures device { IsErrOf result cause.Device → ⊥ }
     ensures found { IfOk result (λ left. left.1 ≡ finding sim.entry.case every (stop / every)) }
 {
     let mut watch = Watch::new(alloc, every)?;

@@ -9,8 +9,8 @@ use Rattle.tw_table.specs.declared.seat.Seat.{Seat}
 use Rattle.tw_table.specs.declared.table.Table.{Table}
 use Rattle.tw_threads.specs.Left.{HasLeft, IsLeft}
 use Rattle.tw_threads.specs.Started.{HaveLeft, IsSomeFull, IsStarted}
-use Rattle.tw_threads.specs.declared.joining.Cause.{Cause}
-use Rattle.tw_threads.specs.declared.joining.Cause.TheVariants as cause
+use Rattle.tw_threads.specs.declared.end_cause.EndCause.{EndCause}
+use Rattle.tw_threads.specs.declared.end_cause.EndCause.TheVariants as cause
 use Rattle.tw_threads.specs.declared.starting.Started.{Started}
 use Rattle.tw_workers.specs.declared.working.Leaving.{Leaving}
 use Rattle.tw_workers.specs.declared.working.Leaving.TheVariants as leaving
@@ -33,14 +33,21 @@ other_cause e = grind (arith, e)
 one_cause : cause.NoThread ≡ cause.CounterFull → ⊥
 one_cause e = grind (arith, e)
 
+no_memory : cause.Memory ≡ cause.StopLower → ⊥
+no_memory e = grind (arith, e)
+
+no_thread : cause.NoThread ≡ cause.StopLower → ⊥
+no_thread e = grind (arith, e)
+
 module _ {W : Type 0} (share : W → Share) where
   -- these workers are still to be joined, and those before them have left
-  pub record AreJoined (t : Table) (before : List Seat) (rest : List (Started W)) (workers : List W) (seats : List Seat) (why : Option Cause) : Type 0 where
+  pub record AreJoined (t : Table) (before : List Seat) (rest : List (Started W)) (workers : List W) (seats : List Seat) (why : Option EndCause) : Type 0 where
     pub waiting : List Seat
     pub each : AllZip (IsStarted share t) waiting rest
     pub left : (more : List Seat) → AllZip (HasLeft t) waiting more → AllZip (HasLeft t) before (seats ++ more)
     pub shares : map share_at seats ≡ map share workers
     pub full : why ≡ Some cause.CounterFull → IsSomeFull seats
+    pub lower : why ≡ Some cause.StopLower → ⊥
 
   pub none_joined : (t : Table) (before : List Seat) (rest : List (Started W)) → AllZip (IsStarted share t) before rest → AreJoined t before rest [] [] None
   none_joined t before rest each = record {
@@ -49,13 +56,14 @@ module _ {W : Type 0} (share : W → Share) where
     left = λ more h. h;
     shares = refl;
     full = λ e. absurd (none-some _ e);
+    lower = λ e. absurd (none-some _ e);
   }
 
   -- one that was full before is so after
   more_full : (seats more : List Seat) → IsSomeFull seats → IsSomeFull (seats ++ more)
   more_full seats more h = record { at = h.at; seat = h.seat; there = get_left seats more h.at h.seat h.there; full = h.full }
 
-  next_full : (t : Table) (before : Seat) (seats : List Seat) (s : Share) (seat : Seat) (reason : Leaving) (why later : Option Cause) → IsLeft s t before seat reason
+  next_full : (t : Table) (before : Seat) (seats : List Seat) (s : Share) (seat : Seat) (reason : Leaving) (why later : Option EndCause) → IsLeft s t before seat reason
       → (later ≡ Some cause.CounterFull → (why ≡ Some cause.CounterFull) ⊎ (reason ≡ leaving.CounterFull))
       → (why ≡ Some cause.CounterFull → IsSomeFull seats) → later ≡ Some cause.CounterFull → IsSomeFull (seats ++ seat ∷ [])
   next_full t before seats s seat reason why later is told full now =
@@ -64,17 +72,19 @@ module _ {W : Type 0} (share : W → Share) where
         | inr e ↦ record { at = length seats; seat = seat; there = get_last seats seat; full = is.full e }
       ]
 
-  next_joined : (t : Table) (before waiting : List Seat) (one : Started W) (rest : List (Started W)) (workers : List W) (seats : List Seat) (why : Option Cause)
-      (w : W) (seat : Seat) (reason : Leaving) (later : Option Cause)
+  next_joined : (t : Table) (before waiting : List Seat) (one : Started W) (rest : List (Started W)) (workers : List W) (seats : List Seat) (why : Option EndCause)
+      (w : W) (seat : Seat) (reason : Leaving) (later : Option EndCause)
       → AllZip (IsStarted share t) waiting (one ∷ rest)
       → ((more : List Seat) → AllZip (HasLeft t) waiting more → AllZip (HasLeft t) before (seats ++ more))
       → map share_at seats ≡ map share workers
       → (why ≡ Some cause.CounterFull → IsSomeFull seats)
+      → (why ≡ Some cause.StopLower → ⊥)
       → ((s : Seat) → IsStarted share t s one → IsLeft (share w) t s seat reason)
       → (later ≡ Some cause.CounterFull → (why ≡ Some cause.CounterFull) ⊎ (reason ≡ leaving.CounterFull))
+      → (later ≡ Some cause.StopLower → why ≡ Some cause.StopLower)
       → AreJoined t before rest (workers ++ w ∷ []) (seats ++ seat ∷ []) later
-  next_joined t before [] one rest workers seats why w seat reason later each left shares full is told = absurd each
-  next_joined t before (s ∷ waiting) one rest workers seats why w seat reason later each left shares full is told =
+  next_joined t before [] one rest workers seats why w seat reason later each left shares full lower is told none = absurd each
+  next_joined t before (s ∷ waiting) one rest workers seats why w seat reason later each left shares full lower is told none =
       let mine : IsLeft (share w) t s seat reason = is s each.0 in
       record {
         waiting = waiting;
@@ -82,48 +92,51 @@ module _ {W : Type 0} (share : W → Share) where
         left = λ more h. subst (AllZip (HasLeft t) before) (sym (append_assoc seats (seat ∷ []) more)) (left (seat ∷ more) (mine.left, h));
         shares = map-append share_at seats (seat ∷ []) ∙ ((λ i. shares i ++ mine.share i ∷ []) ∙ sym (map-append share workers (w ∷ [])));
         full = next_full t s seats (share w) seat reason why later mine told full;
+        lower = λ e. lower (none e);
       }
 
-  pub one_joined : (t : Table) (before : List Seat) (one : Started W) (rest : List (Started W)) (workers next : List W) (seats after : List Seat) (why : Option Cause)
-      (w : W) (seat : Seat) (reason : Leaving) (later : Option Cause)
+  pub one_joined : (t : Table) (before : List Seat) (one : Started W) (rest : List (Started W)) (workers next : List W) (seats after : List Seat) (why : Option EndCause)
+      (w : W) (seat : Seat) (reason : Leaving) (later : Option EndCause)
       → AreJoined t before (one ∷ rest) workers seats why
       → next ≡ workers ++ w ∷ [] → after ≡ seats ++ seat ∷ []
       → ((s : Seat) → IsStarted share t s one → IsLeft (share w) t s seat reason)
       → (later ≡ Some cause.CounterFull → (why ≡ Some cause.CounterFull) ⊎ (reason ≡ leaving.CounterFull))
+      → (later ≡ Some cause.StopLower → why ≡ Some cause.StopLower)
       → AreJoined t before rest next after later
-  one_joined t before one rest workers next seats after why w seat reason later h to too is told =
+  one_joined t before one rest workers next seats after why w seat reason later h to too is told none =
       subst (λ ws. AreJoined t before rest ws after later) (sym to)
       (subst (λ ss. AreJoined t before rest (workers ++ w ∷ []) ss later) (sym too)
-      (next_joined t before h.waiting one rest workers seats why w seat reason later h.each h.left h.shares h.full is told))
+      (next_joined t before h.waiting one rest workers seats why w seat reason later h.each h.left h.shares h.full h.lower is told none))
 
   all_waited : (t : Table) (before waiting seats : List Seat) → AllZip (IsStarted share t) waiting []
       → ((more : List Seat) → AllZip (HasLeft t) waiting more → AllZip (HasLeft t) before (seats ++ more)) → AllZip (HasLeft t) before seats
   all_waited t before [] seats each left = subst (AllZip (HasLeft t) before) (append-nil seats) (left [] tt)
   all_waited t before (s ∷ waiting) seats each left = absurd each
 
-  pub all_joined : (t : Table) (before : List Seat) (workers : List W) (seats : List Seat) (why : Option Cause) → AreJoined t before [] workers seats why
+  pub all_joined : (t : Table) (before : List Seat) (workers : List W) (seats : List Seat) (why : Option EndCause) → AreJoined t before [] workers seats why
       → HaveLeft share t before seats workers why
-  all_joined t before workers seats why h = record { left = all_waited t before h.waiting seats h.each h.left; shares = h.shares; full = h.full }
+  all_joined t before workers seats why h = record { left = all_waited t before h.waiting seats h.each h.left; shares = h.shares; full = h.full; lower = h.lower }
 
   stay : (t : Table) (seats : List Seat) → AllByRecursion (IsSeatOf t) seats → AllZip (HasLeft t) seats seats
   stay t [] h = tt
   stay t (s ∷ seats) h = (record { seat = h.0; stop = refl; bound = omega arith; case = refl; worker = refl; workers = refl; keeps = refl }, stay t seats h.1)
 
   -- workers that took no turn have left as they were
-  pub have_stayed : (t : Table) (before after : List Seat) (were are : List W) (why : Option Cause) → after ≡ before → are ≡ were → why ≡ Some cause.Memory
+  pub have_stayed : (t : Table) (before after : List Seat) (were are : List W) (why : Option EndCause) → after ≡ before → are ≡ were → why ≡ Some cause.Memory
       → AllByRecursion (IsSeatOf t) before → map share_at before ≡ map share were → HaveLeft share t before after are why
   have_stayed t before after were are why seats workers is mine shares = record {
     left = subst (AllZip (HasLeft t) before) (sym seats) (stay t before mine);
     shares = ap (map share_at) seats ∙ (shares ∙ ap (map share) (sym workers));
     full = λ e. absurd (other_cause (same_Some _ _ (sym is ∙ e)));
+    lower = λ e. no_memory (same_Some _ _ (sym is ∙ e));
   }
 
   -- a run that lacks a thread tells nothing else
-  with_no_thread : (t : Table) (before after : List Seat) (workers : List W) (why : Option Cause) → HaveLeft share t before after workers why
+  with_no_thread : (t : Table) (before after : List Seat) (workers : List W) (why : Option EndCause) → HaveLeft share t before after workers why
       → HaveLeft share t before after workers (Some cause.NoThread)
-  with_no_thread t before after workers why h = record { left = h.left; shares = h.shares; full = λ e. absurd (one_cause (same_Some _ _ e)) }
+  with_no_thread t before after workers why h = record { left = h.left; shares = h.shares; full = λ e. absurd (one_cause (same_Some _ _ e)); lower = λ e. no_thread (same_Some _ _ e) }
 
-  pub with_cause : (t : Table) (before after : List Seat) (workers : List W) (why told : Option Cause) (refused : Bool) → HaveLeft share t before after workers why
+  pub with_cause : (t : Table) (before after : List Seat) (workers : List W) (why told : Option EndCause) (refused : Bool) → HaveLeft share t before after workers why
       → (refused ≡ true → told ≡ Some cause.NoThread) → (refused ≡ false → told ≡ why) → HaveLeft share t before after workers told
   with_cause t before after workers why told true h thread other =
       subst (HaveLeft share t before after workers) (sym (thread refl)) (with_no_thread t before after workers why h)

@@ -6,8 +6,8 @@ use Rattle.tw_table.specs.Shares.{Share}
 use Rattle.tw_table.specs.declared.seat.Seat.{Seat}
 use Rattle.tw_table.specs.declared.table.Table.{Table}
 use Rattle.tw_threads.specs.Left.{HasLeft, IsFull, IsLeft}
-use Rattle.tw_threads.specs.declared.joining.Cause.{Cause}
-use Rattle.tw_threads.specs.declared.joining.Cause.TheVariants as cause
+use Rattle.tw_threads.specs.declared.end_cause.EndCause.{EndCause}
+use Rattle.tw_threads.specs.declared.end_cause.EndCause.TheVariants as cause
 use Rattle.tw_threads.specs.declared.starting.Started.{Started}
 use Rattle.tw_threads.specs.declared.starting.Started.TheVariants.{Here, Running}
 
@@ -25,7 +25,9 @@ module _ {W : Type 0} (share : W → Share) where
   IsStarted t s (Here l) = IsLeft (share l.worker) t s l.seat l.why
 
   -- the workers of these seats have left those seats, and why
-  pub record HaveLeft (t : Table) (before after : List Seat) (workers : List W) (why : Option Cause) : Type 0 where
+  pub record HaveLeft (t : Table) (before after : List Seat) (workers : List W) (why : Option EndCause) : Type 0 where
     pub left : AllZip (HasLeft t) before after
     pub shares : map share_at after ≡ map share workers
     pub full : why ≡ Some cause.CounterFull → IsSomeFull after
+    -- no worker refuses a stop
+    pub lower : why ≡ Some cause.StopLower → ⊥

@@ -5,33 +5,23 @@ ghost use Rattle.tw_table.specs.declared.seat.Seat.{Seat as ASeat};
 ghost use Rattle.tw_table.specs.declared.table.Table.{Table as ATable};
 ghost use Rattle.tw_threads.specs.Left.{IsLeft};
 ghost use Rattle.tw_threads.specs.Started.{HaveLeft, IsStarted};
-ghost use Rattle.tw_threads.specs.declared.joining.Cause.{Cause as ACause};
-ghost use Rattle.tw_threads.specs.declared.joining.Cause.TheVariants as cause;
+ghost use Rattle.tw_threads.specs.declared.end_cause.EndCause.{EndCause as ACause};
+ghost use Rattle.tw_threads.specs.declared.end_cause.EndCause.TheVariants as cause;
 ghost use Rattle.tw_workers.specs.declared.working.Leaving.TheVariants as leaving;
 
+use crate::end_cause::EndCause;
 use crate::starting::{Left, Started};
 use crate::work::Work;
 use std::thread::Threads;
 use tw_table::Seat;
 use tw_workers::Leaving;
 
-/// Why a run of workers ended before its stop.
-#[derive(Clone, Copy, PartialEq, Eq, Debug)]
-pub enum Cause {
-    /// Memory was refused.
-    Memory,
-    /// A counter of a router would pass its limit.
-    CounterFull,
-    /// A thread was refused.
-    NoThread,
-}
-
 /// What all workers leave.
 #[derive(Drop)]
 pub(crate) struct Gathered<W> {
     pub(crate) workers: Vec<W>,
     pub(crate) seats: Vec<Seat>,
-    pub(crate) cause: Option<Cause>,
+    pub(crate) cause: Option<EndCause>,
 }
 
 /// What these workers leave, once they all have left, in their order. The lists are empty, with room for all.
@@ -73,11 +63,12 @@ fn join<W: Work, R: Threads>(rt: &R, started: Started<W>) -> Left<W>
 }
 
 /// The cause of a run's end, of which a further worker tells why it left.
-fn worse(known: Option<Cause>, why: Leaving) -> Option<Cause>
+fn worse(known: Option<EndCause>, why: Leaving) -> Option<EndCause>
     ensures first { (c : ACause) → known ≡ Some c → result ≡ Some c }
     ensures memory { known ≡ None → (result ≡ Some cause.Memory) ↔ (why ≡ leaving.Memory) }
     ensures counter { known ≡ None → (result ≡ Some cause.CounterFull) ↔ (why ≡ leaving.CounterFull) }
     ensures thread { known ≡ None → result ≡ Some cause.NoThread → ⊥ }
+    ensures lower { result ≡ Some cause.StopLower → known ≡ Some cause.StopLower }
     ensures full { result ≡ Some cause.CounterFull → (known ≡ Some cause.CounterFull) ⊎ (why ≡ leaving.CounterFull) }
 {
     if known.is_some() {
@@ -85,7 +76,7 @@ fn worse(known: Option<Cause>, why: Leaving) -> Option<Cause>
     }
     match why {
         Leaving::Settled | Leaving::Halted => None,
-        Leaving::Memory => Some(Cause::Memory),
-        Leaving::CounterFull => Some(Cause::CounterFull),
+        Leaving::Memory => Some(EndCause::Memory),
+        Leaving::CounterFull => Some(EndCause::CounterFull),
     }
 }

@@ -6,13 +6,14 @@
 //! order, where memory or a thread is refused too. Nothing here promises that a thread runs or ends.
 #![tactic(auto)]
 
+mod end_cause;
 mod joining;
 mod running;
 mod starting;
 mod work;
 mod workers;
 
-pub use joining::Cause;
+pub use end_cause::EndCause;
 pub use running::{Ran, run_all};
 pub use tw_workers::{Gate, Leaving, OpenGate};
 pub use work::Work;

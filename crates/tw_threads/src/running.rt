@@ -5,9 +5,10 @@ ghost use Rattle.tw_table.specs.Seats.{IsSeatOf, bound_at, share_at, stop_at, wo
 ghost use Rattle.tw_table.specs.Shares.{IsWhole};
 ghost use Rattle.tw_threads.specs.Left.{IsFullAhead};
 ghost use Rattle.tw_threads.specs.Started.{HaveLeft, IsStarted};
-ghost use Rattle.tw_threads.specs.declared.joining.Cause.TheVariants as cause;
+ghost use Rattle.tw_threads.specs.declared.end_cause.EndCause.TheVariants as cause;
 
-use crate::joining::{Cause, Gathered, join_all};
+use crate::end_cause::EndCause;
+use crate::joining::{Gathered, join_all};
 use crate::starting::{Started, start_all};
 use crate::work::Work;
 use std::alloc::Global;
@@ -27,7 +28,7 @@ pub struct Ran<W> {
     /// The workers, in their order.
     pub workers: Vec<W>,
     /// Why they did not come to their stop, as far as one of them tells it.
-    pub cause: Option<Cause>,
+    pub cause: Option<EndCause>,
 }
 
 /// Each worker takes its turns in a thread of its own, and the table is closed once all have left. The seats
@@ -54,6 +55,7 @@ pub fn run_all<W: Work + Send + Drop, G: Gate + Sync, R: Threads + Wait + Sync>(
     ensures keeps { map (λ w. (W.share w).shard.keeps) result.workers.items ≡ map (λ w. (W.share w).shard.keeps) workers.items }
     ensures stop { AllByRecursion (λ s. stop_at s ≡ result.exchange.stop) seats.items }
     ensures bound { AllByRecursion (λ s. bound_at s ≤ result.exchange.bound) seats.items }
+    ensures lower { result.cause ≡ Some cause.StopLower → ⊥ }
     ensures full { result.cause ≡ Some cause.CounterFull → IsFullAhead result.exchange.stop (map W.share result.workers.items) }
 {
     let gathered = gather(rt, alloc, &table, workers, seats, gate);
@@ -117,11 +119,15 @@ fn gather<W: Work + Send + Drop, G: Gate + Sync, R: Threads + Wait + Sync>(
 }
 
 /// Why workers ended that told this, where a thread was refused or none was.
-fn cause_of(refused: bool, told: Option<Cause>) -> Option<Cause>
+fn cause_of(refused: bool, told: Option<EndCause>) -> Option<EndCause>
     ensures thread { refused ≡ true → result ≡ Some cause.NoThread }
     ensures told { refused ≡ false → result ≡ told }
 {
-    if refused { Some(Cause::NoThread) } else { told }
+    if refused {
+        Some(EndCause::NoThread)
+    } else {
+        told
+    }
 }
 
 /// Workers that take no turn, for want of memory.
@@ -133,6 +139,6 @@ fn unchanged<W: Work>(workers: Vec<W>, seats: Vec<Seat>) -> Gathered<W>
     Gathered {
         workers,
         seats,
-        cause: Some(Cause::Memory),
+        cause: Some(EndCause::Memory),
     }
 }

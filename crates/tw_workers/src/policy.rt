@@ -3,7 +3,7 @@
 
 ghost use Rattle.std.specs.Prelude.{◌≡◌, true};
 
-use std::{cmp, hint, thread};
+use std::cmp;
 use tw_event::Event;
 use tw_model::limits::LONGEST_DELAY;
 use tw_sim::Signed;
@@ -21,20 +21,6 @@ const HANDLED_FOR_EACH_UNDONE: u64 = 20;
 /// A commit looks at each router number, 1,024 of them: once in so many events that costs next to nothing,
 /// and what undoing these would need stays in a processor's cache.
 const HANDLED_FOR_EACH_COMMIT: u64 = 8_192;
-
-/// An idle worker that takes the exchange again and again keeps it from others: from so many idle turns in a
-/// row on it waits some microseconds each time, and lets other threads have the processor.
-const LONGEST_PAUSE: u32 = 6;
-
-/// Waits before the next turn, where so many turns in a row had nothing to do.
-pub(crate) fn pause(idle: u32) {
-    for _ in 0..1u32 << cmp::min(idle, LONGEST_PAUSE) {
-        hint::spin_loop();
-    }
-    if idle > LONGEST_PAUSE {
-        thread::yield_now();
-    }
-}
 
 /// Where the window has fallen it stays for so many turns that end at it before it grows again: where no
 /// wider one serves, few turns try one.

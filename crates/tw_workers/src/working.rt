@@ -9,8 +9,8 @@ ghost use Rattle.tw_workers.specs.Work.{HasCommitted, IsAtWork, StillKeeps};
 
 use crate::gate::Gate;
 use crate::meeting::Meeting;
-use crate::policy::pause;
 use crate::worker::Worker;
+use crossbeam_utils::Backoff;
 use std::sync::Wait;
 use tw_model::OrMemory;
 use tw_table::{Seat, Table};
@@ -67,7 +67,7 @@ impl<'a> Worker<'a> {
         }
         let mut seat = seat;
         let mut turn: u64 = 0;
-        let mut idle = 0;
+        let idle = Backoff::new();
         for _ in rt.forever() {
             turn = turn.saturating_add(1);
             let (next, leaving) = self.take_turn(rt, table, gate, seat, turn);
@@ -75,21 +75,20 @@ impl<'a> Worker<'a> {
                 return (next, leaving);
             }
             seat = next;
-            idle = self.rest(idle);
+            self.rest(&idle);
             self.pace.begin_turn();
         }
         unreachable!()
     }
 
-    /// How many turns in a row had nothing to do, where so many had before the latest one. It waits where
-    /// this one had nothing to do: the others get on sooner where the exchange and the processor are left
-    /// to them.
-    fn rest(&self, idle: u32) -> u32 {
+    /// Where the latest turn had nothing to do, it waits, a little longer each time in a row: the others get on
+    /// sooner where the exchange and the processor are left to them.
+    fn rest(&self, idle: &Backoff) {
         if self.pace.turn().handled > 0 || !self.hand.mail.is_empty() {
-            return 0;
+            idle.reset();
+        } else {
+            idle.snooze();
         }
-        pause(idle);
-        idle.saturating_add(1)
     }
 
     /// The worker, who was not told to take no further turn, takes one, and is told whether it leaves.

@@ -10,7 +10,7 @@ use Rattle.tw_run.proofs.run.answer_case.Goals as goal
 pub returns-in_err-outcome : goal.returns-in_err-outcome
 returns-in_err-outcome g c =
     let p = err_from_is_err_and c.from_residual.result c.from_residual.ensures.1 in
-    rw (p.1, p.2) (leaves_stopped c.in_err-outcome.field-0.0 _ _ _ _ c.requires.open (λ is. c.in_err-outcome.ensures.full (ap Err is)))
+    rw (p.1, p.2) (leaves_stopped c.in_err-outcome.field-0.0 _ _ _ _ c.requires.open (λ is. c.in_err-outcome.ensures.full (ap Err is)) (λ is. c.in_err-outcome.ensures.device (ap Err is)))
 
 pub write_report-requires-clause-paths : goal.write_report-requires-clause-paths
 write_report-requires-clause-paths g c =

@@ -15,7 +15,7 @@ loop-one-preserved g c =
       joined = λ t before each. one_joined of t before c.in-Some.one (into_iter_items c.next.new.self) c.loop-one.workers.items c.push_reserved.new.self.items
           c.loop-one.seats.items c.push_reserved-in-loop-one.new.self.items c.loop-one.cause c.join-left.result.worker c.join-left.result.seat c.join-left.result.why c.worse-cause.result
           (subst (λ rest. AreJoined of t before rest c.loop-one.workers.items c.loop-one.seats.items c.loop-one.cause) step.0 (was.joined t before each))
-          worker.items seat.items (λ s is. c.join-left.ensures t s is) c.worse-cause.ensures.full;
+          worker.items seat.items (λ s is. c.join-left.ensures t s is) c.worse-cause.ensures.full c.worse-cause.ensures.lower;
       workers = omega (arith, was.workers, step.1, worker.len, worker.capacity);
       seats = omega (arith, was.seats, step.1, seat.len, seat.capacity);
       rest = (let long = ap length step.0 in omega (arith, was.rest, step.1, long));
