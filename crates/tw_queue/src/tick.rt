@@ -10,7 +10,7 @@ ghost use Rattle.tw_queue.specs.Update.{event_at, events_at};
 ghost use Rattle.tw_sim.specs.Ordered.{times};
 
 use crate::policy::is_full;
-use crate::update::{Update, append_at, first_of};
+use crate::update::{Update, append_at, first_of, put_in_order};
 use std::alloc::{AllocError, Global};
 use std::marker::Model;
 use std::mem::swap;
@@ -161,7 +161,7 @@ impl Tick {
             self.time = other.time;
             swap(&mut self.updates, &mut other.updates);
         }
-        self.updates.sort_unstable();
+        put_in_order(&mut self.updates);
     }
 
     // Takes the events of another list in the place of its own, by rising receiver, and tells whether it did:
