@@ -1,5 +1,5 @@
 -- Updates, and the events that they are at a time.
-use Rattle.std.proofs.Common.{IfSome, ◌≡◌, ◌+◌, ◌-◌, ◌<◌, ◌≤◌, ◌++◌, ℕ, suc, zero, slice_get, List, [], ◌∷◌, drop, length, take, get_or, set, refl, ap, sym, ◌∙◌, arith}
+use Rattle.std.proofs.Common.{IfSome, ◌≡◌, ◌+◌, ◌-◌, ◌<◌, ◌++◌, ℕ, suc, zero, slice_get, List, [], ◌∷◌, drop, length, take, get_or, set, refl, ap, sym, ◌∙◌, arith}
 use Rattle.std.proofs.lemmas.Cmp.{tied_itself, nat_cmp_total}
 use Rattle.std.proofs.lemmas.List.{drop_more, get_or-map, get_or_read, length-drop, length-map, take_all}
 use Rattle.std.proofs.lemmas.List.Sorted.{IsPermutation-map}
@@ -66,9 +66,9 @@ time_of time [] (suc i) = tt
 time_of time (u ∷ us) zero = refl
 time_of time (u ∷ us) (suc i) = time_of time us i
 
--- one update at most is in order
-pub few_in_order : (time : ℕ) (us : List Update) → length us ≤ 1 → events_at time us ≡ in_order event_before (events_at time us)
+-- a list of one update is in order
+pub only_in_order : (time : ℕ) (u : Update) (us vs : List Update) → vs ≡ u ∷ [] → length us ≡ 1 → u ≡ get_or us 0 u → events_at time vs ≡ in_order event_before (events_at time us)
 unfolding in_order
-few_in_order time [] l = refl
-few_in_order time (u ∷ []) l = refl
-few_in_order time (u ∷ v ∷ us) l = absurd (omega arith)
+only_in_order time u [] vs h l r = absurd (omega arith)
+only_in_order time u (v ∷ []) vs h l r = ap (events_at time) h ∙ ap (λ x. event_at time x ∷ []) r
+only_in_order time u (v ∷ w ∷ us) vs h l r = absurd (omega arith)

@@ -1,8 +1,7 @@
 // Events of one time, which is kept once for all of them.
 ghost use Rattle.std.specs.Option.{option_copied};
 ghost use Rattle.std.specs.Prelude.{ℕ, ◌≡◌, ◌++◌, None, IfSome, OnOk, option_map};
-ghost use Rattle.tw_event.specs.Order.{event_before};
-ghost use Rattle.tw_queue.specs.InOrder.{earlier, in_order, least_with};
+ghost use Rattle.tw_queue.specs.InOrder.{earlier, least_with};
 ghost use Rattle.tw_queue.specs.Update.{event_at, events_at};
 
 use std::alloc::AllocError;
@@ -53,17 +52,6 @@ impl Update {
                 session: u64::from(self.session),
             },
         }
-    }
-}
-
-/// Puts updates in order.
-#[inline(always)]
-pub(crate) fn put_in_order(updates: &mut Vec<Update>)
-    ensures { (time : ℕ) → events_at time updates.new.items ≡ in_order event_before (events_at time updates.old.items) }
-{
-    // Where delays are long most ticks have one event, and a call of the sort would cost as much as all else.
-    if updates.len() > 1 {
-        updates.sort_unstable();
     }
 }
 

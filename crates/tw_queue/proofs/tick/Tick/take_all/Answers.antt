@@ -3,13 +3,15 @@ use Rattle.tw_event.specs.Order.{event_before, event_same}
 use Rattle.tw_queue.specs.InOrder.{in_order}
 use Rattle.tw_queue.specs.Update.{events_at}
 use Rattle.tw_queue.proofs.Events.{event_law}
+use Rattle.tw_queue.proofs.Updates.{sorted_updates}
 use Rattle.tw_queue.proofs.Ordered.{in_order-times}
-use Rattle.tw_queue.proofs.tick.Tick.take_over.Goals as goal
-use Rattle.tw_queue.proofs.tick.Tick.take_over.Goals.{then-deal, else-deal}
+use Rattle.tw_queue.proofs.tick.Tick.take_all.Goals as goal
+use Rattle.tw_queue.proofs.tick.Tick.take_all.Goals.{then-deal, else-deal}
 
 pub returns-clause-events : goal.returns-clause-events
 returns-clause-events c =
-    let sorted = c.put_in_order.ensures c.self-2.inside.time ∙ ap (in_order event_before) c.self-2.view_is in
+    let s = c.sort_unstable.ensures in
+    let sorted = sorted_updates c.self-2.inside.time c.self-2.inside.updates.items c.sort_unstable.new.self.items s.permutation s.sorted ∙ ap (in_order event_before) c.self-2.view_is in
     elim c.if-deal.branch [
       | then-deal w ↦
           sorted ∙ ap (in_order event_before) w.self-is
