@@ -65,3 +65,10 @@ time_of time [] zero = tt
 time_of time [] (suc i) = tt
 time_of time (u ∷ us) zero = refl
 time_of time (u ∷ us) (suc i) = time_of time us i
+
+-- a list of one update is in order
+pub only_in_order : (time : ℕ) (u : Update) (us vs : List Update) → vs ≡ u ∷ [] → length us ≡ 1 → u ≡ get_or us 0 u → events_at time vs ≡ in_order event_before (events_at time us)
+unfolding in_order
+only_in_order time u [] vs h l r = absurd (omega arith)
+only_in_order time u (v ∷ []) vs h l r = ap (events_at time) h ∙ ap (λ x. event_at time x ∷ []) r
+only_in_order time u (v ∷ w ∷ us) vs h l r = absurd (omega arith)

@@ -1,6 +1,6 @@
 -- One level of the wheels: its buckets, and what they have of time.
-use Rattle.std.proofs.Common.{◌≡◌, ◌≢◌, ◌≤◌, ◌<◌, ◌+◌, ◌*◌, ◌/◌, ◌%◌, ◌^◌, ◌↔◌, ℕ, true, false, Bool, IsTrue, nat_lt, Some, None, List, [], ◌∷◌}
-use Rattle.std.proofs.Common.{length, get_or, set, option_map, slice_get, refl, ap, sym, ◌∙◌, subst, arith}
+use Rattle.std.proofs.Common.{◌≡◌, ◌≢◌, ◌≤◌, ◌<◌, ◌+◌, ◌*◌, ◌/◌, ◌%◌, ◌^◌, ◌↔◌, ◌++◌, ℕ, true, false, Bool, IsTrue, nat_lt, Some, None, List, [], ◌∷◌}
+use Rattle.std.proofs.Common.{length, get_or, set, option_map, slice_get, refl, ap, sym, ◌∙◌, subst, inl, inr, arith}
 use Rattle.std.specs.Bool.{OnFalse, OnTrue}
 use Rattle.std.specs.Int.{bit_at}
 use Rattle.std.proofs.Math.Nat.{mod-le, mul-le-mul_right}
@@ -14,14 +14,14 @@ use Rattle.tw_event.specs.Order.{event_before, event_same}
 use Rattle.tw_event.proofs.Order.{before_time}
 use Rattle.tw_sim.specs.Ordered.{take_out, times}
 use Rattle.tw_sim.proofs.Counts.{none}
-use Rattle.tw_sim.proofs.Ordered.{one_self}
+use Rattle.tw_sim.proofs.Ordered.{one_cases, one_self}
 use Rattle.tw_queue.specs.Buckets.{together}
 use Rattle.tw_queue.specs.InOrder.{in_order, least_with}
 use Rattle.tw_queue.specs.Level.{width_of}
 use Rattle.tw_queue.specs.Turn.{IsFirstMark, IsTurn}
 use Rattle.tw_queue.proofs.Ordered.{in_order-taken, take_out_none, times-in_order}
 use Rattle.tw_queue.proofs.Events.{event_law, same_some}
-use Rattle.tw_queue.proofs.Lists.{times-placed, times-set, times-take_out-le}
+use Rattle.tw_queue.proofs.Lists.{times-placed, times-push, times-set, times-take_out-le}
 use Rattle.tw_queue.proofs.Turns.{first_least, least_all, none_marked, out_slot, turn_set}
 
 no_first : (xs : List Event) → None ≡ option_map (λ e. e.time) (slice_get xs 0) → xs ≡ []
@@ -54,6 +54,30 @@ in_all e xs h = subst (λ n. 0 < n) (sym (times-in_order event_before event_same
 
 pub of_all : (e : Event) (xs : List Event) → 0 < times event_same e (in_order event_before xs) → 0 < times event_same e xs
 of_all e xs h = subst (λ n. 0 < n) (times-in_order event_before event_same event_law e xs) h
+
+-- an event goes into a bucket, and the start is not after it
+pub start_put : (start new : ℕ) (e : Event) (p : ℕ) (lists : List (List Event)) → p < length lists → (qs : List Event) → qs ≡ get_or lists p [] ++ e ∷ []
+    → ((d : Event) → 0 < times event_same d (together lists) → start ≤ d.time) → new ≤ start → new ≤ e.time → (d : Event) → 0 < times event_same d (together (set lists p qs)) → new ≤ d.time
+start_put start new e p lists within qs more before low own d there =
+    let c = times-set p qs lists within d in
+    let n = ap (times event_same d) more in
+    let m = times-push d e (get_or lists p []) in
+    elim (one_cases event_before event_same event_law d e) [
+      | inl z ↦
+          let l = before d (omega arith) in
+          omega arith
+      | inr q ↦
+          let t = ap (λ x. x.time) q in
+          omega arith
+    ]
+
+-- where a bucket has less, the start stays before all events
+pub start_less : (start : ℕ) (p : ℕ) (lists : List (List Event)) → p < length lists → (qs : List Event) → ((d : Event) → times event_same d qs ≤ times event_same d (get_or lists p []))
+    → ((d : Event) → 0 < times event_same d (together lists) → start ≤ d.time) → (d : Event) → 0 < times event_same d (together (set lists p qs)) → start ≤ d.time
+start_less start p lists within qs less before d there =
+    let c = times-set p qs lists within d in
+    let n = less d in
+    before d (omega arith)
 
 module _ (shift base marks : ℕ) (lists : List (List Event)) (t : IsTurn (width_of shift) base marks lists) where
   module _ (p : ℕ) (f : IsFirstMark marks base p) (bucket : List Event) (is : bucket ≡ get_or lists p bucket) where
@@ -128,6 +152,14 @@ module _ (shift base marks : ℕ) (lists : List (List Event)) (t : IsTurn (width
         let old : 0 < times event_same d (get_or lists p []) = omega arith in
         let out = out_slot (width_of shift) base marks lists t p d old in
         (t.placed p d old, t.after d out, t.near d out)) mark unmark others
+
+    pub start_taken : (start : ℕ) → ((d : Event) → 0 < times event_same d (together lists) → start ≤ d.time) → (d : Event) → 0 < times event_same d (together (set lists p less)) → start ≤ d.time
+    start_taken start before =
+        let n = t.number in
+        start_less start p lists (omega arith) less (λ d.
+        let c = ap (times event_same d) taken_is in
+        let l = times-take_out-le d e (get_or lists p []) in
+        omega arith) before
 
 -- a mark that is told by how many events there are
 pub marked_more : {P : Type 0} (n : ℕ) → 0 < n → OnTrue (nat_lt 0 n) P → P

@@ -1,4 +1,5 @@
 // Events of many ticks, in no order.
+ghost use Rattle.std.specs.Option.{option_copied};
 ghost use Rattle.std.specs.Prelude.{ℕ, ◌≡◌, ◌<◌, ◌↔◌, ◌-◌, ◌++◌, [], ◌∷◌, None, Some, IfNone, IfSome, IsTrue, OnOk, length, option_map, slice_get, take};
 ghost use Rattle.std.specs.Bool.{OnFalse, OnTrue};
 ghost use Rattle.tw_event.specs.Order.{event_same};
@@ -68,11 +69,11 @@ impl Bucket {
 
     /// The event put in last.
     #[inline(always)]
-    pub(crate) fn last(&self) -> Option<Event>
-        ensures some { IfSome result (λ e. slice_get self.now (length self.now - 1) ≡ Some e) }
-        ensures none { IfNone result (self.now ≡ []) }
+    pub(crate) fn last(&self) -> Option<&Event>
+        ensures some { IfSome (option_copied result) (λ e. slice_get self.now (length self.now - 1) ≡ Some e) }
+        ensures none { IfNone (option_copied result) (self.now ≡ []) }
     {
-        self.events.last().copied()
+        self.events.last()
     }
 
     /// Takes the event put in last out, where there is one.

@@ -24,6 +24,8 @@ pub(crate) struct Level {
     shift: u32,
     // The number of a width that is begun.
     base: u64,
+    // The time at which the first width that has events begins: no event is before it.
+    start: u64,
     marks: u64,
     buckets: [Bucket; 64],
     // A bit for each empty bucket that has memory, as far as that is known.
@@ -51,6 +53,7 @@ impl Level {
         Level {
             shift,
             base: 0,
+            start: u64::MAX,
             marks: 0,
             buckets: array::from_fn(|_| Bucket::new(alloc)),
             spares: 0,
@@ -73,11 +76,20 @@ impl Level {
             return false;
         }
         self.marks = with_mark(self.marks, slot);
+        self.start = self.start.min(width << self.shift);
         true
     }
 
     /// The time, in ticks, at which the first width that has events begins, and `u64::MAX` where there is none.
+    #[inline(always)]
     pub(crate) fn start(&self) -> u64
+        ensures { (e : AnEvent) → 0 < times event_same e self.now → result ≤ e.time }
+    {
+        self.start
+    }
+
+    // What the start is by the buckets.
+    fn first_start(&self) -> u64
         ensures { (e : AnEvent) → 0 < times event_same e self.now → result ≤ e.time }
     {
         match self.buckets[first_place(self.marks, self.base)].first_time() {
@@ -103,6 +115,7 @@ impl Level {
         swap(&mut self.buckets[place], events);
         self.marks = without_mark(self.marks, place);
         self.spares = with_mark(self.spares, place);
+        self.start = self.first_start();
     }
 
     /// Takes one event that equals `event` out, and tells whether there was one.
@@ -116,6 +129,7 @@ impl Level {
         let found = bucket.remove(event);
         let has_more = bucket.len() > 0;
         self.marks = marked_as(self.marks, slot, has_more);
+        self.start = self.first_start();
         found
     }
 
@@ -125,7 +139,7 @@ impl Level {
         ensures { self.new ≡ self.old }
     {
         let width = time >> self.shift;
-        if width <= self.base || self.start() >> self.shift <= width {
+        if width <= self.base || self.start >> self.shift <= width {
             return;
         }
         self.base = width;

@@ -233,7 +233,7 @@ fn put_each(events: &mut Bucket, ring: &mut Ring, levels: &mut [Level])
         ≤ times event_same e (together levels.old) + times event_same e events.old }
 {
     while let Some(event) = events.last() {
-        if !put(&event, ring, levels) {
+        if !put(event, ring, levels) {
             return;
         }
         events.pop();

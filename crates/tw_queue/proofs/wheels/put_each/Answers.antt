@@ -7,13 +7,13 @@ use Rattle.tw_queue.proofs.wheels.put_each.Goals as goal
 pub loop-event-preserved : goal.loop-event-preserved
 loop-event-preserved c = record {
   all = λ e.
-      let p = popped e c.in-Some.event c.loop-event.events c.in-Some.ensures.some in
+      let p = popped e c.in-Some.event.now c.loop-event.events c.in-Some.ensures.some in
       let q = ap (times event_same e) c.pop.ensures in
       let m = c.if-not-put.ensures.all e in
       let v = c.loop-event.invariant.all e in
       omega arith;
   down = λ e.
-      let p = popped e c.in-Some.event c.loop-event.events c.in-Some.ensures.some in
+      let p = popped e c.in-Some.event.now c.loop-event.events c.in-Some.ensures.some in
       let q = ap (times event_same e) c.pop.ensures in
       let m = c.if-not-put.ensures.down e in
       let v = c.loop-event.invariant.down e in

@@ -1,10 +1,7 @@
-use Rattle.std.proofs.Common.{◌<◌, ◌/◌, ◌^◌, arith, subst}
-use Rattle.tw_event.specs.Order.{event_same}
-use Rattle.tw_sim.specs.Ordered.{times}
-use Rattle.tw_queue.specs.Buckets.{together}
+use Rattle.std.proofs.Common.{◌/◌, ◌^◌, arith}
 use Rattle.tw_queue.specs.Level.{width_of}
 use Rattle.tw_queue.proofs.Turns.{turn_base}
-use Rattle.tw_queue.proofs.Widths.{in_all, later_width}
+use Rattle.tw_queue.proofs.Widths.{later_width}
 use Rattle.tw_queue.proofs.level.Level.go_to.Goals as goal
 
 pub invariant_of-self : goal.invariant_of-self
@@ -15,5 +12,6 @@ invariant_of-self c =
       shift = v.shift;
       turn =
           turn_base (width_of a.shift) a.base a.marks a.buckets v.turn (c.args.time / 2 ^ a.shift) (omega (arith, c.if-width-self.false)) (λ e there.
-          later_width a.shift c.start.result (c.args.time / 2 ^ a.shift) e (c.start.ensures e (subst (λ xs. 0 < times event_same e xs) c.self.view_is (in_all e (together a.buckets) there))) (λ l. omega (arith, l, c.if-start-self.false)));
+          later_width a.shift a.start (c.args.time / 2 ^ a.shift) e (v.start e there) (λ l. omega (arith, l, c.if-width-self.false)));
+      start = v.start;
     }

@@ -4,10 +4,11 @@ use Rattle.tw_event.specs.Order.{event_before}
 use Rattle.tw_sim.specs.Ordered.{insert}
 use Rattle.tw_queue.specs.Level.{width_of}
 use Rattle.tw_queue.proofs.Turns.{order_put, turn_put}
+use Rattle.tw_queue.proofs.Widths.{begun_low, start_put}
 use Rattle.tw_queue.proofs.level.Level.insert.Goals as goal
 
 -- what the bucket had
-pushed : (c : goal.After-self-1) → c.push.new.self ≡ get_or c.self.inside.buckets c.slot_of-slot.result [] ++ c.args.event.now ∷ []
+pushed : (c : goal.After-self-2-1) → c.push.new.self ≡ get_or c.self.inside.buckets c.slot_of-slot.result [] ++ c.args.event.now ∷ []
 pushed c =
     let a = c.self.inside in
     let e = c.args.event.now in
@@ -24,12 +25,17 @@ invariant_of-self-2 c =
     let a = c.self.inside in
     let v = c.self.invariant in
     let m = c.with_mark-self-inside in
+    let e = c.args.event.now in
+    let at = c.slot_of-slot.ensures in
     let ahead = c.if-not-is_ahead.ensures in
+    let least = c.min-self-inside.ensures in
+    let own = begun_low a.shift e.time e (omega arith) in
+    let number = v.turn.number in
     rw c.reuse_memory.ensures (record {
       shift = v.shift;
       turn =
-          turn_put (width_of a.shift) a.base a.marks a.buckets v.turn c.args.event.now c.slot_of-slot.result c.slot_of-slot.ensures ahead.0 ahead.1 c.push.new.self (pushed c) m.result
-          m.ensures.same m.ensures.others;
+          turn_put (width_of a.shift) a.base a.marks a.buckets v.turn e c.slot_of-slot.result at ahead.0 ahead.1 c.push.new.self (pushed c) m.result m.ensures.same m.ensures.others;
+      start = start_put a.start _ e c.slot_of-slot.result a.buckets (omega arith) c.push.new.self (pushed c) v.start (omega arith) (omega arith);
     })
 
 pub returns-clause-added : goal.returns-clause-added

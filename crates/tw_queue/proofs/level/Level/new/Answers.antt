@@ -1,6 +1,8 @@
-use Rattle.std.proofs.Common.{◌≡◌, ◌<◌, ℕ, [], length, get_or, rules, arith}
+use Rattle.std.proofs.Common.{◌≡◌, ◌<◌, ℕ, [], length, get_or, rules, ap, arith}
+use Rattle.tw_event.specs.Order.{event_same}
+use Rattle.tw_sim.specs.Ordered.{times}
 use Rattle.tw_queue.specs.Level.{width_of}
-use Rattle.tw_queue.proofs.Lists.{in_order_none}
+use Rattle.tw_queue.proofs.Lists.{in_order_none, together_none}
 use Rattle.tw_queue.proofs.Turns.{no_turn}
 use Rattle.tw_queue.proofs.level.Level.new.Goals as goal
 
@@ -16,6 +18,9 @@ pub invariant_of-result : goal.invariant_of-result
 invariant_of-result c = record {
   shift = c.requires;
   turn = no_turn (width_of c.args.shift) 0 c.from_fn.result c.from_fn.ensures.items.long (empty c);
+  start = λ e there.
+      let z = ap (times event_same e) (together_none c.from_fn.result (empty c)) in
+      absurd (omega arith);
 }
 
 pub returns : goal.returns

@@ -1,7 +1,7 @@
 use Rattle.std.proofs.Common.{◌<◌, ◌↔◌, IsTrue, length, ap, ◌∙◌, subst, arith}
 use Rattle.tw_event.specs.Order.{event_same}
 use Rattle.tw_sim.specs.Ordered.{take_out, times}
-use Rattle.tw_queue.proofs.Widths.{found_there, marked_more, marked_none, not_found, order_taken, turn_taken}
+use Rattle.tw_queue.proofs.Widths.{found_there, in_all, marked_more, marked_none, not_found, order_taken, start_taken, turn_taken}
 use Rattle.tw_queue.proofs.level.Level.remove.Goals as goal
 
 pub invariant_of-self : goal.invariant_of-self
@@ -15,6 +15,23 @@ invariant_of-self c =
           turn_taken a.shift a.base a.marks a.buckets v.turn c.args.event.now c.slot_of-slot.result c.slot_of-slot.ensures c.index-self-slot.result c.index-self-slot.is c.remove-found.new.self
           c.remove-found.ensures.events m.result (λ l. marked_more c.len-has_more.result (omega (arith, c.len-has_more.ensures, l)) m.ensures.marked)
           (λ z. marked_none c.len-has_more.result (c.len-has_more.ensures ∙ ap length z) m.ensures.clear) m.ensures.others;
+      start =
+          start_taken a.shift a.base a.marks a.buckets v.turn c.args.event.now c.slot_of-slot.result c.slot_of-slot.ensures c.index-self-slot.result c.index-self-slot.is c.remove-found.new.self
+          c.remove-found.ensures.events a.start v.start;
+    }
+
+pub invariant_of-self-2 : goal.invariant_of-self-2
+invariant_of-self-2 c =
+    let a = c.self.inside in
+    let v = c.self.invariant in
+    let m = c.marked_as-self-inside in
+    record {
+      shift = v.shift;
+      turn =
+          turn_taken a.shift a.base a.marks a.buckets v.turn c.args.event.now c.slot_of-slot.result c.slot_of-slot.ensures c.index-self-slot.result c.index-self-slot.is c.remove-found.new.self
+          c.remove-found.ensures.events m.result (λ l. marked_more c.len-has_more.result (omega (arith, c.len-has_more.ensures, l)) m.ensures.marked)
+          (λ z. marked_none c.len-has_more.result (c.len-has_more.ensures ∙ ap length z) m.ensures.clear) m.ensures.others;
+      start = λ e there. c.first_start-self-inside.ensures e (in_all e _ there);
     }
 
 pub returns-clause-found : goal.returns-clause-found

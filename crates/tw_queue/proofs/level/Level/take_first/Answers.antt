@@ -1,13 +1,30 @@
-use Rattle.std.proofs.Common.{ap, ◌∙◌}
+use Rattle.std.proofs.Common.{[], ap, ◌∙◌, arith}
 use Rattle.tw_event.specs.Order.{event_same}
 use Rattle.tw_sim.specs.Ordered.{times}
 use Rattle.tw_queue.specs.Level.{width_of}
 use Rattle.tw_queue.proofs.Turns.{place_within, turn_emptied}
-use Rattle.tw_queue.proofs.Widths.{first_taken}
+use Rattle.tw_queue.proofs.Widths.{first_taken, in_all, start_less}
 use Rattle.tw_queue.proofs.level.Level.take_first.Goals as goal
 
 pub invariant_of-self : goal.invariant_of-self
 invariant_of-self c =
+    let a = c.self.inside in
+    let v = c.self.invariant in
+    let p = c.first_place-place.result in
+    let f = c.first_place-place.ensures in
+    let m = c.without_mark-self-inside in
+    let number = v.turn.number in
+    let at = f.at in
+    record {
+      shift = v.shift;
+      turn =
+          rw (c.swap.ensures.x_after ∙ c.requires)
+          (turn_emptied (width_of a.shift) a.base a.marks a.buckets v.turn p (place_within (width_of a.shift) a.base a.marks a.buckets v.turn p f) m.result m.ensures.same m.ensures.others);
+      start = rw (c.swap.ensures.x_after ∙ c.requires) (start_less a.start p a.buckets (omega arith) [] (λ d. omega arith) v.start);
+    }
+
+pub invariant_of-self-2 : goal.invariant_of-self-2
+invariant_of-self-2 c =
     let a = c.self.inside in
     let v = c.self.invariant in
     let p = c.first_place-place.result in
@@ -18,6 +35,7 @@ invariant_of-self c =
       turn =
           rw (c.swap.ensures.x_after ∙ c.requires)
           (turn_emptied (width_of a.shift) a.base a.marks a.buckets v.turn p (place_within (width_of a.shift) a.base a.marks a.buckets v.turn p f) m.result m.ensures.same m.ensures.others);
+      start = λ e there. c.first_start-self-inside.ensures e (in_all e _ there);
     }
 
 pub returns : goal.returns

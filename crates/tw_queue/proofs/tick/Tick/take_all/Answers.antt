@@ -5,8 +5,8 @@ use Rattle.tw_queue.specs.Update.{events_at}
 use Rattle.tw_queue.proofs.Events.{event_law}
 use Rattle.tw_queue.proofs.Updates.{sorted_updates}
 use Rattle.tw_queue.proofs.Ordered.{in_order-times}
-use Rattle.tw_queue.proofs.tick.Tick.take_over.Goals as goal
-use Rattle.tw_queue.proofs.tick.Tick.take_over.Goals.{then-deal, else-deal}
+use Rattle.tw_queue.proofs.tick.Tick.take_all.Goals as goal
+use Rattle.tw_queue.proofs.tick.Tick.take_all.Goals.{then-deal, else-deal}
 
 pub returns-clause-events : goal.returns-clause-events
 returns-clause-events c =
