@@ -7,7 +7,8 @@ use Rattle.std.proofs.lemmas.List.Sums.{fold-append}
 use Rattle.std.specs.List.{fold}
 use Rattle.std.specs.declared.vec.Vec.{Vec}
 use Rattle.tw_event.specs.declared.event.Event.{Event}
-use Rattle.tw_exchange.specs.Board.{followed, is_for, owner, sent_to, times}
+use Rattle.tw_exchange.specs.Board.{followed, is_for, sent_to, times}
+use Rattle.tw_sim.specs.Owners.{owner}
 use Rattle.tw_exchange.specs.Rows.{items, soonest_of}
 use Rattle.tw_exchange.specs.declared.mail.TheConstants.{NEVER}
 use Rattle.tw_exchange.proofs.Rooms.{items_at, items_set, length_items}

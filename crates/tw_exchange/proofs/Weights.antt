@@ -4,7 +4,8 @@ use Rattle.std.proofs.lemmas.List.{length-set}
 use Rattle.std.proofs.lemmas.List.Sums.{sum_by-append, sum_by-cons}
 use Rattle.std.specs.List.{flat_map, sum_by}
 use Rattle.tw_event.specs.declared.event.Event.{Event}
-use Rattle.tw_exchange.specs.Board.{Board, IsBoard, all_mail, deposited, followed, handed, owner, visited, workers}
+use Rattle.tw_exchange.specs.Board.{Board, IsBoard, all_mail, deposited, followed, handed, visited, workers}
+use Rattle.tw_sim.specs.Owners.{owner}
 use Rattle.tw_exchange.proofs.Followed.{followed_more, followed_nil, followed_of, length_followed}
 use Rattle.tw_sim.specs.declared.machine.Signed.{Signed}
 

@@ -1,11 +1,12 @@
 -- What workers leave for one another and report to one another, and the bound that follows (own, after Jefferson, Virtual Time,
 -- 1985: global virtual time is the least time of all that waits or is on its way).
-use Rattle.std.specs.Prelude.{ℕ, suc, ◌%◌, ◌≡◌, ◌≤◌, ◌==◌, ◌||◌, Bool, true, false}
+use Rattle.std.specs.Prelude.{ℕ, suc, ◌≡◌, ◌≤◌, ◌==◌, ◌||◌, Bool, true, false}
 use Rattle.std.specs.Prelude.{IfSome, List, [], ◌∷◌, ◌++◌, Option, None, Some, fold, length, map, min, nat_lt, replicate, slice_index_or, slice_set}
 use Rattle.std.specs.List.{AllByRecursion, filter, flat_map, list_any, reduce}
 use Rattle.std.specs.Option.{option_map_or, option_to_list}
 use Rattle.tw_event.specs.declared.event.Event.{Event}
 use Rattle.tw_sim.specs.declared.machine.Signed.{Signed}
+use Rattle.tw_sim.specs.Owners.{owner}
 
 pub record Board : Type 0 where
   -- what waits for each worker, in the order deposited
@@ -22,10 +23,6 @@ pub record Board : Type 0 where
 -- how many workers there are
 abbrev pub workers : Board → ℕ
 workers x = length x.reports
-
--- the worker, of so many, that has this router: routers are dealt out to workers in turn
-abbrev pub owner : ℕ → ℕ → ℕ
-owner workers router = router % workers
 
 -- what waits for worker w
 abbrev pub mail_of : ℕ → Board → List (Signed Event)

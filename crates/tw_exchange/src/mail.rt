@@ -1,25 +1,16 @@
 //! Mail by worker: whose a message is, and moving messages.
 
 ghost use Rattle.std.specs.Prelude.{ℕ, ◌≡◌, ◌<◌, ◌+◌, OnErr, OnOk, [], length, map, slice_index, slice_index_or, slice_set};
-ghost use Rattle.tw_exchange.specs.Board.{followed, owner, sent_to};
+ghost use Rattle.tw_exchange.specs.Board.{followed, sent_to};
 ghost use Rattle.tw_exchange.specs.Rows.{HasRoom, items, soonest_of};
 
 use std::alloc::{AllocError, Global};
 use std::mem;
 use tw_event::Event;
-use tw_sim::Signed;
+use tw_sim::{Signed, owner};
 
 /// The end of time: the least time where there are no messages.
 pub const NEVER: u64 = u64::MAX;
-
-/// The worker, of so many, that has this router: routers are dealt out to workers in turn.
-pub fn owner(router: u32, workers: usize) -> usize
-    requires { 0 < workers }
-    ensures value { result ≡ owner workers router }
-    ensures within { result < workers }
-{
-    router as usize % workers
-}
 
 /// Puts each message behind the mail of its worker, or none of them where memory is refused.
 pub fn deposit(

@@ -1,12 +1,13 @@
 -- A run that begins keeps the rule, and is a machine that begins.
-use Rattle.std.proofs.Common.{◌≡◌, ℕ, zero, suc, ◌+◌, ◌<◌, ◌==◌, ◌%◌, ◌&&◌, List, [], ◌∷◌, ◌++◌, drop, flat_map, get_or, length, map, nat_lt, refl, ap, sym, ◌∙◌, subst, inl, inr, arith}
+use Rattle.std.proofs.Common.{◌≡◌, ℕ, zero, suc, ◌+◌, ◌<◌, ◌==◌, ◌&&◌, List, [], ◌∷◌, ◌++◌, drop, flat_map, get_or, length, map, nat_lt, refl, ap, sym, ◌∙◌, subst, inl, inr, arith}
 use Rattle.std.proofs.lemmas.Bool.{cases_Bool, lt-ltb}
 use Rattle.std.specs.List.{AllByRecursion, range_with_len}
 use Rattle.std.specs.Prelude.{Some, replicate}
 use Rattle.tw_core.specs.Machine.{Core, IsOpening}
 use Rattle.tw_core.specs.Parts.{Part, at_owner}
 use Rattle.tw_event.specs.declared.event.Event.{Event}
-use Rattle.tw_exchange.specs.Board.{opening, owner, workers}
+use Rattle.tw_exchange.specs.Board.{opening, workers}
+use Rattle.tw_sim.specs.Owners.{owner}
 use Rattle.tw_model.proofs.Lawful.{lawful}
 use Rattle.tw_model.specs.Case.{Case, IsCase, simulation}
 use Rattle.tw_parallel.proofs.Owners.{pending_of}
@@ -40,8 +41,8 @@ module _ (case : Case) (is : IsCase case) (n : ℕ) where
   place_opens k s h at empty = record {
     worker = at.worker;
     owns = λ r l.
-        (λ i. nat_lt r (at.case_is i).net.nodes && (r % at.count i == at.worker i))
-        ∙ ap (λ b. b && (r % n == k)) (lt-ltb r case.net.nodes l);
+        (λ i. nat_lt r (at.case_is i).net.nodes && (owner (at.count i) r == at.worker i))
+        ∙ ap (λ b. b && (owner n r == k)) (lt-ltb r case.net.nodes l);
     history = λ r. ap (λ (C : Core Event). C.history r) (at.core_is 0);
     pending = λ e. waits case is n k s e at;
     kept = ap (λ (C : Core Event). C.kept) (at.core_is 0);
@@ -136,7 +137,7 @@ module _ (case : Case) (is : IsCase case) (n : ℕ) (some : 0 < n) (ss : List Sh
       let places : n ≡ length (map place_of (shares_of ss hs)) = omega arith in
       rule_opens (simulation case) (lawful case is) (owner n) (board_of (opening n 0 0)) (map place_of (shares_of ss hs))
       (record { mail = no_mail n; reports = ap (λ k. replicate k (Some 0)) places; bound = refl }) new_places
-      (λ r l. let within : r % n < n = omega arith in omega arith)
+      (λ r l. let within : owner n r < n = omega arith in omega arith)
 
   pub new_is : IsSim new_sim
   new_is =
@@ -160,7 +161,7 @@ module _ (case : Case) (is : IsCase case) (n : ℕ) (some : 0 < n) (ss : List Sh
       let ps = map place_of (shares_of ss hs) in
       record {
         history = λ r. no_history m (owner n) 0 r 0 ps new_places;
-        pending = λ e. ap (times m e) (pending_of 0 ss hs same) ∙ (all_wait case is n e ss 0 from_zero).0 (omega arith) (let within : e.dst % n < n = omega arith in omega arith);
+        pending = λ e. ap (times m e) (pending_of 0 ss hs same) ∙ (all_wait case is n e ss 0 from_zero).0 (omega arith) (let within : owner n e.dst < n = omega arith in omega arith);
         kept = none_kept m (owner n) 0 0 ps new_places;
         flight = λ i. no_mail n i ++ none_flies m (owner n) 0 0 ps new_places i;
         done = λ r. none_done m (owner n) 0 r 0 ps new_places;

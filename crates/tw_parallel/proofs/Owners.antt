@@ -1,12 +1,13 @@
 -- What the rule tells of a run: it is the one-thread run, and each router's worker has of it what the whole machine has.
-use Rattle.std.proofs.Common.{◌≡◌, ℕ, ◌+◌, ◌-◌, ◌<◌, ◌≤◌, ◌%◌, true, List, [], ◌∷◌, ◌++◌, flat_map, get_or, length, map, reverse, slice_get, Some, take, refl, ap, sym, ◌∙◌, subst, arith}
+use Rattle.std.proofs.Common.{◌≡◌, ℕ, ◌+◌, ◌-◌, ◌<◌, ◌≤◌, true, List, [], ◌∷◌, ◌++◌, flat_map, get_or, length, map, reverse, slice_get, Some, take, refl, ap, sym, ◌∙◌, subst, arith}
 use Rattle.std.proofs.lemmas.Bool.{eq-eqb}
 use Rattle.tw_core.specs.Good.{IsGood}
 use Rattle.tw_core.specs.Machine.{committed}
 use Rattle.tw_core.specs.Parts.{Part}
 use Rattle.tw_core.specs.Run.{IsSeq}
 use Rattle.tw_event.specs.declared.event.Event.{Event}
-use Rattle.tw_exchange.specs.Board.{owner, workers}
+use Rattle.tw_exchange.specs.Board.{workers}
+use Rattle.tw_sim.specs.Owners.{owner}
 use Rattle.tw_model.proofs.Lawful.{lawful, numbered}
 use Rattle.tw_model.specs.Case.{simulation}
 use Rattle.tw_model.specs.declared.limits.TheConstants.{LATEST}
@@ -47,36 +48,36 @@ module _ (s : Sim) (is : IsSim s) where
   long = is.ruled.count
 
   -- the share at the place of a router's worker
-  has_at : (r : ℕ) → r < s.case.net.nodes → (t : Share) → slice_get s.shares (r % workers s.board) ≡ Some t → Has s r t.shard
+  has_at : (r : ℕ) → r < s.case.net.nodes → (t : Share) → slice_get s.shares (owner (workers s.board) r) ≡ Some t → Has s r t.shard
   has_at r l t there =
       let n = workers s.board in
       let ps = map place_of s.shares in
       let x = board_of s.board in
-      let place = get_map place_of s.shares (r % n) t there in
-      let stands = all_at (Stands (simulation s.case) (owner n) x) ps (r % n) (place_of t) place is.ruled.rule.each in
-      let worker : t.shard.worker ≡ 0 + r % n = worker_there 0 n (r % n) s.shares t is.order there in
-      let own : owns t.shard r ≡ true = stands.owns r l ∙ eq-eqb (r % n) t.shard.worker (omega arith) in
+      let place = get_map place_of s.shares (owner n r) t there in
+      let stands = all_at (Stands (simulation s.case) (owner n) x) ps (owner n r) (place_of t) place is.ruled.rule.each in
+      let worker : t.shard.worker ≡ 0 + owner n r = worker_there 0 n (owner n r) s.shares t is.order there in
+      let own : owns t.shard r ≡ true = stands.owns r l ∙ eq-eqb (owner n r) t.shard.worker (omega arith) in
       record {
-        case = all_at (λ (t : Share). t.shard.case ≡ s.case) s.shares (r % n) t there is.ruled.cases;
+        case = all_at (λ (t : Share). t.shard.case ≡ s.case) s.shares (owner n r) t there is.ruled.cases;
         own = own;
-        history = sym (history_of (simulation s.case) law (owner n) x ps (r % n) r (place_of t) is.ruled.rule place l own);
-        done = sym (done_of (simulation s.case) law (owner n) x ps (r % n) r (place_of t) is.ruled.rule place l own);
-        keeps = λ all. all_at (λ (t : Share). t.shard.keeps ≡ true) s.shares (r % n) t there all;
+        history = sym (history_of (simulation s.case) law (owner n) x ps (owner n r) r (place_of t) is.ruled.rule place l own);
+        done = sym (done_of (simulation s.case) law (owner n) x ps (owner n r) r (place_of t) is.ruled.rule place l own);
+        keeps = λ all. all_at (λ (t : Share). t.shard.keeps ≡ true) s.shares (owner n r) t there all;
       }
 
 -- so has the shard at that place
 pub has_router : (s : Sim) → IsSim s → (ss : List Shard) (hs : List Hand) → s.shares ≡ shares_of ss hs → length hs ≡ length ss → (r k : ℕ) (x : Shard) → r < s.case.net.nodes
-    → k ≡ r % length ss → x ≡ get_or ss k x → Has s r x
+    → k ≡ owner (length ss) r → x ≡ get_or ss k x → Has s r x
 has_router s is ss hs shares same r k x l at here =
     let many : length (shares_of ss hs) ≡ workers s.board = ap length (sym shares) ∙ long s is in
     let count = long_shares ss hs same in
     let all : length ss ≡ workers s.board = omega arith in
     let some = is.some in
-    let place : k ≡ r % workers s.board = at ∙ ap (λ n. r % n) all in
+    let place : k ≡ owner (workers s.board) r = at ∙ ap (λ n. owner n r) all in
     let within : k < length ss = omega arith in
     let found = share_there ss hs k x same within in
-    let got : slice_get s.shares (r % workers s.board) ≡ Some (share (get_or ss k x) found.0)
-    = ap (λ ts. slice_get ts (r % workers s.board)) shares ∙ (ap (λ j. slice_get (shares_of ss hs) j) (sym place) ∙ found.1) in
+    let got : slice_get s.shares (owner (workers s.board) r) ≡ Some (share (get_or ss k x) found.0)
+    = ap (λ ts. slice_get ts (owner (workers s.board) r)) shares ∙ (ap (λ j. slice_get (shares_of ss hs) j) (sym place) ∙ found.1) in
     subst (Has s r) (sym here) (has_at s is r l (share (get_or ss k x) found.0) got)
 
 module _ (s : Sim) (r : ℕ) (x : Shard) (has : Has s r x) where

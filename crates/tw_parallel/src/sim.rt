@@ -18,6 +18,7 @@ use tw_instance::Case;
 use tw_model::limits::LATEST;
 use tw_router::Router;
 use tw_shard::Shard;
+use tw_sim::owner;
 use tw_table::Hand;
 use tw_warp::{StopLower, open_shards};
 
@@ -192,7 +193,7 @@ impl<'a> Sim<'a> {
         ensures keeps { KeepsEvents self.now → result.now.keeps ≡ true }
         ensures sim { IsSim self.now }
     {
-        &self.shards[router as usize % self.shards.len()]
+        &self.shards[owner(router, self.shards.len())]
     }
 }
 

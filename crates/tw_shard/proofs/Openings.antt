@@ -1,13 +1,9 @@
 -- A shard as it begins.
-use Rattle.std.proofs.Common.{◌≡◌, ℕ, ◌+◌, ◌-◌, ◌*◌, ◌%◌, ◌<◌, ◌≤◌, ◌==◌, true, List, [], ◌∷◌, ◌++◌, ap, ap₂, sym, ◌∙◌, refl, subst, inl, inr, arith, nat_lt, if◌then◌else◌}
-use Rattle.std.proofs.Common.{filter, get_or, length, map}
-use Rattle.std.specs.Int.{div_ceil}
-use Rattle.std.specs.List.{AllByRecursion, range_with_len}
-use Rattle.std.proofs.Math.Nat.{div-add-mod, mul-le-mul_left}
+use Rattle.std.proofs.Common.{◌≡◌, ℕ, zero, suc, ◌<◌, ◌==◌, true, List, [], ◌∷◌, ap, sym, ◌∙◌, refl, subst, inl, inr, arith, if◌then◌else◌}
+use Rattle.std.proofs.Common.{Some, filter, get_or, length, map, slice_get}
+use Rattle.std.specs.List.{AllByRecursion}
 use Rattle.std.proofs.Math.Path.{fun_ext}
-use Rattle.std.proofs.lemmas.Bool.{cases_Bool, ltb-false, ltb-true}
-use Rattle.std.proofs.lemmas.Grind.{div_ceil_times}
-use Rattle.std.proofs.lemmas.List.FromFn.{get_or-map-range_with_len, length-map-range_with_len, map-range_with_len_more}
+use Rattle.std.proofs.lemmas.Bool.{cases_Bool}
 use Rattle.tw_core.proofs.Sums.{all_map}
 use Rattle.tw_event.specs.declared.event.Event.{Event}
 use Rattle.tw_event.specs.Order.{event_before, event_same}
@@ -16,11 +12,12 @@ use Rattle.tw_model.specs.Effect.{suits}
 use Rattle.tw_model.proofs.Lawful.{lawful}
 use Rattle.tw_model.proofs.Within.{suits_within}
 use Rattle.tw_queue.proofs.Ordered.{all-filter}
-use Rattle.tw_shard.specs.Shard.{IsWhole, Shard, core, no_timeline, opening_core, owns, place, timeline}
+use Rattle.tw_shard.specs.Shard.{IsWhole, Shard, core, no_timeline, opening_core, owns, place, routers, timeline}
 use Rattle.tw_shard.specs.Timeline.{Timeline, history, opening_timeline}
-use Rattle.tw_shard.proofs.Shares.{owns_parts}
+use Rattle.tw_shard.proofs.Shares.{listed}
 use Rattle.tw_sim.specs.Ordered.{insert, insert_all}
 use Rattle.tw_sim.proofs.Counts.{is_order}
+use Rattle.tw_sim.specs.Owners.{owner}
 use Rattle.tw_sim.proofs.Ordered.{all-insert, all_counted}
 
 -- each opening event suits its receiver
@@ -42,24 +39,25 @@ all_inserted : (P : Event → Type 0) (events pending : List Event) → AllByRec
 all_inserted P [] pending new old = old
 all_inserted P (e ∷ events) pending new old = all_inserted P events (insert event_before e pending) new.1 (all-insert event_before P e pending new.0 old)
 
--- one more timeline
-pub one_more : (f : ℕ → Timeline) (n : ℕ) (xs ys : List Timeline) (x : Timeline) → ys ≡ xs ++ x ∷ [] → xs ≡ map f (range_with_len 0 n) → x ≡ f n
-    → ys ≡ map f (range_with_len 0 (n + 1))
-one_more f n xs ys x pushed old new = pushed ∙ (ap₂ (λ l y. l ++ y ∷ []) old new ∙ sym (map-range_with_len_more f 0 n n (omega arith)))
+-- what is read of an element that stands there
+read_there : {A B : Type 0} (f : A → B) (xs : List A) (k : ℕ) (x : A) (d : B) → slice_get xs k ≡ Some x → (k < length (map f xs)) × (get_or (map f xs) k d ≡ f x)
+read_there f [] k x d there = cc there
+read_there f (y ∷ xs) zero x d there = (omega arith, (let same : y ≡ x = cc there in ap f same))
+read_there f (y ∷ xs) (suc k) x d there = let more = read_there f xs k x d there in (let within = more.0 in omega arith, more.1)
 
 -- a shard with its routers as they begin, the opening events for them, and nothing else
 pub record IsBegun (s : Shard) : Type 0 where
   pub case : IsCase s.case
   pub worker : s.worker < s.workers
-  pub timelines : s.timelines ≡ map (λ k. opening_timeline s.case s.keeps (s.worker + s.workers * k)) (range_with_len 0 (div_ceil (s.case.net.nodes - s.worker) s.workers))
-  pub pending : s.pending ≡ insert_all event_before (filter (λ e. e.dst % s.workers == s.worker) (opening_events s.case.scenes)) []
+  pub timelines : s.timelines ≡ map (opening_timeline s.case s.keeps) (routers s)
+  pub pending : s.pending ≡ insert_all event_before (filter (λ e. owner s.workers e.dst == s.worker) (opening_events s.case.scenes)) []
   pub kept : s.kept ≡ []
   pub outgoing : s.outgoing ≡ []
   pub bound : s.bound ≡ 0
 
 pub begun : (s : Shard) → IsCase s.case → s.worker < s.workers
-    → s.timelines ≡ map (λ k. opening_timeline s.case s.keeps (s.worker + s.workers * k)) (range_with_len 0 (div_ceil (s.case.net.nodes - s.worker) s.workers))
-    → s.pending ≡ insert_all event_before (filter (λ e. e.dst % s.workers == s.worker) (opening_events s.case.scenes)) []
+    → s.timelines ≡ map (opening_timeline s.case s.keeps) (routers s)
+    → s.pending ≡ insert_all event_before (filter (λ e. owner s.workers e.dst == s.worker) (opening_events s.case.scenes)) []
     → s.kept ≡ [] → s.outgoing ≡ [] → s.bound ≡ 0 → IsBegun s
 begun s case worker timelines pending kept outgoing bound = record {
   case = case;
@@ -72,31 +70,15 @@ begun s case worker timelines pending kept outgoing bound = record {
 }
 
 module _ (s : Shard) (is : IsBegun s) where
-  abbrev count : ℕ
-  count = div_ceil (s.case.net.nodes - s.worker) s.workers
-
-  router_at : (r : ℕ) → owns s r ≡ true → s.worker + s.workers * place s r ≡ r
-  router_at r mine = let whole = div-add-mod r s.workers in let rest = (owns_parts s r mine).1 in omega arith
-
-  -- there is a place for each of its routers
-  place_within : (r : ℕ) → owns s r ≡ true → place s r < count
-  place_within r mine =
-      elim (cases_Bool (nat_lt (place s r) count)) [
-        | inl within ↦ ltb-true (place s r) count within
-        | inr beyond ↦
-            let router = router_at r mine in
-            let below = (owns_parts s r mine).0 in
-            let more : s.workers * count ≤ s.workers * place s r = mul-le-mul_left s.workers (ltb-false (place s r) count beyond) in
-            let enough = (div_ceil_times (s.case.net.nodes - s.worker) s.workers (let h = is.worker in omega arith)).0 in
-            absurd (omega arith)
-      ]
+  -- there is a place for each of its routers, with that router as it begins
+  there : (r : ℕ) → owns s r ≡ true → (place s r < length s.timelines) × (timeline s r ≡ opening_timeline s.case s.keeps r)
+  there r mine =
+      subst (λ ts. (place s r < length ts) × (get_or ts (place s r) no_timeline ≡ opening_timeline s.case s.keeps r)) (sym is.timelines)
+      (read_there (opening_timeline s.case s.keeps) (routers s) (place s r) r no_timeline (listed s is.worker r mine))
 
   -- each of them is as it begins
   pub opened : (r : ℕ) → owns s r ≡ true → timeline s r ≡ opening_timeline s.case s.keeps r
-  opened r mine =
-      let f = λ (k : ℕ). opening_timeline s.case s.keeps (s.worker + s.workers * k) in
-      ap (λ l. get_or l (place s r) no_timeline) is.timelines
-      ∙ (get_or-map-range_with_len f 0 count (place s r) (place s r) no_timeline (place_within r mine) (omega arith) ∙ ap (opening_timeline s.case s.keeps) (router_at r mine))
+  opened r mine = (there r mine).1
 
   -- what is read of each router is what is there where there is none
   read_opened : {A : Type 0} (read : Timeline → A) (none : A) → ((r : ℕ) → read (opening_timeline s.case s.keeps r) ≡ none)
@@ -112,10 +94,7 @@ module _ (s : Shard) (is : IsBegun s) where
     case = is.case;
     worker = is.worker;
     routers = λ r mine. record {
-      within =
-          let place = place_within r mine in
-          let long = ap length is.timelines ∙ length-map-range_with_len (λ (k : ℕ). opening_timeline s.case s.keeps (s.worker + s.workers * k)) 0 count in
-          omega arith;
+      within = (there r mine).0;
       net = ap (λ t. t.net) (opened r mine);
       node = ap (λ t. t.node) (opened r mine);
       done = let done = ap (λ t. t.done) (opened r mine) in omega arith;
@@ -124,7 +103,7 @@ module _ (s : Shard) (is : IsBegun s) where
     };
     pending =
         let P = λ (e : Event). suits s.case.net e.dst e ≡ true in
-        let own = λ (e : Event). e.dst % s.workers == s.worker in
+        let own = λ (e : Event). owner s.workers e.dst == s.worker in
         subst (AllByRecursion P) (sym is.pending)
         (all_inserted P (filter own (opening_events s.case.scenes)) [] (all-filter event_before event_same P own (opening_events s.case.scenes) (opening_suits s.case is.case)) tt);
   }

@@ -1,5 +1,5 @@
 -- One worker's routers, seen as a machine of their own (after Jefferson, Virtual Time, 1985).
-use Rattle.std.specs.Prelude.{ℕ, ◌≡◌, ◌<◌, ◌≤◌, ◌/◌, ◌%◌, ◌==◌, Bool, true, false, ◌&&◌, List, [], ◌∷◌, ◌++◌, filter, length, map, nat_lt, slice_index_or, slice_set, Some, Result, Err, if◌then◌else◌}
+use Rattle.std.specs.Prelude.{ℕ, ◌≡◌, ◌<◌, ◌≤◌, ◌==◌, Bool, true, false, ◌&&◌, List, [], ◌∷◌, ◌++◌, filter, length, map, nat_lt, slice_index_or, slice_set, Some, Result, Err, if◌then◌else◌}
 use Rattle.std.specs.List.{AllByRecursion}
 use Rattle.tw_core.specs.declared.refusal.Refusal.{Refusal}
 use Rattle.tw_core.specs.declared.refusal.Refusal.TheVariants.{NotMine}
@@ -14,6 +14,7 @@ use Rattle.tw_shard.specs.Past.{run_of}
 use Rattle.tw_shard.specs.Timeline.{Timeline, history, sends_after, signed}
 use Rattle.tw_sim.specs.declared.machine.Signed.{Signed}
 use Rattle.tw_sim.specs.Ordered.{insert, insert_all, take_out}
+use Rattle.tw_sim.specs.Owners.{own_place, own_routers, owner}
 use Rattle.tw_sim.specs.Simulation.{IsFalling, below}
 
 -- the routers of one of so many workers, with what waits for them and what they have sent
@@ -32,13 +33,17 @@ pub record Shard : Type 0 where
   -- whether its routers keep their committed events
   pub keeps : Bool
 
--- whether r is one of its routers: routers are dealt out to workers in turn
+-- whether r is one of its routers
 abbrev pub owns : Shard → ℕ → Bool
-owns s r = nat_lt r s.case.net.nodes && (r % s.workers == s.worker)
+owns s r = nat_lt r s.case.net.nodes && (owner s.workers r == s.worker)
+
+-- its routers, in rising order
+abbrev pub routers : Shard → List ℕ
+routers s = own_routers s.workers s.worker s.case.net.nodes
 
 -- where the timeline of router r stands
 abbrev pub place : Shard → ℕ → ℕ
-place s r = r / s.workers
+place s r = own_place s.workers r
 
 -- what stands where there is no router
 abbrev pub no_timeline : Timeline
@@ -86,7 +91,7 @@ core stop s = record {
 abbrev pub opening_core : Case → ℕ → ℕ → ℕ → Core Event
 opening_core case worker workers stop = record {
   history = λ r. [];
-  pending = insert_all event_before (filter (λ e. e.dst % workers == worker) (opening_events case.scenes)) [];
+  pending = insert_all event_before (filter (λ e. owner workers e.dst == worker) (opening_events case.scenes)) [];
   kept = [];
   flight = [];
   done = λ r. 0;

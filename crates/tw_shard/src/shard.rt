@@ -1,4 +1,4 @@
-ghost use Rattle.std.specs.Prelude.{◌≡◌, ◌≤◌, ◌<◌, ◌/◌, [], length, max, slice_get, slice_index_or, slice_set, true, false, ℕ, IfOk, IfNone, IfSome, IsErrOf, IsTrue, OnErr, OnOk, ◌↔◌, Err, Ok, ◌++◌, ◌∷◌, map, List};
+ghost use Rattle.std.specs.Prelude.{◌≡◌, ◌≤◌, ◌<◌, [], length, max, slice_get, slice_index_or, slice_set, true, false, ℕ, IfOk, IfNone, IfSome, IsErrOf, IsTrue, OnErr, OnOk, ◌↔◌, Err, Ok, ◌++◌, ◌∷◌, map, List};
 ghost use Rattle.tw_core.specs.declared.refusal.Refusal.{Refusal as ARefusal};
 ghost use Rattle.std.specs.Option.{option_copied};
 ghost use Rattle.std.specs.Result.{result_and};
@@ -13,7 +13,7 @@ ghost use Rattle.tw_model.specs.declared.memory.OrMemory.TheVariants as or_memor
 ghost use Rattle.tw_model.specs.Case.{simulation};
 ghost use Rattle.tw_model.specs.Effect.{fits, suits};
 ghost use Rattle.tw_model.specs.Rules.{IsNet};
-ghost use Rattle.tw_shard.specs.Shard.{IsSameShare, IsUndone, IsWhole, IsNext, core, handled_at, handling, no_timeline, owns, place, timeline, undoing};
+ghost use Rattle.tw_shard.specs.Shard.{IsSameShare, IsUndone, IsWhole, IsNext, core, handled_at, handling, no_timeline, owns, place, routers, timeline, undoing};
 ghost use Rattle.tw_shard.specs.Timeline.{history, router_of, sends_after, signed};
 
 mod committing;
@@ -31,7 +31,7 @@ use tw_instance::{Case, Instance};
 use tw_model::OrMemory;
 use tw_queue::Pending;
 use tw_router::Router;
-use tw_sim::Signed;
+use tw_sim::{Routers, Signed, own_place, owner};
 
 /// One worker's routers, which run ahead of the others and are rolled back.
 #[derive(Drop)]
@@ -82,7 +82,16 @@ impl<'a> Shard<'a> {
         ensures value { result ≡ owns self.now router }
         ensures whole { IsWhole self.now }
     {
-        router < self.case.instance().nodes() && router % self.workers == self.worker
+        router < self.case.instance().nodes()
+            && owner(router, self.workers as usize) == self.worker as usize
+    }
+
+    /// Its routers, in rising order.
+    pub fn routers(&self) -> Routers
+        ensures value { result ≡ routers self.now }
+        ensures whole { IsWhole self.now }
+    {
+        Routers::new(self.worker, self.workers, self.case.instance().nodes())
     }
 
     /// Where the timeline of one of its routers stands.
@@ -92,7 +101,7 @@ impl<'a> Shard<'a> {
         ensures within { result < length self.now.timelines }
         ensures whole { IsWhole self.now }
     {
-        (router / self.workers) as usize
+        own_place(router, self.workers as usize)
     }
 
     /// The timeline of one of its routers.

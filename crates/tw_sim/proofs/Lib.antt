@@ -6,3 +6,4 @@ pub mod Rising
 pub mod Least
 pub mod Unique
 pub mod Closed
+pub mod Dealing

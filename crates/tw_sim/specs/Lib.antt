@@ -2,3 +2,5 @@ pub mod Ordered
 pub mod Rising
 pub mod Simulation
 pub mod Seq
+pub mod Owners
+pub mod Left

@@ -4,11 +4,13 @@
 //! The definitions stand in `specs/`, over any `Simulation` that keeps the laws `IsLawful` and
 //! `IsNumbered`. Proved, and told by the functions of `laws`: the sequential run to each time ends and
 //! is closed, and no other list of events and no other histories are. Nothing here names a kind of
-//! event, so that a new kind never checks it again. The only code is plain data: signed messages, and
-//! the steps of a machine that runs ahead.
+//! event, so that a new kind never checks it again. The only code is plain data, signed messages and
+//! the steps of a machine that runs ahead, and which worker has a router.
 #![tactic(auto)]
 
 pub mod laws;
 mod machine;
+mod owners;
 
 pub use machine::{Signed, Step};
+pub use owners::{Routers, own_place, owner};

@@ -1,11 +1,12 @@
 -- New shares keep the rule with a new exchange.
-use Rattle.std.proofs.Common.{◌≡◌, ℕ, zero, suc, ◌+◌, ◌<◌, ◌==◌, ◌%◌, ◌&&◌, cond, List, [], ◌∷◌, Option, Some, filter, flat_map, length, map, replicate, refl, ap, sym, ◌∙◌, subst, inl, inr, arith, nat_lt}
+use Rattle.std.proofs.Common.{◌≡◌, ℕ, zero, suc, ◌+◌, ◌<◌, ◌==◌, ◌&&◌, cond, List, [], ◌∷◌, Option, Some, filter, flat_map, length, map, replicate, refl, ap, sym, ◌∙◌, subst, inl, inr, arith, nat_lt}
 use Rattle.std.proofs.lemmas.Bool.{cases_Bool, lt-ltb}
 use Rattle.std.specs.List.{AllByRecursion, range_with_len}
 use Rattle.tw_core.specs.Machine.{Core}
 use Rattle.tw_event.specs.declared.event.Event.{Event}
 use Rattle.tw_event.specs.Order.{event_before}
-use Rattle.tw_exchange.specs.Board.{opening, owner}
+use Rattle.tw_exchange.specs.Board.{opening}
+use Rattle.tw_sim.specs.Owners.{owner}
 use Rattle.tw_model.proofs.Lawful.{lawful}
 use Rattle.tw_model.specs.Case.{Case, IsCase, opening_events, simulation}
 use Rattle.tw_rule.proofs.Opens.{rule_opens}
@@ -35,20 +36,20 @@ module _ (case : Case) (is : IsCase case) (n : ℕ) where
       let m = simulation case in
       let law = lawful case is in
       let all = opening_events case.scenes in
-      let mine = filter (λ x. x.dst % n == k) all in
+      let mine = filter (λ x. owner n x.dst == k) all in
       let pending : times m e s.shard.pending ≡ times m e (insert_all event_before mine []) = ap (λ (C : Core Event). times m e C.pending) (new.core_is 0) in
       let count = times-insert_all m e mine [] in
-      elim (cases_Bool (e.dst % n == k)) [
-        | inl here ↦ (let own = times-filter-yes m law (λ x. x.dst % n == k) e all here in rw here (omega arith))
-        | inr other ↦ (let none = times-filter-no m law (λ x. x.dst % n == k) e all other in rw other (omega arith))
+      elim (cases_Bool (owner n e.dst == k)) [
+        | inl here ↦ (let own = times-filter-yes m law (λ x. owner n x.dst == k) e all here in rw here (omega arith))
+        | inr other ↦ (let none = times-filter-no m law (λ x. owner n x.dst == k) e all other in rw other (omega arith))
       ]
 
   -- it has the routers of its worker
   has_own : (k : ℕ) (s : Share) (r : ℕ) → IsNew case k n s → r < case.net.nodes → owns s.shard r ≡ (owner n r == k)
   has_own k s r new below =
-      ap (λ (c : Case). nat_lt r c.net.nodes && (r % s.shard.workers == s.shard.worker)) new.case_is
-      ∙ (ap (λ b. b && (r % s.shard.workers == s.shard.worker)) (lt-ltb r case.net.nodes below)
-      ∙ (ap (λ j. r % j == s.shard.worker) new.count ∙ ap (λ w. r % n == w) new.worker))
+      ap (λ (c : Case). nat_lt r c.net.nodes && (owner s.shard.workers r == s.shard.worker)) new.case_is
+      ∙ (ap (λ b. b && (owner s.shard.workers r == s.shard.worker)) (lt-ltb r case.net.nodes below)
+      ∙ (ap (λ j. owner j r == s.shard.worker) new.count ∙ ap (λ w. owner n r == w) new.worker))
 
   new_place : (k : ℕ) (s : Share) → IsNew case k n s → IsOpeningPlace (simulation case) (owner n) k (place_of s)
   new_place k s new = record {

@@ -6,7 +6,8 @@ use Rattle.std.specs.List.{AllByRecursion}
 use Rattle.tw_core.specs.Good.{times_there}
 use Rattle.tw_core.specs.Parts.{times_wanted, total}
 use Rattle.tw_event.specs.declared.event.Event.{Event}
-use Rattle.tw_exchange.specs.Board.{Board, IsBoard, all_mail, owner, workers}
+use Rattle.tw_exchange.specs.Board.{Board, IsBoard, all_mail, workers}
+use Rattle.tw_sim.specs.Owners.{owner}
 use Rattle.tw_model.proofs.Lawful.{lawful, numbered}
 use Rattle.tw_model.specs.Case.{Case, IsCase, simulation}
 use Rattle.tw_rule.proofs.Gives.{rule_gives}

@@ -8,7 +8,8 @@ use Rattle.tw_core.specs.Machine.{antimessages, messages}
 use Rattle.tw_event.specs.declared.event.Event.{Event}
 use Rattle.tw_exchange.proofs.Boards.{handed_home}
 use Rattle.tw_exchange.proofs.Weights.{nothing_lost}
-use Rattle.tw_exchange.specs.Board.{Board, IsBoard, all_mail, handed, is_early, is_for, owner, visited, workers}
+use Rattle.tw_exchange.specs.Board.{Board, IsBoard, all_mail, handed, is_early, is_for, visited, workers}
+use Rattle.tw_sim.specs.Owners.{owner}
 use Rattle.tw_model.proofs.Lawful.{lawful}
 use Rattle.tw_model.specs.Case.{Case, IsCase, simulation}
 use Rattle.tw_rule.specs.Board.{IsVisit, times_among}

@@ -6,7 +6,8 @@ use Rattle.tw_core.specs.Machine.{antimessages, messages}
 use Rattle.tw_core.specs.Parts.{times_wanted}
 use Rattle.tw_core.specs.Run.{IsSeq}
 use Rattle.tw_event.specs.declared.event.Event.{Event}
-use Rattle.tw_exchange.specs.Board.{Board, all_mail, owner, workers}
+use Rattle.tw_exchange.specs.Board.{Board, all_mail, workers}
+use Rattle.tw_sim.specs.Owners.{owner}
 use Rattle.tw_model.specs.Case.{Case, IsCase, simulation}
 use Rattle.tw_rule.specs.Board as rule
 use Rattle.tw_rule.specs.Place.{Place, whole}

@@ -3,7 +3,8 @@
 ghost use Rattle.std.specs.Prelude.{ℕ, ◌≡◌, ◌<◌, ◌≤◌, false, List, Option, Some, length, map, slice_get};
 ghost use Rattle.std.specs.List.{range_with_len};
 ghost use Rattle.tw_event.specs.declared.event.Event.{Event};
-ghost use Rattle.tw_exchange.specs.Board.{Board, IsBoard, handed, is_early, opening, owner, visited, workers};
+ghost use Rattle.tw_exchange.specs.Board.{Board, IsBoard, handed, is_early, opening, visited, workers};
+ghost use Rattle.tw_sim.specs.Owners.{owner};
 ghost use Rattle.tw_model.specs.Case.{Case, IsCase, simulation};
 ghost use Rattle.tw_rule.specs.Board.{IsVisit};
 ghost use Rattle.tw_rule.specs.Place.{IsRunBefore};

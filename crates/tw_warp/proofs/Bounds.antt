@@ -1,5 +1,5 @@
 -- The least time of all that is loose.
-use Rattle.std.proofs.Common.{◌≡◌, ℕ, ◌+◌, ◌<◌, ◌≤◌, ◌%◌, List, [], ◌∷◌, ◌++◌, flat_map, fold, length, map, min, drop, get_or, Ok, refl, ap, sym, ◌∙◌, subst, inl, inr, arith}
+use Rattle.std.proofs.Common.{◌≡◌, ℕ, ◌+◌, ◌<◌, ◌≤◌, List, [], ◌∷◌, ◌++◌, flat_map, fold, length, map, min, drop, get_or, Ok, refl, ap, sym, ◌∙◌, subst, inl, inr, arith}
 use Rattle.std.specs.List.{reduce}
 use Rattle.std.specs.Option.{option_map_or}
 use Rattle.std.proofs.Math.Path.{fun_ext}
@@ -21,6 +21,7 @@ use Rattle.tw_model.specs.Case.{Case, simulation}
 use Rattle.tw_shard.specs.Shard.{Shard}
 use Rattle.tw_shard.specs.Shard as share
 use Rattle.tw_sim.specs.declared.machine.Step.TheVariants.{Bound}
+use Rattle.tw_sim.specs.Owners.{owner}
 use Rattle.tw_sim.specs.Ordered.{insert_all}
 use Rattle.tw_sim.specs.Simulation.{one}
 use Rattle.tw_warp.specs.Bounds.{least_of_all, raised}
@@ -149,7 +150,7 @@ module _ (w : Warp) (is : IsWarp w) (bound : ℕ) where
       → ◌≡◌ {A = ℕ → A} (λ r. read (shard_of (at_bound w bound) (worker_of (at_bound w bound) r)) r) (λ r. read (shard_of w (worker_of w r)) r)
   read_raised read same =
       fun_ext (λ r.
-      let at : worker_of (at_bound w bound) r ≡ worker_of w r = ap (λ n. r % n) count in
+      let at : worker_of (at_bound w bound) r ≡ worker_of w r = ap (λ n. owner n r) count in
       ap (λ k. read (shard_of (at_bound w bound) k) r) at ∙ (ap (λ s. read s r) (shard_raised (worker_of w r) (has_worker w is r)) ∙ same (shard_of w (worker_of w r)) r))
 
   -- the machine with another bound

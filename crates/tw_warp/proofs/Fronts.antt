@@ -15,6 +15,9 @@ use Rattle.tw_shard.specs.Commit.{committing}
 use Rattle.tw_shard.specs.Shard.{Shard, core, handling, owns, undoing}
 use Rattle.tw_sim.specs.declared.machine.Signed.{Signed}
 use Rattle.tw_sim.specs.Simulation.{Simulation, state}
+use Rattle.tw_warp.specs.Calls.{calling}
+use Rattle.tw_warp.specs.declared.calls.RouterCall.{RouterCall}
+use Rattle.tw_warp.specs.declared.calls.RouterCall.TheVariants.{Commit, Handle, Undo}
 use Rattle.tw_warp.specs.Warp.{behind}
 
 module _ {E : Type 0} (front : List (Signed E)) where
@@ -79,20 +82,25 @@ module _ (front : List (Signed Event)) where
   abbrev pub IsBlindTo : (Shard → Result (Core Event) Refusal) → Type 0
   IsBlindTo call = (s : Shard) (xs : List (Signed Event)) → call (behind s (front ++ xs)) ≡ outcome_fronted front (call (behind s xs))
 
-  pub handling_blind : (stop r : ℕ) → IsBlindTo (λ s. handling stop s r)
+  handling_blind : (stop r : ℕ) → IsBlindTo (λ s. handling stop s r)
   handling_blind stop r s xs =
       let m = simulation s.case in
       let C = core stop (behind s xs) in
       ap (λ o. if owns s r then o else Err NotMine) (handle_fronted front m C r (first_pending m C r)) ∙ own_fronted front (owns s r) (handle m C r (first_pending m C r))
 
-  pub undoing_blind : (stop r : ℕ) → IsBlindTo (λ s. undoing stop s r)
+  undoing_blind : (stop r : ℕ) → IsBlindTo (λ s. undoing stop s r)
   undoing_blind stop r s xs =
       let m = simulation s.case in
       let C = core stop (behind s xs) in
       ap (λ o. if owns s r then o else Err NotMine) (undo_fronted front m C r (C.history r)) ∙ own_fronted front (owns s r) (undo m C r (C.history r))
 
-  pub committing_blind : (stop r : ℕ) → IsBlindTo (λ s. committing stop s r)
+  committing_blind : (stop r : ℕ) → IsBlindTo (λ s. committing stop s r)
   committing_blind stop r s xs = let m = simulation s.case in let C = core stop (behind s xs) in own_fronted front (owns s r) (Ok (with_commit m C r))
+
+  pub calling_blind : (call : RouterCall) (stop r : ℕ) → IsBlindTo (λ s. calling call stop s r)
+  calling_blind Handle stop r = handling_blind stop r
+  calling_blind Undo stop r = undoing_blind stop r
+  calling_blind Commit stop r = committing_blind stop r
 
   -- a shard s is lent these messages xs of all, is then the one called, and gives them back as ys
   module _ (s lent called back : Shard) (xs ys all : List (Signed Event)) (put : lent ≡ behind s xs) (taken : behind back ys ≡ called) (was : front ++ xs ≡ all) (stop : ℕ) where

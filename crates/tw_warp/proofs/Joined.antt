@@ -1,5 +1,5 @@
 -- The machine as one worker's shard beside the rest of it.
-use Rattle.std.proofs.Common.{◌≡◌, ℕ, zero, suc, ◌+◌, ◌<◌, ◌==◌, ◌%◌, cond, List, [], ◌∷◌, ◌++◌, flat_map, length, set, get_or, length-set, refl, ap, sym, ◌∙◌, inl, inr, arith}
+use Rattle.std.proofs.Common.{◌≡◌, ℕ, zero, suc, ◌+◌, ◌<◌, ◌==◌, cond, List, [], ◌∷◌, ◌++◌, flat_map, length, set, get_or, length-set, refl, ap, sym, ◌∙◌, inl, inr, arith}
 use Rattle.std.proofs.Math.Path.{fun_ext}
 use Rattle.std.proofs.lemmas.Bool.{cases_eq, eq-eqb, eqb-true, ne_eqb}
 use Rattle.std.proofs.lemmas.List.{get_or-set_other, get_or-set_same}
@@ -10,6 +10,7 @@ use Rattle.tw_model.proofs.Lawful.{lawful}
 use Rattle.tw_shard.specs.Shard.{IsSameShare, Shard, owns}
 use Rattle.tw_shard.specs.Shard as share
 use Rattle.tw_sim.specs.declared.machine.Signed.{Signed}
+use Rattle.tw_sim.specs.Owners.{owner}
 use Rattle.tw_sim.specs.Ordered.{times}
 use Rattle.tw_sim.proofs.Counts.{none, times-append}
 use Rattle.tw_warp.specs.Warp.{IsShare, Warp, core, no_shard, shard_of, worker_of}
@@ -92,7 +93,7 @@ module _ (w : Warp) (is : IsCase w.case) (k : ℕ) (within : k < length w.shards
       (λ r. cond (worker_of w r == k) (read s r) (read (shard_of w (worker_of w r)) r))
   read_with read s flight =
       fun_ext (λ r.
-      let same : worker_of (with_shard w k s flight) r ≡ worker_of w r = ap (λ n. r % n) (length-set w.shards k s) in
+      let same : worker_of (with_shard w k s flight) r ≡ worker_of w r = ap (λ n. owner n r) (length-set w.shards k s) in
       ap (λ j. read (get_or (set w.shards k s) j no_shard) r) same
       ∙ elim (cases_eq (worker_of w r) k) [
         | inl here ↦ rw (eq-eqb (worker_of w r) k here) (ap (λ t. read t r) (ap (λ j. get_or (set w.shards k s) j no_shard) here ∙ get_or-set_same w.shards k s no_shard within))

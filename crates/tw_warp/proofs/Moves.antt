@@ -1,5 +1,5 @@
 -- What a call at one worker's shard leaves of the machine.
-use Rattle.std.proofs.Common.{◌≡◌, ℕ, suc, ◌<◌, ◌≤◌, ◌==◌, ◌%◌, ◌&&◌, Bool, true, false, List, [], ◌++◌, length, set, get_or, remove, nat_lt, slice_get, Some, Result, Ok, Err, length-set, if◌then◌else◌, refl, ap, sym, ◌∙◌, subst, inl, inr, arith}
+use Rattle.std.proofs.Common.{◌≡◌, ℕ, suc, ◌<◌, ◌≤◌, ◌==◌, ◌&&◌, Bool, true, false, List, [], ◌++◌, length, set, get_or, remove, nat_lt, slice_get, Some, Result, Ok, Err, length-set, if◌then◌else◌, refl, ap, sym, ◌∙◌, subst, inl, inr, arith}
 use Rattle.std.proofs.lemmas.Bool.{cases_Bool, cases_eq, eq-eqb, le-ltb, lt-ltb}
 use Rattle.std.proofs.lemmas.List.{append-nil, get_or-set_other, get_or-set_same}
 use Rattle.std.proofs.lemmas.List.Edits.{remove-append_left}
@@ -22,6 +22,7 @@ use Rattle.tw_shard.specs.declared.rejection.Rejection.TheVariants as rejection
 use Rattle.tw_shard.specs.declared.rejection.Rejection.TheVariants.{Foreign, Late}
 use Rattle.tw_shard.specs.Shard.{IsSameShare, Shard, handling, owns, undoing}
 use Rattle.tw_shard.specs.Shard as share
+use Rattle.tw_sim.specs.Owners.{owner}
 use Rattle.tw_sim.specs.declared.machine.Signed.{Signed}
 use Rattle.tw_sim.specs.declared.machine.Step.TheVariants.{Commit, Handle, Undo, Deliver}
 use Rattle.tw_sim.specs.Simulation.{IsLawful}
@@ -58,7 +59,7 @@ module _ (w : Warp) (is : IsWarp w) where
     pub lent_owns : (r : ℕ) → worker_of w r ≡ k → owns (lent w k) r ≡ nat_lt r w.case.net.nodes
     lent_owns r mine =
         let own = is.shares k within in
-        let at : (r % (shard_of w k).workers == (shard_of w k).worker) ≡ true = (λ i. r % own.workers i == own.worker i) ∙ eq-eqb (worker_of w r) k mine in
+        let at : (owner (shard_of w k).workers r == (shard_of w k).worker) ≡ true = (λ i. owner (own.workers i) r == own.worker i) ∙ eq-eqb (worker_of w r) k mine in
         (λ i. nat_lt r (own.case i).net.nodes && at i) ∙ elim (cases_Bool (nat_lt r w.case.net.nodes)) [
           | inl there ↦ rw there refl
           | inr none ↦ rw none refl
@@ -68,7 +69,7 @@ module _ (w : Warp) (is : IsWarp w) where
     bare : (r : ℕ) → (worker_of w r == k) ≡ false → (share.core w.stop (lent w k)).history r ≡ []
     bare r other =
         let own = is.shares k within in
-        let at : (r % (shard_of w k).workers == (shard_of w k).worker) ≡ false = (λ i. r % own.workers i == own.worker i) ∙ other in
+        let at : (owner (shard_of w k).workers r == (shard_of w k).worker) ≡ false = (λ i. owner (own.workers i) r == own.worker i) ∙ other in
         let none : owns (lent w k) r ≡ false = elim (cases_Bool (nat_lt r (shard_of w k).case.net.nodes)) [
           | inl there ↦ rw (there, at) refl
           | inr absent ↦ rw absent refl
@@ -164,8 +165,8 @@ module _ (w : Warp) (is : IsWarp w) where
         ∙ sym (ap (λ (V : Core Event). record V { flight = remove V.flight j }) reached)))
 
 -- by as many workers
-pub own_as : (case : Case) (j n p : ℕ) (C : Core Event) → n ≡ p → IsOwn (simulation case) (λ r. r % n == j) C → IsOwn (simulation case) (λ r. r % p == j) C
-own_as case j n p C is own = subst (λ q. IsOwn (simulation case) (λ r. r % q == j) C) is own
+pub own_as : (case : Case) (j n p : ℕ) (C : Core Event) → n ≡ p → IsOwn (simulation case) (λ r. owner n r == j) C → IsOwn (simulation case) (λ r. owner p r == j) C
+own_as case j n p C is own = subst (λ q. IsOwn (simulation case) (λ r. owner q r == j) C) is own
 
 -- the machine with another shard of worker k, which has what is for its routers, is one again where it is good
 pub next_is : (w : Warp) (is : IsWarp w) (k : ℕ) (s : Shard) (flight : List (Signed Event)) → k < length w.shards → IsSameShare (shard_of w k) s → s.bound ≡ w.bound

@@ -1,5 +1,5 @@
 -- A machine whose shards begin is one that begins.
-use Rattle.std.proofs.Common.{◌≡◌, ℕ, suc, ◌+◌, ◌<◌, ◌≤◌, ◌==◌, ◌%◌, true, cond, List, [], ◌∷◌, ◌++◌, filter, flat_map, get_or, length, refl, ap, sym, ◌∙◌, subst, inl, inr, arith}
+use Rattle.std.proofs.Common.{◌≡◌, ℕ, suc, ◌+◌, ◌<◌, ◌≤◌, ◌==◌, true, cond, List, [], ◌∷◌, ◌++◌, filter, flat_map, get_or, length, refl, ap, sym, ◌∙◌, subst, inl, inr, arith}
 use Rattle.std.proofs.lemmas.Bool.{cases_Bool, cases_eq, eq-eqb, ne_eqb}
 use Rattle.tw_core.specs.Machine.{Core, IsOpening}
 use Rattle.tw_core.specs.Parts.{IsOwn}
@@ -10,6 +10,7 @@ use Rattle.tw_model.specs.Case.{Case, IsCase, opening_events, simulation}
 use Rattle.tw_model.specs.declared.limits.TheConstants.{LATEST}
 use Rattle.tw_model.proofs.Lawful.{lawful}
 use Rattle.tw_shard.specs.Shard.{Shard}
+use Rattle.tw_sim.specs.Owners.{owner}
 use Rattle.tw_sim.specs.Ordered.{insert_all}
 use Rattle.tw_sim.specs.Simulation.{times}
 use Rattle.tw_sim.proofs.Counts.{in_filter, times-append, times-filter-no, times-filter-yes, times-insert_all}
@@ -21,39 +22,39 @@ use Rattle.tw_warp.specs.Warp.{IsWarp, Warp, core, no_shard, shard_of, worker_of
 module _ (case : Case) (is : IsCase case) (n : ℕ) where
   -- how often an event waits at a shard that begins
   pub waits : (k : ℕ) (s : Shard) (e : Event) → IsOpened case k n s
-      → times (simulation case) e s.pending ≡ cond (e.dst % n == k) (times (simulation case) e (opening_events case.scenes)) 0
+      → times (simulation case) e s.pending ≡ cond (owner n e.dst == k) (times (simulation case) e (opening_events case.scenes)) 0
   waits k s e at =
       let m = simulation case in
       let law = lawful case is in
       let all = opening_events case.scenes in
-      let mine = filter (λ x. x.dst % n == k) all in
+      let mine = filter (λ x. owner n x.dst == k) all in
       let pending : times m e s.pending ≡ times m e (insert_all event_before mine []) = ap (λ (C : Core Event). times m e C.pending) (at.core_is 0) in
       let count = times-insert_all m e mine [] in
-      elim (cases_Bool (e.dst % n == k)) [
-        | inl here ↦ (let own = times-filter-yes m law (λ x. x.dst % n == k) e all here in rw here (omega arith))
-        | inr other ↦ (let none = times-filter-no m law (λ x. x.dst % n == k) e all other in rw other (omega arith))
+      elim (cases_Bool (owner n e.dst == k)) [
+        | inl here ↦ (let own = times-filter-yes m law (λ x. owner n x.dst == k) e all here in rw here (omega arith))
+        | inr other ↦ (let none = times-filter-no m law (λ x. owner n x.dst == k) e all other in rw other (omega arith))
       ]
 
   -- over shards from number a on, it waits once for its receiver's worker
   pub all_wait : (e : Event) (ss : List Shard) (a : ℕ) → ((j : ℕ) → j < length ss → IsOpened case (a + j) n (get_or ss j no_shard))
-      → (a ≤ e.dst % n → e.dst % n < a + length ss → times (simulation case) e (flat_map (λ s. s.pending) ss) ≡ times (simulation case) e (opening_events case.scenes))
-      × (e.dst % n < a → times (simulation case) e (flat_map (λ s. s.pending) ss) ≡ 0)
+      → (a ≤ owner n e.dst → owner n e.dst < a + length ss → times (simulation case) e (flat_map (λ s. s.pending) ss) ≡ times (simulation case) e (opening_events case.scenes))
+      × (owner n e.dst < a → times (simulation case) e (flat_map (λ s. s.pending) ss) ≡ 0)
   all_wait e [] a each = ((λ from to. absurd (omega arith)), (λ before. refl))
   all_wait e (s ∷ ss) a each =
       let m = simulation case in
       let first = waits a s e (subst (λ k. IsOpened case k n s) (omega arith) (each 0 (omega arith))) in
       let rest = all_wait e ss (a + 1) (λ j h. subst (λ k. IsOpened case k n (get_or ss j no_shard)) (omega arith) (each (suc j) (omega arith))) in
       let both : times m e (flat_map (λ s. s.pending) (s ∷ ss)) ≡ times m e s.pending + times m e (flat_map (λ s. s.pending) ss) = times-append m e s.pending (flat_map (λ s. s.pending) ss) in (
-        (λ from to. elim (cases_eq (e.dst % n) a) [
+        (λ from to. elim (cases_eq (owner n e.dst) a) [
           | inl here ↦ (
-              let own : times m e s.pending ≡ times m e (opening_events case.scenes) = first ∙ ap (λ b. cond b (times m e (opening_events case.scenes)) 0) (eq-eqb (e.dst % n) a here) in
+              let own : times m e s.pending ≡ times m e (opening_events case.scenes) = first ∙ ap (λ b. cond b (times m e (opening_events case.scenes)) 0) (eq-eqb (owner n e.dst) a here) in
               let none = rest.1 (omega arith) in omega arith)
           | inr other ↦ (
-              let none : times m e s.pending ≡ 0 = first ∙ ap (λ b. cond b (times m e (opening_events case.scenes)) 0) (ne_eqb (e.dst % n) a other) in
+              let none : times m e s.pending ≡ 0 = first ∙ ap (λ b. cond b (times m e (opening_events case.scenes)) 0) (ne_eqb (owner n e.dst) a other) in
               let own = rest.0 (grind arith) (omega arith) in omega arith)
         ]),
         (λ before.
-            let none : times m e s.pending ≡ 0 = first ∙ ap (λ b. cond b (times m e (opening_events case.scenes)) 0) (ne_eqb (e.dst % n) a (λ same. omega arith)) in
+            let none : times m e s.pending ≡ 0 = first ∙ ap (λ b. cond b (times m e (opening_events case.scenes)) 0) (ne_eqb (owner n e.dst) a (λ same. omega arith)) in
             let more = rest.1 (omega arith) in omega arith),
       )
 
@@ -124,9 +125,9 @@ module _ (w : Warp) (is : IsCase w.case) (some : 0 < length w.shards) (each : (k
               own = subst (IsOwn m (λ r. worker_of w r == k)) (sym (at.core_is w.stop)) (record {
                 history = λ r e none. absurd (omega arith);
                 waiting = λ e there.
-                    let all = filter (λ x. x.dst % length w.shards == k) (opening_events w.case.scenes) in
+                    let all = filter (λ x. owner (length w.shards) x.dst == k) (opening_events w.case.scenes) in
                     let count = times-insert_all m e all [] in
-                    (in_filter m (lawful w.case is) (λ x. x.dst % length w.shards == k) e (opening_events w.case.scenes) (omega arith)).0;
+                    (in_filter m (lawful w.case is) (λ x. owner (length w.shards) x.dst == k) e (opening_events w.case.scenes) (omega arith)).0;
               });
             };
         good = good_opening m (lawful w.case is) (core w) opens;

@@ -27,6 +27,9 @@ use Rattle.tw_sim.specs.declared.machine.Signed.{Signed}
 use Rattle.tw_sim.specs.declared.machine.Step.{Step}
 use Rattle.tw_sim.specs.Simulation.{Simulation}
 use Rattle.tw_sim.specs.declared.machine.Step.TheVariants.{Commit, Handle, Undo}
+use Rattle.tw_warp.specs.Calls.{calling, step_of}
+use Rattle.tw_warp.specs.declared.calls.RouterCall.{RouterCall}
+use Rattle.tw_warp.specs.declared.calls.RouterCall.TheVariants as calls
 use Rattle.tw_warp.specs.Warp.{IsWarp, Warp, behind, core, lent, no_shard, shard_of, worker_of}
 use Rattle.tw_warp.proofs.Joined.{rest, set_same, with_shard}
 use Rattle.tw_warp.proofs.Moves.{lent_owns, commit_step, given_back, handle_step, later, law, next_is, own_lent, part, undo_step}
@@ -172,23 +175,28 @@ module _ (w : Warp) (is : IsWarp w) (k : ℕ) (within : k < length w.shards) whe
     went (Ok u) back = did back.same back.ok ∙ ap (λ v. Ok (core v)) (sym (back_again w is k within s flight none))
     went (Err e) back = tt
 
-  pub handle_outcome : (r : ℕ) → worker_of w r ≡ k → IsOutcome (Handle r) (handling w.stop (lent w k) r)
+  handle_outcome : (r : ℕ) → worker_of w r ≡ k → IsOutcome (Handle r) (handling w.stop (lent w k) r)
   handle_outcome r mine = record {
     step_is = handle_step w is k within r mine;
     called = λ t same went. handled w is k within t r same went;
   }
 
-  pub commit_outcome : (r : ℕ) → worker_of w r ≡ k → IsOutcome (Commit r) (committing w.stop (lent w k) r)
+  commit_outcome : (r : ℕ) → worker_of w r ≡ k → IsOutcome (Commit r) (committing w.stop (lent w k) r)
   commit_outcome r mine = record {
     step_is = commit_step w is k within r mine;
     called = λ t same went. commits w is k within t r same went;
   }
 
-  pub undo_outcome : (r : ℕ) → worker_of w r ≡ k → IsOutcome (Undo r) (undoing w.stop (lent w k) r)
+  undo_outcome : (r : ℕ) → worker_of w r ≡ k → IsOutcome (Undo r) (undoing w.stop (lent w k) r)
   undo_outcome r mine = record {
     step_is = undo_step w is k within r mine;
     called = λ t same went. undone w is k within t r same went;
   }
+
+  pub call_outcome : (call : RouterCall) (r : ℕ) → worker_of w r ≡ k → IsOutcome (step_of call r) (calling call w.stop (lent w k) r)
+  call_outcome calls.Handle r mine = handle_outcome r mine
+  call_outcome calls.Undo r mine = undo_outcome r mine
+  call_outcome calls.Commit r mine = commit_outcome r mine
 
 -- the worker of a router, as the code finds it
 pub worker_there : (w v : Warp) (r k : ℕ) → w ≡ v → k ≡ worker_of v r → worker_of w r ≡ k

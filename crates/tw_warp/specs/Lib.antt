@@ -6,3 +6,4 @@ pub mod Bounds
 pub mod Runs
 pub mod Openings
 pub mod Committed
+pub mod Calls

@@ -1,5 +1,5 @@
 -- All routers of a case, dealt out to workers, as one machine (after Jefferson, Virtual Time, 1985).
-use Rattle.std.specs.Prelude.{ℕ, zero, suc, ◌≡◌, ◌<◌, ◌≤◌, ◌%◌, ◌==◌, true, List, [], length, slice_get, slice_index_or, Option, Some, None}
+use Rattle.std.specs.Prelude.{ℕ, zero, suc, ◌≡◌, ◌<◌, ◌≤◌, ◌==◌, true, List, [], length, slice_get, slice_index_or, Option, Some, None}
 use Rattle.std.specs.List.{flat_map}
 use Rattle.tw_core.specs.Good.{IsGood}
 use Rattle.tw_core.specs.Machine.{Core}
@@ -16,6 +16,7 @@ use Rattle.tw_sim.specs.declared.machine.Signed.{Signed}
 use Rattle.tw_sim.specs.declared.machine.Step.{Step}
 use Rattle.tw_sim.specs.declared.machine.Step.TheVariants.{Handle, Undo, Deliver, Bound, Commit}
 use Rattle.tw_sim.specs.Ordered.{insert_all}
+use Rattle.tw_sim.specs.Owners.{owner}
 use Rattle.tw_sim.specs.Simulation.{Simulation}
 
 pub record Warp : Type 0 where
@@ -33,7 +34,7 @@ shard_of w k = slice_index_or w.shards k no_shard
 
 -- which worker has router r
 abbrev pub worker_of : Warp → ℕ → ℕ
-worker_of w r = r % length w.shards
+worker_of w r = owner (length w.shards) r
 
 -- the machine: what waits, in order
 abbrev pub core : Warp → Core Event

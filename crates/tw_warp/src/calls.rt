@@ -3,11 +3,11 @@ ghost use Rattle.std.specs.Prelude.{◌≡◌, ◌≤◌, ◌<◌, ◌↔◌, �
 ghost use Rattle.tw_core.specs.declared.refusal.Refusal.{Refusal as ARefusal};
 ghost use Rattle.tw_model.specs.declared.limits.TheConstants.{LATEST};
 ghost use Rattle.tw_model.specs.declared.memory.OrMemory.TheVariants as or_memory;
-ghost use Rattle.tw_shard.specs.Shard.{Shard as AShard, IsSameShare, core, handling, undoing};
+ghost use Rattle.tw_shard.specs.Shard.{Shard as AShard, IsSameShare, core};
 ghost use Rattle.tw_core.specs.Steps.{after_arrival};
 ghost use Rattle.tw_model.specs.Case.{simulation};
 ghost use Rattle.tw_shard.specs.Arrival.{IsRolledBack, refusing};
-ghost use Rattle.tw_shard.specs.Commit.{committing};
+ghost use Rattle.tw_warp.specs.Calls.{calling};
 ghost use Rattle.tw_warp.specs.Warp.{behind, no_shard};
 
 use crate::flight::Flight;
@@ -17,16 +17,30 @@ use tw_model::OrMemory;
 use tw_shard::Shard;
 use tw_sim::Signed;
 
-/// A router of a shard handles its first pending event.
-pub(crate) fn handle_on(
+/// A call at one router of a shard. Each is a step of the machine.
+#[derive(Clone, Copy)]
+pub(crate) enum RouterCall {
+    /// It handles its first pending event, if that is before the stop.
+    Handle,
+    /// It undoes the event that it handled last.
+    Undo,
+    /// It commits its events before the bound, and keeps them.
+    Commit,
+}
+
+/// A call at a router of a shard, which sends behind all messages on their way. The stop is at most
+/// 1,000,000,000.
+pub(crate) fn call_on(
     shard: &mut Shard<'_>,
     flight: &mut Flight,
+    call: RouterCall,
     router: u32,
     stop: u64,
 ) -> Result<(), OrMemory<Refusal>>
-    requires { stop ≤ LATEST }
-    ensures ok { OnOk result (handling stop (behind shard.old flight.old) router ≡ Ok (core stop (behind shard.new flight.new))) }
-    ensures refused { (f : ARefusal) → IsErrOf result (or_memory.Fault f) ↔ (handling stop (behind shard.old flight.old) router ≡ Err f) }
+    requires stop { stop ≤ LATEST }
+    requires keeps { shard.old.keeps ≡ true }
+    ensures ok { OnOk result (calling call stop (behind shard.old flight.old) router ≡ Ok (core stop (behind shard.new flight.new))) }
+    ensures refused { (f : ARefusal) → IsErrOf result (or_memory.Fault f) ↔ (calling call stop (behind shard.old flight.old) router ≡ Err f) }
     ensures err { OnErr result (shard.new ≡ shard.old) }
     ensures unsent { OnErr result (flight.new ≡ flight.old) }
     ensures outgoing { shard.new.outgoing ≡ shard.old.outgoing }
@@ -34,29 +48,30 @@ pub(crate) fn handle_on(
 {
     flight.settle();
     shard.swap_outgoing(&mut flight.recent);
-    let outcome = shard.handle_next(router, stop);
+    let outcome = make(call, shard, router, stop);
     shard.swap_outgoing(&mut flight.recent);
     outcome
 }
 
-/// A router of a shard undoes the event that it handled last.
-pub(crate) fn undo_on(
+/// A call at a router of a shard.
+fn make(
+    call: RouterCall,
     shard: &mut Shard<'_>,
-    flight: &mut Flight,
     router: u32,
+    stop: u64,
 ) -> Result<(), OrMemory<Refusal>>
-    ensures ok { (stop : ℕ) → OnOk result (undoing stop (behind shard.old flight.old) router ≡ Ok (core stop (behind shard.new flight.new))) }
-    ensures refused { (stop : ℕ) (f : ARefusal) → IsErrOf result (or_memory.Fault f) ↔ (undoing stop (behind shard.old flight.old) router ≡ Err f) }
+    requires stop { stop ≤ LATEST }
+    requires keeps { shard.old.keeps ≡ true }
+    ensures ok { OnOk result (calling call stop shard.old router ≡ Ok (core stop shard.new)) }
+    ensures refused { (f : ARefusal) → IsErrOf result (or_memory.Fault f) ↔ (calling call stop shard.old router ≡ Err f) }
     ensures err { OnErr result (shard.new ≡ shard.old) }
-    ensures unsent { OnErr result (flight.new ≡ flight.old) }
-    ensures outgoing { shard.new.outgoing ≡ shard.old.outgoing }
     ensures same { IsSameShare shard.old shard.new }
 {
-    flight.settle();
-    shard.swap_outgoing(&mut flight.recent);
-    let outcome = shard.undo_last(router);
-    shard.swap_outgoing(&mut flight.recent);
-    outcome
+    match call {
+        RouterCall::Handle => shard.handle_next(router, stop),
+        RouterCall::Undo => shard.undo_last(router),
+        RouterCall::Commit => shard.commit(router),
+    }
 }
 
 /// A message that may come comes to a shard.
@@ -84,24 +99,4 @@ pub(crate) fn deliver_on(
             OrMemory::Fault(_) => unreachable!(),
         },
     }
-}
-
-/// A router of a shard commits its events before the bound, and keeps them.
-pub(crate) fn commit_on(
-    shard: &mut Shard<'_>,
-    flight: &mut Flight,
-    router: u32,
-) -> Result<(), OrMemory<Refusal>>
-    requires keeps { shard.old.keeps ≡ true }
-    ensures ok { (stop : ℕ) → OnOk result (committing stop (behind shard.old flight.old) router ≡ Ok (core stop (behind shard.new flight.new))) }
-    ensures refused { (stop : ℕ) (f : ARefusal) → IsErrOf result (or_memory.Fault f) ↔ (committing stop (behind shard.old flight.old) router ≡ Err f) }
-    ensures err { OnErr result (shard.new ≡ shard.old) }
-    ensures unsent { OnErr result (flight.new ≡ flight.old) }
-    ensures outgoing { shard.new.outgoing ≡ shard.old.outgoing }
-    ensures same { IsSameShare shard.old shard.new }
-{
-    shard.swap_outgoing(&mut flight.recent);
-    let outcome = shard.commit(router);
-    shard.swap_outgoing(&mut flight.recent);
-    outcome
 }

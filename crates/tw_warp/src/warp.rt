@@ -1,5 +1,6 @@
 ghost use Rattle.std.specs.Prelude.{◌≡◌, true, ◌≤◌, ◌<◌, ◌↔◌, ℕ, Ok, Err, length, IsErrOf, IsOk, OnErr, OnOk, IfErr, IfOk, reverse};
 ghost use Rattle.tw_shard.specs.Shard.{owns};
+ghost use Rattle.tw_warp.specs.Calls.{step_of};
 ghost use Rattle.tw_warp.specs.Committed.{by_router, committed_events, count_ahead};
 ghost use Rattle.tw_warp.specs.Openings.{opening_machine};
 ghost use Rattle.tw_warp.specs.Runs.{IsBrokenOff};
@@ -15,7 +16,7 @@ ghost use Rattle.tw_sim.specs.Simulation.{state};
 ghost use Rattle.tw_model.specs.declared.limits.TheConstants.{LATEST};
 ghost use Rattle.tw_warp.specs.Warp.{IsCutShort, IsInterrupted, IsSameMachine, IsShare, IsWarp, core, message_at, shard_of, worker_of};
 
-use crate::calls::{commit_on, deliver_on, handle_on, undo_on};
+use crate::calls::{RouterCall, call_on, deliver_on};
 use crate::collecting::add_committed;
 use crate::counts::{sum_kept, sum_pending};
 use crate::flight::Flight;
@@ -31,7 +32,7 @@ use tw_model::OrMemory;
 use tw_model::limits::LATEST;
 use tw_router::Router;
 use tw_shard::Shard;
-use tw_sim::{Signed, Step};
+use tw_sim::{Signed, Step, owner};
 
 /// The stop would fall, or pass its limit.
 #[derive(Clone, Copy, PartialEq, Eq, Debug, Error)]
@@ -120,10 +121,10 @@ impl<'a> Warp<'a> {
         ensures seq { IsSeq (simulation self.new.case) (core self.new) }
     {
         match step {
-            Step::Handle(router) => self.handle(router),
-            Step::Undo(router) => self.undo(router),
+            Step::Handle(router) => self.at_router(router, RouterCall::Handle),
+            Step::Undo(router) => self.at_router(router, RouterCall::Undo),
+            Step::Commit(router) => self.at_router(router, RouterCall::Commit),
             Step::Deliver(place) => self.deliver(place),
-            Step::Commit(router) => self.commit(router),
             Step::Bound => {
                 self.advance_bound();
                 Ok(())
@@ -308,38 +309,26 @@ impl<'a> Warp<'a> {
         ensures value { result ≡ worker_of self.now router }
         ensures within { result < length self.now.shards }
     {
-        router as usize % self.shards.len()
+        owner(router, self.shards.len())
     }
 
-    /// A router handles its first pending event.
-    fn handle(&mut self, router: u32) -> Result<(), OrMemory<Refusal>>
-        ensures ok { OnOk result (core_step (simulation self.old.case) (core self.old) (steps.Handle router) ≡ Ok (core self.new)) }
-        ensures refused { (f : ARefusal) → IsErrOf result (or_memory.Fault f) ↔ (core_step (simulation self.old.case) (core self.old) (steps.Handle router) ≡ Err f) }
+    /// A call at a router.
+    fn at_router(&mut self, router: u32, call: RouterCall) -> Result<(), OrMemory<Refusal>>
+        ensures ok { OnOk result (core_step (simulation self.old.case) (core self.old) (step_of call router) ≡ Ok (core self.new)) }
+        ensures refused { (f : ARefusal) → IsErrOf result (or_memory.Fault f) ↔ (core_step (simulation self.old.case) (core self.old) (step_of call router) ≡ Err f) }
         ensures err { OnErr result (self.new ≡ self.old) }
         ensures bound { self.new.bound ≡ self.old.bound }
         ensures same { IsSameMachine self.old self.new }
         ensures seq { IsSeq (simulation self.new.case) (core self.new) }
     {
         let worker = self.worker_of(router);
-        handle_on(
+        call_on(
             &mut self.shards[worker],
             &mut self.flight,
+            call,
             router,
             self.stop,
         )
-    }
-
-    /// A router undoes the event that it handled last.
-    fn undo(&mut self, router: u32) -> Result<(), OrMemory<Refusal>>
-        ensures ok { OnOk result (core_step (simulation self.old.case) (core self.old) (steps.Undo router) ≡ Ok (core self.new)) }
-        ensures refused { (f : ARefusal) → IsErrOf result (or_memory.Fault f) ↔ (core_step (simulation self.old.case) (core self.old) (steps.Undo router) ≡ Err f) }
-        ensures err { OnErr result (self.new ≡ self.old) }
-        ensures bound { self.new.bound ≡ self.old.bound }
-        ensures same { IsSameMachine self.old self.new }
-        ensures seq { IsSeq (simulation self.new.case) (core self.new) }
-    {
-        let worker = self.worker_of(router);
-        undo_on(&mut self.shards[worker], &mut self.flight, router)
     }
 
     /// The message at a place in flight, from 1, is delivered.
@@ -359,19 +348,6 @@ impl<'a> Warp<'a> {
         deliver_on(&mut self.shards[worker], &mut self.flight, message)?;
         self.flight.remove(place as usize - 1);
         Ok(())
-    }
-
-    /// A router commits its events before the bound.
-    fn commit(&mut self, router: u32) -> Result<(), OrMemory<Refusal>>
-        ensures ok { OnOk result (core_step (simulation self.old.case) (core self.old) (steps.Commit router) ≡ Ok (core self.new)) }
-        ensures refused { (f : ARefusal) → IsErrOf result (or_memory.Fault f) ↔ (core_step (simulation self.old.case) (core self.old) (steps.Commit router) ≡ Err f) }
-        ensures err { OnErr result (self.new ≡ self.old) }
-        ensures bound { self.new.bound ≡ self.old.bound }
-        ensures same { IsSameMachine self.old self.new }
-        ensures seq { IsSeq (simulation self.new.case) (core self.new) }
-    {
-        let worker = self.worker_of(router);
-        commit_on(&mut self.shards[worker], &mut self.flight, router)
     }
 
     /// The bound becomes the least time of all that is loose, and of the stop.

@@ -1,5 +1,5 @@
 -- What calls at a shard and at a hand keep of a worker's share.
-use Rattle.std.proofs.Common.{◌≡◌, ℕ, zero, suc, ◌+◌, ◌<◌, ◌≤◌, ◌%◌, ◌==◌, ◌&&◌, nat_lt, true, false, List, [], ◌∷◌, drop, length, get_or, Ok, Err, Some, remove, slice_get, refl, ap, sym, ◌∙◌, subst, inl, inr, arith, if◌then◌else◌}
+use Rattle.std.proofs.Common.{◌≡◌, ℕ, zero, suc, ◌+◌, ◌<◌, ◌≤◌, ◌==◌, ◌&&◌, nat_lt, true, false, List, [], ◌∷◌, drop, length, get_or, Ok, Err, Some, remove, slice_get, refl, ap, sym, ◌∙◌, subst, inl, inr, arith, if◌then◌else◌}
 use Rattle.std.proofs.lemmas.Bool.{cases_Bool, ltb-true}
 use Rattle.std.proofs.lemmas.List.{at_drop_more}
 use Rattle.tw_core.specs.declared.refusal.Refusal.TheVariants.{NotMine}
@@ -15,6 +15,7 @@ use Rattle.std.specs.Result.{result_and}
 use Rattle.tw_shard.specs.Arrival.{receiving, refusing}
 use Rattle.tw_shard.specs.Shard.{IsSameShare, Shard, core, handling, owns}
 use Rattle.tw_sim.specs.declared.machine.Signed.{Signed}
+use Rattle.tw_sim.specs.Owners.{owner}
 use Rattle.tw_table.specs.Shares.{Share, place_of}
 use Rattle.tw_workers.specs.Work.{IsAtWork, Kept}
 
@@ -24,7 +25,7 @@ use Rattle.tw_workers.specs.Work.{IsAtWork, Kept}
 pub place_after : (stop : ℕ) (s t : Share) → IsSameShare s.shard t.shard → t.mail ≡ s.mail → t.unsent ≡ s.unsent → place_of t ≡ with_core (core stop t.shard) (place_of s)
 place_after stop s t same mail unsent = λ i. record {
   worker = same.worker i;
-  owns = λ r. nat_lt r (same.case i).net.nodes && (r % same.workers i == same.worker i);
+  owns = λ r. nat_lt r (same.case i).net.nodes && (owner (same.workers i) r == same.worker i);
   history = (core 0 t.shard).history;
   pending = t.shard.pending;
   kept = t.shard.kept;

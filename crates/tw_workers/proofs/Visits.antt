@@ -6,7 +6,8 @@ use Rattle.std.specs.Option.{option_map_or}
 use Rattle.tw_event.specs.declared.event.Event.{Event}
 use Rattle.tw_exchange.specs.declared.visit.VisitFault.{VisitFault}
 use Rattle.tw_exchange.specs.declared.visit.VisitFault.TheVariants.{Early, NoWorker}
-use Rattle.tw_exchange.specs.Board.{Board, IsBoard, handed, is_early, owner, visited, workers}
+use Rattle.tw_exchange.specs.Board.{Board, IsBoard, handed, is_early, visited, workers}
+use Rattle.tw_sim.specs.Owners.{owner}
 use Rattle.tw_model.proofs.Lawful.{lawful}
 use Rattle.tw_model.specs.declared.memory.OrMemory.{OrMemory}
 use Rattle.tw_model.specs.declared.memory.OrMemory.TheVariants.{Fault, Memory}

@@ -8,7 +8,6 @@ ghost use Rattle.tw_workers.specs.Work.{StillKeeps};
 use crate::worker::Worker;
 use std::alloc::AllocError;
 use tw_model::OrMemory;
-use tw_model::limits::MOST_ROUTERS;
 use tw_shard::Shard;
 
 impl<'a> Worker<'a> {
@@ -26,24 +25,21 @@ impl<'a> Worker<'a> {
         ensures outgoing { self.new.share.shard.outgoing ≡ self.old.share.shard.outgoing }
         ensures stop { self.new.stop ≡ self.old.stop }
     {
-        for router in 0..MOST_ROUTERS {
+        for router in self.shard.routers() {
             commit_at(&mut self.shard, router)?;
         }
         Ok(())
     }
 }
 
-/// A router commits its events before the bound, which are the one-thread run, if it is one of the shard's.
+/// One of a shard's routers commits its events before the bound, which are the one-thread run.
 fn commit_at(shard: &mut Shard<'_>, router: u32) -> Result<(), AllocError>
-    requires run { owns shard.old router ≡ true → HasRun shard.old router }
-    ensures own { (stop : ℕ) → OnOk result (owns shard.old router ≡ true → core stop shard.new ≡ with_commit (simulation shard.old.case) (core stop shard.old) router) }
-    ensures other { OnOk result (owns shard.old router ≡ false → shard.new ≡ shard.old) }
+    requires own { owns shard.old router ≡ true }
+    requires run { HasRun shard.old router }
+    ensures ok { (stop : ℕ) → OnOk result (core stop shard.new ≡ with_commit (simulation shard.old.case) (core stop shard.old) router) }
     ensures err { OnErr result (shard.new ≡ shard.old) }
     ensures same { IsSameShare shard.old shard.new }
 {
-    if !shard.owns(router) {
-        return Ok(());
-    }
     match shard.commit(router) {
         Ok(()) => Ok(()),
         Err(OrMemory::Memory) => Err(AllocError),

@@ -1,12 +1,11 @@
-ghost use Rattle.std.specs.Prelude.{◌≡◌, ◌==◌, ◌%◌, ◌+◌, ◌-◌, ◌*◌, ◌<◌, [], ℕ, filter, map, true, IfOk, OnOk};
-ghost use Rattle.std.specs.Int.{div_ceil};
-ghost use Rattle.std.specs.List.{range_with_len};
+ghost use Rattle.std.specs.Prelude.{◌≡◌, ◌==◌, ◌<◌, [], ℕ, filter, map, true, IfOk, OnOk};
 ghost use Rattle.tw_event.specs.Order.{event_before};
 ghost use Rattle.tw_model.specs.Case.{opening_events};
 ghost use Rattle.tw_queue.specs.Queue.{AreFor};
 ghost use Rattle.tw_shard.specs.Shard.{core, opening_core, owns, timeline};
 ghost use Rattle.tw_shard.specs.Timeline.{opening_timeline};
 ghost use Rattle.tw_sim.specs.Ordered.{insert_all};
+ghost use Rattle.tw_sim.specs.Owners.{own_routers, owner};
 
 use super::Shard;
 use crate::timeline::Timeline;
@@ -15,10 +14,11 @@ use std::alloc::{AllocError, Global};
 use tw_event::Event;
 use tw_instance::Case;
 use tw_queue::Pending;
+use tw_sim::{Routers, owner};
 
 impl<'a> Shard<'a> {
-    /// What one worker of so many has of a case, where routers are dealt out to workers in turn: its
-    /// routers as they begin, and the opening events for them. Workers have numbers from 0 on; one past
+    /// What one worker of so many has of a case: its routers as they begin, and the opening events for
+    /// them. Workers have numbers from 0 on; one past
     /// the last router has none. Routers keep their committed events, or let them go. It fails for want of
     /// memory alone.
     pub fn open(
@@ -55,7 +55,7 @@ impl<'a> Shard<'a> {
     }
 }
 
-/// The timelines of a worker's routers as they begin, by rising number.
+/// The timelines of a worker's routers as they begin, in the order of these.
 fn opening_timelines<'a>(
     alloc: Global,
     case: &'a Case,
@@ -63,19 +63,13 @@ fn opening_timelines<'a>(
     workers: u32,
     keeps: bool,
 ) -> Result<Vec<Timeline<'a>>, AllocError>
-    requires { 0 < workers }
+    requires { worker < workers }
     ensures { IfOk result (λ timelines. timelines.items
-        ≡ map (λ k. opening_timeline case.now keeps (worker + workers * k)) (range_with_len 0 (div_ceil (case.now.net.nodes - worker) workers))) }
+        ≡ map (opening_timeline case.now keeps) (own_routers workers worker case.now.net.nodes)) }
 {
-    let count = case
-        .instance()
-        .nodes()
-        .saturating_sub(worker)
-        .div_ceil(workers);
     let mut timelines = Vec::new(alloc);
-    for place in 0..count {
-        let node = worker + workers * place;
-        timelines.push(Timeline::open(alloc, case, node, keeps)?)?;
+    for router in Routers::new(worker, workers, case.instance().nodes()) {
+        timelines.push(Timeline::open(alloc, case, router, keeps)?)?;
     }
     Ok(timelines)
 }
@@ -89,7 +83,7 @@ fn opening_queue(
 ) -> Result<Pending, AllocError>
     requires { 0 < workers }
     ensures events { IfOk result (λ pending. pending.events
-        ≡ insert_all event_before (filter (λ e. e.dst % workers == worker) (opening_events case.now.scenes)) []) }
+        ≡ insert_all event_before (filter (λ e. owner workers e.dst == worker) (opening_events case.now.scenes)) []) }
     ensures routers { IfOk result (λ pending. pending.routers ≡ case.now.net.nodes) }
 {
     let mut pending = Pending::new(alloc, case.instance().nodes())?;
@@ -107,11 +101,11 @@ fn insert_own(
     requires some { 0 < workers }
     requires homes { AreFor pending.old.routers events.now }
     ensures events { OnOk result
-        (pending.new.events ≡ insert_all event_before (filter (λ e. e.dst % workers == worker) events.now) pending.old.events) }
+        (pending.new.events ≡ insert_all event_before (filter (λ e. owner workers e.dst == worker) events.now) pending.old.events) }
     ensures routers { pending.new.routers ≡ pending.old.routers }
 {
     for event in events {
-        if event.dst % workers == worker {
+        if owner(event.dst, workers as usize) == worker as usize {
             pending.insert(*event)?;
         }
     }

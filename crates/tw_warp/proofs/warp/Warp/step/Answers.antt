@@ -8,13 +8,13 @@ use Rattle.tw_warp.proofs.warp.Warp.step.Goals as goal
 
 pub returns-in-Handle-clause-refused : goal.returns-in-Handle-clause-refused
 returns-in-Handle-clause-refused c = λ f.
-    subst (λ x. IsErrOf c.handle.result (or_memory.Fault f) ↔ (step (simulation c.args.self.now.case) (core c.args.self.now) x ≡ Err f)) (sym c.in-Handle.is)
-    (c.handle.ensures.refused f)
+    subst (λ x. IsErrOf c.at_router.result (or_memory.Fault f) ↔ (step (simulation c.args.self.now.case) (core c.args.self.now) x ≡ Err f)) (sym c.in-Handle.is)
+    (c.at_router.ensures.refused f)
 
 pub returns-in-Undo-clause-refused : goal.returns-in-Undo-clause-refused
 returns-in-Undo-clause-refused c = λ f.
-    subst (λ x. IsErrOf c.undo.result (or_memory.Fault f) ↔ (step (simulation c.args.self.now.case) (core c.args.self.now) x ≡ Err f)) (sym c.in-Undo.is)
-    (c.undo.ensures.refused f)
+    subst (λ x. IsErrOf c.at_router-in-Undo.result (or_memory.Fault f) ↔ (step (simulation c.args.self.now.case) (core c.args.self.now) x ≡ Err f)) (sym c.in-Undo.is)
+    (c.at_router-in-Undo.ensures.refused f)
 
 pub returns-in-Deliver-clause-refused : goal.returns-in-Deliver-clause-refused
 returns-in-Deliver-clause-refused c = λ f.
@@ -23,5 +23,5 @@ returns-in-Deliver-clause-refused c = λ f.
 
 pub returns-in-Commit-clause-refused : goal.returns-in-Commit-clause-refused
 returns-in-Commit-clause-refused c = λ f.
-    subst (λ x. IsErrOf c.commit.result (or_memory.Fault f) ↔ (step (simulation c.args.self.now.case) (core c.args.self.now) x ≡ Err f)) (sym c.in-Commit.is)
-    (c.commit.ensures.refused f)
+    subst (λ x. IsErrOf c.at_router-in-Commit.result (or_memory.Fault f) ↔ (step (simulation c.args.self.now.case) (core c.args.self.now) x ≡ Err f)) (sym c.in-Commit.is)
+    (c.at_router-in-Commit.ensures.refused f)
