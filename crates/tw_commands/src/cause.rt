@@ -1,3 +1,5 @@
+//! Why a program stops before its answer is written.
+
 ghost use Rattle.std.specs.Prelude.{◌≡◌};
 ghost use Rattle.tw_commands.specs.declared.cause.Cause.TheVariants.{Memory, Device};
 ghost use Rattle.tw_commands.specs.Cause.{read_cause, run_cause};

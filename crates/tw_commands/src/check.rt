@@ -1,3 +1,5 @@
+//! The command `check`: how large a case is.
+
 ghost use Rattle.std.specs.Prelude.{◌≡◌, false, OnOk};
 ghost use Rattle.tw_commands.specs.Check.{sizes_of};
 ghost use Rattle.tw_commands.specs.ForCase.{for_case};

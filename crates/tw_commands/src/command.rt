@@ -1,3 +1,5 @@
+//! What all commands have in common: reading, refusing, answering (docs/DECISIONS.md, 'Programs').
+
 ghost use Rattle.std.specs.Prelude.{◌≡◌, false, OnOk};
 ghost use Rattle.tw_commands.specs.ForCase.{StuckFor, for_case};
 ghost use Rattle.tw_commands.specs.Output.{Answers, Leaves, Output};

@@ -1,3 +1,5 @@
+//! What commands read: a case, or a case with steps.
+
 ghost use Rattle.std.specs.Prelude.{◌≡◌, List, ℕ, Result};
 ghost use Rattle.tw_model.specs.Case.{Case as ACase};
 ghost use Rattle.tw_model.specs.Memory.{IsUnlessMemory};

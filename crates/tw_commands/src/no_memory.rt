@@ -1,3 +1,5 @@
+//! Want of memory, as commands tell it.
+
 use std::alloc::AllocError;
 use tw_device::Failed;
 use tw_warp::RunFault;

@@ -1,3 +1,5 @@
+//! The line of a refused text.
+
 ghost use Rattle.std.specs.Prelude.{◌≡◌, ◌++◌, ◌∷◌, [], false};
 ghost use Rattle.tw_commands.specs.ForCase.{refusal_output};
 ghost use Rattle.tw_commands.specs.Output.{Leaves};

@@ -1,3 +1,5 @@
+//! The command `replay`: steps of the Time Warp machine.
+
 ghost use Rattle.std.specs.Prelude.{◌≡◌, ◌≤◌, ◌<◌, false, OnOk};
 ghost use Rattle.tw_commands.specs.Output.{Answers, Leaves};
 ghost use Rattle.tw_commands.specs.Replay.{replay_output, steps_replay};

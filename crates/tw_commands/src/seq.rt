@@ -1,3 +1,5 @@
+//! The command `seq`: a run on one thread, and its report.
+
 ghost use Rattle.std.specs.Prelude.{◌≡◌, ◌≤◌, ◌<◌, false, IfOk, IfSome, IsErrOf, OnOk};
 ghost use Rattle.tw_commands.specs.Output.{Answers, Leaves};
 ghost use Rattle.tw_commands.specs.Seq.{GetsStuckFor, found_to, seq_output, seq_report, shown};

@@ -1,3 +1,5 @@
+//! The command `trail`: one router's events, handled and undone.
+
 ghost use Rattle.std.specs.Prelude.{◌≡◌, ◌≤◌, ◌<◌, false, IfOk, OnOk, Some};
 ghost use Rattle.tw_commands.specs.Output.{Answers, Leaves};
 ghost use Rattle.tw_commands.specs.Trail.{FollowGetsStuck, TrailGetsStuck, events_at as events_at_of, trail_of, trail_output, trail_text};

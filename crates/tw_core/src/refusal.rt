@@ -1,3 +1,5 @@
+//! Why the machine refuses a step.
+
 ghost use Rattle.std.specs.Prelude.{◌≡◌};
 ghost use Rattle.tw_core.specs.RefusalNames.{refusal_label};
 

@@ -1,3 +1,5 @@
+//! The error of a device.
+
 ghost use Rattle.std.specs.Prelude.{◌≡◌};
 ghost use Rattle.tw_model.specs.declared.memory.OrMemory.TheVariants.{Fault};
 

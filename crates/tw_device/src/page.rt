@@ -1,3 +1,5 @@
+//! A sink in memory.
+
 ghost use Rattle.std.specs.Prelude.{◌≡◌, false, [], Some};
 ghost use Rattle.tw_device.specs.Sink.{Device};
 

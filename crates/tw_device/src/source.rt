@@ -1,3 +1,5 @@
+//! Devices that give bytes.
+
 ghost use Rattle.std.specs.Prelude.{◌≡◌, ℕ, ◌<◌, ◌≤◌, Bool, false, true, List, length, Option, IfOk, IfErr, OnOk, OnErr};
 ghost use Rattle.std.specs.Io.KnownBytes.{ReadConsumes};
 ghost use Rattle.tw_device.specs.Source.{IsCauseOf, IsInput, LosesInput, Reader, TakesInput};

@@ -1,3 +1,5 @@
+//! The exchange: mail, reports and the bound.
+
 ghost use Rattle.std.specs.Prelude.{◌≡◌, ◌↔◌, ◌<◌, ◌≤◌, [], IfErr, IfOk, IsTrue, OnErr, OnOk, false, true, length, replicate, Err};
 ghost use Rattle.std.specs.Result.{IsErrAnd};
 ghost use Rattle.tw_exchange.specs.Board.{IsBoard, handed, is_early, mail_of, opening, report_of, visited, workers};

@@ -1,3 +1,5 @@
+//! What a visit of the exchange tells.
+
 use tw_event::Event;
 use tw_model::OrMemory;
 use tw_sim::Signed;

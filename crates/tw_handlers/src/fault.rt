@@ -1,3 +1,5 @@
+//! Why an event is not handled.
+
 ghost use Rattle.std.specs.Prelude.{◌≡◌};
 ghost use Rattle.tw_handlers.specs.declared.fault.Fault.TheVariants.{CounterFull as FullCounter};
 

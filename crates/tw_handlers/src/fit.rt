@@ -1,3 +1,5 @@
+//! Which events a router handles.
+
 ghost use Rattle.std.specs.Prelude.{◌≡◌, ◌<◌, ◌↔◌, length, IsTrue};
 ghost use Rattle.tw_model.specs.Net.{IsPath, begins_at as begins_at_of, hops_of, is_own as is_own_of, is_permitted as is_permitted_of};
 ghost use Rattle.tw_model.specs.Rules.{has_place as has_place_of};

@@ -1,3 +1,5 @@
+//! Handling an event: its effect on the router, and what it sends.
+
 ghost use Rattle.std.specs.Prelude.{◌≡◌, ◌+◌, ◌≤◌, ◌<◌, ◌↔◌, ◌++◌, false, length, IfOk, IsErrOf, IsTrue, OnErr, OnOk};
 ghost use Rattle.tw_model.specs.declared.limits.TheConstants.{MOST_COUNTED};
 ghost use Rattle.tw_model.specs.declared.memory.OrMemory.TheVariants as or_memory;

@@ -1,3 +1,5 @@
+//! What is kept of a handled event to undo it (docs/DECISIONS.md, 'Router': a record holds no list).
+
 ghost use Rattle.std.specs.Prelude.{◌≡◌, true, false};
 
 use std::mem::size_of;

@@ -1,3 +1,5 @@
+//! Choosing the best path, and telling the neighbours.
+
 ghost use Rattle.std.specs.Prelude.{◌≡◌, ◌+◌, ◌≤◌, ◌<◌, ◌==◌, not, length, nat_lt, IfOk};
 ghost use Rattle.tw_model.specs.Net.{IsPath};
 ghost use Rattle.tw_model.specs.declared.limits.TheConstants.{MOST_COUNTED};

@@ -1,3 +1,5 @@
+//! The events of one router, which can be undone, last first.
+
 ghost use Rattle.std.specs.Prelude.{◌≡◌, ◌+◌, ◌-◌, ◌≤◌, ◌<◌, ◌↔◌, ℕ, false, [], ◌∷◌, ◌++◌, length, take, IsErrOf, IsTrue, OnErr, OnOk};
 ghost use Rattle.tw_model.specs.declared.memory.OrMemory.TheVariants as or_memory;
 ghost use Rattle.tw_model.specs.Effect.{fits};

@@ -1,3 +1,5 @@
+//! Undoing an event: the router as it was, and what it had sent.
+
 ghost use Rattle.std.specs.Prelude.{◌≡◌, ◌≤◌, ◌++◌, length, IsOk, IsTrue, OnErr, OnOk};
 ghost use Rattle.smallvec.specs.SmallVec.{HasRoomFor};
 ghost use Rattle.tw_model.specs.declared.limits.TheConstants.{LATEST};

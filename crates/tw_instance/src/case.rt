@@ -1,3 +1,5 @@
+//! Cases: an instance with its scenario.
+
 ghost use Rattle.std.specs.Prelude.{◌≡◌, ◌↔◌, length, [], ◌∷◌, ◌++◌, IfOk, OnErr, OnOk, slice_get, List};
 ghost use Rattle.tw_model.specs.declared.rule.Rule.{Rule as ARule};
 ghost use Rattle.tw_model.specs.Case.{IsCase, bare_case, opening_events};

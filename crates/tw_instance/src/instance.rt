@@ -1,3 +1,5 @@
+//! Instances, built item by item.
+
 ghost use Rattle.std.specs.Prelude.{◌≡◌, ◌↔◌, ℕ, ◌+◌, ◌-◌, ◌*◌, ◌==◌, ◌<◌, ◌≤◌, List, [], ◌∷◌, ◌++◌, length, true, IfOk, IfSome, IsSome, OnErr, OnOk, SomeIff, IsTrue, slice_get, slice_index_or, map, drop};
 ghost use Rattle.std.specs.List.{All, find, position};
 ghost use Rattle.std.specs.List.Sorted.{IsStrictlyIncreasing};

@@ -1,3 +1,5 @@
+//! Which item is refused, and why.
+
 ghost use Rattle.std.specs.Prelude.{Some};
 ghost use Rattle.tw_instance.specs.Build.{item_text};
 

@@ -1,4 +1,5 @@
-// Passes over ranks.
+//! The greatest of a row of ranks, and the first place of one.
+
 ghost use Rattle.std.specs.Prelude.{◌≡◌, ◌==◌, ◌<◌, ◌≤◌, ◌+◌, All, Contains, drop, fold, length, max, not, position, replicate};
 ghost use Rattle.std.specs.List.{list_any, position_or_len, prefix_len};
 ghost use Rattle.std.specs.Simd.Lanes.{zip2};

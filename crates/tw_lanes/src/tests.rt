@@ -1,3 +1,5 @@
+//! The passes over slices of every length near a vector's.
+
 use super::*;
 
 #[test]

@@ -1,4 +1,5 @@
-// Passes over times.
+//! The least of a row of times, and how many lie below one.
+
 ghost use Rattle.std.specs.Prelude.{◌≡◌, ◌^◌, ◌<◌, ◌≤◌, All, Contains, IfSome, count_by, fold, min, nat_lt, replicate};
 ghost use Rattle.std.specs.List.{reduce, sum_by};
 ghost use Rattle.std.specs.Simd.Lanes.{zip2};

@@ -1,3 +1,5 @@
+//! The lines of a scenario.
+
 /// A scenario line: something that happens to the network at a time in ticks.
 #[derive(Clone, Copy, PartialEq, Eq, Debug)]
 pub enum Scene {

@@ -1,3 +1,5 @@
+//! A fault, or want of memory.
+
 ghost use Rattle.std.specs.Prelude.{◌≡◌};
 ghost use Rattle.tw_model.specs.declared.memory.OrMemory.TheVariants.{Memory};
 ghost use Rattle.tw_model.specs.Memory.{fault_words};

@@ -1,3 +1,5 @@
+//! Links and permitted paths, as they are given.
+
 use std::marker::Model;
 
 /// A link between two routers, as it was given.

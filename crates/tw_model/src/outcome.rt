@@ -1,3 +1,5 @@
+//! What a run leaves.
+
 use crate::state::Counters;
 use tw_event::{Event, PathNo};
 

@@ -1,3 +1,5 @@
+//! The rules of instances and scenarios.
+
 use thiserror::Error;
 
 /// A rule that an instance or a scenario keeps. They stand in ascending order of their codes, which

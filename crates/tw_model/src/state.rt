@@ -1,3 +1,5 @@
+//! What a router keeps of each neighbour, and what it counts.
+
 use tw_event::PathNo;
 
 /// What a router keeps of one neighbour.

@@ -1,3 +1,5 @@
+//! The command line, as clap is told of it.
+
 ghost use Rattle.std.specs.Prelude.{IfOk, ◌≡◌, false};
 ghost use Rattle.clap.specs.Words.{app_of, rule_of};
 ghost use Rattle.clap.specs.declared.builder.command.Command.TheViews.{out-Command as fields_of};

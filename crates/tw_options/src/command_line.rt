@@ -1,3 +1,5 @@
+//! What a command line asks for.
+
 ghost use Rattle.std.specs.Prelude.{Some, codes};
 ghost use Rattle.clap.specs.Words.{found_of, rows_of, subcommand_rows_of};
 ghost use Rattle.tw_options.specs.Fit.{HasReplay, HasRun, HasSeq, HasTrail, IsFit};

@@ -1,3 +1,5 @@
+//! Why a command line is not accepted.
+
 ghost use Rattle.std.specs.Prelude.{◌≡◌};
 ghost use Rattle.tw_options.specs.Fault.{Tells};
 ghost use Rattle.tw_options.specs.declared.fault.CommandLineFault.TheVariants.{Memory};

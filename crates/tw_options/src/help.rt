@@ -1,3 +1,5 @@
+//! The words of the help.
+
 pub(crate) const VERSION: &str = "0.1.0";
 
 pub(crate) const TWARP: &str = "Simulates path-vector routing, event by event";

@@ -1,3 +1,5 @@
+//! The numbers of a command line, each with its range.
+
 ghost use Rattle.std.specs.Prelude.{◌≡◌, ◌≤◌, false};
 ghost use Rattle.clap.specs.Words.{found_of, rows_of, rule_of};
 ghost use Rattle.tw_options.specs.App.{number_rule};

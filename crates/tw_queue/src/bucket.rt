@@ -1,4 +1,5 @@
-// Events of many ticks, in no order.
+//! Events of many ticks, in no order.
+
 ghost use Rattle.std.specs.Option.{option_copied};
 ghost use Rattle.std.specs.Prelude.{ℕ, ◌≡◌, ◌<◌, ◌↔◌, ◌-◌, ◌++◌, [], ◌∷◌, None, Some, IfNone, IfSome, IsTrue, OnOk, length, option_map, slice_get, take};
 ghost use Rattle.std.specs.Bool.{OnFalse, OnTrue};

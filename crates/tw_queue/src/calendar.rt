@@ -1,4 +1,5 @@
-// Paths that arrive, by time: those of the next ticks in a ring, later ones in wheels above it.
+//! Paths that arrive, by time: the ring and the levels of the wheels above it.
+
 ghost use Rattle.std.specs.Prelude.{ℕ, ◌≡◌, ◌<◌, ◌≤◌, ◌+◌, ◌++◌, [], None, Some, IfNone, IfOk, IfSome, OnOk, drop, slice_get};
 ghost use Rattle.std.specs.Bool.{OnFalse, OnTrue};
 ghost use Rattle.tw_event.specs.declared.event.Event.{Event as AnEvent};

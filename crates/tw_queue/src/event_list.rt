@@ -1,3 +1,5 @@
+//! The events that wait in a run on one thread (docs/DECISIONS.md, 'One thread': by time, not by router).
+
 ghost use Rattle.std.specs.Prelude.{ℕ, ◌≡◌, ◌+◌, ◌++◌, ◌<◌, ◌≤◌, IfNone, IfOk, IfSome, IsOk, IsTrue, None, OnErr, OnOk, Some, [], drop, length, option_map, slice_get};
 ghost use Rattle.std.specs.BinaryHeap.{heap_items, IsHeap};
 ghost use Rattle.std.specs.Bool.{OnFalse, OnTrue};

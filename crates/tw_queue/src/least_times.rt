@@ -1,4 +1,5 @@
-// A row of times, of which the first least place is found fast.
+//! The least time of each router, and the least of all.
+
 ghost use Rattle.std.specs.Prelude.{◌≡◌, ◌==◌, ◌*◌, ◌<◌, ◌≤◌, IfNone, IfOk, IfSome, [], drop, length, position, replicate, slice_set};
 ghost use Rattle.tw_queue.specs.Least.{IsFirstLeast, IsLeastOfGroup};
 ghost use Rattle.tw_queue.specs.Table.{never};

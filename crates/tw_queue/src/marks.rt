@@ -1,4 +1,5 @@
-// Which of 64 buckets have something, a bit for each.
+//! Which buckets of a wheel hold something, as a word of bits.
+
 ghost use Rattle.std.specs.Bool.{OnFalse, OnTrue};
 ghost use Rattle.std.specs.Int.{bit_at};
 ghost use Rattle.std.specs.Prelude.{ℕ, ◌≡◌, ◌≢◌, ◌<◌, ◌≤◌, ◌+◌, ◌%◌};

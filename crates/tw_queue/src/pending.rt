@@ -1,3 +1,5 @@
+//! The events that wait at a shard (docs/DECISIONS.md, 'One thread': by router, not by time).
+
 ghost use Rattle.std.specs.Prelude.{◌≡◌, ◌↔◌, ◌+◌, ◌-◌, ◌<◌, ◌≤◌, ◌==◌, IfNone, IfOk, IfSome, IsOk, IsTrue, OnErr, OnOk};
 ghost use Rattle.std.specs.Prelude.{[], if◌then◌else◌, drop, filter, length, option_map, slice_get, vec_capacity, vec_len};
 ghost use Rattle.std.specs.Option.{option_copied};

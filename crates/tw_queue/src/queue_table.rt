@@ -1,4 +1,5 @@
-// The events of all routers, by router.
+//! A queue for each router, beside a row of their least times.
+
 ghost use Rattle.std.specs.Prelude.{◌≡◌, ◌<◌, ◌+◌, ◌==◌, ◌↔◌, ◌^◌, filter, IfNone, IfOk, IfSome, IsTrue, [], OnOk, replicate, slice_get, slice_index_or};
 ghost use Rattle.tw_event.specs.Order.{event_before, event_same};
 ghost use Rattle.tw_queue.specs.Buckets.{together};

@@ -1,4 +1,5 @@
-// Events by time, for a run that takes the least of them again and again.
+//! The tick at hand, and the ticks after it in a ring of buckets.
+
 ghost use Rattle.std.specs.Prelude.{ℕ, ◌≡◌, ◌<◌, ◌≤◌, ◌+◌, ◌++◌, None, Some, [], drop, slice_get, slice_index_or, IfOk, OnOk};
 ghost use Rattle.std.specs.Bool.{OnFalse, OnTrue};
 ghost use Rattle.tw_event.specs.declared.event.Event.{Event};

@@ -1,4 +1,5 @@
-// The events of one router, in order.
+//! The events that wait for one router.
+
 ghost use Rattle.std.specs.Prelude.{◌≡◌, ◌<◌, ◌↔◌, ◌^◌, ◌+◌, IsTrue, [], OnErr, OnOk, false, length, slice_get, slice_index_or, true};
 ghost use Rattle.std.specs.Bool.{OnFalse, OnTrue};
 ghost use Rattle.std.specs.Option.{option_copied};

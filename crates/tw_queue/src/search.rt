@@ -1,4 +1,5 @@
-// Searches of a few events.
+//! Searching a list in order.
+
 ghost use Rattle.std.specs.Option.{option_copied};
 ghost use Rattle.std.specs.Prelude.{◌≡◌, ◌<◌, ◌↔◌, None, IsTrue, count_by, position, vec_capacity};
 ghost use Rattle.tw_event.specs.Order.{event_before, event_same};

@@ -1,4 +1,5 @@
-// Events of one tick.
+//! The events of one tick, put in order once.
+
 ghost use Rattle.std.specs.Prelude.{ℕ, ◌≡◌, ◌==◌, ◌+◌, ◌++◌, ◌<◌, ◌≤◌, ◌⊎◌, [], ◌∷◌, None, IfSome, OnOk, Some, drop, length, slice_get};
 ghost use Rattle.std.specs.Bool.{OnFalse, OnTrue};
 ghost use Rattle.tw_event.specs.declared.event.Event.{Event as AnEvent};

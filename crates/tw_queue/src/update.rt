@@ -1,4 +1,5 @@
-// Events of one time, which is kept once for all of them.
+//! A path that arrives, without its time.
+
 ghost use Rattle.std.specs.Option.{option_copied};
 ghost use Rattle.std.specs.Prelude.{ℕ, ◌≡◌, ◌++◌, None, IfSome, OnOk, option_map};
 ghost use Rattle.tw_queue.specs.InOrder.{earlier, least_with};

@@ -1,3 +1,5 @@
+//! The line of an event.
+
 ghost use Rattle.std.specs.Prelude.{◌≡◌, false};
 ghost use Rattle.tw_device.specs.Sink.{Puts};
 ghost use Rattle.tw_model.specs.Net.{IsPath};

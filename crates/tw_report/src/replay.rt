@@ -1,3 +1,5 @@
+//! What a list of steps leaves of the machine, as a text.
+
 ghost use Rattle.std.specs.Prelude.{◌≡◌, false};
 ghost use Rattle.tw_device.specs.Sink.{Puts};
 ghost use Rattle.tw_report.specs.ReplayText.{ShowsPaths, replay_text, replayed_of, standing_lines, step_lines, step_words, told_lines};

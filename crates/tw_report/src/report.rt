@@ -1,3 +1,5 @@
+//! The report of a run.
+
 ghost use Rattle.std.specs.Prelude.{◌≡◌, false};
 ghost use Rattle.std.specs.List.{All};
 ghost use Rattle.tw_device.specs.Sink.{Puts};

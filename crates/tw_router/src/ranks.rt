@@ -1,3 +1,5 @@
+//! The ranks of the paths that neighbours offer, one for each slot (docs/DECISIONS.md, 'Router').
+
 ghost use Rattle.std.specs.Prelude.{◌≡◌, ◌≢◌, ◌<◌, ◌≤◌, ◌-◌, ◌==◌, ◌↔◌, fold, length, map, max, slice_set, slice_get, IfSome, IsSome, IsTrue, Some};
 ghost use Rattle.std.specs.List.{All, AllPairs, position_or_len};
 ghost use Rattle.tw_event.specs.declared.event.PathNo.{PathNo as APathNo};

@@ -1,3 +1,5 @@
+//! A router: its reads and its writers.
+
 ghost use Rattle.std.specs.Prelude.{◌≡◌, ◌-◌, ◌≤◌, ◌<◌, ◌↔◌, fold, map, max, length, IfOk, IsErrOf, IsTrue};
 ghost use Rattle.std.specs.List.{All};
 ghost use Rattle.tw_model.specs.declared.memory.OrMemory.TheVariants.{Fault};

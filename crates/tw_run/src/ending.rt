@@ -1,3 +1,5 @@
+//! What a run by workers leaves, as a report shows it.
+
 ghost use Rattle.std.specs.Prelude.{◌≡◌, true, IfOk};
 ghost use Rattle.tw_commands.specs.Seq.{shown};
 ghost use Rattle.tw_model.specs.Summary.{summary_of};

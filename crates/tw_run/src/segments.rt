@@ -1,3 +1,5 @@
+//! From checkpoint to checkpoint by workers.
+
 ghost use Rattle.std.specs.Prelude.{◌≡◌, ◌≤◌, ◌<◌, ◌/◌, IfOk, IfSome, IsErrOf};
 ghost use Rattle.tw_commands.specs.declared.cause.Cause.TheVariants as cause;
 ghost use Rattle.tw_commands.specs.Seq.{found_to};

@@ -1,3 +1,5 @@
+//! A run that keeps a list of its events.
+
 ghost use Rattle.std.specs.Prelude.{◌≡◌, ◌<◌, IfOk, OnErr, OnOk, IsErrOf};
 ghost use Rattle.tw_model.specs.Summary.{summary_of};
 ghost use Rattle.tw_model.specs.declared.memory.OrMemory.TheVariants as or_memory;

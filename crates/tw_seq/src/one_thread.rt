@@ -1,3 +1,5 @@
+//! A run that keeps no list of its events (docs/DECISIONS.md, 'One thread': its model computes them).
+
 ghost use Rattle.std.specs.Prelude.{◌≡◌, ◌≤◌, ◌<◌, [], max, IfOk, OnErr, OnOk, IsErrOf};
 ghost use Rattle.std.specs.Bool.{OnFalse, OnTrue};
 ghost use Rattle.tw_model.specs.Summary.{summary_of};

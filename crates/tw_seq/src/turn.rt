@@ -1,3 +1,5 @@
+//! One event of a run.
+
 ghost use Rattle.std.specs.Prelude.{◌≡◌, ◌≤◌, ◌<◌, [], ◌++◌, length, slice_set, IfOk, OnErr, OnOk, IsErrOf, IsTrue, not, ◌==◌, ◌↔◌};
 ghost use Rattle.tw_event.specs.Order.{event_before};
 ghost use Rattle.tw_model.specs.Case.{opening_events};

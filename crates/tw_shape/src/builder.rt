@@ -1,3 +1,5 @@
+//! Making shapes.
+
 ghost use Rattle.std.specs.Prelude.{◌≡◌, [], ◌∷◌, ◌++◌, map, slice_index, OnErr, OnOk};
 ghost use Rattle.tw_event.specs.Order.{event_before};
 ghost use Rattle.tw_shape.specs.Shape.{seen_from};

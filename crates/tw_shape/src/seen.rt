@@ -1,3 +1,5 @@
+//! The pending events of a shape, as they are seen from its time.
+
 ghost use Rattle.std.specs.Prelude.{◌≡◌, map, slice_index};
 ghost use Rattle.std.specs.List.{list_all};
 ghost use lib.Pointwise.{pointwise};

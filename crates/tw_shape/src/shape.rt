@@ -1,3 +1,5 @@
+//! The shape of a run: its state less its time and its counters.
+
 ghost use Rattle.std.specs.Prelude.{◌≡◌, ◌≤◌, ◌<◌, ◌-◌, ◌*◌, ℕ, false, [], IfNone, IfSome};
 ghost use Rattle.tw_shape.specs.Packed.{Covers, in_order, routers_of, seen};
 ghost use Rattle.tw_shape.specs.Shape.{IsStill, can_repeat, later};

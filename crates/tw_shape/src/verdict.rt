@@ -1,3 +1,5 @@
+//! What is found at checkpoints, and the verdict.
+
 ghost use Rattle.std.specs.Prelude.{◌≡◌};
 ghost use Rattle.tw_model.specs.Summary.{summary_of};
 ghost use Rattle.tw_shape.specs.Verdict.{verdict_of};

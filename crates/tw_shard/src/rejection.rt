@@ -1,3 +1,5 @@
+//! Why a shard refuses a message.
+
 use thiserror::Error;
 use tw_event::Event;
 use tw_model::OrMemory;

@@ -1,3 +1,5 @@
+//! A router with the events that it has handled (docs/DECISIONS.md, 'The machine': two lists).
+
 ghost use Rattle.std.specs.Prelude.{◌≡◌, ◌+◌, ◌≤◌, ◌<◌, ◌↔◌, ◌++◌, ◌∷◌, ℕ, List, false, true, length, map, slice_get, vec_capacity, vec_len, IfOk, IsErrOf, IsTrue, OnErr, OnOk};
 ghost use Rattle.std.specs.List.{AllByRecursion, list_any};
 ghost use Rattle.std.specs.Option.{option_copied};

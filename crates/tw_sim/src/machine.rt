@@ -1,3 +1,5 @@
+//! Messages and steps of a Time Warp machine.
+
 /// A message between routers: an event, or the antimessage that takes one back.
 #[derive(Clone, Copy, PartialEq, Eq, Debug)]
 pub struct Signed<E> {

@@ -1,3 +1,5 @@
+//! A worker's hand.
+
 ghost use Rattle.std.specs.Prelude.{◌≡◌, []};
 
 use std::alloc::Global;

@@ -1,3 +1,5 @@
+//! A worker's seat.
+
 ghost use Rattle.std.specs.Prelude.{◌≡◌, ◌↔◌, ◌<◌, ◌≤◌, IfErr, IfOk, IsTrue, OnErr, OnOk, length};
 ghost use Rattle.std.specs.Result.{IsErrAnd};
 ghost use Rattle.crossbeam_queue.specs.Passes.{view};

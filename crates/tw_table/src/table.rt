@@ -1,3 +1,5 @@
+//! The table (docs/DECISIONS.md, 'Threads': an exchange in a queue with one place).
+
 ghost use Rattle.std.specs.Prelude.{◌≡◌, ◌<◌};
 ghost use Rattle.crossbeam_queue.specs.Passes.{ruled_capacity};
 

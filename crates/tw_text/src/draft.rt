@@ -1,3 +1,5 @@
+//! What the lines so far have given.
+
 ghost use Rattle.std.specs.Prelude.{◌≡◌};
 ghost use Rattle.tw_model.specs.Memory.{IsUnlessMemory, map_fault};
 ghost use Rattle.tw_model.specs.declared.case.Scene.TheVariants as AScene;

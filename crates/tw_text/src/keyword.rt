@@ -1,3 +1,5 @@
+//! The first words of lines.
+
 ghost use Rattle.std.specs.List.{list_any};
 ghost use Rattle.std.specs.Prelude.{◌≡◌, ◌==◌, length, map};
 ghost use Rattle.tw_text.specs.Statements.{keyword_of, takes, takes_words};

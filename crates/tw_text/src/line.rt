@@ -1,3 +1,5 @@
+//! One more line of a case text.
+
 ghost use Rattle.std.specs.List.{list_all};
 ghost use Rattle.std.specs.Prelude.{◌≡◌, map, false, true, bytes_eq, codes};
 ghost use Rattle.tw_model.specs.Memory.{IsUnlessMemory};

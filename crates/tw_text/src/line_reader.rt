@@ -1,3 +1,5 @@
+//! What readers of lines have in common.
+
 ghost use Rattle.std.specs.Prelude.{◌≡◌};
 ghost use Rattle.tw_model.specs.Memory.{IsUnlessMemory, map_fault};
 ghost use Rattle.tw_text.specs.LineReader.{Reader, left_by};

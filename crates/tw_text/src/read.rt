@@ -1,3 +1,5 @@
+//! Reading a case text (docs/DECISIONS.md, 'Input': line by line, with no list of its lines).
+
 ghost use Rattle.std.specs.Prelude.{◌≡◌, Ok, IfOk};
 ghost use Rattle.tw_model.specs.Case.{Case as ACase, IsCase};
 ghost use Rattle.tw_model.specs.Memory.{IsUnlessMemory};

@@ -1,3 +1,5 @@
+//! Reading a replay text: a case, and steps.
+
 ghost use Rattle.std.specs.Prelude.{◌≡◌, List, Ok, IfOk};
 ghost use Rattle.tw_model.specs.Case.{Case as ACase, IsCase};
 ghost use Rattle.tw_model.specs.Memory.{IsUnlessMemory};

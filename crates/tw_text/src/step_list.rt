@@ -1,3 +1,5 @@
+//! A list of steps.
+
 ghost use Rattle.std.specs.Prelude.{◌≡◌, ◌∷◌, ◌++◌, List, [], length, IfOk};
 ghost use Rattle.tw_sim.specs.declared.machine.Step.{Step as AStep};
 

@@ -1,3 +1,5 @@
+//! Reading a step text.
+
 ghost use Rattle.std.specs.List.{list_all};
 ghost use Rattle.std.specs.Prelude.{◌≡◌, ◌∷◌, ◌++◌, List, [], length, map, true, Ok, IfOk};
 ghost use Rattle.tw_model.specs.Memory.{IsUnlessMemory};

@@ -1,3 +1,5 @@
+//! What a line of a text breaks.
+
 ghost use Rattle.std.specs.Prelude.{◌≡◌, Some};
 ghost use Rattle.tw_model.specs.declared.memory.OrMemory.TheVariants.{Fault};
 ghost use Rattle.tw_text.specs.FaultNames.{fault_label, fault_text, refusal_text, rule_label};

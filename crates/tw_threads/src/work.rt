@@ -1,3 +1,5 @@
+//! A worker, as a thread knows it (docs/DECISIONS.md, 'Threads': threads know no case).
+
 ghost use Rattle.std.specs.Prelude.{◌≡◌, ℕ, false, true};
 ghost use Rattle.tw_table.specs.Seats.{IsSeatOf, halted_at, share_at, stop_at};
 ghost use Rattle.tw_table.specs.Shares.{Share};

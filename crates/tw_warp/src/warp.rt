@@ -1,3 +1,5 @@
+//! The machine of all routers, step by step.
+
 ghost use Rattle.std.specs.Prelude.{◌≡◌, true, ◌≤◌, ◌<◌, ◌↔◌, ℕ, Ok, Err, length, IsErrOf, IsOk, OnErr, OnOk, IfErr, IfOk, reverse};
 ghost use Rattle.tw_shard.specs.Shard.{owns};
 ghost use Rattle.tw_warp.specs.Calls.{step_of};

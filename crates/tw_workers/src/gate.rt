@@ -1,3 +1,5 @@
+//! Where a worker may be held between two parts of a turn.
+
 use std::sync::Wait;
 use tw_table::Seat;
 

@@ -18,8 +18,8 @@ const WIDEST_WINDOW: u64 = LONGEST_DELAY;
 /// window costs more than handling a few events twice.
 const HANDLED_FOR_EACH_UNDONE: u64 = 20;
 
-/// A commit looks at each router number, 1,024 of them: once in so many events that costs next to nothing,
-/// and what undoing these would need stays in a processor's cache.
+/// A commit looks at each of the worker's routers: once in so many events that costs next to nothing, and what
+/// undoing these would need stays in a processor's cache.
 const HANDLED_FOR_EACH_COMMIT: u64 = 8_192;
 
 /// Where the window has fallen it stays for so many turns that end at it before it grows again: where no

@@ -1,3 +1,5 @@
+//! A worker: its routers, and the messages in its hand.
+
 ghost use Rattle.std.specs.Prelude.{◌≡◌, ◌≤◌};
 ghost use Rattle.tw_model.specs.declared.limits.TheConstants.{LATEST};
 ghost use Rattle.tw_table.specs.Shares.{share};

@@ -1,3 +1,5 @@
+//! What is done for a command line.
+
 ghost use Rattle.std.specs.Prelude.{◌≡◌, false, OnOk};
 ghost use Rattle.tw_device.specs.Source.{LosesInput, TakesInput};
 ghost use Rattle.twarp.specs.Due.{IsRunnable, Performs};

@@ -1,3 +1,5 @@
+//! Commits of a shard's routers.
+
 ghost use Rattle.std.specs.Prelude.{◌≡◌, ◌-◌, ◌≤◌, ◌<◌, ◌↔◌, ◌++◌, ℕ, length, map, min, reverse, slice_get, slice_index_or, slice_set, false, true, IsErrOf, IsOk, OnErr, OnOk, Ok, Err};
 ghost use Rattle.std.specs.List.{reduce};
 ghost use Rattle.tw_core.specs.declared.refusal.Refusal.{Refusal as ARefusal};

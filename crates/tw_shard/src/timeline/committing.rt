@@ -1,3 +1,5 @@
+//! Commits of one router.
+
 ghost use Rattle.std.specs.Prelude.{◌≡◌, ◌+◌, ◌-◌, ◌≤◌, count_by, drop, false, filter, length, nat_lt, reverse, slice_get, true, IsOk, OnErr, OnOk};
 ghost use Rattle.std.specs.List.{prefix_len};
 ghost use Rattle.tw_model.specs.Case.{simulation};
