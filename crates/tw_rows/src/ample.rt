@@ -13,41 +13,55 @@ use tw_seq::{LoggedRun, OneThread, Running, run_watched};
 use tw_shape::{Finding, ShapeBuilder, Watch};
 use tw_text::{read_case, read_replay, read_steps, write_case};
 
-#[test]
-fn a_case_is_built_item_by_item(rt: HostRuntime) {
-    let alloc = rt.alloc();
+/// Whether a link, a path and a failure are added to an instance of two routers.
+fn adds_items(alloc: Global) -> bool {
     let (Ok(mut instance), Ok(nodes)) = (Instance::new(alloc, 2), Vec::from_slice(alloc, &[1, 0]))
     else {
-        panic!(rt; "no instance")
+        return false;
     };
     let link = Link {
         first: 0,
         second: 1,
         delay: 3,
     };
+    if instance.add_link(link) != Ok(())
+        || instance.add_path(PermittedPath { owner: 1, nodes }) != Ok(())
+    {
+        return false;
+    }
     let failure = Scene::Fail {
         time: 4,
         first: 0,
         second: 1,
     };
-    assert!(rt; instance.add_link(link) == Ok(()));
-    assert!(rt; instance.add_path(PermittedPath { owner: 1, nodes }) == Ok(()));
-    let Ok(mut case) = Case::new(alloc, instance) else {
-        panic!(rt; "no case")
-    };
-    assert!(rt; case.add(failure) == Ok(()));
+    match Case::new(alloc, instance) {
+        Ok(mut case) => case.add(failure) == Ok(()),
+        Err(_) => false,
+    }
+}
+
+#[test]
+fn a_case_is_built_item_by_item(rt: HostRuntime) {
+    assert!(rt; adds_items(rt.alloc()));
+}
+
+/// Whether a case is read and written, and steps, a replay and a command line are read.
+fn reads_and_writes(alloc: Global) -> bool {
+    match read_case(alloc, DISAGREE.as_bytes()) {
+        Ok(case) => write_case(alloc, &case).is_ok() && reads_steps(alloc),
+        Err(_) => false,
+    }
+}
+
+fn reads_steps(alloc: Global) -> bool {
+    read_steps(alloc, b"bound\nend\n").is_ok()
+        && read_replay(alloc, b"spp 1\nnodes 1\nend\nbound\nend\n").is_ok()
+        && options(alloc, &["twarp", "check"]).is_ok()
 }
 
 #[test]
 fn texts_are_read_and_written(rt: HostRuntime) {
-    let alloc = rt.alloc();
-    let Ok(case) = read_case(alloc, DISAGREE.as_bytes()) else {
-        panic!(rt; "refused")
-    };
-    assert!(rt; write_case(alloc, &case).is_ok());
-    assert!(rt; read_steps(alloc, b"bound\nend\n").is_ok());
-    assert!(rt; read_replay(alloc, b"spp 1\nnodes 1\nend\nbound\nend\n").is_ok());
-    assert!(rt; options(alloc, &["twarp", "check"]).is_ok());
+    assert!(rt; reads_and_writes(rt.alloc()));
 }
 
 /// Whether router 1 of a case handles its first event and undoes it, and does so on a trail.
@@ -85,68 +99,91 @@ fn events_are_handled_and_undone(rt: HostRuntime) {
     assert!(rt; goes_and_comes_back(rt.alloc(), case.instance()));
 }
 
+/// Whether an event waits by its router, and is listed.
+fn waits_by_router(alloc: Global) -> bool {
+    let Ok(mut pending) = Pending::new(alloc, 1) else {
+        return false;
+    };
+    pending.reserve(1).is_ok()
+        && pending.insert(Event::default()).is_ok()
+        && pending
+            .list()
+            .is_ok_and(|events| events.as_slice() == &[Event::default()][..])
+}
+
 #[test]
 fn events_wait_by_router(rt: HostRuntime) {
-    let Ok(mut pending) = Pending::new(rt.alloc(), 1) else {
-        panic!(rt; "no memory")
+    assert!(rt; waits_by_router(rt.alloc()));
+}
+
+/// Whether an event waits by its time, and is listed.
+fn waits_by_time(alloc: Global) -> bool {
+    let Ok(mut pending) = EventList::new(alloc, 1) else {
+        return false;
     };
-    assert!(rt; pending.reserve(1).is_ok() && pending.insert(Event::default()).is_ok());
-    let Ok(events) = pending.list() else {
-        panic!(rt; "no memory")
-    };
-    assert!(rt; events.as_slice() == &[Event::default()][..]);
+    pending.reserve(1).is_ok()
+        && pending.insert(&Event::default()).is_ok()
+        && pending
+            .list()
+            .is_ok_and(|events| events.as_slice() == &[Event::default()][..])
 }
 
 #[test]
 fn events_wait_by_time(rt: HostRuntime) {
-    let Ok(mut pending) = EventList::new(rt.alloc(), 1) else {
-        panic!(rt; "no memory")
-    };
-    assert!(rt; pending.reserve(1).is_ok() && pending.insert(&Event::default()).is_ok());
-    let Ok(events) = pending.list() else {
-        panic!(rt; "no memory")
-    };
-    assert!(rt; events.as_slice() == &[Event::default()][..]);
+    assert!(rt; waits_by_time(rt.alloc()));
+}
+
+/// Whether a router is added to a shape, and shapes are watched.
+fn gathers_a_router(alloc: Global) -> bool {
+    let mut builder = ShapeBuilder::new(alloc, 4);
+    builder.reserve(1, 0, 1).is_ok()
+        && builder
+            .add_router(PathNo::ORIGIN, &[], &[PathNo::ORIGIN], 0)
+            .is_ok()
+        && Watch::new(alloc, 1).is_ok()
 }
 
 #[test]
 fn shapes_are_gathered(rt: HostRuntime) {
-    let mut builder = ShapeBuilder::new(rt.alloc(), 4);
-    assert!(rt; builder.reserve(1, 0, 1).is_ok());
-    assert!(rt;
-        builder
-            .add_router(PathNo::ORIGIN, &[], &[PathNo::ORIGIN], 0)
-            .is_ok()
-    );
-    assert!(rt; Watch::new(rt.alloc(), 1).is_ok());
+    assert!(rt; gathers_a_router(rt.alloc()));
+}
+
+/// Whether the run of a case is watched to its oscillation, and tells what it leaves.
+fn is_watched(alloc: Global, case: &Case) -> bool {
+    let Ok(mut run) = OneThread::new(alloc, case) else {
+        return false;
+    };
+    let Ok(watch) = run_watched(alloc, &mut run, 6, 1) else {
+        return false;
+    };
+    matches!(watch.finding(), Some(Finding { from: 3, period: 2 }))
+        && run.outcome_without_events().is_ok()
 }
 
 #[test]
 fn a_run_is_watched(rt: HostRuntime) {
-    let alloc = rt.alloc();
-    let Ok(case) = read_case(alloc, DISAGREE_AT_ONCE.as_bytes()) else {
+    let Ok(case) = read_case(rt.alloc(), DISAGREE_AT_ONCE.as_bytes()) else {
         panic!(rt; "refused")
     };
-    let Ok(mut run) = OneThread::new(alloc, &case) else {
-        panic!(rt; "no memory")
+    assert!(rt; is_watched(rt.alloc(), &case));
+}
+
+/// Whether the run of a case is logged to stop 20, and tells all that it knows.
+fn is_logged(alloc: Global, case: &Case) -> bool {
+    let Ok(mut run) = LoggedRun::new(alloc, case) else {
+        return false;
     };
-    let Ok(watch) = run_watched(alloc, &mut run, 6, 1) else {
-        panic!(rt; "not watched")
-    };
-    assert!(rt; matches!(watch.finding(), Some(Finding { from: 3, period: 2 })));
-    assert!(rt; run.outcome_without_events().is_ok());
+    run.run_to(20).is_ok()
+        && run.shape().is_ok()
+        && run.pending().is_ok()
+        && run.outcome().is_ok()
+        && run.into_outcome().is_ok()
 }
 
 #[test]
 fn a_run_is_logged(rt: HostRuntime) {
-    let alloc = rt.alloc();
-    let Ok(case) = read_case(alloc, DISAGREE.as_bytes()) else {
+    let Ok(case) = read_case(rt.alloc(), DISAGREE.as_bytes()) else {
         panic!(rt; "refused")
     };
-    let Ok(mut run) = LoggedRun::new(alloc, &case) else {
-        panic!(rt; "no memory")
-    };
-    assert!(rt; run.run_to(20).is_ok());
-    assert!(rt; run.shape().is_ok() && run.pending().is_ok());
-    assert!(rt; run.outcome().is_ok() && run.into_outcome().is_ok());
+    assert!(rt; is_logged(rt.alloc(), &case));
 }

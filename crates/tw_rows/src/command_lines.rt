@@ -11,6 +11,11 @@ fn asked(alloc: Global, words: &[&str]) -> Result<CommandLine, CommandLineFault>
     }
 }
 
+/// Whether the words ask for just this.
+fn asks_for(alloc: Global, words: &[&str], line: CommandLine) -> bool {
+    matches!(asked(alloc, words), Ok(found) if found == line)
+}
+
 #[test]
 fn numbers_left_out_or_out_of_range_are_refused(rt: HostRuntime) {
     let refused: [&[&str]; 14] = [
@@ -52,8 +57,8 @@ fn help_and_version_are_told_apart_from_a_refusal(rt: HostRuntime) {
     }
 }
 
-#[test]
-fn the_numbers_given_are_those_asked_for(rt: HostRuntime) {
+/// Whether a trail has the greatest numbers that it may be given.
+fn trails_by_its_numbers(alloc: Global) -> bool {
     let words = [
         "twarp",
         "trail",
@@ -69,21 +74,33 @@ fn the_numbers_given_are_those_asked_for(rt: HostRuntime) {
         stop: 1_000_000_000,
         keep: 0,
     };
-    assert!(rt; matches!(asked(rt.alloc(), &words), Ok(found) if found == line));
-    let line = CommandLine::Seq {
+    asks_for(alloc, &words, line)
+}
+
+/// Whether a run by one thread is logged and has checkpoints where it is asked to, and not else.
+fn runs_by_its_numbers(alloc: Global) -> bool {
+    let logged = CommandLine::Seq {
         stop: 20,
         every: None,
         log: true,
     };
-    let words = ["twarp", "seq", "--log", "--stop", "20"];
-    assert!(rt; matches!(asked(rt.alloc(), &words), Ok(found) if found == line));
-    let line = CommandLine::Seq {
+    let every_second = CommandLine::Seq {
         stop: 20,
         every: Some(2),
         log: false,
     };
-    let words = ["twarp", "seq", "--stop", "20", "--every", "2"];
-    assert!(rt; matches!(asked(rt.alloc(), &words), Ok(found) if found == line));
+    asks_for(alloc, &["twarp", "seq", "--log", "--stop", "20"], logged)
+        && asks_for(
+            alloc,
+            &["twarp", "seq", "--stop", "20", "--every", "2"],
+            every_second,
+        )
+}
+
+#[test]
+fn the_numbers_given_are_those_asked_for(rt: HostRuntime) {
+    assert!(rt; trails_by_its_numbers(rt.alloc()));
+    assert!(rt; runs_by_its_numbers(rt.alloc()));
 }
 
 #[test]
@@ -99,16 +116,12 @@ fn a_replay_has_one_worker_where_no_number_is_given(rt: HostRuntime) {
     ];
     for (words, stop, workers) in rows {
         let line = CommandLine::Replay { stop, workers };
-        assert!(rt;
-            matches!(asked(rt.alloc(), words), Ok(found) if found == line),
-            "{words:?}"
-        );
+        assert!(rt; asks_for(rt.alloc(), words, line), "{words:?}");
     }
 }
 
-#[test]
-fn a_run_has_four_workers_and_a_batch_of_sixty_four_where_none_are_given(rt: HostRuntime) {
-    let words = ["twarp", "run", "--stop", "20"];
+/// Whether a run to a stop has four workers and a batch of sixty-four, and neither log nor checkpoints.
+fn runs_by_four_workers(alloc: Global) -> bool {
     let line = CommandLine::Run {
         stop: 20,
         every: None,
@@ -116,7 +129,11 @@ fn a_run_has_four_workers_and_a_batch_of_sixty_four_where_none_are_given(rt: Hos
         workers: 4,
         batch: 64,
     };
-    assert!(rt; matches!(asked(rt.alloc(), &words), Ok(found) if found == line));
+    asks_for(alloc, &["twarp", "run", "--stop", "20"], line)
+}
+
+/// Whether a run has all that it may be given.
+fn runs_by_sixteen_workers(alloc: Global) -> bool {
     let words = [
         "twarp",
         "run",
@@ -137,5 +154,11 @@ fn a_run_has_four_workers_and_a_batch_of_sixty_four_where_none_are_given(rt: Hos
         workers: 16,
         batch: 4096,
     };
-    assert!(rt; matches!(asked(rt.alloc(), &words), Ok(found) if found == line));
+    asks_for(alloc, &words, line)
+}
+
+#[test]
+fn a_run_has_four_workers_and_a_batch_of_sixty_four_where_none_are_given(rt: HostRuntime) {
+    assert!(rt; runs_by_four_workers(rt.alloc()));
+    assert!(rt; runs_by_sixteen_workers(rt.alloc()));
 }

@@ -90,64 +90,84 @@ fn times(sends: &[Event], expected: &[(u64, u64)]) -> bool {
             && event.seq == pair.1)
 }
 
-#[test]
-fn a_trail_goes_back_to_each_earlier_state(rt: HostRuntime) {
-    let alloc = rt.alloc();
-    let Ok(case) = case(alloc, DISAGREE) else {
-        panic!(rt; "the case is refused")
-    };
-    let instance = case.instance();
-    assert!(rt; instance.nodes() == 3);
-    let Ok(router) = router(alloc, instance, NO_COUNTS) else {
-        panic!(rt; "the router is refused")
-    };
-    let mut trail = Trail::over(alloc, router);
-    assert!(rt; step(&mut trail, instance, &update(1, 0, 0, 1, 0)) == Ok((PathNo(3), 2)));
-    assert!(rt; step(&mut trail, instance, &update(3, 2, 1, 5, 0)) == Ok((PathNo(2), 4)));
-    assert!(rt; step(&mut trail, instance, &update(4, 2, 2, 0, 0)) == Ok((PathNo(3), 6)));
-    let mut sends = SmallVec::new(alloc);
-    assert!(rt; back(&mut trail, instance, 3, &mut sends) == (PathNo(3), 6));
-    assert!(rt; sends.is_empty() && trail.len() == 3);
-    assert!(rt; back(&mut trail, instance, 1, &mut sends) == (PathNo(3), 2));
-    assert!(rt; times(&sends, &[(5, 4), (5, 5), (4, 2), (4, 3)]) && trail.len() == 1);
-    assert!(rt; back(&mut trail, instance, 0, &mut sends) == (PathNo::EMPTY, 0));
-    assert!(rt; times(&sends, &[(5, 4), (5, 5), (4, 2), (4, 3), (2, 0), (2, 1)]));
-    assert!(rt; trail.router().counters() == NO_COUNTS);
+/// What a test shows of router 1.
+#[derive(Clone, Copy)]
+enum Row {
+    GoesBack,
+    RankRow,
+    RankExchange,
+    AnotherSession,
+    FullCounter,
+    ImpossibleCounters,
 }
 
-#[test]
-fn the_rank_row_follows_what_is_heard_and_goes_back(rt: HostRuntime) {
-    let alloc = rt.alloc();
-    let Ok(case) = case(alloc, DISAGREE) else {
-        panic!(rt; "the case is refused")
+/// Whether a row holds of router 1 of a case of three routers.
+fn holds(alloc: Global, text: &str, row: Row) -> bool {
+    let Ok(case) = case(alloc, text) else {
+        return false;
     };
     let instance = case.instance();
-    assert!(rt; instance.nodes() == 3);
-    let Ok(router) = router(alloc, instance, NO_COUNTS) else {
-        panic!(rt; "the router is refused")
-    };
-    let mut trail = Trail::over(alloc, router);
-    assert!(rt; trail.router().rank_row() == [0, 0].as_slice());
-    assert!(rt; step(&mut trail, instance, &update(1, 0, 0, 1, 0)) == Ok((PathNo(3), 2)));
-    assert!(rt; trail.router().rank_row() == [1, 0].as_slice());
-    assert!(rt; step(&mut trail, instance, &update(3, 2, 1, 5, 0)) == Ok((PathNo(2), 4)));
-    assert!(rt; trail.router().rank_row() == [1, 2].as_slice());
-    assert!(rt; first_equal(trail.router().rank_row(), 2) == Some(1));
-    let mut sends = SmallVec::new(alloc);
-    assert!(rt; back(&mut trail, instance, 0, &mut sends) == (PathNo::EMPTY, 0));
-    assert!(rt; trail.router().rank_row() == [0, 0].as_slice());
+    instance.nodes() == 3 && holds_in(alloc, instance, row)
 }
 
-#[test]
-fn an_exchange_of_ranks_is_taken_back(rt: HostRuntime) {
-    let alloc = rt.alloc();
-    let Ok(case) = case(alloc, RANK_EXCHANGE) else {
-        panic!(rt; "the case is refused")
-    };
-    let instance = case.instance();
-    assert!(rt; instance.nodes() == 3);
+fn holds_in(alloc: Global, instance: &Instance, row: Row) -> bool
+    requires { 1 < instance.now.nodes }
+{
+    match row {
+        Row::GoesBack => goes_back_to_each_state(alloc, instance),
+        Row::RankRow => keeps_its_rank_row(alloc, instance),
+        Row::RankExchange => takes_an_exchange_back(alloc, instance),
+        Row::AnotherSession => drops_another_session(alloc, instance),
+        Row::FullCounter => refuses_a_full_counter(alloc, instance),
+        Row::ImpossibleCounters => refuses_impossible_counters(alloc, instance),
+    }
+}
+
+fn goes_back_to_each_state(alloc: Global, instance: &Instance) -> bool
+    requires { 1 < instance.now.nodes }
+{
     let Ok(router) = router(alloc, instance, NO_COUNTS) else {
-        panic!(rt; "the router is refused")
+        return false;
+    };
+    let trail = &mut Trail::over(alloc, router);
+    let sends = &mut SmallVec::new(alloc);
+    step(trail, instance, &update(1, 0, 0, 1, 0)) == Ok((PathNo(3), 2))
+        && step(trail, instance, &update(3, 2, 1, 5, 0)) == Ok((PathNo(2), 4))
+        && step(trail, instance, &update(4, 2, 2, 0, 0)) == Ok((PathNo(3), 6))
+        && back(trail, instance, 3, sends) == (PathNo(3), 6)
+        && sends.is_empty()
+        && trail.len() == 3
+        && back(trail, instance, 1, sends) == (PathNo(3), 2)
+        && times(sends, &[(5, 4), (5, 5), (4, 2), (4, 3)])
+        && trail.len() == 1
+        && back(trail, instance, 0, sends) == (PathNo::EMPTY, 0)
+        && times(sends, &[(5, 4), (5, 5), (4, 2), (4, 3), (2, 0), (2, 1)])
+        && trail.router().counters() == NO_COUNTS
+}
+
+fn keeps_its_rank_row(alloc: Global, instance: &Instance) -> bool
+    requires { 1 < instance.now.nodes }
+{
+    let Ok(router) = router(alloc, instance, NO_COUNTS) else {
+        return false;
+    };
+    let trail = &mut Trail::over(alloc, router);
+    let sends = &mut SmallVec::new(alloc);
+    trail.router().rank_row() == [0, 0].as_slice()
+        && step(trail, instance, &update(1, 0, 0, 1, 0)) == Ok((PathNo(3), 2))
+        && trail.router().rank_row() == [1, 0].as_slice()
+        && step(trail, instance, &update(3, 2, 1, 5, 0)) == Ok((PathNo(2), 4))
+        && trail.router().rank_row() == [1, 2].as_slice()
+        && first_equal(trail.router().rank_row(), 2) == Some(1)
+        && back(trail, instance, 0, sends) == (PathNo::EMPTY, 0)
+        && trail.router().rank_row() == [0, 0].as_slice()
+}
+
+fn takes_an_exchange_back(alloc: Global, instance: &Instance) -> bool
+    requires { 1 < instance.now.nodes }
+{
+    let Ok(router) = router(alloc, instance, NO_COUNTS) else {
+        return false;
     };
     let swap = Event {
         time: 8,
@@ -156,88 +176,115 @@ fn an_exchange_of_ranks_is_taken_back(rt: HostRuntime) {
         seq: 1,
         body: Body::Swap(1, 2),
     };
-    let mut trail = Trail::over(alloc, router);
-    assert!(rt; step(&mut trail, instance, &update(1, 0, 0, 1, 0)) == Ok((PathNo(2), 2)));
-    assert!(rt; step(&mut trail, instance, &swap) == Ok((PathNo(2), 2)));
-    assert!(rt; trail.router().order() == [PathNo(3), PathNo(2)].as_slice());
-    let mut sends = SmallVec::new(alloc);
-    assert!(rt; back(&mut trail, instance, 1, &mut sends) == (PathNo(2), 2));
-    assert!(rt; sends.is_empty());
-    assert!(rt; trail.router().order() == [PathNo(2), PathNo(3)].as_slice());
+    let trail = &mut Trail::over(alloc, router);
+    let sends = &mut SmallVec::new(alloc);
+    step(trail, instance, &update(1, 0, 0, 1, 0)) == Ok((PathNo(2), 2))
+        && step(trail, instance, &swap) == Ok((PathNo(2), 2))
+        && trail.router().order() == [PathNo(3), PathNo(2)].as_slice()
+        && back(trail, instance, 1, sends) == (PathNo(2), 2)
+        && sends.is_empty()
+        && trail.router().order() == [PathNo(2), PathNo(3)].as_slice()
 }
 
-#[test]
-fn an_update_of_another_session_is_dropped(rt: HostRuntime) {
-    let alloc = rt.alloc();
-    let Ok(case) = case(alloc, DISAGREE) else {
-        panic!(rt; "the case is refused")
-    };
-    let instance = case.instance();
-    assert!(rt; instance.nodes() == 3);
+/// Whether a router has counted one event, which it dropped, and is as it was but for that.
+fn has_dropped_one(router: &Router<'_>) -> bool {
+    let counters = router.counters();
+    counters.handled == 1
+        && counters.dropped == 1
+        && counters.sent == 0
+        && router.rib() == PathNo::EMPTY
+        && matches!(router.rows().first(), Some(row) if row.heard == PathNo::EMPTY)
+}
+
+fn drops_another_session(alloc: Global, instance: &Instance) -> bool
+    requires { 1 < instance.now.nodes }
+{
     let Ok(mut router) = router(alloc, instance, NO_COUNTS) else {
-        panic!(rt; "the router is refused")
+        return false;
     };
     let event = update(1, 0, 0, 1, 1);
     let mut sends = SmallVec::new(alloc);
     let Ok(note) = handle(instance, &mut router, &event, &mut sends) else {
-        panic!(rt; "the event is refused")
+        return false;
     };
-    let counters = router.counters();
-    assert!(rt; counters.handled == 1 && counters.dropped == 1 && counters.sent == 0);
-    assert!(rt; router.rib() == PathNo::EMPTY && sends.is_empty());
-    assert!(rt; matches!(router.rows().first(), Some(row) if row.heard == PathNo::EMPTY));
-    assert!(rt; undo(instance, &mut router, &event, note, &mut sends).is_ok());
-    assert!(rt; router.counters() == NO_COUNTS && sends.is_empty());
+    has_dropped_one(&router)
+        && sends.is_empty()
+        && undo(instance, &mut router, &event, note, &mut sends).is_ok()
+        && router.counters() == NO_COUNTS
+        && sends.is_empty()
+}
+
+/// Counts of a router that has so many sends, each of its five events having changed its path.
+fn counts(sent: u64) -> Counters {
+    Counters {
+        sent,
+        handled: 5,
+        dropped: 0,
+        changed: 5,
+    }
+}
+
+fn refuses_a_full_counter(alloc: Global, instance: &Instance) -> bool
+    requires { 1 < instance.now.nodes }
+{
+    let (full, free) = (counts(MOST_COUNTED - 1), counts(MOST_COUNTED - 2));
+    let (Ok(mut refusing), Ok(mut sending)) = (
+        router(alloc, instance, full),
+        router(alloc, instance, free),
+    ) else {
+        return false;
+    };
+    let event = update(1, 0, 0, 1, 0);
+    let sends = &mut SmallVec::new(alloc);
+    handle(instance, &mut refusing, &event, sends) == Err(OrMemory::Fault(Fault::CounterFull))
+        && refusing.counters() == full
+        && refusing.rib() == PathNo::EMPTY
+        && sends.is_empty()
+        && handle(instance, &mut sending, &event, sends).is_ok()
+        && times(sends, &[(2, MOST_COUNTED - 2), (2, MOST_COUNTED - 1)])
+        && sending.counters().sent == 1 << 48
+}
+
+fn refuses_impossible_counters(alloc: Global, instance: &Instance) -> bool
+    requires { 1 < instance.now.nodes }
+{
+    let mut counters = NO_COUNTS;
+    counters.handled = 2;
+    counters.dropped = 3;
+    let refused = matches!(
+        router(alloc, instance, counters),
+        Err(OrMemory::Fault(OpenFault::Counters))
+    );
+    counters.dropped = 2;
+    refused && router(alloc, instance, counters).is_ok()
+}
+
+#[test]
+fn a_trail_goes_back_to_each_earlier_state(rt: HostRuntime) {
+    assert!(rt; holds(rt.alloc(), DISAGREE, Row::GoesBack));
+}
+
+#[test]
+fn the_rank_row_follows_what_is_heard_and_goes_back(rt: HostRuntime) {
+    assert!(rt; holds(rt.alloc(), DISAGREE, Row::RankRow));
+}
+
+#[test]
+fn an_exchange_of_ranks_is_taken_back(rt: HostRuntime) {
+    assert!(rt; holds(rt.alloc(), RANK_EXCHANGE, Row::RankExchange));
+}
+
+#[test]
+fn an_update_of_another_session_is_dropped(rt: HostRuntime) {
+    assert!(rt; holds(rt.alloc(), DISAGREE, Row::AnotherSession));
 }
 
 #[test]
 fn a_full_counter_is_refused(rt: HostRuntime) {
-    let alloc = rt.alloc();
-    let Ok(case) = case(alloc, DISAGREE) else {
-        panic!(rt; "the case is refused")
-    };
-    let instance = case.instance();
-    assert!(rt; instance.nodes() == 3);
-    let mut counters = Counters {
-        sent: MOST_COUNTED - 1,
-        handled: 5,
-        dropped: 0,
-        changed: 5,
-    };
-    let event = update(1, 0, 0, 1, 0);
-    let mut sends = SmallVec::new(alloc);
-    let Ok(mut full) = router(alloc, instance, counters) else {
-        panic!(rt; "the router is refused")
-    };
-    let refused = handle(instance, &mut full, &event, &mut sends);
-    assert!(rt; refused == Err(OrMemory::Fault(Fault::CounterFull)));
-    assert!(rt; full.counters() == counters && full.rib() == PathNo::EMPTY && sends.is_empty());
-    counters.sent = MOST_COUNTED - 2;
-    let Ok(mut router) = router(alloc, instance, counters) else {
-        panic!(rt; "the router is refused")
-    };
-    assert!(rt; handle(instance, &mut router, &event, &mut sends).is_ok());
-    assert!(rt; times(&sends, &[(2, MOST_COUNTED - 2), (2, MOST_COUNTED - 1)]));
-    assert!(rt; router.counters().sent == 1 << 48);
+    assert!(rt; holds(rt.alloc(), DISAGREE, Row::FullCounter));
 }
 
 #[test]
 fn counters_that_no_router_has_are_refused(rt: HostRuntime) {
-    let alloc = rt.alloc();
-    let Ok(case) = case(alloc, DISAGREE) else {
-        panic!(rt; "the case is refused")
-    };
-    let instance = case.instance();
-    assert!(rt; instance.nodes() == 3);
-    let mut counters = NO_COUNTS;
-    counters.handled = 2;
-    counters.dropped = 3;
-    assert!(rt;
-        matches!(
-            router(alloc, instance, counters),
-            Err(OrMemory::Fault(OpenFault::Counters))
-        )
-    );
-    counters.dropped = 2;
-    assert!(rt; router(alloc, instance, counters).is_ok());
+    assert!(rt; holds(rt.alloc(), DISAGREE, Row::ImpossibleCounters));
 }

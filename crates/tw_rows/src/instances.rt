@@ -57,16 +57,19 @@ fn build(alloc: Global, links: &[Link], scenes: &[Scene]) -> Result<Case, OrMemo
     }
 }
 
-#[test]
-fn a_case_from_items_is_that_of_the_text(rt: HostRuntime) {
-    let alloc = rt.alloc();
+/// The text of a case, written once more where memory was refused.
+fn text_of(alloc: Global, case: &Case) -> Result<Vec<u8>, AllocError> {
+    match write_case(alloc, case) {
+        Err(_) => write_case(alloc, case),
+        written => written,
+    }
+}
+
+/// Whether DISAGREE built from items is written as its text, and begins with the origin's start alone.
+fn is_that_of_the_text(alloc: Global) -> bool {
     let Ok(case) = build(alloc, &links(), &[]) else {
-        panic!(rt; "the case is refused")
+        return false;
     };
-    let Ok(text) = write_case(alloc, &case).or_else(|_| write_case(alloc, &case)) else {
-        panic!(rt; "no memory")
-    };
-    assert!(rt; text.as_slice() == DISAGREE.as_bytes());
     let start = Event {
         time: 0,
         dst: 0,
@@ -74,31 +77,53 @@ fn a_case_from_items_is_that_of_the_text(rt: HostRuntime) {
         seq: 0,
         body: Body::Start,
     };
-    assert!(rt; case.opening(0) == Some(start) && case.opening(1) == None);
+    text_of(alloc, &case).is_ok_and(|text| text.as_slice() == DISAGREE.as_bytes())
+        && case.opening(0) == Some(start)
+        && case.opening(1) == None
+}
+
+#[test]
+fn a_case_from_items_is_that_of_the_text(rt: HostRuntime) {
+    assert!(rt; is_that_of_the_text(rt.alloc()));
+}
+
+/// Whether the paths of DISAGREE have the numbers that their nodes give them.
+fn numbers_its_paths(instance: &Instance) -> bool {
+    instance.number(&[]) == Some(PathNo::EMPTY)
+        && instance.number(&[0]) == Some(PathNo::ORIGIN)
+        && instance.number(&[2, 1, 0]) == Some(PathNo(4))
+        && instance.number(&[1, 2]) == None
+}
+
+/// Whether router 2 extends the origin's path by its link to it, of delay 5, and nothing else.
+fn extends_the_origin(instance: &Instance) -> bool {
+    let (Some(slot), Some(direct)) = (instance.slot(2, 0), instance.number(&[0])) else {
+        return false;
+    };
+    slot == 0
+        && instance.delay(2, slot) == 5
+        && instance.extend(2, slot, direct) == Some(PathNo(5))
+        && instance.extend(3, slot, direct) == None
+        && instance.extend(2, 2, direct) == None
+        && instance.extend(2, slot, PathNo(6)) == None
+        && instance.path(direct) == [0].as_slice()
+}
+
+/// Whether DISAGREE built from items finds its paths.
+fn finds_its_paths(alloc: Global) -> bool {
+    let Ok(case) = build(alloc, &links(), &[]) else {
+        return false;
+    };
+    let instance = case.instance();
+    instance.nodes() == 3
+        && numbers_its_paths(instance)
+        && instance.slot(2, 2) == None
+        && extends_the_origin(instance)
 }
 
 #[test]
 fn paths_are_found_by_their_nodes_and_by_what_they_extend(rt: HostRuntime) {
-    let alloc = rt.alloc();
-    let Ok(case) = build(alloc, &links(), &[]) else {
-        panic!(rt; "the case is refused")
-    };
-    let instance = case.instance();
-    assert!(rt; instance.nodes() == 3);
-    assert!(rt;
-        instance.number(&[]) == Some(PathNo::EMPTY) && instance.number(&[0]) == Some(PathNo::ORIGIN)
-    );
-    assert!(rt; instance.number(&[2, 1, 0]) == Some(PathNo(4)) && instance.number(&[1, 2]) == None);
-    assert!(rt; instance.slot(2, 2) == None);
-    let (Some(slot), Some(direct)) = (instance.slot(2, 0), instance.number(&[0])) else {
-        panic!(rt; "not found")
-    };
-    assert!(rt; slot == 0 && instance.delay(2, slot) == 5);
-    assert!(rt; instance.extend(2, slot, direct) == Some(PathNo(5)));
-    assert!(rt; instance.extend(3, slot, direct) == None);
-    assert!(rt; instance.extend(2, 2, direct) == None);
-    assert!(rt; instance.extend(2, slot, PathNo(6)) == None);
-    assert!(rt; instance.path(direct) == [0].as_slice());
+    assert!(rt; finds_its_paths(rt.alloc()));
 }
 
 /// Where and why the items are refused.
@@ -117,13 +142,10 @@ fn broken(item: Item, rule: Rule) -> Option<At> {
     })
 }
 
-#[test]
-fn the_first_bad_item_is_named(rt: HostRuntime) {
-    let alloc = rt.alloc();
+/// Whether a link of a router to itself, a path without a link and an exchange of no such place are named.
+fn names_the_first_bad_item(alloc: Global) -> bool {
     let looped = [link(0, 1, 1), link(1, 1, 0)];
-    assert!(rt; refused(alloc, &looped, &[]) == broken(Item::Link(2), Rule::SelfLink));
     let two = [link(0, 1, 1), link(1, 2, 1)];
-    assert!(rt; refused(alloc, &two, &[]) == broken(Item::Path(1), Rule::PathNoLink));
     let failure = Scene::Fail {
         time: 4,
         first: 0,
@@ -135,8 +157,15 @@ fn the_first_bad_item_is_named(rt: HostRuntime) {
         first: 1,
         second: 3,
     };
-    let scenes = [failure, exchange];
-    assert!(rt; refused(alloc, &links(), &scenes) == broken(Item::Scene(2), Rule::NoSuchPlace));
+    refused(alloc, &looped, &[]) == broken(Item::Link(2), Rule::SelfLink)
+        && refused(alloc, &two, &[]) == broken(Item::Path(1), Rule::PathNoLink)
+        && refused(alloc, &links(), &[failure, exchange])
+            == broken(Item::Scene(2), Rule::NoSuchPlace)
+}
+
+#[test]
+fn the_first_bad_item_is_named(rt: HostRuntime) {
+    assert!(rt; names_the_first_bad_item(rt.alloc()));
 }
 
 #[test]

@@ -43,20 +43,36 @@ fn insert(pending: &mut Pending, event: Event) -> Result<(), AllocError>
     }
 }
 
+/// Whether events are counted as often as they were inserted, and taken in their order.
+fn counts_each(alloc: Global) -> bool {
+    let Ok(mut pending) = nothing_pending(alloc) else {
+        return false;
+    };
+    let (first, second) = (offer(1, 1, 0), offer(5, 2, 1));
+    insert(&mut pending, first).is_ok()
+        && insert(&mut pending, first).is_ok()
+        && insert(&mut pending, second).is_ok()
+        && holds_two_and_one(&pending, first, second)
+        && pending.remove_one(&first)
+        && pending.remove_one(&first)
+        && !pending.remove_one(&first)
+        && pending.take_least() == Some(second)
+        && pending.is_empty()
+}
+
+/// Whether one event of router 1 is pending twice and a later one of router 2 once.
+fn holds_two_and_one(pending: &Pending, first: Event, second: Event) -> bool
+    requires { pending.now.routers ≡ 3 }
+{
+    pending.count(&first) == 2
+        && pending.len() == 3
+        && pending.least_time() == Some(1)
+        && pending.least() == Some(first)
+        && pending.least_at(2) == Some(second)
+        && pending.least_at(0) == None
+}
+
 #[test]
 fn an_event_is_counted_as_often_as_it_was_inserted(rt: HostRuntime) {
-    let (first, second) = (offer(1, 1, 0), offer(5, 2, 1));
-    let Ok(mut pending) = nothing_pending(rt.alloc()) else {
-        panic!(rt; "no memory")
-    };
-    assert!(rt; insert(&mut pending, first).is_ok());
-    assert!(rt; insert(&mut pending, first).is_ok());
-    assert!(rt; insert(&mut pending, second).is_ok());
-    assert!(rt; pending.count(&first) == 2 && pending.len() == 3);
-    assert!(rt; pending.least_time() == Some(1) && pending.least() == Some(first));
-    assert!(rt; pending.least_at(2) == Some(second) && pending.least_at(0) == None);
-    assert!(rt; pending.remove_one(&first));
-    assert!(rt; pending.remove_one(&first));
-    assert!(rt; !pending.remove_one(&first));
-    assert!(rt; pending.take_least() == Some(second) && pending.is_empty());
+    assert!(rt; counts_each(rt.alloc()));
 }
