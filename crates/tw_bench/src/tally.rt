@@ -1,3 +1,5 @@
+//! What the workers of a run have done, counted.
+
 use std::fmt::{self, Display, Formatter};
 use std::sync::Wait;
 use std::sync::atomic::{AtomicU64, Ordering};

@@ -1,3 +1,4 @@
+//! The messages in a worker's hand.
 ghost use Rattle.std.specs.Prelude.{◌≡◌, []};
 
 use std::alloc::Global;

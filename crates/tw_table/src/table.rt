@@ -1,3 +1,4 @@
+//! The table that the workers take in turn.
 ghost use Rattle.std.specs.Prelude.{◌≡◌, ◌<◌};
 ghost use Rattle.crossbeam_queue.specs.Passes.{ruled_capacity};
 

@@ -1,3 +1,5 @@
+//! What is told of each turn of a worker, and may hold it.
+
 use std::sync::Wait;
 use tw_table::Seat;
 
