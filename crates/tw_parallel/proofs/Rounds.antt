@@ -1,44 +1,79 @@
 -- A run after its workers have left a table.
-use Rattle.std.proofs.Common.{◌≡◌, ℕ, suc, ◌<◌, ◌≤◌, true, List, [], ◌∷◌, drop, length, map, refl, ap, sym, ◌∙◌, subst, arith, slice_index_or}
-use Rattle.std.proofs.lemmas.List.{length-map}
+use Rattle.std.proofs.Common.{◌≡◌, ℕ, suc, ◌<◌, ◌≤◌, true, List, [], ◌∷◌, length, map, refl, ap, sym, ◌∙◌, subst, arith}
 use Rattle.std.specs.List.{AllByRecursion, range_with_len}
 use Rattle.tw_exchange.specs.Board.{Board, workers}
 use Rattle.tw_model.specs.Case.{Case}
-use Rattle.tw_parallel.specs.Sim.{IsSim, Sim}
-use Rattle.tw_shard.specs.Shard.{Shard}
+use Rattle.tw_parallel.specs.Sim.{GoesOn, IsSim, Sim}
+use Rattle.tw_shard.specs.Shard.{IsSameShare, Shard}
 use Rattle.tw_table.specs.Seats.{bound_at, share_at, stop_at}
 use Rattle.tw_table.specs.Shares.{IsRuled, IsWhole, Share, shares_of}
 use Rattle.tw_table.specs.declared.hand.Hand.{Hand}
 use Rattle.tw_table.specs.declared.seat.Seat.{Seat}
+use Rattle.tw_workers.specs.Work.{AreSameShares}
 
--- there is one case, told by any share
-one_case : (c d : Case) (xs ys : List Share) → 0 < length xs → map (λ s. s.shard.case) xs ≡ map (λ s. s.shard.case) ys
-    → AllByRecursion (λ s. s.shard.case ≡ c) xs → AllByRecursion (λ s. s.shard.case ≡ d) ys → c ≡ d
+-- ---- what the workers have is the same workers' later
+
+same_map : {A : Type 0} (f : Shard → A) → ((s t : Shard) → IsSameShare s t → f t ≡ f s) → (xs ys : List Share) → AreSameShares xs ys
+    → map (λ (t : Share). f t.shard) ys ≡ map (λ (t : Share). f t.shard) xs
+same_map f each [] [] h = refl
+same_map f each [] (y ∷ ys) h = absurd h
+same_map f each (x ∷ xs) [] h = absurd h
+same_map f each (x ∷ xs) (y ∷ ys) h = λ i. each x.shard y.shard h.0 i ∷ same_map f each xs ys h.1 i
+
+-- there are as many
+pub as_long : (xs ys : List Share) → AreSameShares xs ys → length ys ≡ length xs
+as_long [] [] h = refl
+as_long [] (y ∷ ys) h = absurd h
+as_long (x ∷ xs) [] h = absurd h
+as_long (x ∷ xs) (y ∷ ys) h = ap suc (as_long xs ys h.1)
+
+-- of one case
+one_case : (c d : Case) (xs ys : List Share) → 0 < length xs → AreSameShares xs ys → AllByRecursion (λ s. s.shard.case ≡ c) xs → AllByRecursion (λ s. s.shard.case ≡ d) ys → d ≡ c
 one_case c d [] ys some same h k = absurd (omega (arith, some))
-one_case c d (x ∷ xs) [] some same h k = absurd (let long = ap length same in omega (arith, long))
-one_case c d (x ∷ xs) (y ∷ ys) some same h k = sym h.0 ∙ (ap (λ cs. slice_index_or cs 0 y.shard.case) same ∙ k.0)
+one_case c d (x ∷ xs) [] some same h k = absurd same
+one_case c d (x ∷ xs) (y ∷ ys) some same h k = sym k.0 ∙ (same.0.case ∙ h.0)
 
-as_long : {A : Type 0} (f : Share → A) (xs ys : List Share) → map f xs ≡ map f ys → length xs ≡ length ys
-as_long f xs ys e = sym (length-map xs f) ∙ (ap length e ∙ length-map ys f)
+-- and keep their events as before
+still_keep : (xs ys : List Share) → AreSameShares xs ys → AllByRecursion (λ (t : Share). t.shard.keeps ≡ true) xs → AllByRecursion (λ (t : Share). t.shard.keeps ≡ true) ys
+still_keep [] [] same h = tt
+still_keep [] (y ∷ ys) same h = absurd same
+still_keep (x ∷ xs) [] same h = tt
+still_keep (x ∷ xs) (y ∷ ys) same h = (same.0.keeps ∙ h.0, still_keep xs ys same.1 h.1)
 
--- there are as many workers as before
-pub same_workers : (s : Sim) (y : Board) (shares : List Share) → IsSim s → IsWhole y shares → map (λ t. t.shard.case) shares ≡ map (λ t. t.shard.case) s.shares
-    → workers y ≡ workers s.board
-same_workers s y shares is whole cases = sym whole.ruled.count ∙ (as_long (λ t. t.shard.case) shares s.shares cases ∙ is.ruled.count)
+-- ---- so the run goes on
 
-pub goes_on : (s : Sim) (y : Board) (shares : List Share) → IsSim s → IsWhole y shares → map (λ t. t.shard.case) shares ≡ map (λ t. t.shard.case) s.shares
-    → map (λ t. t.shard.worker) shares ≡ map (λ t. t.shard.worker) s.shares → y.stop ≡ s.board.stop → IsSim (record { case = s.case; board = y; shares = shares })
-goes_on s y shares is whole cases numbers stop =
-    let long = as_long (λ t. t.shard.case) shares s.shares cases in
-    let same = same_workers s y shares is whole cases in
-    let some : 0 < length shares = (let n = is.some in let m = long ∙ is.ruled.count in omega (arith, n, m)) in
-    let case = one_case whole.case s.case shares s.shares some cases whole.ruled.cases is.ruled.cases in
+same_workers : (s : Sim) (y : Board) (shares : List Share) → IsSim s → IsWhole y shares → AreSameShares s.shares shares → workers y ≡ workers s.board
+same_workers s y shares is whole same = sym whole.ruled.count ∙ (as_long s.shares shares same ∙ is.ruled.count)
+
+pub still_sim : (s : Sim) (y : Board) (shares : List Share) → IsSim s → IsWhole y shares → AreSameShares s.shares shares → y.stop ≡ s.board.stop
+    → IsSim (record { case = s.case; board = y; shares = shares })
+still_sim s y shares is whole same stop =
+    let long = same_workers s y shares is whole same in
+    let some : 0 < length s.shares = (let n = is.some in let m = is.ruled.count in omega (arith, n, m)) in
+    let case = one_case s.case whole.case s.shares shares some same is.ruled.cases whole.ruled.cases in
     record {
-      some = (let n = is.some in omega (arith, n, same));
-      order = numbers ∙ (is.order ∙ ap (range_with_len 0) (sym same));
+      some = (let n = is.some in omega (arith, n, long));
+      order = same_map (λ t. t.worker) (λ t u is. is.worker) s.shares shares same ∙ (is.order ∙ ap (range_with_len 0) (sym long));
       ruled = subst (λ c. IsRuled c y shares) case whole.ruled;
       stop = (let n = is.stop in omega (arith, n, stop));
     }
+
+pub goes_on : (s : Sim) (y : Board) (shares : List Share) → IsSim s → IsWhole y shares → AreSameShares s.shares shares → s.board.bound ≤ y.bound
+    → GoesOn s (record { case = s.case; board = y; shares = shares })
+goes_on s y shares is whole same bound = record {
+  case = refl;
+  workers = same_workers s y shares is whole same;
+  keeps = still_keep s.shares shares same;
+  bound = bound;
+}
+
+pub goes_on_both : (s t u : Sim) → GoesOn s t → GoesOn t u → GoesOn s u
+goes_on_both s t u one two = record {
+  case = two.case ∙ one.case;
+  workers = two.workers ∙ one.workers;
+  keeps = λ all. two.keeps (one.keeps all);
+  bound = (let a = one.bound in let b = two.bound in omega (arith, a, b));
+}
 
 pub same_numbers : {A B : Type 0} (f : A → ℕ) (g : B → ℕ) (n : ℕ) (xs : List A) (ys : List B) → length xs ≡ length ys → AllByRecursion (λ x. f x ≡ n) xs
     → AllByRecursion (λ y. g y ≡ n) ys → map f xs ≡ map g ys
@@ -46,9 +81,6 @@ same_numbers f g n [] [] e h k = refl
 same_numbers f g n [] (y ∷ ys) e h k = absurd (omega (arith, e))
 same_numbers f g n (x ∷ xs) [] e h k = absurd (omega (arith, e))
 same_numbers f g n (x ∷ xs) (y ∷ ys) e h k = λ i. (h.0 ∙ sym k.0) i ∷ same_numbers f g n xs ys (omega (arith, e)) h.1 k.1 i
-
-pub as_many : {A B : Type 0} (f : A → B) (xs ys : List A) → map f xs ≡ map f ys → length xs ≡ length ys
-as_many f xs ys e = sym (length-map xs f) ∙ (ap length e ∙ length-map ys f)
 
 pub long_shares : (shards : List Shard) (hands : List Hand) → length hands ≡ length shards → length (shares_of shards hands) ≡ length shards
 long_shares [] [] e = refl
@@ -67,11 +99,3 @@ pub not_below : (s : Sim) (bound : ℕ) (seats : List Seat) → IsSim s → map 
     → AllByRecursion (λ u. bound_at u ≤ bound) seats → s.board.bound ≤ bound
 not_below s bound [] is own h k = absurd (let none = ap length own in let some = is.some in let all = is.ruled.count in omega (arith, none, some, all))
 not_below s bound (u ∷ seats) is own h k = (let e : bound_at u ≡ s.board.bound = h.0 in let l : bound_at u ≤ bound = k.0 in omega (arith, e, l))
-
--- shares that keep their events as others do keep them where these do
-pub still_keep : (xs ys : List Share) → map (λ (t : Share). t.shard.keeps) ys ≡ map (λ (t : Share). t.shard.keeps) xs → AllByRecursion (λ (t : Share). t.shard.keeps ≡ true) xs
-    → AllByRecursion (λ (t : Share). t.shard.keeps ≡ true) ys
-still_keep [] [] same h = tt
-still_keep [] (y ∷ ys) same h = absurd (let long = ap length same in omega (arith, long))
-still_keep (x ∷ xs) [] same h = tt
-still_keep (x ∷ xs) (y ∷ ys) same h = (ap (λ bs. slice_index_or bs 0 true) same ∙ h.0, still_keep xs ys (ap (drop 1) same) h.1)

@@ -43,3 +43,10 @@ committed_events s = insert_all event_before (flat_map (λ r. committed (simulat
 -- where a run goes on to another stop
 abbrev pub reopened : ℕ → Sim → Sim
 reopened stop s = record s { board = record s.board { stop = stop; halted = false } }
+
+-- the run later: of the same case, with as many workers, whose routers keep their events if they did, its bound not fallen
+pub record GoesOn (s t : Sim) : Type 0 where
+  pub case : t.case ≡ s.case
+  pub workers : workers t.board ≡ workers s.board
+  pub keeps : KeepsEvents s → KeepsEvents t
+  pub bound : s.board.bound ≤ t.board.bound

@@ -1,12 +1,11 @@
 //! A parallel run goes on to a stop, with a thread for each worker.
-ghost use Rattle.std.specs.Prelude.{◌≡◌, ◌↔◌, ◌<◌, ◌≤◌, ◌⊎◌, IfErr, IfOk, Some, length};
+ghost use Rattle.std.specs.Prelude.{◌≡◌, ◌↔◌, ◌<◌, ◌⊎◌, IfErr, IfOk, Some, length};
 ghost use Rattle.std.specs.Result.{IsErrAnd};
-ghost use Rattle.tw_exchange.specs.Board.{workers};
 ghost use Rattle.tw_model.specs.declared.limits.TheConstants.{LATEST};
 ghost use Rattle.tw_parallel.specs.Ending.{IsSettled};
 ghost use Rattle.tw_parallel.specs.Inside.{HasHands, run_of};
 ghost use Rattle.tw_parallel.specs.Crew.{HasRoom};
-ghost use Rattle.tw_parallel.specs.Sim.{IsSim, KeepsEvents};
+ghost use Rattle.tw_parallel.specs.Sim.{GoesOn, IsSim};
 ghost use Rattle.tw_threads.specs.Left.{IsFullAhead};
 ghost use Rattle.tw_threads.specs.declared.end_cause.EndCause.TheVariants as end_cause;
 
@@ -50,16 +49,12 @@ pub fn run_until<'a, G: Gate + Sync, R: Threads + Wait + Sync>(
 ) -> Result<Sim<'a>, Ended<'a>>
     ensures settled { IfOk result (λ s. IsSettled s) }
     ensures sim { IfOk result (λ s. IsSim s) }
-    ensures case { IfOk result (λ s. s.case ≡ sim.entry.case) }
+    ensures goes_on { IfOk result (λ s. GoesOn sim.entry s) }
     ensures stop { IfOk result (λ s. s.board.stop ≡ stop) }
-    ensures keeps { KeepsEvents sim.entry → IfOk result (λ s. KeepsEvents s) }
-    ensures ended_keeps { KeepsEvents sim.entry → IfErr result (λ e. KeepsEvents e.sim) }
     ensures ended_sim { IfErr result (λ e. IsSim e.sim) }
-    ensures workers { IfOk result (λ s. workers s.board ≡ workers sim.entry.board) }
-    ensures ended_workers { IfErr result (λ e. workers e.sim.board ≡ workers sim.entry.board) }
+    ensures ended { IfErr result (λ e. GoesOn sim.entry e.sim) }
     ensures ended_stop { IfErr result (λ e. (e.cause ≡ end_cause.StopLower → ⊥) → e.sim.board.stop ≡ stop) }
-    ensures ended_case { IfErr result (λ e. e.sim.case ≡ sim.entry.case) }
-    ensures bound { IfErr result (λ e. (sim.entry.board.bound ≤ e.sim.board.bound) × (e.bound ≡ e.sim.board.bound)) }
+    ensures bound { IfErr result (λ e. e.bound ≡ e.sim.board.bound) }
     ensures lower { IsErrAnd result (λ e. e.cause ≡ end_cause.StopLower) ↔ ((stop < sim.entry.board.stop) ⊎ (LATEST < stop)) }
     ensures unchanged { IfErr result (λ e. e.cause ≡ end_cause.StopLower → e.sim ≡ sim.entry) }
     ensures full { IfErr result (λ e. e.cause ≡ end_cause.CounterFull → IsFullAhead e.sim.board.stop e.sim.shares) }
@@ -80,16 +75,12 @@ fn run<'a, G: Gate + Sync, R: Threads + Wait + Sync>(
 ) -> Result<Sim<'a>, Ended<'a>>
     ensures settled { IfOk result (λ s. IsSettled s) }
     ensures sim { IfOk result (λ s. IsSim s) }
-    ensures case { IfOk result (λ s. s.case ≡ sim.entry.case) }
+    ensures goes_on { IfOk result (λ s. GoesOn sim.entry s) }
     ensures stop { IfOk result (λ s. s.board.stop ≡ sim.entry.board.stop) }
-    ensures keeps { KeepsEvents sim.entry → IfOk result (λ s. KeepsEvents s) }
-    ensures ended_keeps { KeepsEvents sim.entry → IfErr result (λ e. KeepsEvents e.sim) }
     ensures ended_sim { IfErr result (λ e. IsSim e.sim) }
-    ensures workers { IfOk result (λ s. workers s.board ≡ workers sim.entry.board) }
-    ensures ended_workers { IfErr result (λ e. workers e.sim.board ≡ workers sim.entry.board) }
+    ensures ended { IfErr result (λ e. GoesOn sim.entry e.sim) }
     ensures ended_stop { IfErr result (λ e. e.sim.board.stop ≡ sim.entry.board.stop) }
-    ensures ended_case { IfErr result (λ e. e.sim.case ≡ sim.entry.case) }
-    ensures bound { IfErr result (λ e. (sim.entry.board.bound ≤ e.sim.board.bound) × (e.bound ≡ e.sim.board.bound)) }
+    ensures bound { IfErr result (λ e. e.bound ≡ e.sim.board.bound) }
     ensures lower { IsErrAnd result (λ e. e.cause ≡ end_cause.StopLower) → ⊥ }
     ensures full { IfErr result (λ e. e.cause ≡ end_cause.CounterFull → IsFullAhead e.sim.board.stop e.sim.shares) }
 {
@@ -129,11 +120,8 @@ fn run_once<'a, G: Gate + Sync, R: Threads + Wait + Sync>(
     gate: &G,
 ) -> (Sim<'a>, Option<EndCause>)
     ensures sim { IsSim result.0 }
-    ensures case { result.0.case ≡ sim.entry.case }
+    ensures goes_on { GoesOn sim.entry result.0 }
     ensures stop { result.0.board.stop ≡ sim.entry.board.stop }
-    ensures workers { workers result.0.board ≡ workers sim.entry.board }
-    ensures keeps { KeepsEvents sim.entry → KeepsEvents result.0 }
-    ensures bound { sim.entry.board.bound ≤ result.0.board.bound }
     ensures lower { result.1 ≡ Some end_cause.StopLower → ⊥ }
     ensures full { result.1 ≡ Some end_cause.CounterFull → IsFullAhead result.0.board.stop result.0.shares }
 {
@@ -158,11 +146,8 @@ fn run_at_table<'a, G: Gate + Sync, R: Threads + Wait + Sync>(
     requires room { HasRoom (length parts.shards.items) room }
     ensures sim { IsSim (run_of result.0) }
     ensures hands { HasHands result.0 }
-    ensures case { (run_of result.0).case ≡ (run_of parts.entry).case }
+    ensures goes_on { GoesOn (run_of parts.entry) (run_of result.0) }
     ensures stop { (run_of result.0).board.stop ≡ (run_of parts.entry).board.stop }
-    ensures workers { workers (run_of result.0).board ≡ workers (run_of parts.entry).board }
-    ensures keeps { KeepsEvents (run_of parts.entry) → KeepsEvents (run_of result.0) }
-    ensures bound { (run_of parts.entry).board.bound ≤ (run_of result.0).board.bound }
     ensures lower { result.1 ≡ Some end_cause.StopLower → ⊥ }
     ensures full { result.1 ≡ Some end_cause.CounterFull → IsFullAhead (run_of result.0).board.stop (run_of result.0).shares }
 {

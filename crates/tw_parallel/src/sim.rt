@@ -1,5 +1,4 @@
-//! A parallel run between two runs of its workers.
-
+//! A parallel run between two runs of its workers, and what it consists of.
 ghost use Rattle.std.specs.Prelude.{◌≡◌, ◌↔◌, ◌<◌, ◌≤◌, true, IfOk, IsOk, IsTrue, OnErr, OnOk, length};
 ghost use Rattle.std.specs.List.{list_all};
 ghost use Rattle.tw_core.specs.Machine.{IsOpening};

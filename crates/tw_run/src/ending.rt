@@ -1,5 +1,4 @@
-//! What a run by workers leaves, as a report shows it.
-
+//! What a parallel run leaves at its stop, as the one-thread run tells it.
 ghost use Rattle.std.specs.Prelude.{◌≡◌, true, IfOk};
 ghost use Rattle.tw_commands.specs.Seq.{shown};
 ghost use Rattle.tw_model.specs.Summary.{summary_of};

@@ -1,5 +1,4 @@
-//! The command `run`: a case by workers in threads (docs/DECISIONS.md, 'Programs': it is no `Command`).
-
+//! The command `run`: from the text of a case to its report.
 ghost use Rattle.std.specs.Prelude.{◌≡◌, ◌≤◌, ◌<◌, false, IfOk, IfSome, IsErrOf, OnOk};
 ghost use Rattle.tw_commands.specs.declared.cause.Cause.TheVariants as cause;
 ghost use Rattle.tw_commands.specs.Seq.{GetsStuckFor, found_to, seq_output, seq_report, shown};

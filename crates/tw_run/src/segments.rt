@@ -1,11 +1,10 @@
-//! From checkpoint to checkpoint by workers.
-
+//! A run goes on to its stop at once, or from checkpoint to checkpoint.
 ghost use Rattle.std.specs.Prelude.{◌≡◌, ◌≤◌, ◌<◌, ◌/◌, IfOk, IfSome, IsErrOf};
 ghost use Rattle.tw_commands.specs.declared.cause.Cause.TheVariants as cause;
 ghost use Rattle.tw_commands.specs.Seq.{found_to};
 ghost use Rattle.tw_model.specs.declared.limits.TheConstants.{LATEST};
 ghost use Rattle.tw_parallel.specs.Ending.{IsSettled};
-ghost use Rattle.tw_parallel.specs.Sim.{IsSim, KeepsEvents};
+ghost use Rattle.tw_parallel.specs.Sim.{GoesOn, IsSim};
 ghost use Rattle.tw_shape.specs.Shape.{shape as shape_at};
 ghost use Rattle.tw_shape.specs.Verdict.{finding};
 
@@ -28,9 +27,8 @@ fn run_to<'a, X: Threads + Wait + Sync>(
     requires latest { stop ≤ LATEST }
     ensures settled { IfOk result (λ s. IsSettled s) }
     ensures sim { IfOk result (λ s. IsSim s) }
-    ensures case { IfOk result (λ s. s.case ≡ sim.entry.case) }
+    ensures goes_on { IfOk result (λ s. GoesOn sim.entry s) }
     ensures stop { IfOk result (λ s. s.board.stop ≡ stop) }
-    ensures keeps { KeepsEvents sim.entry → IfOk result (λ s. KeepsEvents s) }
     ensures device { IsErrOf result cause.Device → ⊥ }
 {
     match run_until(rt, sim, stop, Options { batch }, &OpenGate) {
@@ -53,9 +51,8 @@ pub(crate) fn run_through<'a, X: Threads + Wait + Sync>(
     requires stop { stop ≤ LATEST }
     requires every { IfSome every (λ n. (0 < n) × (n ≤ LATEST)) }
     ensures settled { IfOk result (λ left. IsSettled left.0) }
-    ensures case { IfOk result (λ left. left.0.case ≡ sim.entry.case) }
+    ensures goes_on { IfOk result (λ left. GoesOn sim.entry left.0) }
     ensures stop { IfOk result (λ left. left.0.board.stop ≡ stop) }
-    ensures keeps { KeepsEvents sim.entry → IfOk result (λ left. KeepsEvents left.0) }
     ensures device { IsErrOf result cause.Device → ⊥ }
     ensures found { IfOk result (λ left. left.1 ≡ found_to sim.entry.case stop every) }
 {
@@ -83,9 +80,8 @@ fn run_watched<'a, X: Threads + Wait + Sync>(
     requires some { 0 < every }
     requires most { every ≤ LATEST }
     ensures settled { IfOk result (λ left. IsSettled left.0) }
-    ensures case { IfOk result (λ left. left.0.case ≡ sim.entry.case) }
+    ensures goes_on { IfOk result (λ left. GoesOn sim.entry left.0) }
     ensures stop { IfOk result (λ left. left.0.board.stop ≡ stop) }
-    ensures keeps { KeepsEvents sim.entry → IfOk result (λ left. KeepsEvents left.0) }
     ensures device { IsErrOf result cause.Device → ⊥ }
     ensures found { IfOk result (λ left. left.1 ≡ finding sim.entry.case every (stop / every)) }
 {

@@ -1,5 +1,4 @@
-//! A worker's hand.
-
+//! The messages in a worker's hand.
 ghost use Rattle.std.specs.Prelude.{◌≡◌, []};
 
 use std::alloc::Global;

@@ -1,5 +1,4 @@
-//! A worker's seat.
-
+//! A worker's right to take the table: without the exchange, and with it.
 ghost use Rattle.std.specs.Prelude.{◌≡◌, ◌↔◌, ◌<◌, ◌≤◌, IfErr, IfOk, IsTrue, OnErr, OnOk, length};
 ghost use Rattle.std.specs.Result.{IsErrAnd};
 ghost use Rattle.crossbeam_queue.specs.Passes.{view};

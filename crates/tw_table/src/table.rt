@@ -1,5 +1,4 @@
-//! The table (docs/DECISIONS.md, 'Threads': an exchange in a queue with one place).
-
+//! The table that the workers take in turn.
 ghost use Rattle.std.specs.Prelude.{◌≡◌, ◌<◌};
 ghost use Rattle.crossbeam_queue.specs.Passes.{ruled_capacity};
 

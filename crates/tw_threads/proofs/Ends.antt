@@ -3,28 +3,20 @@ use Rattle.std.proofs.Common.{◌≡◌, ℕ, suc, zero, ◌≤◌, List, [], �
 use Rattle.std.proofs.lemmas.Option.{none-some, same_Some, slice_get-map}
 use Rattle.std.specs.List.{AllByRecursion, AllZip}
 use Rattle.std.specs.Option.{option_map}
+use Rattle.tw_shard.specs.Shard.{IsSameShare}
 use Rattle.tw_table.specs.Seats.{IsSeatOf, bound_at, share_at, stop_at, workers_at}
 use Rattle.tw_table.specs.Shares.{Share}
 use Rattle.tw_table.specs.declared.seat.Seat.{Seat}
 use Rattle.tw_table.specs.declared.table.Table.{Table}
 use Rattle.tw_threads.specs.Left.{HasLeft, IsFull, IsFullAhead}
 use Rattle.tw_threads.specs.Started.{IsSomeFull}
-
-pub mapped : {A B C : Type 0} (f : A → B) (g : B → C) (xs : List A) → map (λ x. g (f x)) xs ≡ map g (map f xs)
-mapped f g [] = refl
-mapped f g (x ∷ xs) = ap (λ ys. g (f x) ∷ ys) (mapped f g xs)
+use Rattle.tw_workers.specs.Seated.{HasTurned, IsSeated}
+use Rattle.tw_workers.specs.Work.{AreSameShares, Worker}
 
 all_get : {X : Type 0} (P : X → Type 0) (xs : List X) (i : ℕ) (x : X) → AllByRecursion P xs → slice_get xs i ≡ Some x → P x
 all_get P [] i x h e = absurd (none-some x e)
 all_get P (y ∷ xs) zero x h e = subst P (same_Some y x e) h.0
 all_get P (y ∷ xs) (suc i) x h e = all_get P xs i x h.1 e
-
-map_after : {A : Type 0} (t : Table) (f : Seat → A) → ((s u : Seat) → HasLeft t s u → f u ≡ f s) → (before after : List Seat) → AllZip (HasLeft t) before after
-    → map f after ≡ map f before
-map_after t f same [] [] h = refl
-map_after t f same [] (u ∷ after) h = absurd h
-map_after t f same (s ∷ before) [] h = absurd h
-map_after t f same (s ∷ before) (u ∷ after) h = λ i. same s u h.0 i ∷ map_after t f same before after h.1 i
 
 pub seats_after : (t : Table) (before after : List Seat) → AllZip (HasLeft t) before after → AllByRecursion (IsSeatOf t) after
 seats_after t [] [] h = tt
@@ -38,13 +30,27 @@ as_many t [] (u ∷ after) h = absurd h
 as_many t (s ∷ before) [] h = absurd h
 as_many t (s ∷ before) (u ∷ after) h = ap suc (as_many t before after h.1)
 
--- what a shard keeps, all workers keep
-pub workers_keep : {W A : Type 0} (share : W → Share) (f : Share → A) (t : Table) (before after : List Seat) (were are : List W)
-    → ((s u : Seat) → HasLeft t s u → f (share_at u) ≡ f (share_at s)) → AllZip (HasLeft t) before after
-    → map share_at before ≡ map share were → map share_at after ≡ map share are → map (λ w. f (share w)) are ≡ map (λ w. f (share w)) were
-workers_keep share f t before after were are same left old now =
-    mapped share f are ∙ (ap (map f) (sym now) ∙ (sym (mapped share_at f after) ∙ (map_after t (λ s. f (share_at s)) same before after left
-    ∙ (mapped share_at f before ∙ (ap (map f) old ∙ sym (mapped share f were))))))
+-- a worker that has turned has left so
+pub left_turned : (t : Table) (before after : Seat) (v w : Worker) → IsSeated t before v.share v.stop → HasTurned t before after v w → HasLeft t before after
+left_turned t before after v w seated turned = record {
+  seat = turned.seated.seat;
+  stop = turned.seated.stop ∙ (turned.same.stop ∙ sym seated.stop);
+  bound = turned.bound;
+  same = subst (λ (s : Share). IsSameShare s.shard (share_at after).shard) (sym seated.share)
+      (subst (λ (s : Share). IsSameShare v.share.shard s.shard) (sym turned.seated.share) turned.same.shard);
+}
+
+same_after : (t : Table) (before after : List Seat) → AllZip (HasLeft t) before after → AreSameShares (map share_at before) (map share_at after)
+same_after t [] [] h = tt
+same_after t [] (u ∷ after) h = absurd h
+same_after t (s ∷ before) [] h = absurd h
+same_after t (s ∷ before) (u ∷ after) h = (h.0.same, same_after t before after h.1)
+
+-- so what the workers have is the same workers' later
+pub all_same : {W : Type 0} (share : W → Share) (t : Table) (before after : List Seat) (were are : List W) → AllZip (HasLeft t) before after
+    → map share_at before ≡ map share were → map share_at after ≡ map share are → AreSameShares (map share were) (map share are)
+all_same share t before after were are left old now =
+    subst (λ ss. AreSameShares ss (map share are)) old (subst (AreSameShares (map share_at before)) now (same_after t before after left))
 
 -- what holds of seats after, and so of those before
 all_before : (t : Table) (P Q : Seat → Type 0) → ((s u : Seat) → HasLeft t s u → Q u → P s) → (before after : List Seat) → AllZip (HasLeft t) before after

@@ -1,7 +1,7 @@
 -- How workers leave a table (own).
 use Rattle.std.specs.Prelude.{ℕ, ◌≡◌, ◌≤◌, Err, List, Some, slice_get, true}
 use Rattle.tw_core.specs.declared.refusal.Refusal.TheVariants as refusal
-use Rattle.tw_shard.specs.Shard.{Shard, handling}
+use Rattle.tw_shard.specs.Shard.{IsSameShare, Shard, handling}
 use Rattle.tw_table.specs.Seats.{IsSeatOf, bound_at, halted_at, share_at, stop_at}
 use Rattle.tw_table.specs.Shares.{Share}
 use Rattle.tw_table.specs.declared.seat.Seat.{Seat}
@@ -14,12 +14,8 @@ pub record HasLeft (t : Table) (before after : Seat) : Type 0 where
   pub seat : IsSeatOf t after
   pub stop : stop_at after ≡ stop_at before
   pub bound : bound_at before ≤ bound_at after
-  -- its shard is of the same case and the same worker
-  pub case : (share_at after).shard.case ≡ (share_at before).shard.case
-  pub worker : (share_at after).shard.worker ≡ (share_at before).shard.worker
-  pub workers : (share_at after).shard.workers ≡ (share_at before).shard.workers
-  -- and its routers keep their committed events, or let them go, as before
-  pub keeps : (share_at after).shard.keeps ≡ (share_at before).shard.keeps
+  -- its share is the same worker's
+  pub same : IsSameShare (share_at before).shard (share_at after).shard
 
 -- a counter of one of a shard's routers would pass its limit at its next event
 abbrev pub IsFull : ℕ → Shard → Type 0

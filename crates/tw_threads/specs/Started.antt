@@ -1,7 +1,7 @@
 -- Workers that were started, and what all of them leave (own).
 use Rattle.std.specs.Prelude.{ℕ, ◌≡◌, List, Option, Some, map, slice_get}
-use Rattle.std.specs.List.{AllZip}
-use Rattle.tw_table.specs.Seats.{share_at, stop_at}
+use Rattle.std.specs.List.{AllByRecursion, AllZip}
+use Rattle.tw_table.specs.Seats.{IsSeatOf, share_at, stop_at}
 use Rattle.tw_table.specs.Shares.{Share}
 use Rattle.tw_table.specs.declared.seat.Seat.{Seat}
 use Rattle.tw_table.specs.declared.table.Table.{Table}
@@ -17,6 +17,13 @@ pub record IsSomeFull (seats : List Seat) : Type 0 where
   pub seat : Seat
   pub there : slice_get seats at ≡ Some seat
   pub full : IsFull (stop_at seat) (share_at seat).shard
+
+module _ {W : Type 0} (share : W → Share) (stop : W → ℕ) where
+  -- these seats are of one table and of these workers, in their order, each with its worker's share and stop
+  pub record AreSeated (t : Table) (seats : List Seat) (workers : List W) : Type 0 where
+    pub own : AllByRecursion (IsSeatOf t) seats
+    pub shares : map share_at seats ≡ map share workers
+    pub stops : map stop_at seats ≡ map stop workers
 
 module _ {W : Type 0} (share : W → Share) where
   -- the worker of a seat was started: its thread promises what it leaves, or it has left

@@ -1,10 +1,11 @@
 //! All workers run.
 ghost use Rattle.std.specs.Prelude.{◌≡◌, ◌≤◌, Some, [], false, length, map, true, vec_capacity, vec_len};
 ghost use Rattle.std.specs.List.{AllByRecursion, AllZip};
-ghost use Rattle.tw_table.specs.Seats.{IsSeatOf, bound_at, share_at, stop_at, workers_at};
+ghost use Rattle.tw_table.specs.Seats.{bound_at, stop_at, workers_at};
 ghost use Rattle.tw_table.specs.Shares.{IsWhole};
 ghost use Rattle.tw_threads.specs.Left.{IsFullAhead};
-ghost use Rattle.tw_threads.specs.Started.{HaveLeft, IsStarted};
+ghost use Rattle.tw_threads.specs.Started.{AreSeated, HaveLeft, IsStarted};
+ghost use Rattle.tw_workers.specs.Work.{AreSameShares};
 ghost use Rattle.tw_threads.specs.declared.end_cause.EndCause.TheVariants as cause;
 
 use crate::end_cause::EndCause;
@@ -45,14 +46,9 @@ pub fn run_all<W: Work + Send + Drop, G: Gate + Sync, R: Threads + Wait + Sync>(
     gate: &G,
 ) -> Ran<W>
     requires all { vec_len seats ≡ workers_at table }
-    requires seats { AllByRecursion (IsSeatOf table) seats.items }
-    requires shares { map share_at seats.items ≡ map W.share workers.items }
-    requires stops { map stop_at seats.items ≡ map W.stop workers.items }
+    requires seated { AreSeated W.share W.stop table seats.items workers.items }
     ensures whole { IsWhole result.exchange (map W.share result.workers.items) }
-    ensures cases { map (λ w. (W.share w).shard.case) result.workers.items ≡ map (λ w. (W.share w).shard.case) workers.items }
-    ensures numbers { map (λ w. (W.share w).shard.worker) result.workers.items ≡ map (λ w. (W.share w).shard.worker) workers.items }
-    ensures counts { map (λ w. (W.share w).shard.workers) result.workers.items ≡ map (λ w. (W.share w).shard.workers) workers.items }
-    ensures keeps { map (λ w. (W.share w).shard.keeps) result.workers.items ≡ map (λ w. (W.share w).shard.keeps) workers.items }
+    ensures same { AreSameShares (map W.share workers.items) (map W.share result.workers.items) }
     ensures stop { AllByRecursion (λ s. stop_at s ≡ result.exchange.stop) seats.items }
     ensures bound { AllByRecursion (λ s. bound_at s ≤ result.exchange.bound) seats.items }
     ensures lower { result.cause ≡ Some cause.StopLower → ⊥ }
@@ -83,9 +79,7 @@ fn gather<W: Work + Send + Drop, G: Gate + Sync, R: Threads + Wait + Sync>(
     seats: Vec<Seat>,
     gate: &G,
 ) -> Gathered<W>
-    requires seats { AllByRecursion (IsSeatOf table.now) seats.items }
-    requires shares { map share_at seats.items ≡ map W.share workers.items }
-    requires stops { map stop_at seats.items ≡ map W.stop workers.items }
+    requires { AreSeated W.share W.stop table.now seats.items workers.items }
     ensures { HaveLeft W.share table.now seats.items result.seats.items result.workers.items result.cause }
 {
     let count = workers.len();
@@ -106,9 +100,7 @@ fn gather<W: Work + Send + Drop, G: Gate + Sync, R: Threads + Wait + Sync>(
         |scope| -> Vec<Started<W>>
             requires empty { started.items ≡ [] }
             requires room { length workers.items ≤ vec_capacity started }
-            requires seats { AllByRecursion (IsSeatOf table.now) seats.items }
-            requires shares { map share_at seats.items ≡ map W.share workers.items }
-            requires stops { map stop_at seats.items ≡ map W.stop workers.items }
+            requires seated { AreSeated W.share W.stop table.now seats.items workers.items }
             ensures count { vec_len result ≡ vec_len workers }
             ensures started { AllZip (IsStarted W.share table.entry.now) seats.items result.items }
         { start_all(scope, rt, table, gate, told, workers, seats, started) },

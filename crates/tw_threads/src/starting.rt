@@ -1,9 +1,9 @@
 //! The threads of workers are started.
-ghost use Rattle.std.specs.Prelude.{◌≡◌, ◌≤◌, [], length, map, vec_capacity, vec_len};
-ghost use Rattle.std.specs.List.{AllByRecursion, AllZip};
-ghost use Rattle.tw_table.specs.Seats.{IsSeatOf, share_at, stop_at};
+ghost use Rattle.std.specs.Prelude.{◌≡◌, ◌≤◌, [], length, vec_capacity, vec_len};
+ghost use Rattle.std.specs.List.{AllZip};
 ghost use Rattle.tw_threads.specs.Left.{IsLeft};
-ghost use Rattle.tw_threads.specs.Started.{IsStarted};
+ghost use Rattle.tw_threads.specs.Started.{AreSeated, IsStarted};
+ghost use Rattle.tw_workers.specs.Seated.{IsSeated};
 
 use crate::work::Work;
 use std::snapshot::Snapshot;
@@ -61,9 +61,7 @@ pub(crate) fn start_all<
 ) -> Vec<Started<W>>
     requires empty { started.items ≡ [] }
     requires room { length workers.items ≤ vec_capacity started }
-    requires seats { AllByRecursion (IsSeatOf table.now) seats.items }
-    requires shares { map share_at seats.items ≡ map W.share workers.items }
-    requires stops { map stop_at seats.items ≡ map W.stop workers.items }
+    requires seated { AreSeated W.share W.stop table.now seats.items workers.items }
     ensures count { vec_len result ≡ vec_len workers }
     ensures started { AllZip (IsStarted W.share table.now) seats.items result.items }
 {
@@ -89,9 +87,7 @@ fn start<'s, E, W: Work + Send + Drop + 's, G: Gate + Sync + 's, R: Threads + Wa
     worker: W,
     seat: Seat,
 ) -> Started<W>
-    requires seat { IsSeatOf table.now seat }
-    requires share { share_at seat ≡ W.share worker }
-    requires stop { stop_at seat ≡ W.stop worker }
+    requires { IsSeated table.now seat (W.share worker) (W.stop worker) }
     ensures { IsStarted W.share table.now seat result }
 {
     let promise = Leaves {
@@ -99,9 +95,7 @@ fn start<'s, E, W: Work + Send + Drop + 's, G: Gate + Sync + 's, R: Threads + Wa
         seat: Snapshot::of(&seat),
     };
     let turns = move || -> Left<W>
-        requires seat { IsSeatOf table.now seat }
-        requires share { share_at seat ≡ W.share worker }
-        requires stop { stop_at seat ≡ W.stop worker }
+        requires { IsSeated table.now seat (W.share worker) (W.stop worker) }
         ensures { IsLeft (W.share result.worker) table.entry.now seat result.seat result.why }
     { run(rt, table, gate, refused, worker, seat) };
     match scope.spawn_with(promise, turns) {
@@ -123,9 +117,7 @@ fn run<W: Work, G: Gate, R: Wait>(
     worker: W,
     seat: Seat,
 ) -> Left<W>
-    requires seat { IsSeatOf table.now seat }
-    requires share { share_at seat ≡ W.share worker }
-    requires stop { stop_at seat ≡ W.stop worker }
+    requires { IsSeated table.now seat (W.share worker) (W.stop worker) }
     ensures { IsLeft (W.share result.worker) table.now seat result.seat result.why }
 {
     let mut worker = worker;

@@ -1,9 +1,9 @@
-//! A worker, as a thread knows it (docs/DECISIONS.md, 'Threads': threads know no case).
-
+//! What a thread knows of a worker.
 ghost use Rattle.std.specs.Prelude.{◌≡◌, ℕ, false, true};
-ghost use Rattle.tw_table.specs.Seats.{IsSeatOf, halted_at, share_at, stop_at};
+ghost use Rattle.tw_table.specs.Seats.{halted_at, share_at, stop_at};
 ghost use Rattle.tw_table.specs.Shares.{Share};
 ghost use Rattle.tw_threads.specs.Left.{HasLeft, IsFull};
+ghost use Rattle.tw_workers.specs.Seated.{IsSeated};
 ghost use Rattle.tw_workers.specs.declared.working.Leaving.TheVariants.{CounterFull, Halted, Settled};
 
 use std::sync::Wait;
@@ -25,9 +25,7 @@ pub trait Work {
         gate: &G,
         seat: Seat,
     ) -> (Seat, Leaving)
-        requires seat { IsSeatOf table.now seat }
-        requires share { share_at seat ≡ share self.old }
-        requires stop { stop_at seat ≡ stop self.old }
+        requires { IsSeated table.now seat (share self.old) (stop self.old) }
         ensures left { HasLeft table.now seat result.0 }
         ensures share { share_at result.0 ≡ share self.new }
         ensures halts { (result.1 ≡ Settled → ⊥) → halted_at result.0 ≡ true }
@@ -38,9 +36,7 @@ pub trait Work {
     /// It takes no turn, and tells all workers to take no further one. The seat is its own, at this table, and
     /// what it gave there last it still has.
     fn leave<R: Wait>(&self, rt: &R, table: &Table, seat: Seat) -> Seat
-        requires seat { IsSeatOf table.now seat }
-        requires share { share_at seat ≡ share self.now }
-        requires stop { stop_at seat ≡ stop self.now }
+        requires { IsSeated table.now seat (share self.now) (stop self.now) }
         ensures left { HasLeft table.now seat result }
         ensures share { share_at result ≡ share self.now }
         ensures halts { halted_at result ≡ true };

@@ -1,2 +1,3 @@
 pub mod Work
+pub mod Seated
 pub mod Inside

@@ -1,8 +1,9 @@
 -- A worker at its work, and what each call at it keeps (own, after Jefferson, Virtual Time, 1985).
-use Rattle.std.specs.Prelude.{ℕ, ◌≡◌, true}
+use Rattle.std.specs.Prelude.{ℕ, ◌≡◌, true, List}
+use Rattle.std.specs.List.{AllZip}
 use Rattle.tw_model.specs.Case.{IsCase, simulation}
 use Rattle.tw_rule.specs.Place.{IsFrom, IsPlace, IsRunBefore, Keeps}
-use Rattle.tw_shard.specs.Shard.{core, owns}
+use Rattle.tw_shard.specs.Shard.{IsSameShare, core, owns}
 use Rattle.tw_table.specs.Shares.{Share, place_of}
 
 -- a worker with what it has, and the time from which on it handles nothing
@@ -37,3 +38,12 @@ HasCommitted w = (r : ℕ) → owns w.share.shard r ≡ true → (core 0 w.share
 -- what a worker has kept since any share, it still has later
 abbrev pub StillKeeps : Worker → Worker → Type 0
 StillKeeps v w = (s : Share) → Kept v.stop s v.share → Kept w.stop s w.share
+
+-- the same worker later: for the same case, with the same routers among as many workers, which keep as much, and with the same stop
+pub record IsSameWorker (v w : Worker) : Type 0 where
+  pub shard : IsSameShare v.share.shard w.share.shard
+  pub stop : w.stop ≡ v.stop
+
+-- the shares of the same workers later, one by one
+abbrev pub AreSameShares : List Share → List Share → Type 0
+AreSameShares earlier later = AllZip (λ s t. IsSameShare s.shard t.shard) earlier later

@@ -1,4 +1,4 @@
-//! Where a worker may be held between two parts of a turn.
+//! What is told of each turn of a worker, and may hold it.
 
 use std::sync::Wait;
 use tw_table::Seat;

@@ -1,11 +1,12 @@
 //! A worker meets the table.
 ghost use Rattle.std.specs.Prelude.{ℕ, ◌≡◌, ◌≤◌, ◌<◌, [], ◌∷◌, ◌⊎◌, length, true};
 ghost use Rattle.tw_exchange.specs.Board.{IsBoard};
-ghost use Rattle.tw_shard.specs.Shard.{core};
+ghost use Rattle.tw_shard.specs.Shard.{IsSameShare, core};
 ghost use Rattle.tw_table.specs.Seats.{IsSameSeat, IsSeatOf, bound_at, exchange_of, halted_at, share_at, share_of, stop_at, taken_by};
 ghost use Rattle.tw_table.specs.Shares.{MayBeGiven, board_of, share};
 ghost use Rattle.tw_table.specs.Views.{IsMet};
 ghost use Rattle.tw_workers.specs.declared.meeting.Meeting.TheVariants.{Halted, Open, Refused, Settled};
+ghost use Rattle.tw_workers.specs.Seated.{HasTurned};
 ghost use Rattle.tw_workers.specs.Work.{IsAtWork, Kept};
 
 use crate::worker::Worker;
@@ -38,17 +39,9 @@ impl<'a> Worker<'a> {
         requires stop { stop_at seat ≡ self.old.stop }
         requires delivered { self.old.share.mail ≡ [] }
         requires sorted { self.old.share.shard.outgoing ≡ [] }
-        ensures seat { IsSeatOf table.now result.0 }
-        ensures share { share_at result.0 ≡ self.new.share }
+        ensures turned { HasTurned table.now seat result.0 self.old self.new }
         ensures kept { Kept self.new.stop (share_at result.0) self.new.share }
-        ensures case { self.new.share.shard.case ≡ self.old.share.shard.case }
-        ensures worker { self.new.share.shard.worker ≡ self.old.share.shard.worker }
-        ensures workers { self.new.share.shard.workers ≡ self.old.share.shard.workers }
-        ensures keeps { self.new.share.shard.keeps ≡ self.old.share.shard.keeps }
         ensures done { (r : ℕ) → (core 0 self.new.share.shard).done r ≡ (core 0 self.old.share.shard).done r }
-        ensures stop { self.new.stop ≡ self.old.stop }
-        ensures seat_stop { stop_at result.0 ≡ self.new.stop }
-        ensures bound { bound_at seat ≤ bound_at result.0 }
         ensures told { (result.1 ≡ Refused → ⊥) → self.new.share.shard.bound ≡ bound_at result.0 }
         ensures sent { (result.1 ≡ Refused → ⊥) → self.new.share.unsent ≡ [] }
         ensures open { result.1 ≡ Open → bound_at result.0 < self.new.stop }
@@ -70,10 +63,7 @@ impl<'a> Worker<'a> {
         requires seat { IsSeatOf table.now seat }
         requires kept { Kept self.now.stop (share_at seat) self.now.share }
         requires stop { stop_at seat ≡ self.now.stop }
-        ensures seat { IsSeatOf table.now result }
-        ensures share { share_at result ≡ self.now.share }
-        ensures seat_stop { stop_at result ≡ self.now.stop }
-        ensures bound { bound_at seat ≤ bound_at result }
+        ensures turned { HasTurned table.now seat result self.now self.now }
         ensures halts { halted_at result ≡ true }
     {
         let mut taken = table.take(rt, seat);
@@ -95,10 +85,7 @@ fn visit(held: &mut Held, shard: &mut Shard<'_>, hand: &mut Hand, stop: u64) -> 
     ensures seat { IsSameSeat held.old held.new }
     ensures given { MayBeGiven (taken_by held.old) (share_of held.old) (exchange_of held.new) (share shard.new hand.new) }
     ensures work { IsAtWork stop (share shard.new hand.new) }
-    ensures case { shard.new.case ≡ shard.old.case }
-    ensures worker { shard.new.worker ≡ shard.old.worker }
-    ensures workers { shard.new.workers ≡ shard.old.workers }
-    ensures keeps { shard.new.keeps ≡ shard.old.keeps }
+    ensures same { IsSameShare shard.old shard.new }
     ensures done { (r : ℕ) → (core 0 shard.new).done r ≡ (core 0 shard.old).done r }
     ensures rises { (taken_by held.old).bound ≤ (exchange_of held.new).bound }
     ensures told { (result ≡ Refused → ⊥) → shard.new.bound ≡ (exchange_of held.new).bound }

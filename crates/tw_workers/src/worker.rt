@@ -1,5 +1,4 @@
-//! A worker: its routers, and the messages in its hand.
-
+//! A worker with its shard and its hand.
 ghost use Rattle.std.specs.Prelude.{◌≡◌, ◌≤◌};
 ghost use Rattle.tw_model.specs.declared.limits.TheConstants.{LATEST};
 ghost use Rattle.tw_table.specs.Shares.{share};

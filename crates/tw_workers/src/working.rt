@@ -1,10 +1,11 @@
 //! A worker takes turn after turn, until it may leave.
-ghost use Rattle.std.specs.Prelude.{◌≡◌, ◌≤◌, ◌⊎◌, [], ℕ, Err, IfSome, IsErrOf, None, OnOk, Some, false, true};
+ghost use Rattle.std.specs.Prelude.{◌≡◌, ◌⊎◌, [], ℕ, Err, IfSome, IsErrOf, None, OnOk, Some, false, true};
 ghost use Rattle.tw_core.specs.declared.refusal.Refusal.TheVariants as refusal;
 ghost use Rattle.tw_shard.specs.Shard.{handling};
-ghost use Rattle.tw_table.specs.Seats.{IsSeatOf, bound_at, halted_at, share_at, stop_at};
+ghost use Rattle.tw_table.specs.Seats.{bound_at, halted_at};
 ghost use Rattle.tw_workers.specs.declared.meeting.Meeting.TheVariants as meetings;
 ghost use Rattle.tw_workers.specs.declared.working.Leaving.TheVariants as leaving;
+ghost use Rattle.tw_workers.specs.Seated.{HasTurned, IsSeated};
 ghost use Rattle.tw_workers.specs.Work.{HasCommitted, IsAtWork, StillKeeps};
 
 use crate::gate::Gate;
@@ -43,18 +44,8 @@ impl<'a> Worker<'a> {
         gate: &G,
         seat: Seat,
     ) -> (Seat, Leaving)
-        requires seat { IsSeatOf table.now seat }
-        requires share { share_at seat ≡ self.old.share }
-        requires stop { stop_at seat ≡ self.old.stop }
-        ensures seat { IsSeatOf table.now result.0 }
-        ensures share { share_at result.0 ≡ self.new.share }
-        ensures stop { self.new.stop ≡ self.old.stop }
-        ensures seat_stop { stop_at result.0 ≡ self.new.stop }
-        ensures bound { bound_at seat ≤ bound_at result.0 }
-        ensures case { self.new.share.shard.case ≡ self.old.share.shard.case }
-        ensures worker { self.new.share.shard.worker ≡ self.old.share.shard.worker }
-        ensures workers { self.new.share.shard.workers ≡ self.old.share.shard.workers }
-        ensures keeps { self.new.share.shard.keeps ≡ self.old.share.shard.keeps }
+        requires seated { IsSeated table.now seat self.old.share self.old.stop }
+        ensures turned { HasTurned table.now seat result.0 self.old self.new }
         ensures settled { result.1 ≡ leaving.Settled → bound_at result.0 ≡ self.new.stop }
         ensures committed { result.1 ≡ leaving.Settled → HasCommitted self.new }
         ensures halts { (result.1 ≡ leaving.Settled → ⊥) → halted_at result.0 ≡ true }
@@ -100,19 +91,9 @@ impl<'a> Worker<'a> {
         seat: Seat,
         turn: u64,
     ) -> (Seat, Option<Leaving>)
-        requires seat { IsSeatOf table.now seat }
-        requires share { share_at seat ≡ self.old.share }
-        requires stop { stop_at seat ≡ self.old.stop }
+        requires seated { IsSeated table.now seat self.old.share self.old.stop }
         requires open { halted_at seat ≡ false }
-        ensures seat { IsSeatOf table.now result.0 }
-        ensures share { share_at result.0 ≡ self.new.share }
-        ensures stop { self.new.stop ≡ self.old.stop }
-        ensures seat_stop { stop_at result.0 ≡ self.new.stop }
-        ensures bound { bound_at seat ≤ bound_at result.0 }
-        ensures case { self.new.share.shard.case ≡ self.old.share.shard.case }
-        ensures worker { self.new.share.shard.worker ≡ self.old.share.shard.worker }
-        ensures workers { self.new.share.shard.workers ≡ self.old.share.shard.workers }
-        ensures keeps { self.new.share.shard.keeps ≡ self.old.share.shard.keeps }
+        ensures turned { HasTurned table.now seat result.0 self.old self.new }
         ensures settled { result.1 ≡ Some leaving.Settled → bound_at result.0 ≡ self.new.stop }
         ensures committed { result.1 ≡ Some leaving.Settled → HasCommitted self.new }
         ensures halts { IfSome result.1 (λ why. (why ≡ leaving.Settled → ⊥) → halted_at result.0 ≡ true) }

@@ -3,6 +3,7 @@ use Rattle.tw_model.specs.Case.{IsCase}
 use Rattle.tw_seq.proofs.Checkpoints.{found_stays, left_within, seen_every}
 use Rattle.tw_shape.proofs.Seeing.{seen_early, seen_found}
 use Rattle.tw_shape.specs.Verdict.{finding}
+use Rattle.tw_parallel.proofs.Rounds.{goes_on_both}
 use Rattle.tw_run.proofs.Watching.{on_the_way_begin, on_the_way_next}
 use Rattle.tw_run.proofs.segments.run_watched.Goals as goal
 use Rattle.tw_run.proofs.segments.run_watched.Goals.{then-loop-seen-test+else-is_none, else-loop-seen-test}
@@ -14,7 +15,7 @@ pub push-seen-requires-clause-later : goal.push-seen-requires-clause-later
 push-seen-requires-clause-later g c =
     let way = c.loop-seen.invariant.1 in
     let told = c.in_ok-run.ensures in
-    let is : IsCase c.args.sim.case = subst IsCase (told.case ∙ way.case) told.sim.ruled.is_case in
+    let is : IsCase c.args.sim.case = subst IsCase (told.goes_on.case ∙ way.goes_on.case) told.sim.ruled.is_case in
     seen_early c.args.sim.case is c.args.every c.requires.some c.loop-seen.seen c.loop-seen.watch way.shown
 
 pub push-seen-requires-clause-latest : goal.push-seen-requires-clause-latest
@@ -29,7 +30,7 @@ loop-seen-preserved g c =
     let told = c.push-seen.ensures in (
       omega (arith, told.within),
       on_the_way_next c.args.every c.loop-seen.seen c.push-seen.result c.args.sim c.loop-seen.run c.in_ok-run.run' c.loop-seen.watch c.push-seen.new.self
-          c.in_ok-shape.shape c.loop-seen.invariant.1 run.case run.stop run.keeps c.in_ok-shape.ensures told.gap told.step,
+          c.in_ok-shape.shape c.loop-seen.invariant.1 run.goes_on run.stop c.in_ok-shape.ensures told.gap told.step,
     )
 
 pub returns-clause-found : goal.returns-clause-found
@@ -39,7 +40,7 @@ returns-clause-found g c =
     let case = c.args.sim.case in
     let every = c.args.every in
     let last = c.args.stop / every in
-    let is : IsCase case = subst IsCase (told.case ∙ way.case) told.sim.ruled.is_case in
+    let is : IsCase case = subst IsCase (told.goes_on.case ∙ way.goes_on.case) told.sim.ruled.is_case in
     let so = seen_found case is every c.requires.some c.loop-seen.seen c.loop-seen.watch way.shown in
     c.finding-2.ensures ∙ elim c.loop-seen-test.branch [
       | then-loop-seen-test+else-is_none w ↦
@@ -49,5 +50,5 @@ returns-clause-found g c =
           subst (λ n. c.loop-seen.watch.found ≡ finding case every n) all so)
     ]
 
-pub returns-clause-keeps : goal.returns-clause-keeps
-returns-clause-keeps g c = λ all. c.in_ok-run-2.ensures.keeps (c.loop-seen.invariant.1.keeps all)
+pub returns-clause-goes_on : goal.returns-clause-goes_on
+returns-clause-goes_on g c = goes_on_both c.args.sim c.loop-seen.run c.in_ok-run-2.run' c.loop-seen.invariant.1.goes_on c.in_ok-run-2.ensures.goes_on

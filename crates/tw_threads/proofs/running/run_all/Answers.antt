@@ -1,5 +1,5 @@
 use Rattle.std.proofs.Common.{◌≡◌, true≢false, length, rules, sym, ◌∙◌, vec_len}
-use Rattle.tw_threads.proofs.Ends.{all_left, bounds_before, full_after, seats_after, stops_before, workers_keep}
+use Rattle.tw_threads.proofs.Ends.{all_left, all_same, bounds_before, full_after, seats_after, stops_before}
 use Rattle.tw_threads.proofs.running.run_all.Goals as goal
 
 pub close-requires : goal.close-requires
@@ -12,25 +12,10 @@ unreachable-requires g c =
     let all = all_left c.args.table _ _ _ c.gather-gathered.ensures.left before c.requires.all in
     absurd (true≢false (sym (c.in-Err.ensures.all.1 (sym after ∙ all))))
 
-pub returns-clause-cases : goal.returns-clause-cases
-returns-clause-cases g c =
+pub returns-clause-same : goal.returns-clause-same
+returns-clause-same g c =
     let h = c.gather-gathered.ensures in
-    workers_keep g.W.Work.share (λ s. s.shard.case) c.args.table _ _ _ _ (λ s u is. is.case) h.left c.requires.shares h.shares
-
-pub returns-clause-numbers : goal.returns-clause-numbers
-returns-clause-numbers g c =
-    let h = c.gather-gathered.ensures in
-    workers_keep g.W.Work.share (λ s. s.shard.worker) c.args.table _ _ _ _ (λ s u is. is.worker) h.left c.requires.shares h.shares
-
-pub returns-clause-counts : goal.returns-clause-counts
-returns-clause-counts g c =
-    let h = c.gather-gathered.ensures in
-    workers_keep g.W.Work.share (λ s. s.shard.workers) c.args.table _ _ _ _ (λ s u is. is.workers) h.left c.requires.shares h.shares
-
-pub returns-clause-keeps : goal.returns-clause-keeps
-returns-clause-keeps g c =
-    let h = c.gather-gathered.ensures in
-    workers_keep g.W.Work.share (λ s. s.shard.keeps) c.args.table _ _ _ _ (λ s u is. is.keeps) h.left c.requires.shares h.shares
+    all_same g.W.Work.share c.args.table _ _ _ _ h.left c.requires.seated.shares h.shares
 
 pub returns-clause-stop : goal.returns-clause-stop
 returns-clause-stop g c = stops_before c.args.table _ _ _ c.gather-gathered.ensures.left c.in-Ok.ensures.stop
