@@ -11,7 +11,7 @@ and then its report. A test that does not end has failed, and is tried no furthe
 LONG are left out where none is named: they call a program hundreds of times or start threads again
 and again, with no allocation that the others do not make. Those of the modules `ample` are left
 out too: they try no call again, and so fail where a call answers want of memory that nobody
-refused.
+refused. So are those of the module `lanes`, which take no memory.
 
 Each command of the program runs in the same way, on DISAGREE or on the replay of a straggler, and
 so do its help and a line that it does not accept. Refused memory must end it with status 2 and the
@@ -56,7 +56,7 @@ LONG = (
     "threads::workers_overlap",
 )
 
-AMPLE = "ample::"
+LEFT_OUT = ("ample::", "lanes::")
 
 LINES = (
     ["check"],
@@ -100,7 +100,7 @@ def chosen_tests(known: dict[str, Path], named: list[str]) -> dict[str, Path]:
     return {
         name: tests
         for name, tests in known.items()
-        if name not in LONG and not name.startswith(AMPLE)
+        if name not in LONG and not name.startswith(LEFT_OUT)
     }
 
 

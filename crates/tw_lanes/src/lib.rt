@@ -10,6 +10,3 @@ mod times;
 
 pub use ranks::{best_rank, first_equal};
 pub use times::{count_below, least_time};
-
-#[cfg(test)]
-mod tests;

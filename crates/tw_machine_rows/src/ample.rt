@@ -11,16 +11,20 @@ use tw_shard::Shard;
 use tw_sim::Step;
 use tw_warp::{Warp, add_committed, open_shards};
 
-#[test]
-fn a_worker_visits_the_exchange(rt: HostRuntime) {
-    let alloc = rt.alloc();
+/// Whether a worker deposits two messages in a new exchange.
+fn visits(alloc: Global) -> bool {
     let (Ok(mut exchange), Ok(out)) = (
         Exchange::new(alloc, 2, 0, 20),
         Vec::from_slice(alloc, &offers_of_origin()),
     ) else {
-        panic!(rt; "no memory")
+        return false;
     };
-    assert!(rt; exchange.visit(0, out, None).is_ok());
+    exchange.visit(0, out, None).is_ok()
+}
+
+#[test]
+fn a_worker_visits_the_exchange(rt: HostRuntime) {
+    assert!(rt; visits(rt.alloc()));
 }
 
 /// Whether router 0 of the only worker handles its start, undoes it and commits it, and router 1 is offered a path.
@@ -38,15 +42,20 @@ fn commits(shard: &mut Shard<'_>) -> bool {
     shard.keeps() && shard.commit(0) == Ok(())
 }
 
+/// Whether the only worker goes and comes back as a case begins, and commits.
+fn opens_and_commits(alloc: Global, case: &Case) -> bool {
+    match Shard::open(alloc, case, 0, 1, true) {
+        Ok(mut shard) => goes_and_comes_back(&mut shard) && commits(&mut shard),
+        Err(_) => false,
+    }
+}
+
 #[test]
 fn a_shard_handles_undoes_and_commits(rt: HostRuntime) {
     let Ok(case) = case(rt.alloc(), DISAGREE) else {
         panic!(rt; "refused")
     };
-    let Ok(mut shard) = Shard::open(rt.alloc(), &case, 0, 1, true) else {
-        panic!(rt; "no memory")
-    };
-    assert!(rt; goes_and_comes_back(&mut shard) && commits(&mut shard));
+    assert!(rt; opens_and_commits(rt.alloc(), &case));
 }
 
 /// How many events of router 0 the only worker has committed as it begins.
@@ -69,17 +78,22 @@ fn shards_are_opened_and_tell_what_is_committed(rt: HostRuntime) {
     assert!(rt; committed_at_first(rt.alloc(), &case) == Some(0));
 }
 
+/// Whether the machine of a case takes steps, and tells what is committed.
+fn takes_its_steps(alloc: Global, case: &Case) -> bool {
+    let Ok(mut warp) = Warp::new(alloc, case, 2, 20) else {
+        return false;
+    };
+    warp.step(Step::Handle(0)) == Ok(())
+        && warp.run(&[Step::Deliver(1), Step::Undo(0)]).is_ok()
+        && warp.committed().is_ok()
+}
+
 #[test]
 fn a_machine_takes_its_steps(rt: HostRuntime) {
     let Ok(case) = case(rt.alloc(), DISAGREE) else {
         panic!(rt; "refused")
     };
-    let Ok(mut warp) = Warp::new(rt.alloc(), &case, 2, 20) else {
-        panic!(rt; "no memory")
-    };
-    assert!(rt; warp.step(Step::Handle(0)) == Ok(()));
-    assert!(rt; warp.run(&[Step::Deliver(1), Step::Undo(0)]).is_ok());
-    assert!(rt; warp.committed().is_ok());
+    assert!(rt; takes_its_steps(rt.alloc(), &case));
 }
 
 #[test]

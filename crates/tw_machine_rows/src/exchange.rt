@@ -56,60 +56,113 @@ fn is_back(answer: &Result<Visit, Back>, out: &[Signed<Event>], fault: VisitFaul
     }
 }
 
-#[test]
-fn visits_hand_out_mail_and_raise_the_bound(rt: HostRuntime) {
-    let alloc = rt.alloc();
+/// Whether a visit of a worker that deposits these messages is told of this mail and this bound, and leaves this
+/// report.
+fn hands_out(
+    exchange: &mut Exchange,
+    worker: u32,
+    deposit: Vec<Signed<Event>>,
+    told: Option<u64>,
+    mail: &[Signed<Event>],
+    bound: u64,
+    report: Option<u64>,
+) -> bool {
+    is_told(&visit(exchange, worker, deposit, told), mail, bound)
+        && exchange.report(worker) == report
+}
+
+fn hands_out_and_rises(alloc: Global) -> bool {
     let (Ok(mut exchange), Ok(first), Ok(second)) = (
         exchange(alloc),
         list(alloc, &offers_of_origin()),
         list(alloc, &offers_of_1()),
     ) else {
-        panic!(rt; "no memory")
+        return false;
     };
+    let exchange = &mut exchange;
     let [for_1, for_2] = offers_of_origin();
-    let answer = visit(&mut exchange, 0, first, None);
-    assert!(rt; is_told(&answer, &[for_2], 0) && exchange.report(0) == Some(5));
-    let answer = visit(&mut exchange, 1, Vec::new(alloc), None);
-    assert!(rt; is_told(&answer, &[for_1], 1) && exchange.report(1) == Some(1));
-    let answer = visit(&mut exchange, 1, second, None);
-    assert!(rt; is_told(&answer, &[], 2) && exchange.report(1) == None);
-    let answer = visit(&mut exchange, 0, Vec::new(alloc), Some(5));
-    assert!(rt; is_told(&answer, &offers_of_1(), 2) && exchange.report(0) == Some(2));
+    hands_out(exchange, 0, first, None, &[for_2], 0, Some(5))
+        && hands_out(exchange, 1, Vec::new(alloc), None, &[for_1], 1, Some(1))
+        && hands_out(exchange, 1, second, None, &[], 2, None)
+        && hands_out(
+            exchange,
+            0,
+            Vec::new(alloc),
+            Some(5),
+            &offers_of_1(),
+            2,
+            Some(2),
+        )
 }
 
-#[test]
-fn visits_of_nobody_and_of_the_past_are_refused(rt: HostRuntime) {
-    let alloc = rt.alloc();
+/// Whether a visit is refused for this reason, and leaves the bound at 2.
+fn is_refused(
+    exchange: &mut Exchange,
+    worker: u32,
+    deposit: Vec<Signed<Event>>,
+    told: Option<u64>,
+    back: &[Signed<Event>],
+    fault: VisitFault,
+) -> bool {
+    is_back(&visit(exchange, worker, deposit, told), back, fault) && exchange.bound() == 2
+}
+
+fn refuses_nobody_and_the_past(alloc: Global) -> bool {
     let (Ok(mut exchange), Ok(second), Ok(late)) = (
         exchange(alloc),
         list(alloc, &offers_of_1()),
         list(alloc, &offers_of_origin()[..1]),
     ) else {
-        panic!(rt; "no memory")
+        return false;
     };
-    let answer = visit(&mut exchange, 0, Vec::new(alloc), Some(5));
-    assert!(rt; is_told(&answer, &[], 0));
-    let answer = visit(&mut exchange, 1, second, None);
-    assert!(rt; is_told(&answer, &[], 2));
-    let answer = visit(&mut exchange, 2, Vec::new(alloc), None);
-    assert!(rt; is_back(&answer, &[], VisitFault::NoWorker) && exchange.bound() == 2);
-    let answer = visit(&mut exchange, 0, late, Some(5));
-    assert!(rt;
-        is_back(&answer, &offers_of_origin()[..1], VisitFault::Early) && exchange.bound() == 2
-    );
-    assert!(rt; exchange.mail(0) == &offers_of_1()[..] && exchange.mail(1).is_empty());
+    let exchange = &mut exchange;
+    is_told(&visit(exchange, 0, Vec::new(alloc), Some(5)), &[], 0)
+        && is_told(&visit(exchange, 1, second, None), &[], 2)
+        && is_refused(
+            exchange,
+            2,
+            Vec::new(alloc),
+            None,
+            &[],
+            VisitFault::NoWorker,
+        )
+        && is_refused(
+            exchange,
+            0,
+            late,
+            Some(5),
+            &offers_of_origin()[..1],
+            VisitFault::Early,
+        )
+        && exchange.mail(0) == &offers_of_1()[..]
+        && exchange.mail(1).is_empty()
+}
+
+fn is_halted_and_opened_again(alloc: Global) -> bool {
+    let Ok(mut exchange) = exchange(alloc) else {
+        return false;
+    };
+    exchange.halt();
+    let answer = visit(&mut exchange, 1, Vec::new(alloc), Some(30));
+    if !is_told_to_halt(&answer) || !exchange.is_halted() || exchange.stop() != 20 {
+        return false;
+    }
+    let workers = exchange.workers();
+    exchange.reopen(25);
+    workers == 2 && !exchange.is_halted() && exchange.stop() == 25 && exchange.bound() == 0
+}
+
+#[test]
+fn visits_hand_out_mail_and_raise_the_bound(rt: HostRuntime) {
+    assert!(rt; hands_out_and_rises(rt.alloc()));
+}
+
+#[test]
+fn visits_of_nobody_and_of_the_past_are_refused(rt: HostRuntime) {
+    assert!(rt; refuses_nobody_and_the_past(rt.alloc()));
 }
 
 #[test]
 fn a_halted_exchange_can_be_opened_again(rt: HostRuntime) {
-    let Ok(mut exchange) = exchange(rt.alloc()) else {
-        panic!(rt; "no memory")
-    };
-    exchange.halt();
-    let answer = visit(&mut exchange, 1, Vec::new(rt.alloc()), Some(30));
-    assert!(rt; is_told_to_halt(&answer));
-    assert!(rt; exchange.is_halted() && exchange.workers() == 2);
-    assert!(rt; exchange.stop() == 20);
-    exchange.reopen(25);
-    assert!(rt; !exchange.is_halted() && exchange.stop() == 25 && exchange.bound() == 0);
+    assert!(rt; is_halted_and_opened_again(rt.alloc()));
 }

@@ -243,36 +243,67 @@ fn ends_so(warp: &mut Warp<'_>) -> bool {
         && told(warp, 2) == counts(4, 2, 2, 1)
 }
 
-#[test]
-fn the_stop_never_falls(rt: HostRuntime) {
-    let alloc = rt.alloc();
-    let Ok(case) = case(alloc, DISAGREE) else {
-        panic!(rt; "the case is refused")
-    };
-    let Ok(mut warp) = machine(alloc, &case, 1) else {
-        panic!(rt; "no memory")
-    };
-    assert!(rt;
-        warp.set_stop(19) == Err(StopLower) && warp.set_stop(1_000_000_001) == Err(StopLower)
-    );
-    assert!(rt; warp.stop() == 20);
-    assert!(rt; warp.set_stop(20) == Ok(()) && warp.stop() == 20);
-    assert!(rt; warp.set_stop(30) == Ok(()) && warp.stop() == 30);
+/// What a test shows of a machine.
+#[derive(Clone, Copy)]
+enum Row {
+    StopNeverFalls,
+    Straggler,
+    StragglerInOneCall,
+    TakenBack,
+    PendingTwice,
+    FromAnywhere,
+    Refused,
+    DealtOut,
 }
 
-#[test]
-fn a_straggler_is_rolled_back(rt: HostRuntime) {
-    let alloc = rt.alloc();
-    let Ok(case) = case(alloc, DISAGREE) else {
-        panic!(rt; "the case is refused")
+/// Whether a row holds of the machine of a case, with so many workers.
+fn holds(alloc: Global, text: &str, workers: u32, row: Row) -> bool
+    requires { 0 < workers }
+{
+    let Ok(case) = case(alloc, text) else {
+        return false;
     };
-    let Ok(mut warp) = machine(alloc, &case, 1) else {
-        panic!(rt; "no memory")
-    };
-    assert!(rt; goes_so(&mut warp, &STRAGGLER[..11]));
-    assert!(rt; warp.bound() == 0 && has_loose(&warp, 4, 0, 1) && warp.ahead() == 4);
-    assert!(rt; goes_so(&mut warp, &STRAGGLER[11..]));
-    assert!(rt; has_loose(&warp, 0, 0, 0) && ends_so(&mut warp));
+    match machine(alloc, &case, workers) {
+        Ok(mut warp) => holds_of(&mut warp, row),
+        Err(_) => false,
+    }
+}
+
+fn holds_of(warp: &mut Warp<'_>, row: Row) -> bool {
+    match row {
+        Row::StopNeverFalls => keeps_its_stop(warp),
+        Row::Straggler => rolls_back(warp),
+        Row::StragglerInOneCall => rolls_back_in_one_call(warp),
+        Row::TakenBack => takes_back_by_the_path(warp),
+        Row::PendingTwice => handles_once(warp),
+        Row::FromAnywhere => takes_from_anywhere(warp),
+        Row::Refused => refuses(warp),
+        Row::DealtOut => is_dealt_out(warp),
+    }
+}
+
+fn keeps_its_stop(warp: &mut Warp<'_>) -> bool {
+    warp.set_stop(19) == Err(StopLower)
+        && warp.set_stop(1_000_000_001) == Err(StopLower)
+        && warp.stop() == 20
+        && warp.set_stop(20) == Ok(())
+        && warp.stop() == 20
+        && warp.set_stop(30) == Ok(())
+        && warp.stop() == 30
+}
+
+fn rolls_back(warp: &mut Warp<'_>) -> bool {
+    goes_so(warp, &STRAGGLER[..11])
+        && has_begun(warp, 4)
+        && has_loose(warp, 4, 0, 1)
+        && goes_so(warp, &STRAGGLER[11..])
+        && has_loose(warp, 0, 0, 0)
+        && ends_so(warp)
+}
+
+/// Whether the bound is still 0, and so many events are handled beyond it.
+fn has_begun(warp: &Warp<'_>, ahead: u128) -> bool {
+    warp.bound() == 0 && warp.ahead() == ahead
 }
 
 /// The steps of the row, in one call.
@@ -284,44 +315,11 @@ fn steps_of_the_row() -> [Step; 18] {
     steps
 }
 
-#[test]
-fn a_row_goes_on_where_it_was_broken_off_and_begins_again(rt: HostRuntime) {
-    let Ok(case) = case(rt.alloc(), DISAGREE) else {
-        panic!(rt; "the case is refused")
-    };
-    let steps = steps_of_the_row();
-    for _ in 0..2 {
-        let Ok(mut warp) = machine(rt.alloc(), &case, 2) else {
-            panic!(rt; "no memory")
-        };
-        assert!(rt; answers_so(&mut warp, &steps, &[Ok(()); 18]) && ends_so(&mut warp));
-    }
+fn rolls_back_in_one_call(warp: &mut Warp<'_>) -> bool {
+    answers_so(warp, &steps_of_the_row(), &[Ok(()); 18]) && ends_so(warp)
 }
 
-#[test]
-fn a_straggler_is_rolled_back_with_a_router_for_each_worker(rt: HostRuntime) {
-    let alloc = rt.alloc();
-    let Ok(case) = case(alloc, DISAGREE) else {
-        panic!(rt; "the case is refused")
-    };
-    let Ok(mut warp) = machine(alloc, &case, 3) else {
-        panic!(rt; "no memory")
-    };
-    assert!(rt; goes_so(&mut warp, &STRAGGLER[..11]));
-    assert!(rt; warp.bound() == 0 && has_loose(&warp, 4, 0, 1) && warp.ahead() == 4);
-    assert!(rt; goes_so(&mut warp, &STRAGGLER[11..]));
-    assert!(rt; has_loose(&warp, 0, 0, 0) && ends_so(&mut warp));
-}
-
-#[test]
-fn what_is_taken_back_differs_in_its_path_alone(rt: HostRuntime) {
-    let alloc = rt.alloc();
-    let Ok(case) = case(alloc, DISAGREE_WITH_EQUAL_TIMES) else {
-        panic!(rt; "the case is refused")
-    };
-    let Ok(mut warp) = machine(alloc, &case, 1) else {
-        panic!(rt; "no memory")
-    };
+fn takes_back_by_the_path(warp: &mut Warp<'_>) -> bool {
     let steps = [
         Step::Handle(0),
         Step::Deliver(1),
@@ -333,22 +331,15 @@ fn what_is_taken_back_differs_in_its_path_alone(rt: HostRuntime) {
         Step::Deliver(6),
         Step::Deliver(4),
     ];
-    assert!(rt; answers_so(&mut warp, &steps, &[Ok(()); 9]));
-    assert!(rt; warp.bound() == 0 && has_loose(&warp, 5, 2, 1) && warp.ahead() == 3);
-    assert!(rt; told(&warp, 0) == counts(1, 2, 1, 1));
-    assert!(rt; told(&warp, 1) == counts(3, 2, 1, 1));
-    assert!(rt; told(&warp, 2) == counts(5, 2, 1, 1));
+    answers_so(warp, &steps, &[Ok(()); 9])
+        && has_begun(warp, 3)
+        && has_loose(warp, 5, 2, 1)
+        && told(warp, 0) == counts(1, 2, 1, 1)
+        && told(warp, 1) == counts(3, 2, 1, 1)
+        && told(warp, 2) == counts(5, 2, 1, 1)
 }
 
-#[test]
-fn an_event_pending_twice_is_handled_once(rt: HostRuntime) {
-    let alloc = rt.alloc();
-    let Ok(case) = case(alloc, DISAGREE) else {
-        panic!(rt; "the case is refused")
-    };
-    let Ok(mut warp) = machine(alloc, &case, 1) else {
-        panic!(rt; "no memory")
-    };
+fn handles_once(warp: &mut Warp<'_>) -> bool {
     let steps = [
         Step::Handle(0),
         Step::Undo(0),
@@ -361,39 +352,50 @@ fn an_event_pending_twice_is_handled_once(rt: HostRuntime) {
     ];
     let mut answers = [Ok(()); 8];
     answers[6] = Err(Refusal::Double);
-    assert!(rt; answers_so(&mut warp, &steps, &answers));
-    assert!(rt; warp.bound() == 0 && has_loose(&warp, 5, 0, 0) && has_in_flight(&warp, "nNncd"));
-    assert!(rt; told(&warp, 0) == counts(1, 2, 1, 1));
-    assert!(rt; told(&warp, 1) == counts(3, 2, 1, 1));
-    assert!(rt; told(&warp, 2) == counts(0, 0, 0, 0));
+    answers_so(warp, &steps, &answers)
+        && warp.bound() == 0
+        && has_loose(warp, 5, 0, 0)
+        && has_in_flight(warp, "nNncd")
+        && told(warp, 0) == counts(1, 2, 1, 1)
+        && told(warp, 1) == counts(3, 2, 1, 1)
+        && told(warp, 2) == counts(0, 0, 0, 0)
 }
 
-#[test]
-fn messages_come_from_anywhere(rt: HostRuntime) {
-    let alloc = rt.alloc();
-    let Ok(case) = case(alloc, DISAGREE) else {
-        panic!(rt; "the case is refused")
-    };
-    let Ok(mut warp) = machine(alloc, &case, 2) else {
-        panic!(rt; "no memory")
-    };
+fn takes_from_anywhere(warp: &mut Warp<'_>) -> bool {
     for next in [Next::First, Next::Middle, Next::Last] {
-        assert!(rt; starts_over(&mut warp, 400) && has_loose(&warp, 1_600, 1, 0));
-        assert!(rt; has_starts_in_flight(&warp, 1_600) && all_come(&mut warp, 1_600, next));
-        assert!(rt; has_loose(&warp, 0, 1, 0) && warp.ahead() == 0);
+        if !starts_and_all_come(warp, next) {
+            return false;
+        }
     }
+    true
 }
 
-#[test]
-fn what_cannot_be_done_is_refused(rt: HostRuntime) {
-    let alloc = rt.alloc();
-    let Ok(case) = case(alloc, DISAGREE) else {
-        panic!(rt; "the case is refused")
-    };
-    let Ok(mut warp) = machine(alloc, &case, 2) else {
-        panic!(rt; "no memory")
-    };
-    let refused = [
+fn starts_and_all_come(warp: &mut Warp<'_>, next: Next) -> bool {
+    starts_over(warp, 400)
+        && has_loose(warp, 1_600, 1, 0)
+        && has_starts_in_flight(warp, 1_600)
+        && all_come(warp, 1_600, next)
+        && has_loose(warp, 0, 1, 0)
+        && warp.ahead() == 0
+}
+
+fn refuses(warp: &mut Warp<'_>) -> bool {
+    refuses_at_first(warp)
+        && answers_so(
+            warp,
+            &[Step::Bound, Step::Handle(0), Step::Bound],
+            &[Ok(()); 3],
+        )
+        && refuses_what_is_committed(warp)
+        && warp.bound() == 1
+        && has_loose(warp, 2, 0, 0)
+        && has_in_flight(warp, "mn")
+        && told(warp, 0) == counts(1, 2, 1, 1)
+        && told(warp, 1) == counts(0, 0, 0, 0)
+}
+
+fn refuses_at_first(warp: &mut Warp<'_>) -> bool {
+    let steps = [
         Step::Deliver(0),
         Step::Handle(7),
         Step::Undo(0),
@@ -405,15 +407,11 @@ fn what_cannot_be_done_is_refused(rt: HostRuntime) {
         Err(Refusal::Nothing),
         Err(Refusal::NotMine),
     ];
-    assert!(rt; answers_so(&mut warp, &refused, &why));
-    assert!(rt;
-        answers_so(
-            &mut warp,
-            &[Step::Bound, Step::Handle(0), Step::Bound],
-            &[Ok(()); 3]
-        )
-    );
-    let refused = [
+    answers_so(warp, &steps, &why)
+}
+
+fn refuses_what_is_committed(warp: &mut Warp<'_>) -> bool {
+    let steps = [
         Step::Undo(0),
         Step::Commit(0),
         Step::Undo(0),
@@ -425,21 +423,58 @@ fn what_cannot_be_done_is_refused(rt: HostRuntime) {
         Err(Refusal::Committed),
         Err(Refusal::Nothing),
     ];
-    assert!(rt; answers_so(&mut warp, &refused, &why));
-    assert!(rt; warp.bound() == 1 && has_loose(&warp, 2, 0, 0) && has_in_flight(&warp, "mn"));
-    assert!(rt; told(&warp, 0) == counts(1, 2, 1, 1) && told(&warp, 1) == counts(0, 0, 0, 0));
+    answers_so(warp, &steps, &why)
+}
+
+fn is_dealt_out(warp: &Warp<'_>) -> bool {
+    warp.workers() == 2
+        && owned_by(warp, 0) == Some([true, false, true])
+        && owned_by(warp, 1) == Some([false, true, false])
+}
+
+#[test]
+fn the_stop_never_falls(rt: HostRuntime) {
+    assert!(rt; holds(rt.alloc(), DISAGREE, 1, Row::StopNeverFalls));
+}
+
+#[test]
+fn a_straggler_is_rolled_back(rt: HostRuntime) {
+    assert!(rt; holds(rt.alloc(), DISAGREE, 1, Row::Straggler));
+}
+
+#[test]
+fn a_row_goes_on_where_it_was_broken_off_and_begins_again(rt: HostRuntime) {
+    for _ in 0..2 {
+        assert!(rt; holds(rt.alloc(), DISAGREE, 2, Row::StragglerInOneCall));
+    }
+}
+
+#[test]
+fn a_straggler_is_rolled_back_with_a_router_for_each_worker(rt: HostRuntime) {
+    assert!(rt; holds(rt.alloc(), DISAGREE, 3, Row::Straggler));
+}
+
+#[test]
+fn what_is_taken_back_differs_in_its_path_alone(rt: HostRuntime) {
+    assert!(rt; holds(rt.alloc(), DISAGREE_WITH_EQUAL_TIMES, 1, Row::TakenBack));
+}
+
+#[test]
+fn an_event_pending_twice_is_handled_once(rt: HostRuntime) {
+    assert!(rt; holds(rt.alloc(), DISAGREE, 1, Row::PendingTwice));
+}
+
+#[test]
+fn messages_come_from_anywhere(rt: HostRuntime) {
+    assert!(rt; holds(rt.alloc(), DISAGREE, 2, Row::FromAnywhere));
+}
+
+#[test]
+fn what_cannot_be_done_is_refused(rt: HostRuntime) {
+    assert!(rt; holds(rt.alloc(), DISAGREE, 2, Row::Refused));
 }
 
 #[test]
 fn the_routers_are_dealt_out_to_the_workers(rt: HostRuntime) {
-    let alloc = rt.alloc();
-    let Ok(case) = case(alloc, DISAGREE) else {
-        panic!(rt; "the case is refused")
-    };
-    let Ok(warp) = machine(alloc, &case, 2) else {
-        panic!(rt; "no memory")
-    };
-    assert!(rt; warp.workers() == 2);
-    assert!(rt; owned_by(&warp, 0) == Some([true, false, true]));
-    assert!(rt; owned_by(&warp, 1) == Some([false, true, false]));
+    assert!(rt; holds(rt.alloc(), DISAGREE, 2, Row::DealtOut));
 }

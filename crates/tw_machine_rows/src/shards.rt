@@ -111,127 +111,167 @@ fn a_late_message_is_returned(shard: &mut Shard<'_>) -> bool {
         })
 }
 
+/// What a test shows of a shard.
+#[derive(Clone, Copy)]
+enum Row {
+    RolledBack,
+    ToldHandled,
+    ToldCommitted,
+    TakenBackAndSentAgain,
+    SentTwice,
+    AntimessageFirst,
+    Lent,
+}
+
+/// Whether a row holds of what a worker has as DISAGREE begins.
+fn holds(alloc: Global, worker: u32, row: Row) -> bool
+    requires { worker < 3 }
+{
+    let Ok(case) = case(alloc, DISAGREE) else {
+        return false;
+    };
+    match shard(alloc, &case, worker) {
+        Ok(mut shard) => holds_of(alloc, &mut shard, row),
+        Err(_) => false,
+    }
+}
+
+fn holds_of(alloc: Global, shard: &mut Shard<'_>, row: Row) -> bool {
+    match row {
+        Row::RolledBack => is_rolled_back_and_goes_on(shard),
+        Row::ToldHandled => tells_what_it_has_handled(shard),
+        Row::ToldCommitted => tells_what_it_has_committed(shard),
+        Row::TakenBackAndSentAgain => takes_back_and_sends_again(shard),
+        Row::SentTwice => handles_once(shard),
+        Row::AntimessageFirst => keeps_an_antimessage(shard),
+        Row::Lent => sends_behind_what_is_lent(alloc, shard),
+    }
+}
+
+fn is_rolled_back_and_goes_on(shard: &mut Shard<'_>) -> bool {
+    nothing_is_handled(shard)
+        && the_origin_is_heard(shard)
+        && the_router_is_rolled_back(shard)
+        && router_1_is_heard(shard)
+        && the_offer_is_committed(shard)
+        && a_late_message_is_returned(shard)
+}
+
+/// Whether router 2 has chosen this path, and has handled this event alone.
+fn has_handled_alone(shard: &Shard<'_>, path: u32, event: Event) -> bool {
+    shard.owns(2)
+        && !shard.owns(1)
+        && shard.keeps()
+        && shard.router(2).rib() == PathNo(path)
+        && shard.handled(2, 0) == Some(event)
+        && shard.handled(2, 1) == None
+}
+
+/// Whether router 2 has committed and handled so many events, and is done to this time, which is the bound.
+fn stands_at(shard: &Shard<'_>, committed: usize, ahead: usize, bound: u64) -> bool {
+    shard.owns(2)
+        && shard.committed(2) == committed
+        && shard.ahead(2) == ahead
+        && shard.done(2) == bound
+        && shard.bound() == bound
+}
+
+fn tells_what_it_has_handled(shard: &mut Shard<'_>) -> bool {
+    let [_, offer] = offers_of_origin();
+    the_origin_is_heard(shard)
+        && has_handled_alone(shard, 5, offer.event)
+        && stands_at(shard, 0, 1, 0)
+        && shard.pending().is_empty()
+        && shard.kept().is_empty()
+}
+
+fn tells_what_it_has_committed(shard: &mut Shard<'_>) -> bool {
+    let [_, offer] = offers_of_1();
+    the_origin_is_heard(shard)
+        && the_router_is_rolled_back(shard)
+        && router_1_is_heard(shard)
+        && the_offer_is_committed(shard)
+        && has_handled_alone(shard, 4, offer.event)
+        && stands_at(shard, 1, 0, 3)
+        && shard.pending().len() == 1
+        && shard.report_time() == Some(5)
+}
+
+fn takes_back_and_sends_again(shard: &mut Shard<'_>) -> bool {
+    let [to_1, to_2] = offers_of_origin();
+    let (back_1, back_2) = (antimessage(to_1), antimessage(to_2));
+    handle(shard, 0) == Ok(())
+        && undo(shard, 0) == Ok(())
+        && handle(shard, 0) == Ok(())
+        && shard.outgoing() == &[to_1, to_2, back_1, back_2, to_1, to_2][..]
+}
+
+fn handles_once(shard: &mut Shard<'_>) -> bool {
+    let [offer, _] = offers_of_origin();
+    receive(shard, offer).is_ok()
+        && receive(shard, offer).is_ok()
+        && shard.pending().count(&offer.event) == 2
+        && handle(shard, 1) == Ok(())
+        && handle(shard, 1) == Err(OrMemory::Fault(Refusal::Double))
+        && receive(shard, antimessage(offer)).is_ok()
+        && shard.pending().is_empty()
+        && shard.outgoing() == &offers_of_1()[..]
+}
+
+fn keeps_an_antimessage(shard: &mut Shard<'_>) -> bool {
+    let [_, offer] = early_offers_of_2();
+    receive(shard, antimessage(offer)).is_ok()
+        && shard.kept().count(&offer.event) == 1
+        && shard.report_time() == Some(6)
+        && receive(shard, offer).is_ok()
+        && shard.kept().is_empty()
+        && shard.pending().is_empty()
+}
+
+fn sends_behind_what_is_lent(alloc: Global, shard: &mut Shard<'_>) -> bool {
+    let Ok(mut messages) = list(alloc, &offers_of_1()) else {
+        return false;
+    };
+    let ([first, second], [third, fourth]) = (offers_of_1(), offers_of_origin());
+    shard.swap_outgoing(&mut messages);
+    if !messages.is_empty() || handle(shard, 0) != Ok(()) {
+        return false;
+    }
+    shard.swap_outgoing(&mut messages);
+    messages.as_slice() == &[first, second, third, fourth][..] && shard.outgoing().is_empty()
+}
+
 #[test]
 fn a_router_is_rolled_back_and_goes_on(rt: HostRuntime) {
-    let alloc = rt.alloc();
-    let Ok(case) = case(alloc, DISAGREE) else {
-        panic!(rt; "the case is refused")
-    };
-    let Ok(mut shard) = shard(alloc, &case, 2) else {
-        panic!(rt; "no memory")
-    };
-    assert!(rt; nothing_is_handled(&mut shard));
-    assert!(rt; the_origin_is_heard(&mut shard));
-    assert!(rt; the_router_is_rolled_back(&mut shard));
-    assert!(rt; router_1_is_heard(&mut shard));
-    assert!(rt; the_offer_is_committed(&mut shard));
-    assert!(rt; a_late_message_is_returned(&mut shard));
+    assert!(rt; holds(rt.alloc(), 2, Row::RolledBack));
 }
 
 #[test]
 fn a_shard_tells_what_it_has_handled(rt: HostRuntime) {
-    let alloc = rt.alloc();
-    let Ok(case) = case(alloc, DISAGREE) else {
-        panic!(rt; "the case is refused")
-    };
-    let Ok(mut shard) = shard(alloc, &case, 2) else {
-        panic!(rt; "no memory")
-    };
-    let [_, offer] = offers_of_origin();
-    assert!(rt; the_origin_is_heard(&mut shard));
-    assert!(rt; shard.owns(2) && !shard.owns(1) && shard.keeps());
-    assert!(rt; shard.router(2).rib() == PathNo(5));
-    assert!(rt; shard.handled(2, 0) == Some(offer.event) && shard.handled(2, 1) == None);
-    assert!(rt; shard.committed(2) == 0 && shard.ahead(2) == 1);
-    assert!(rt; shard.done(2) == 0 && shard.bound() == 0);
-    assert!(rt; shard.pending().is_empty() && shard.kept().is_empty());
+    assert!(rt; holds(rt.alloc(), 2, Row::ToldHandled));
 }
 
 #[test]
 fn a_shard_tells_what_it_has_committed(rt: HostRuntime) {
-    let alloc = rt.alloc();
-    let Ok(case) = case(alloc, DISAGREE) else {
-        panic!(rt; "the case is refused")
-    };
-    let Ok(mut shard) = shard(alloc, &case, 2) else {
-        panic!(rt; "no memory")
-    };
-    let [_, offer] = offers_of_1();
-    assert!(rt; the_origin_is_heard(&mut shard) && the_router_is_rolled_back(&mut shard));
-    assert!(rt; router_1_is_heard(&mut shard) && the_offer_is_committed(&mut shard));
-    assert!(rt; shard.owns(2) && shard.keeps() && shard.router(2).rib() == PathNo(4));
-    assert!(rt; shard.handled(2, 0) == Some(offer.event) && shard.handled(2, 1) == None);
-    assert!(rt; shard.committed(2) == 1 && shard.ahead(2) == 0);
-    assert!(rt; shard.done(2) == 3 && shard.bound() == 3);
-    assert!(rt; shard.pending().len() == 1 && shard.report_time() == Some(5));
+    assert!(rt; holds(rt.alloc(), 2, Row::ToldCommitted));
 }
 
 #[test]
 fn what_is_undone_is_taken_back_and_sent_again(rt: HostRuntime) {
-    let alloc = rt.alloc();
-    let Ok(case) = case(alloc, DISAGREE) else {
-        panic!(rt; "the case is refused")
-    };
-    let Ok(mut shard) = shard(alloc, &case, 0) else {
-        panic!(rt; "no memory")
-    };
-    let [to_1, to_2] = offers_of_origin();
-    assert!(rt; handle(&mut shard, 0) == Ok(()));
-    assert!(rt; undo(&mut shard, 0) == Ok(()));
-    assert!(rt; handle(&mut shard, 0) == Ok(()));
-    let (back_1, back_2) = (antimessage(to_1), antimessage(to_2));
-    assert!(rt; shard.outgoing() == &[to_1, to_2, back_1, back_2, to_1, to_2][..]);
+    assert!(rt; holds(rt.alloc(), 0, Row::TakenBackAndSentAgain));
 }
 
 #[test]
 fn an_event_sent_twice_is_handled_once(rt: HostRuntime) {
-    let alloc = rt.alloc();
-    let Ok(case) = case(alloc, DISAGREE) else {
-        panic!(rt; "the case is refused")
-    };
-    let Ok(mut shard) = shard(alloc, &case, 1) else {
-        panic!(rt; "no memory")
-    };
-    let [offer, _] = offers_of_origin();
-    assert!(rt; receive(&mut shard, offer).is_ok());
-    assert!(rt; receive(&mut shard, offer).is_ok());
-    assert!(rt; shard.pending().count(&offer.event) == 2);
-    assert!(rt; handle(&mut shard, 1) == Ok(()));
-    assert!(rt; handle(&mut shard, 1) == Err(OrMemory::Fault(Refusal::Double)));
-    assert!(rt; receive(&mut shard, antimessage(offer)).is_ok());
-    assert!(rt; shard.pending().is_empty() && shard.outgoing() == &offers_of_1()[..]);
+    assert!(rt; holds(rt.alloc(), 1, Row::SentTwice));
 }
 
 #[test]
 fn an_antimessage_waits_for_its_message(rt: HostRuntime) {
-    let alloc = rt.alloc();
-    let Ok(case) = case(alloc, DISAGREE) else {
-        panic!(rt; "the case is refused")
-    };
-    let Ok(mut shard) = shard(alloc, &case, 1) else {
-        panic!(rt; "no memory")
-    };
-    let [_, offer] = early_offers_of_2();
-    assert!(rt; receive(&mut shard, antimessage(offer)).is_ok());
-    assert!(rt; shard.kept().count(&offer.event) == 1 && shard.report_time() == Some(6));
-    assert!(rt; receive(&mut shard, offer).is_ok());
-    assert!(rt; shard.kept().is_empty() && shard.pending().is_empty());
+    assert!(rt; holds(rt.alloc(), 1, Row::AntimessageFirst));
 }
 
 #[test]
 fn messages_are_lent_to_a_shard_that_sends_behind_them(rt: HostRuntime) {
-    let alloc = rt.alloc();
-    let Ok(case) = case(alloc, DISAGREE) else {
-        panic!(rt; "the case is refused")
-    };
-    let (Ok(mut shard), Ok(mut messages)) = (shard(alloc, &case, 0), list(alloc, &offers_of_1()))
-    else {
-        panic!(rt; "no memory")
-    };
-    let ([first, second], [third, fourth]) = (offers_of_1(), offers_of_origin());
-    shard.swap_outgoing(&mut messages);
-    assert!(rt; messages.is_empty() && handle(&mut shard, 0) == Ok(()));
-    shard.swap_outgoing(&mut messages);
-    assert!(rt; messages.as_slice() == &[first, second, third, fourth][..]);
-    assert!(rt; shard.outgoing().is_empty());
+    assert!(rt; holds(rt.alloc(), 0, Row::Lent));
 }

@@ -61,37 +61,53 @@ fn is_refused(sim: &Sim<'_>) -> bool {
         && matches!(sim.shape(), Err(OrMemory::Fault(NotSettled)))
 }
 
+/// Whether the run of a case begins settled at stop 0, with its events kept.
+fn begins_settled(alloc: Global, case: &Case) -> bool {
+    let Ok(sim) = sim(alloc, case) else {
+        return false;
+    };
+    sim.workers() == 2
+        && sim.bound() == 0
+        && sim.stop() == 0
+        && sim.ahead() == 0
+        && sim.is_settled()
+        && sim.keeps_events()
+        && matches!(outcome(&sim), Ok(left) if begins_so(&left))
+}
+
 #[test]
 fn a_run_that_begins_is_settled_at_stop_0(rt: HostRuntime) {
-    let alloc = rt.alloc();
-    let Ok(case) = case(alloc, DISAGREE) else {
+    let Ok(case) = case(rt.alloc(), DISAGREE) else {
         panic!(rt; "the case is refused")
     };
-    let Ok(sim) = sim(alloc, &case) else {
-        panic!(rt; "no memory")
+    assert!(rt; begins_settled(rt.alloc(), &case));
+}
+
+/// Whether the stop of a run rises to 20 and to no less, nor past its limit, and is then still to be reached.
+fn raises_its_stop(sim: &mut Sim<'_>) -> bool {
+    sim.raise_stop(20) == Ok(())
+        && sim.stop() == 20
+        && sim.bound() == 0
+        && sim.raise_stop(19) == Err(StopLower)
+        && sim.raise_stop(1_000_000_001) == Err(StopLower)
+        && sim.stop() == 20
+        && is_refused(sim)
+}
+
+/// Whether the run of a case raises its stop, also once it was taken apart.
+fn is_to_be_reached(alloc: Global, case: &Case) -> bool {
+    let Ok(mut sim) = sim(alloc, case) else {
+        return false;
     };
-    assert!(rt; sim.workers() == 2 && sim.bound() == 0 && sim.stop() == 0 && sim.ahead() == 0);
-    assert!(rt; sim.is_settled() && sim.keeps_events());
-    let Ok(outcome) = outcome(&sim) else {
-        panic!(rt; "not settled")
-    };
-    assert!(rt; begins_so(&outcome));
+    let rises = raises_its_stop(&mut sim);
+    let sim = Sim::of_parts(sim.into_parts());
+    rises && sim.stop() == 20 && !sim.is_settled()
 }
 
 #[test]
 fn a_stop_that_rises_is_still_to_be_reached(rt: HostRuntime) {
-    let alloc = rt.alloc();
-    let Ok(case) = case(alloc, DISAGREE) else {
+    let Ok(case) = case(rt.alloc(), DISAGREE) else {
         panic!(rt; "the case is refused")
     };
-    let Ok(mut sim) = sim(alloc, &case) else {
-        panic!(rt; "no memory")
-    };
-    assert!(rt; sim.raise_stop(20) == Ok(()) && sim.stop() == 20 && sim.bound() == 0);
-    assert!(rt;
-        sim.raise_stop(19) == Err(StopLower) && sim.raise_stop(1_000_000_001) == Err(StopLower)
-    );
-    assert!(rt; sim.stop() == 20 && is_refused(&sim));
-    let sim = Sim::of_parts(sim.into_parts());
-    assert!(rt; sim.stop() == 20 && !sim.is_settled());
+    assert!(rt; is_to_be_reached(rt.alloc(), &case));
 }

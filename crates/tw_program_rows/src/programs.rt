@@ -146,24 +146,40 @@ fn a_sink_that_fails_has_a_prefix(rt: HostRuntime) {
     }
 }
 
+/// Whether a program is ended by its device, having written just this.
+fn is_failed(answer: Option<(Result<Status, Cause>, ShortPage)>, written: &[u8]) -> bool {
+    match answer {
+        Some((ended, page)) => ended == Err(Cause::Device) && page.bytes() == written,
+        None => false,
+    }
+}
+
 #[test]
 fn the_first_line_stands_where_a_sink_takes_thirteen_bytes(rt: HostRuntime) {
-    let asked = Asked::Seq { stop: 10 };
-    let Some((ended, page)) = answer(rt.alloc(), asked, ALONE, 13, AMPLE) else {
-        panic!(rt; "no answer")
-    };
-    assert!(rt; ended == Err(Cause::Device) && page.bytes() == b"spp-report 1\n".as_slice());
+    let answer = answer(rt.alloc(), Asked::Seq { stop: 10 }, ALONE, 13, AMPLE);
+    assert!(rt; is_failed(answer, b"spp-report 1\n"));
+}
+
+/// Whether a program writes just this on DISAGREE to a sink that takes a byte at a time.
+fn writes_byte_by_byte(alloc: Global, asked: Asked, text: &str) -> bool {
+    match answer(alloc, asked, DISAGREE, AMPLE, 1) {
+        Some((ended, page)) => ended == Ok(Status::Done) && page.bytes() == text.as_bytes(),
+        None => false,
+    }
 }
 
 #[test]
 fn a_sink_may_take_a_byte_at_a_time(rt: HostRuntime) {
     let asked = Asked::Seq { stop: 20 };
     for (asked, text) in [(asked, DISAGREE_LOG), (Asked::Check, ACCEPTED)] {
-        let Some((ended, page)) = answer(rt.alloc(), asked, DISAGREE, AMPLE, 1) else {
-            panic!(rt; "no answer")
-        };
-        assert!(rt; ended == Ok(Status::Done) && page.bytes() == text.as_bytes());
+        assert!(rt; writes_byte_by_byte(rt.alloc(), asked, text));
     }
+}
+
+/// Whether a program that can read so many bytes of DISAGREE is ended by its device, and writes nothing.
+fn writes_nothing(alloc: Global, asked: Asked, left: usize) -> bool {
+    let tape = Tape::new(DISAGREE.as_bytes(), left);
+    is_failed(answer_from(alloc, asked, tape, AMPLE, AMPLE), &[])
 }
 
 #[test]
@@ -171,11 +187,7 @@ fn a_source_that_fails_leaves_nothing_written(rt: HostRuntime) {
     let seq = Asked::Seq { stop: 20 };
     for asked in [Asked::Check, seq] {
         for left in [0, 1, 20] {
-            let tape = Tape::new(DISAGREE.as_bytes(), left);
-            let Some((ended, page)) = answer_from(rt.alloc(), asked, tape, AMPLE, AMPLE) else {
-                panic!(rt; "no answer")
-            };
-            assert!(rt; ended == Err(Cause::Device) && page.bytes().is_empty());
+            assert!(rt; writes_nothing(rt.alloc(), asked, left));
         }
     }
 }
@@ -196,18 +208,32 @@ fn check_endless(alloc: Global) -> Option<(Result<Status, Cause>, usize, ShortPa
     None
 }
 
+/// Whether `check` refuses line ends without end, having read the most that it reads.
+fn refuses_endless(alloc: Global) -> bool {
+    match check_endless(alloc) {
+        Some((ended, read, page)) => {
+            ended == Ok(Status::Refused)
+                && read == 67_108_864
+                && page.bytes() == b"refused line 1 X2 Header\n".as_slice()
+        }
+        None => false,
+    }
+}
+
 #[test]
 fn line_ends_without_end_are_refused(rt: HostRuntime) {
-    let Some((ended, read, page)) = check_endless(rt.alloc()) else {
-        panic!(rt; "no answer")
-    };
-    assert!(rt; ended == Ok(Status::Refused) && read == 67_108_864);
-    assert!(rt; page.bytes() == b"refused line 1 X2 Header\n".as_slice());
+    assert!(rt; refuses_endless(rt.alloc()));
+}
+
+/// Whether a cause is shown as this text, once more where memory was refused.
+fn is_shown(alloc: Global, cause: Cause, text: &str) -> bool {
+    format!(in alloc; "{cause}")
+        .or_else(|_| format!(in alloc; "{cause}"))
+        .is_ok_and(|shown| shown.as_str() == text)
 }
 
 #[test]
 fn each_cause_to_stop_is_shown_in_two_words(rt: HostRuntime) {
-    let alloc = rt.alloc();
     let texts = [
         (Cause::Memory, "stopped memory"),
         (Cause::CounterFull, "stopped counter"),
@@ -215,10 +241,6 @@ fn each_cause_to_stop_is_shown_in_two_words(rt: HostRuntime) {
         (Cause::Device, "stopped device"),
     ];
     for (cause, text) in texts {
-        let Ok(shown) = format!(in alloc; "{cause}").or_else(|_| format!(in alloc; "{cause}"))
-        else {
-            panic!(rt; "no memory")
-        };
-        assert!(rt; shown.as_str() == text);
+        assert!(rt; is_shown(rt.alloc(), cause, text));
     }
 }

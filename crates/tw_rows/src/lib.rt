@@ -16,6 +16,8 @@ mod handlers;
 #[cfg(test)]
 mod instances;
 #[cfg(test)]
+mod lanes;
+#[cfg(test)]
 mod pending;
 #[cfg(test)]
 mod readings;
