@@ -108,14 +108,7 @@ fn put_undone(
     let mut left = events.len();
     while keep < left {
         left -= 1;
-        undo_last(
-            alloc,
-            page,
-            &mut event_page,
-            instance,
-            trail,
-            &events[left],
-        )?;
+        undo_last(alloc, page, &mut event_page, instance, trail, &events[left])?;
     }
     Ok(())
 }
