@@ -19,7 +19,8 @@ use Rattle.tw_model.proofs.Quiet.{suit_seq}
 use Rattle.tw_model.proofs.Suits.{own_state}
 use Rattle.tw_report.specs.Lines.{NamesPath}
 use Rattle.tw_report.specs.Report.{HasPaths}
-use Rattle.tw_seq.specs.Outcome.{end_of, outcome_of}
+use Rattle.tw_model.specs.Summary.{end_of}
+use Rattle.tw_seq.specs.Outcome.{outcome_of}
 use Rattle.tw_seq.specs.Run.{complete_run, router_after}
 
 pub names_path : (net : Net) (v : ℕ) (e : Event) (b : Body) → body_suits net v e b ≡ true → NamesPath net b
@@ -55,6 +56,6 @@ module _ (case : Case) (is : IsCase case) where
   has_paths t = record {
     events = events_name_paths t;
     routers = all_from_in (λ r. IsPath case.net r.rib) (outcome_of (complete_run case t)).routers (λ r there.
-        let of = in_map (λ v. end_of (router_after case (complete_run case t).events v)) r (range_with_len 0 case.net.nodes) there in
+        let of = in_map (λ v. end_of (router_after case (complete_run case t).events v).state) r (range_with_len 0 case.net.nodes) there in
         subst (λ x. IsPath case.net x.rib) (sym of.1) (rib_is_path of.0 (reverse (complete_run case t).events)));
   }

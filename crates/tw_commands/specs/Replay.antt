@@ -12,6 +12,7 @@ use Rattle.tw_event.specs.declared.event.Event.{Event}
 use Rattle.tw_event.specs.Order.{event_before}
 use Rattle.tw_model.specs.Case.{Case, simulation}
 use Rattle.tw_model.specs.declared.outcome.RouterEnd.{RouterEnd}
+use Rattle.tw_model.specs.Summary.{end_of}
 use Rattle.tw_report.specs.declared.replay.Counts.{Counts}
 use Rattle.tw_report.specs.ReplayText.{Replayed, replay_text}
 use Rattle.tw_sim.specs.declared.machine.Step.{Step}
@@ -37,10 +38,7 @@ module _ (case : Case) (C : Core Event) where
 
   -- how a router stands after all that it has handled, committed or not
   abbrev pub end_in : ℕ → RouterEnd
-  end_in r = record {
-    counters = (state (simulation case) r (C.history r)).counters;
-    rib = (state (simulation case) r (C.history r)).rib;
-  }
+  end_in r = end_of (state (simulation case) r (C.history r))
 
   -- what a machine that has answered so tells of itself
   abbrev pub told_of : List (Result (Unit {0}) Refusal) → Replayed

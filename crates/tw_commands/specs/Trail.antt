@@ -11,6 +11,7 @@ use Rattle.tw_model.specs.Net.{Net}
 use Rattle.tw_model.specs.State.{State, opening}
 use Rattle.tw_model.specs.Effect.{effect}
 use Rattle.tw_model.specs.History.{state_after}
+use Rattle.tw_model.specs.Summary.{end_of}
 use Rattle.tw_report.specs.Lines.{event_words, router_words}
 use Rattle.tw_report.specs.Words.{line}
 use Rattle.tw_seq.specs.Run.{GetsStuck, complete_run}
@@ -22,7 +23,7 @@ state_with net t n = state_after net t.opening.node t.opening.state (take n t.ev
 
 -- how a router stands
 abbrev pub router_line : Net → ℕ → State → List ℕ
-router_line net v s = line (router_words net v (record { counters = s.counters; rib = s.rib }))
+router_line net v s = line (router_words net v (end_of s))
 
 -- a message that an event had sent
 abbrev pub send_line : Net → Event → List ℕ

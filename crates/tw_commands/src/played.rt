@@ -86,11 +86,7 @@ fn router_ends(alloc: Global, warp: &Warp<'_>) -> Result<Vec<RouterEnd>, AllocEr
 {
     let mut ends = Vec::new(alloc);
     for node in 0..warp.case().instance().nodes() {
-        let router = warp.router(node);
-        ends.push(RouterEnd {
-            counters: router.counters(),
-            rib: router.rib(),
-        })?;
+        ends.push(warp.router(node).end())?;
     }
     Ok(ends)
 }

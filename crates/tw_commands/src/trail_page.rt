@@ -17,7 +17,7 @@ use tw_device::{Failed, Page, Sink, put_all};
 use tw_event::Event;
 use tw_handlers::{CounterFull, Trail};
 use tw_instance::Instance;
-use tw_model::{OrMemory, RouterEnd};
+use tw_model::OrMemory;
 use tw_report::Word::Name;
 use tw_report::{EventPage, put_line, put_router};
 use tw_router::Router;
@@ -78,11 +78,7 @@ fn put_standing<S: Sink>(
     requires open { S.failed sink.old ≡ false }
     ensures { Puts result (S.written sink.old) (S.written sink.new) (S.failed sink.new) (router_line instance.now router.now.node router.now.state) }
 {
-    let end = RouterEnd {
-        counters: router.counters(),
-        rib: router.rib(),
-    };
-    put_router(sink, instance, router.node() as usize, &end)
+    put_router(sink, instance, router.node() as usize, &router.end())
 }
 
 /// Undoes all events but the first `keep`, the last one first, and puts the lines of each.

@@ -3,6 +3,11 @@ use Rattle.std.specs.Prelude.{ℕ, List}
 use Rattle.tw_event.specs.declared.event.Event.{Event}
 use Rattle.tw_model.specs.declared.outcome.Outcome.{Outcome}
 use Rattle.tw_model.specs.declared.outcome.RouterEnd.{RouterEnd}
+use Rattle.tw_model.specs.State.{State}
+
+-- how a router stands that knows this
+abbrev pub end_of : State → RouterEnd
+end_of known = record { counters = known.counters; rib = known.rib }
 
 -- the stop asked for, the time before which all is handled, and what there is at it
 pub record Summary : Type 0 where

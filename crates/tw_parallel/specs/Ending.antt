@@ -4,7 +4,6 @@ use Rattle.std.specs.List.{range_with_len}
 use Rattle.tw_core.specs.Machine.{committed}
 use Rattle.tw_event.specs.declared.event.Event.{Event}
 use Rattle.tw_model.specs.Case.{Case, simulation}
-use Rattle.tw_model.specs.declared.outcome.RouterEnd.{RouterEnd}
 use Rattle.tw_model.specs.State.{State}
 use Rattle.tw_parallel.specs.declared.ending.NotSettled.{NotSettled}
 use Rattle.tw_parallel.specs.Sim.{Sim, machine}
@@ -44,10 +43,6 @@ states_of s = map (λ r. state (simulation s.case) r ((machine s).history r)) (r
 -- and at a stop of the one-thread run
 abbrev pub states_at : Case → ℕ → List State
 states_at case stop = map (at (simulation case) stop) (range_with_len 0 case.net.nodes)
-
--- how a router stands that knows this
-abbrev pub end_of : State → RouterEnd
-end_of known = record { counters = known.counters; rib = known.rib }
 
 -- the events of the run to a stop, the first one first, or none
 abbrev pub logged : Bool → Case → ℕ → List Event

@@ -4,7 +4,8 @@ ghost use Rattle.std.specs.List.{range_with_len};
 ghost use Rattle.tw_model.specs.Case.{simulation};
 ghost use Rattle.tw_model.specs.declared.memory.OrMemory.TheVariants as or_memory;
 ghost use Rattle.tw_model.specs.Quiet.{last_change};
-ghost use Rattle.tw_parallel.specs.Ending.{IsSettled, change_of, end_of, greatest, logged, not_settled, states_at, states_of};
+ghost use Rattle.tw_model.specs.Summary.{end_of};
+ghost use Rattle.tw_parallel.specs.Ending.{IsSettled, change_of, greatest, logged, not_settled, states_at, states_of};
 ghost use Rattle.tw_parallel.specs.Sim.{IsSim, KeepsEvents, machine};
 ghost use Rattle.tw_shape.specs.Shape.{bare, shape as shape_at};
 ghost use Rattle.tw_sim.specs.Seq.{log as run_log, rest};
@@ -117,11 +118,7 @@ impl Sim<'_> {
     {
         let mut ends = Vec::new(*self.shards.allocator());
         for number in 0..self.case.instance().nodes() {
-            let router = self.router(number);
-            ends.push(RouterEnd {
-                counters: router.counters(),
-                rib: router.rib(),
-            })?;
+            ends.push(self.router(number).end())?;
         }
         Ok(ends)
     }

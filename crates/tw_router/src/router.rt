@@ -7,6 +7,7 @@ ghost use Rattle.tw_model.specs.Net.{IsPath, path as path_of};
 ghost use Rattle.tw_model.specs.Rules.{IsNet};
 ghost use Rattle.tw_model.specs.State.{IsCounted, IsState, best as best_of, fresh_row, offers, opening, opening_with, row as row_of};
 ghost use Rattle.tw_model.specs.Effect.{with_swap, with_row};
+ghost use Rattle.tw_model.specs.Summary.{end_of};
 ghost use Rattle.tw_router.specs.Nodes.{best_nodes, heard_of, order_of};
 ghost use Rattle.tw_router.specs.Ranks.{rank_row as rank_row_of};
 
@@ -18,7 +19,7 @@ use tw_event::PathNo;
 use tw_instance::Instance;
 use tw_lanes::best_rank;
 use tw_model::limits::MOST_COUNTED;
-use tw_model::{Counters, Hop, OrMemory, Row};
+use tw_model::{Counters, Hop, OrMemory, RouterEnd, Row};
 
 /// Why a router does not begin with given counters.
 #[derive(Clone, Copy, PartialEq, Eq, Debug, Error)]
@@ -218,6 +219,16 @@ impl<'a> Router<'a> {
         ensures state { IsState self.now.net self.now.node self.now.state }
     {
         self.counters
+    }
+
+    /// How it stands: what it counts, and the path that it uses.
+    pub fn end(&self) -> RouterEnd
+        ensures { result ≡ end_of self.now.state }
+    {
+        RouterEnd {
+            counters: self.counters,
+            rib: self.rib,
+        }
     }
 
     /// The first path of its order that is itself followed by what a neighbour told it over a link that

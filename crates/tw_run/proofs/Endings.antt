@@ -8,9 +8,10 @@ use Rattle.tw_event.specs.declared.event.Event.{Event}
 use Rattle.tw_model.proofs.Lawful.{lawful, numbered}
 use Rattle.tw_model.specs.Case.{Case, IsCase, simulation}
 use Rattle.tw_model.specs.Quiet.{last_change}
-use Rattle.tw_model.specs.Summary.{Summary}
-use Rattle.tw_parallel.specs.Ending.{end_of, logged, states_at}
-use Rattle.tw_seq.specs.Outcome.{end_of as router_end, least, outcome_of}
+use Rattle.tw_model.specs.State.{State}
+use Rattle.tw_model.specs.Summary.{Summary, end_of}
+use Rattle.tw_parallel.specs.Ending.{logged, states_at}
+use Rattle.tw_seq.specs.Outcome.{least, outcome_of}
 use Rattle.tw_seq.specs.Run.{complete_run, router_after}
 use Rattle.tw_sim.proofs.Closed.{rest_late}
 use Rattle.tw_sim.proofs.Counts.{is_order}
@@ -31,11 +32,11 @@ none_before case is stop =
 
 -- how the routers stand
 ends : (case : Case) (stop : ℕ)
-    → map end_of (states_at case stop) ≡ map (λ r. router_end (router_after case (reverse (log (simulation case) stop)) r)) (range_with_len 0 case.net.nodes)
+    → map end_of (states_at case stop) ≡ map (λ r. end_of (router_after case (reverse (log (simulation case) stop)) r).state) (range_with_len 0 case.net.nodes)
 ends case stop =
     let m = simulation case in
     map-map end_of (at m stop) (range_with_len 0 case.net.nodes)
-    ∙ ap (λ es. map (λ r. router_end (record { net = case.net; node = r; state = state m r (only m r es) })) (range_with_len 0 case.net.nodes)) (sym (reverse-reverse (log m stop)))
+    ∙ ap (λ es. map (λ r. end_of (state m r (only m r es))) (range_with_len 0 case.net.nodes)) (sym (reverse-reverse (log m stop)))
 
 -- the time of the last change
 change : (case : Case) (stop : ℕ) → last_change case (log (simulation case) stop) ≡ last_change case (reverse (reverse (log (simulation case) stop)))

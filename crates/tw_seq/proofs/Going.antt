@@ -15,7 +15,8 @@ use Rattle.tw_sim.proofs.Rising as rising
 use Rattle.tw_sim.proofs.Rising.{rising-begin, rising-turns}
 use Rattle.tw_sim.proofs.Seq as model
 use Rattle.tw_sim.proofs.Seq.{turns-add, turns_later, weight-turn}
-use Rattle.tw_seq.specs.Outcome.{end_of, least}
+use Rattle.tw_model.specs.Summary.{end_of}
+use Rattle.tw_seq.specs.Outcome.{least}
 use Rattle.tw_seq.specs.Run.{Continues, IsBegun, IsNext, IsNextRun, NoneBefore, Run, complete_run, router_after, routers_after, world}
 use Rattle.tw_seq.proofs.Handled.{get_or-routers}
 use Rattle.tw_seq.proofs.Steps.{is_whole}
@@ -106,7 +107,7 @@ pub router_of : (case : Case) (events : List Event) (routers : List Router) (r :
     → get_or routers r d ≡ router_after case events r
 router_of case events routers r d are below = ap (λ rs. get_or rs r d) are ∙ get_or-routers case events r d below
 
-pub ends_of : (case : Case) (events : List Event) (routers : List Router) (ends : List RouterEnd) → routers ≡ routers_after case events → ends ≡ map end_of routers
-    → ends ≡ map (λ r. end_of (router_after case events r)) (range_with_len 0 case.net.nodes)
+pub ends_of : (case : Case) (events : List Event) (routers : List Router) (ends : List RouterEnd) → routers ≡ routers_after case events → ends ≡ map (λ (r : Router). end_of r.state) routers
+    → ends ≡ map (λ r. end_of (router_after case events r).state) (range_with_len 0 case.net.nodes)
 ends_of case events routers ends are h =
-    h ∙ (ap (map end_of) are ∙ map-map end_of (router_after case events) (range_with_len 0 case.net.nodes))
+    h ∙ (ap (map (λ (r : Router). end_of r.state)) are ∙ map-map (λ (r : Router). end_of r.state) (router_after case events) (range_with_len 0 case.net.nodes))

@@ -2,10 +2,8 @@
 use Rattle.std.specs.Prelude.{ℕ, List, [], ◌∷◌, map, min, reverse}
 use Rattle.std.specs.List.{range_with_len}
 use Rattle.tw_event.specs.declared.event.Event.{Event}
-use Rattle.tw_model.specs.declared.outcome.RouterEnd.{RouterEnd}
 use Rattle.tw_model.specs.Quiet.{last_change}
-use Rattle.tw_model.specs.State.{Router}
-use Rattle.tw_model.specs.Summary.{Summary}
+use Rattle.tw_model.specs.Summary.{Summary, end_of}
 use Rattle.tw_seq.specs.Run.{Run, router_after}
 
 -- the least of a time and of the times of events
@@ -13,17 +11,13 @@ abbrev pub least : List Event → ℕ → ℕ
 least [] t = t
 least (e ∷ events) t = min e.time (least events t)
 
--- how a router stands
-abbrev pub end_of : Router → RouterEnd
-end_of router = record { counters = router.state.counters; rib = router.state.rib }
-
 -- all that a run tells of itself: the bound is the least of the stop and of the times pending
 abbrev pub outcome_of : Run → Summary
 outcome_of run = record {
   stop = run.stop;
   bound = least run.pending run.stop;
   events = run.events;
-  routers = map (λ r. end_of (router_after run.case run.events r)) (range_with_len 0 run.case.net.nodes);
+  routers = map (λ r. end_of (router_after run.case run.events r).state) (range_with_len 0 run.case.net.nodes);
   pending = run.pending;
   last_change = last_change run.case (reverse run.events);
 }

@@ -3,7 +3,7 @@
 ghost use Rattle.std.specs.Prelude.{◌≡◌, ◌+◌, ◌-◌, ◌^◌, ◌++◌, length, map, min, IfOk, OnOk};
 ghost use Rattle.std.specs.List.{fold, range_with_len};
 ghost use Rattle.tw_model.specs.State.{opening};
-ghost use Rattle.tw_seq.specs.Outcome.{end_of};
+ghost use Rattle.tw_model.specs.Summary.{end_of};
 ghost use Rattle.tw_shape.specs.Shape.{bare};
 
 use std::alloc::{AllocError, Global};
@@ -33,14 +33,11 @@ pub(crate) fn router_ends(
     alloc: Global,
     routers: &[Router<'_>],
 ) -> Result<Vec<RouterEnd>, AllocError>
-    ensures { IfOk result (λ ends. ends.items ≡ map end_of routers.now) }
+    ensures { IfOk result (λ ends. ends.items ≡ map (λ r. end_of r.state) routers.now) }
 {
     let mut ends = Vec::new(alloc);
     for router in routers {
-        ends.push(RouterEnd {
-            counters: router.counters(),
-            rib: router.rib(),
-        })?;
+        ends.push(router.end())?;
     }
     Ok(ends)
 }

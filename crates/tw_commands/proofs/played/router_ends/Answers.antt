@@ -4,17 +4,14 @@ use Rattle.std.proofs.lemmas.List.FromFn.{map-range_with_len_more}
 use Rattle.tw_commands.specs.Replay.{end_in}
 use Rattle.tw_model.specs.declared.outcome.RouterEnd.{RouterEnd}
 use Rattle.tw_model.specs.State.{Router}
+use Rattle.tw_model.specs.Summary.{end_of}
 use Rattle.tw_warp.specs.Warp.{core}
 use Rattle.tw_commands.proofs.played.router_ends.Goals as goal
 
 one_more : (f : ℕ → RouterEnd) (n : ℕ) (xs ys : List RouterEnd) (x : RouterEnd) → ys ≡ xs ++ x ∷ [] → xs ≡ map f (range_with_len 0 n) → x ≡ f n → ys ≡ map f (range_with_len 0 (n + 1))
 one_more f n xs ys x pushed old new = pushed ∙ (ap₂ (λ l y. l ++ y ∷ []) old new ∙ sym (map-range_with_len_more f 0 n n (omega arith)))
 
--- how a router stands that is this one
-ends_so : (v w : Router) (x : RouterEnd) → v ≡ w → x.counters ≡ v.state.counters → x.rib ≡ v.state.rib → x ≡ record { counters = w.state.counters; rib = w.state.rib }
-ends_so v w x is counters rib = λ i. record { counters = (counters ∙ ap (λ (r : Router). r.state.counters) is) i; rib = (rib ∙ ap (λ (r : Router). r.state.rib) is) i }
-
 pub loop-node-preserved : goal.loop-node-preserved
 loop-node-preserved c =
     one_more (end_in c.args.warp.now.case (core c.args.warp.now)) c.loop-node.node c.loop-node.ends.items _ _ c.in_ok-push.ensures.items c.loop-node.invariant
-    (ends_so c.router-router.result.now _ _ c.router-router.ensures c.counters.ensures.value c.rib.ensures.value)
+    (c.end.ensures ∙ ap (λ (r : Router). end_of r.state) c.router.ensures)

@@ -1,7 +1,7 @@
 use Rattle.std.proofs.Common.{◌≡◌, map}
 use Rattle.std.specs.List.{range_with_len}
 use Rattle.tw_model.specs.Case.{simulation}
-use Rattle.tw_parallel.specs.Ending.{end_of}
+use Rattle.tw_model.specs.Summary.{end_of}
 use Rattle.tw_parallel.specs.Sim.{machine}
 use Rattle.tw_sim.specs.Simulation.{state}
 use Rattle.tw_parallel.proofs.sim.Sim.router_ends.Given as goal

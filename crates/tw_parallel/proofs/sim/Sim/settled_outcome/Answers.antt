@@ -1,6 +1,6 @@
 use Rattle.std.proofs.Common.{map, ap, ◌∙◌}
 use Rattle.tw_parallel.proofs.Ends.{all_committed, all_states, change_of_run, ended}
-use Rattle.tw_parallel.specs.Ending.{end_of}
+use Rattle.tw_model.specs.Summary.{end_of}
 use Rattle.tw_parallel.proofs.sim.Sim.settled_outcome.Goals as goal
 use Rattle.tw_parallel.proofs.sim.Sim.settled_outcome.Goals.{then-log+in_ok-events, else-log}
 
