@@ -170,6 +170,7 @@ fn has_handled_alone(shard: &Shard<'_>, path: u32, event: Event) -> bool {
 /// Whether router 2 has committed and handled so many events, and is done to this time, which is the bound.
 fn stands_at(shard: &Shard<'_>, committed: usize, ahead: usize, bound: u64) -> bool {
     shard.owns(2)
+        && shard.keeps()
         && shard.committed(2) == committed
         && shard.ahead(2) == ahead
         && shard.done(2) == bound
