@@ -98,7 +98,7 @@ class Machine:
                 return router < len(self.routers) and bool(self.handled[router])
             case Step("deliver", int(place)):
                 return 1 <= place <= len(self.flight)
-            case Step("commit", int(router)):
+            case Step("commit" | "release", int(router)):
                 return router < len(self.routers)
         return True
 
@@ -121,6 +121,8 @@ class Machine:
                 for handling in self.handled[router]:
                     if handling.committed_at is None and handling.event.time < self.bound:
                         handling.committed_at = self.number
+            case Step("release"):
+                pass  # An undone event's messages are taken back at once, so that nothing is held.
 
     def handle(self, router: int) -> None:
         event = min(self.pending[router], key=self.key)

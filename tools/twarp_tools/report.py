@@ -210,7 +210,7 @@ def is_replay(text: bytes) -> bool:
 
 
 # How many words a line of a step text may have, by its first word.
-STEP_WORD_COUNTS = {"handle": {2}, "undo": {2}, "deliver": {2}, "commit": {2}, "bound": {1}, "end": {1}}
+STEP_WORD_COUNTS = {"bound": {1}, "end": {1}} | dict.fromkeys(("handle", "undo", "deliver", "commit", "release"), {2})
 
 
 def step_faults(line: Line, steps: int, is_ended: bool) -> Iterator[str]:

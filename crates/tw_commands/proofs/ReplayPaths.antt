@@ -3,7 +3,7 @@ use Rattle.std.proofs.Common.{◌≡◌, ℕ, ◌<◌, ◌==◌, true, List, ref
 use Rattle.std.specs.List.{range_with_len}
 use Rattle.std.proofs.lemmas.Bool.{and_parts}
 use Rattle.tw_commands.proofs.RunPaths.{names_path}
-use Rattle.tw_commands.specs.Replay.{committed_of, end_in, replayed}
+use Rattle.tw_commands.specs.Replay.{committed_of, replayed}
 use Rattle.tw_core.specs.Good.{IsGood}
 use Rattle.tw_core.specs.Machine.{Core, IsOpening, committed}
 use Rattle.tw_core.specs.Steps.{run}
@@ -22,25 +22,17 @@ use Rattle.tw_sim.specs.declared.machine.Step.{Step}
 use Rattle.tw_sim.specs.Simulation.{state, times}
 use Rattle.tw_sim.proofs.Counts.{times-insert_all}
 use Rattle.tw_sim.proofs.Members.{In, all_from_in, in_filter, in_flat_map, in_map, in_times, times_in}
+use Rattle.tw_warp.proofs.Openings.{machine_opens}
+use Rattle.tw_warp.specs.Committed.{end_at}
 use Rattle.tw_warp.specs.Openings.{opening_machine}
 
 module _ (case : Case) (is : IsCase case) where
-  begins : (stop : ℕ) → IsOpening (simulation case) (opening_machine case stop)
-  begins stop = record {
-    history = λ r. refl;
-    pending = λ e. (let count = times-insert_all (simulation case) e (opening_events case.scenes) [] in omega arith);
-    kept = refl;
-    flight = refl;
-    done = λ r. refl;
-    bound = refl;
-  }
-
   -- the machine is good after whatever steps
   stays_good : (stop : ℕ) (steps : List Step) → IsGood (simulation case) (run (simulation case) (opening_machine case stop) steps)
   stays_good stop steps =
       let m = simulation case in
       let law = lawful case is in
-      (run_keeps m law (opening_machine case stop) steps (good_opening m law (opening_machine case stop) (begins stop))).good
+      (run_keeps m law (opening_machine case stop) steps (good_opening m law (opening_machine case stop) (machine_opens case stop))).good
 
   module _ (C : Core Event) (good : IsGood (simulation case) C) where
     home : (r : ℕ) (e : Event) → In e (C.history r) → e.dst ≡ r
@@ -76,7 +68,7 @@ module _ (case : Case) (is : IsCase case) where
       record {
         events = all_from_in (λ e. NamesPath case.net e.body) (committed_of case C) (committed_names C good);
         routers = all_from_in (λ x. IsPath case.net x.rib) (replayed stop case steps).routers (λ x there.
-            let of = in_map (end_in case C) x (range_with_len 0 case.net.nodes) there in
+            let of = in_map (end_at case C) x (range_with_len 0 case.net.nodes) there in
             subst (λ y. IsPath case.net y.rib) (sym of.1) (rib_is_path C good of.0));
       }
 

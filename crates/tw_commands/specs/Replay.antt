@@ -11,15 +11,12 @@ use Rattle.tw_core.specs.Steps.{answers, run}
 use Rattle.tw_event.specs.declared.event.Event.{Event}
 use Rattle.tw_event.specs.Order.{event_before}
 use Rattle.tw_model.specs.Case.{Case, simulation}
-use Rattle.tw_model.specs.declared.outcome.RouterEnd.{RouterEnd}
-use Rattle.tw_model.specs.Summary.{end_of}
 use Rattle.tw_report.specs.declared.replay.Counts.{Counts}
 use Rattle.tw_report.specs.ReplayText.{Replayed, replay_text}
 use Rattle.tw_sim.specs.declared.machine.Step.{Step}
 use Rattle.tw_sim.specs.Ordered.{insert_all}
-use Rattle.tw_sim.specs.Simulation.{state}
 use Rattle.tw_text.specs.ReplayText.{replay_of}
-use Rattle.tw_warp.specs.Committed.{ahead_at}
+use Rattle.tw_warp.specs.Committed.{ahead_at, end_at}
 use Rattle.tw_warp.specs.Openings.{opening_machine}
 
 module _ (case : Case) (C : Core Event) where
@@ -36,10 +33,6 @@ module _ (case : Case) (C : Core Event) where
   abbrev pub committed_of : List Event
   committed_of = insert_all event_before (flat_map (λ r. committed (simulation case) C r) (range_with_len 0 case.net.nodes)) []
 
-  -- how a router stands after all that it has handled, committed or not
-  abbrev pub end_in : ℕ → RouterEnd
-  end_in r = end_of (state (simulation case) r (C.history r))
-
   -- what a machine that has answered so tells of itself
   abbrev pub told_of : List (Result (Unit {0}) Refusal) → Replayed
   told_of answers = record {
@@ -47,7 +40,7 @@ module _ (case : Case) (C : Core Event) where
     bound = C.bound;
     counts = counts_of;
     committed = committed_of;
-    routers = map end_in (range_with_len 0 case.net.nodes);
+    routers = map (end_at case C) (range_with_len 0 case.net.nodes);
   }
 
 -- the answers to the steps, and what the machine that begins with the case becomes by them

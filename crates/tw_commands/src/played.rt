@@ -1,7 +1,6 @@
 //! What steps leave of a machine, as plain data.
-ghost use Rattle.std.specs.Prelude.{◌≡◌, ◌≤◌, ◌<◌, length, map, IfOk};
-ghost use Rattle.std.specs.List.{range_with_len};
-ghost use Rattle.tw_commands.specs.Replay.{counts_of, end_in, replayed, told_of};
+ghost use Rattle.std.specs.Prelude.{◌≡◌, ◌≤◌, ◌<◌, length, IfOk};
+ghost use Rattle.tw_commands.specs.Replay.{counts_of, replayed, told_of};
 ghost use Rattle.tw_core.specs.Steps.{answers, run};
 ghost use Rattle.tw_model.specs.Case.{simulation};
 ghost use Rattle.tw_model.specs.declared.limits.TheConstants.{LATEST};
@@ -12,7 +11,6 @@ ghost use Rattle.tw_warp.specs.Warp.{core};
 use crate::no_memory::NoMemory;
 use std::alloc::{AllocError, Global};
 use tw_instance::Case;
-use tw_model::RouterEnd;
 use tw_report::{Counts, Replay};
 use tw_sim::Step;
 use tw_warp::{Answer, Warp};
@@ -30,7 +28,7 @@ pub(crate) fn play(
     ensures { IfOk result (λ replay. replayed_of replay ≡ replayed stop case.now steps.now) }
 {
     let (warp, answers) = take_steps(alloc, case, steps, stop, workers)?;
-    Ok(told(alloc, &warp, answers)?)
+    Ok(told(&warp, answers)?)
 }
 
 /// The machine of the case with so many workers, after the steps, and its answers to them.
@@ -54,11 +52,11 @@ fn take_steps<'a>(
 }
 
 /// What a machine that has answered so tells of itself.
-fn told(alloc: Global, warp: &Warp<'_>, answers: Vec<Answer>) -> Result<Replay, AllocError>
+fn told(warp: &Warp<'_>, answers: Vec<Answer>) -> Result<Replay, AllocError>
     ensures { IfOk result (λ replay. replayed_of replay ≡ told_of warp.now.case (core warp.now) answers.items) }
 {
     let committed = warp.committed()?;
-    let routers = router_ends(alloc, warp)?;
+    let routers = warp.router_ends()?;
     Ok(Replay {
         answers,
         bound: warp.bound(),
@@ -78,15 +76,4 @@ fn counts(warp: &Warp<'_>) -> Counts
         kept: warp.kept_len(),
         ahead: warp.ahead(),
     }
-}
-
-/// How each router of a machine stands.
-fn router_ends(alloc: Global, warp: &Warp<'_>) -> Result<Vec<RouterEnd>, AllocError>
-    ensures { IfOk result (λ ends. ends.items ≡ map (end_in warp.now.case (core warp.now)) (range_with_len 0 warp.now.case.net.nodes)) }
-{
-    let mut ends = Vec::new(alloc);
-    for node in 0..warp.case().instance().nodes() {
-        ends.push(warp.router(node).end())?;
-    }
-    Ok(ends)
 }

@@ -1,11 +1,11 @@
 -- What handling and undoing one event keep: a good part, and every surplus.
 use Rattle.std.proofs.Common.{◌≡◌, ℕ, ◌+◌, ◌<◌, ◌≤◌, true, false, List, ◌∷◌, map, refl, ap, sym, ◌∙◌, subst, ◌⊎◌, inl, inr, arith, nat_lt}
 use Rattle.std.proofs.lemmas.Bool.{cases_Bool, cases_eq, eq-eqb, ne_eqb, ltb-true, ltb-false}
-use Rattle.tw_core.proofs.Counts.{antimessages-antimessage, antimessages-append, antimessages-message, messages-antimessage, messages-append, messages-message}
+use Rattle.tw_core.proofs.Counts.{antimessages-append, antimessages-message, messages-append, messages-message, messages-sent_back, times-held_back, times-still_held, times-to_send}
 use Rattle.tw_core.specs.Good.{IsGoodPart}
 use Rattle.tw_core.specs.Machine.{Core, times_handled, times_loose}
 use Rattle.tw_core.specs.Parts.{SameSurplus}
-use Rattle.tw_core.specs.Steps.{after_handling, after_undoing, antimessage, message, put, take_out}
+use Rattle.tw_core.specs.Steps.{after_handling, after_undoing, message, put, sent_back, take_out, to_send}
 use Rattle.tw_sim.proofs.Counts.{in_cons, none, one_cases, one_self, times-append, times-insert, times-take_out}
 use Rattle.tw_sim.proofs.Rising.{not_back}
 use Rattle.tw_sim.specs.Simulation.{Simulation, IsFalling, IsLawful, one, sent, state, times}
@@ -95,6 +95,9 @@ module _ {S E : Type 0} (m : Simulation S E) where
       abbrev out : List E
       out = m.sends (state m (m.dst e) (C.history (m.dst e))) e
 
+      abbrev going : List E
+      going = to_send m out C.held
+
       abbrev D : Core E
       D = after_handling m C (m.dst e) e
 
@@ -105,20 +108,23 @@ module _ {S E : Type 0} (m : Simulation S E) where
           let handled = times_grown C.history D.history e grown x in
           let asked = sent_grown C.history D.history e grown x in
           let taken = times-take_out m law x e C.pending may.there in
-          let plus = messages-append m x C.flight (map message out) in
-          let plus_out = messages-message m x out in
-          let minus = antimessages-append m x C.flight (map message out) in
-          let minus_out = antimessages-message m x out in
+          let plus = messages-append m x C.flight (map message going) in
+          let plus_out = messages-message m x going in
+          let minus = antimessages-append m x C.flight (map message going) in
+          let minus_out = antimessages-message m x going in
+          let again = times-to_send m law x out C.held in
           omega arith
 
       -- what is loose afterwards was loose, or is sent
-      loose_handling : (x : E) → times_loose m D x + one m x e ≡ times_loose m C x + times m x out
+      loose_handling : (x : E) → times_loose m D x + one m x e ≤ times_loose m C x + times m x out
       loose_handling x =
           let taken = times-take_out m law x e C.pending may.there in
-          let plus = messages-append m x C.flight (map message out) in
-          let plus_out = messages-message m x out in
-          let minus = antimessages-append m x C.flight (map message out) in
-          let minus_out = antimessages-message m x out in
+          let plus = messages-append m x C.flight (map message going) in
+          let plus_out = messages-message m x going in
+          let minus = antimessages-append m x C.flight (map message going) in
+          let minus_out = antimessages-message m x going in
+          let again = times-to_send m law x out C.held in
+          let less = times-still_held m x out C.held in
           omega arith
 
       -- the part is as good as it was
@@ -190,10 +196,10 @@ module _ {S E : Type 0} (m : Simulation S E) where
           let handled = times_grown B.history C.history e grown x in
           let asked = rw here at (sent_grown B.history C.history e grown x) in
           let waits = times-insert m x e C.pending in
-          let plus = messages-append m x C.flight (map antimessage back) in
-          let plus_out = messages-antimessage m x back in
-          let minus = antimessages-append m x C.flight (map antimessage back) in
-          let minus_out = antimessages-antimessage m x back in
+          let plus = messages-append m x C.flight (sent_back m C.cancel back) in
+          let plus_out = messages-sent_back m x C.cancel back in
+          let minus = antimessages-append m x C.flight (sent_back m C.cancel back) in
+          let minus_out = times-held_back m x C.cancel back C.held in
           omega arith
 
       -- the event is pending in the place of handled
@@ -207,10 +213,10 @@ module _ {S E : Type 0} (m : Simulation S E) where
       loose_undoing : (x : E) → times_loose m B x ≡ times_loose m C x + (one m x e + times m x back)
       loose_undoing x =
           let waits = times-insert m x e C.pending in
-          let plus = messages-append m x C.flight (map antimessage back) in
-          let plus_out = messages-antimessage m x back in
-          let minus = antimessages-append m x C.flight (map antimessage back) in
-          let minus_out = antimessages-antimessage m x back in
+          let plus = messages-append m x C.flight (sent_back m C.cancel back) in
+          let plus_out = messages-sent_back m x C.cancel back in
+          let minus = antimessages-append m x C.flight (sent_back m C.cancel back) in
+          let minus_out = times-held_back m x C.cancel back C.held in
           omega arith
 
       -- the part is as good as it was, for times that are not beyond the event

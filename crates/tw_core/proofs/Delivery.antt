@@ -15,7 +15,7 @@ use Rattle.tw_sim.specs.Simulation.{Simulation, IsLawful, one, times}
 module _ {S E : Type 0} (m : Simulation S E) (law : IsLawful m) where
   -- other things are loose, but nothing that was not
   pub part_loose : (t : ℕ) (C : Core E) (pending kept : List E) (flight : List (Signed E)) → IsGoodPart m t C
-      → ((x : E) → 0 < times m x pending + times m x kept + (messages m x flight + antimessages m x flight) → 0 < times_loose m C x)
+      → ((x : E) → 0 < times m x pending + times m x kept + (messages m x flight + antimessages m x flight) + times m x C.held → 0 < times_loose m C x)
       → ((e x : E) → 0 < times m e pending → 0 < times m x (C.history (m.dst e)) → m.before e x ≡ false)
       → ((x : E) → 0 < times m x kept → (times m x pending ≡ 0) × (times_handled m C x ≡ 0))
       → IsGoodPart m t (record C { pending = pending; kept = kept; flight = flight })
@@ -52,14 +52,16 @@ module _ {S E : Type 0} (m : Simulation S E) (law : IsLawful m) where
           let minus = antimessages-remove m x C.flight k (record { plus = true; event = e }) place in
           omega arith);
       done = refl;
+      past = refl;
       bound = refl;
       stop = refl;
+      cancel = refl;
     }
 
     -- its router undoes the events that pass the test, while the message is still in flight
     module _ (test : E → Bool) where
       abbrev back : List (Signed E)
-      back = taken_back m test (m.dst e) (C.history (m.dst e))
+      back = taken_back m C.cancel test (m.dst e) (C.history (m.dst e))
 
       abbrev B : Core E
       B = after_undoing_while m test (m.dst e) (C.history (m.dst e)) C
@@ -129,8 +131,10 @@ module _ {S E : Type 0} (m : Simulation S E) (law : IsLawful m) where
               (omega arith, old.1)));
           surplus = λ x. (let a = plus x in let b = minus x in let c = waits x in let d = undone.surplus x in omega arith);
           done = undone.done;
+          past = undone.past;
           bound = undone.bound;
           stop = undone.stop;
+          cancel = undone.cancel;
         }
 
     -- an antimessage whose event is pending
@@ -155,8 +159,10 @@ module _ {S E : Type 0} (m : Simulation S E) (law : IsLawful m) where
           let minus = antimessages-remove m x C.flight k (record { plus = false; event = e }) place in
           omega arith);
       done = refl;
+      past = refl;
       bound = refl;
       stop = refl;
+      cancel = refl;
     }
 
     -- an antimessage whose event is handled
@@ -184,8 +190,10 @@ module _ {S E : Type 0} (m : Simulation S E) (law : IsLawful m) where
               (omega arith, old.1)));
           surplus = λ x. (let a = plus x in let b = minus x in let c = times-take_out m law x e (B test).pending waits in let d = undone.surplus x in omega arith);
           done = undone.done;
+          past = undone.past;
           bound = undone.bound;
           stop = undone.stop;
+          cancel = undone.cancel;
         }
 
     -- an antimessage that comes before its message
@@ -209,8 +217,10 @@ module _ {S E : Type 0} (m : Simulation S E) (law : IsLawful m) where
           let minus = antimessages-remove m x C.flight k (record { plus = false; event = e }) place in
           omega arith);
       done = refl;
+      past = refl;
       bound = refl;
       stop = refl;
+      cancel = refl;
     }
 
     delivered_message : slice_get C.flight k ≡ Some (record { plus = true; event = e }) → KeepsPart m t C (after_delivery m C k (record { plus = true; event = e }))

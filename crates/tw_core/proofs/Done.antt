@@ -2,7 +2,7 @@
 use Rattle.std.proofs.Common.{◌≡◌, ℕ, ◌<◌, ◌≤◌, false, List, [], ◌∷◌, Option, Some, None, Result, Ok, refl, inl, inr, nat_lt}
 use Rattle.std.proofs.lemmas.Bool.{cases_Bool, ltb-true, ltb-false}
 use Rattle.tw_core.specs.declared.refusal.Refusal.{Refusal}
-use Rattle.tw_core.specs.Machine.{Core}
+use Rattle.tw_core.specs.Machine.{Core, count_ahead}
 use Rattle.tw_core.specs.Steps.{after_handling, after_undoing, at_router, handle, is_newest, undo}
 use Rattle.tw_sim.specs.Simulation.{Simulation, state}
 
@@ -13,7 +13,8 @@ module _ {S E : Type 0} (m : Simulation S E) where
     pub found : first ≡ Some event
     pub soon : m.time event < C.stop
     pub new : is_newest m event (C.history r) ≡ false
-    pub room : m.full (state m r (C.history r)) event ≡ false
+    pub room : count_ahead C r < C.room r
+    pub counters : m.full (state m r (C.history r)) event ≡ false
     pub made : after_handling m C r event ≡ D
 
   -- where handling was not refused
@@ -24,11 +25,14 @@ module _ {S E : Type 0} (m : Simulation S E) where
         | inr b ↦ (let k = rw b at h in cc)
         | inl b ↦ elim (cases_Bool (is_newest m e (C.history r))) [
           | inl c ↦ (let k = rw (b, c) at h in cc)
-          | inr c ↦ elim (cases_Bool (m.full (state m r (C.history r)) e)) [
-            | inl d ↦ (let k = rw (b, c, d) at h in cc)
-            | inr d ↦ (
-                let k = rw (b, c, d) at h in
-                record { event = e; found = refl; soon = ltb-true (m.time e) C.stop b; new = c; room = d; made = cc })
+          | inr c ↦ elim (cases_Bool (nat_lt (count_ahead C r) (C.room r))) [
+            | inr d ↦ (let k = rw (b, c, d) at h in cc)
+            | inl d ↦ elim (cases_Bool (m.full (state m r (C.history r)) e)) [
+              | inl f ↦ (let k = rw (b, c, d, f) at h in cc)
+              | inr f ↦ (
+                  let k = rw (b, c, d, f) at h in
+                  record { event = e; found = refl; soon = ltb-true (m.time e) C.stop b; new = c; room = ltb-true (count_ahead C r) (C.room r) d; counters = f; made = cc })
+            ]
           ]
         ]
       ]

@@ -105,6 +105,7 @@ module _ {S E : Type 0} (m : Simulation S E) (law : IsLawful m) where
             let no_kept : times m e C.kept ≡ 0 = ap (times m e) (none_kept C good settled.flight) in
             let no_messages : messages m e C.flight ≡ 0 = ap (messages m e) settled.flight in
             let no_antimessages : antimessages m e C.flight ≡ 0 = ap (antimessages m e) settled.flight in
+            let none_held : times m e C.held ≡ 0 = ap (times m e) settled.held in
             omega arith);
         ahead = good.part.ahead;
         alone = good.part.alone;
@@ -130,6 +131,7 @@ module _ {S E : Type 0} (m : Simulation S E) (law : IsLawful m) where
               let no_kept : times m e C.kept ≡ 0 = ap (times m e) (none_kept C good settled.flight) in
               let no_messages : messages m e C.flight ≡ 0 = ap (messages m e) settled.flight in
               let no_antimessages : antimessages m e C.flight ≡ 0 = ap (antimessages m e) settled.flight in
+              let none_held : times m e C.held ≡ 0 = ap (times m e) settled.held in
               let balance = good.balance e in
               let of_run = running.balance e in
               let source = sent_by_source m law (log m C.stop) e in

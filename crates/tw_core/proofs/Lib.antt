@@ -10,3 +10,5 @@ pub mod Owners
 pub mod Parts
 pub mod Own
 pub mod Wording
+pub mod Counted
+pub mod Eager

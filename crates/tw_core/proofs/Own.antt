@@ -1,23 +1,24 @@
 -- What a call leaves at some routers is for these alone.
-use Rattle.std.proofs.Common.{◌≡◌, ℕ, ◌+◌, ◌<◌, ◌==◌, Bool, not, true, false, List, [], ◌∷◌, Ok, refl, sym, subst, inl, inr, arith, nat_lt}
-use Rattle.std.proofs.lemmas.Bool.{cases_Bool, cases_eq, eqb-true}
+use Rattle.std.proofs.Common.{◌≡◌, ℕ, ◌+◌, ◌<◌, ◌==◌, Bool, not, true, false, List, [], ◌∷◌, Ok, refl, sym, ◌∙◌, subst, inl, inr, arith, nat_lt}
+use Rattle.std.proofs.lemmas.Bool.{cases_Bool, cases_eq, eqb-true, ltb-false, ltb-true}
 use Rattle.tw_core.proofs.Calls.{put_other, put_same}
+use Rattle.tw_core.proofs.Counts.{times-from, times-held_back, times-still_held}
 use Rattle.tw_core.proofs.Done.{handle_done, undo_done}
 use Rattle.tw_core.specs.Good.{IsGoodPart}
 use Rattle.tw_core.specs.Machine.{Core}
 use Rattle.tw_core.specs.Parts.{IsOwn}
-use Rattle.tw_core.specs.Steps.{after_arrival, after_handling, after_undoing, after_undoing_while, first_pending, handle, take_out, undo}
+use Rattle.tw_core.specs.Steps.{after_arrival, after_handling, after_undoing, after_undoing_while, first_pending, handle, take_out, undo, with_release}
 use Rattle.tw_sim.proofs.Counts.{in_filter, in_head, one_cases, times-insert, times-take_out-le}
 use Rattle.tw_sim.proofs.Least.{least_is}
 use Rattle.tw_sim.specs.declared.machine.Signed.{Signed}
 use Rattle.tw_sim.specs.Seq.{insert}
-use Rattle.tw_sim.specs.Simulation.{Simulation, IsLawful, only, times}
+use Rattle.tw_sim.specs.Simulation.{Simulation, IsLawful, only, state, times}
 
 module _ {S E : Type 0} (m : Simulation S E) (law : IsLawful m) (owns : ℕ → Bool) where
   -- other things wait, but for the same routers
   own_waiting : (C : Core E) (pending kept : List E) → IsOwn m owns C → ((x : E) → 0 < times m x pending + times m x kept → owns (m.dst x) ≡ true)
       → IsOwn m owns (record C { pending = pending; kept = kept })
-  own_waiting C pending kept own mine = record { history = own.history; waiting = mine }
+  own_waiting C pending kept own mine = record { history = own.history; waiting = mine; held = own.held }
 
   more_waits : (C : Core E) (e : E) → IsOwn m owns C → owns (m.dst e) ≡ true → (x : E) → 0 < times m x (insert m e C.pending) + times m x C.kept → owns (m.dst x) ≡ true
   more_waits C e own mine x h =
@@ -36,6 +37,7 @@ module _ {S E : Type 0} (m : Simulation S E) (law : IsLawful m) (owns : ℕ → 
       | inr other ↦ own.history r x (subst (λ xs. 0 < times m x xs) (put_other C.history (m.dst e) r (e ∷ C.history (m.dst e)) other) h)
     ];
     waiting = less_waits C e own;
+    held = λ x h. own.held x (let k = times-still_held m x (m.sends (state m (m.dst e) (C.history (m.dst e))) e) C.held in omega arith);
   }
 
   -- handling
@@ -55,6 +57,13 @@ module _ {S E : Type 0} (m : Simulation S E) (law : IsLawful m) (owns : ℕ → 
           | inr other ↦ own.history q x (subst (λ xs. 0 < times m x xs) (put_other C.history r q older other) h)
         ];
         waiting = more_waits C e own (subst (λ p. owns p ≡ true) (sym home) mine);
+        held = λ x h.
+            let back = m.sends (state m r older) e in
+            let all = times-held_back m x C.cancel back C.held in
+            elim (cases_Bool (nat_lt 0 (times m x back))) [
+              | inl b ↦ subst (λ p. owns p ≡ true) (sym (law.sender (state m r older) e x (ltb-true 0 (times m x back) b) ∙ home)) mine
+              | inr b ↦ own.held x (let no = ltb-false 0 (times m x back) b in omega arith)
+            ];
       }
 
   own_while : (r : ℕ) (test : E → Bool) (xs : List E) (C : Core E) → C.history r ≡ xs → ((y : E) → 0 < times m y xs → m.dst y ≡ r) → IsOwn m owns C
@@ -74,6 +83,10 @@ module _ {S E : Type 0} (m : Simulation S E) (law : IsLawful m) (owns : ℕ → 
       let done = undo_done m C D r (C.history r) h in
       let home = good.home r done.event (subst (λ xs. 0 < times m done.event xs) (sym done.newest) (in_head m law done.event done.older)) in
       subst (IsOwn m owns) done.made (own_undoing C r done.event done.older home done.newest own)
+
+  -- what was held for one of them goes out
+  pub own_release : (C : Core E) (r : ℕ) → IsOwn m owns C → IsOwn m owns (with_release m C r)
+  own_release C r own = record { history = own.history; waiting = own.waiting; held = λ x h. own.held x (let k = times-from m x r C.held in omega arith) }
 
   own_back : (t : ℕ) (C : Core E) (e : E) (test : E → Bool) → IsGoodPart m t C → IsOwn m owns C → IsOwn m owns (after_undoing_while m test (m.dst e) (C.history (m.dst e)) C)
   own_back t C e test good own = own_while (m.dst e) test (C.history (m.dst e)) C refl (good.home (m.dst e)) own

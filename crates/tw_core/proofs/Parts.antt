@@ -43,7 +43,7 @@ module _ {S E : Type 0} (m : Simulation S E) where
           suit = λ e h. good.suit e (omega arith);
         };
         done = good.done;
-        own = record { history = λ r e h. refl; waiting = λ e h. refl };
+        own = record { history = λ r e h. refl; waiting = λ e h. refl; held = λ e h. refl };
       },
       tt,
     );
@@ -109,6 +109,9 @@ module _ {S E : Type 0} (m : Simulation S E) where
       kept_total : (e : E) → times m e A.kept ≡ total (λ p. times m e p.core.kept) parts
       kept_total e = times-flat_map e (λ p. p.core.kept) parts
 
+      held_total : (e : E) → times m e A.held ≡ total (λ p. times m e p.core.held) parts
+      held_total e = times-flat_map e (λ p. p.core.held) parts
+
       messages_total : (e : E) → messages m e A.flight ≡ messages m e shared.mail + total (λ p. messages m e p.core.flight) parts
       messages_total e =
           messages-append m e shared.mail (flat_map (λ p. p.core.flight) parts) ∙ ap (λ n. messages m e shared.mail + n) (messages-flat_map e (λ p. p.core.flight) parts)
@@ -124,6 +127,9 @@ module _ {S E : Type 0} (m : Simulation S E) where
           let kept = kept_total e in
           let plus = messages_total e in
           let minus = antimessages_total e in
+          let held = held_total e in
+          let all = total_add (λ (p : Part E). times m e p.core.pending + times m e p.core.kept + (messages m e p.core.flight + antimessages m e p.core.flight))
+          (λ p. times m e p.core.held) parts in
           let first = total_add (λ (p : Part E). times m e p.core.pending + times m e p.core.kept) (λ p. messages m e p.core.flight + antimessages m e p.core.flight) parts in
           let second = total_add (λ (p : Part E). times m e p.core.pending) (λ p. times m e p.core.kept) parts in
           let third = total_add (λ (p : Part E). messages m e p.core.flight) (λ p. antimessages m e p.core.flight) parts in
@@ -143,8 +149,10 @@ module _ {S E : Type 0} (m : Simulation S E) where
           let asked = sent_total e in
           let kept = kept_total e in
           let minus = antimessages_total e in
+          let held = held_total e in
           let first = total_add (λ (p : Part E). times m e (sent m (m.src e) (p.core.history (m.src e)))) (λ p. times_taken_back m p.core e) parts in
-          let second = total_add (λ (p : Part E). times m e p.core.kept) (λ p. antimessages m e p.core.flight) parts in
+          let second = total_add (λ (p : Part E). times m e p.core.kept + antimessages m e p.core.flight) (λ p. times m e p.core.held) parts in
+          let third = total_add (λ (p : Part E). times m e p.core.kept) (λ p. antimessages m e p.core.flight) parts in
           omega arith
 
       -- ---- where something is, some part has it

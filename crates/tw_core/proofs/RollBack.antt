@@ -1,31 +1,32 @@
 -- What undoing the newest events of a history keeps, as long as they pass a test.
-use Rattle.std.proofs.Common.{◌≡◌, ℕ, ◌+◌, ◌<◌, ◌≤◌, Bool, cond, true, false, List, [], ◌∷◌, ◌++◌, map, append_assoc, append-nil, refl, ap, sym, ◌∙◌, subst, inl, inr, arith}
+use Rattle.std.proofs.Common.{◌≡◌, ℕ, ◌+◌, ◌<◌, ◌≤◌, Bool, cond, true, false, List, [], ◌∷◌, ◌++◌, append_assoc, append-nil, refl, ap, sym, ◌∙◌, subst, inl, inr, arith}
 use Rattle.std.proofs.lemmas.Bool.{cases_Bool, both_ways, false_from_ne_true}
 use Rattle.tw_core.proofs.Calls.{moved_undoing, part_undoing, put_same, surplus_undoing}
 use Rattle.tw_core.specs.Good.{IsGoodPart}
 use Rattle.tw_core.specs.Machine.{Core, times_handled}
 use Rattle.tw_core.specs.Parts.{KeepsPart}
-use Rattle.tw_core.specs.Steps.{after_undoing, after_undoing_while, antimessage}
+use Rattle.tw_core.specs.Steps.{after_undoing, after_undoing_while, sent_back}
 use Rattle.tw_sim.proofs.Counts.{in_cons, in_head}
+use Rattle.tw_sim.specs.declared.machine.Cancel.{Cancel}
 use Rattle.tw_sim.specs.declared.machine.Signed.{Signed}
 use Rattle.tw_sim.specs.Simulation.{Simulation, IsFalling, IsLawful, state, times}
 
 module _ {S E : Type 0} (m : Simulation S E) where
-  -- what is taken back, the newest event's sends first
-  abbrev pub taken_back : (E → Bool) → ℕ → List E → List (Signed E)
-  taken_back test r [] = []
-  taken_back test r (e ∷ older) = cond (test e) (map antimessage (m.sends (state m r older) e) ++ taken_back test r older) []
+  -- what is taken back at once, the newest event's sends first
+  abbrev pub taken_back : Cancel → (E → Bool) → ℕ → List E → List (Signed E)
+  taken_back cancel test r [] = []
+  taken_back cancel test r (e ∷ older) = cond (test e) (sent_back m cancel (m.sends (state m r older) e) ++ taken_back cancel test r older) []
 
   -- it goes behind what is in flight, and nothing else depends on that
   pub undoing_while-flight : (test : E → Bool) (r : ℕ) (xs : List E) (C : Core E) (flight : List (Signed E))
-      → after_undoing_while m test r xs (record C { flight = flight }) ≡ record (after_undoing_while m test r xs C) { flight = flight ++ taken_back test r xs }
+      → after_undoing_while m test r xs (record C { flight = flight }) ≡ record (after_undoing_while m test r xs C) { flight = flight ++ taken_back C.cancel test r xs }
   undoing_while-flight test r [] C flight = ap (λ f. record C { flight = f }) (sym (append-nil flight))
   undoing_while-flight test r (e ∷ older) C flight =
       elim (cases_Bool (test e)) [
         | inl b ↦ rw b (
-            let back = map antimessage (m.sends (state m r older) e) in
+            let back = sent_back m C.cancel (m.sends (state m r older) e) in
             undoing_while-flight test r older (after_undoing m C r e older) (flight ++ back)
-            ∙ ap (λ f. record (after_undoing_while m test r older (after_undoing m C r e older)) { flight = f }) (append_assoc flight back (taken_back test r older)))
+            ∙ ap (λ f. record (after_undoing_while m test r older (after_undoing m C r e older)) { flight = f }) (append_assoc flight back (taken_back C.cancel test r older)))
         | inr b ↦ rw b (ap (λ f. record C { flight = f }) (sym (append-nil flight)))
       ]
 
@@ -45,8 +46,10 @@ module _ {S E : Type 0} (m : Simulation S E) where
         part = second.part;
         surplus = λ x. (let a = first.surplus x in let b = second.surplus x in omega arith);
         done = second.done ∙ first.done;
+        past = second.past ∙ first.past;
         bound = second.bound ∙ first.bound;
         stop = second.stop ∙ first.stop;
+        cancel = second.cancel ∙ first.cancel;
       };
       moved = λ x. second.moved x ∙ first.moved x;
       kept = second.kept ∙ first.kept;
@@ -62,8 +65,10 @@ module _ {S E : Type 0} (m : Simulation S E) where
             part = part_undoing m law C e older here t late good;
             surplus = surplus_undoing m law C e older here;
             done = refl;
+            past = refl;
             bound = refl;
             stop = refl;
+            cancel = refl;
           };
           moved = λ x. moved_undoing m law C e older here x;
           kept = refl;
@@ -71,7 +76,7 @@ module _ {S E : Type 0} (m : Simulation S E) where
         newest
 
     back_none : (t : ℕ) (C : Core E) → IsGoodPart m t C → IsBack t C C
-    back_none t C good = record { keeps = record { part = good; surplus = λ x. refl; done = refl; bound = refl; stop = refl }; moved = λ x. refl; kept = refl }
+    back_none t C good = record { keeps = record { part = good; surplus = λ x. refl; done = refl; past = refl; bound = refl; stop = refl; cancel = refl }; moved = λ x. refl; kept = refl }
 
     -- undoing as many as pass a test that only later events pass
     pub back_while : (t r : ℕ) (test : E → Bool) → ((x : E) → test x ≡ true → t ≤ m.time x) → (xs : List E) (C : Core E) → C.history r ≡ xs → IsGoodPart m t C

@@ -1,23 +1,23 @@
 -- Each step keeps good, and never lowers the bound.
-use Rattle.std.proofs.Common.{◌≡◌, ◌+◌, ◌<◌, ◌≤◌, ◌==◌, ◌∷◌, ◌∙◌}
+use Rattle.std.proofs.Common.{◌≡◌, ◌+◌, ◌<◌, ◌≤◌, ◌==◌, ◌∷◌, ◌++◌, ◌∙◌}
 use Rattle.std.proofs.Common.{ℕ, zero, suc, true, false, List, [], map, Option, Some, None, Result, Ok, Err, slice_get, refl, ap, sym, subst, inl, inr, arith, nat_lt}
 use Rattle.std.proofs.lemmas.Bool.{cases_Bool, cases_eq, both_ways, true_from_ne_false, eqb-true, eq-eqb, ltb-true, ltb-false}
 use Rattle.std.specs.Result.{result_unwrap_or}
 use Rattle.tw_core.proofs.Done.{at_router_done, handle_done, undo_done}
 use Rattle.tw_core.proofs.RollBack.{back_one}
 use Rattle.tw_core.proofs.Calls.{MayHandle, part_handling, put_other, put_same, surplus_handling}
-use Rattle.tw_core.proofs.Counts.{in_flight}
+use Rattle.tw_core.proofs.Counts.{antimessages-antimessage, antimessages-append, in_flight, messages-antimessage, messages-append, times-from}
 use Rattle.tw_core.proofs.Delivery.{delivered}
 use Rattle.tw_core.specs.declared.refusal.Refusal.{Refusal}
 use Rattle.tw_core.specs.Good.{IsGood, IsGoodPart}
 use Rattle.tw_core.specs.Machine.{Core, IsOpening, antimessages, messages, times_handled, times_loose}
 use Rattle.tw_core.specs.Parts.{KeepsPart}
-use Rattle.tw_core.specs.Steps.{after_delivery, after_handling, after_undoing, deliver, first_pending, handle, is_newest, least_loose, least_time, next, put, run, step, undo, with_bound, with_commit}
+use Rattle.tw_core.specs.Steps.{after_delivery, after_handling, after_undoing, antimessage, deliver, first_pending, from, handle, is_newest, least_loose, least_time, next, put, run, step, undo, with_bound, with_commit, with_release, with_room}
 use Rattle.tw_sim.proofs.Counts.{in_cons, in_filter, none, one_self, times-filter-yes}
 use Rattle.tw_sim.proofs.Least.{least_is}
 use Rattle.tw_sim.specs.declared.machine.Signed.{Signed}
 use Rattle.tw_sim.specs.declared.machine.Step.{Step}
-use Rattle.tw_sim.specs.declared.machine.Step.TheVariants.{Handle, Undo, Deliver, Bound, Commit}
+use Rattle.tw_sim.specs.declared.machine.Step.TheVariants.{Handle, Undo, Deliver, Bound, Commit, Release}
 use Rattle.tw_sim.specs.Simulation.{Simulation, IsFalling, IsLawful, only, sent, times}
 
 module _ {S E : Type 0} (m : Simulation S E) (law : IsLawful m) where
@@ -58,8 +58,10 @@ module _ {S E : Type 0} (m : Simulation S E) (law : IsLawful m) where
         part = part_handling m law C e may.1 t good;
         surplus = surplus_handling m law C e may.1;
         done = refl;
+        past = refl;
         bound = refl;
         stop = refl;
+        cancel = refl;
       })
 
   -- handling, where it is not refused
@@ -90,6 +92,54 @@ module _ {S E : Type 0} (m : Simulation S E) (law : IsLawful m) where
   -- delivering, where there is such a message
   pub deliver_keeps : (t : ℕ) (C D : Core E) (k : ℕ) → IsGoodPart m t C → deliver m C k (slice_get C.flight k) ≡ Ok D → KeepsPart m t C D
   deliver_keeps t C D k good h = deliver_at t C D k (slice_get C.flight k) good refl h
+
+  -- ---- release and widen
+
+  -- what is taken back for a router was held
+  pub release_keeps : (t : ℕ) (C : Core E) (r : ℕ) → IsGoodPart m t C → KeepsPart m t C (with_release m C r)
+  release_keeps t C r good =
+      let back = map antimessage (from m r C.held) in
+      let plus : (x : E) → messages m x (C.flight ++ back) ≡ messages m x C.flight =
+      λ x. (let a = messages-append m x C.flight back in let b = messages-antimessage m x (from m r C.held) in omega arith) in
+      let minus : (x : E) → antimessages m x (C.flight ++ back) ≡ antimessages m x C.flight + times m x (from m r C.held) =
+      λ x. (let a = antimessages-append m x C.flight back in let b = antimessages-antimessage m x (from m r C.held) in omega arith) in
+      record {
+        part = record {
+          falling = good.falling;
+          home = good.home;
+          soon = good.soon;
+          late = λ x h. good.late x (let a = plus x in let b = minus x in let c = times-from m x r C.held in omega arith);
+          ahead = good.ahead;
+          alone = good.alone;
+          suit = λ x h. good.suit x (let a = plus x in let b = minus x in let c = times-from m x r C.held in omega arith);
+        };
+        surplus = λ x. (let a = plus x in let b = minus x in let c = times-from m x r C.held in omega arith);
+        done = refl;
+        past = refl;
+        bound = refl;
+        stop = refl;
+        cancel = refl;
+      }
+
+  -- more room changes nothing else
+  pub widen_keeps : (t : ℕ) (C : Core E) (r : ℕ) → IsGoodPart m t C → KeepsPart m t C (with_room m C r)
+  widen_keeps t C r good = record {
+    part = record {
+      falling = good.falling;
+      home = good.home;
+      soon = good.soon;
+      late = good.late;
+      ahead = good.ahead;
+      alone = good.alone;
+      suit = good.suit;
+    };
+    surplus = λ x. refl;
+    done = refl;
+    past = refl;
+    bound = refl;
+    stop = refl;
+    cancel = refl;
+  }
 
   -- ---- good
 
@@ -128,43 +178,68 @@ module _ {S E : Type 0} (m : Simulation S E) (law : IsLawful m) where
       let more = times_events e xs in
       elim (cases_Bool x.plus) [ inl b ↦ rw b (omega arith) | inr b ↦ rw b (omega arith) ]
 
-  least_loose-there : (C : Core E) (e : E) → 0 < times_loose m C e → least_loose m C ≤ m.time e
-  least_loose-there C e h =
+  -- the least time of what is pending, kept or in flight, and of another time
+  abbrev least_moving : Core E → ℕ → ℕ
+  least_moving C last = least_time m C.pending (least_time m C.kept (least_time m (map (λ x. x.event) C.flight) last))
+
+  least_moving-there : (C : Core E) (last : ℕ) (e : E) → 0 < times m e C.pending + times m e C.kept + (messages m e C.flight + antimessages m e C.flight)
+      → least_moving C last ≤ m.time e
+  least_moving-there C last e h =
       let events = map (λ (x : Signed E). x.event) C.flight in
       let in_flight_times = times_events e C.flight in
-      let last = least_time m events C.stop in
-      let behind = least_time m C.kept last in
+      let flying = least_time m events last in
+      let behind = least_time m C.kept flying in
       let whole = least_time-le C.pending behind in
-      let kept = least_time-le C.kept last in
+      let kept = least_time-le C.kept flying in
       elim (cases_Bool (nat_lt 0 (times m e C.pending))) [
         | inl b ↦ least_time-there C.pending behind e (ltb-true 0 (times m e C.pending) b)
         | inr b ↦ elim (cases_Bool (nat_lt 0 (times m e C.kept))) [
-          | inl c ↦ (let k = least_time-there C.kept last e (ltb-true 0 (times m e C.kept) c) in omega arith)
+          | inl c ↦ (let k = least_time-there C.kept flying e (ltb-true 0 (times m e C.kept) c) in omega arith)
           | inr c ↦ (
               let no_pending = ltb-false 0 (times m e C.pending) b in
               let no_kept = ltb-false 0 (times m e C.kept) c in
-              let k = least_time-there events C.stop e (omega arith) in
+              let k = least_time-there events last e (omega arith) in
               omega arith)
         ]
       ]
 
+  least_moving-le : (C : Core E) (last : ℕ) → least_moving C last ≤ last
+  least_moving-le C last =
+      let events = map (λ (x : Signed E). x.event) C.flight in
+      let flying = least_time m events last in
+      let whole = least_time-le C.pending (least_time m C.kept flying) in
+      let kept = least_time-le C.kept flying in
+      let flight = least_time-le events last in
+      omega arith
+
+  -- nothing loose is before the least time of all that is
+  least_loose-there : (C : Core E) (e : E) → 0 < times_loose m C e → least_loose m C ≤ m.time e
+  least_loose-there C e h =
+      let holding = least_time m C.held C.stop in
+      elim (cases_Bool (nat_lt 0 (times m e C.held))) [
+        | inl b ↦ (
+            let k = least_time-there C.held C.stop e (ltb-true 0 (times m e C.held) b) in
+            let whole = least_moving-le C holding in
+            omega arith)
+        | inr b ↦ least_moving-there C holding e (let no = ltb-false 0 (times m e C.held) b in omega arith)
+      ]
+
   least_loose-le : (C : Core E) → least_loose m C ≤ C.stop
   least_loose-le C =
-      let events = map (λ (x : Signed E). x.event) C.flight in
-      let last = least_time m events C.stop in
-      let whole = least_time-le C.pending (least_time m C.kept last) in
-      let kept = least_time-le C.kept last in
-      let flight = least_time-le events C.stop in
+      let whole = least_moving-le C (least_time m C.held C.stop) in
+      let held = least_time-le C.held C.stop in
       omega arith
 
   -- where the bound is not beyond the stop and nothing loose is before it, it does not fall
   least_loose-from : (C : Core E) (b : ℕ) → ((e : E) → 0 < times_loose m C e → b ≤ m.time e) → b ≤ C.stop → b ≤ least_loose m C
   least_loose-from C b late le =
       let events = map (λ (x : Signed E). x.event) C.flight in
-      let last = least_time m events C.stop in
-      least_time-from b C.pending (least_time m C.kept last) (λ e h. late e (omega arith))
-      (least_time-from b C.kept last (λ e h. late e (omega arith))
-      (least_time-from b events C.stop (λ e h. late e (let k = times_events e C.flight in omega arith)) le))
+      let holding = least_time m C.held C.stop in
+      let flying = least_time m events holding in
+      least_time-from b C.pending (least_time m C.kept flying) (λ e h. late e (omega arith))
+      (least_time-from b C.kept flying (λ e h. late e (omega arith))
+      (least_time-from b events holding (λ e h. late e (let k = times_events e C.flight in omega arith))
+      (least_time-from b C.held C.stop (λ e h. late e (omega arith)) le)))
 
   good_bound : (C : Core E) → IsGood m C → IsGood m (with_bound m C)
   good_bound C good =
@@ -226,6 +301,10 @@ module _ {S E : Type 0} (m : Simulation S E) (law : IsLawful m) where
       let ok = at_router_done m r (Ok (with_commit m C r)) D h in
       let made : with_commit m C r ≡ D = cc in
       subst (StepKeeps C) made (record { good = good_commit C r good; bound = omega arith })
+  step_keeps C D (Release r) good h =
+      let ok = at_router_done m r (Ok (with_release m C r)) D h in
+      let made : with_release m C r ≡ D = cc in
+      subst (StepKeeps C) made (called C (with_release m C r) good (release_keeps C.bound C r good.part))
 
   next_at : (C : Core E) (o : Result (Core E) Refusal) → IsGood m C → ((D : Core E) → o ≡ Ok D → StepKeeps C D) → StepKeeps C (result_unwrap_or o C)
   next_at C (Ok D) good keeps = keeps D refl
@@ -252,9 +331,10 @@ module _ {S E : Type 0} (m : Simulation S E) (law : IsLawful m) where
       let none_kept : (e : E) → times m e C.kept ≡ 0 = λ e. ap (times m e) opens.kept in
       let no_messages : (e : E) → messages m e C.flight ≡ 0 = λ e. ap (messages m e) opens.flight in
       let no_antimessages : (e : E) → antimessages m e C.flight ≡ 0 = λ e. ap (antimessages m e) opens.flight in
+      let none_held : (e : E) → times m e C.held ≡ 0 = λ e. ap (times m e) opens.held in
       let bound = opens.bound in
       let loose : (e : E) → 0 < times_loose m C e → 0 < times m e m.opening =
-      λ e h. (let a = opens.pending e in let b = none_kept e in let c = no_messages e in let d = no_antimessages e in omega arith) in
+      λ e h. (let a = opens.pending e in let b = none_kept e in let c = no_messages e in let d = no_antimessages e in let f = none_held e in omega arith) in
       record {
         part = record {
           falling = λ r. subst (IsFalling m) (sym (opens.history r)) tt;
@@ -270,6 +350,7 @@ module _ {S E : Type 0} (m : Simulation S E) (law : IsLawful m) where
             let b = none_kept e in
             let c = no_messages e in
             let d = no_antimessages e in
+            let k = none_held e in
             let f = none (times_handled m C e) (λ k. none_handled (m.dst e) e k) in
             let g : times m e (sent m (m.src e) (C.history (m.src e))) ≡ 0 = ap (λ xs. times m e (sent m (m.src e) xs)) (opens.history (m.src e)) in
             omega arith);

@@ -10,7 +10,7 @@ use Rattle.tw_core.proofs.Sums.{all_map, total_add}
 use Rattle.tw_core.proofs.Steps.{run_keeps}
 use Rattle.tw_core.specs.declared.refusal.Refusal.TheVariants.{Committed, Nothing}
 use Rattle.tw_core.specs.Good.{IsGood, IsGoodPart, due}
-use Rattle.tw_core.specs.Machine.{Core, committed}
+use Rattle.tw_core.specs.Machine.{Core, committed, count_ahead}
 use Rattle.tw_core.specs.Parts.{AddUp, IsPart, Part, Shared, total}
 use Rattle.tw_core.specs.Steps.{after_arrival, after_undoing, after_undoing_while, first_pending, handle, is_newest, run, undo, with_pending, without_pending}
 use Rattle.tw_sim.proofs.Counts.{in_cons, in_filter, in_head, none, times-append, times-filter-yes}
@@ -40,7 +40,7 @@ module _ {S E : Type 0} (m : Simulation S E) where
   while-front : (test : E → Bool) (r : ℕ) (xs : List E) (C : Core E) (front : List (Signed E))
       → after_undoing_while m test r xs (record C { flight = front ++ C.flight }) ≡ record (after_undoing_while m test r xs C) { flight = front ++ (after_undoing_while m test r xs C).flight }
   while-front test r xs C front =
-      let back = taken_back m test r xs in
+      let back = taken_back m C.cancel test r xs in
       let whole : (after_undoing_while m test r xs C).flight ≡ C.flight ++ back = ap (λ z. z.flight) (undoing_while-flight m test r xs C C.flight) in
       undoing_while-flight m test r xs C (front ++ C.flight)
       ∙ ap (λ f. record (after_undoing_while m test r xs C) { flight = f }) (append_assoc front C.flight back ∙ ap (λ f. front ++ f) (sym whole))
@@ -133,9 +133,12 @@ module _ {S E : Type 0} (m : Simulation S E) where
       (λ h x waits same. elim (cases_Bool (nat_lt (m.time e) C.stop)) [
         | inl b ↦ (let k = rw b at h in elim (cases_Bool (is_newest m e (C.history r))) [
           | inl c ↦ (let l = rw c at k in cc)
-          | inr c ↦ (let l = rw c at k in elim (cases_Bool (m.full (state m r (C.history r)) e)) [
-            | inl d ↦ (let n = rw d at l in cc)
-            | inr d ↦ (let n = rw d at l in cc)
+          | inr c ↦ (let l = rw c at k in elim (cases_Bool (nat_lt (count_ahead C r) (C.room r))) [
+            | inl room ↦ (let o = rw room at l in elim (cases_Bool (m.full (state m r (C.history r)) e)) [
+              | inl d ↦ (let n = rw d at o in cc)
+              | inr d ↦ (let n = rw d at o in cc)
+            ])
+            | inr room ↦ (let o = rw room at l in cc)
           ])
         ])
         | inr b ↦ (

@@ -12,9 +12,9 @@ module _ {S E : Type 0} (m : Simulation S E) where
   abbrev pub times_there : Core E → E → ℕ
   times_there C e = times_handled m C e + (times m e C.pending + messages m e C.flight)
 
-  -- how often e is taken back: by an antimessage that is kept or on its way
+  -- how often e is taken back: by an antimessage that is kept or on its way, or that waits to go out
   abbrev pub times_taken_back : Core E → E → ℕ
-  times_taken_back C e = times m e C.kept + antimessages m e C.flight
+  times_taken_back C e = times m e C.kept + antimessages m e C.flight + times m e C.held
 
   -- the balance of e, how often it is there less how often it is taken back, is due
   abbrev pub IsBalanced : Core E → E → Type 0

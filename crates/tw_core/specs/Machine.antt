@@ -1,6 +1,8 @@
 -- The state of the machine whose routers run ahead and are rolled back, and how often an event stands in it (after Jefferson,
 -- Virtual Time, 1985).
-use Rattle.std.specs.Prelude.{ℕ, ◌+◌, ◌≡◌, cond, List, [], ◌∷◌}
+use Rattle.std.specs.Prelude.{ℕ, ◌+◌, ◌-◌, ◌≡◌, cond, List, [], ◌∷◌, length}
+use Rattle.tw_core.specs.declared.limits.TheConstants.{OPENING_ROOM}
+use Rattle.tw_sim.specs.declared.machine.Cancel.{Cancel}
 use Rattle.tw_sim.specs.declared.machine.Signed.{Signed}
 use Rattle.tw_sim.specs.Simulation.{Simulation, below, one, times}
 
@@ -14,12 +16,24 @@ pub record Core (E : Type 0) : Type 0 where
   pub kept : List E
   -- the messages on their way, in the order sent
   pub flight : List (Signed E)
+  -- what events that were undone had sent and was not taken back, in order: for each of them an antimessage waits to go out
+  pub held : List E
   -- the bound at each router's latest commit
   pub done : ℕ → ℕ
+  -- how many events of its history, the oldest ones, each router has committed
+  pub past : ℕ → ℕ
+  -- how many others it may have handled
+  pub room : ℕ → ℕ
   -- nothing loose is before this time, so that what is handled before it stays
   pub bound : ℕ
   -- nothing at or after this time is handled
   pub stop : ℕ
+  -- when what an undone event has sent is taken back
+  pub cancel : Cancel
+
+-- how many events a router has handled and not committed
+abbrev pub count_ahead : {E : Type 0} → Core E → ℕ → ℕ
+count_ahead C r = length (C.history r) - C.past r
 
 module _ {S E : Type 0} (m : Simulation S E) where
   -- how often e is on its way as a message
@@ -36,9 +50,9 @@ module _ {S E : Type 0} (m : Simulation S E) where
   abbrev pub times_handled : Core E → E → ℕ
   times_handled C e = times m e (C.history (m.dst e))
 
-  -- how often e is loose: pending, kept, or on its way with either sign
+  -- how often e is loose: pending, kept, on its way with either sign, or held
   abbrev pub times_loose : Core E → E → ℕ
-  times_loose C e = times m e C.pending + times m e C.kept + (messages e C.flight + antimessages e C.flight)
+  times_loose C e = times m e C.pending + times m e C.kept + (messages e C.flight + antimessages e C.flight) + times m e C.held
 
   -- the committed part of a router's history: its events before the bound of its latest commit
   abbrev pub committed : Core E → ℕ → List E
@@ -50,9 +64,13 @@ module _ {S E : Type 0} (m : Simulation S E) where
     pub history : (r : ℕ) → C.history r ≡ []
     -- each opening event is pending, as often as it opens
     pub pending : (e : E) → times m e C.pending ≡ times m e m.opening
-    -- nothing is kept or in flight
+    -- nothing is kept, in flight or held
     pub kept : C.kept ≡ []
     pub flight : C.flight ≡ []
-    -- and nothing is committed
+    pub held : C.held ≡ []
+    -- nothing is committed
     pub done : (r : ℕ) → C.done r ≡ 0
+    pub past : (r : ℕ) → C.past r ≡ 0
     pub bound : C.bound ≡ 0
+    -- and each router has the same room
+    pub room : (r : ℕ) → C.room r ≡ OPENING_ROOM

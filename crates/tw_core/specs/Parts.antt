@@ -3,7 +3,10 @@ use Rattle.std.specs.Prelude.{ℕ, ◌+◌, ◌≡◌, ◌<◌, ◌≤◌, Bool,
 use Rattle.std.specs.List.{AllByRecursion, flat_map}
 use Rattle.std.specs.Option.{option_map_or}
 use Rattle.tw_core.specs.Good.{IsGoodPart, times_taken_back, times_there}
+use Rattle.tw_core.specs.declared.limits.TheConstants.{OPENING_ROOM}
 use Rattle.tw_core.specs.Machine.{Core, antimessages, messages}
+use Rattle.tw_sim.specs.declared.machine.Cancel.{Cancel}
+use Rattle.tw_sim.specs.declared.machine.Cancel.TheVariants.{Aggressive}
 use Rattle.tw_sim.specs.declared.machine.Signed.{Signed}
 use Rattle.tw_sim.specs.Simulation.{Simulation, sent, times}
 
@@ -43,9 +46,13 @@ module _ {E : Type 0} where
     pending = flat_map (λ p. p.core.pending) parts;
     kept = flat_map (λ p. p.core.kept) parts;
     flight = shared.mail ++ flat_map (λ p. p.core.flight) parts;
+    held = flat_map (λ p. p.core.held) parts;
     done = λ r. at_owner (λ C. C.done r) 0 parts r;
+    past = λ r. at_owner (λ C. C.past r) 0 parts r;
+    room = λ r. at_owner (λ C. C.room r) OPENING_ROOM parts r;
     bound = shared.bound;
     stop = shared.stop;
+    cancel = at_owner (λ C. C.cancel) Aggressive parts 0;
   }
 
 module _ {S E : Type 0} (m : Simulation S E) where
@@ -65,15 +72,19 @@ module _ {S E : Type 0} (m : Simulation S E) where
     pub surplus : SameSurplus C D
     -- the rest stays
     pub done : D.done ≡ C.done
+    pub past : D.past ≡ C.past
     pub bound : D.bound ≡ C.bound
     pub stop : D.stop ≡ C.stop
+    pub cancel : D.cancel ≡ C.cancel
 
-  -- all that is handled, waits or is kept is for some routers alone
+  -- all that is handled, waits or is kept is for some routers alone, and all that is held was sent by them
   pub record IsOwn (owns : ℕ → Bool) (C : Core E) : Type 0 where
     -- no other router has handled anything
     pub history : (r : ℕ) (e : E) → 0 < times m e (C.history r) → owns r ≡ true
     -- and nothing waits for another
     pub waiting : (e : E) → 0 < times m e C.pending + times m e C.kept → owns (m.dst e) ≡ true
+    -- nor is anything held that another sent
+    pub held : (e : E) → 0 < times m e C.held → owns (m.src e) ≡ true
 
   -- what each part keeps by itself
   pub record IsPart (shared : Shared E) (p : Part E) : Type 0 where

@@ -21,10 +21,12 @@ module _ {S E : Type 0} (m : Simulation S E) where
     pub together : AreCommitted C → (events : List E) → IsFalling m events
         → ((e : E) → (0 < times m e events) ↔ (0 < times m e (committed m C (m.dst e)))) → events ≡ log m C.bound
 
-  -- nothing is in flight, and nothing is pending before the stop
+  -- nothing is in flight or held, and nothing is pending before the stop
   pub record IsSettled (C : Core E) : Type 0 where
     -- no message is on its way
     pub flight : C.flight ≡ []
+    -- and no antimessage waits to go out
+    pub held : C.held ≡ []
     -- what waits is not before the stop
     pub pending : (e : E) → 0 < times m e C.pending → C.stop ≤ m.time e
 

@@ -1,14 +1,17 @@
 -- The steps of the machine: what each does, and why it is refused (after Jefferson, Virtual Time, 1985).
-use Rattle.std.specs.Prelude.{ℕ, zero, suc, ◌≡◌, ◌==◌, Bool, true, false, cond, not, ◌||◌, List, [], ◌∷◌, ◌++◌, map, min, remove, slice_get, nat_lt, Option, Some, None, Result, Ok, Err, if◌then◌else◌}
+use Rattle.std.specs.Prelude.{ℕ, zero, suc, ◌≡◌, ◌*◌, ◌==◌, Bool, true, false, cond, not, ◌||◌, List, [], ◌∷◌, ◌++◌, map, min, remove, slice_get, nat_lt, Option, Some, None, Result, Ok, Err, if◌then◌else◌}
+use Rattle.std.specs.List.{filter, suffix_len}
 use Rattle.std.specs.Result.{result_and, result_unwrap_or}
 use Rattle.tw_core.specs.declared.refusal.Refusal.{Refusal}
-use Rattle.tw_core.specs.declared.refusal.Refusal.TheVariants.{NotMine, Nothing, Double, Committed, NoMessage, CounterFull}
-use Rattle.tw_core.specs.Machine.{Core}
+use Rattle.tw_core.specs.declared.refusal.Refusal.TheVariants.{NotMine, Nothing, Double, AheadFull, Committed, NoMessage, CounterFull}
+use Rattle.tw_core.specs.Machine.{Core, count_ahead}
+use Rattle.tw_sim.specs.declared.machine.Cancel.{Cancel}
+use Rattle.tw_sim.specs.declared.machine.Cancel.TheVariants.{Aggressive, Lazy}
 use Rattle.tw_sim.specs.declared.machine.Signed.{Signed}
 use Rattle.tw_sim.specs.declared.machine.Step.{Step}
-use Rattle.tw_sim.specs.declared.machine.Step.TheVariants.{Handle, Undo, Deliver, Bound, Commit}
+use Rattle.tw_sim.specs.declared.machine.Step.TheVariants.{Handle, Undo, Deliver, Bound, Commit, Release}
 use Rattle.tw_sim.specs.Ordered as ordered
-use Rattle.tw_sim.specs.Seq.{insert}
+use Rattle.tw_sim.specs.Seq.{insert, insert_all}
 use Rattle.tw_sim.specs.Simulation.{Simulation, only, state, times}
 
 -- e as a message
@@ -30,20 +33,47 @@ module _ {S E : Type 0} (m : Simulation S E) where
   abbrev pub take_out : E → List E → List E
   take_out e xs = ordered.take_out m.same e xs
 
-  -- r has handled e, which was pending: what e sends goes to the end of the flight
+  -- of what is sent, what goes out: where an equal message is held, that one is there already
+  abbrev pub to_send : List E → List E → List E
+  to_send xs [] = xs
+  to_send [] (h ∷ held) = []
+  to_send (x ∷ xs) (h ∷ held) =
+      if nat_lt 0 (times m x (h ∷ held))
+      then to_send xs (take_out x (h ∷ held))
+      else x ∷ to_send xs (h ∷ held)
+
+  -- and what is held still, once that is sent again
+  abbrev pub still_held : List E → List E → List E
+  still_held xs [] = []
+  still_held [] (h ∷ held) = h ∷ held
+  still_held (x ∷ xs) (h ∷ held) = still_held xs (take_out x (h ∷ held))
+
+  -- of what an undone event had sent, what is taken back at once
+  abbrev pub sent_back : Cancel → List E → List (Signed E)
+  sent_back Aggressive xs = map antimessage xs
+  sent_back Lazy xs = []
+
+  -- and what is held then
+  abbrev pub held_back : Cancel → List E → List E → List E
+  held_back Aggressive xs held = held
+  held_back Lazy xs held = insert_all m xs held
+
+  -- r has handled e, which was pending: what e sends and is not held goes to the end of the flight
   abbrev pub after_handling : Core E → ℕ → E → Core E
   after_handling C r e = record C {
     history = put C.history r (e ∷ C.history r);
     pending = take_out e C.pending;
-    flight = C.flight ++ map message (m.sends (state m r (C.history r)) e);
+    flight = C.flight ++ map message (to_send (m.sends (state m r (C.history r)) e) C.held);
+    held = still_held (m.sends (state m r (C.history r)) e) C.held;
   }
 
-  -- r has undone e, the newest of its history, of which older is the rest: what e sent is taken back
+  -- r has undone e, the newest of its history, of which older is the rest: what e sent is taken back, or held
   abbrev pub after_undoing : Core E → ℕ → E → List E → Core E
   after_undoing C r e older = record C {
     history = put C.history r older;
     pending = insert m e C.pending;
-    flight = C.flight ++ map antimessage (m.sends (state m r older) e);
+    flight = C.flight ++ sent_back C.cancel (m.sends (state m r older) e);
+    held = held_back C.cancel (m.sends (state m r older) e) C.held;
   }
 
   -- r has undone the newest events of its history as long as they pass the test
@@ -108,7 +138,7 @@ module _ {S E : Type 0} (m : Simulation S E) where
 
   -- the least time of all that is loose, and of the stop
   abbrev pub least_loose : Core E → ℕ
-  least_loose C = least_time C.pending (least_time C.kept (least_time (map (λ x. x.event) C.flight) C.stop))
+  least_loose C = least_time C.pending (least_time C.kept (least_time (map (λ x. x.event) C.flight) (least_time C.held C.stop)))
 
   -- ---- when it is refused
 
@@ -127,8 +157,10 @@ module _ {S E : Type 0} (m : Simulation S E) where
   handle C r (Some e) =
       if nat_lt (m.time e) C.stop
       then (if is_newest e (C.history r) then Err Double
-      else (if m.full (state m r (C.history r)) e then Err CounterFull
-      else Ok (after_handling C r e)))
+      else (if nat_lt (count_ahead C r) (C.room r)
+      then (if m.full (state m r (C.history r)) e then Err CounterFull
+      else Ok (after_handling C r e))
+      else Err AheadFull))
       else Err Nothing
 
   -- r undoes the newest event of its history, which is this one
@@ -148,9 +180,25 @@ module _ {S E : Type 0} (m : Simulation S E) where
   abbrev pub with_bound : Core E → Core E
   with_bound C = record C { bound = least_loose C }
 
-  -- r's events below the bound are committed
+  -- r's events below the bound, the oldest of its history, are committed
   abbrev pub with_commit : Core E → ℕ → Core E
-  with_commit C r = record C { done = put C.done r C.bound }
+  with_commit C r = record C { done = put C.done r C.bound; past = put C.past r (suffix_len (λ e. nat_lt (m.time e) C.bound) (C.history r)) }
+
+  -- r has twice the room; no step does this, but a caller may
+  abbrev pub with_room : Core E → ℕ → Core E
+  with_room C r = record C { room = put C.room r (2 * C.room r) }
+
+  -- what r sent, of a list
+  abbrev pub from : ℕ → List E → List E
+  from r xs = filter (λ x. m.src x == r) xs
+
+  -- and what others sent
+  abbrev pub from_others : ℕ → List E → List E
+  from_others r xs = filter (λ x. not (m.src x == r)) xs
+
+  -- what is held for r is taken back
+  abbrev pub with_release : Core E → ℕ → Core E
+  with_release C r = record C { flight = C.flight ++ map antimessage (from r C.held); held = from_others r C.held }
 
   -- a step at router r, refused where there is no such router
   abbrev pub at_router : ℕ → Result (Core E) Refusal → Result (Core E) Refusal
@@ -164,6 +212,7 @@ module _ {S E : Type 0} (m : Simulation S E) where
   step C (Deliver (suc k)) = deliver C k (slice_get C.flight k)
   step C Bound = Ok (with_bound C)
   step C (Commit r) = at_router r (Ok (with_commit C r))
+  step C (Release r) = at_router r (Ok (with_release C r))
 
   -- ---- lists of steps
 

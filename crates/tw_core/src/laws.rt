@@ -1,13 +1,14 @@
 //! Laws of the machine, over its definitions alone and any lawful simulation. Each function does
 //! nothing; its contract is the law.
 
-ghost use Rattle.std.specs.Prelude.{ℕ, ◌≡◌, ◌<◌, ◌≤◌, ◌+◌, ◌↔◌, ◌⊎◌, true, List, [], ◌∷◌, ◌++◌, Bool, Err, Ok, Some, slice_get};
+ghost use Rattle.std.specs.Prelude.{ℕ, ◌≡◌, ◌<◌, ◌≤◌, ◌+◌, ◌↔◌, ◌⊎◌, true, List, [], ◌∷◌, ◌++◌, Bool, Err, Ok, Some, length, slice_get};
 ghost use Rattle.tw_core.specs.declared.refusal.Refusal.TheVariants.{Nothing};
 ghost use Rattle.tw_core.specs.Good.{IsGood, IsGoodPart, due};
 ghost use Rattle.tw_core.specs.Machine.{Core, IsOpening, committed};
 ghost use Rattle.tw_core.specs.Parts.{AddUp, IsOwn, KeepsPart, Part, Shared, assembled};
 ghost use Rattle.tw_core.specs.Run.{IsAtEnd, IsSeq, IsSettled};
-ghost use Rattle.tw_core.specs.Steps.{after_arrival, after_undoing, deliver, first_pending, handle, next, run, undo};
+ghost use Rattle.tw_core.specs.Steps.{after_arrival, after_undoing, deliver, first_pending, handle, next, run, undo, with_release, with_room};
+ghost use Rattle.tw_sim.specs.declared.machine.Cancel.TheVariants.{Aggressive};
 ghost use Rattle.tw_sim.specs.declared.machine.Signed.{Signed};
 ghost use Rattle.tw_sim.specs.declared.machine.Step.{Step};
 ghost use Rattle.tw_sim.specs.Simulation.{IsLawful, IsNumbered, Simulation, below, sent, times};
@@ -42,6 +43,20 @@ pub fn committed_stays<S, E>()
         → below m (C.done r) ((run m C xs).history r) ≡ committed m C r }
 {}
 
+/// As many events of a router are counted as committed as are committed, after every list of steps from
+/// the opening; so a router has room for just so many others as it is told.
+pub fn committed_are_counted<S, E>()
+    ensures { (m : Simulation S E) → IsLawful m → IsNumbered m → (C : Core E) (xs : List Step) (r : ℕ) → IsOpening m C
+        → (run m C xs).past r ≡ length (committed m (run m C xs) r) }
+{}
+
+/// A machine that takes back at once what undone events had sent holds nothing, whatever its steps; and
+/// no step changes the way in which it takes back.
+pub fn eager_holds_nothing<S, E>()
+    ensures cancel { (m : Simulation S E) (C : Core E) (xs : List Step) → (run m C xs).cancel ≡ C.cancel }
+    ensures held { (m : Simulation S E) (C : Core E) (xs : List Step) → C.cancel ≡ Aggressive → C.held ≡ [] → (run m C xs).held ≡ [] }
+{}
+
 /// The bound never falls.
 pub fn bound_never_falls<S, E>()
     ensures step { (m : Simulation S E) → IsLawful m → (C : Core E) (x : Step) → IsGood m C → C.bound ≤ (next m C x).bound }
@@ -54,8 +69,8 @@ pub fn messages_are_welcome<S, E>()
         → (C.bound ≤ m.time x.event) × (m.dst x.event < m.routers) × (m.suits x.event ≡ true) }
 {}
 
-/// Where nothing is in flight, no antimessage is kept; and where nothing is pending before the stop
-/// either, the state is that at the end of the one-thread run.
+/// Where nothing is in flight, no antimessage is kept; and where nothing is held or pending before the
+/// stop either, the state is that at the end of the one-thread run.
 pub fn settled_is_end<S, E>()
     ensures kept { (m : Simulation S E) → IsLawful m → (C : Core E) → IsGood m C → C.flight ≡ [] → C.kept ≡ [] }
     ensures end { (m : Simulation S E) → IsLawful m → IsNumbered m → (C : Core E) → IsGood m C → IsSettled m C → IsAtEnd m C }
@@ -86,9 +101,12 @@ pub fn calls_keep_parts<S, E>()
         → deliver m C k (slice_get C.flight k) ≡ Ok D → KeepsPart m t C D }
     ensures undoing { (m : Simulation S E) → IsLawful m → (t : ℕ) (C : Core E) (r : ℕ) (e : E) (older : List E) → t ≤ m.time e → IsGoodPart m t C
         → C.history r ≡ e ∷ older → KeepsPart m t C (after_undoing m C r e older) }
+    ensures release { (m : Simulation S E) → IsLawful m → (t : ℕ) (C : Core E) (r : ℕ) → IsGoodPart m t C → KeepsPart m t C (with_release m C r) }
+    ensures widen { (m : Simulation S E) → IsLawful m → (t : ℕ) (C : Core E) (r : ℕ) → IsGoodPart m t C → KeepsPart m t C (with_room m C r) }
 {}
 
-/// What a call does at routers that a part owns leaves in it only what is for these.
+/// What a call does at routers that a part owns leaves in it only what is for these, and holds only what
+/// they have sent.
 pub fn calls_keep_own<S, E>()
     ensures handle { (m : Simulation S E) → IsLawful m → (owns : ℕ → Bool) (C D : Core E) (r : ℕ) → IsOwn m owns C
         → handle m C r (first_pending m C r) ≡ Ok D → IsOwn m owns D }
@@ -96,6 +114,7 @@ pub fn calls_keep_own<S, E>()
         → undo m C r (C.history r) ≡ Ok D → IsOwn m owns D }
     ensures arrival { (m : Simulation S E) → IsLawful m → (owns : ℕ → Bool) (t : ℕ) (C : Core E) (x : Signed E) → IsGoodPart m t C → IsOwn m owns C
         → owns (m.dst x.event) ≡ true → IsOwn m owns (after_arrival m C x) }
+    ensures release { (m : Simulation S E) → IsLawful m → (owns : ℕ → Bool) (C : Core E) (r : ℕ) → IsOwn m owns C → IsOwn m owns (with_release m C r) }
 {}
 
 /// Where a message arrives, what else is in flight does not count: what it takes back goes behind.

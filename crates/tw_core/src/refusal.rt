@@ -17,6 +17,9 @@ pub enum Refusal {
     /// The router's first pending event equals the last one that it handled.
     #[error("the first pending event of the router equals the last one that it handled")]
     Double,
+    /// The router has handled as many events as it has room for, and committed none of them.
+    #[error("the router has handled as many events as it has room for, and committed none of them")]
+    AheadFull,
     /// The last event that the router handled is committed or lies before the bound.
     #[error("the last event that the router handled is committed or lies before the bound")]
     Committed,
@@ -52,6 +55,7 @@ impl Refusal {
             Refusal::NotMine => ("S1", "NotMine"),
             Refusal::Nothing => ("S2", "Nothing"),
             Refusal::Double => ("S3", "Double"),
+            Refusal::AheadFull => ("S4", "AheadFull"),
             Refusal::Committed => ("S5", "Committed"),
             Refusal::NoMessage => ("K1", "NoMessage"),
             Refusal::CounterFull => ("H2", "CounterFull"),

@@ -8,8 +8,9 @@ use tw_instance::Case;
 use tw_rows::cases::case;
 use tw_rows::texts::DISAGREE;
 use tw_shard::Shard;
+use tw_shard::shards::{open_all, pending_events};
 use tw_sim::Step;
-use tw_warp::{Warp, add_committed, open_shards};
+use tw_warp::Warp;
 
 /// Whether a worker deposits two messages in a new exchange.
 fn visits(alloc: Global) -> bool {
@@ -58,24 +59,19 @@ fn a_shard_handles_undoes_and_commits(rt: HostRuntime) {
     assert!(rt; opens_and_commits(rt.alloc(), &case));
 }
 
-/// How many events of router 0 the only worker has committed as it begins.
-fn committed_at_first(alloc: Global, case: &Case) -> Option<usize> {
-    let shards = open_shards(alloc, case, 1, true).ok()?;
-    let shard = shards.first()?;
-    let mut events = Vec::new(alloc);
-    if !shard.owns(0) || !shard.keeps() {
-        return None;
-    }
-    add_committed(shard, 0, &mut events).ok()?;
+/// How many events wait at two workers as they begin.
+fn wait_at_first(alloc: Global, case: &Case) -> Option<usize> {
+    let shards = open_all(alloc, case, 2, true).ok()?;
+    let events = pending_events(alloc, &shards).ok()?;
     Some(events.len())
 }
 
 #[test]
-fn shards_are_opened_and_tell_what_is_committed(rt: HostRuntime) {
+fn shards_are_opened_and_tell_what_waits(rt: HostRuntime) {
     let Ok(case) = case(rt.alloc(), DISAGREE) else {
         panic!(rt; "refused")
     };
-    assert!(rt; committed_at_first(rt.alloc(), &case) == Some(0));
+    assert!(rt; wait_at_first(rt.alloc(), &case) == Some(1));
 }
 
 /// Whether the machine of a case takes steps, and tells what is committed.
@@ -86,6 +82,7 @@ fn takes_its_steps(alloc: Global, case: &Case) -> bool {
     warp.step(Step::Handle(0)) == Ok(())
         && warp.run(&[Step::Deliver(1), Step::Undo(0)]).is_ok()
         && warp.committed().is_ok()
+        && warp.router_ends().is_ok()
 }
 
 #[test]

@@ -12,6 +12,8 @@ mod machine;
 #[cfg(test)]
 mod messages;
 #[cfg(test)]
+mod rooms;
+#[cfg(test)]
 mod shards;
 #[cfg(test)]
 mod table;

@@ -13,7 +13,11 @@ use tw_sim::{Signed, Step};
 use tw_warp::{OrMemory, Refusal, StopLower, Warp};
 
 /// The machine of a case, to stop 20.
-fn machine<'a>(alloc: Global, case: &'a Case, workers: u32) -> Result<Warp<'a>, AllocError>
+pub(crate) fn machine<'a>(
+    alloc: Global,
+    case: &'a Case,
+    workers: u32,
+) -> Result<Warp<'a>, AllocError>
     requires { 0 < workers }
 {
     match Warp::new(alloc, case, workers, 20) {
@@ -23,7 +27,7 @@ fn machine<'a>(alloc: Global, case: &'a Case, workers: u32) -> Result<Warp<'a>, 
 }
 
 /// Takes a step, once more where memory was refused.
-fn step(warp: &mut Warp<'_>, step: Step) -> Result<(), OrMemory<Refusal>> {
+pub(crate) fn step(warp: &mut Warp<'_>, step: Step) -> Result<(), OrMemory<Refusal>> {
     match warp.step(step) {
         Err(OrMemory::Memory) => warp.step(step),
         answer => answer,

@@ -10,26 +10,12 @@ use Rattle.tw_model.specs.Effect.{effect}
 use Rattle.tw_model.specs.Quiet.{changes, last_change}
 use Rattle.tw_model.specs.State.{State}
 use Rattle.tw_shard.proofs.Shares.{known_state}
+use Rattle.tw_shard.specs.Shards.{greatest}
 use Rattle.tw_shard.specs.Timeline.{changes_path, last_change_at}
 use Rattle.tw_sim.proofs.Counts.{in_cons, in_head}
 use Rattle.tw_sim.specs.Simulation.{IsFalling, only, times}
-use Rattle.tw_parallel.specs.Ending.{greatest}
 
 -- ---- the greatest of some numbers
-
--- one more
-one_more : (f : ℕ → ℕ) (from n : ℕ) → greatest f (range_with_len from (suc n)) ≡ max (greatest f (range_with_len from n)) (f (from + n))
-one_more f from zero = let same : f (from + 0) ≡ f from = ap f (omega arith) in omega arith
-one_more f from (suc n) =
-    let more = one_more f (from + 1) n in
-    let same : f (from + 1 + n) ≡ f (from + suc n) = ap f (omega arith) in
-    omega arith
-
-pub one_greater : (f : ℕ → ℕ) (n : ℕ) → greatest f (range_with_len 0 (n + 1)) ≡ max (greatest f (range_with_len 0 n)) (f n)
-one_greater f n =
-    let up : n + 1 ≡ suc n = omega arith in
-    let same : 0 + n ≡ n = omega arith in
-    ap (λ k. greatest f (range_with_len 0 k)) up ∙ (one_more f 0 n ∙ ap (λ r. max (greatest f (range_with_len 0 n)) (f r)) same)
 
 -- it is at most what each of them is at most
 greatest_most : (f : ℕ → ℕ) (most : ℕ) (rs : List ℕ) → ((r : ℕ) → f r ≤ most) → greatest f rs ≤ most

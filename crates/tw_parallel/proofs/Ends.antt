@@ -16,7 +16,7 @@ use Rattle.tw_model.specs.Case.{simulation}
 use Rattle.tw_model.specs.Quiet.{last_change}
 use Rattle.tw_parallel.proofs.Changes.{last_of_all}
 use Rattle.tw_parallel.proofs.Owners.{good_of, law}
-use Rattle.tw_parallel.specs.Ending.{IsSettled, ahead_of, change_of, greatest, states_at, states_of}
+use Rattle.tw_parallel.specs.Settled.{IsSettled, ahead_of, change_of, states_at, states_of}
 use Rattle.tw_parallel.specs.Inside.{IsInside, sim_of}
 use Rattle.tw_parallel.specs.Sim.{IsSim, Sim, committed_events, machine}
 use Rattle.tw_parallel.specs.declared.sim.Sim.TheInside.{Inside}
@@ -24,6 +24,7 @@ use Rattle.tw_rule.specs.Place.{part_of}
 use Rattle.tw_shape.proofs.Stillness.{gathered}
 use Rattle.tw_shape.specs.Shape.{Draft, Shape, bare, seen_from, shape}
 use Rattle.tw_shard.specs.Shard.{Shard}
+use Rattle.tw_shard.specs.Shards.{greatest}
 use Rattle.tw_shard.specs.Timeline.{last_change_at}
 use Rattle.tw_sim.proofs.Closed.{log_closed}
 use Rattle.tw_sim.proofs.Counts.{times-insert_all}
@@ -32,7 +33,7 @@ use Rattle.tw_sim.specs.Seq.{insert_all, log}
 use Rattle.tw_sim.specs.Simulation.{IsFalling, times}
 use Rattle.tw_sim.specs.declared.machine.Signed.{Signed}
 use Rattle.tw_table.specs.declared.hand.Hand.{Hand}
-use Rattle.tw_table.specs.Shares.{place_of, shares_of}
+use Rattle.tw_table.specs.Shares.{Share, place_of, shares_of}
 use Rattle.tw_warp.proofs.Dealt.{all_there, together}
 
 pub empty_of : {X : Type 0} (xs : List X) → length xs ≡ 0 → xs ≡ []
@@ -118,6 +119,11 @@ zero_each f from (suc n) r h least most =
       | inr later ↦ zero_each f (from + 1) n r (omega arith) (grind arith) (omega arith)
     ]
 
+-- nothing is held
+none_held : (stop : ℕ) (shares : List Share) → flat_map (λ (p : Part Event). p.core.held) (map (part_of stop) (map place_of shares)) ≡ []
+none_held stop [] = refl
+none_held stop (s ∷ shares) = none_held stop shares
+
 pub settled_from : (s : Sim) → (machine s).bound ≡ (machine s).stop → (machine s).flight ≡ [] → total (λ r. ahead_of s r) (range_with_len 0 s.case.net.nodes) ≡ 0 → IsSettled s
 settled_from s bound flight none_ahead = record {
   bound = bound;
@@ -140,6 +146,7 @@ module _ (s : Sim) (is : IsSim s) (settled : IsSettled s) where
       let good = good_of s is in
       at_end (simulation s.case) (law s is) (numbered s.case is.ruled.is_case) (machine s) good (record {
         flight = settled.flight;
+        held = none_held s.board.stop s.shares;
         pending = λ e there. let late = good.late e (omega arith) in let last = settled.bound in omega arith;
       })
 

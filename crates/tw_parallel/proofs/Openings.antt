@@ -1,8 +1,9 @@
 -- A run that begins keeps the rule, and is a machine that begins.
-use Rattle.std.proofs.Common.{◌≡◌, ℕ, zero, suc, ◌+◌, ◌<◌, ◌==◌, ◌&&◌, List, [], ◌∷◌, ◌++◌, drop, flat_map, get_or, length, map, nat_lt, refl, ap, sym, ◌∙◌, subst, inl, inr, arith}
+use Rattle.std.proofs.Common.{◌≡◌, ℕ, zero, suc, ◌+◌, ◌<◌, ◌==◌, ◌&&◌, Bool, List, [], ◌∷◌, ◌++◌, drop, flat_map, get_or, length, map, nat_lt, refl, ap, sym, ◌∙◌, subst, inl, inr, arith}
 use Rattle.std.proofs.lemmas.Bool.{cases_Bool, lt-ltb}
 use Rattle.std.specs.List.{AllByRecursion, range_with_len}
 use Rattle.std.specs.Prelude.{Some, replicate}
+use Rattle.tw_core.specs.declared.limits.TheConstants.{OPENING_ROOM}
 use Rattle.tw_core.specs.Machine.{Core, IsOpening}
 use Rattle.tw_core.specs.Parts.{Part, at_owner}
 use Rattle.tw_event.specs.declared.event.Event.{Event}
@@ -17,13 +18,12 @@ use Rattle.tw_parallel.specs.Sim.{IsSim, Sim, machine}
 use Rattle.tw_rule.proofs.Opens.{rule_opens}
 use Rattle.tw_rule.specs.Place.{Place, part_of}
 use Rattle.tw_rule.specs.Rule.{AreOpeningPlaces, IsOpeningPlace, Rule}
-use Rattle.tw_shard.specs.Shard.{Shard}
+use Rattle.tw_shard.specs.Shard.{IsOpeningShard, Shard}
 use Rattle.tw_sim.specs.Simulation.{Simulation, times}
 use Rattle.tw_sim.specs.declared.machine.Signed.{Signed}
 use Rattle.tw_table.specs.declared.hand.Hand.{Hand}
 use Rattle.tw_table.specs.Shares.{Share, board_of, place_of, share, shares_of}
 use Rattle.tw_warp.proofs.Openings.{all_wait, waits}
-use Rattle.tw_warp.specs.Openings.{IsOpened}
 use Rattle.tw_warp.specs.Warp.{no_shard}
 
 -- nothing waits on a new exchange
@@ -35,18 +35,19 @@ long_row : {X : Type 0} (n : ℕ) (x : X) → length (replicate n x) ≡ n
 long_row zero x = refl
 long_row (suc n) x = let more = long_row n x in omega arith
 
-module _ (case : Case) (is : IsCase case) (n : ℕ) where
+module _ (case : Case) (is : IsCase case) (n : ℕ) (keeps : Bool) where
   -- a shard and a hand that begin are a place that begins
-  place_opens : (k : ℕ) (s : Shard) (h : Hand) → IsOpened case k n s → IsEmptyHand h → IsOpeningPlace (simulation case) (owner n) k (place_of (share s h))
+  place_opens : (k : ℕ) (s : Shard) (h : Hand) → IsOpeningShard case k n keeps s → IsEmptyHand h → IsOpeningPlace (simulation case) (owner n) k (place_of (share s h))
   place_opens k s h at empty = record {
     worker = at.worker;
     owns = λ r l.
         (λ i. nat_lt r (at.case_is i).net.nodes && (owner (at.count i) r == at.worker i))
         ∙ ap (λ b. b && (owner n r == k)) (lt-ltb r case.net.nodes l);
     history = λ r. ap (λ (C : Core Event). C.history r) (at.core_is 0);
-    pending = λ e. waits case is n k s e at;
+    pending = λ e. waits case is n keeps k s e at;
     kept = ap (λ (C : Core Event). C.kept) (at.core_is 0);
     outgoing = ap (λ (C : Core Event). C.flight) (at.core_is 0);
+    held = refl;
     done = λ r. ap (λ (C : Core Event). C.done r) (at.core_is 0);
     bound = ap (λ (C : Core Event). C.bound) (at.core_is 0);
     mail = λ i. drop (empty.next i) (empty.mail i);
@@ -55,13 +56,13 @@ module _ (case : Case) (is : IsCase case) (n : ℕ) where
 
   -- the shards of the workers from k on begin
   abbrev Begin : ℕ → List Shard → Type 0
-  Begin k ss = (j : ℕ) → j < length ss → IsOpened case (k + j) n (get_or ss j no_shard)
+  Begin k ss = (j : ℕ) → j < length ss → IsOpeningShard case (k + j) n keeps (get_or ss j no_shard)
 
-  first : (k : ℕ) (s : Shard) (ss : List Shard) → Begin k (s ∷ ss) → IsOpened case k n s
-  first k s ss each = subst (λ i. IsOpened case i n s) (omega arith) (each 0 (omega arith))
+  first : (k : ℕ) (s : Shard) (ss : List Shard) → Begin k (s ∷ ss) → IsOpeningShard case k n keeps s
+  first k s ss each = subst (λ i. IsOpeningShard case i n keeps s) (omega arith) (each 0 (omega arith))
 
   later : (k : ℕ) (s : Shard) (ss : List Shard) → Begin k (s ∷ ss) → Begin (k + 1) ss
-  later k s ss each = λ j h. subst (λ i. IsOpened case i n (get_or ss j no_shard)) (omega arith) (each (suc j) (omega arith))
+  later k s ss each = λ j h. subst (λ i. IsOpeningShard case i n keeps (get_or ss j no_shard)) (omega arith) (each (suc j) (omega arith))
 
   places_open : (k : ℕ) (ss : List Shard) (hs : List Hand) → Begin k ss → AllByRecursion IsEmptyHand hs → length hs ≡ length ss
       → AreOpeningPlaces (simulation case) (owner n) k (map place_of (shares_of ss hs))
@@ -73,6 +74,21 @@ module _ (case : Case) (is : IsCase case) (n : ℕ) where
         subst (λ i. AreOpeningPlaces (simulation case) (owner n) i (map place_of (shares_of ss hs))) up
             (places_open (k + 1) ss hs (later k s ss each) empty.1 (omega arith)),
       )
+
+  -- none of them has committed anything, and each router has the room that it begins with
+  nothing_past : (r k : ℕ) (ss : List Shard) (hs : List Hand) → Begin k ss → length hs ≡ length ss
+      → AllByRecursion (λ (p : Place Event). p.past r ≡ 0) (map place_of (shares_of ss hs))
+  nothing_past r k [] hs each same = tt
+  nothing_past r k (s ∷ ss) [] each same = absurd (omega arith)
+  nothing_past r k (s ∷ ss) (h ∷ hs) each same =
+      (ap (λ (C : Core Event). C.past r) ((first k s ss each).core_is 0), nothing_past r (k + 1) ss hs (later k s ss each) (omega arith))
+
+  opening_rooms : (r k : ℕ) (ss : List Shard) (hs : List Hand) → Begin k ss → length hs ≡ length ss
+      → AllByRecursion (λ (p : Place Event). p.room r ≡ OPENING_ROOM) (map place_of (shares_of ss hs))
+  opening_rooms r k [] hs each same = tt
+  opening_rooms r k (s ∷ ss) [] each same = absurd (omega arith)
+  opening_rooms r k (s ∷ ss) (h ∷ hs) each same =
+      (ap (λ (C : Core Event). C.room r) ((first k s ss each).core_is 0), opening_rooms r (k + 1) ss hs (later k s ss each) (omega arith))
 
   in_order : (k : ℕ) (ss : List Shard) (hs : List Hand) → Begin k ss → length hs ≡ length ss
       → map (λ (t : Share). t.shard.worker) (shares_of ss hs) ≡ range_with_len k (length ss)
@@ -103,6 +119,27 @@ module _ {S E : Type 0} (m : Simulation S E) (who : ℕ → ℕ) (stop : ℕ) wh
         | inr other ↦ rw other (none_done r (suc k) ps h.1)
       ]
 
+  none_past : (r : ℕ) (ps : List (Place E)) → AllByRecursion (λ (p : Place E). p.past r ≡ 0) ps → at_owner (λ (C : Core E). C.past r) 0 (map (part_of stop) ps) r ≡ 0
+  none_past r [] h = refl
+  none_past r (p ∷ ps) h =
+      elim (cases_Bool (p.owns r)) [
+        | inl own ↦ rw own h.0
+        | inr other ↦ rw other (none_past r ps h.1)
+      ]
+
+  first_room : (r : ℕ) (ps : List (Place E)) → AllByRecursion (λ (p : Place E). p.room r ≡ OPENING_ROOM) ps
+      → at_owner (λ (C : Core E). C.room r) OPENING_ROOM (map (part_of stop) ps) r ≡ OPENING_ROOM
+  first_room r [] h = refl
+  first_room r (p ∷ ps) h =
+      elim (cases_Bool (p.owns r)) [
+        | inl own ↦ rw own h.0
+        | inr other ↦ rw other (first_room r ps h.1)
+      ]
+
+  none_held : (k : ℕ) (ps : List (Place E)) → AreOpeningPlaces m who k ps → flat_map (λ (p : Part E). p.core.held) (map (part_of stop) ps) ≡ []
+  none_held k [] h = refl
+  none_held k (p ∷ ps) h = λ i. h.0.held i ++ none_held (suc k) ps h.1 i
+
   none_kept : (k : ℕ) (ps : List (Place E)) → AreOpeningPlaces m who k ps → flat_map (λ (p : Part E). p.core.kept) (map (part_of stop) ps) ≡ []
   none_kept k [] h = refl
   none_kept k (p ∷ ps) h = λ i. h.0.kept i ++ none_kept (suc k) ps h.1 i
@@ -112,16 +149,16 @@ module _ {S E : Type 0} (m : Simulation S E) (who : ℕ → ℕ) (stop : ℕ) wh
   none_flies k (p ∷ ps) h = λ i. ((h.0.mail i ++ h.0.unsent i) ++ h.0.outgoing i) ++ none_flies (suc k) ps h.1 i
 
 -- shards and hands that begin, with a new exchange for as many workers
-module _ (case : Case) (is : IsCase case) (n : ℕ) (some : 0 < n) (ss : List Shard) (hs : List Hand) (count : length ss ≡ n) (same : length hs ≡ length ss)
-    (each : (k : ℕ) → k < n → IsOpened case k n (get_or ss k no_shard)) (empty : AllByRecursion IsEmptyHand hs) where
+module _ (case : Case) (is : IsCase case) (n : ℕ) (keeps : Bool) (some : 0 < n) (ss : List Shard) (hs : List Hand) (count : length ss ≡ n) (same : length hs ≡ length ss)
+    (each : (k : ℕ) → k < n → IsOpeningShard case k n keeps (get_or ss k no_shard)) (empty : AllByRecursion IsEmptyHand hs) where
   abbrev pub new_sim : Sim
   new_sim = record { case = case; board = opening n 0 0; shares = shares_of ss hs }
 
-  from_zero : Begin case is n 0 ss
-  from_zero j h = subst (λ k. IsOpened case k n (get_or ss j no_shard)) (omega arith) (each j (omega arith))
+  from_zero : Begin case is n keeps 0 ss
+  from_zero j h = subst (λ k. IsOpeningShard case k n keeps (get_or ss j no_shard)) (omega arith) (each j (omega arith))
 
   new_places : AreOpeningPlaces (simulation case) (owner n) 0 (map place_of (shares_of ss hs))
-  new_places = places_open case is n 0 ss hs from_zero empty same
+  new_places = places_open case is n keeps 0 ss hs from_zero empty same
 
   many : workers (opening n 0 0) ≡ n
   many = long_row n (Some 0)
@@ -145,10 +182,10 @@ module _ (case : Case) (is : IsCase case) (n : ℕ) (some : 0 < n) (ss : List Sh
       let workers_are = many in
       record {
         some = omega arith;
-        order = in_order case is n 0 ss hs from_zero same ∙ ap (range_with_len 0) (omega arith);
+        order = in_order case is n keeps 0 ss hs from_zero same ∙ ap (range_with_len 0) (omega arith);
         ruled = record {
           is_case = is;
-          cases = all_of_case case is n 0 ss hs from_zero same;
+          cases = all_of_case case is n keeps 0 ss hs from_zero same;
           count = omega arith;
           rule = subst (λ k. Rule (simulation case) (owner k) (board_of (opening n 0 0)) (map place_of (shares_of ss hs))) (sym many) new_rule;
         };
@@ -161,9 +198,12 @@ module _ (case : Case) (is : IsCase case) (n : ℕ) (some : 0 < n) (ss : List Sh
       let ps = map place_of (shares_of ss hs) in
       record {
         history = λ r. no_history m (owner n) 0 r 0 ps new_places;
-        pending = λ e. ap (times m e) (pending_of 0 ss hs same) ∙ (all_wait case is n e ss 0 from_zero).0 (omega arith) (let within : owner n e.dst < n = omega arith in omega arith);
+        pending = λ e. ap (times m e) (pending_of 0 ss hs same) ∙ (all_wait case is n keeps e ss 0 from_zero).0 (omega arith) (let within : owner n e.dst < n = omega arith in omega arith);
         kept = none_kept m (owner n) 0 0 ps new_places;
         flight = λ i. no_mail n i ++ none_flies m (owner n) 0 0 ps new_places i;
+        held = none_held m (owner n) 0 0 ps new_places;
         done = λ r. none_done m (owner n) 0 r 0 ps new_places;
+        past = λ r. none_past m (owner n) 0 r ps (nothing_past case is n keeps r 0 ss hs from_zero same);
         bound = refl;
+        room = λ r. first_room m (owner n) 0 r ps (opening_rooms case is n keeps r 0 ss hs from_zero same);
       }

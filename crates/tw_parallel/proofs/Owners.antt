@@ -1,33 +1,45 @@
--- What the rule tells of a run: it is the one-thread run, and each router's worker has of it what the whole machine has.
-use Rattle.std.proofs.Common.{◌≡◌, ℕ, ◌+◌, ◌-◌, ◌<◌, ◌≤◌, true, List, [], ◌∷◌, ◌++◌, flat_map, get_or, length, map, reverse, slice_get, Some, take, refl, ap, sym, ◌∙◌, subst, arith}
-use Rattle.std.proofs.lemmas.Bool.{eq-eqb}
+-- What the rule tells of a run: it is the one-thread run, and its shards have of each router what the whole machine has.
+use Rattle.std.proofs.Common.{◌≡◌, ℕ, ◌+◌, ◌-◌, ◌<◌, ◌≤◌, ◌==◌, ◌&&◌, true, false, List, [], ◌∷◌, ◌++◌, flat_map, length, map, nat_lt, slice_get, Some, refl, ap, sym, ◌∙◌, subst, inl, inr, arith}
+use Rattle.std.proofs.Math.Path.{fun_ext}
+use Rattle.std.proofs.lemmas.Bool.{cases_Bool, eq-eqb, le-ltb, ltb-false, ltb-true}
+use Rattle.std.proofs.lemmas.Simd.{map-map}
+use Rattle.std.specs.List.{range_with_len}
+use Rattle.tw_core.proofs.Owners.{from_owner}
+use Rattle.tw_core.proofs.Sums.{all_map}
 use Rattle.tw_core.specs.Good.{IsGood}
-use Rattle.tw_core.specs.Machine.{committed}
-use Rattle.tw_core.specs.Parts.{Part}
+use Rattle.tw_core.specs.Machine.{Core}
+use Rattle.tw_core.specs.Parts.{Part, at_owner, total}
 use Rattle.tw_core.specs.Run.{IsSeq}
 use Rattle.tw_event.specs.declared.event.Event.{Event}
+use Rattle.tw_event.specs.Order.{event_before}
 use Rattle.tw_exchange.specs.Board.{workers}
+use Rattle.tw_sim.specs.Ordered.{insert_all}
 use Rattle.tw_sim.specs.Owners.{owner}
 use Rattle.tw_model.proofs.Lawful.{lawful, numbered}
 use Rattle.tw_model.specs.Case.{simulation}
 use Rattle.tw_model.specs.declared.limits.TheConstants.{LATEST}
+use Rattle.tw_model.specs.State.{State}
+use Rattle.tw_model.specs.Summary.{end_of}
 use Rattle.tw_parallel.proofs.Shares.{long_shares, share_there, worker_there}
-use Rattle.tw_parallel.specs.Ending.{ahead_of, change_of}
-use Rattle.tw_parallel.specs.Sim.{IsSim, KeepsEvents, Sim, machine, reopened}
+use Rattle.tw_parallel.specs.declared.sim.Sim.TheInside.{Inside}
+use Rattle.tw_parallel.specs.Settled.{ahead_of, change_of, states_of}
+use Rattle.tw_parallel.specs.Inside.{IsInside, sim_of}
+use Rattle.tw_parallel.specs.Sim.{IsSim, KeepsEvents, Sim, committed_events, machine, reopened}
 use Rattle.tw_rule.proofs.Gives.{rule_reopens}
-use Rattle.tw_rule.proofs.Places.{all_at, get_map}
+use Rattle.tw_rule.proofs.Places.{all_at, all_in_map, get_map}
 use Rattle.tw_rule.proofs.Ruled.{done_of, good_of_rule, history_of, seq_of_rule}
-use Rattle.tw_rule.specs.Place.{part_of}
+use Rattle.tw_rule.specs.Place.{Place, part_of, whole}
 use Rattle.tw_rule.specs.Rule.{Stands}
-use Rattle.tw_shard.specs.Shard.{Shard, core, owns}
+use Rattle.tw_shard.proofs.CommittedEvents.{told}
+use Rattle.tw_shard.specs.Shard.{Shard, core, no_shard, owns}
+use Rattle.tw_shard.specs.Shards.{HaveAll, KeepAll, ahead_of_all, change_of_all, committed_of_all, ends_of_all, greatest, history_in, shard_for}
 use Rattle.tw_shard.specs.Timeline.{last_change_at}
-use Rattle.tw_sim.specs.Simulation.{IsLawful, below}
+use Rattle.tw_sim.specs.Simulation.{Simulation, IsFalling, IsLawful, below, state}
 use Rattle.tw_table.specs.declared.hand.Hand.{Hand}
 use Rattle.tw_table.specs.Shares.{Share, board_of, place_of, share, shares_of}
-use Rattle.tw_warp.specs.Committed.{oldest}
 
 -- a shard has of a router what the whole machine has
-pub record Has (s : Sim) (r : ℕ) (x : Shard) : Type 0 where
+record Has (s : Sim) (r : ℕ) (x : Shard) : Type 0 where
   pub case : x.case ≡ s.case
   pub own : owns x r ≡ true
   pub history : (core 0 x).history r ≡ (machine s).history r
@@ -65,40 +77,115 @@ module _ (s : Sim) (is : IsSim s) where
         keeps = λ all. all_at (λ (t : Share). t.shard.keeps ≡ true) s.shares (owner n r) t there all;
       }
 
--- so has the shard at that place
-pub has_router : (s : Sim) → IsSim s → (ss : List Shard) (hs : List Hand) → s.shares ≡ shares_of ss hs → length hs ≡ length ss → (r k : ℕ) (x : Shard) → r < s.case.net.nodes
-    → k ≡ owner (length ss) r → x ≡ get_or ss k x → Has s r x
-has_router s is ss hs shares same r k x l at here =
-    let many : length (shares_of ss hs) ≡ workers s.board = ap length (sym shares) ∙ long s is in
-    let count = long_shares ss hs same in
-    let all : length ss ≡ workers s.board = omega arith in
-    let some = is.some in
-    let place : k ≡ owner (workers s.board) r = at ∙ ap (λ n. owner n r) all in
-    let within : k < length ss = omega arith in
-    let found = share_there ss hs k x same within in
-    let got : slice_get s.shares (owner (workers s.board) r) ≡ Some (share (get_or ss k x) found.0)
-    = ap (λ ts. slice_get ts (owner (workers s.board) r)) shares ∙ (ap (λ j. slice_get (shares_of ss hs) j) (sym place) ∙ found.1) in
-    subst (Has s r) (sym here) (has_at s is r l (share (get_or ss k x) found.0) got)
-
-module _ (s : Sim) (r : ℕ) (x : Shard) (has : Has s r x) where
-  -- its committed events there are those of the machine
-  pub oldest_there : take (length (committed (simulation x.case) (core 0 x) r)) (reverse ((core 0 x).history r)) ≡ oldest s.case (machine s) r
-  oldest_there = λ i. take (length (below (simulation (has.case i)) (has.done i) (has.history i))) (reverse (has.history i))
-
-  -- and so are those that are not committed
-  pub ahead_there : length ((core 0 x).history r) - length (committed (simulation x.case) (core 0 x) r) ≡ ahead_of s r
-  ahead_there = λ i. length (has.history i) - length (below (simulation (has.case i)) (has.done i) (has.history i))
-
-  -- and so is the time of its last change
-  pub change_there : last_change_at x.case.net r ((core 0 x).history r) ≡ change_of s r
-  change_there = λ i. last_change_at (has.case i).net r (has.history i)
-
 -- what waits at all workers
 pub pending_of : (stop : ℕ) (ss : List Shard) (hs : List Hand) → length hs ≡ length ss
     → flat_map (λ (p : Part Event). p.core.pending) (map (part_of stop) (map place_of (shares_of ss hs))) ≡ flat_map (λ (s : Shard). s.pending) ss
 pending_of stop [] hs same = refl
 pending_of stop (s ∷ ss) [] same = absurd (omega arith)
 pending_of stop (s ∷ ss) (h ∷ hs) same = ap (λ es. s.pending ++ es) (pending_of stop ss hs (omega arith))
+
+module _ (a : Inside) (is : IsInside a) where
+  abbrev s : Sim
+  s = sim_of a
+
+  abbrev ss : List Shard
+  ss = a.shards.items
+
+  abbrev m : Simulation State Event
+  m = simulation s.case
+
+  -- the share of the worker that has router r
+  placed : (r : ℕ) → (h : Hand) × (slice_get s.shares (owner (workers s.board) r) ≡ Some (share (shard_for ss r) h))
+  placed r =
+      let many : length (shares_of ss a.hands.items) ≡ workers s.board = long s is.sim in
+      let count = long_shares ss a.hands.items is.hands in
+      let all : length ss ≡ workers s.board = omega arith in
+      let some = is.sim.some in
+      let within : owner (length ss) r < length ss = omega arith in
+      let found = share_there ss a.hands.items (owner (length ss) r) no_shard is.hands within in
+      (found.0, ap (λ n. slice_get s.shares (owner n r)) (sym all) ∙ found.1)
+
+  has_there : (r : ℕ) → r < s.case.net.nodes → Has s r (shard_for ss r)
+  has_there r known = let found = placed r in has_at s is.sim r known (share (shard_for ss r) found.0) found.1
+
+  case_there : (r : ℕ) → (shard_for ss r).case ≡ s.case
+  case_there r = let found = placed r in all_at (λ (t : Share). t.shard.case ≡ s.case) s.shares (owner (workers s.board) r) (share (shard_for ss r) found.0) found.1 is.sim.ruled.cases
+
+  -- the shards are all of the case
+  pub have_all : HaveAll s.case ss
+  have_all = record {
+    some = (let many : length (shares_of ss a.hands.items) ≡ workers s.board = long s is.sim in let count = long_shares ss a.hands.items is.hands in let some = is.sim.some in omega arith);
+    cases = λ r known. (has_there r known).case;
+    own = λ r known. (has_there r known).own;
+  }
+
+  -- of what is no router nothing is there
+  none_owned : (r : ℕ) (x : Shard) → s.case.net.nodes ≤ r → x.case ≡ s.case → owns x r ≡ false
+  none_owned r x past case =
+      let here : (nat_lt r s.case.net.nodes && (owner x.workers r == x.worker)) ≡ false = rw (le-ltb r s.case.net.nodes past) refl in
+      (λ i. nat_lt r (case i).net.nodes && (owner x.workers r == x.worker)) ∙ here
+
+  beyond : {X : Type 0} (read : Core Event → X) (nothing : X) (r : ℕ) → ((t : Share) → t.shard.case ≡ s.case → read (whole s.board.stop (place_of t)) ≡ nothing)
+      → at_owner read nothing (map (part_of s.board.stop) (map place_of s.shares)) r ≡ nothing
+  beyond read nothing r none =
+      from_owner r read nothing (λ x. x ≡ nothing) refl (map (part_of s.board.stop) (map place_of s.shares))
+      (all_in_map (λ (p : Part Event). read p.core ≡ nothing) (part_of s.board.stop) (map place_of s.shares)
+      (all_in_map (λ (p : Place Event). read (whole s.board.stop p) ≡ nothing) place_of s.shares
+      (all_map (λ (t : Share). t.shard.case ≡ s.case) (λ (t : Share). read (whole s.board.stop (place_of t)) ≡ nothing) none s.shares is.sim.ruled.cases)))
+
+  -- histories and commits are those of the whole machine
+  history_there : (r : ℕ) → history_in ss r ≡ (machine s).history r
+  history_there r =
+      elim (cases_Bool (nat_lt r s.case.net.nodes)) [
+        | inl known ↦ (has_there r (ltb-true r s.case.net.nodes known)).history
+        | inr past ↦ (
+            let far = ltb-false r s.case.net.nodes past in
+            let here : history_in ss r ≡ [] = rw (none_owned r (shard_for ss r) far (case_there r)) refl in
+            here ∙ sym (beyond (λ (C : Core Event). C.history r) [] r (λ t case. rw (none_owned r t.shard far case) refl)))
+      ]
+
+  done_there : (r : ℕ) → (core 0 (shard_for ss r)).done r ≡ (machine s).done r
+  done_there r =
+      elim (cases_Bool (nat_lt r s.case.net.nodes)) [
+        | inl known ↦ (has_there r (ltb-true r s.case.net.nodes known)).done
+        | inr past ↦ (
+            let far = ltb-false r s.case.net.nodes past in
+            let here : (core 0 (shard_for ss r)).done r ≡ 0 = rw (none_owned r (shard_for ss r) far (case_there r)) refl in
+            here ∙ sym (beyond (λ (C : Core Event). C.done r) 0 r (λ t case. rw (none_owned r t.shard far case) refl)))
+      ]
+
+  histories : (λ r. history_in ss r) ≡ (machine s).history
+  histories = fun_ext history_there
+
+  commits : (λ r. (core 0 (shard_for ss r)).done r) ≡ (machine s).done
+  commits = fun_ext done_there
+
+  pub keep_all : KeepsEvents s → KeepAll s.case ss
+  keep_all each = record {
+    keeps = λ r known. (has_there r known).keeps each;
+    falling = subst (λ (h : ℕ → List Event). (r : ℕ) → IsFalling m (h r)) (sym histories) (good_of s is.sim).falling;
+  }
+
+  -- so what is read of all shards is read of that machine
+  pub same_committed : committed_of_all s.case ss ≡ committed_events s
+  same_committed = λ i. insert_all event_before (flat_map (λ r. below m (commits i r) (histories i r)) (range_with_len 0 s.case.net.nodes)) []
+
+  pub same_ahead : ahead_of_all s.case ss ≡ total (λ r. ahead_of s r) (range_with_len 0 s.case.net.nodes)
+  same_ahead = λ i. total (λ r. length (histories i r) - length (below m (commits i r) (histories i r))) (range_with_len 0 s.case.net.nodes)
+
+  pub same_change : change_of_all s.case ss ≡ greatest (λ r. change_of s r) (range_with_len 0 s.case.net.nodes)
+  same_change = λ i. greatest (λ r. last_change_at s.case.net r (histories i r)) (range_with_len 0 s.case.net.nodes)
+
+  pub same_ends : ends_of_all s.case ss ≡ map end_of (states_of s)
+  same_ends =
+      (λ i. map (λ r. end_of (state m r (histories i r))) (range_with_len 0 s.case.net.nodes))
+      ∙ sym (map-map end_of (λ r. state m r ((machine s).history r)) (range_with_len 0 s.case.net.nodes))
+
+  pub same_router : (r : ℕ) → told s.case r (history_in ss r) ≡ told s.case r ((machine s).history r)
+  same_router r = ap (told s.case r) (history_there r)
+
+  pub same_pending : flat_map (λ (x : Shard). x.pending) ss ≡ (machine s).pending
+  same_pending = sym (pending_of s.board.stop ss a.hands.items is.hands)
 
 -- the stop may rise
 pub reopens : (s : Sim) → IsSim s → (stop : ℕ) → s.board.stop ≤ stop → stop ≤ LATEST → IsSim (reopened stop s)

@@ -15,8 +15,8 @@ pub record IsInside (a : Inside) : Type 0 where
   pub hands : length a.hands.items ≡ length a.shards.items
 
 -- the run that parts stand for
-abbrev pub run_of : Parts → Sim
-run_of p = record { case = p.case.now; board = p.exchange; shares = shares_of p.shards.items p.hands.items }
+abbrev pub sim_of_parts : Parts → Sim
+sim_of_parts p = record { case = p.case.now; board = p.exchange; shares = shares_of p.shards.items p.hands.items }
 
 -- there is a hand for each shard
 abbrev pub HasHands : Parts → Type 0

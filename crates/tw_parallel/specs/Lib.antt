@@ -1,5 +1,5 @@
 pub mod Hands
 pub mod Sim
 pub mod Inside
-pub mod Ending
+pub mod Settled
 pub mod Crew

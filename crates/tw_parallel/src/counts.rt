@@ -4,7 +4,6 @@ ghost use Rattle.std.specs.List.{flat_map};
 ghost use Rattle.tw_exchange.specs.Board.{all_mail};
 
 use tw_exchange::Exchange;
-use tw_shard::Shard;
 use tw_table::Hand;
 
 /// How many messages wait for workers.
@@ -14,17 +13,6 @@ pub(crate) fn count_mail(exchange: &Exchange) -> u128
     let mut count = 0_u128;
     for worker in 0..exchange.workers() {
         count += exchange.mail(worker).len() as u128;
-    }
-    count
-}
-
-/// How many messages routers have sent that are still in their shard.
-pub(crate) fn count_outgoing(shards: &[Shard<'_>]) -> u128
-    ensures { result ≡ length (flat_map (λ s. s.outgoing) shards.now) }
-{
-    let mut count = 0_u128;
-    for shard in shards {
-        count += shard.outgoing().len() as u128;
     }
     count
 }

@@ -8,16 +8,16 @@
 //! apart into what a table and its workers take, and put together from what they leave.
 #![tactic(auto)]
 
-mod collecting;
 mod counts;
 mod crew;
-mod ending;
-mod opening;
-mod running;
+mod events;
+mod hands;
+mod outcome;
+mod run;
 mod sim;
 
-pub use ending::NotSettled;
-pub use running::{Ended, Options, run_until};
+pub use outcome::NotSettled;
+pub use run::{Ended, Options, run_until};
 pub use sim::{Parts, Sim};
 pub use tw_model::{OrMemory, Outcome};
 pub use tw_threads::{EndCause, Gate, OpenGate};

@@ -6,12 +6,11 @@ ghost use Rattle.tw_core.specs.Run.{IsSeq};
 ghost use Rattle.tw_exchange.specs.Board.{opening, workers};
 ghost use Rattle.tw_model.specs.Case.{simulation};
 ghost use Rattle.tw_model.specs.declared.limits.TheConstants.{LATEST};
-ghost use Rattle.tw_parallel.specs.Inside.{HasHands, run_of};
+ghost use Rattle.tw_parallel.specs.Inside.{HasHands, sim_of_parts};
 ghost use Rattle.tw_parallel.specs.Sim.{IsSim, KeepsEvents, machine, reopened};
-ghost use Rattle.tw_shard.specs.Shard.{core, owns};
 ghost use Rattle.tw_sim.specs.Simulation.{state};
 
-use crate::opening::open_hands;
+use crate::hands::open_hands;
 use std::alloc::{AllocError, Global};
 use std::marker::Model;
 use tw_exchange::Exchange;
@@ -19,9 +18,9 @@ use tw_instance::Case;
 use tw_model::limits::LATEST;
 use tw_router::Router;
 use tw_shard::Shard;
-use tw_sim::owner;
+use tw_shard::shards::{open_all, shard_for};
 use tw_table::Hand;
-use tw_warp::{StopLower, open_shards};
+use tw_warp::StopLower;
 
 /// A parallel run between two runs of its workers.
 #[derive(Drop)]
@@ -73,7 +72,7 @@ impl<'a> Sim<'a> {
         ensures keeps { keeps ≡ true → IfOk result (λ sim. KeepsEvents sim) }
     {
         let exchange = Exchange::new(alloc, workers, 0, 0)?;
-        let shards = open_shards(alloc, case, workers, keeps)?;
+        let shards = open_all(alloc, case, workers, keeps)?;
         let hands = open_hands(alloc, workers)?;
         // What a case keeps is told by a read of it.
         let _ = case.instance();
@@ -88,9 +87,9 @@ impl<'a> Sim<'a> {
     /// A run of these parts. They keep the rule, as those of another run do, and what a table leaves of them
     /// when it is closed; there is a hand for each shard.
     pub fn of_parts(parts: Parts<'a>) -> Sim<'a>
-        requires sim { IsSim (run_of parts) }
+        requires sim { IsSim (sim_of_parts parts) }
         requires hands { HasHands parts }
-        ensures { result ≡ run_of parts.entry }
+        ensures { result ≡ sim_of_parts parts.entry }
     {
         let Parts {
             case,
@@ -108,9 +107,9 @@ impl<'a> Sim<'a> {
 
     /// What the run consists of, as a table takes it.
     pub fn into_parts(self) -> Parts<'a>
-        ensures run { run_of result ≡ self.entry }
+        ensures run { sim_of_parts result ≡ self.entry }
         ensures hands { HasHands result }
-        ensures sim { IsSim (run_of result) }
+        ensures sim { IsSim (sim_of_parts result) }
     {
         Parts {
             case: self.case,
@@ -181,20 +180,7 @@ impl<'a> Sim<'a> {
             ≡ record { net = self.now.case.net; node = router; state = state (simulation self.now.case) router ((machine self.now).history router) } }
         ensures seq { IsSeq (simulation self.now.case) (machine self.now) }
     {
-        self.shard_for(router).router(router)
-    }
-
-    /// The shard that has this router.
-    pub(crate) fn shard_for(&self, router: u32) -> &Shard<'a>
-        requires { router < self.now.case.net.nodes }
-        ensures case { result.now.case ≡ self.now.case }
-        ensures own { owns result.now router ≡ true }
-        ensures history { (core 0 result.now).history router ≡ (machine self.now).history router }
-        ensures done { (core 0 result.now).done router ≡ (machine self.now).done router }
-        ensures keeps { KeepsEvents self.now → result.now.keeps ≡ true }
-        ensures sim { IsSim self.now }
-    {
-        &self.shards[owner(router, self.shards.len())]
+        shard_for(&self.shards, router).router(router)
     }
 }
 

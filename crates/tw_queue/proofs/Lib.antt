@@ -13,3 +13,5 @@ pub mod Turns
 pub mod Stacked
 pub mod Widths
 pub mod Rotated
+pub mod Keyed
+pub mod Released

@@ -10,3 +10,7 @@ pub mod Turn
 pub mod Level
 pub mod Wheels
 pub mod Update
+pub mod Held
+pub mod SenderQueue
+pub mod SenderTable
+pub mod HeldSends

@@ -1,13 +1,15 @@
-//! The events that are pending, of which the least is always at hand.
+//! The events that are pending, of which the least is always at hand; and those that are held.
 //!
 //! [`Pending`] keeps them by router, for a shard: its calls ask for the events of one router, and take an
 //! event out wherever it stands. [`EventList`] keeps them by time, for a run that takes the least of all
-//! again and again.
+//! again and again. [`HeldSends`] keeps by sender what undone events had sent, until it is sent again or
+//! taken back.
 #![tactic(auto)]
 
 mod bucket;
 mod calendar;
 mod event_list;
+mod held;
 mod least_times;
 mod level;
 mod marks;
@@ -17,9 +19,12 @@ mod queue_table;
 mod ring;
 mod router_queue;
 mod search;
+mod sender_queue;
+mod sender_table;
 mod tick;
 mod update;
 mod wheels;
 
 pub use event_list::EventList;
+pub use held::HeldSends;
 pub use pending::Pending;

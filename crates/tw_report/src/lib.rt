@@ -8,7 +8,7 @@
 #![tactic(auto)]
 
 mod event_page;
-mod gathering;
+mod gather;
 mod lines;
 mod numerals;
 mod replay;

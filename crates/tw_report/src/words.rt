@@ -6,7 +6,7 @@ ghost use Rattle.std.specs.List.{flat_map};
 ghost use Rattle.tw_device.specs.Sink.{Puts};
 ghost use Rattle.tw_report.specs.Words.{line, path_text, with_spaces, spaced_number, spaced_word, word_text};
 
-use crate::gathering::gather_line;
+use crate::gather::gather_line;
 use arrayvec::ArrayVec;
 use itoa::Buffer;
 use tw_device::{Failed, Sink, put_all};

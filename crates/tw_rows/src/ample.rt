@@ -7,7 +7,7 @@ use tw_event::{Body, Event, PathNo};
 use tw_handlers::{Trail, handle, undo};
 use tw_instance::{Case, Instance, Link, PermittedPath, Scene};
 use tw_options::options;
-use tw_queue::{EventList, Pending};
+use tw_queue::{EventList, HeldSends, Pending};
 use tw_router::Router;
 use tw_seq::{LoggedRun, OneThread, Running, run_watched};
 use tw_shape::{Finding, ShapeBuilder, Watch};
@@ -131,6 +131,21 @@ fn waits_by_time(alloc: Global) -> bool {
 #[test]
 fn events_wait_by_time(rt: HostRuntime) {
     assert!(rt; waits_by_time(rt.alloc()));
+}
+
+/// Whether an event is held by its sender, and is listed.
+fn is_held_by_sender(alloc: Global) -> bool {
+    let mut held = HeldSends::new(alloc, 1);
+    held.reserve(1).is_ok()
+        && held.insert(Event::default()).is_ok()
+        && held
+            .list()
+            .is_ok_and(|events| events.as_slice() == &[Event::default()][..])
+}
+
+#[test]
+fn events_are_held_by_sender(rt: HostRuntime) {
+    assert!(rt; is_held_by_sender(rt.alloc()));
 }
 
 /// Whether a router is added to a shape, and shapes are watched.

@@ -14,6 +14,8 @@ mod command_lines;
 #[cfg(test)]
 mod handlers;
 #[cfg(test)]
+mod held;
+#[cfg(test)]
 mod instances;
 #[cfg(test)]
 mod lanes;

@@ -5,13 +5,13 @@ use Rattle.tw_sim.proofs.Counts.{in_head}
 use Rattle.tw_core.proofs.Counts.{antimessages-append, antimessages-remove, in_flight, messages-append, messages-remove}
 use Rattle.tw_core.proofs.Delivery.{delivered, part_loose}
 use Rattle.tw_core.proofs.Done.{handle_done}
-use Rattle.tw_core.proofs.Own.{own_arrival, own_handle, own_undoing}
-use Rattle.tw_core.proofs.Steps.{keeps_handling, may_handle, undoing_keeps}
+use Rattle.tw_core.proofs.Own.{own_arrival, own_handle, own_release, own_undoing}
+use Rattle.tw_core.proofs.Steps.{keeps_handling, may_handle, release_keeps, undoing_keeps, widen_keeps}
 use Rattle.tw_core.proofs.Wording.{arrival-front}
 use Rattle.tw_core.specs.Good.{IsGoodPart}
 use Rattle.tw_core.specs.Machine.{Core, antimessages, messages, times_loose}
 use Rattle.tw_core.specs.Parts.{IsOwn, KeepsPart}
-use Rattle.tw_core.specs.Steps.{after_arrival, after_delivery, after_handling, after_undoing, antimessage, first_pending, handle, message, AreUndone, IsRolledBack}
+use Rattle.tw_core.specs.Steps.{after_arrival, after_delivery, after_handling, after_undoing, antimessage, first_pending, from, handle, message, sent_back, to_send, with_release, with_room, AreUndone, IsRolledBack}
 use Rattle.tw_rule.specs.Board.{times_among}
 use Rattle.tw_rule.specs.Place.{IsPlace, Keeps, Place, core, in_hand, whole, with_core, with_unsent}
 use Rattle.tw_sim.specs.declared.machine.Signed.{Signed}
@@ -37,11 +37,11 @@ behind front C = record C { flight = front ++ C.flight }
 module _ {S E : Type 0} (m : Simulation S E) where
   handling-front : (front : List (Signed E)) (C : Core E) (r : ℕ) (e : E) → after_handling m (behind front C) r e ≡ behind front (after_handling m C r e)
   handling-front front C r e =
-      ap (λ f. record (after_handling m C r e) { flight = f }) (append_assoc front C.flight (map message (m.sends (state m r (C.history r)) e)))
+      ap (λ f. record (after_handling m C r e) { flight = f }) (append_assoc front C.flight (map message (to_send m (m.sends (state m r (C.history r)) e) C.held)))
 
   undoing-front : (front : List (Signed E)) (C : Core E) (r : ℕ) (e : E) (older : List E) → after_undoing m (behind front C) r e older ≡ behind front (after_undoing m C r e older)
   undoing-front front C r e older =
-      ap (λ f. record (after_undoing m C r e older) { flight = f }) (append_assoc front C.flight (map antimessage (m.sends (state m r older) e)))
+      ap (λ f. record (after_undoing m C r e older) { flight = f }) (append_assoc front C.flight (sent_back m C.cancel (m.sends (state m r older) e)))
 
   -- a part in which nothing loose is before another time
   pub part_from : (t : ℕ) (C : Core E) → IsGoodPart m 0 C → ((e : E) → 0 < times_loose m C e → t ≤ m.time e) → IsGoodPart m t C
@@ -66,7 +66,7 @@ module _ {S E : Type 0} (m : Simulation S E) where
 
   -- its routers are its own
   own_routers : (stop : ℕ) (p : Place E) → IsPlace m stop p → IsOwn m p.owns (core stop p)
-  own_routers stop p place = record { history = place.history; waiting = λ e h. place.waiting e (omega arith) }
+  own_routers stop p place = record { history = place.history; waiting = λ e h. place.waiting e (omega arith); held = place.held }
 
   module _ (law : IsLawful m) where
     -- what a call at its routers keeps, while the rest of the hand is on its way
@@ -89,6 +89,7 @@ module _ {S E : Type 0} (m : Simulation S E) where
               | inl l ↦ own.waiting e l
               | inr ge ↦ place.waiting e (let le = less e in omega arith)
             ];
+            held = own.held;
             done = λ r. (let old = place.done r in let now = done r in omega arith);
           };
           late = λ t from. (call t (part_from t (whole stop p) place.good from)).part.late;
@@ -107,6 +108,22 @@ module _ {S E : Type 0} (m : Simulation S E) where
         kept stop p p.mail D place (λ e. omega arith) (own_handle m law p.owns (core stop p) D r (own_routers stop p place) h)
         (λ t good. subst (KeepsPart m t (whole stop p)) made
         (keeps_handling m law t (whole stop p) r done.event good (may_handle m law t (whole stop p) r done.event good done.found done.soon done.new)))
+
+    -- what is held for a router is taken back
+    pub keeps_release : (stop r : ℕ) (p : Place E) → IsPlace m stop p → Keeps m stop p (with_core (with_release m (core stop p) r) p)
+    keeps_release stop r p place =
+        let front = p.mail ++ p.unsent in
+        let D = with_release m (core stop p) r in
+        let made : with_release m (whole stop p) r ≡ behind front D = ap (λ f. record (behind front D) { flight = f }) (append_assoc front p.outgoing (map antimessage (from m r p.held))) in
+        kept stop p p.mail D place (λ e. omega arith) (own_release m law p.owns (core stop p) r (own_routers stop p place))
+        (λ t good. subst (KeepsPart m t (whole stop p)) made (release_keeps m law t (whole stop p) r good))
+
+    -- a router gets more room
+    pub keeps_widen : (stop r : ℕ) (p : Place E) → IsPlace m stop p → Keeps m stop p (with_core (with_room m (core stop p) r) p)
+    keeps_widen stop r p place =
+        let own = own_routers stop p place in
+        kept stop p p.mail (with_room m (core stop p) r) place (λ e. omega arith) (record { history = own.history; waiting = own.waiting; held = own.held })
+        (λ t good. widen_keeps m law t (whole stop p) r good)
 
     -- a message of the hand is counted there, and is for a router of its own
     at_hand : (p : Place E) (k : ℕ) (s : Signed E) → slice_get p.mail k ≡ Some s → 0 < times_among m s.event p.mail
@@ -221,6 +238,7 @@ module _ {S E : Type 0} (m : Simulation S E) where
                 (λ e h. (let a = same_messages e in let b = same_antimessages e in omega arith)) place.good.ahead place.good.alone;
             history = place.history;
             waiting = place.waiting;
+            held = place.held;
             done = place.done;
           };
           late = λ t from e h. from e (let a = same_messages e in let b = same_antimessages e in omega arith);

@@ -56,6 +56,7 @@ module _ {S E : Type 0} (m : Simulation S E) (who : ℕ → ℕ) where
     };
     history = place.history;
     waiting = place.waiting;
+    held = place.held;
     done = place.done;
   }
 

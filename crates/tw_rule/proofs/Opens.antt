@@ -26,6 +26,9 @@ module _ {S E : Type 0} (m : Simulation S E) (law : IsLawful m) (who : ℕ → �
     none_kept : (e : E) → times m e p.kept ≡ 0
     none_kept e = ap (times m e) new.kept
 
+    none_held : (e : E) → times m e p.held ≡ 0
+    none_held e = ap (times m e) new.held
+
     -- what is pending opens, at a router of this worker
     opens_here : (e : E) → 0 < times m e p.pending → (0 < times m e m.opening) × (who (m.dst e) ≡ w)
     opens_here e h =
@@ -64,13 +67,14 @@ module _ {S E : Type 0} (m : Simulation S E) (law : IsLawful m) (who : ℕ → �
         alone = λ e h. absurd (let k = none_kept e in omega arith);
         suit = λ e h. elim (cases_lt 0 (times m e (p.history (m.dst e)))) [
           | inl l ↦ absurd (none_handled (m.dst e) e l)
-          | inr ge ↦ law.suit_opening e (opens_here e (let a = none_kept e in let b = no_messages e in let c = no_antimessages e in omega arith)).0
+          | inr ge ↦ law.suit_opening e (opens_here e (let a = none_kept e in let d = none_held e in let b = no_messages e in let c = no_antimessages e in omega arith)).0
         ];
       };
       history = λ r e h. absurd (none_handled r e h);
       waiting = λ e h.
           let here = opens_here e (let a = none_kept e in let b = no_messages e in let c = no_antimessages e in omega arith) in
           new.owns (m.dst e) (law.receiver e (law.suit_opening e here.0)) ∙ eq-eqb (who (m.dst e)) w here.1;
+      held = λ e h. absurd (let a = none_held e in omega arith);
       done = λ r. (let a = new.done r in omega arith);
     }
 
@@ -91,6 +95,7 @@ module _ {S E : Type 0} (m : Simulation S E) (law : IsLawful m) (who : ℕ → �
         let none_sent : times m e (sent m (m.src e) (p.history (m.src e))) ≡ 0 = ap (λ xs. times m e (sent m (m.src e) xs)) (new.history (m.src e)) in
         let a = none_kept e in
         let b = no_antimessages e in
+        let c = none_held e in
         omega arith
 
     there_opens : (e : E) → times_there m (whole 0 p) e ≡ cond (p.worker == who (m.dst e)) (times m e m.opening) 0

@@ -41,7 +41,7 @@ module _ {S E : Type 0} (m : Simulation S E) (law : IsLawful m) (who : ℕ → �
   part_stands x board p stands = record {
     good = part_from m x.bound (whole x.stop p) stands.place.good (stands_from m law who x p board stands);
     done = λ r. (let a = stands.place.done r in let b = stands.bound in omega arith);
-    own = record { history = stands.place.history; waiting = λ e h. stands.place.waiting e (omega arith) };
+    own = record { history = stands.place.history; waiting = λ e h. stands.place.waiting e (omega arith); held = stands.place.held };
   }
 
   abbrev parts : Board E → List (Place E) → List (Part E)
@@ -111,12 +111,17 @@ module _ {S E : Type 0} (m : Simulation S E) (law : IsLawful m) (who : ℕ → �
   none_flies stop [] h = refl
   none_flies stop (p ∷ ps) h = ap (λ xs. xs ++ flat_map (λ (z : Part E). z.core.flight) (map (part_of stop) ps)) h.0 ∙ none_flies stop ps h.1
 
-  pub end_of_rule : IsNumbered m → (x : Board E) (ps : List (Place E)) → Rule m who x ps → x.mail ≡ [] → AllByRecursion (λ p. in_hand p ≡ []) ps → x.bound ≡ x.stop
-      → IsAtEnd m (assembled x ps)
-  end_of_rule numbered x ps rule no_mail empty last =
+  none_held : (stop : ℕ) (ps : List (Place E)) → AllByRecursion (λ p. p.held ≡ []) ps → flat_map (λ (p : Part E). p.core.held) (map (part_of stop) ps) ≡ []
+  none_held stop [] h = refl
+  none_held stop (p ∷ ps) h = ap (λ xs. xs ++ flat_map (λ (z : Part E). z.core.held) (map (part_of stop) ps)) h.0 ∙ none_held stop ps h.1
+
+  pub end_of_rule : IsNumbered m → (x : Board E) (ps : List (Place E)) → Rule m who x ps → x.mail ≡ [] → AllByRecursion (λ p. in_hand p ≡ []) ps → AllByRecursion (λ p. p.held ≡ []) ps
+      → x.bound ≡ x.stop → IsAtEnd m (assembled x ps)
+  end_of_rule numbered x ps rule no_mail empty nothing last =
       let good = good_of_rule x ps rule in
       let settled : IsSettled m (assembled x ps) = record {
         flight = ap (λ xs. xs ++ flat_map (λ (z : Part E). z.core.flight) (parts x ps)) no_mail ∙ none_flies x.stop ps empty;
+        held = none_held x.stop ps nothing;
         pending = λ e h. (let late = good.late e (omega arith) in omega arith);
       } in
       at_end m law numbered (assembled x ps) good settled

@@ -20,10 +20,11 @@ module _ {S E : Type 0} (m : Simulation S E) (law : IsLawful m) where
   -- the least time of what waits tells of all of it
   pub tells_all : (p : Place E) → Tells m (report_time m p) p
   tells_all p e h =
-      let told = reduce min (map (λ x. m.time x) (p.pending ++ p.kept)) in
+      let told = reduce min (map (λ x. m.time x) (p.pending ++ p.kept ++ p.held)) in
       elim (cases_lt 0 (times_among m e p.mail)) [
         | inl l ↦ mail_told m law told p.mail e l
-        | inr ge ↦ still_told m law told p.mail (m.time e) (events_told m law (p.pending ++ p.kept) e (let both = times-append m e p.pending p.kept in omega arith))
+        | inr ge ↦ still_told m law told p.mail (m.time e)
+            (events_told m law (p.pending ++ p.kept ++ p.held) e (let all = times-append m e (p.pending ++ p.kept) p.held in let both = times-append m e p.pending p.kept in omega arith))
       ]
 
 module _ {S E : Type 0} (m : Simulation S E) (law : IsLawful m) (who : ℕ → ℕ) where
@@ -78,8 +79,9 @@ module _ {S E : Type 0} (m : Simulation S E) (law : IsLawful m) (who : ℕ → �
   pub report_late : (x : Board E) (p q : Place E) → IsBoard m x → Stands m who x p → Keeps m x.stop p q → IfSome (report_time m q) (λ time. x.bound ≤ time)
   report_late x p q board stands keeps =
       let from = keeps.late x.bound (stands_from x p board stands) in
-      told_from m law x.bound (reduce min (map (λ e. m.time e) (q.pending ++ q.kept))) q.mail
-      (events_from m law x.bound (q.pending ++ q.kept) (λ e h. from e (let both = times-append m e q.pending q.kept in omega arith)))
+      told_from m law x.bound (reduce min (map (λ e. m.time e) (q.pending ++ q.kept ++ q.held))) q.mail
+      (events_from m law x.bound (q.pending ++ q.kept ++ q.held)
+      (λ e h. from e (let all = times-append m e (q.pending ++ q.kept) q.held in let both = times-append m e q.pending q.kept in omega arith)))
       (λ e h. from e (in_hand_loose m q e (omega arith)))
 
   -- nor is what it would deposit
@@ -172,6 +174,7 @@ module _ {S E : Type 0} (m : Simulation S E) (law : IsLawful m) (who : ℕ → �
               ap (λ f. f (m.dst e)) keeps.owns ∙ (stands.owns (m.dst e) there ∙ eq-eqb (who (m.dst e)) p.worker (visit.home e l))
           | inr ge ↦ keeps.place.waiting e (let a = messages-append m e q.mail mail in let b = antimessages-append m e q.mail mail in omega arith)
         ];
+        held = keeps.place.held;
         done = λ r. (let old = keeps.place.done r in omega arith);
       }
 

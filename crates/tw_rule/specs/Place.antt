@@ -6,6 +6,7 @@ use Rattle.tw_core.specs.Good.{IsGoodPart}
 use Rattle.tw_core.specs.Machine.{Core, times_loose}
 use Rattle.tw_core.specs.Parts.{Part, SameSurplus}
 use Rattle.tw_rule.specs.Board.{least_report, times_among}
+use Rattle.tw_sim.specs.declared.machine.Cancel.{Cancel}
 use Rattle.tw_sim.specs.declared.machine.Signed.{Signed}
 use Rattle.tw_sim.specs.Seq.{log}
 use Rattle.tw_sim.specs.Simulation.{Simulation, below, only, times}
@@ -22,10 +23,16 @@ pub record Place (E : Type 0) : Type 0 where
   pub kept : List E
   -- what its routers have sent
   pub outgoing : List (Signed E)
-  -- the bound at each router's latest commit
+  -- what events that they have undone had sent and was not taken back
+  pub held : List E
+  -- the bound at each router's latest commit, how many of its events it has committed, and how many others it may have handled
   pub done : ℕ → ℕ
+  pub past : ℕ → ℕ
+  pub room : ℕ → ℕ
   -- the bound that it knows
   pub bound : ℕ
+  -- when what an undone event has sent is taken back
+  pub cancel : Cancel
   -- what it was handed and has not received
   pub mail : List (Signed E)
   -- what it took from the outgoing messages and has not deposited
@@ -39,9 +46,13 @@ module _ {E : Type 0} where
     pending = p.pending;
     kept = p.kept;
     flight = p.outgoing;
+    held = p.held;
     done = p.done;
+    past = p.past;
+    room = p.room;
     bound = p.bound;
     stop = stop;
+    cancel = p.cancel;
   }
 
   -- the messages of its own that are on their way
@@ -63,8 +74,12 @@ module _ {E : Type 0} where
     pending = C.pending;
     kept = C.kept;
     outgoing = C.flight;
+    held = C.held;
     done = C.done;
+    past = C.past;
+    room = C.room;
     bound = C.bound;
+    cancel = C.cancel;
   }
 
   -- the same place where messages have gone from the outgoing ones to the unsent ones, or back
@@ -84,6 +99,8 @@ module _ {S E : Type 0} (m : Simulation S E) where
     pub history : (r : ℕ) (e : E) → 0 < times m e (p.history r) → p.owns r ≡ true
     -- and nothing waits here for another
     pub waiting : (e : E) → 0 < times m e p.pending + times m e p.kept + times_among m e p.mail → p.owns (m.dst e) ≡ true
+    -- nor is anything held here that another sent
+    pub held : (e : E) → 0 < times m e p.held → p.owns (m.src e) ≡ true
     -- no commit was beyond the bound that it knows
     pub done : (r : ℕ) → p.done r ≤ p.bound
 
@@ -109,10 +126,10 @@ module _ {S E : Type 0} (m : Simulation S E) where
     pub done : (r : ℕ) → p.done r ≤ q.done r
     pub bound : q.bound ≡ p.bound
 
-  -- the least time of all that waits at a place, if anything does: pending, kept, or as a message that it was handed
+  -- the least time of all that waits at a place, if anything does: pending, kept, held, or as a message that it was handed
   abbrev pub report_time : Place E → Option ℕ
-  report_time p = least_report m (reduce min (map (λ e. m.time e) (p.pending ++ p.kept))) p.mail
+  report_time p = least_report m (reduce min (map (λ e. m.time e) (p.pending ++ p.kept ++ p.held))) p.mail
 
   -- a report tells of all that waits at a place: there is one where something waits, and nothing that waits is before it
   abbrev pub Tells : Option ℕ → Place E → Type 0
-  Tells report p = (e : E) → 0 < times m e p.pending + times m e p.kept + times_among m e p.mail → IsSomeAnd report (λ time. time ≤ m.time e)
+  Tells report p = (e : E) → 0 < times m e p.pending + times m e p.kept + times_among m e p.mail + times m e p.held → IsSomeAnd report (λ time. time ≤ m.time e)

@@ -92,6 +92,7 @@ module _ {S E : Type 0} (m : Simulation S E) where
     pub pending : (e : E) → times m e p.pending ≡ cond (who (m.dst e) == w) (times m e m.opening) 0
     pub kept : p.kept ≡ []
     pub outgoing : p.outgoing ≡ []
+    pub held : p.held ≡ []
     pub done : (r : ℕ) → p.done r ≡ 0
     pub bound : p.bound ≡ 0
     pub mail : p.mail ≡ []

@@ -7,7 +7,7 @@ ghost use Rattle.tw_core.specs.Good.{IsGood};
 ghost use Rattle.tw_core.specs.Machine.{Core, antimessages, messages};
 ghost use Rattle.tw_core.specs.Parts.{total};
 ghost use Rattle.tw_core.specs.Run.{IsAtEnd, IsSeq};
-ghost use Rattle.tw_core.specs.Steps.{IsRolledBack, after_arrival, first_pending, handle, with_commit};
+ghost use Rattle.tw_core.specs.Steps.{IsRolledBack, after_arrival, first_pending, handle, with_commit, with_release, with_room};
 ghost use Rattle.tw_rule.specs.Board.{Board, IsBoard, IsVisit, times_among};
 ghost use Rattle.tw_rule.specs.Place.{IsFrom, IsPlace, IsRunBefore, Keeps, Place, Tells, after_visit, core, in_hand, report_time, with_core, with_unsent};
 ghost use Rattle.tw_rule.specs.Rule.{AreOpeningPlaces, IsOpeningBoard, MayGive, Rule, Stands, assembled, owning};
@@ -44,21 +44,22 @@ pub fn routers_have_owners<S, E>()
         → slice_get ps i ≡ Some p → t ≤ x.bound → IsRunBefore m t p }
 {}
 
-/// Where there is no mail, every hand is empty and the bound is the stop, the places are at the end of the
-/// one-thread run: what they have handled is all of it, and what is pending at them is what it leaves. What
-/// each router has handled is all of its events as soon as the bound is the stop.
+/// Where there is no mail, every hand is empty, nothing is held and the bound is the stop, the places are
+/// at the end of the one-thread run: what they have handled is all of it, and what is pending at them is
+/// what it leaves. What each router has handled is all of its events as soon as the bound is the stop.
 pub fn settled_is_end<S, E>()
     ensures end { (m : Simulation S E) → IsLawful m → IsNumbered m → (who : ℕ → ℕ) (x : Board E) (ps : List (Place E)) → Rule m who x ps → x.mail ≡ []
-        → AllByRecursion (λ p. in_hand p ≡ []) ps → x.bound ≡ x.stop → IsAtEnd m (assembled x ps) }
+        → AllByRecursion (λ p. in_hand p ≡ []) ps → AllByRecursion (λ p. p.held ≡ []) ps → x.bound ≡ x.stop → IsAtEnd m (assembled x ps) }
     ensures handled { (m : Simulation S E) → IsLawful m → IsNumbered m → (who : ℕ → ℕ) (x : Board E) (ps : List (Place E)) (i r : ℕ) (p : Place E) → Rule m who x ps
         → slice_get ps i ≡ Some p → r < m.routers → p.owns r ≡ true → x.bound ≡ x.stop → p.history r ≡ only m r (log m x.stop) }
 {}
 
 /// What is done at a place, to the board's stop, keeps it: an event is handled; a message of the hand is
 /// received, with all that its receiver then undoes; only some of this is undone and the message is still
-/// in the hand, as where memory is refused; a commit; and messages move between those that are outgoing
-/// and those that are unsent. What is kept by one call and then by another is kept by both. What is kept
-/// leaves what was handled before a time before which nothing is loose.
+/// in the hand, as where memory is refused; a commit; what is held for a router is taken back; a router
+/// gets more room; and messages move between those that are outgoing and those that are unsent. What is
+/// kept by one call and then by another is kept by both. What is kept leaves what was handled before a
+/// time before which nothing is loose.
 pub fn calls_keep_places<S, E>()
     ensures same { (m : Simulation S E) (stop : ℕ) (p : Place E) → IsPlace m stop p → Keeps m stop p p }
     ensures both { (m : Simulation S E) (stop : ℕ) (p q r : Place E) → Keeps m stop p q → Keeps m stop q r → Keeps m stop p r }
@@ -69,6 +70,8 @@ pub fn calls_keep_places<S, E>()
     ensures roll_back { (m : Simulation S E) → IsLawful m → (stop k : ℕ) (p : Place E) (s : Signed E) (D : Core E) → IsPlace m stop p → slice_get p.mail k ≡ Some s
         → IsRolledBack m s.event (core stop p) D → Keeps m stop p (with_core D p) }
     ensures commit { (m : Simulation S E) → IsLawful m → (stop r : ℕ) (p : Place E) → IsPlace m stop p → Keeps m stop p (with_core (with_commit m (core stop p) r) p) }
+    ensures release { (m : Simulation S E) → IsLawful m → (stop r : ℕ) (p : Place E) → IsPlace m stop p → Keeps m stop p (with_core (with_release m (core stop p) r) p) }
+    ensures widen { (m : Simulation S E) → IsLawful m → (stop r : ℕ) (p : Place E) → IsPlace m stop p → Keeps m stop p (with_core (with_room m (core stop p) r) p) }
     ensures unsent { (m : Simulation S E) → IsLawful m → (stop : ℕ) (p : Place E) (unsent outgoing : List (Signed E)) → IsPlace m stop p
         → ((e : E) → messages m e unsent + messages m e outgoing ≡ messages m e p.unsent + messages m e p.outgoing)
         → ((e : E) → antimessages m e unsent + antimessages m e outgoing ≡ antimessages m e p.unsent + antimessages m e p.outgoing)
@@ -92,7 +95,7 @@ pub fn calls_may_be_given<S, E>()
 /// Neither it nor what is unsent is ever before the board's bound, so that no visit is refused as early.
 pub fn visits_are_welcome<S, E>()
     ensures tells { (m : Simulation S E) → IsLawful m → (p : Place E) → Tells m (report_time m p) p }
-    ensures empty { (m : Simulation S E) (p : Place E) → p.mail ≡ [] → report_time m p ≡ reduce min (map (λ e. m.time e) (p.pending ++ p.kept)) }
+    ensures empty { (m : Simulation S E) (p : Place E) → p.mail ≡ [] → report_time m p ≡ reduce min (map (λ e. m.time e) (p.pending ++ p.kept ++ p.held)) }
     ensures report { (m : Simulation S E) → IsLawful m → (who : ℕ → ℕ) (x : Board E) (p q : Place E) → IsBoard m x → Stands m who x p → Keeps m x.stop p q
         → IfSome (report_time m q) (λ time. x.bound ≤ time) }
     ensures unsent { (m : Simulation S E) → IsLawful m → (who : ℕ → ℕ) (x : Board E) (p q : Place E) (e : E) → IsBoard m x → Stands m who x p → Keeps m x.stop p q

@@ -10,7 +10,7 @@ use Rattle.tw_model.specs.Case.{Case, IsCase, simulation}
 use Rattle.tw_model.specs.Quiet.{last_change}
 use Rattle.tw_model.specs.State.{State}
 use Rattle.tw_model.specs.Summary.{Summary, end_of}
-use Rattle.tw_parallel.specs.Ending.{logged, states_at}
+use Rattle.tw_parallel.specs.Settled.{logged, states_at}
 use Rattle.tw_seq.specs.Outcome.{least, outcome_of}
 use Rattle.tw_seq.specs.Run.{complete_run, router_after}
 use Rattle.tw_sim.proofs.Closed.{rest_late}

@@ -9,7 +9,7 @@
 #![tactic(auto)]
 
 mod cause;
-mod ending;
+mod outcome;
 mod run;
 mod segments;
 

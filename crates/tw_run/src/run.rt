@@ -10,7 +10,7 @@ ghost use Rattle.tw_run.specs.Threaded.{AnswersThreaded, LeavesThreaded};
 ghost use Rattle.tw_seq.specs.Outcome.{outcome_of as outcome_of_run};
 ghost use Rattle.tw_seq.specs.Run.{GetsStuck, complete_run};
 
-use crate::ending::outcome_of;
+use crate::outcome::outcome_of;
 use crate::segments::run_through;
 use std::alloc::Global;
 use std::sync::Wait;

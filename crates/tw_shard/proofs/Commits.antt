@@ -3,12 +3,14 @@ use Rattle.std.proofs.Common.{◌≡◌, ℕ, zero, suc, ◌+◌, ◌-◌, ◌<�
 use Rattle.std.proofs.Common.{append_assoc, count_by, drop, filter, length, reverse, slice_get, take}
 use Rattle.std.specs.List.{AllByRecursion, prefix_len, suffix_len}
 use Rattle.std.proofs.Math.Seq.{drop-append_seam, take-append_seam}
-use Rattle.std.proofs.lemmas.Bool.{cases_Bool, lt-ltb, ltb-true}
+use Rattle.std.proofs.lemmas.Bool.{cases_Bool, eq-eqb, lt-ltb, ltb-true}
 use Rattle.std.proofs.lemmas.List.{length-append, length-drop, length-reverse, map-append, reverse-append, reverse-reverse, take-append-drop}
 use Rattle.std.proofs.lemmas.List.Elements.{filter-append}
-use Rattle.std.proofs.lemmas.List.Sums.{length-filter, sum_by-append}
+use Rattle.std.proofs.lemmas.List.Folds.{prefix_len-append}
+use Rattle.std.proofs.lemmas.List.Sums.{length-filter, suffix_len-le-length, sum_by-append}
 use Rattle.tw_core.specs.declared.refusal.Refusal.TheVariants.{NotMine}
-use Rattle.tw_core.specs.Steps.{with_commit}
+use Rattle.tw_core.specs.declared.limits.TheConstants.{OPENING_ROOM}
+use Rattle.tw_core.specs.Steps.{put, with_commit}
 use Rattle.tw_core.proofs.Sums.{all_map}
 use Rattle.tw_event.specs.declared.event.Event.{Event}
 use Rattle.tw_handlers.specs.Record.{IsHandled}
@@ -21,7 +23,8 @@ use Rattle.tw_shard.specs.Commit.{committed_at, committed_to, committing, count_
 use Rattle.tw_shard.specs.Shard.{IsWhole, Shard, core, owns, timeline}
 use Rattle.tw_shard.specs.Timeline.{AreNoted, Timeline, changes_path, events_of, history, known, last_change_at, noted_change}
 use Rattle.tw_shard.proofs.Histories.{length-events, reverse-push}
-use Rattle.tw_shard.proofs.Shares.{put_same, read_put, timeline_here}
+use Rattle.tw_shard.proofs.Shares.{put_same, read_put, read_same, timeline_here}
+use Rattle.tw_sim.specs.declared.machine.Cancel.TheVariants.{Aggressive}
 use Rattle.tw_sim.specs.Simulation.{IsFalling, below}
 
 -- the events of steps, in the other order
@@ -215,6 +218,25 @@ count_early time past steps early =
     let new = length-filter p (events_of (reverse steps)) ∙ counted p steps in
     omega arith
 
+-- events that are all before a time
+prefix_all : (time : ℕ) (events : List Event) → AllByRecursion (λ e. e.time < time) events → prefix_len (λ e. nat_lt e.time time) events ≡ length events
+prefix_all time [] early = refl
+prefix_all time (e ∷ events) early = rw (lt-ltb e.time time early.0) (let more = prefix_all time events early.1 in omega arith)
+
+-- the oldest events of a history, as far as each is before a time, are those that are then committed
+pub oldest_committed : (time : ℕ) (ahead past : List Event) → AllByRecursion (λ e. e.time < time) past
+    → length (drop (count_left time ahead) ahead ++ past) ≡ suffix_len (λ e. nat_lt e.time time) (ahead ++ past)
+oldest_committed time ahead past early =
+    let p = λ (e : Event). nat_lt e.time time in
+    let turned : suffix_len p (ahead ++ past) ≡ prefix_len p (reverse past ++ reverse ahead) = ap (prefix_len p) (reverse-append ahead past) in
+    let all : prefix_len p (reverse past) ≡ length (reverse past) = prefix_all time (reverse past) (all-reverse (λ (e : Event). e.time < time) past early) in
+    let long = length-reverse past in
+    let split = rw (eq-eqb (prefix_len p (reverse past)) (length (reverse past)) all) at (prefix_len-append p (reverse past) (reverse ahead)) in
+    let within = suffix_len-le-length p ahead in
+    let gone = length-append (drop (count_left time ahead) ahead) past in
+    let less = length-drop (count_left time ahead) ahead in
+    omega arith
+
 -- ---- the machine
 
 -- a commit leaves the history as it was
@@ -224,28 +246,42 @@ kept_history bound t =
     sym (append_assoc (take n t.ahead) (drop n t.ahead) t.past) ∙ ap (λ l. l ++ t.past) (take-append-drop n t.ahead)
 
 module _ (s : Shard) (r : ℕ) (whole : IsWhole s) (mine : owns s r ≡ true) where
-  pub core_committed : (stop : ℕ) → core stop (committed_at s r) ≡ with_commit (simulation s.case) (core stop s) r
-  core_committed stop =
+  -- what was committed was before the bound
+  abbrev WasEarly : Type 0
+  WasEarly = AllByRecursion (λ (e : Event). e.time < (timeline s r).done) (timeline s r).past
+
+  pub core_committed : WasEarly → (stop : ℕ) → core stop (committed_at s r) ≡ with_commit (simulation s.case) (core stop s) r
+  core_committed early stop =
       let t : Timeline = committed_to s.bound (timeline s r) in
       let here : (core stop s).history r ≡ history (timeline s r) = rw mine refl in
+      let soon : AllByRecursion (λ (e : Event). e.time < s.bound) (timeline s r).past =
+      all_map (λ (e : Event). e.time < (timeline s r).done) (λ e. e.time < s.bound) (λ e h. let done = (whole.routers r mine).done in omega arith) (timeline s r).past early in
+      let count : length t.past ≡ suffix_len (λ e. nat_lt e.time s.bound) ((core stop s).history r) =
+      oldest_committed s.bound (timeline s r).ahead (timeline s r).past soon ∙ ap (suffix_len (λ e. nat_lt e.time s.bound)) (sym here) in
       let histories =
       read_put s r t s.pending s.outgoing whole mine history []
       ∙ put_same (core stop s).history r (history t) (here ∙ sym (kept_history s.bound (timeline s r))) in
       let dones = read_put s r t s.pending s.outgoing whole mine (λ (t : Timeline). t.done) 0 in
+      let pasts = read_put s r t s.pending s.outgoing whole mine (λ (t : Timeline). length t.past) 0 ∙ ap (put (core stop s).past r) count in
+      let rooms = read_same s r t s.pending s.outgoing whole mine (λ (t : Timeline). t.room) OPENING_ROOM refl in
       λ i. record {
         history = histories i;
         pending = s.pending;
         kept = s.kept;
         flight = s.outgoing;
+        held = [];
         done = dones i;
+        past = pasts i;
+        room = rooms i;
         bound = s.bound;
         stop = stop;
+        cancel = Aggressive;
       }
 
   -- what the machine does where the router is one of its own
-  pub goes : (stop : ℕ) → committing stop s r ≡ Ok (core stop (committed_at s r))
-  goes stop =
-      ap (λ b. if b then Ok (with_commit (simulation s.case) (core stop s) r) else Err NotMine) mine ∙ ap (λ c. Ok c) (sym (core_committed stop))
+  pub goes : WasEarly → (stop : ℕ) → committing stop s r ≡ Ok (core stop (committed_at s r))
+  goes early stop =
+      ap (λ b. if b then Ok (with_commit (simulation s.case) (core stop s) r) else Err NotMine) mine ∙ ap (λ c. Ok c) (sym (core_committed early stop))
 
   -- what is said of a router's timeline after a commit, of a history of this case
   committed_timeline : (P : Timeline → Case → List Event → Type 0) → P (committed_to s.bound (timeline s r)) (timeline s r).case (history (timeline s r))

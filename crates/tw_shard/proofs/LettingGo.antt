@@ -12,7 +12,7 @@ use Rattle.tw_model.specs.Case.{Case, IsCase, simulation}
 use Rattle.tw_shard.proofs.Commits.{all_pass, past_early, past_events, same_history}
 use Rattle.tw_shard.specs.declared.timeline.HandledEvent.{HandledEvent}
 use Rattle.tw_shard.specs.Commit.{not_before}
-use Rattle.tw_shard.specs.Past.{run_of}
+use Rattle.tw_shard.specs.Past.{own_run}
 use Rattle.tw_shard.specs.Timeline.{events_of}
 use Rattle.tw_sim.proofs.Closed.{log_closed}
 use Rattle.tw_sim.proofs.Counts.{none, one_self, times-append}
@@ -20,7 +20,7 @@ use Rattle.tw_sim.specs.Seq.{log}
 use Rattle.tw_sim.specs.Simulation.{IsFalling, below, only, times}
 
 -- nothing is before the first tick
-pub run_none : (case : Case) → IsCase case → (r : ℕ) → run_of case r 0 ≡ []
+pub run_none : (case : Case) → IsCase case → (r : ℕ) → own_run case r 0 ≡ []
 run_none case is r =
     let m = simulation case in
     let law = lawful case is in
@@ -28,7 +28,7 @@ run_none case is r =
     ap (only m r) (none_there m law (log m 0) (λ e. none (times m e (log m 0)) (λ h. (let soon = ((closed.exact e).0 h).0 in absurd (omega arith)))))
 
 -- nothing is committed at first
-pub none_past : (case : Case) → IsCase case → (r : ℕ) (keeps : Bool) (items : List Event) → items ≡ [] → (if keeps then reverse items else run_of case r 0) ≡ []
+pub none_past : (case : Case) → IsCase case → (r : ℕ) (keeps : Bool) (items : List Event) → items ≡ [] → (if keeps then reverse items else own_run case r 0) ≡ []
 none_past case is r keeps items none =
     elim (cases_Bool keeps) [
       | inl stays ↦ rw stays (ap reverse none)

@@ -1,12 +1,16 @@
 pub mod Arrivals
 pub mod Comings
+pub mod Rings
 pub mod Commits
+pub mod CommittedEvents
 pub mod Fields
 pub mod Histories
 pub mod LettingGo
 pub mod Openings
+pub mod Widening
 pub mod Queues
 pub mod Reports
 pub mod RollBack
 pub mod Shares
 pub mod Steps
+pub mod Walks

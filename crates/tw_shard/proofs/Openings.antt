@@ -5,6 +5,7 @@ use Rattle.std.specs.List.{AllByRecursion}
 use Rattle.std.proofs.Math.Path.{fun_ext}
 use Rattle.std.proofs.lemmas.Bool.{cases_Bool}
 use Rattle.tw_core.proofs.Sums.{all_map}
+use Rattle.tw_core.specs.declared.limits.TheConstants.{OPENING_ROOM}
 use Rattle.tw_event.specs.declared.event.Event.{Event}
 use Rattle.tw_event.specs.Order.{event_before, event_same}
 use Rattle.tw_model.specs.Case.{Case, IsCase, opening_events, simulation}
@@ -15,6 +16,7 @@ use Rattle.tw_queue.proofs.Ordered.{all-filter}
 use Rattle.tw_shard.specs.Shard.{IsWhole, Shard, core, no_timeline, opening_core, owns, place, routers, timeline}
 use Rattle.tw_shard.specs.Timeline.{Timeline, history, opening_timeline}
 use Rattle.tw_shard.proofs.Shares.{listed}
+use Rattle.tw_sim.specs.declared.machine.Cancel.TheVariants.{Aggressive}
 use Rattle.tw_sim.specs.Ordered.{insert, insert_all}
 use Rattle.tw_sim.proofs.Counts.{is_order}
 use Rattle.tw_sim.specs.Owners.{owner}
@@ -113,12 +115,18 @@ module _ (s : Shard) (is : IsBegun s) where
   core_begun stop =
       let histories = read_opened history [] (λ r. refl) in
       let dones = read_opened (λ (t : Timeline). t.done) 0 (λ r. refl) in
+      let pasts = read_opened (λ (t : Timeline). length t.past) 0 (λ r. refl) in
+      let rooms = read_opened (λ (t : Timeline). t.room) OPENING_ROOM (λ r. refl) in
       λ i. record {
         history = histories i;
         pending = is.pending i;
         kept = is.kept i;
         flight = is.outgoing i;
+        held = [];
         done = dones i;
+        past = pasts i;
+        room = rooms i;
         bound = is.bound i;
         stop = stop;
+        cancel = Aggressive;
       }

@@ -108,6 +108,14 @@ put_same f r a is =
       | inr apart ↦ rw (ne_eqb q r apart) refl
     ])
 
+-- what is read of each router stays, where it is read of this one as before
+pub read_same : {A : Type 0} (s : Shard) (r : ℕ) (t : Timeline) (pending : List Event) (outgoing : List (Signed Event)) → IsWhole s → owns s r ≡ true
+    → (read : Timeline → A) (none : A) → read t ≡ read (timeline s r)
+    → ◌≡◌ {A = ℕ → A} (λ q. if owns (changed s r t pending outgoing) q then read (timeline (changed s r t pending outgoing) q) else none)
+    (λ q. if owns s q then read (timeline s q) else none)
+read_same s r t pending outgoing whole mine read none same =
+    read_put s r t pending outgoing whole mine read none ∙ put_same (λ q. if owns s q then read (timeline s q) else none) r (read t) (rw mine (sym same))
+
 -- one of its routers, as its history leaves it
 pub router_known : (s : Shard) (r : ℕ) → IsWhole s → owns s r ≡ true
     → router_of (timeline s r) ≡ record { net = s.case.net; node = r; state = state (simulation s.case) r ((core 0 s).history r) }

@@ -1,18 +1,21 @@
 -- What a shard does at one of its routers is what the machine of its routers does there.
-use Rattle.std.proofs.Common.{◌≡◌, ℕ, ◌<◌, ◌==◌, true, false, ◌||◌, List, [], ◌∷◌, ◌++◌, map, refl, ap, sym, ◌∙◌, inl, inr, nat_lt, Some, Result, Ok, Err, if◌then◌else◌}
+use Rattle.std.proofs.Common.{◌≡◌, ℕ, ◌<◌, ◌==◌, Bool, true, false, ◌||◌, List, [], ◌∷◌, ◌++◌, length, map, refl, ap, ap₂, sym, ◌∙◌, inl, inr, nat_lt, Some, Result, Ok, Err, if◌then◌else◌, arith}
 use Rattle.std.specs.Result.{result_and}
 use Rattle.std.proofs.lemmas.Bool.{and_parts, cases_Bool, eqb-true, false_from_ne_true, lt-ltb}
+use Rattle.std.proofs.lemmas.List.{length-append}
 use Rattle.tw_core.specs.declared.refusal.Refusal.{Refusal}
-use Rattle.tw_core.specs.declared.refusal.Refusal.TheVariants.{NotMine, Nothing, Double, Committed, CounterFull}
-use Rattle.tw_core.specs.Machine.{Core}
+use Rattle.tw_core.specs.declared.refusal.Refusal.TheVariants.{NotMine, Nothing, Double, AheadFull, Committed, CounterFull}
+use Rattle.tw_core.specs.declared.limits.TheConstants.{OPENING_ROOM}
+use Rattle.tw_core.specs.Machine.{Core, count_ahead}
 use Rattle.tw_core.specs.Steps.{after_handling, after_undoing, first_pending, handle, is_newest, put, undo}
 use Rattle.tw_event.specs.declared.event.Event.{Event}
 use Rattle.tw_handlers.specs.Calls.{is_full_at}
 use Rattle.tw_model.specs.Case.{simulation}
 use Rattle.tw_model.specs.Effect.{body_suits, effect, is_full, suits}
-use Rattle.tw_shard.specs.Shard.{IsNext, IsUndone, IsWhole, Shard, core, handled_at, handling, owns, timeline, undone_at, undoing}
+use Rattle.tw_shard.specs.Shard.{IsNext, IsUndone, IsWhole, Shard, core, handled_at, handling, may_handle, owns, timeline, undone_at, undoing}
 use Rattle.tw_shard.specs.Timeline.{Timeline, history, known, router_of, sends_after, signed}
-use Rattle.tw_shard.proofs.Shares.{known_state, put_same, read_put}
+use Rattle.tw_shard.proofs.Shares.{known_state, read_put, read_same}
+use Rattle.tw_sim.specs.declared.machine.Cancel.TheVariants.{Aggressive}
 use Rattle.tw_sim.specs.Simulation.{state}
 
 -- nothing is refused
@@ -22,6 +25,20 @@ told_ok = Ok tt
 not_told : (outcome : Result (Core Event) Refusal) (f : Refusal) → outcome ≡ Err f → told_ok ≡ result_and outcome told_ok → ⊥
 not_told (Ok c) f is h = cc is
 not_told (Err g) f is h = cc h
+
+-- what an event leads to that may equal the one handled last, and for which there may be no room
+abbrev checked : {A : Type 0} → Bool → Bool → Result A Refusal → Result A Refusal
+checked double room rest = if double then Err Double else (if room then rest else Err AheadFull)
+
+checked-err : {A : Type 0} (double room : Bool) (rest : Result A Refusal) (f : Refusal) → checked double room told_ok ≡ Err f → checked double room rest ≡ Err f
+checked-err true room rest f h = let same : Double ≡ f = cc h in ap (λ g. Err g) same
+checked-err false true rest f h = absurd (cc h)
+checked-err false false rest f h = let same : AheadFull ≡ f = cc h in ap (λ g. Err g) same
+
+checked-ok : {A : Type 0} (double room : Bool) (rest : Result A Refusal) → checked double room told_ok ≡ told_ok → checked double room rest ≡ rest
+checked-ok true room rest h = absurd (cc h)
+checked-ok false true rest h = refl
+checked-ok false false rest h = absurd (cc h)
 
 module _ (s : Shard) (r : ℕ) (whole : IsWhole s) (mine : owns s r ≡ true) where
   -- what the timeline tells as sent is what the machine sends
@@ -33,24 +50,27 @@ module _ (s : Shard) (r : ℕ) (whole : IsWhole s) (mine : owns s r ≡ true) wh
       (λ i. known (own.net i) (own.node i) older) ∙ known_state s.case r older in
       λ i. (effect (own.net i) ((own.node ∙ sym home) i) (knows i) e).sends
 
-  same_done : (stop : ℕ) → (core stop s).done r ≡ (timeline s r).done
-  same_done stop = rw mine refl
-
   pub core_undone : (stop : ℕ) (e : Event) (older : List Event) → e.dst ≡ r
       → core stop (undone_at s r e older) ≡ after_undoing (simulation s.case) (core stop s) r e (older ++ (timeline s r).past)
   core_undone stop e older home =
       let t : Timeline = record (timeline s r) { ahead = older } in
       let next = undone_at s r e older in
       let histories = read_put s r t next.pending next.outgoing whole mine history [] in
-      let dones = read_put s r t next.pending next.outgoing whole mine (λ (t : Timeline). t.done) 0 ∙ put_same (core stop s).done r t.done (same_done stop) in
+      let dones = read_same s r t next.pending next.outgoing whole mine (λ (t : Timeline). t.done) 0 refl in
+      let pasts = read_same s r t next.pending next.outgoing whole mine (λ (t : Timeline). length t.past) 0 refl in
+      let rooms = read_same s r t next.pending next.outgoing whole mine (λ (t : Timeline). t.room) OPENING_ROOM refl in
       λ i. record {
         history = histories i;
         pending = next.pending;
         kept = s.kept;
         flight = s.outgoing ++ map (signed false) (same_sends e (older ++ (timeline s r).past) home i);
+        held = [];
         done = dones i;
+        past = pasts i;
+        room = rooms i;
         bound = s.bound;
         stop = stop;
+        cancel = Aggressive;
       }
 
   pub core_handled : (stop : ℕ) (e : Event) → e.dst ≡ r
@@ -60,15 +80,21 @@ module _ (s : Shard) (r : ℕ) (whole : IsWhole s) (mine : owns s r ≡ true) wh
       let next = handled_at s r e in
       let here : (core stop s).history r ≡ history (timeline s r) = rw mine refl in
       let histories = read_put s r t next.pending next.outgoing whole mine history [] in
-      let dones = read_put s r t next.pending next.outgoing whole mine (λ (t : Timeline). t.done) 0 ∙ put_same (core stop s).done r t.done (same_done stop) in
+      let dones = read_same s r t next.pending next.outgoing whole mine (λ (t : Timeline). t.done) 0 refl in
+      let pasts = read_same s r t next.pending next.outgoing whole mine (λ (t : Timeline). length t.past) 0 refl in
+      let rooms = read_same s r t next.pending next.outgoing whole mine (λ (t : Timeline). t.room) OPENING_ROOM refl in
       λ i. record {
         history = (histories ∙ ap (λ h. put (core stop s).history r (e ∷ h)) (sym here)) i;
         pending = next.pending;
         kept = s.kept;
         flight = s.outgoing ++ map (signed true) ((same_sends e (history (timeline s r)) home ∙ ap (λ h. (effect s.case.net e.dst (state (simulation s.case) r h) e).sends) (sym here)) i);
+        held = [];
         done = dones i;
+        past = pasts i;
+        room = rooms i;
         bound = s.bound;
         stop = stop;
+        cancel = Aggressive;
       }
 
   -- an undo that is not refused is the machine's
@@ -94,27 +120,46 @@ module _ (s : Shard) (r : ℕ) (whole : IsWhole s) (mine : owns s r ≡ true) wh
   own_event : (e : Event) → suits s.case.net r e ≡ true → e.dst ≡ r
   own_event e h = eqb-true e.dst r (and_parts (e.dst == r) (body_suits s.case.net r e e.body) h).0
 
+  -- as many events are not committed as it can undo
+  pub ahead_is : (stop : ℕ) → count_ahead (core stop s) r ≡ length (timeline s r).ahead
+  ahead_is stop =
+      let t = timeline s r in
+      let here : (core stop s).history r ≡ history t = rw mine refl in
+      let past : (core stop s).past r ≡ length t.past = rw mine refl in
+      let long = ap length here ∙ length-append t.ahead t.past in
+      omega arith
+
+  -- and it has the room of its timeline
+  pub room_is : (stop : ℕ) → (core stop s).room r ≡ (timeline s r).room
+  room_is stop = rw mine refl
+
+  -- what handling e leads to, where its timeline tells nothing against it
+  abbrev rest_of : ℕ → Event → Result (Core Event) Refusal
+  rest_of stop e =
+      if (simulation s.case).full (state (simulation s.case) r (history (timeline s r))) e
+      then Err CounterFull
+      else Ok (after_handling (simulation s.case) (core stop s) r e)
+
   -- what the first pending event leads to, where it is before the stop
   opened : (stop : ℕ) (e : Event) → first_pending (simulation s.case) (core stop s) r ≡ Some e → e.time < stop
-      → handling stop s r ≡ (if is_newest (simulation s.case) e (history (timeline s r)) then Err Double
-      else (if (simulation s.case).full (state (simulation s.case) r (history (timeline s r))) e then Err CounterFull
-      else Ok (after_handling (simulation s.case) (core stop s) r e)))
+      → handling stop s r ≡ checked (is_newest (simulation s.case) e (history (timeline s r))) (nat_lt (length (timeline s r).ahead) (timeline s r).room) (rest_of stop e)
   opened stop e first soon =
       let m = simulation s.case in
       let here : (core stop s).history r ≡ history (timeline s r) = rw mine refl in
+      let has_room = nat_lt (count_ahead (core stop s) r) ((core stop s).room r) in
       ap (λ b. if b then handle m (core stop s) r (first_pending m (core stop s) r) else Err NotMine) mine
       ∙ (ap (handle m (core stop s) r) first
-      ∙ (ap (λ b. if b then (if is_newest m e ((core stop s).history r) then Err Double
-      else (if m.full (state m r ((core stop s).history r)) e then Err CounterFull
-      else Ok (after_handling m (core stop s) r e))) else Err Nothing) (lt-ltb e.time stop soon)
-      ∙ ap (λ h. if is_newest m e h then Err Double else (if m.full (state m r h) e then Err CounterFull else Ok (after_handling m (core stop s) r e))) here))
+      ∙ (ap (λ b. if b then checked (is_newest m e ((core stop s).history r)) has_room (if m.full (state m r ((core stop s).history r)) e then Err CounterFull
+      else Ok (after_handling m (core stop s) r e)) else Err Nothing) (lt-ltb e.time stop soon)
+      ∙ (ap (λ h. checked (is_newest m e h) has_room (if m.full (state m r h) e then Err CounterFull else Ok (after_handling m (core stop s) r e))) here
+      ∙ ap₂ (λ n k. checked (is_newest m e (history (timeline s r))) (nat_lt n k) (rest_of stop e)) (ahead_is stop) (room_is stop))))
 
-  pub is_double : (stop : ℕ) (e : Event) → first_pending (simulation s.case) (core stop s) r ≡ Some e → e.time < stop
-      → is_newest (simulation s.case) e (history (timeline s r)) ≡ true → handling stop s r ≡ Err Double
-  is_double stop e first soon double =
-      let m = simulation s.case in
+  -- where its timeline tells why not, that is why
+  pub is_held_off : (stop : ℕ) (e : Event) → first_pending (simulation s.case) (core stop s) r ≡ Some e → e.time < stop
+      → (f : Refusal) → may_handle s r e ≡ Err f → handling stop s r ≡ Err f
+  is_held_off stop e first soon f h =
       opened stop e first soon
-      ∙ ap (λ b. if b then Err Double else (if m.full (state m r (history (timeline s r))) e then Err CounterFull else Ok (after_handling m (core stop s) r e))) double
+      ∙ checked-err (is_newest (simulation s.case) e (history (timeline s r))) (nat_lt (length (timeline s r).ahead) (timeline s r).room) (rest_of stop e) f h
 
   -- whether a counter is full, as the router tells it
   same_full : (e : Event) → e.dst ≡ r → is_full_at (router_of (timeline s r)) e ≡ (simulation s.case).full (state (simulation s.case) r (history (timeline s r))) e
@@ -130,7 +175,7 @@ module _ (s : Shard) (r : ℕ) (whole : IsWhole s) (mine : owns s r ≡ true) wh
   undoubled stop e next =
       let m = simulation s.case in
       opened stop e next.first next.soon
-      ∙ (ap (λ b. if b then Err Double else (if m.full (state m r (history (timeline s r))) e then Err CounterFull else Ok (after_handling m (core stop s) r e))) next.new
+      ∙ (checked-ok (is_newest m e (history (timeline s r))) (nat_lt (length (timeline s r).ahead) (timeline s r).room) (rest_of stop e) next.free
       ∙ ap (λ b. if b then Err CounterFull else Ok (after_handling m (core stop s) r e)) (sym (same_full e (own_event e next.suit))))
 
   pub is_stuck : (stop : ℕ) (e : Event) → IsNext stop s r e → is_full_at (router_of (timeline s r)) e ≡ true → handling stop s r ≡ Err CounterFull

@@ -4,3 +4,4 @@ pub mod Inside
 pub mod Past
 pub mod Shard
 pub mod Timeline
+pub mod Shards

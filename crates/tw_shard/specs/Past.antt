@@ -18,8 +18,8 @@ pub record Past : Type 0 where
   pub done : ℕ
 
 -- what router r of a case handles before a time in the one-thread run, the newest event first
-abbrev pub run_of : Case → ℕ → ℕ → List Event
-run_of case r time = let m = simulation case in only m r (log m time)
+abbrev pub own_run : Case → ℕ → ℕ → List Event
+own_run case r time = let m = simulation case in only m r (log m time)
 
 -- the committed events that the fields stand for: those that were let go are the one-thread run's
 abbrev pub past_of : Inside → Past
@@ -27,7 +27,7 @@ past_of a = record {
   case = a.case.now;
   node = a.node;
   keeps = a.keeps;
-  events = if a.keeps then reverse a.events.items else run_of a.case.now a.node a.done;
+  events = if a.keeps then reverse a.events.items else own_run a.case.now a.node a.done;
   done = a.done;
 }
 

@@ -1,17 +1,19 @@
 -- One worker's routers, seen as a machine of their own (after Jefferson, Virtual Time, 1985).
-use Rattle.std.specs.Prelude.{ℕ, ◌≡◌, ◌<◌, ◌≤◌, ◌==◌, Bool, true, false, ◌&&◌, List, [], ◌∷◌, ◌++◌, filter, length, map, nat_lt, slice_index_or, slice_set, Some, Result, Err, if◌then◌else◌}
+use Rattle.std.specs.Prelude.{ℕ, ◌≡◌, ◌*◌, ◌<◌, ◌≤◌, ◌==◌, Bool, true, false, ◌&&◌, List, [], ◌∷◌, ◌++◌, filter, length, map, nat_lt, slice_index_or, slice_set, Some, Result, Err, Ok, if◌then◌else◌}
 use Rattle.std.specs.List.{AllByRecursion}
+use Rattle.tw_core.specs.declared.limits.TheConstants.{OPENING_ROOM}
 use Rattle.tw_core.specs.declared.refusal.Refusal.{Refusal}
-use Rattle.tw_core.specs.declared.refusal.Refusal.TheVariants.{NotMine}
+use Rattle.tw_core.specs.declared.refusal.Refusal.TheVariants.{NotMine, Double, AheadFull}
 use Rattle.tw_core.specs.Machine.{Core}
-use Rattle.tw_core.specs.Steps.{first_pending, handle, is_newest, undo}
+use Rattle.tw_core.specs.Steps.{first_pending, handle, is_newest, undo, with_release, with_room}
 use Rattle.tw_event.specs.declared.event.Event.{Event}
 use Rattle.tw_event.specs.Order.{event_before, event_same}
 use Rattle.tw_model.specs.Case.{Case, IsCase, no_case, opening_events, simulation}
 use Rattle.tw_model.specs.Effect.{suits}
 use Rattle.tw_model.specs.Net.{no_net}
-use Rattle.tw_shard.specs.Past.{run_of}
-use Rattle.tw_shard.specs.Timeline.{Timeline, history, sends_after, signed}
+use Rattle.tw_shard.specs.Past.{own_run}
+use Rattle.tw_shard.specs.Timeline.{Timeline, history, opening_timeline, sends_after, signed}
+use Rattle.tw_sim.specs.declared.machine.Cancel.TheVariants.{Aggressive}
 use Rattle.tw_sim.specs.declared.machine.Signed.{Signed}
 use Rattle.tw_sim.specs.Ordered.{insert, insert_all, take_out}
 use Rattle.tw_sim.specs.Owners.{own_place, own_routers, owner}
@@ -53,6 +55,7 @@ no_timeline = record {
   ahead = [];
   past = [];
   done = 0;
+  room = OPENING_ROOM;
   case = no_case;
   keeps = true;
 }
@@ -82,9 +85,13 @@ core stop s = record {
   pending = s.pending;
   kept = s.kept;
   flight = s.outgoing;
+  held = [];
   done = λ r. if owns s r then (timeline s r).done else 0;
+  past = λ r. if owns s r then length (timeline s r).past else 0;
+  room = λ r. if owns s r then (timeline s r).room else OPENING_ROOM;
   bound = s.bound;
   stop = stop;
+  cancel = Aggressive;
 }
 
 -- a machine of the routers of this worker of so many, which has handled nothing: the opening events for them are pending
@@ -94,10 +101,25 @@ opening_core case worker workers stop = record {
   pending = insert_all event_before (filter (λ e. owner workers e.dst == worker) (opening_events case.scenes)) [];
   kept = [];
   flight = [];
+  held = [];
   done = λ r. 0;
+  past = λ r. 0;
+  room = λ r. OPENING_ROOM;
   bound = 0;
   stop = stop;
+  cancel = Aggressive;
 }
+
+-- worker k's shard, of so many, as it begins; its routers keep their committed events, or let them go
+pub record IsOpeningShard (case : Case) (k workers : ℕ) (keeps : Bool) (s : Shard) : Type 0 where
+  -- it is that machine
+  pub core_is : (stop : ℕ) → core stop s ≡ opening_core case k workers stop
+  -- and its routers have handled nothing
+  pub routers : (r : ℕ) → owns s r ≡ true → timeline s r ≡ opening_timeline case keeps r
+  pub case_is : s.case ≡ case
+  pub worker : s.worker ≡ k
+  pub count : s.workers ≡ workers
+  pub keeps_are : s.keeps ≡ keeps
 
 -- a step at router r, refused where r is not one of its own
 abbrev pub at_own : Shard → ℕ → Result (Core Event) Refusal → Result (Core Event) Refusal
@@ -111,6 +133,14 @@ handling stop s r = let m = simulation s.case in at_own s r (handle m (core stop
 abbrev pub undoing : ℕ → Shard → ℕ → Result (Core Event) Refusal
 undoing stop s r = let m = simulation s.case in at_own s r (undo m (core stop s) r ((core stop s).history r))
 
+-- what router r holds is taken back
+abbrev pub releasing : ℕ → Shard → ℕ → Result (Core Event) Refusal
+releasing stop s r = at_own s r (Ok (with_release (simulation s.case) (core stop s) r))
+
+-- router r has twice the room
+abbrev pub widening : ℕ → Shard → ℕ → Result (Core Event) Refusal
+widening stop s r = at_own s r (Ok (with_room (simulation s.case) (core stop s) r))
+
 -- the later shard has the same case, is the same worker's, and keeps as much
 pub record IsSameShare (s t : Shard) : Type 0 where
   pub case : t.case ≡ s.case
@@ -121,6 +151,10 @@ pub record IsSameShare (s t : Shard) : Type 0 where
 -- with another timeline of router r
 abbrev pub with_timeline : Shard → ℕ → Timeline → Shard
 with_timeline s r t = record s { timelines = slice_set s.timelines (place s r) t }
+
+-- router r has twice the room
+abbrev pub widened_at : Shard → ℕ → Shard
+widened_at s r = with_timeline s r (record (timeline s r) { room = 2 * (timeline s r).room })
 
 -- router r has handled e, which was pending
 abbrev pub handled_at : Shard → ℕ → Event → Shard
@@ -138,6 +172,13 @@ undone_at s r e older = record s {
   outgoing = s.outgoing ++ map (signed false) (sends_after (timeline s r) (older ++ (timeline s r).past) e);
 }
 
+-- whether router r may handle e, its first pending event, if no counter is full; or why not
+abbrev pub may_handle : Shard → ℕ → Event → Result (Unit {0}) Refusal
+may_handle s r e =
+    if is_newest (simulation s.case) e (history (timeline s r)) then Err Double
+    else (if nat_lt (length (timeline s r).ahead) (timeline s r).room then Ok tt
+    else Err AheadFull)
+
 -- e is what router r is to handle next, to this stop, if no counter is full
 pub record IsNext (stop : ℕ) (s : Shard) (r : ℕ) (e : Event) : Type 0 where
   -- r is one of its own
@@ -146,9 +187,9 @@ pub record IsNext (stop : ℕ) (s : Shard) (r : ℕ) (e : Event) : Type 0 where
   pub first : first_pending (simulation s.case) (core stop s) r ≡ Some e
   -- before the stop
   pub soon : e.time < stop
-  -- it is not the event that r handled last
-  pub new : is_newest (simulation s.case) e (history (timeline s r)) ≡ false
-  -- and suits it
+  -- it is not the event that r handled last, and r has room for it
+  pub free : may_handle s r e ≡ Ok tt
+  -- and e suits it
   pub suit : suits s.case.net r e ≡ true
 
 -- router r has undone its newest event
@@ -156,7 +197,7 @@ abbrev pub IsUndone : ℕ → Shard → Shard → Type 0
 IsUndone r s t = (e : Event) × (older : List Event) × ((timeline s r).ahead ≡ e ∷ older) × (e.dst ≡ r) × (t ≡ undone_at s r e older)
 
 -- a router of the shard's: there is a timeline for it, whose latest commit was not beyond the bound
-pub record IsOwn (s : Shard) (r : ℕ) : Type 0 where
+pub record HasTimeline (s : Shard) (r : ℕ) : Type 0 where
   pub within : place s r < length s.timelines
   pub net : (timeline s r).net ≡ s.case.net
   pub node : (timeline s r).node ≡ r
@@ -167,11 +208,11 @@ pub record IsOwn (s : Shard) (r : ℕ) : Type 0 where
 -- the history of router r is in order, and before the bound it is that of the one-thread run
 pub record HasRun (s : Shard) (r : ℕ) : Type 0 where
   pub falling : IsFalling (simulation s.case) ((core 0 s).history r)
-  pub run : below (simulation s.case) s.bound ((core 0 s).history r) ≡ run_of s.case r s.bound
+  pub run : below (simulation s.case) s.bound ((core 0 s).history r) ≡ own_run s.case r s.bound
 
 -- each of its routers is there, and what is pending suits its receiver
 pub record IsWhole (s : Shard) : Type 0 where
   pub case : IsCase s.case
   pub worker : s.worker < s.workers
-  pub routers : (r : ℕ) → owns s r ≡ true → IsOwn s r
+  pub routers : (r : ℕ) → owns s r ≡ true → HasTimeline s r
   pub pending : AllByRecursion (λ e. suits s.case.net e.dst e ≡ true) s.pending

@@ -1,6 +1,7 @@
 -- A router with the events that it has handled and not undone (after Jefferson, Virtual Time, 1985).
 use Rattle.std.specs.Prelude.{ℕ, ◌≡◌, ◌<◌, ◌==◌, Bool, not, List, [], ◌∷◌, ◌++◌, map, reverse, if◌then◌else◌}
 use Rattle.std.specs.List.{AllByRecursion}
+use Rattle.tw_core.specs.declared.limits.TheConstants.{OPENING_ROOM}
 use Rattle.tw_event.specs.declared.event.Event.{Event}
 use Rattle.tw_handlers.specs.Record.{IsHandled}
 use Rattle.tw_model.specs.Case.{Case, IsCase, simulation}
@@ -9,7 +10,7 @@ use Rattle.tw_model.specs.Net.{Net}
 use Rattle.tw_model.specs.State.{Router, State, opening}
 use Rattle.tw_shard.specs.declared.timeline.HandledEvent.{HandledEvent}
 use Rattle.tw_shard.specs.declared.timeline.Timeline.TheInside.{Inside}
-use Rattle.tw_shard.specs.Past.{run_of}
+use Rattle.tw_shard.specs.Past.{own_run}
 use Rattle.tw_sim.specs.declared.machine.Signed.{Signed}
 use Rattle.tw_sim.specs.Simulation.{IsFalling, below}
 
@@ -20,6 +21,8 @@ pub record Timeline : Type 0 where
   pub ahead : List Event
   pub past : List Event
   pub done : ℕ
+  -- how many events that are not committed it may have handled
+  pub room : ℕ
   -- the case that it is a router of
   pub case : Case
   -- whether it keeps its committed events, or lets them go
@@ -49,7 +52,7 @@ router_of t = record { net = t.net; node = t.node; state = known t.net t.node (h
 
 -- nothing is handled
 abbrev pub opening_timeline : Case → Bool → ℕ → Timeline
-opening_timeline case keeps v = record { net = case.net; node = v; ahead = []; past = []; done = 0; case = case; keeps = keeps }
+opening_timeline case keeps v = record { net = case.net; node = v; ahead = []; past = []; done = 0; room = OPENING_ROOM; case = case; keeps = keeps }
 
 -- what e sends, or sent, after this history
 abbrev pub sends_after : Timeline → List Event → Event → List Event
@@ -79,9 +82,10 @@ abbrev pub timeline_of : Inside → Timeline
 timeline_of a = record {
   net = a.router.net;
   node = a.router.node;
-  ahead = events_of (reverse a.ahead.items);
+  ahead = events_of (reverse a.ahead);
   past = a.past.events;
   done = a.past.done;
+  room = a.room;
   case = a.past.case;
   keeps = a.past.keeps;
 }
@@ -90,7 +94,7 @@ timeline_of a = record {
 -- the last change is theirs
 pub record IsTimeline (a : Inside) : Type 0 where
   pub state : a.router.state ≡ known a.router.net a.router.node (history (timeline_of a))
-  pub noted : AreNoted a.router.net a.router.node a.past.events (reverse a.ahead.items)
+  pub noted : AreNoted a.router.net a.router.node a.past.events (reverse a.ahead)
   pub past : AllByRecursion (λ e. e.time < a.past.done) a.past.events
   pub change : a.past_change ≡ last_change_at a.router.net a.router.node a.past.events
   pub node : a.past.node ≡ a.router.node
@@ -99,4 +103,4 @@ pub record IsTimeline (a : Inside) : Type 0 where
 -- the history is in order, and before this time it is that of the one-thread run
 pub record IsRunUntil (time : ℕ) (t : Timeline) : Type 0 where
   pub falling : IsFalling (simulation t.case) (history t)
-  pub run : below (simulation t.case) time (history t) ≡ run_of t.case t.node time
+  pub run : below (simulation t.case) time (history t) ≡ own_run t.case t.node time

@@ -8,11 +8,13 @@
 //! may have undone some of what it has to undo. `laws` tells what good states are for every case.
 #![tactic(auto)]
 
+mod ahead;
 pub mod laws;
 mod past;
-mod receiving;
+mod receive;
 mod rejection;
 mod shard;
+pub mod shards;
 mod timeline;
 
 pub use rejection::{Rejection, Returned};

@@ -2,7 +2,7 @@
 ghost use Rattle.std.specs.Prelude.{◌≡◌, ◌+◌, ◌≤◌, ◌<◌, ◌^◌, ◌++◌, [], List, false, true, length, reverse, slice_get, vec_capacity, vec_len, IsOk, OnErr, OnOk};
 ghost use Rattle.std.specs.Option.{option_copied};
 ghost use Rattle.tw_event.specs.declared.event.Event.{Event as AnEvent};
-ghost use Rattle.tw_shard.specs.Past.{run_of};
+ghost use Rattle.tw_shard.specs.Past.{own_run};
 ghost use Rattle.tw_shard.specs.Timeline.{events_of};
 
 use crate::timeline::HandledEvent;
@@ -81,16 +81,25 @@ impl<'a> Past<'a> {
         self.events.get(k).copied()
     }
 
-    /// The events of these steps, the oldest first, become committed, to this bound. Where they aren't kept,
-    /// all to this bound are those of the one-thread run. It takes memory only for events that are kept.
-    pub(crate) fn add(&mut self, steps: &[HandledEvent], bound: u64) -> Result<(), AllocError>
-        requires { self.old.keeps ≡ false → events_of (reverse steps.now) ++ self.old.events ≡ run_of self.old.case self.old.node bound }
-        ensures ok { OnOk result (self.new ≡ record self.old { events = events_of (reverse steps.now) ++ self.old.events; done = bound }) }
+    /// The events of these steps, the oldest first, and of the newer ones behind them become committed, to
+    /// this bound. Where they aren't kept, all to this bound are those of the one-thread run. It takes
+    /// memory only for events that are kept.
+    pub(crate) fn add(
+        &mut self,
+        steps: &[HandledEvent],
+        newer: &[HandledEvent],
+        bound: u64,
+    ) -> Result<(), AllocError>
+        requires { self.old.keeps ≡ false
+            → events_of (reverse (steps.now ++ newer.now)) ++ self.old.events ≡ own_run self.old.case self.old.node bound }
+        ensures ok { OnOk result
+            (self.new ≡ record self.old { events = events_of (reverse (steps.now ++ newer.now)) ++ self.old.events; done = bound }) }
         ensures err { OnErr result (self.new ≡ self.old) }
-        ensures free { length steps.now ≡ 0 → IsOk result }
+        ensures free { length (steps.now ++ newer.now) ≡ 0 → IsOk result }
     {
-        keep(&mut self.events, steps, self.keeps)?;
-        self.last = newest(steps, self.last);
+        keep(&mut self.events, steps, newer, self.keeps)?;
+        let last = newest(steps, self.last);
+        self.last = newest(newer, last);
         self.done = bound;
         Ok(())
     }
@@ -106,24 +115,32 @@ fn newest(steps: &[HandledEvent], older: Option<Event>) -> Option<Event>
     }
 }
 
-/// Adds the events of steps where they are kept.
-fn keep(events: &mut Vec<Event>, steps: &[HandledEvent], keeps: bool) -> Result<(), AllocError>
-    ensures ok { OnOk result (keeps ≡ true → events.new.items ≡ events.old.items ++ events_of steps.now) }
+/// Adds the events of steps, and of newer ones, where they are kept.
+fn keep(
+    events: &mut Vec<Event>,
+    steps: &[HandledEvent],
+    newer: &[HandledEvent],
+    keeps: bool,
+) -> Result<(), AllocError>
+    ensures ok { OnOk result (keeps ≡ true → events.new.items ≡ events.old.items ++ events_of (steps.now ++ newer.now)) }
     ensures err { OnErr result (events.new.items ≡ events.old.items) }
-    ensures free { length steps.now ≡ 0 → IsOk result }
+    ensures free { length (steps.now ++ newer.now) ≡ 0 → IsOk result }
 {
-    if !keeps || steps.is_empty() {
+    if !keeps || (steps.is_empty() && newer.is_empty()) {
         return Ok(());
     }
-    events.reserve(steps.len())?;
+    events.reserve(steps.len() + newer.len())?;
     add_events(events, steps);
+    add_events(events, newer);
     Ok(())
 }
 
 /// Adds the events of steps, for which there is room.
 fn add_events(events: &mut Vec<Event>, steps: &[HandledEvent])
     requires { vec_len events.old + length steps.now ≤ vec_capacity events.old }
-    ensures { events.new.items ≡ events.old.items ++ events_of steps.now }
+    ensures items { events.new.items ≡ events.old.items ++ events_of steps.now }
+    ensures len { vec_len events.new ≡ vec_len events.old + length steps.now }
+    ensures room { vec_capacity events.new ≡ vec_capacity events.old }
 {
     for step in steps {
         events.push_reserved(step.event);

@@ -15,11 +15,13 @@ ghost use Rattle.tw_model.specs.declared.memory.OrMemory.TheVariants as or_memor
 ghost use Rattle.tw_model.specs.Case.{simulation};
 ghost use Rattle.tw_model.specs.Effect.{fits, suits};
 ghost use Rattle.tw_model.specs.Rules.{IsNet};
-ghost use Rattle.tw_shard.specs.Shard.{IsSameShare, IsUndone, IsWhole, IsNext, core, handled_at, handling, no_timeline, owns, place, routers, timeline, undoing};
+ghost use Rattle.tw_shard.specs.Shard.{IsSameShare, IsUndone, IsWhole, IsNext, core, handled_at, handling, may_handle, no_timeline, owns, place, routers, timeline, undoing};
 ghost use Rattle.tw_shard.specs.Timeline.{history, router_of, sends_after, signed};
 
-mod committing;
-mod opening;
+mod commit;
+mod open;
+mod release;
+mod widen;
 
 use crate::timeline::Timeline;
 use smallvec::SmallVec;
@@ -223,8 +225,9 @@ impl<'a> Shard<'a> {
     ///
     /// It is refused as `NotMine` where the router is none of the shard's, as `Nothing` where none of its
     /// pending events is before the stop, as `Double` where the first of them equals the event that it
-    /// handled last, and as `CounterFull` where a counter of the router would pass its limit. After a
-    /// refusal and for want of memory nothing has changed.
+    /// handled last, as `AheadFull` where it has handled as many events that are not committed as it has
+    /// room for, and as `CounterFull` where a counter of the router would pass its limit. After a refusal
+    /// and for want of memory nothing has changed.
     pub fn handle_next(&mut self, router: u32, stop: u64) -> Result<(), OrMemory<Refusal>>
         requires { stop ≤ LATEST }
         ensures ok { OnOk result (handling stop self.old router ≡ Ok (core stop self.new)) }
@@ -254,13 +257,26 @@ impl<'a> Shard<'a> {
         }
         match self.first_pending(router) {
             Some(event) if event.time < stop => {
-                if self.timeline(router).is_newest(event) {
-                    Err(Refusal::Double)
-                } else {
-                    Ok(event)
-                }
+                self.may_handle(router, event)?;
+                Ok(event)
             }
             _ => Err(Refusal::Nothing),
+        }
+    }
+
+    /// Whether a router may handle its first pending event, if no counter is full.
+    fn may_handle(&self, router: u32, event: &Event) -> Result<(), Refusal>
+        requires { owns self.now router ≡ true }
+        ensures value { result ≡ may_handle self.now router event.now }
+        ensures whole { IsWhole self.now }
+    {
+        let timeline = self.timeline(router);
+        if timeline.is_newest(event) {
+            Err(Refusal::Double)
+        } else if timeline.has_room() {
+            Ok(())
+        } else {
+            Err(Refusal::AheadFull)
         }
     }
 

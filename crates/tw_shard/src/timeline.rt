@@ -1,7 +1,7 @@
-//! A router with the events that it has handled (docs/DECISIONS.md, 'The machine': two lists).
+//! A router with the events that it has handled (docs/DECISIONS.md, "The machine").
 
-ghost use Rattle.std.specs.Prelude.{◌≡◌, ◌+◌, ◌≤◌, ◌<◌, ◌↔◌, ◌++◌, ◌∷◌, ℕ, List, false, true, length, map, slice_get, vec_capacity, vec_len, IfOk, IsErrOf, IsTrue, OnErr, OnOk};
-ghost use Rattle.std.specs.List.{AllByRecursion, list_any};
+ghost use Rattle.std.specs.Prelude.{◌≡◌, ◌+◌, ◌*◌, ◌^◌, ◌≤◌, ◌<◌, ◌↔◌, ◌++◌, ◌∷◌, [], ℕ, List, false, true, length, map, slice_get, vec_capacity, vec_len, IfOk, IsErrOf, IsOk, IsTrue, OnErr, OnOk};
+ghost use Rattle.std.specs.List.{AllByRecursion};
 ghost use Rattle.std.specs.Option.{option_copied};
 ghost use Rattle.tw_event.specs.declared.event.Event.{Event as AnEvent};
 ghost use Rattle.tw_core.specs.Steps.{is_newest};
@@ -14,12 +14,14 @@ ghost use Rattle.tw_event.specs.Order.{event_same};
 ghost use Rattle.tw_sim.specs.Ordered.{times};
 ghost use Rattle.tw_shard.specs.Timeline.{history, opening_timeline, router_of as router_of_timeline, sends_after, signed};
 
-mod committing;
+mod commit;
 
+use crate::ahead::Ahead;
 use crate::past::Past;
 use smallvec::SmallVec;
 use std::alloc::{AllocError, Global};
 use std::marker::Model;
+use tw_core::limits::OPENING_ROOM;
 use tw_event::Event;
 use tw_handlers::{CounterFull, UndoRecord, handle_fitting, take_back, undo};
 use tw_instance::Case;
@@ -41,7 +43,9 @@ pub(crate) struct HandledEvent {
 pub(crate) struct Timeline<'a> {
     router: Router<'a>,
     past: Past<'a>,
-    ahead: Vec<HandledEvent>,
+    ahead: Ahead,
+    // How many events `ahead` may have, whatever it has memory for.
+    room: usize,
     // The time of the last event of `past` that changed the router's path, or 0.
     past_change: u64,
 }
@@ -71,7 +75,8 @@ impl<'a> Timeline<'a> {
         Ok(Timeline {
             router: Router::new(alloc, case.instance(), node)?,
             past: Past::new(alloc, case, node, keeps),
-            ahead: Vec::new(alloc),
+            ahead: Ahead::new(alloc)?,
+            room: OPENING_ROOM,
             past_change: 0,
         })
     }
@@ -115,7 +120,24 @@ impl<'a> Timeline<'a> {
         ensures value { IsTrue result ↔ (0 < times event_same event.now self.now.ahead) }
         ensures past { AllByRecursion (λ e. e.time < self.now.done) self.now.past }
     {
-        is_among(&self.ahead, event)
+        self.ahead.has(event)
+    }
+
+    /// Whether it may handle one more event before it commits.
+    pub(crate) fn has_room(&self) -> bool
+        ensures { IsTrue result ↔ (length self.now.ahead < self.now.room) }
+    {
+        self.ahead.len() < self.room
+    }
+
+    /// It gets twice the room, which takes no memory. It fails where that is no number.
+    pub(crate) fn widen(&mut self) -> Result<(), AllocError>
+        ensures ok { OnOk result (self.new ≡ record self.old { room = 2 * self.old.room }) }
+        ensures err { OnErr result (self.new ≡ self.old) }
+        ensures free { self.old.room < 2 ^ 63 → IsOk result }
+    {
+        self.room = self.room.checked_mul(2).ok_or(AllocError)?;
+        Ok(())
     }
 
     /// Whether this is the event that it handled last and has not undone.
@@ -146,14 +168,14 @@ impl<'a> Timeline<'a> {
         let instance = self.router.instance();
         sends.clear();
         let note = handle_fitting(instance, &mut self.router, event, sends)?;
-        if let Err(error) = make_room(&mut self.ahead, outgoing, sends.len()) {
+        let step = HandledEvent {
+            event: *event,
+            note,
+        };
+        if let Err(error) = add_step(&mut self.ahead, step, outgoing, sends.len()) {
             take_back(instance, &mut self.router, event, note);
             return Err(OrMemory::from(error));
         }
-        self.ahead.push_reserved(HandledEvent {
-            event: *event,
-            note,
-        });
         post(outgoing, sends, true);
         Ok(())
     }
@@ -174,8 +196,7 @@ impl<'a> Timeline<'a> {
         ensures unsent { OnErr result (outgoing.new.items ≡ outgoing.old.items) }
     {
         let instance = self.router.instance();
-        let last = self.ahead.len() - 1;
-        let newest = self.ahead[last];
+        let newest = *self.ahead.last().unwrap();
         outgoing.reserve(MOST_LINKS)?;
         sends.clear();
         undo(
@@ -185,33 +206,26 @@ impl<'a> Timeline<'a> {
             newest.note,
             sends,
         )?;
-        self.ahead.truncate(last);
+        self.ahead.drop_last();
         post(outgoing, sends, false);
         Ok(newest.event)
     }
 }
 
-/// Whether an event is one of those handled.
-fn is_among(handled: &[HandledEvent], event: &Event) -> bool
-    ensures { result ≡ list_any (λ d. ⟦<Event as PartialEq>⟧.eq event.now d.event) handled.now }
-{
-    handled.iter().any(|handled| *event == handled.event)
-}
-
-/// Makes room for one more event handled and for `count` more messages.
-fn make_room(
-    ahead: &mut Vec<HandledEvent>,
+/// Adds a step, and makes room for `count` more messages.
+fn add_step(
+    ahead: &mut Ahead,
+    step: HandledEvent,
     outgoing: &mut Vec<Signed<Event>>,
     count: usize,
 ) -> Result<(), AllocError>
-    ensures events { ahead.new.items ≡ ahead.old.items }
-    ensures place { OnOk result (vec_len ahead.new < vec_capacity ahead.new) }
+    ensures ok { OnOk result (ahead.new ≡ ahead.old ++ step ∷ []) }
+    ensures err { OnErr result (ahead.new ≡ ahead.old) }
     ensures messages { outgoing.new.items ≡ outgoing.old.items }
     ensures room { OnOk result (vec_len outgoing.new + count ≤ vec_capacity outgoing.new) }
 {
-    ahead.reserve(1)?;
     outgoing.reserve(count)?;
-    Ok(())
+    ahead.push(step)
 }
 
 /// Adds events as messages, or as their antimessages, for which there is room.

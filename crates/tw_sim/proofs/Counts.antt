@@ -42,6 +42,15 @@ module _ {S E : Type 0} (m : Simulation S E) where
       let h = times-take_out-le e x ys in
       elim (cases_Bool (m.same x y)) [ inl b ↦ rw b (omega arith) | inr b ↦ rw b (omega arith) ]
 
+  -- and all of it, where the one to take out is not there
+  pub take_out-none : (x : E) (xs : List E) → times m x xs ≡ 0 → ordered.take_out m.same x xs ≡ xs
+  take_out-none x [] h = refl
+  take_out-none x (y ∷ ys) h =
+      elim (cases_Bool (m.same x y)) [
+        | inl b ↦ absurd (let k = rw b at h in omega arith)
+        | inr b ↦ rw b (ap (λ zs. y ∷ zs) (take_out-none x ys (let k = rw b at h in omega arith)))
+      ]
+
   module _ (law : IsLawful m) where
     pub is_order : IsOrder m.before m.same
     is_order = record {

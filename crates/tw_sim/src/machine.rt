@@ -9,6 +9,16 @@ pub struct Signed<E> {
     pub event: E,
 }
 
+/// When what an event has sent is taken back, once the event is undone.
+#[derive(Clone, Copy, PartialEq, Eq, Debug)]
+pub enum Cancel {
+    /// At once: an antimessage goes out for each message.
+    Aggressive,
+    /// As late as may be: each message is held, since the events that are handled in place of the
+    /// undone one may send it again.
+    Lazy,
+}
+
 /// One step of the machine whose routers run ahead and are rolled back.
 #[derive(Clone, Copy, PartialEq, Eq, Debug)]
 pub enum Step {
@@ -22,4 +32,6 @@ pub enum Step {
     Bound,
     /// This router's events below the bound are committed.
     Commit(u32),
+    /// An antimessage goes out for each message that is held for this router.
+    Release(u32),
 }

@@ -49,7 +49,8 @@ early_with w v =
     (early_if (bytes_eq w (codes "handle")) _ _ (early_on (router_of v) _ router (λ r. tt))
     (early_if (bytes_eq w (codes "undo")) _ _ (early_on (router_of v) _ router (λ r. tt))
     (early_if (bytes_eq w (codes "deliver")) _ _ (early_on (number_of v) _ (early_number v) (λ k. tt))
-    (early_if (bytes_eq w (codes "commit")) _ _ (early_on (router_of v) _ router (λ r. tt)) tt))))
+    (early_if (bytes_eq w (codes "commit")) _ _ (early_on (router_of v) _ router (λ r. tt))
+    (early_if (bytes_eq w (codes "release")) _ _ (early_on (router_of v) _ router (λ r. tt)) tt)))))
 
 early : (ws : List (List ℕ)) → IsToldEarly (said_by ws)
 unfolding said_by

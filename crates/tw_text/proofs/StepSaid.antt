@@ -6,7 +6,7 @@ use Rattle.std.specs.Cmp.Lexicographic.{bytes_decides}
 use Rattle.std.specs.List.{AllByRecursion, join_with_byte, list_all}
 use Rattle.std.specs.Str.Parse.{digits_value}
 use Rattle.tw_sim.specs.declared.machine.Step.{Step}
-use Rattle.tw_sim.specs.declared.machine.Step.TheVariants.{Handle, Undo, Deliver, Bound, Commit}
+use Rattle.tw_sim.specs.declared.machine.Step.TheVariants.{Handle, Undo, Deliver, Bound, Commit, Release}
 use Rattle.tw_text.specs.declared.step_text.StepLine.{StepLine}
 use Rattle.tw_text.specs.declared.step_text.StepLine.TheVariants as line
 use Rattle.tw_text.specs.declared.text_fault.LineFault.{LineFault}
@@ -90,8 +90,9 @@ with_was w v said h =
     chosen (bytes_eq w (codes "handle")) _ _ said h (router_step w v (codes "handle") (λ r. Handle r) said (λ r. refl) (λ r small. small)) (λ f h.
     chosen (bytes_eq w (codes "undo")) _ _ said h (router_step w v (codes "undo") (λ r. Undo r) said (λ r. refl) (λ r small. small)) (λ f h.
     chosen (bytes_eq w (codes "deliver")) _ _ said h (place_step w v said) (λ f h.
-    chosen (bytes_eq w (codes "commit")) _ _ said h (router_step w v (codes "commit") (λ r. Commit r) said (λ r. refl) (λ r small. small)) (λ f e.
-    fails x.Word said e)))))
+    chosen (bytes_eq w (codes "commit")) _ _ said h (router_step w v (codes "commit") (λ r. Commit r) said (λ r. refl) (λ r small. small)) (λ f h.
+    chosen (bytes_eq w (codes "release")) _ _ said h (router_step w v (codes "release") (λ r. Release r) said (λ r. refl) (λ r small. small)) (λ f e.
+    fails x.Word said e))))))
 
 said_was : (ws : List (List ℕ)) (said : StepLine) → said_by ws ≡ Ok said → Says ws said
 unfolding said_by
@@ -154,6 +155,8 @@ step_said (Deliver k) h = pair (codes "deliver") k (line.Step (Deliver k)) (reco
 step_said Bound h = alone (codes "bound") (line.Step Bound) (record { some = refl; signs = refl }) refl
 step_said (Commit r) h = pair (codes "commit") r (line.Step (Commit r)) (record { some = refl; signs = refl }) (short r h)
     (numbered_said (length (decimal r) == 0) (router_of (decimal r)) (λ r. Commit r) r (decimal-some r (short r h)) (router_of-decimal r h))
+step_said (Release r) h = pair (codes "release") r (line.Step (Release r)) (record { some = refl; signs = refl }) (short r h)
+    (numbered_said (length (decimal r) == 0) (router_of (decimal r)) (λ r. Release r) r (decimal-some r (short r h)) (router_of-decimal r h))
 
 pub end_said : IsSaidBy (codes "end") line.End
 end_said = alone (codes "end") line.End (record { some = refl; signs = refl }) refl

@@ -4,7 +4,7 @@ use Rattle.std.specs.Prelude.{Result, Ok, Err, bytes_eq, codes, decimal}
 use Rattle.std.specs.List.{AllByRecursion, find, flat_map, list_all}
 use Rattle.tw_model.specs.declared.rule.Rule.TheVariants.{TooMany}
 use Rattle.tw_sim.specs.declared.machine.Step.{Step}
-use Rattle.tw_sim.specs.declared.machine.Step.TheVariants.{Handle, Undo, Deliver, Bound, Commit}
+use Rattle.tw_sim.specs.declared.machine.Step.TheVariants.{Handle, Undo, Deliver, Bound, Commit, Release}
 use Rattle.tw_text.specs.declared.step_text.StepDraft.{StepDraft}
 use Rattle.tw_text.specs.declared.step_text.StepDraft.TheVariants.{Open, Done}
 use Rattle.tw_text.specs.declared.step_text.StepLine.{StepLine}
@@ -29,6 +29,7 @@ line_of_step (Undo r) = codes "undo " ++ decimal r
 line_of_step (Deliver k) = codes "deliver " ++ decimal k
 line_of_step Bound = codes "bound"
 line_of_step (Commit r) = codes "commit " ++ decimal r
+line_of_step (Release r) = codes "release " ++ decimal r
 
 -- the lines of steps
 abbrev pub lines_of_steps : List Step → List (List ℕ)
@@ -45,6 +46,7 @@ HasLine (Undo r) = r < 2 ^ 32
 HasLine (Deliver k) = k < 10 ^ MOST_DIGITS
 HasLine Bound = Unit {0}
 HasLine (Commit r) = r < 2 ^ 32
+HasLine (Release r) = r < 2 ^ 32
 
 -- whether a text can say the steps
 pub record HasText (steps : List Step) : Type 0 where
@@ -76,6 +78,7 @@ said_with w number =
     else if bytes_eq w (codes "undo") then step_with router_of (λ r. Undo r) number
     else if bytes_eq w (codes "deliver") then step_with number_of (λ k. Deliver k) number
     else if bytes_eq w (codes "commit") then step_with router_of (λ r. Commit r) number
+    else if bytes_eq w (codes "release") then step_with router_of (λ r. Release r) number
     else Err x.Word
 
 -- what the words of a line say, or why they say nothing

@@ -166,6 +166,7 @@ fn said_with(word: &[u8], number: &[u8]) -> Result<StepLine, LineFault>
         b"undo" => Step::Undo(router_of(number)?),
         b"deliver" => Step::Deliver(number_of(number)?),
         b"commit" => Step::Commit(router_of(number)?),
+        b"release" => Step::Release(router_of(number)?),
         _ => return Err(LineFault::Word),
     };
     Ok(StepLine::Step(step))

@@ -11,7 +11,7 @@ use Rattle.tw_threads.specs.Left.{HasLeft, IsLeft}
 use Rattle.tw_threads.specs.Started.{HaveLeft, IsSomeFull, IsStarted}
 use Rattle.tw_threads.specs.declared.end_cause.EndCause.{EndCause}
 use Rattle.tw_threads.specs.declared.end_cause.EndCause.TheVariants as cause
-use Rattle.tw_threads.specs.declared.starting.Started.{Started}
+use Rattle.tw_threads.specs.declared.start.Started.{Started}
 use Rattle.tw_workers.specs.declared.working.Leaving.{Leaving}
 use Rattle.tw_workers.specs.declared.working.Leaving.TheVariants as leaving
 

@@ -6,7 +6,7 @@ use Rattle.tw_table.specs.Shares.{Share, no_share}
 use Rattle.tw_table.specs.declared.seat.Seat.{Seat}
 use Rattle.tw_table.specs.declared.table.Table.{Table}
 use Rattle.tw_threads.specs.Started.{AreSeated, IsStarted}
-use Rattle.tw_threads.specs.declared.starting.Started.{Started}
+use Rattle.tw_threads.specs.declared.start.Started.{Started}
 use Rattle.tw_workers.specs.Seated.{IsSeated}
 
 module _ {W : Type 0} (of : W → Share) (to : W → ℕ) where

@@ -8,8 +8,8 @@ use Rattle.tw_table.specs.declared.table.Table.{Table}
 use Rattle.tw_threads.specs.Left.{HasLeft, IsFull, IsLeft}
 use Rattle.tw_threads.specs.declared.end_cause.EndCause.{EndCause}
 use Rattle.tw_threads.specs.declared.end_cause.EndCause.TheVariants as cause
-use Rattle.tw_threads.specs.declared.starting.Started.{Started}
-use Rattle.tw_threads.specs.declared.starting.Started.TheVariants.{Here, Running}
+use Rattle.tw_threads.specs.declared.start.Started.{Started}
+use Rattle.tw_threads.specs.declared.start.Started.TheVariants.{Here, Running}
 
 -- some of these seats is of a worker that has a full counter
 pub record IsSomeFull (seats : List Seat) : Type 0 where

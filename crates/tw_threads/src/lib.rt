@@ -7,13 +7,13 @@
 #![tactic(auto)]
 
 mod end_cause;
-mod joining;
-mod running;
-mod starting;
+mod join;
+mod run;
+mod start;
 mod work;
 mod workers;
 
 pub use end_cause::EndCause;
-pub use running::{Ran, run_all};
+pub use run::{Ran, run_all};
 pub use tw_workers::{Gate, Leaving, OpenGate};
 pub use work::Work;

@@ -10,6 +10,7 @@ use Rattle.std.specs.declared.vec.Vec.{Vec}
 use Rattle.tw_core.specs.Machine.{Core, antimessages, messages}
 use Rattle.tw_core.specs.Steps.{least_loose, least_time, with_bound}
 use Rattle.tw_core.specs.Good.{IsGood}
+use Rattle.tw_sim.specs.declared.machine.Cancel.TheVariants.{Aggressive}
 use Rattle.tw_sim.specs.declared.machine.Signed.{Signed}
 use Rattle.tw_sim.specs.Simulation.{Simulation, IsLawful, times}
 use Rattle.tw_sim.proofs.Counts.{in_cons, in_head, times-append}
@@ -26,7 +27,7 @@ use Rattle.tw_sim.specs.Ordered.{insert_all}
 use Rattle.tw_sim.specs.Simulation.{one}
 use Rattle.tw_warp.specs.Bounds.{least_of_all, raised}
 use Rattle.tw_warp.specs.Flight.{all_of}
-use Rattle.tw_warp.specs.Warp.{IsShare, IsWarp, Warp, core, no_shard, shard_of, worker_of}
+use Rattle.tw_warp.specs.Warp.{IsShare, IsWarp, Warp, core, no_shard, shard_at, worker_of}
 use Rattle.tw_warp.proofs.Moves.{has_worker, own_as}
 use Rattle.tw_warp.proofs.Moves as moves
 use Rattle.tw_warp.proofs.Turns.{any_default}
@@ -107,9 +108,12 @@ module _ {S E : Type 0} (m : Simulation S E) where
   -- nothing loose is before the bound of a good state
   pub bound_below : IsLawful m → (C : Core E) → IsGood m C → C.bound ≤ least_loose m C
   bound_below law C good =
-      below_is law C.bound C.pending (least_time m C.kept (least_time m (map (λ x. x.event) C.flight) C.stop)) (
-        below_is law C.bound C.kept (least_time m (map (λ x. x.event) C.flight) C.stop) (
-          below_is law C.bound (map (λ x. x.event) C.flight) C.stop (good.bound, (λ e there. good.late e (let k = in_flight C.flight e there in omega arith))),
+      below_is law C.bound C.pending (least_time m C.kept (least_time m (map (λ x. x.event) C.flight) (least_time m C.held C.stop))) (
+        below_is law C.bound C.kept (least_time m (map (λ x. x.event) C.flight) (least_time m C.held C.stop)) (
+          below_is law C.bound (map (λ x. x.event) C.flight) (least_time m C.held C.stop) (
+            below_is law C.bound C.held C.stop (good.bound, (λ e there. good.late e (omega arith))),
+            (λ e there. good.late e (let k = in_flight C.flight e there in omega arith)),
+          ),
           (λ e there. good.late e (omega arith)),
         ),
         (λ e there. good.late e (omega arith)),
@@ -141,17 +145,17 @@ module _ (w : Warp) (is : IsWarp w) (bound : ℕ) where
   count : length (map (raised bound) w.shards) ≡ length w.shards
   count = length-map w.shards (raised bound)
 
-  shard_raised : (k : ℕ) → k < length w.shards → shard_of (at_bound w bound) k ≡ raised bound (shard_of w k)
+  shard_raised : (k : ℕ) → k < length w.shards → shard_at (at_bound w bound) k ≡ raised bound (shard_at w k)
   shard_raised k within =
       any_default (map (raised bound) w.shards) k no_shard (raised bound no_shard) (let same = count in omega arith) ∙ get_or-map (raised bound) w.shards k no_shard
 
   -- what is read of each router's shard, which does not depend on its bound
   read_raised : {A : Type 0} (read : Shard → ℕ → A) → ((s : Shard) (r : ℕ) → read (raised bound s) r ≡ read s r)
-      → ◌≡◌ {A = ℕ → A} (λ r. read (shard_of (at_bound w bound) (worker_of (at_bound w bound) r)) r) (λ r. read (shard_of w (worker_of w r)) r)
+      → ◌≡◌ {A = ℕ → A} (λ r. read (shard_at (at_bound w bound) (worker_of (at_bound w bound) r)) r) (λ r. read (shard_at w (worker_of w r)) r)
   read_raised read same =
       fun_ext (λ r.
       let at : worker_of (at_bound w bound) r ≡ worker_of w r = ap (λ n. owner n r) count in
-      ap (λ k. read (shard_of (at_bound w bound) k) r) at ∙ (ap (λ s. read s r) (shard_raised (worker_of w r) (has_worker w is r)) ∙ same (shard_of w (worker_of w r)) r))
+      ap (λ k. read (shard_at (at_bound w bound) k) r) at ∙ (ap (λ s. read s r) (shard_raised (worker_of w r) (has_worker w is r)) ∙ same (shard_at w (worker_of w r)) r))
 
   -- the machine with another bound
   pub core_raised : core (at_bound w bound) ≡ record (core w) { bound = bound }
@@ -160,9 +164,13 @@ module _ (w : Warp) (is : IsWarp w) (bound : ℕ) where
     pending = insert_all event_before (flat_map-raised (λ s. s.pending) bound (λ s. refl) w.shards i) [];
     kept = insert_all event_before (flat_map-raised (λ s. s.kept) bound (λ s. refl) w.shards i) [];
     flight = w.flight;
+    held = [];
     done = read_raised (λ s r. (share.core w.stop s).done r) (λ s r. refl) i;
+    past = read_raised (λ s r. (share.core w.stop s).past r) (λ s r. refl) i;
+    room = read_raised (λ s r. (share.core w.stop s).room r) (λ s r. refl) i;
     bound = bound;
     stop = w.stop;
+    cancel = Aggressive;
   }
 
   -- it is one where the bound is the least time of all that is loose
@@ -178,8 +186,8 @@ module _ (w : Warp) (is : IsWarp w) (bound : ℕ) where
         shares = λ k within.
             let old = is.shares k (omega arith) in
             let at = shard_raised k (omega arith) in
-            let own = own_as w.case k (length w.shards) (length (map (raised bound) w.shards)) (share.core w.stop (raised bound (shard_of w k))) (sym same)
-            (record { history = old.own.history; waiting = old.own.waiting }) in
+            let own = own_as w.case k (length w.shards) (length (map (raised bound) w.shards)) (share.core w.stop (raised bound (shard_at w k))) (sym same)
+            (record { history = old.own.history; waiting = old.own.waiting; held = old.own.held }) in
             let before = old.bound in
             subst (IsShare (at_bound w bound) k) (sym at) (record {
               case = old.case;

@@ -8,7 +8,7 @@ use Rattle.tw_core.specs.declared.refusal.Refusal.TheVariants.{Committed, NoMess
 use Rattle.tw_core.specs.Good.{IsGood}
 use Rattle.tw_core.specs.Machine.{Core}
 use Rattle.tw_core.specs.Parts.{IsOwn}
-use Rattle.tw_core.specs.Steps.{after_antimessage, after_arrival, after_message, after_undoing, after_undoing_while, antimessage, deliver, next, step, undo}
+use Rattle.tw_core.specs.Steps.{after_antimessage, after_arrival, after_message, after_undoing, after_undoing_while, deliver, next, sent_back, step, undo}
 use Rattle.tw_core.proofs.Own.{own_arrival, own_undoing}
 use Rattle.tw_core.proofs.Steps.{deliver_keeps, next_keeps, step_keeps}
 use Rattle.tw_core.proofs.Steps as core_steps
@@ -22,7 +22,7 @@ use Rattle.tw_sim.specs.declared.machine.Signed.{Signed}
 use Rattle.tw_sim.specs.declared.machine.Step.TheVariants.{Deliver, Undo}
 use Rattle.tw_sim.specs.Simulation.{Simulation, IsLawful, state, times}
 use Rattle.tw_sim.proofs.Counts.{in_head}
-use Rattle.tw_warp.specs.Warp.{IsWarp, Warp, IsCutShort, after_undos, behind, core, lent, message_at, shard_of, worker_of}
+use Rattle.tw_warp.specs.Warp.{IsWarp, Warp, IsCutShort, after_undos, behind, core, lent, message_at, shard_at, worker_of}
 use Rattle.tw_warp.proofs.InChunks.{before_others}
 use Rattle.tw_warp.proofs.Joined.{joined, rest, rest_apart, with_shard}
 use Rattle.tw_warp.proofs.Moves.{deliver_step, law, next_is, now, own_lent, part, welcome_there}
@@ -77,9 +77,9 @@ module _ {S E : Type 0} (m : Simulation S E) (law : IsLawful m) where
         own = own_undoing m law X.mine B r e older home h.2.2 old.own;
         bound = old.bound;
         sent = (
-          old.sent.0 ++ map antimessage (m.sends (state m r older) e),
-          ap (λ f. f ++ map antimessage (m.sends (state m r older) e)) old.sent.1
-              ∙ append_assoc C.flight old.sent.0 (map antimessage (m.sends (state m r older) e)),
+          old.sent.0 ++ sent_back m B.cancel (m.sends (state m r older) e),
+          ap (λ f. f ++ sent_back m B.cancel (m.sends (state m r older) e)) old.sent.1
+              ∙ append_assoc C.flight old.sent.0 (sent_back m B.cancel (m.sends (state m r older) e)),
         );
       })
 
@@ -118,7 +118,7 @@ none_there w (suc j) none = ap (deliver (simulation w.case) (core w) j) none
 
 module _ (w : Warp) (is : IsWarp w) (k : ℕ) (within : k < length w.shards) where
   -- a message at a place may come
-  pub may_come : (place : ℕ) (x : Signed Event) → message_at w.flight place ≡ Some x → worker_of w x.event.dst ≡ k → refusing (shard_of w k) x.event ≡ Ok tt
+  pub may_come : (place : ℕ) (x : Signed Event) → message_at w.flight place ≡ Some x → worker_of w x.event.dst ≡ k → refusing (shard_at w k) x.event ≡ Ok tt
   may_come zero x there mine = cc there
   may_come (suc j) x there mine =
       let fine = core_steps.welcome (simulation w.case) (law w is) (core w) j x is.good there in
@@ -126,7 +126,7 @@ module _ (w : Warp) (is : IsWarp w) (k : ℕ) (within : k < length w.shards) whe
 
   -- what is known once the shard and the messages on their way have come back
   pub record IsBackFrom (s : Shard) : Type 0 where
-    pub same : IsSameShare (shard_of w k) s
+    pub same : IsSameShare (shard_at w k) s
     pub none : s.outgoing ≡ []
 
   -- the machine with that shard
@@ -149,7 +149,7 @@ module _ (w : Warp) (is : IsWarp w) (k : ℕ) (within : k < length w.shards) whe
       let bound : s.bound ≡ w.bound = sym (ap (λ (D : Core Event). D.bound) came) ∙ (arrival_bound m (law w is) C x ∙ (is.shares k within).bound) in
       let arrived = subst (IsOwn m (λ r. worker_of w r == k)) came
       (own_arrival m (law w is) (λ r. worker_of w r == k) w.bound C x (part w is k within) (own_lent w is k within) (eq-eqb (worker_of w x.event.dst) k mine)) in
-      let own : IsOwn m (λ r. worker_of w r == k) (share.core w.stop s) = record { history = arrived.history; waiting = arrived.waiting } in
+      let own : IsOwn m (λ r. worker_of w r == k) (share.core w.stop s) = record { history = arrived.history; waiting = arrived.waiting; held = arrived.held } in
       let did : step m (core w) (Deliver (suc j)) ≡ Ok (core (with_shard w k s (remove flight j))) =
       deliver_step w is k within j x (behind s flight) there mine came ∙ ap Ok (sym (joined w is.case k within s (remove flight j) bound)) in
       record {
@@ -178,7 +178,7 @@ module _ (w : Warp) (is : IsWarp w) (k : ℕ) (within : k < length w.shards) whe
       let to = undone_to m (law w is) (rest w k) (rest_apart w is.case k within is.shares) x.event h.0 C (share.core w.stop (behind s flight))
       (eq-eqb (worker_of w x.event.dst) k mine) fine.1 early (subst (IsGood m) (now w is k within) is.good) (own_lent w is k within) h.1 in
       let bound : s.bound ≡ w.bound = to.bound ∙ (is.shares k within).bound in
-      let own : IsOwn m (λ r. worker_of w r == k) (share.core w.stop s) = record { history = to.own.history; waiting = to.own.waiting } in
+      let own : IsOwn m (λ r. worker_of w r == k) (share.core w.stop s) = record { history = to.own.history; waiting = to.own.waiting; held = to.own.held } in
       let reached : core (with_shard w k s flight) ≡ whole m (rest w k) (share.core w.stop (behind s flight)) = joined w is.case k within s flight bound in
       let stays : slice_get flight j ≡ Some x = ap (λ f. slice_get f j) to.sent.1 ∙ (before_others w.flight to.sent.0 j (slice_get_within w.flight j x there) ∙ there) in
       record {
@@ -192,7 +192,7 @@ module _ (w : Warp) (is : IsWarp w) (k : ℕ) (within : k < length w.shards) whe
         good = next_good s flight back bound own (subst (IsGood m) (sym reached) to.good);
       }
 
-  came_from : (at s : Shard) → at ≡ shard_of w k → IsSameShare at s → s.outgoing ≡ at.outgoing → IsBackFrom s
+  came_from : (at s : Shard) → at ≡ shard_at w k → IsSameShare at s → s.outgoing ≡ at.outgoing → IsBackFrom s
   came_from at s there same out = record {
     same = subst (λ a. IsSameShare a s) there same;
     none = out ∙ (ap (λ a. a.outgoing) there ∙ (is.shares k within).outgoing);
@@ -214,7 +214,7 @@ module _ (w : Warp) (is : IsWarp w) (k : ℕ) (within : k < length w.shards) whe
 
   -- the same, as the code tells it
   pub goes_home : (place j : ℕ) → suc j ≡ place → (x : Signed Event) (at s : Shard) (flight : List (Signed Event)) → message_at w.flight place ≡ Some x → worker_of w x.event.dst ≡ k
-      → at ≡ shard_of w k → IsSameShare at s → s.outgoing ≡ at.outgoing
+      → at ≡ shard_at w k → IsSameShare at s → s.outgoing ≡ at.outgoing
       → after_arrival (simulation at.case) (share.core w.stop (behind at w.flight)) x ≡ share.core w.stop (behind s flight) → IsDelivered place j s flight
   goes_home place j next x at s flight message mine there same out came =
       delivered place j next x s flight message mine (came_from at s there same out)
@@ -222,7 +222,7 @@ module _ (w : Warp) (is : IsWarp w) (k : ℕ) (within : k < length w.shards) whe
       ∙ subst (λ a. after_arrival (simulation a.case) (share.core w.stop (behind a w.flight)) x ≡ share.core w.stop (behind s flight)) there came)
 
   pub stops_short : (place : ℕ) (x : Signed Event) (at s : Shard) (flight : List (Signed Event)) → message_at w.flight place ≡ Some x → worker_of w x.event.dst ≡ k
-      → at ≡ shard_of w k → IsSameShare at s → s.outgoing ≡ at.outgoing
+      → at ≡ shard_at w k → IsSameShare at s → s.outgoing ≡ at.outgoing
       → IsRolledBack (simulation at.case) x.event (share.core w.stop (behind at w.flight)) (share.core w.stop (behind s flight)) → IsCut place s flight
   stops_short place x at s flight message mine there same out h =
       cut_short place x s flight message mine (came_from at s there same out)

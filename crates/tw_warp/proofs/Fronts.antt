@@ -4,20 +4,20 @@ use Rattle.std.specs.Prelude.{OnOk}
 use Rattle.std.proofs.lemmas.Bool.{cases_Bool}
 use Rattle.tw_core.specs.declared.refusal.Refusal.{Refusal}
 use Rattle.tw_core.specs.declared.refusal.Refusal.TheVariants.{NotMine}
-use Rattle.tw_core.specs.Machine.{Core}
-use Rattle.tw_core.specs.Steps.{after_arrival, after_handling, after_undoing, antimessage, first_pending, handle, is_newest, message, undo, with_commit}
+use Rattle.tw_core.specs.Machine.{Core, count_ahead}
+use Rattle.tw_core.specs.Steps.{after_arrival, after_handling, after_undoing, antimessage, first_pending, from, handle, is_newest, message, sent_back, to_send, undo, with_commit, with_release, with_room}
 use Rattle.tw_core.proofs.Wording.{arrival-front}
 use Rattle.tw_event.specs.declared.event.Event.{Event}
 use Rattle.tw_model.specs.Case.{simulation}
 use Rattle.tw_model.specs.declared.memory.OrMemory.{OrMemory}
 use Rattle.tw_shard.specs.Arrival.{AreUndone, IsRolledBack}
 use Rattle.tw_shard.specs.Commit.{committing}
-use Rattle.tw_shard.specs.Shard.{Shard, core, handling, owns, undoing}
+use Rattle.tw_shard.specs.Shard.{Shard, core, handling, owns, releasing, undoing, widening}
 use Rattle.tw_sim.specs.declared.machine.Signed.{Signed}
 use Rattle.tw_sim.specs.Simulation.{Simulation, state}
 use Rattle.tw_warp.specs.Calls.{calling}
 use Rattle.tw_warp.specs.declared.calls.RouterCall.{RouterCall}
-use Rattle.tw_warp.specs.declared.calls.RouterCall.TheVariants.{Commit, Handle, Undo}
+use Rattle.tw_warp.specs.declared.calls.RouterCall.TheVariants.{Commit, Handle, Release, Undo, Widen}
 use Rattle.tw_warp.specs.Warp.{behind}
 
 module _ {E : Type 0} (front : List (Signed E)) where
@@ -40,11 +40,11 @@ module _ {E : Type 0} (front : List (Signed E)) where
   module _ {S : Type 0} (m : Simulation S E) where
     handling_fronted : (C : Core E) (r : ℕ) (e : E) → after_handling m (fronted C) r e ≡ fronted (after_handling m C r e)
     handling_fronted C r e =
-        ap (λ f. record (after_handling m C r e) { flight = f }) (append_assoc front C.flight (map message (m.sends (state m r (C.history r)) e)))
+        ap (λ f. record (after_handling m C r e) { flight = f }) (append_assoc front C.flight (map message (to_send m (m.sends (state m r (C.history r)) e) C.held)))
 
     undoing_fronted : (C : Core E) (r : ℕ) (e : E) (older : List E) → after_undoing m (fronted C) r e older ≡ fronted (after_undoing m C r e older)
     undoing_fronted C r e older =
-        ap (λ f. record (after_undoing m C r e older) { flight = f }) (append_assoc front C.flight (map antimessage (m.sends (state m r older) e)))
+        ap (λ f. record (after_undoing m C r e older) { flight = f }) (append_assoc front C.flight (sent_back m C.cancel (m.sends (state m r older) e)))
 
     handle_fronted : (C : Core E) (r : ℕ) (o : Option E) → handle m (fronted C) r o ≡ outcome_fronted (handle m C r o)
     handle_fronted C r None = refl
@@ -52,9 +52,12 @@ module _ {E : Type 0} (front : List (Signed E)) where
         elim (cases_Bool (nat_lt (m.time e) C.stop)) [
           | inl soon ↦ elim (cases_Bool (is_newest m e (C.history r))) [
             | inl double ↦ rw (soon, double) refl
-            | inr new ↦ elim (cases_Bool (m.full (state m r (C.history r)) e)) [
-              | inl full ↦ rw (soon, new, full) refl
-              | inr room ↦ rw (soon, new, room) (ap Ok (handling_fronted C r e))
+            | inr new ↦ elim (cases_Bool (nat_lt (count_ahead C r) (C.room r))) [
+              | inl place ↦ elim (cases_Bool (m.full (state m r (C.history r)) e)) [
+                | inl full ↦ rw (soon, new, place, full) refl
+                | inr fits ↦ rw (soon, new, place, fits) (ap Ok (handling_fronted C r e))
+              ]
+              | inr none ↦ rw (soon, new, none) refl
             ]
           ]
           | inr late ↦ rw late refl
@@ -67,6 +70,9 @@ module _ {E : Type 0} (front : List (Signed E)) where
           | inl early ↦ rw early refl
           | inr late ↦ rw late (ap Ok (undoing_fronted C r e older))
         ]
+
+    release_fronted : (C : Core E) (r : ℕ) → with_release m (fronted C) r ≡ fronted (with_release m C r)
+    release_fronted C r = ap (λ f. record (with_release m C r) { flight = f }) (append_assoc front C.flight (map antimessage (from m r C.held)))
 
     undone_fronted : (n : ℕ) (x : E) (C D : Core E) → AreUndone m n x C D → AreUndone m n x (fronted C) (fronted D)
     undone_fronted zero x C D h = ap fronted h
@@ -97,10 +103,21 @@ module _ (front : List (Signed Event)) where
   committing_blind : (stop r : ℕ) → IsBlindTo (λ s. committing stop s r)
   committing_blind stop r s xs = let m = simulation s.case in let C = core stop (behind s xs) in own_fronted front (owns s r) (Ok (with_commit m C r))
 
+  releasing_blind : (stop r : ℕ) → IsBlindTo (λ s. releasing stop s r)
+  releasing_blind stop r s xs =
+      let m = simulation s.case in
+      let C = core stop (behind s xs) in
+      ap (λ D. if owns s r then Ok D else Err NotMine) (release_fronted front m C r) ∙ own_fronted front (owns s r) (Ok (with_release m C r))
+
+  widening_blind : (stop r : ℕ) → IsBlindTo (λ s. widening stop s r)
+  widening_blind stop r s xs = let m = simulation s.case in let C = core stop (behind s xs) in own_fronted front (owns s r) (Ok (with_room m C r))
+
   pub calling_blind : (call : RouterCall) (stop r : ℕ) → IsBlindTo (λ s. calling call stop s r)
   calling_blind Handle stop r = handling_blind stop r
   calling_blind Undo stop r = undoing_blind stop r
   calling_blind Commit stop r = committing_blind stop r
+  calling_blind Release stop r = releasing_blind stop r
+  calling_blind Widen stop r = widening_blind stop r
 
   -- a shard s is lent these messages xs of all, is then the one called, and gives them back as ys
   module _ (s lent called back : Shard) (xs ys all : List (Signed Event)) (put : lent ≡ behind s xs) (taken : behind back ys ≡ called) (was : front ++ xs ≡ all) (stop : ℕ) where

@@ -9,11 +9,12 @@ use Rattle.tw_model.specs.Case.{Case, IsCase, simulation}
 use Rattle.tw_model.proofs.Lawful.{lawful}
 use Rattle.tw_shard.specs.Shard.{IsSameShare, Shard, owns}
 use Rattle.tw_shard.specs.Shard as share
+use Rattle.tw_sim.specs.declared.machine.Cancel.TheVariants.{Aggressive}
 use Rattle.tw_sim.specs.declared.machine.Signed.{Signed}
 use Rattle.tw_sim.specs.Owners.{owner}
 use Rattle.tw_sim.specs.Ordered.{times}
 use Rattle.tw_sim.proofs.Counts.{none, times-append}
-use Rattle.tw_warp.specs.Warp.{IsShare, Warp, core, no_shard, shard_of, worker_of}
+use Rattle.tw_warp.specs.Warp.{IsShare, Warp, core, no_shard, shard_at, worker_of}
 use Rattle.tw_warp.proofs.Whole.{IsApart, Rest, same_order, whole}
 
 -- a list without its element at place k
@@ -28,8 +29,11 @@ rest w k = record {
   mine = λ r. worker_of w r == k;
   history = (core w).history;
   done = (core w).done;
+  past = (core w).past;
+  room = (core w).room;
   pending = flat_map (λ s. s.pending) (others w.shards k);
   kept = flat_map (λ s. s.kept) (others w.shards k);
+  held = [];
 }
 
 -- with another shard of worker k, and other messages on their way
@@ -89,8 +93,8 @@ set_same (x ∷ xs) (suc k) d within = ap (λ ys. x ∷ ys) (set_same xs k d (om
 module _ (w : Warp) (is : IsCase w.case) (k : ℕ) (within : k < length w.shards) where
   -- what is read of each router's shard is put at this worker's
   read_with : {A : Type 0} (read : Shard → ℕ → A) (s : Shard) (flight : List (Signed Event))
-      → ◌≡◌ {A = ℕ → A} (λ r. read (shard_of (with_shard w k s flight) (worker_of (with_shard w k s flight) r)) r)
-      (λ r. cond (worker_of w r == k) (read s r) (read (shard_of w (worker_of w r)) r))
+      → ◌≡◌ {A = ℕ → A} (λ r. read (shard_at (with_shard w k s flight) (worker_of (with_shard w k s flight) r)) r)
+      (λ r. cond (worker_of w r == k) (read s r) (read (shard_at w (worker_of w r)) r))
   read_with read s flight =
       fun_ext (λ r.
       let same : worker_of (with_shard w k s flight) r ≡ worker_of w r = ap (λ n. owner n r) (length-set w.shards k s) in
@@ -113,17 +117,21 @@ module _ (w : Warp) (is : IsCase w.case) (k : ℕ) (within : k < length w.shards
         kept = same_order m law (flat_map (λ s. s.kept) (set w.shards k s)) (flat_map (λ s. s.kept) (others w.shards k) ++ s.kept)
             (λ e. times-others w.case is e (λ s. s.kept) w.shards k s within) i;
         flight = flight;
+        held = [];
         done = read_with (λ s r. (share.core w.stop s).done r) s flight i;
+        past = read_with (λ s r. (share.core w.stop s).past r) s flight i;
+        room = read_with (λ s r. (share.core w.stop s).room r) s flight i;
         bound = sym bound i;
         stop = w.stop;
+        cancel = Aggressive;
       }
 
   -- and so is the machine as it stands
-  pub joined_now : (shard_of w k).bound ≡ w.bound → core w ≡ whole (simulation w.case) (rest w k) (record (share.core w.stop (shard_of w k)) { flight = w.flight })
-  joined_now bound = ap (λ shards. core (record w { shards = shards })) (sym (set_same w.shards k no_shard within)) ∙ joined (shard_of w k) w.flight bound
+  pub joined_now : (shard_at w k).bound ≡ w.bound → core w ≡ whole (simulation w.case) (rest w k) (record (share.core w.stop (shard_at w k)) { flight = w.flight })
+  joined_now bound = ap (λ shards. core (record w { shards = shards })) (sym (set_same w.shards k no_shard within)) ∙ joined (shard_at w k) w.flight bound
 
   -- nothing of the rest waits for this worker's routers
-  pub rest_apart : ((j : ℕ) → j < length w.shards → IsShare w j (shard_of w j)) → IsApart (simulation w.case) (rest w k)
+  pub rest_apart : ((j : ℕ) → j < length w.shards → IsShare w j (shard_at w j)) → IsApart (simulation w.case) (rest w k)
   rest_apart shares = record {
     pending = λ e mine. none (times event_same e (rest w k).pending) (λ some.
         let at = in_others w.case is e (λ s. s.pending) no_shard w.shards k some in
@@ -135,4 +143,5 @@ module _ (w : Warp) (is : IsCase w.case) (k : ℕ) (within : k < length w.shards
         let count = at.3 in
         let theirs = (shares at.0 at.1).own.waiting e (omega arith) in
         at.2 (sym (eqb-true (worker_of w e.dst) at.0 theirs) ∙ eqb-true (worker_of w e.dst) k mine));
+    held = λ e mine. refl;
   }

@@ -10,6 +10,6 @@ pub mod InChunks
 pub mod Fronts
 pub mod Runs
 pub mod Openings
-pub mod CommittedEvents
+pub mod AllShards
 pub mod Dealt
 pub mod Together

@@ -9,7 +9,7 @@ use Rattle.tw_core.specs.declared.refusal.Refusal.TheVariants.{NotMine}
 use Rattle.tw_core.specs.Good.{IsGood, IsGoodPart}
 use Rattle.tw_core.specs.Machine.{Core}
 use Rattle.tw_core.specs.Parts.{IsOwn}
-use Rattle.tw_core.specs.Steps.{after_arrival, deliver, first_pending, handle, step, undo, with_commit}
+use Rattle.tw_core.specs.Steps.{after_arrival, at_router, deliver, first_pending, handle, step, undo, with_commit, with_release, with_room}
 use Rattle.tw_core.proofs.Wording.{arrival-front}
 use Rattle.tw_event.specs.declared.event.Event.{Event}
 use Rattle.tw_model.specs.Case.{Case, simulation}
@@ -20,15 +20,15 @@ use Rattle.tw_shard.specs.Commit.{committing}
 use Rattle.tw_shard.specs.declared.rejection.Rejection.{Rejection}
 use Rattle.tw_shard.specs.declared.rejection.Rejection.TheVariants as rejection
 use Rattle.tw_shard.specs.declared.rejection.Rejection.TheVariants.{Foreign, Late}
-use Rattle.tw_shard.specs.Shard.{IsSameShare, Shard, handling, owns, undoing}
+use Rattle.tw_shard.specs.Shard.{IsSameShare, Shard, handling, owns, releasing, undoing, widening}
 use Rattle.tw_shard.specs.Shard as share
 use Rattle.tw_sim.specs.Owners.{owner}
 use Rattle.tw_sim.specs.declared.machine.Signed.{Signed}
-use Rattle.tw_sim.specs.declared.machine.Step.TheVariants.{Commit, Handle, Undo, Deliver}
+use Rattle.tw_sim.specs.declared.machine.Step.TheVariants.{Commit, Handle, Release, Undo, Deliver}
 use Rattle.tw_sim.specs.Simulation.{IsLawful}
-use Rattle.tw_warp.specs.Warp.{IsShare, IsWarp, Warp, core, lent, no_shard, shard_of, worker_of}
+use Rattle.tw_warp.specs.Warp.{IsShare, IsWarp, Warp, core, lent, no_shard, shard_at, worker_of}
 use Rattle.tw_warp.proofs.Joined.{joined, joined_now, rest, rest_apart, with_shard}
-use Rattle.tw_warp.proofs.Whole.{arrival_whole, commit_whole, handle_whole, lift, part_of, undo_whole, whole}
+use Rattle.tw_warp.proofs.Whole.{arrival_whole, commit_whole, handle_whole, lift, part_of, release_whole, room_whole, undo_whole, whole}
 
 -- the machine once that shard has made a call
 abbrev pub given_back : Warp → ℕ → Shard → Warp
@@ -59,7 +59,7 @@ module _ (w : Warp) (is : IsWarp w) where
     pub lent_owns : (r : ℕ) → worker_of w r ≡ k → owns (lent w k) r ≡ nat_lt r w.case.net.nodes
     lent_owns r mine =
         let own = is.shares k within in
-        let at : (owner (shard_of w k).workers r == (shard_of w k).worker) ≡ true = (λ i. owner (own.workers i) r == own.worker i) ∙ eq-eqb (worker_of w r) k mine in
+        let at : (owner (shard_at w k).workers r == (shard_at w k).worker) ≡ true = (λ i. owner (own.workers i) r == own.worker i) ∙ eq-eqb (worker_of w r) k mine in
         (λ i. nat_lt r (own.case i).net.nodes && at i) ∙ elim (cases_Bool (nat_lt r w.case.net.nodes)) [
           | inl there ↦ rw there refl
           | inr none ↦ rw none refl
@@ -69,8 +69,8 @@ module _ (w : Warp) (is : IsWarp w) where
     bare : (r : ℕ) → (worker_of w r == k) ≡ false → (share.core w.stop (lent w k)).history r ≡ []
     bare r other =
         let own = is.shares k within in
-        let at : (owner (shard_of w k).workers r == (shard_of w k).worker) ≡ false = (λ i. owner (own.workers i) r == own.worker i) ∙ other in
-        let none : owns (lent w k) r ≡ false = elim (cases_Bool (nat_lt r (shard_of w k).case.net.nodes)) [
+        let at : (owner (shard_at w k).workers r == (shard_at w k).worker) ≡ false = (λ i. owner (own.workers i) r == own.worker i) ∙ other in
+        let none : owns (lent w k) r ≡ false = elim (cases_Bool (nat_lt r (shard_at w k).case.net.nodes)) [
           | inl there ↦ rw (there, at) refl
           | inr absent ↦ rw absent refl
         ] in
@@ -82,7 +82,7 @@ module _ (w : Warp) (is : IsWarp w) where
 
     -- and what is for its routers
     pub own_lent : IsOwn (simulation w.case) (λ r. worker_of w r == k) (share.core w.stop (lent w k))
-    own_lent = let own = (is.shares k within).own in record { history = own.history; waiting = own.waiting }
+    own_lent = let own = (is.shares k within).own in record { history = own.history; waiting = own.waiting; held = own.held }
 
     -- ---- steps
 
@@ -132,9 +132,33 @@ module _ (w : Warp) (is : IsWarp w) where
         ∙ ap (lift m (rest w k)) (asked r mine (Ok (with_commit m C r))
         ∙ ap (λ case. share.at_own (lent w k) r (Ok (with_commit (simulation case) C r))) (sym (is.shares k within).case)))
 
+    pub release_step : (r : ℕ) → worker_of w r ≡ k → step (simulation w.case) (core w) (Release r) ≡ lift (simulation w.case) (rest w k) (releasing w.stop (lent w k) r)
+    release_step r mine =
+        let m = simulation w.case in
+        let C = share.core w.stop (lent w k) in
+        let there = nat_lt r w.case.net.nodes in
+        let done : ◌≡◌ {A = Result (Core Event) Refusal} (Ok (with_release m (core w) r)) (lift m (rest w k) (Ok (with_release m C r))) =
+        ap (λ W. Ok (with_release m W r)) now ∙ ap Ok (release_whole m law (rest w k) (rest_apart w is.case k within is.shares) C r (eq-eqb (worker_of w r) k mine) tt) in
+        ap (λ outcome. if there then outcome else Err NotMine) done
+        ∙ (lifted there (Ok (with_release m C r))
+        ∙ ap (lift m (rest w k)) (asked r mine (Ok (with_release m C r))
+        ∙ ap (λ case. share.at_own (lent w k) r (Ok (with_release (simulation case) C r))) (sym (is.shares k within).case)))
+
+    pub widen_step : (r : ℕ) → worker_of w r ≡ k → at_router (simulation w.case) r (Ok (with_room (simulation w.case) (core w) r)) ≡ lift (simulation w.case) (rest w k) (widening w.stop (lent w k) r)
+    widen_step r mine =
+        let m = simulation w.case in
+        let C = share.core w.stop (lent w k) in
+        let there = nat_lt r w.case.net.nodes in
+        let done : ◌≡◌ {A = Result (Core Event) Refusal} (Ok (with_room m (core w) r)) (lift m (rest w k) (Ok (with_room m C r))) =
+        ap (λ W. Ok (with_room m W r)) now ∙ ap Ok (room_whole m law (rest w k) (rest_apart w is.case k within is.shares) C r (eq-eqb (worker_of w r) k mine)) in
+        ap (λ outcome. if there then outcome else Err NotMine) done
+        ∙ (lifted there (Ok (with_room m C r))
+        ∙ ap (lift m (rest w k)) (asked r mine (Ok (with_room m C r))
+        ∙ ap (λ case. share.at_own (lent w k) r (Ok (with_room (simulation case) C r))) (sym (is.shares k within).case)))
+
     -- a message in flight may come to the shard that has its receiver
     pub welcome_there : (x : Signed Event) → w.bound ≤ x.event.time → x.event.dst < w.case.net.nodes → (simulation w.case).suits x.event ≡ true → worker_of w x.event.dst ≡ k
-        → refusing (shard_of w k) x.event ≡ Ok tt
+        → refusing (shard_at w k) x.event ≡ Ok tt
     welcome_there x late there suit mine =
         let e = x.event in
         let s = lent w k in
@@ -169,7 +193,7 @@ pub own_as : (case : Case) (j n p : ℕ) (C : Core Event) → n ≡ p → IsOwn 
 own_as case j n p C is own = subst (λ q. IsOwn (simulation case) (λ r. owner q r == j) C) is own
 
 -- the machine with another shard of worker k, which has what is for its routers, is one again where it is good
-pub next_is : (w : Warp) (is : IsWarp w) (k : ℕ) (s : Shard) (flight : List (Signed Event)) → k < length w.shards → IsSameShare (shard_of w k) s → s.bound ≡ w.bound
+pub next_is : (w : Warp) (is : IsWarp w) (k : ℕ) (s : Shard) (flight : List (Signed Event)) → k < length w.shards → IsSameShare (shard_at w k) s → s.bound ≡ w.bound
     → IsOwn (simulation w.case) (λ r. worker_of w r == k) (share.core w.stop s)
     → IsGood (simulation w.case) (core (with_shard w k (record s { outgoing = [] }) flight))
     → IsWarp (with_shard w k (record s { outgoing = [] }) flight)
@@ -190,11 +214,11 @@ next_is w is k s flight within same bound own good =
               keeps = same.keeps ∙ (is.shares k within).keeps;
               outgoing = refl;
               own = own_as w.case j (length w.shards) (length (set w.shards k next)) (share.core w.stop next) (sym count)
-                  (subst (λ i. IsOwn (simulation w.case) (λ r. worker_of w r == i) (share.core w.stop next)) (sym here) (record { history = own.history; waiting = own.waiting }));
+                  (subst (λ i. IsOwn (simulation w.case) (λ r. worker_of w r == i) (share.core w.stop next)) (sym here) (record { history = own.history; waiting = own.waiting; held = own.held }));
             }))
         | inr other ↦ (
             let old = is.shares j (omega arith) in
-            let at : get_or (set w.shards k next) j no_shard ≡ shard_of w j = get_or-set_other w.shards k j next no_shard other in
+            let at : get_or (set w.shards k next) j no_shard ≡ shard_at w j = get_or-set_other w.shards k j next no_shard other in
             subst (IsShare (with_shard w k next flight) j) (sym at) (record {
               case = old.case;
               worker = old.worker;
@@ -202,7 +226,7 @@ next_is w is k s flight within same bound own good =
               bound = old.bound;
               keeps = old.keeps;
               outgoing = old.outgoing;
-              own = own_as w.case j (length w.shards) (length (set w.shards k next)) (share.core w.stop (shard_of w j)) (sym count) old.own;
+              own = own_as w.case j (length w.shards) (length (set w.shards k next)) (share.core w.stop (shard_at w j)) (sym count) old.own;
             }))
       ];
       good = good;

@@ -1,5 +1,5 @@
 -- A machine whose shards begin is one that begins.
-use Rattle.std.proofs.Common.{◌≡◌, ℕ, suc, ◌+◌, ◌<◌, ◌≤◌, ◌==◌, true, cond, List, [], ◌∷◌, ◌++◌, filter, flat_map, get_or, length, refl, ap, sym, ◌∙◌, subst, inl, inr, arith}
+use Rattle.std.proofs.Common.{◌≡◌, ℕ, suc, ◌+◌, ◌<◌, ◌≤◌, ◌==◌, Bool, true, cond, List, [], ◌∷◌, ◌++◌, filter, flat_map, get_or, length, refl, ap, sym, ◌∙◌, subst, inl, inr, arith}
 use Rattle.std.proofs.lemmas.Bool.{cases_Bool, cases_eq, eq-eqb, ne_eqb}
 use Rattle.tw_core.specs.Machine.{Core, IsOpening}
 use Rattle.tw_core.specs.Parts.{IsOwn}
@@ -9,19 +9,20 @@ use Rattle.tw_event.specs.Order.{event_before}
 use Rattle.tw_model.specs.Case.{Case, IsCase, opening_events, simulation}
 use Rattle.tw_model.specs.declared.limits.TheConstants.{LATEST}
 use Rattle.tw_model.proofs.Lawful.{lawful}
-use Rattle.tw_shard.specs.Shard.{Shard}
+use Rattle.tw_shard.specs.Shard.{IsOpeningShard, Shard}
+use Rattle.tw_sim.specs.declared.machine.Cancel.TheVariants.{Aggressive}
 use Rattle.tw_sim.specs.Owners.{owner}
 use Rattle.tw_sim.specs.Ordered.{insert_all}
 use Rattle.tw_sim.specs.Simulation.{times}
 use Rattle.tw_sim.proofs.Counts.{in_filter, times-append, times-filter-no, times-filter-yes, times-insert_all}
 use Rattle.std.proofs.Math.Path.{fun_ext}
-use Rattle.tw_warp.specs.Openings.{IsOpened, opening_machine}
+use Rattle.tw_warp.specs.Openings.{opening_machine}
 use Rattle.tw_warp.proofs.Whole.{same_order}
-use Rattle.tw_warp.specs.Warp.{IsWarp, Warp, core, no_shard, shard_of, worker_of}
+use Rattle.tw_warp.specs.Warp.{IsWarp, Warp, core, no_shard, shard_at, worker_of}
 
-module _ (case : Case) (is : IsCase case) (n : ℕ) where
+module _ (case : Case) (is : IsCase case) (n : ℕ) (keeps : Bool) where
   -- how often an event waits at a shard that begins
-  pub waits : (k : ℕ) (s : Shard) (e : Event) → IsOpened case k n s
+  pub waits : (k : ℕ) (s : Shard) (e : Event) → IsOpeningShard case k n keeps s
       → times (simulation case) e s.pending ≡ cond (owner n e.dst == k) (times (simulation case) e (opening_events case.scenes)) 0
   waits k s e at =
       let m = simulation case in
@@ -36,14 +37,14 @@ module _ (case : Case) (is : IsCase case) (n : ℕ) where
       ]
 
   -- over shards from number a on, it waits once for its receiver's worker
-  pub all_wait : (e : Event) (ss : List Shard) (a : ℕ) → ((j : ℕ) → j < length ss → IsOpened case (a + j) n (get_or ss j no_shard))
+  pub all_wait : (e : Event) (ss : List Shard) (a : ℕ) → ((j : ℕ) → j < length ss → IsOpeningShard case (a + j) n keeps (get_or ss j no_shard))
       → (a ≤ owner n e.dst → owner n e.dst < a + length ss → times (simulation case) e (flat_map (λ s. s.pending) ss) ≡ times (simulation case) e (opening_events case.scenes))
       × (owner n e.dst < a → times (simulation case) e (flat_map (λ s. s.pending) ss) ≡ 0)
   all_wait e [] a each = ((λ from to. absurd (omega arith)), (λ before. refl))
   all_wait e (s ∷ ss) a each =
       let m = simulation case in
-      let first = waits a s e (subst (λ k. IsOpened case k n s) (omega arith) (each 0 (omega arith))) in
-      let rest = all_wait e ss (a + 1) (λ j h. subst (λ k. IsOpened case k n (get_or ss j no_shard)) (omega arith) (each (suc j) (omega arith))) in
+      let first = waits a s e (subst (λ k. IsOpeningShard case k n keeps s) (omega arith) (each 0 (omega arith))) in
+      let rest = all_wait e ss (a + 1) (λ j h. subst (λ k. IsOpeningShard case k n keeps (get_or ss j no_shard)) (omega arith) (each (suc j) (omega arith))) in
       let both : times m e (flat_map (λ s. s.pending) (s ∷ ss)) ≡ times m e s.pending + times m e (flat_map (λ s. s.pending) ss) = times-append m e s.pending (flat_map (λ s. s.pending) ss) in (
         (λ from to. elim (cases_eq (owner n e.dst) a) [
           | inl here ↦ (
@@ -58,18 +59,18 @@ module _ (case : Case) (is : IsCase case) (n : ℕ) where
             let more = rest.1 (omega arith) in omega arith),
       )
 
-  none_kept : (ss : List Shard) (a : ℕ) → ((j : ℕ) → j < length ss → IsOpened case (a + j) n (get_or ss j no_shard)) → flat_map (λ s. s.kept) ss ≡ []
+  none_kept : (ss : List Shard) (a : ℕ) → ((j : ℕ) → j < length ss → IsOpeningShard case (a + j) n keeps (get_or ss j no_shard)) → flat_map (λ s. s.kept) ss ≡ []
   none_kept [] a each = refl
   none_kept (s ∷ ss) a each =
       let first : s.kept ≡ [] = ap (λ (C : Core Event). C.kept) ((each 0 (omega arith)).core_is 0) in
-      let rest = none_kept ss (a + 1) (λ j h. subst (λ k. IsOpened case k n (get_or ss j no_shard)) (omega arith) (each (suc j) (omega arith))) in
+      let rest = none_kept ss (a + 1) (λ j h. subst (λ k. IsOpeningShard case k n keeps (get_or ss j no_shard)) (omega arith) (each (suc j) (omega arith))) in
       λ i. first i ++ rest i
 
 -- shards that begin, one for each worker
-module _ (w : Warp) (is : IsCase w.case) (some : 0 < length w.shards) (each : (k : ℕ) → k < length w.shards → IsOpened w.case k (length w.shards) (shard_of w k))
+module _ (w : Warp) (is : IsCase w.case) (some : 0 < length w.shards) (each : (k : ℕ) → k < length w.shards → IsOpeningShard w.case k (length w.shards) true (shard_at w k))
     (flight : w.flight ≡ []) (bound : w.bound ≡ 0) where
-  from_zero : (j : ℕ) → j < length w.shards → IsOpened w.case (0 + j) (length w.shards) (get_or w.shards j no_shard)
-  from_zero j h = subst (λ k. IsOpened w.case k (length w.shards) (shard_of w j)) (omega arith) (each j h)
+  from_zero : (j : ℕ) → j < length w.shards → IsOpeningShard w.case (0 + j) (length w.shards) true (get_or w.shards j no_shard)
+  from_zero j h = subst (λ k. IsOpeningShard w.case k (length w.shards) true (shard_at w j)) (omega arith) (each j h)
 
   own_worker : (r : ℕ) → worker_of w r < length w.shards
   own_worker r = omega arith
@@ -82,12 +83,15 @@ module _ (w : Warp) (is : IsCase w.case) (some : 0 < length w.shards) (each : (k
         pending = λ e.
             let all = flat_map (λ s. s.pending) w.shards in
             let count = times-insert_all m e all [] in
-            let once = (all_wait w.case is (length w.shards) e w.shards 0 from_zero).0 (omega arith) (let h = own_worker e.dst in omega arith) in
+            let once = (all_wait w.case is (length w.shards) true e w.shards 0 from_zero).0 (omega arith) (let h = own_worker e.dst in omega arith) in
             omega arith;
-        kept = ap (λ xs. insert_all event_before xs []) (none_kept w.case is (length w.shards) w.shards 0 from_zero);
+        kept = ap (λ xs. insert_all event_before xs []) (none_kept w.case is (length w.shards) true w.shards 0 from_zero);
         flight = flight;
+        held = refl;
         done = λ r. ap (λ (C : Core Event). C.done r) ((each (worker_of w r) (own_worker r)).core_is w.stop);
+        past = λ r. ap (λ (C : Core Event). C.past r) ((each (worker_of w r) (own_worker r)).core_is w.stop);
         bound = bound;
+        room = λ r. ap (λ (C : Core Event). C.room r) ((each (worker_of w r) (own_worker r)).core_is w.stop);
       }
 
   pub opens_exactly : core w ≡ opening_machine w.case w.stop
@@ -96,19 +100,23 @@ module _ (w : Warp) (is : IsCase w.case) (some : 0 < length w.shards) (each : (k
       let all = flat_map (λ s. s.pending) w.shards in
       let o = opens in
       let same = same_order m (lawful w.case is) all (opening_events w.case.scenes)
-      (λ e. (all_wait w.case is (length w.shards) e w.shards 0 from_zero).0 (omega arith) (let h = own_worker e.dst in omega arith)) in
+      (λ e. (all_wait w.case is (length w.shards) true e w.shards 0 from_zero).0 (omega arith) (let h = own_worker e.dst in omega arith)) in
       λ i. record {
         history = fun_ext o.history i;
         pending = same i;
         kept = o.kept i;
         flight = o.flight i;
+        held = [];
         done = fun_ext o.done i;
+        past = fun_ext o.past i;
+        room = fun_ext o.room i;
         bound = o.bound i;
         stop = w.stop;
+        cancel = Aggressive;
       }
 
-  pub opened_is : ((k : ℕ) → k < length w.shards → (shard_of w k).keeps ≡ true) → w.stop ≤ LATEST → IsWarp w
-  opened_is keeps most =
+  pub opened_is : w.stop ≤ LATEST → IsWarp w
+  opened_is most =
       let m = simulation w.case in
       record {
         case = is;
@@ -120,10 +128,11 @@ module _ (w : Warp) (is : IsCase w.case) (some : 0 < length w.shards) (each : (k
               worker = at.worker;
               workers = at.count;
               bound = ap (λ (C : Core Event). C.bound) (at.core_is 0) ∙ sym bound;
-              keeps = keeps k within;
+              keeps = at.keeps_are;
               outgoing = ap (λ (C : Core Event). C.flight) (at.core_is 0);
               own = subst (IsOwn m (λ r. worker_of w r == k)) (sym (at.core_is w.stop)) (record {
                 history = λ r e none. absurd (omega arith);
+                held = λ e none. absurd (omega arith);
                 waiting = λ e there.
                     let all = filter (λ x. owner (length w.shards) x.dst == k) (opening_events w.case.scenes) in
                     let count = times-insert_all m e all [] in
@@ -141,6 +150,9 @@ machine_opens case stop = record {
   pending = λ e. let count = times-insert_all (simulation case) e (opening_events case.scenes) [] in omega arith;
   kept = refl;
   flight = refl;
+  held = refl;
   done = λ r. refl;
+  past = λ r. refl;
   bound = refl;
+  room = λ r. refl;
 }

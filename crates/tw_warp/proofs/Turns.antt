@@ -1,5 +1,5 @@
 -- What a turn at a router leaves of the machine.
-use Rattle.std.proofs.Common.{◌≡◌, ℕ, zero, suc, ◌∷◌, get_or, ◌↔◌, ◌<◌, ◌≤◌, ◌-◌, ◌==◌, Bool, true, false, List, [], length, reverse, take, if◌then◌else◌, arith, Result, Ok, Err, refl, ap, sym, ◌∙◌, subst}
+use Rattle.std.proofs.Common.{◌≡◌, ℕ, zero, suc, ◌∷◌, get_or, ◌↔◌, ◌<◌, ◌≤◌, ◌-◌, ◌==◌, Bool, true, false, List, [], length, reverse, take, nat_lt, if◌then◌else◌, arith, Result, Ok, Err, refl, ap, sym, ◌∙◌, subst}
 use Rattle.std.specs.Prelude.{IsErrOf, OnErr, OnOk}
 use Rattle.tw_core.specs.declared.refusal.Refusal.{Refusal}
 use Rattle.tw_model.specs.declared.memory.OrMemory.{OrMemory}
@@ -7,37 +7,37 @@ use Rattle.tw_model.specs.declared.memory.OrMemory.TheVariants as or_memory
 use Rattle.tw_core.specs.declared.refusal.Refusal.TheVariants.{NotMine}
 use Rattle.tw_core.specs.Machine.{Core}
 use Rattle.tw_core.specs.Parts.{IsOwn}
-use Rattle.tw_core.specs.Steps.{first_pending, handle, step, undo, with_commit}
+use Rattle.tw_core.specs.Good.{IsGood}
+use Rattle.tw_core.specs.Steps.{at_router, first_pending, handle, step, undo, with_commit, with_release, with_room}
 use Rattle.tw_core.specs.Run.{IsSeq}
 use Rattle.tw_core.proofs.Headline.{good_is_seq}
-use Rattle.tw_core.proofs.Own.{own_handle, own_undo}
-use Rattle.tw_core.proofs.Steps.{good_further, handle_keeps, step_keeps, undo_keeps}
+use Rattle.tw_core.proofs.Own.{own_handle, own_release, own_undo}
+use Rattle.tw_core.proofs.Steps.{good_further, handle_keeps, step_keeps, undo_keeps, widen_keeps}
 use Rattle.tw_event.specs.declared.event.Event.{Event}
 use Rattle.tw_model.specs.Case.{Case, simulation}
 use Rattle.tw_model.specs.State.{Router}
 use Rattle.tw_sim.specs.Simulation.{below, state}
-use Rattle.tw_warp.specs.Committed.{ahead_at, oldest}
 use Rattle.std.proofs.lemmas.Bool.{lt-ltb}
 use Rattle.tw_model.specs.declared.limits.TheConstants.{LATEST}
 use Rattle.tw_model.proofs.Lawful.{lawful, numbered}
 use Rattle.tw_shard.specs.Commit.{committing}
-use Rattle.tw_shard.specs.Shard.{IsSameShare, Shard, handling, owns, undoing}
+use Rattle.tw_shard.specs.Shard.{IsSameShare, Shard, handling, owns, releasing, undoing, widening}
 use Rattle.tw_shard.specs.Shard as share
 use Rattle.tw_sim.specs.declared.machine.Signed.{Signed}
 use Rattle.tw_sim.specs.declared.machine.Step.{Step}
-use Rattle.tw_sim.specs.Simulation.{Simulation}
-use Rattle.tw_sim.specs.declared.machine.Step.TheVariants.{Commit, Handle, Undo}
-use Rattle.tw_warp.specs.Calls.{calling, step_of}
+use Rattle.tw_sim.specs.Simulation.{IsLawful, Simulation}
+use Rattle.tw_sim.specs.declared.machine.Step.TheVariants.{Commit, Handle, Release, Undo}
+use Rattle.tw_warp.specs.Calls.{calling, outcome_of}
 use Rattle.tw_warp.specs.declared.calls.RouterCall.{RouterCall}
 use Rattle.tw_warp.specs.declared.calls.RouterCall.TheVariants as calls
-use Rattle.tw_warp.specs.Warp.{IsWarp, Warp, behind, core, lent, no_shard, shard_of, worker_of}
+use Rattle.tw_warp.specs.Warp.{IsWarp, Warp, behind, core, lent, no_shard, shard_at, worker_of}
 use Rattle.tw_warp.proofs.Joined.{rest, set_same, with_shard}
-use Rattle.tw_warp.proofs.Moves.{lent_owns, commit_step, given_back, handle_step, later, law, next_is, own_lent, part, undo_step}
+use Rattle.tw_warp.proofs.Moves.{lent_owns, commit_step, given_back, handle_step, later, law, next_is, own_lent, part, release_step, undo_step, widen_step}
 use Rattle.tw_warp.proofs.Whole.{Rest, lift}
 
 -- a call at worker k's shard has left this shard
 pub record IsCalled (w : Warp) (k : ℕ) (t : Shard) : Type 0 where
-  pub same : IsSameShare (shard_of w k) t
+  pub same : IsSameShare (shard_at w k) t
   pub bound : t.bound ≡ w.bound
   pub own : IsOwn (simulation w.case) (λ r. worker_of w r == k) (share.core w.stop t)
 
@@ -53,14 +53,23 @@ own_outcome s r o D h = go (owns s r) h where
   go true h = h
   go false h = cc
 
-module _ (w : Warp) (is : IsWarp w) (k : ℕ) (within : k < length w.shards) where
-  -- a step that was done leaves the machine good
-  pub done : (t : Shard) (x : Step) → IsCalled w k t → step (simulation w.case) (core w) x ≡ Ok (core (given_back w k t)) → IsWarp (given_back w k t)
-  done t x called did =
-      next_is w is k t t.outgoing within called.same called.bound called.own
-      (step_keeps (simulation w.case) (law w is) (core w) (core (given_back w k t)) x is.good did).good
+-- of a router that is there
+at_router_done : {S E : Type 0} (m : Simulation S E) (r : ℕ) (o : Result (Core E) Refusal) (C D : Core E) → o ≡ Ok C → at_router m r o ≡ Ok D → C ≡ D
+at_router_done m r o C D made h = go (nat_lt r m.routers) h where
+  go : (b : Bool) → (if b then o else Err NotMine) ≡ Ok D → C ≡ D
+  go true h = cc (sym made ∙ h)
+  go false h = cc
 
-  pub handled : (t : Shard) (r : ℕ) → IsSameShare (shard_of w k) t → handling w.stop (lent w k) r ≡ Ok (share.core w.stop t) → IsCalled w k t
+-- a good machine with more room is good
+widen_good : {S E : Type 0} (m : Simulation S E) → IsLawful m → (C : Core E) (r : ℕ) → IsGood m C → IsGood m (with_room m C r)
+widen_good m law C r good = record { part = (widen_keeps m law C.bound C r good.part).part; balance = good.balance; done = good.done; bound = good.bound }
+
+module _ (w : Warp) (is : IsWarp w) (k : ℕ) (within : k < length w.shards) where
+  -- a call that was made leaves the machine good
+  pub done : (t : Shard) → IsCalled w k t → IsGood (simulation w.case) (core (given_back w k t)) → IsWarp (given_back w k t)
+  done t called good = next_is w is k t t.outgoing within called.same called.bound called.own good
+
+  pub handled : (t : Shard) (r : ℕ) → IsSameShare (shard_at w k) t → handling w.stop (lent w k) r ≡ Ok (share.core w.stop t) → IsCalled w k t
   handled t r same went =
       let m = simulation w.case in
       let C = share.core w.stop (lent w k) in
@@ -74,7 +83,7 @@ module _ (w : Warp) (is : IsWarp w) (k : ℕ) (within : k < length w.shards) whe
         own = own_handle m (law w is) (λ r. worker_of w r == k) C D r (own_lent w is k within) did;
       }
 
-  pub undone : (t : Shard) (r : ℕ) → IsSameShare (shard_of w k) t → undoing w.stop (lent w k) r ≡ Ok (share.core w.stop t) → IsCalled w k t
+  pub undone : (t : Shard) (r : ℕ) → IsSameShare (shard_at w k) t → undoing w.stop (lent w k) r ≡ Ok (share.core w.stop t) → IsCalled w k t
   undone t r same went =
       let m = simulation w.case in
       let C = share.core w.stop (lent w k) in
@@ -89,7 +98,7 @@ module _ (w : Warp) (is : IsWarp w) (k : ℕ) (within : k < length w.shards) whe
         own = own_undo m (law w is) (λ r. worker_of w r == k) w.bound C D r (part w is k within) (own_lent w is k within) did;
       }
 
-  pub commits : (t : Shard) (r : ℕ) → IsSameShare (shard_of w k) t → committing w.stop (lent w k) r ≡ Ok (share.core w.stop t) → IsCalled w k t
+  pub commits : (t : Shard) (r : ℕ) → IsSameShare (shard_at w k) t → committing w.stop (lent w k) r ≡ Ok (share.core w.stop t) → IsCalled w k t
   commits t r same went =
       let m = simulation w.case in
       let C = share.core w.stop (lent w k) in
@@ -102,7 +111,38 @@ module _ (w : Warp) (is : IsWarp w) (k : ℕ) (within : k < length w.shards) whe
       record {
         same = same;
         bound = sym (ap (λ (D : Core Event). D.bound) reached) ∙ (is.shares k within).bound;
-        own = subst (IsOwn m (λ r. worker_of w r == k)) reached (record { history = own.history; waiting = own.waiting });
+        own = subst (IsOwn m (λ r. worker_of w r == k)) reached (record { history = own.history; waiting = own.waiting; held = own.held });
+      }
+
+  pub releases : (t : Shard) (r : ℕ) → IsSameShare (shard_at w k) t → releasing w.stop (lent w k) r ≡ Ok (share.core w.stop t) → IsCalled w k t
+  releases t r same went =
+      let m = simulation w.case in
+      let C = share.core w.stop (lent w k) in
+      let D = share.core w.stop t in
+      let did : ◌≡◌ {A = Result (Core Event) Refusal} (Ok (with_release m C r)) (Ok D) =
+      own_outcome (lent w k) r (Ok (with_release m C r)) D
+      (ap (λ case. share.at_own (lent w k) r (Ok (with_release (simulation case) C r))) (sym (is.shares k within).case) ∙ went) in
+      let reached : with_release m C r ≡ D = cc did in
+      record {
+        same = same;
+        bound = sym (ap (λ (D : Core Event). D.bound) reached) ∙ (is.shares k within).bound;
+        own = subst (IsOwn m (λ r. worker_of w r == k)) reached (own_release m (law w is) (λ r. worker_of w r == k) C r (own_lent w is k within));
+      }
+
+  pub widens : (t : Shard) (r : ℕ) → IsSameShare (shard_at w k) t → widening w.stop (lent w k) r ≡ Ok (share.core w.stop t) → IsCalled w k t
+  widens t r same went =
+      let m = simulation w.case in
+      let C = share.core w.stop (lent w k) in
+      let D = share.core w.stop t in
+      let did : ◌≡◌ {A = Result (Core Event) Refusal} (Ok (with_room m C r)) (Ok D) =
+      own_outcome (lent w k) r (Ok (with_room m C r)) D
+      (ap (λ case. share.at_own (lent w k) r (Ok (with_room (simulation case) C r))) (sym (is.shares k within).case) ∙ went) in
+      let reached : with_room m C r ≡ D = cc did in
+      let own = own_lent w is k within in
+      record {
+        same = same;
+        bound = sym (ap (λ (D : Core Event). D.bound) reached) ∙ (is.shares k within).bound;
+        own = subst (IsOwn m (λ r. worker_of w r == k)) reached (record { history = own.history; waiting = own.waiting; held = own.held });
       }
 
   -- the shard as it comes back, and the messages on their way
@@ -110,7 +150,7 @@ module _ (w : Warp) (is : IsWarp w) (k : ℕ) (within : k < length w.shards) whe
   back_again s flight none = λ i. with_shard w k (record s { outgoing = none i }) flight
 
   -- nothing has changed
-  pub same_again : (s : Shard) (flight : List (Signed Event)) → s ≡ shard_of w k → flight ≡ w.flight → with_shard w k s flight ≡ w
+  pub same_again : (s : Shard) (flight : List (Signed Event)) → s ≡ shard_at w k → flight ≡ w.flight → with_shard w k s flight ≡ w
   same_again s flight same kept = (λ i. with_shard w k (same i) (kept i)) ∙ ap (λ shards. record w { shards = shards }) (set_same w.shards k no_shard within)
 
 -- a read within a list does not depend on what stands beyond it
@@ -120,16 +160,17 @@ any_default (x ∷ xs) zero a b within = refl
 any_default (x ∷ xs) (suc k) a b within = any_default xs k a b (omega arith)
 
 -- what a turn at worker k's shard gives, with the shard and the messages on their way as they came back
-pub record IsTurned (w : Warp) (k : ℕ) (x : Step) (s : Shard) (flight : List (Signed Event)) (result : Result (Unit {0}) (OrMemory Refusal)) : Type 0 where
+pub record IsTurned (w : Warp) (k : ℕ) (make : Core Event → Result (Core Event) Refusal) (s : Shard) (flight : List (Signed Event)) (result : Result (Unit {0}) (OrMemory Refusal)) : Type 0 where
   pub is : IsWarp (with_shard w k s flight)
-  pub ok : OnOk result (step (simulation w.case) (core w) x ≡ Ok (core (with_shard w k s flight)))
-  pub refused : (f : Refusal) → IsErrOf result (or_memory.Fault f) ↔ (step (simulation w.case) (core w) x ≡ Err f)
+  pub ok : OnOk result (make (core w) ≡ Ok (core (with_shard w k s flight)))
+  pub refused : (f : Refusal) → IsErrOf result (or_memory.Fault f) ↔ (make (core w) ≡ Err f)
 
 module _ (w : Warp) (is : IsWarp w) (k : ℕ) (within : k < length w.shards) where
-  -- the outcome of a call at the part is that of a step
-  pub record IsOutcome (x : Step) (outcome : Result (Core Event) Refusal) : Type 0 where
-    pub step_is : step (simulation w.case) (core w) x ≡ lift (simulation w.case) (rest w k) outcome
-    pub called : (t : Shard) → IsSameShare (shard_of w k) t → outcome ≡ Ok (share.core w.stop t) → IsCalled w k t
+  -- the outcome of a call at the part is what it makes of the machine, which stays good
+  pub record IsOutcome (make : Core Event → Result (Core Event) Refusal) (outcome : Result (Core Event) Refusal) : Type 0 where
+    pub made : make (core w) ≡ lift (simulation w.case) (rest w k) outcome
+    pub good : (D : Core Event) → make (core w) ≡ Ok D → IsGood (simulation w.case) D
+    pub called : (t : Shard) → IsSameShare (shard_at w k) t → outcome ≡ Ok (share.core w.stop t) → IsCalled w k t
 
   -- the shard and the messages on their way after such a call at a shard
   pub record IsBack (call : Shard → Result (Core Event) Refusal) (at s : Shard) (flight : List (Signed Event)) (result : Result (Unit {0}) (OrMemory Refusal)) : Type 0 where
@@ -140,63 +181,67 @@ module _ (w : Warp) (is : IsWarp w) (k : ℕ) (within : k < length w.shards) whe
     pub outgoing : s.outgoing ≡ at.outgoing
     pub same : IsSameShare at s
 
-  pub turned : (x : Step) (call : Shard → Result (Core Event) Refusal) → IsOutcome x (call (lent w k))
-      → (at s : Shard) (flight : List (Signed Event)) (result : Result (Unit {0}) (OrMemory Refusal)) → at ≡ shard_of w k
-      → IsBack call at s flight result → IsTurned w k x s flight result
-  turned x call outcome at s flight result there came = record {
+  pub turned : (make : Core Event → Result (Core Event) Refusal) (call : Shard → Result (Core Event) Refusal) → IsOutcome make (call (lent w k))
+      → (at s : Shard) (flight : List (Signed Event)) (result : Result (Unit {0}) (OrMemory Refusal)) → at ≡ shard_at w k
+      → IsBack call at s flight result → IsTurned w k make s flight result
+  turned make call outcome at s flight result there came = record {
     is = go result back;
     ok = went result back;
     refused = λ f. (
-      (λ told. outcome.step_is ∙ ap (lift (simulation w.case) (rest w k)) ((back.refused f).0 told)),
-      (λ told. (back.refused f).1 (lift_err (simulation w.case) (rest w k) (call (lent w k)) f (sym outcome.step_is ∙ told))),
+      (λ told. outcome.made ∙ ap (lift (simulation w.case) (rest w k)) ((back.refused f).0 told)),
+      (λ told. (back.refused f).1 (lift_err (simulation w.case) (rest w k) (call (lent w k)) f (sym outcome.made ∙ told))),
     );
   } where
-    back : IsBack call (shard_of w k) s flight result
+    back : IsBack call (shard_at w k) s flight result
     back = subst (λ at. IsBack call at s flight result) there came
 
     none : s.outgoing ≡ []
     none = back.outgoing ∙ (is.shares k within).outgoing
 
-    here : IsSameShare (shard_of w k) s → IsSameShare (shard_of w k) (behind s flight)
+    here : IsSameShare (shard_at w k) s → IsSameShare (shard_at w k) (behind s flight)
     here same = record { case = same.case; worker = same.worker; workers = same.workers; keeps = same.keeps }
 
-    did : IsSameShare (shard_of w k) s → call (lent w k) ≡ Ok (share.core w.stop (behind s flight)) → step (simulation w.case) (core w) x ≡ Ok (core (given_back w k (behind s flight)))
+    did : IsSameShare (shard_at w k) s → call (lent w k) ≡ Ok (share.core w.stop (behind s flight)) → make (core w) ≡ Ok (core (given_back w k (behind s flight)))
     did same ok =
-        outcome.step_is
+        outcome.made
         ∙ (ap (lift (simulation w.case) (rest w k)) ok
         ∙ ap Ok (sym (later w is k within (behind s flight) (outcome.called (behind s flight) (here same) ok).bound)))
 
-    go : (result : Result (Unit {0}) (OrMemory Refusal)) → IsBack call (shard_of w k) s flight result → IsWarp (with_shard w k s flight)
+    go : (result : Result (Unit {0}) (OrMemory Refusal)) → IsBack call (shard_at w k) s flight result → IsWarp (with_shard w k s flight)
     go (Ok u) back = subst IsWarp (sym (back_again w is k within s flight none))
-        (done w is k within (behind s flight) x (outcome.called (behind s flight) (here back.same) back.ok) (did back.same back.ok))
+        (done w is k within (behind s flight) (outcome.called (behind s flight) (here back.same) back.ok)
+        (outcome.good (core (given_back w k (behind s flight))) (did back.same back.ok)))
     go (Err e) back = subst IsWarp (sym (same_again w is k within s flight back.err back.unsent)) is
 
-    went : (result : Result (Unit {0}) (OrMemory Refusal)) → IsBack call (shard_of w k) s flight result → OnOk result (step (simulation w.case) (core w) x ≡ Ok (core (with_shard w k s flight)))
+    went : (result : Result (Unit {0}) (OrMemory Refusal)) → IsBack call (shard_at w k) s flight result → OnOk result (make (core w) ≡ Ok (core (with_shard w k s flight)))
     went (Ok u) back = did back.same back.ok ∙ ap (λ v. Ok (core v)) (sym (back_again w is k within s flight none))
     went (Err e) back = tt
 
-  handle_outcome : (r : ℕ) → worker_of w r ≡ k → IsOutcome (Handle r) (handling w.stop (lent w k) r)
-  handle_outcome r mine = record {
-    step_is = handle_step w is k within r mine;
-    called = λ t same went. handled w is k within t r same went;
+  -- what a step makes is good
+  steps_on : (x : Step) (outcome : Result (Core Event) Refusal) → step (simulation w.case) (core w) x ≡ lift (simulation w.case) (rest w k) outcome
+      → ((t : Shard) → IsSameShare (shard_at w k) t → outcome ≡ Ok (share.core w.stop t) → IsCalled w k t) → IsOutcome (λ C. step (simulation w.case) C x) outcome
+  steps_on x outcome made called = record {
+    made = made;
+    good = λ D did. (step_keeps (simulation w.case) (law w is) (core w) D x is.good did).good;
+    called = called;
   }
 
-  commit_outcome : (r : ℕ) → worker_of w r ≡ k → IsOutcome (Commit r) (committing w.stop (lent w k) r)
-  commit_outcome r mine = record {
-    step_is = commit_step w is k within r mine;
-    called = λ t same went. commits w is k within t r same went;
-  }
+  -- and so is a machine with more room
+  widen_outcome : (r : ℕ) → worker_of w r ≡ k → IsOutcome (outcome_of (simulation w.case) calls.Widen r) (widening w.stop (lent w k) r)
+  widen_outcome r mine =
+      let m = simulation w.case in
+      record {
+        made = widen_step w is k within r mine;
+        good = λ D did. subst (IsGood m) (at_router_done m r (Ok (with_room m (core w) r)) (with_room m (core w) r) D refl did) (widen_good m (law w is) (core w) r is.good);
+        called = λ t same went. widens w is k within t r same went;
+      }
 
-  undo_outcome : (r : ℕ) → worker_of w r ≡ k → IsOutcome (Undo r) (undoing w.stop (lent w k) r)
-  undo_outcome r mine = record {
-    step_is = undo_step w is k within r mine;
-    called = λ t same went. undone w is k within t r same went;
-  }
-
-  pub call_outcome : (call : RouterCall) (r : ℕ) → worker_of w r ≡ k → IsOutcome (step_of call r) (calling call w.stop (lent w k) r)
-  call_outcome calls.Handle r mine = handle_outcome r mine
-  call_outcome calls.Undo r mine = undo_outcome r mine
-  call_outcome calls.Commit r mine = commit_outcome r mine
+  pub call_outcome : (call : RouterCall) (r : ℕ) → worker_of w r ≡ k → IsOutcome (outcome_of (simulation w.case) call r) (calling call w.stop (lent w k) r)
+  call_outcome calls.Handle r mine = steps_on (Handle r) (handling w.stop (lent w k) r) (handle_step w is k within r mine) (λ t same went. handled w is k within t r same went)
+  call_outcome calls.Undo r mine = steps_on (Undo r) (undoing w.stop (lent w k) r) (undo_step w is k within r mine) (λ t same went. undone w is k within t r same went)
+  call_outcome calls.Commit r mine = steps_on (Commit r) (committing w.stop (lent w k) r) (commit_step w is k within r mine) (λ t same went. commits w is k within t r same went)
+  call_outcome calls.Release r mine = steps_on (Release r) (releasing w.stop (lent w k) r) (release_step w is k within r mine) (λ t same went. releases w is k within t r same went)
+  call_outcome calls.Widen r mine = widen_outcome r mine
 
 -- the worker of a router, as the code finds it
 pub worker_there : (w v : Warp) (r k : ℕ) → w ≡ v → k ≡ worker_of v r → worker_of w r ≡ k
@@ -221,45 +266,8 @@ later_stop w stop is rises most = record {
     bound = old.bound;
     keeps = old.keeps;
     outgoing = old.outgoing;
-    own = record { history = old.own.history; waiting = old.own.waiting };
+    own = record { history = old.own.history; waiting = old.own.waiting; held = old.own.held };
   });
   good = good_further (simulation w.case) (law w is) (core w) stop rises is.good;
   stop = most;
 }
-
--- ---- a router of the machine
-
--- as the code tells it: its net, its number and what it knows
-abbrev pub told_router : Case → ℕ → List Event → Router
-told_router case r history = record { net = case.net; node = r; state = state (simulation case) r history }
-
-module _ (w : Warp) (is : IsWarp w) (r k : ℕ) (mine : worker_of w r ≡ k) (s : Shard) (there : s ≡ shard_of w k) where
-  pub owned_there : k < length w.shards → r < w.case.net.nodes → owns s r ≡ true
-  owned_there within known = ap (λ a. owns a r) there ∙ (lent_owns w is k within r mine ∙ lt-ltb r w.case.net.nodes known)
-
-  pub router_there : k < length w.shards → told_router s.case r ((share.core 0 s).history r) ≡ told_router w.case r ((core w).history r)
-  router_there within =
-      let case : s.case ≡ w.case = ap (λ a. a.case) there ∙ (is.shares k within).case in
-      let history : (share.core 0 s).history r ≡ (core w).history r =
-      ap (λ a. (share.core 0 a).history r) there ∙ ap (λ j. (share.core w.stop (shard_of w j)).history r) (sym mine) in
-      λ i. told_router (case i) r (history i)
-
-  -- its oldest events as they are told of it
-  pub oldest_there : k < length w.shards → oldest s.case (share.core 0 s) r ≡ oldest w.case (core w) r
-  oldest_there within =
-      let case : s.case ≡ w.case = ap (λ a. a.case) there ∙ (is.shares k within).case in
-      let history : (share.core 0 s).history r ≡ (core w).history r =
-      ap (λ a. (share.core 0 a).history r) there ∙ ap (λ j. (share.core w.stop (shard_of w j)).history r) (sym mine) in
-      let done : (share.core 0 s).done r ≡ (core w).done r =
-      ap (λ a. (share.core 0 a).done r) there ∙ ap (λ j. (share.core w.stop (shard_of w j)).done r) (sym mine) in
-      λ i. take (length (below (simulation (case i)) (done i) (history i))) (reverse (history i))
-
-  -- how many of its events are not committed, as it is told of it
-  pub ahead_there : k < length w.shards → ahead_at s.case (share.core 0 s) r ≡ ahead_at w.case (core w) r
-  ahead_there within =
-      let case : s.case ≡ w.case = ap (λ a. a.case) there ∙ (is.shares k within).case in
-      let history : (share.core 0 s).history r ≡ (core w).history r =
-      ap (λ a. (share.core 0 a).history r) there ∙ ap (λ j. (share.core w.stop (shard_of w j)).history r) (sym mine) in
-      let done : (share.core 0 s).done r ≡ (core w).done r =
-      ap (λ a. (share.core 0 a).done r) there ∙ ap (λ j. (share.core w.stop (shard_of w j)).done r) (sym mine) in
-      λ i. length (history i) - length (below (simulation (case i)) (done i) (history i))

@@ -1,21 +1,24 @@
 -- A part of a machine beside the rest of it: what a step at the part's routers does to the whole.
-use Rattle.std.proofs.Common.{◌≡◌, ℕ, ◌+◌, ◌<◌, ◌==◌, ◌||◌, Bool, true, false, not, cond, List, [], ◌∷◌, ◌++◌, map, nat_lt, Option, Some, None, Result, Ok, Err, if◌then◌else◌, refl, ap, sym, ◌∙◌, subst, inl, inr, arith}
+use Rattle.std.proofs.Common.{◌≡◌, ℕ, ◌+◌, ◌*◌, ◌-◌, ◌<◌, ◌==◌, ◌||◌, Bool, true, false, not, cond, List, [], ◌∷◌, ◌++◌, filter, length, map, nat_lt, Option, Some, None, Result, Ok, Err, if◌then◌else◌, refl, ap, sym, ◌∙◌, subst, inl, inr, arith}
 use Rattle.std.proofs.Math.Path.{fun_ext}
+use Rattle.std.specs.List.{suffix_len}
 use Rattle.std.proofs.lemmas.Bool.{cases_Bool, cases_eq, eq-eqb, eqb-true, ne_eqb}
 use Rattle.tw_core.specs.declared.refusal.Refusal.{Refusal}
-use Rattle.tw_core.specs.declared.refusal.Refusal.TheVariants.{Nothing, Double, CounterFull}
+use Rattle.tw_core.specs.declared.refusal.Refusal.TheVariants.{Nothing, Double, AheadFull, CounterFull}
 use Rattle.tw_core.specs.Good.{IsGoodPart}
-use Rattle.tw_core.specs.Machine.{Core}
-use Rattle.tw_core.specs.Steps.{after_antimessage, after_arrival, after_handling, after_message, after_undoing, after_undoing_while, antimessage, first_pending, handle, is_newest, message, put, take_out, undo, with_commit, with_pending, without_from, without_later, without_pending}
+use Rattle.tw_core.specs.Machine.{Core, count_ahead}
+use Rattle.tw_core.specs.Steps.{after_antimessage, after_arrival, after_handling, after_message, after_undoing, after_undoing_while, antimessage, first_pending, from, from_others, handle, held_back, is_newest, message, put, sent_back, still_held, take_out, to_send, undo, with_commit, with_pending, with_release, with_room, without_from, without_later, without_pending}
+use Rattle.tw_sim.specs.declared.machine.Cancel.{Cancel}
+use Rattle.tw_sim.specs.declared.machine.Cancel.TheVariants.{Aggressive, Lazy}
 use Rattle.tw_sim.specs.declared.machine.Signed.{Signed}
 use Rattle.tw_sim.specs.Ordered.{least}
 use Rattle.tw_sim.specs.Seq.{insert, insert_all}
 use Rattle.tw_sim.specs.Simulation.{Simulation, IsFalling, IsLawful, only, state, times}
-use Rattle.tw_sim.proofs.Counts.{in_filter, none, times-append, times-filter-no, times-filter-yes, times-insert, times-insert_all, times-take_out, times-take_out-le}
+use Rattle.tw_sim.proofs.Counts.{in_filter, in_head, none, times-append, times-filter-no, times-filter-yes, times-insert, times-insert_all, times-take_out, times-take_out-le}
 use Rattle.tw_sim.proofs.Least.{least_is}
 use Rattle.tw_sim.proofs.Ordered as plain
 use Rattle.tw_sim.proofs.Counts.{is_order}
-use Rattle.tw_sim.proofs.Rising.{IsRising, rising-insert_all, same_rising}
+use Rattle.tw_sim.proofs.Rising.{IsRising, rising-filter, rising-insert_all, same_rising}
 
 -- the rest of a machine
 pub record Rest (E : Type 0) : Type 0 where
@@ -23,8 +26,11 @@ pub record Rest (E : Type 0) : Type 0 where
   pub mine : ℕ → Bool
   pub history : ℕ → List E
   pub done : ℕ → ℕ
+  pub past : ℕ → ℕ
+  pub room : ℕ → ℕ
   pub pending : List E
   pub kept : List E
+  pub held : List E
 
 -- putting a value at one of the part's routers
 put_within : {A : Type 0} (mine : ℕ → Bool) (f g : ℕ → A) (r : ℕ) (a : A) → mine r ≡ true
@@ -47,15 +53,20 @@ module _ {S E : Type 0} (m : Simulation S E) where
     pending = in_order (X.pending ++ C.pending);
     kept = in_order (X.kept ++ C.kept);
     flight = C.flight;
+    held = in_order (X.held ++ C.held);
     done = λ r. cond (X.mine r) (C.done r) (X.done r);
+    past = λ r. cond (X.mine r) (C.past r) (X.past r);
+    room = λ r. cond (X.mine r) (C.room r) (X.room r);
     bound = C.bound;
     stop = C.stop;
+    cancel = C.cancel;
   }
 
-  -- nothing of the rest waits for the part's routers
+  -- nothing of the rest waits for the part's routers, or was sent by them and is held
   pub record IsApart (X : Rest E) : Type 0 where
     pub pending : (e : E) → X.mine (m.dst e) ≡ true → times m e X.pending ≡ 0
     pub kept : (e : E) → X.mine (m.dst e) ≡ true → times m e X.kept ≡ 0
+    pub held : (e : E) → X.mine (m.src e) ≡ true → times m e X.held ≡ 0
 
   -- the whole that a step at the part leads to
   abbrev pub lift : Rest E → Result (Core E) Refusal → Result (Core E) Refusal
@@ -125,6 +136,112 @@ module _ {S E : Type 0} (m : Simulation S E) where
               omega arith))
         ]
 
+    -- how often an event of the part stands in the whole
+    pub count_part : (e : E) (P Q : List E) → times m e P ≡ 0 → times m e (in_order (P ++ Q)) ≡ times m e Q
+    count_part e P Q none = let a = times-in_order e (P ++ Q) in let b = times-append m e P Q in omega arith
+
+    -- ---- what is held
+
+    to_send_none : (held : List E) → to_send m [] held ≡ []
+    to_send_none [] = refl
+    to_send_none (h ∷ held) = refl
+
+    to_send_next : (x : E) (xs held : List E) → to_send m (x ∷ xs) held ≡ (if nat_lt 0 (times m x held) then to_send m xs (take_out m x held) else x ∷ to_send m xs held)
+    to_send_next x xs [] = refl
+    to_send_next x xs (h ∷ held) = refl
+
+    still_held_none : (held : List E) → still_held m [] held ≡ held
+    still_held_none [] = refl
+    still_held_none (h ∷ held) = refl
+
+    still_held_next : (x : E) (xs held : List E) → still_held m (x ∷ xs) held ≡ still_held m xs (take_out m x held)
+    still_held_next x xs [] = sym (still_held_empty xs) where
+      still_held_empty : (xs : List E) → still_held m xs [] ≡ []
+      still_held_empty [] = refl
+      still_held_empty (x ∷ xs) = refl
+    still_held_next x xs (h ∷ held) = refl
+
+    -- none of these is held for the rest
+    abbrev AreApart : List E → List E → Type 0
+    AreApart xs P = (x : E) → 0 < times m x xs → times m x P ≡ 0
+
+    first_apart : (x : E) (xs P : List E) → AreApart (x ∷ xs) P → times m x P ≡ 0
+    first_apart x xs P apart = apart x (in_head m law x xs)
+
+    later_apart : (x : E) (xs P : List E) → AreApart (x ∷ xs) P → AreApart xs P
+    later_apart x xs P apart = λ y h. apart y (omega arith)
+
+    -- what goes out of what the part sends does not depend on what is held for the rest
+    to_send_part : (xs P Q : List E) → AreApart xs P → to_send m xs (in_order (P ++ Q)) ≡ to_send m xs Q
+    to_send_part [] P Q apart = to_send_none (in_order (P ++ Q)) ∙ sym (to_send_none Q)
+    to_send_part (x ∷ xs) P Q apart =
+        let none = first_apart x xs P apart in
+        let rest = later_apart x xs P apart in
+        to_send_next x xs (in_order (P ++ Q))
+        ∙ (ap (λ n. if nat_lt 0 n then to_send m xs (take_out m x (in_order (P ++ Q))) else x ∷ to_send m xs (in_order (P ++ Q))) (count_part x P Q none)
+        ∙ (elim (cases_Bool (nat_lt 0 (times m x Q))) [
+          | inl some ↦ rw some (ap (to_send m xs) (take_part x P Q none) ∙ to_send_part xs P (take_out m x Q) rest)
+          | inr absent ↦ rw absent (ap (λ ys. x ∷ ys) (to_send_part xs P Q rest))
+        ]
+        ∙ sym (to_send_next x xs Q)))
+
+    -- and what is held still is the part's and the rest's
+    still_held_part : (xs P Q : List E) → AreApart xs P → still_held m xs (in_order (P ++ Q)) ≡ in_order (P ++ still_held m xs Q)
+    still_held_part [] P Q apart = still_held_none (in_order (P ++ Q)) ∙ ap (λ ys. in_order (P ++ ys)) (sym (still_held_none Q))
+    still_held_part (x ∷ xs) P Q apart =
+        still_held_next x xs (in_order (P ++ Q))
+        ∙ (ap (still_held m xs) (take_part x P Q (first_apart x xs P apart))
+        ∙ (still_held_part xs P (take_out m x Q) (later_apart x xs P apart)
+        ∙ ap (λ ys. in_order (P ++ ys)) (sym (still_held_next x xs Q))))
+
+    held_back_part : (cancel : Cancel) (xs P Q : List E) → held_back m cancel xs (in_order (P ++ Q)) ≡ in_order (P ++ held_back m cancel xs Q)
+    held_back_part Aggressive xs P Q = refl
+    held_back_part Lazy xs P Q =
+        same_rising m law (insert_all m xs (in_order (P ++ Q))) (in_order (P ++ insert_all m xs Q)) (rising-insert_all m law xs (in_order (P ++ Q)) (rising-in_order (P ++ Q)))
+        (rising-in_order (P ++ insert_all m xs Q))
+        (λ x.
+        let a = times-insert_all m x xs (in_order (P ++ Q)) in
+        let b = times-in_order x (P ++ Q) in
+        let c = times-append m x P Q in
+        let d = times-in_order x (P ++ insert_all m xs Q) in
+        let f = times-append m x P (insert_all m xs Q) in
+        let g = times-insert_all m x xs Q in
+        omega arith)
+
+    -- what router r holds of the whole is what it holds of the part, where that is in order
+    from_part : (r : ℕ) (P Q : List E) → ((e : E) → (m.src e == r) ≡ true → times m e P ≡ 0) → IsRising m Q → from m r (in_order (P ++ Q)) ≡ from m r Q
+    from_part r P Q apart rising =
+        let own = λ (x : E). m.src x == r in
+        same_rising m law (from m r (in_order (P ++ Q))) (from m r Q) (rising-filter m law own (in_order (P ++ Q)) (rising-in_order (P ++ Q))) (rising-filter m law own Q rising)
+        (λ e. elim (cases_Bool (m.src e == r)) [
+          | inl here ↦ times-filter-yes m law own e (in_order (P ++ Q)) here ∙ (count_part e P Q (apart e here) ∙ sym (times-filter-yes m law own e Q here))
+          | inr other ↦ times-filter-no m law own e (in_order (P ++ Q)) other ∙ sym (times-filter-no m law own e Q other)
+        ])
+
+    from_others_part : (r : ℕ) (P Q : List E) → ((e : E) → (m.src e == r) ≡ true → times m e P ≡ 0) → from_others m r (in_order (P ++ Q)) ≡ in_order (P ++ from_others m r Q)
+    from_others_part r P Q apart =
+        let others = λ (x : E). not (m.src x == r) in
+        same_rising m law (from_others m r (in_order (P ++ Q))) (in_order (P ++ from_others m r Q)) (rising-filter m law others (in_order (P ++ Q)) (rising-in_order (P ++ Q)))
+        (rising-in_order (P ++ from_others m r Q))
+        (λ e.
+        let b = times-in_order e (P ++ Q) in
+        let c = times-append m e P Q in
+        let d = times-in_order e (P ++ from_others m r Q) in
+        let f = times-append m e P (from_others m r Q) in
+        elim (cases_Bool (m.src e == r)) [
+          | inl here ↦ (
+              let no : not (m.src e == r) ≡ false = rw here refl in
+              let a = times-filter-no m law others e (in_order (P ++ Q)) no in
+              let g = times-filter-no m law others e Q no in
+              let none = apart e here in
+              omega arith)
+          | inr other ↦ (
+              let yes : not (m.src e == r) ≡ true = rw other refl in
+              let a = times-filter-yes m law others e (in_order (P ++ Q)) yes in
+              let g = times-filter-yes m law others e Q yes in
+              omega arith)
+        ])
+
     -- the least event does not depend on the order of a list
     pub same_least : (xs ys : List E) → ((e : E) → times m e xs ≡ times m e ys) → least m.before xs ≡ least m.before ys
     same_least xs ys h = go (least m.before xs) (least m.before ys) refl refl where
@@ -152,20 +269,40 @@ module _ {S E : Type 0} (m : Simulation S E) where
       same_done : (C : Core E) (r : ℕ) → X.mine r ≡ true → (whole X C).done r ≡ C.done r
       same_done C r own = rw own refl
 
+      same_ahead : (C : Core E) (r : ℕ) → X.mine r ≡ true → count_ahead (whole X C) r ≡ count_ahead C r
+      same_ahead C r own = rw own refl
+
+      same_room : (C : Core E) (r : ℕ) → X.mine r ≡ true → (whole X C).room r ≡ C.room r
+      same_room C r own = rw own refl
+
+      -- what one of the part's routers sends is not held for the rest
+      sends_apart : (s : S) (e : E) → X.mine (m.dst e) ≡ true → AreApart (m.sends s e) X.held
+      sends_apart s e own = λ x h. apart.held x (ap X.mine (law.sender s e x h) ∙ own)
+
+      own_apart : (r : ℕ) → X.mine r ≡ true → (e : E) → (m.src e == r) ≡ true → times m e X.held ≡ 0
+      own_apart r own e here = apart.held e (ap X.mine (eqb-true (m.src e) r here) ∙ own)
+
       -- ---- what steps leave
 
       pub handling_whole : (C : Core E) (r : ℕ) (e : E) → X.mine r ≡ true → m.dst e ≡ r → after_handling m (whole X C) r e ≡ whole X (after_handling m C r e)
       handling_whole C r e own home =
           let here = same_history C r own in
           let none = apart.pending e (ap X.mine home ∙ own) in
+          let sends = m.sends (state m r (C.history r)) e in
+          let sent_apart = sends_apart (state m r (C.history r)) e (ap X.mine home ∙ own) in
+          let known : m.sends (state m r ((whole X C).history r)) e ≡ sends = ap (λ h. m.sends (state m r h) e) here in
           λ i. record {
             history = (ap (λ h. put (whole X C).history r (e ∷ h)) here ∙ sym (put_within X.mine C.history X.history r (e ∷ C.history r) own)) i;
             pending = take_part e X.pending C.pending none i;
             kept = in_order (X.kept ++ C.kept);
-            flight = C.flight ++ map message (m.sends (state m r (here i)) e);
+            flight = C.flight ++ map message ((ap (λ xs. to_send m xs (in_order (X.held ++ C.held))) known ∙ to_send_part sends X.held C.held sent_apart) i);
+            held = (ap (λ xs. still_held m xs (in_order (X.held ++ C.held))) known ∙ still_held_part sends X.held C.held sent_apart) i;
             done = (whole X C).done;
+            past = (whole X C).past;
+            room = (whole X C).room;
             bound = C.bound;
             stop = C.stop;
+            cancel = C.cancel;
           }
 
       pub undoing_whole : (C : Core E) (r : ℕ) (e : E) (older : List E) → X.mine r ≡ true → after_undoing m (whole X C) r e older ≡ whole X (after_undoing m C r e older)
@@ -173,10 +310,14 @@ module _ {S E : Type 0} (m : Simulation S E) where
         history = sym (put_within X.mine C.history X.history r older own) i;
         pending = insert_part e X.pending C.pending i;
         kept = in_order (X.kept ++ C.kept);
-        flight = C.flight ++ map antimessage (m.sends (state m r older) e);
+        flight = C.flight ++ sent_back m C.cancel (m.sends (state m r older) e);
+        held = held_back_part C.cancel (m.sends (state m r older) e) X.held C.held i;
         done = (whole X C).done;
+        past = (whole X C).past;
+        room = (whole X C).room;
         bound = C.bound;
         stop = C.stop;
+        cancel = C.cancel;
       }
 
       while_whole : (test : E → Bool) (r : ℕ) (xs : List E) (C : Core E) → X.mine r ≡ true
@@ -197,9 +338,6 @@ module _ {S E : Type 0} (m : Simulation S E) where
 
       without_pending_whole : (C : Core E) (e : E) → X.mine (m.dst e) ≡ true → without_pending m (whole X C) e ≡ whole X (without_pending m C e)
       without_pending_whole C e own = ap (λ p. record (whole X C) { pending = p }) (take_part e X.pending C.pending (apart.pending e own))
-
-      count_part : (e : E) (P Q : List E) → times m e P ≡ 0 → times m e (in_order (P ++ Q)) ≡ times m e Q
-      count_part e P Q none = let a = times-in_order e (P ++ Q) in let b = times-append m e P Q in omega arith
 
       message_whole : (C : Core E) (e : E) → X.mine (m.dst e) ≡ true → after_message m (whole X C) e ≡ whole X (after_message m C e)
       message_whole C e own =
@@ -233,7 +371,23 @@ module _ {S E : Type 0} (m : Simulation S E) where
           ]
 
       pub commit_whole : (C : Core E) (r : ℕ) → X.mine r ≡ true → with_commit m (whole X C) r ≡ whole X (with_commit m C r)
-      commit_whole C r own = ap (λ d. record (whole X C) { done = d }) (sym (put_within X.mine C.done X.done r C.bound own))
+      commit_whole C r own =
+          let count = λ (xs : List E). suffix_len (λ e. nat_lt (m.time e) C.bound) xs in
+          λ i. record (whole X C) {
+            done = sym (put_within X.mine C.done X.done r C.bound own) i;
+            past = (ap (λ xs. put (whole X C).past r (count xs)) (same_history C r own) ∙ sym (put_within X.mine C.past X.past r (count (C.history r)) own)) i;
+          }
+
+      pub room_whole : (C : Core E) (r : ℕ) → X.mine r ≡ true → with_room m (whole X C) r ≡ whole X (with_room m C r)
+      room_whole C r own =
+          ap (λ d. record (whole X C) { room = d }) (ap (λ n. put (whole X C).room r (2 * n)) (same_room C r own) ∙ sym (put_within X.mine C.room X.room r (2 * C.room r) own))
+
+      pub release_whole : (C : Core E) (r : ℕ) → X.mine r ≡ true → IsRising m C.held → with_release m (whole X C) r ≡ whole X (with_release m C r)
+      release_whole C r own rising =
+          λ i. record (whole X C) {
+            flight = C.flight ++ map antimessage (from_part r X.held C.held (own_apart r own) rising i);
+            held = from_others_part r X.held C.held (own_apart r own) i;
+          }
 
       -- ---- steps, refusals among them
 
@@ -255,13 +409,18 @@ module _ {S E : Type 0} (m : Simulation S E) where
           let here = same_history C r own in
           let next = handling_whole C r e own home in
           let done : Result (Core E) Refusal = Ok (after_handling m (whole X C) r e) in
-          ap (λ h. if nat_lt (m.time e) C.stop then (if is_newest m e h then Err Double else (if m.full (state m r h) e then Err CounterFull else done)) else Err Nothing) here
+          let ahead = same_ahead C r own in
+          let places = same_room C r own in
+          (λ i. if nat_lt (m.time e) C.stop then (if is_newest m e (here i) then Err Double else (if nat_lt (ahead i) (places i) then (if m.full (state m r (here i)) e then Err CounterFull else done) else Err AheadFull)) else Err Nothing)
           ∙ elim (cases_Bool (nat_lt (m.time e) C.stop)) [
             | inl soon ↦ elim (cases_Bool (is_newest m e (C.history r))) [
               | inl double ↦ rw (soon, double) refl
-              | inr new ↦ elim (cases_Bool (m.full (state m r (C.history r)) e)) [
-                | inl full ↦ rw (soon, new, full) refl
-                | inr room ↦ rw (soon, new, room) (ap Ok next)
+              | inr new ↦ elim (cases_Bool (nat_lt (count_ahead C r) (C.room r))) [
+                | inl place ↦ elim (cases_Bool (m.full (state m r (C.history r)) e)) [
+                  | inl full ↦ rw (soon, new, place, full) refl
+                  | inr fits ↦ rw (soon, new, place, fits) (ap Ok next)
+                ]
+                | inr none ↦ rw (soon, new, none) refl
               ]
             ]
             | inr late ↦ rw late refl
@@ -301,6 +460,8 @@ module _ {S E : Type 0} (m : Simulation S E) where
       λ e. times-in_order law e (X.pending ++ C.pending) ∙ times-append m e X.pending C.pending in
       let kept : (e : E) → times m e (whole X C).kept ≡ times m e X.kept + times m e C.kept =
       λ e. times-in_order law e (X.kept ++ C.kept) ∙ times-append m e X.kept C.kept in
+      let held : (e : E) → times m e (whole X C).held ≡ times m e X.held + times m e C.held =
+      λ e. times-in_order law e (X.held ++ C.held) ∙ times-append m e X.held C.held in
       record {
         falling = λ r. elim (cases_Bool (X.mine r)) [
           | inl own ↦ subst (IsFalling m) (history r own) (good.falling r)
@@ -308,7 +469,7 @@ module _ {S E : Type 0} (m : Simulation S E) where
         ];
         home = λ r e h. good.home r e (handled r e h);
         soon = λ r e h. good.soon r e (handled r e h);
-        late = λ e h. good.late e (let a = pending e in let b = kept e in omega arith);
+        late = λ e h. good.late e (let a = pending e in let b = kept e in let c = held e in omega arith);
         ahead = λ e x h k. good.ahead e x (let a = pending e in omega arith) (handled (m.dst e) x k);
         alone = λ e h. (
             let a = pending e in
@@ -318,7 +479,7 @@ module _ {S E : Type 0} (m : Simulation S E) where
             let second = both.1 in
             (omega arith, none (times m e (C.history (m.dst e))) (λ k. let l = handled (m.dst e) e k in omega arith)));
         suit = λ e h. good.suit e (elim (cases_eq (times m e (C.history (m.dst e))) 0) [
-          | inl unhandled ↦ (let a = pending e in let b = kept e in omega arith)
+          | inl unhandled ↦ (let a = pending e in let b = kept e in let c = held e in omega arith)
           | inr some ↦ (let l = handled (m.dst e) e (grind arith) in omega arith)
         ]);
       }

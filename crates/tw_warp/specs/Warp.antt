@@ -12,9 +12,10 @@ use Rattle.tw_model.specs.declared.limits.TheConstants.{LATEST}
 use Rattle.tw_shard.specs.Shard.{Shard}
 pub use Rattle.tw_shard.specs.Shard.{no_shard}
 use Rattle.tw_shard.specs.Shard as share
+use Rattle.tw_sim.specs.declared.machine.Cancel.TheVariants.{Aggressive}
 use Rattle.tw_sim.specs.declared.machine.Signed.{Signed}
 use Rattle.tw_sim.specs.declared.machine.Step.{Step}
-use Rattle.tw_sim.specs.declared.machine.Step.TheVariants.{Handle, Undo, Deliver, Bound, Commit}
+use Rattle.tw_sim.specs.declared.machine.Step.TheVariants.{Handle, Undo, Deliver, Bound, Commit, Release}
 use Rattle.tw_sim.specs.Ordered.{insert_all}
 use Rattle.tw_sim.specs.Owners.{owner}
 use Rattle.tw_sim.specs.Simulation.{Simulation}
@@ -29,8 +30,8 @@ pub record Warp : Type 0 where
   pub stop : ℕ
 
 -- the shard of this worker
-abbrev pub shard_of : Warp → ℕ → Shard
-shard_of w k = slice_index_or w.shards k no_shard
+abbrev pub shard_at : Warp → ℕ → Shard
+shard_at w k = slice_index_or w.shards k no_shard
 
 -- which worker has router r
 abbrev pub worker_of : Warp → ℕ → ℕ
@@ -39,13 +40,17 @@ worker_of w r = owner (length w.shards) r
 -- the machine: what waits, in order
 abbrev pub core : Warp → Core Event
 core w = record {
-  history = λ r. (share.core w.stop (shard_of w (worker_of w r))).history r;
+  history = λ r. (share.core w.stop (shard_at w (worker_of w r))).history r;
   pending = insert_all event_before (flat_map (λ s. s.pending) w.shards) [];
   kept = insert_all event_before (flat_map (λ s. s.kept) w.shards) [];
   flight = w.flight;
-  done = λ r. (share.core w.stop (shard_of w (worker_of w r))).done r;
+  held = [];
+  done = λ r. (share.core w.stop (shard_at w (worker_of w r))).done r;
+  past = λ r. (share.core w.stop (shard_at w (worker_of w r))).past r;
+  room = λ r. (share.core w.stop (shard_at w (worker_of w r))).room r;
   bound = w.bound;
   stop = w.stop;
+  cancel = Aggressive;
 }
 
 -- a shard as this worker's of the machine
@@ -67,7 +72,7 @@ pub record IsShare (w : Warp) (k : ℕ) (s : Shard) : Type 0 where
 pub record IsWarp (w : Warp) : Type 0 where
   pub case : IsCase w.case
   pub workers : 0 < length w.shards
-  pub shares : (k : ℕ) → k < length w.shards → IsShare w k (shard_of w k)
+  pub shares : (k : ℕ) → k < length w.shards → IsShare w k (shard_at w k)
   pub good : IsGood (simulation w.case) (core w)
   pub stop : w.stop ≤ LATEST
 
@@ -77,7 +82,7 @@ behind s messages = record s { outgoing = messages }
 
 -- worker k's shard, behind all messages on their way
 abbrev pub lent : Warp → ℕ → Shard
-lent w k = behind (shard_of w k) w.flight
+lent w k = behind (shard_at w k) w.flight
 
 -- the later machine has the same case, workers and stop
 pub record IsSameMachine (v w : Warp) : Type 0 where
@@ -111,3 +116,4 @@ module _ {S E : Type 0} (m : Simulation S E) where
   IsInterrupted (Deliver place) C D = IsCutShort place C D
   IsInterrupted Bound C D = ⊥
   IsInterrupted (Commit r) C D = D ≡ C
+  IsInterrupted (Release r) C D = D ≡ C

@@ -17,7 +17,7 @@ use tw_model::OrMemory;
 use tw_shard::Shard;
 use tw_sim::Signed;
 
-/// A call at one router of a shard. Each is a step of the machine.
+/// A call at one router of a shard. Each is a step of the machine, but for the one that gives more room.
 #[derive(Clone, Copy)]
 pub(crate) enum RouterCall {
     /// It handles its first pending event, if that is before the stop.
@@ -26,6 +26,10 @@ pub(crate) enum RouterCall {
     Undo,
     /// It commits its events before the bound, and keeps them.
     Commit,
+    /// What it holds is taken back.
+    Release,
+    /// It has twice the room for events that are not committed.
+    Widen,
 }
 
 /// A call at a router of a shard, which sends behind all messages on their way. The stop is at most
@@ -71,6 +75,8 @@ fn make(
         RouterCall::Handle => shard.handle_next(router, stop),
         RouterCall::Undo => shard.undo_last(router),
         RouterCall::Commit => shard.commit(router),
+        RouterCall::Release => shard.release(router),
+        RouterCall::Widen => shard.widen(router),
     }
 }
 

@@ -8,16 +8,11 @@
 
 mod calls;
 mod chunks;
-mod collecting;
-mod counts;
 mod flight;
 pub mod laws;
 mod least;
-mod opening;
 mod warp;
 
-pub use collecting::add_committed;
-pub use opening::open_shards;
 pub use tw_core::Refusal;
 pub use tw_model::OrMemory;
 pub use warp::{Answer, RunFault, StopLower, Warp};

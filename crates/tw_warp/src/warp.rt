@@ -1,39 +1,39 @@
 //! The machine of all routers, step by step.
 
-ghost use Rattle.std.specs.Prelude.{◌≡◌, true, ◌≤◌, ◌<◌, ◌↔◌, ℕ, Ok, Err, length, IsErrOf, IsOk, OnErr, OnOk, IfErr, IfOk, reverse};
-ghost use Rattle.tw_shard.specs.Shard.{owns};
-ghost use Rattle.tw_warp.specs.Calls.{step_of};
-ghost use Rattle.tw_warp.specs.Committed.{by_router, committed_events, count_ahead};
+ghost use Rattle.std.specs.List.{range_with_len};
+ghost use Rattle.std.specs.Prelude.{◌≡◌, ◌≤◌, ◌<◌, ◌↔◌, ℕ, Ok, Err, length, map, IsErrOf, IsOk, OnErr, OnOk, IfErr, IfOk, reverse};
+ghost use Rattle.tw_warp.specs.Calls.{outcome_of};
+ghost use Rattle.tw_warp.specs.Committed.{committed_events, count_ahead, end_at};
 ghost use Rattle.tw_warp.specs.Openings.{opening_machine};
 ghost use Rattle.tw_warp.specs.Runs.{IsBrokenOff};
 ghost use Rattle.tw_core.specs.declared.refusal.Refusal.{Refusal as ARefusal};
 ghost use Rattle.tw_core.specs.Machine.{IsOpening};
 ghost use Rattle.tw_core.specs.Run.{AreCommitted, IsSeq};
-ghost use Rattle.tw_core.specs.Steps.{answers as core_answers, least_loose, run as core_run, step as core_step};
+ghost use Rattle.tw_core.specs.Steps.{answers as core_answers, at_router, least_loose, run as core_run, step as core_step, with_room};
 ghost use Rattle.tw_model.specs.Case.{simulation};
 ghost use Rattle.tw_model.specs.declared.memory.OrMemory.TheVariants as or_memory;
 ghost use Rattle.tw_sim.specs.declared.machine.Step.TheVariants as steps;
 ghost use Rattle.tw_sim.specs.Seq.{log};
 ghost use Rattle.tw_sim.specs.Simulation.{state};
 ghost use Rattle.tw_model.specs.declared.limits.TheConstants.{LATEST};
-ghost use Rattle.tw_warp.specs.Warp.{IsCutShort, IsInterrupted, IsSameMachine, IsShare, IsWarp, core, message_at, shard_of, worker_of};
+ghost use Rattle.tw_warp.specs.Warp.{IsCutShort, IsInterrupted, IsSameMachine, IsShare, IsWarp, core, message_at, shard_at, worker_of};
 
 use crate::calls::{RouterCall, call_on, deliver_on};
-use crate::collecting::add_committed;
-use crate::counts::{sum_kept, sum_pending};
 use crate::flight::Flight;
 use crate::least::{least_waiting, raise_bounds};
-use crate::opening::open_shards;
 use std::alloc::{AllocError, Global};
 use std::marker::Model;
 use thiserror::Error;
 use tw_core::Refusal;
 use tw_event::Event;
 use tw_instance::Case;
-use tw_model::OrMemory;
 use tw_model::limits::LATEST;
+use tw_model::{OrMemory, RouterEnd};
 use tw_router::Router;
 use tw_shard::Shard;
+use tw_shard::shards::{
+    committed_events, count_ahead, count_kept, count_pending, open_all, router_ends, shard_for,
+};
 use tw_sim::{Signed, Step, owner};
 
 /// The stop would fall, or pass its limit.
@@ -91,7 +91,7 @@ impl<'a> Warp<'a> {
         ensures workers { IfOk result (λ warp. length warp.shards ≡ workers) }
         ensures stop { IfOk result (λ warp. warp.stop ≡ stop) }
     {
-        let shards = open_shards(alloc, case, workers, true)?;
+        let shards = open_all(alloc, case, workers, true)?;
         // What a case keeps is told by a read of it.
         let _ = case.instance();
         Ok(Warp {
@@ -107,9 +107,10 @@ impl<'a> Warp<'a> {
     ///
     /// `Handle` and `Undo` are refused as `NotMine` where there is no such router; `Handle` as `Nothing`
     /// where none of its pending events is before the stop, as `Double` where the first of them equals the
-    /// event that it handled last, and as `CounterFull` where a counter would pass its limit; `Undo` as
-    /// `Nothing` where it has handled nothing, and as `Committed` where the event that it handled last is
-    /// before the bound; `Deliver` as `NoMessage` where no message has that place; and `Commit` as `NotMine`.
+    /// event that it handled last, as `AheadFull` where it has no room for one more that is not committed, and
+    /// as `CounterFull` where a counter would pass its limit; `Undo` as `Nothing` where it has handled nothing,
+    /// and as `Committed` where the event that it handled last is before the bound; `Deliver` as `NoMessage`
+    /// where no message has that place; and `Commit` and `Release` as `NotMine`.
     ///
     /// Where memory is refused, nothing has changed; but where a message was delivered, some of the events
     /// that its receiver has to undo for it may be undone, and the message is at its place still.
@@ -126,6 +127,7 @@ impl<'a> Warp<'a> {
             Step::Handle(router) => self.at_router(router, RouterCall::Handle),
             Step::Undo(router) => self.at_router(router, RouterCall::Undo),
             Step::Commit(router) => self.at_router(router, RouterCall::Commit),
+            Step::Release(router) => self.at_router(router, RouterCall::Release),
             Step::Deliver(place) => self.deliver(place),
             Step::Bound => {
                 self.advance_bound();
@@ -165,6 +167,23 @@ impl<'a> Warp<'a> {
             }
         }
         Ok(answers)
+    }
+
+    /// Doubles for how many events that are not committed a router has room; nothing else changes. A router
+    /// begins with room for 256, and `Handle` is refused as `AheadFull` where it has none left.
+    ///
+    /// It is refused as `NotMine` where there is no such router. `Memory` is the answer where the number would
+    /// not fit a `usize`. Then nothing has changed.
+    pub fn widen(&mut self, router: u32) -> Result<(), OrMemory<Refusal>>
+        ensures ok { OnOk result (at_router (simulation self.old.case) router (Ok (with_room (simulation self.old.case) (core self.old) router)) ≡ Ok (core self.new)) }
+        ensures refused { (f : ARefusal) → IsErrOf result (or_memory.Fault f)
+            ↔ (at_router (simulation self.old.case) router (Ok (with_room (simulation self.old.case) (core self.old) router)) ≡ Err f) }
+        ensures err { OnErr result (self.new ≡ self.old) }
+        ensures bound { self.new.bound ≡ self.old.bound }
+        ensures same { IsSameMachine self.old self.new }
+        ensures seq { IsSeq (simulation self.new.case) (core self.new) }
+    {
+        self.at_router(router, RouterCall::Widen)
     }
 
     /// The stop becomes this one, in ticks. It is refused where it would fall, or pass 1,000,000,000; then
@@ -233,7 +252,7 @@ impl<'a> Warp<'a> {
     /// The shard of a worker, from 0. It keeps the committed events of its routers.
     pub fn shard(&self, worker: usize) -> &Shard<'a>
         requires { worker < length self.now.shards }
-        ensures value { result.now ≡ shard_of self.now worker }
+        ensures value { result.now ≡ shard_at self.now worker }
         ensures share { IsShare self.now worker result.now }
     {
         &self.shards[worker]
@@ -244,7 +263,7 @@ impl<'a> Warp<'a> {
         requires { router < self.now.case.net.nodes }
         ensures { result.now ≡ record { net = self.now.case.net; node = router; state = state (simulation self.now.case) router ((core self.now).history router) } }
     {
-        self.shard_for(router).router(router)
+        shard_for(&self.shards, router).router(router)
     }
 
     /// The committed events of all routers, in their order. Where all that is handled below the bound is
@@ -253,57 +272,37 @@ impl<'a> Warp<'a> {
         ensures value { IfOk result (λ v. v.items ≡ committed_events self.now) }
         ensures run { AreCommitted (simulation self.now.case) (core self.now) → IfOk result (λ v. v.items ≡ reverse (log (simulation self.now.case) self.now.bound)) }
     {
-        let mut events = self.committed_by_router()?;
-        events.sort_unstable();
+        let events = committed_events(*self.shards.allocator(), self.case, &self.shards)?;
         Ok(events)
     }
 
-    /// The committed events of each router in turn.
-    fn committed_by_router(&self) -> Result<Vec<Event>, AllocError>
-        ensures events { IfOk result (λ v. v.items ≡ by_router self.now) }
-        ensures machine { IsWarp self.now }
+    /// How each router stands, after all that it has handled, committed or not.
+    pub fn router_ends(&self) -> Result<Vec<RouterEnd>, AllocError>
+        ensures { IfOk result (λ ends. ends.items ≡ map (end_at self.now.case (core self.now)) (range_with_len 0 self.now.case.net.nodes)) }
     {
-        let mut events = Vec::new(*self.shards.allocator());
-        for router in 0..self.case.instance().nodes() {
-            add_committed(self.shard_for(router), router, &mut events)?;
-        }
-        Ok(events)
-    }
-
-    /// The shard that has this router.
-    fn shard_for(&self, router: u32) -> &Shard<'a>
-        requires { router < self.now.case.net.nodes }
-        ensures value { result.now ≡ shard_of self.now (worker_of self.now router) }
-        ensures own { owns result.now router ≡ true }
-        ensures keeps { result.now.keeps ≡ true }
-        ensures machine { IsWarp self.now }
-    {
-        &self.shards[self.worker_of(router)]
+        let ends = router_ends(*self.shards.allocator(), self.case, &self.shards)?;
+        Ok(ends)
     }
 
     /// How many events are handled and not committed.
     pub fn ahead(&self) -> u128
         ensures { result ≡ count_ahead self.now }
     {
-        let mut count = 0_u128;
-        for router in 0..self.case.instance().nodes() {
-            count += self.shard_for(router).ahead(router) as u128;
-        }
-        count
+        count_ahead(self.case, &self.shards)
     }
 
     /// How many events are pending, each as often as it is.
     pub fn pending_len(&self) -> u128
         ensures { result ≡ length (core self.now).pending }
     {
-        sum_pending(&self.shards)
+        count_pending(&self.shards)
     }
 
     /// How many antimessages came before their message and are kept.
     pub fn kept_len(&self) -> u128
         ensures { result ≡ length (core self.now).kept }
     {
-        sum_kept(&self.shards)
+        count_kept(&self.shards)
     }
 
     /// The worker that has this router.
@@ -316,8 +315,8 @@ impl<'a> Warp<'a> {
 
     /// A call at a router.
     fn at_router(&mut self, router: u32, call: RouterCall) -> Result<(), OrMemory<Refusal>>
-        ensures ok { OnOk result (core_step (simulation self.old.case) (core self.old) (step_of call router) ≡ Ok (core self.new)) }
-        ensures refused { (f : ARefusal) → IsErrOf result (or_memory.Fault f) ↔ (core_step (simulation self.old.case) (core self.old) (step_of call router) ≡ Err f) }
+        ensures ok { OnOk result (outcome_of (simulation self.old.case) call router (core self.old) ≡ Ok (core self.new)) }
+        ensures refused { (f : ARefusal) → IsErrOf result (or_memory.Fault f) ↔ (outcome_of (simulation self.old.case) call router (core self.old) ≡ Err f) }
         ensures err { OnErr result (self.new ≡ self.old) }
         ensures bound { self.new.bound ≡ self.old.bound }
         ensures same { IsSameMachine self.old self.new }

@@ -34,6 +34,7 @@ module _ {S E : Type 0} (m : Simulation S E) where
       };
       history = is.history;
       waiting = is.waiting;
+      held = is.held;
       done = λ q. elim (cases_Bool (q == r)) [
         | inl same ↦ rw same (omega arith)
         | inr other ↦ rw other (is.done q)

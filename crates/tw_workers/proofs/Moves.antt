@@ -92,6 +92,7 @@ module _ {S E : Type 0} (m : Simulation S E) (law : IsLawful m) where
             | inl l ↦ own e l
             | inr ge ↦ place.waiting e (omega arith)
           ];
+          held = place.held;
           done = place.done;
         };
         late = λ t from e h. from e (let a = same_messages e in let b = same_antimessages e in omega arith);

@@ -1,19 +1,22 @@
 -- What calls at a shard and at a hand keep of a worker's share.
-use Rattle.std.proofs.Common.{◌≡◌, ℕ, zero, suc, ◌+◌, ◌<◌, ◌≤◌, ◌==◌, ◌&&◌, nat_lt, true, false, List, [], ◌∷◌, drop, length, get_or, Ok, Err, Some, remove, slice_get, refl, ap, sym, ◌∙◌, subst, inl, inr, arith, if◌then◌else◌}
+use Rattle.std.proofs.Common.{◌≡◌, ℕ, zero, suc, ◌+◌, ◌<◌, ◌≤◌, ◌==◌, ◌&&◌, nat_lt, true, false, List, [], ◌∷◌, drop, length, get_or, Result, Ok, Err, Some, remove, slice_get, refl, ap, sym, ◌∙◌, subst, inl, inr, arith, if◌then◌else◌}
 use Rattle.std.proofs.lemmas.Bool.{cases_Bool, ltb-true}
 use Rattle.std.proofs.lemmas.List.{at_drop_more}
-use Rattle.tw_core.specs.declared.refusal.Refusal.TheVariants.{NotMine}
-use Rattle.tw_core.specs.Steps.{IsRolledBack, after_arrival, first_pending, handle}
+use Rattle.tw_core.specs.declared.refusal.Refusal.TheVariants.{AheadFull, NotMine}
+use Rattle.tw_core.specs.declared.refusal.Refusal.{Refusal}
+use Rattle.tw_core.specs.Machine.{Core}
+use Rattle.tw_core.specs.Steps.{IsRolledBack, after_arrival, first_pending, handle, with_room}
 use Rattle.tw_event.specs.declared.event.Event.{Event}
 use Rattle.tw_model.proofs.Lawful.{lawful}
 use Rattle.tw_model.specs.Case.{Case, IsCase, simulation}
 use Rattle.tw_model.specs.Effect.{suits}
 use Rattle.tw_rule.proofs.Before.{kept_before}
-use Rattle.tw_rule.proofs.Calls.{hand_is_loose, hand_is_own, keeps_handle, keeps_receive, keeps_roll_back}
+use Rattle.tw_rule.proofs.Calls.{hand_is_loose, hand_is_own, keeps_handle, keeps_receive, keeps_roll_back, keeps_widen}
 use Rattle.tw_rule.specs.Place.{IsFrom, IsPlace, IsRunBefore, Keeps, with_core}
 use Rattle.std.specs.Result.{result_and}
 use Rattle.tw_shard.specs.Arrival.{receiving, refusing}
-use Rattle.tw_shard.specs.Shard.{IsSameShare, Shard, core, handling, owns}
+use Rattle.tw_shard.specs.Shard.{IsSameShare, Shard, core, handling, owns, widening}
+use Rattle.tw_sim.specs.declared.machine.Cancel.TheVariants.{Aggressive}
 use Rattle.tw_sim.specs.declared.machine.Signed.{Signed}
 use Rattle.tw_sim.specs.Owners.{owner}
 use Rattle.tw_table.specs.Shares.{Share, place_of}
@@ -30,8 +33,12 @@ place_after stop s t same mail unsent = λ i. record {
   pending = t.shard.pending;
   kept = t.shard.kept;
   outgoing = t.shard.outgoing;
+  held = [];
   done = (core 0 t.shard).done;
+  past = (core 0 t.shard).past;
+  room = (core 0 t.shard).room;
   bound = t.shard.bound;
+  cancel = Aggressive;
   mail = mail i;
   unsent = unsent i;
 }
@@ -176,3 +183,38 @@ kept_handled stop r s t work same done mail unsent =
     let at_own : next ≡ Ok (core stop t.shard) = sym (ap (λ b. if b then next else Err NotMine) own) ∙ done in
     let keeps = keeps_handle m (lawful s.shard.case work.case) stop r (place_of s) (core stop t.shard) work.place at_own in
     record { case = same.case; workers = same.workers; keeping = same.keeps; place = subst (Keeps m stop (place_of s)) (sym (place_after stop s t same mail unsent)) keeps }
+
+-- a router that has no room is one of its own
+pub own_full : (stop r : ℕ) (s : Shard) → handling stop s r ≡ Err AheadFull → owns s r ≡ true
+own_full stop r s full =
+    elim (cases_Bool (owns s r)) [
+      | inl own ↦ own
+      | inr other ↦
+          let m = simulation s.case in
+          let refused : handling stop s r ≡ Err NotMine = ap (λ b. if b then handle m (core stop s) r (first_pending m (core stop s) r) else Err NotMine) other in
+          absurd (cc (refused, full))
+    ]
+
+-- a router of its own has more room
+pub kept_widened : (stop r : ℕ) (s : Share) (t : Shard) → IsAtWork stop s → IsSameShare s.shard t → owns s.shard r ≡ true → widening stop s.shard r ≡ Ok (core stop t)
+    → Kept stop s (record s { shard = t })
+kept_widened stop r s t work same own done =
+    let m = simulation s.shard.case in
+    let wide : Result (Core Event) Refusal = Ok (with_room m (core stop s.shard) r) in
+    let at_own : wide ≡ Ok (core stop t) = sym (ap (λ b. if b then wide else Err NotMine) own) ∙ done in
+    let reached : with_room m (core stop s.shard) r ≡ core stop t = cc at_own in
+    let made : with_core (with_room m (core stop s.shard) r) (place_of s) ≡ place_of (record s { shard = t })
+    = (λ i. with_core (reached i) (place_of s)) ∙ sym (place_after stop s (record s { shard = t }) same refl refl) in
+    record {
+      case = same.case;
+      workers = same.workers;
+      keeping = same.keeps;
+      place = subst (Keeps m stop (place_of s)) made (keeps_widen m (lawful s.shard.case work.case) stop r (place_of s) work.place);
+    }
+
+-- it is not refused
+pub no_widening_refusal : (stop : ℕ) (s : Shard) (r : ℕ) (f : Refusal) → owns s r ≡ true → widening stop s r ≡ Err f → ⊥
+no_widening_refusal stop s r f own refused =
+    let done : widening stop s r ≡ Ok (with_room (simulation s.case) (core stop s) r) =
+    ap (λ b. if b then Ok (with_room (simulation s.case) (core stop s) r) else Err NotMine) own in
+    cc (done, refused)

@@ -33,7 +33,7 @@ impl<'a> Worker<'a> {
 }
 
 /// One of a shard's routers commits its events before the bound, which are the one-thread run.
-fn commit_at(shard: &mut Shard<'_>, router: u32) -> Result<(), AllocError>
+pub(crate) fn commit_at(shard: &mut Shard<'_>, router: u32) -> Result<(), AllocError>
     requires own { owns shard.old router ≡ true }
     requires run { HasRun shard.old router }
     ensures ok { (stop : ℕ) → OnOk result (core stop shard.new ≡ with_commit (simulation shard.old.case) (core stop shard.old) router) }

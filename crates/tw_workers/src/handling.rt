@@ -139,7 +139,8 @@ impl<'a> Worker<'a> {
     }
 
     /// The router of an event handles its first pending event, if that is before the stop and is not the
-    /// event that it handled last, which then waits for its antimessage.
+    /// event that it handled last, which then waits for its antimessage. Where it has no room for one more that is
+    /// not committed, room is made, or the event waits until the bound has risen.
     fn handle_at(&mut self, event: Event) -> Result<bool, OrMemory<CounterFull>>
         ensures kept { StillKeeps self.old self.new }
         ensures full { IsErrOf result (or_memory.Fault counter_full)
@@ -155,6 +156,7 @@ impl<'a> Worker<'a> {
             }
             Err(OrMemory::Memory) => Err(OrMemory::Memory),
             Err(OrMemory::Fault(Refusal::CounterFull)) => Err(OrMemory::Fault(CounterFull)),
+            Err(OrMemory::Fault(Refusal::AheadFull)) => Ok(self.make_room(&event)?),
             Err(OrMemory::Fault(_)) => Ok(false),
         }
     }

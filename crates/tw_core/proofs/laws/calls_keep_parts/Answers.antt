@@ -1,4 +1,4 @@
-use Rattle.tw_core.proofs.Steps.{deliver_keeps, handle_keeps, undo_keeps, undoing_keeps}
+use Rattle.tw_core.proofs.Steps.{deliver_keeps, handle_keeps, release_keeps, undo_keeps, undoing_keeps, widen_keeps}
 use Rattle.tw_core.proofs.laws.calls_keep_parts.Goals as goal
 
 pub returns-clause-handle : goal.returns-clause-handle
@@ -12,3 +12,9 @@ returns-clause-deliver c = λ start m law t C D k good h. deliver_keeps m law t 
 
 pub returns-clause-undoing : goal.returns-clause-undoing
 returns-clause-undoing c = λ start m law t C r e older late good newest. undoing_keeps m law t C r e older late good newest
+
+pub returns-clause-release : goal.returns-clause-release
+returns-clause-release c = λ start m law t C r good. release_keeps m law t C r good
+
+pub returns-clause-widen : goal.returns-clause-widen
+returns-clause-widen c = λ start m law t C r good. widen_keeps m law t C r good

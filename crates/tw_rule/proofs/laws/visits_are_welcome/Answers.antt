@@ -10,7 +10,7 @@ returns-clause-tells c = λ start m law p. tells_all m law p
 
 pub returns-clause-empty : goal.returns-clause-empty
 returns-clause-empty c = λ start m p none.
-    let told = reduce min (map (λ e. m.time e) (p.pending ++ p.kept)) in
+    let told = reduce min (map (λ e. m.time e) (p.pending ++ p.kept ++ p.held)) in
     ap (λ xs. least_report m told xs) none ∙ none_told m told
 
 pub returns-clause-report : goal.returns-clause-report

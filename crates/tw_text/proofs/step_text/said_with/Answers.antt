@@ -22,3 +22,9 @@ returns-in_err-router_of-in-commit c = search (rules, text_from_reads)
 
 pub returns-in_err-number_of-in-deliver : goal.returns-in_err-number_of-in-deliver
 returns-in_err-number_of-in-deliver c = search (rules, text_from_reads)
+
+pub returns-in_ok-router_of-in-release : goal.returns-in_ok-router_of-in-release
+returns-in_ok-router_of-in-release c = search (rules, text_from_reads)
+
+pub returns-in_err-router_of-in-release : goal.returns-in_err-router_of-in-release
+returns-in_err-router_of-in-release c = search (rules, text_from_reads)

@@ -1,18 +1,29 @@
-use Rattle.std.specs.List.{range_with_len}
-use Rattle.tw_parallel.proofs.Owners.{good_of, seq_of}
-use Rattle.tw_parallel.specs.Sim.{machine}
-use Rattle.tw_warp.proofs.CommittedEvents.{sorted_of}
+use Rattle.std.proofs.Common.{ap, sym, ◌∙◌, subst}
+use Rattle.tw_core.specs.Run.{IsSeq}
+use Rattle.tw_model.specs.Case.{simulation}
+use Rattle.tw_parallel.proofs.Owners.{have_all, keep_all, same_committed, seq_of}
+use Rattle.tw_parallel.specs.Inside.{sim_of}
+use Rattle.tw_parallel.specs.Sim.{KeepsEvents, Sim, committed_events, machine}
+use Rattle.tw_shard.specs.Shards.{HaveAll, KeepAll, committed_of_all}
 use Rattle.tw_parallel.proofs.sim.Sim.committed.Goals as goal
 
+pub committed_events-requires : goal.committed_events-requires
+committed_events-requires c =
+    let a = c.self.inside in
+    let s = sim_of a in
+    record {
+      all = subst (HaveAll s.case) (sym c.deref.ensures.value) (have_all a c.self.invariant);
+      kept = subst (KeepAll s.case) (sym c.deref.ensures.value) (keep_all a c.self.invariant (subst KeepsEvents (sym c.self.view_is) c.requires));
+    }
+
 pub returns-in_err-events-clause-seq : goal.returns-in_err-events-clause-seq
-returns-in_err-events-clause-seq c = seq_of _ c.committed_by_router.ensures.sim
+returns-in_err-events-clause-seq c = subst (λ (s : Sim). IsSeq (simulation s.case) (machine s)) c.self.view_is (seq_of _ c.self.invariant.sim)
 
 pub returns-clause-value : goal.returns-clause-value
 returns-clause-value c =
-    let s = c.args.self.now in
-    let is = c.committed_by_router.ensures.sim in
-    sorted_of s.case is.ruled.is_case (machine s) (good_of s is).falling (range_with_len 0 s.case.net.nodes) c.in_ok-events.events.items c.sort_unstable.new.self.items
-    c.in_ok-events.ensures.events c.sort_unstable.ensures.permutation c.sort_unstable.ensures.sorted
+    let a = c.self.inside in
+    c.in_ok-events.ensures
+    ∙ (ap (committed_of_all (sim_of a).case) c.deref.ensures.value ∙ (same_committed a c.self.invariant ∙ ap committed_events c.self.view_is))
 
 pub returns-clause-seq : goal.returns-clause-seq
-returns-clause-seq c = seq_of _ c.committed_by_router.ensures.sim
+returns-clause-seq c = subst (λ (s : Sim). IsSeq (simulation s.case) (machine s)) c.self.view_is (seq_of _ c.self.invariant.sim)

@@ -17,7 +17,7 @@ with c x = record { case = c.args.case.now; board = x; shares = shares_of c.in_o
 pub invariant_of-result : goal.invariant_of-result
 invariant_of-result c = record {
   sim = subst (λ x. IsSim (with c x)) (sym c.in_ok-exchange.ensures)
-      (new_is c.args.case.now c.instance.ensures.case c.args.workers c.requires c.in_ok-shards.shards.items c.in_ok-hands.hands.items
+      (new_is c.args.case.now c.instance.ensures.case c.args.workers c.args.keeps c.requires c.in_ok-shards.shards.items c.in_ok-hands.hands.items
       c.in_ok-shards.ensures.count (same c) c.in_ok-shards.ensures.each c.in_ok-hands.ensures.empty);
   hands = same c;
 }
@@ -25,10 +25,10 @@ invariant_of-result c = record {
 pub returns-clause-opens : goal.returns-clause-opens
 returns-clause-opens c =
     subst (λ x. IsOpening (simulation c.args.case.now) (machine (with c x))) (sym c.in_ok-exchange.ensures)
-    (new_opens c.args.case.now c.instance.ensures.case c.args.workers c.requires c.in_ok-shards.shards.items c.in_ok-hands.hands.items
+    (new_opens c.args.case.now c.instance.ensures.case c.args.workers c.args.keeps c.requires c.in_ok-shards.shards.items c.in_ok-hands.hands.items
     c.in_ok-shards.ensures.count (same c) c.in_ok-shards.ensures.each c.in_ok-hands.ensures.empty)
 
 pub returns-clause-keeps : goal.returns-clause-keeps
 returns-clause-keeps c = λ is.
     let shards = c.in_ok-shards.shards.items in
-    all_keep shards c.in_ok-hands.hands.items (λ k h. c.in_ok-shards.ensures.keeps k (let many = c.in_ok-shards.ensures.count in omega arith) ∙ is)
+    all_keep shards c.in_ok-hands.hands.items (λ k h. (c.in_ok-shards.ensures.each k (let many = c.in_ok-shards.ensures.count in omega arith)).keeps_are ∙ is)

@@ -9,7 +9,7 @@ use Rattle.tw_shard.proofs.shard.Shard.commit.Goals as goal
 pub returns-clause-ok : goal.returns-clause-ok
 returns-clause-ok c = λ stop.
     let mine = sym c.owns.ensures.value ∙ c.if-not-owns.false in
-    goes c.args.self.now c.args.router c.owns.ensures.whole mine stop ∙ ap (λ s. Ok (core stop s)) (sym c.in_ok-commit_own.ensures.ok)
+    goes c.args.self.now c.args.router c.owns.ensures.whole mine c.in_ok-commit_own.ensures.early stop ∙ ap (λ s. Ok (core stop s)) (sym c.in_ok-commit_own.ensures.ok)
 
 pub returns-clause-past : goal.returns-clause-past
 returns-clause-past c =

@@ -28,8 +28,12 @@ invariant_of-result c = record {
   kept = c.in_ok-kept.ensures.routers ∙ (c.nodes.ensures.value ∙ ap (λ net. net.nodes) c.instance-instance.ensures.value);
 }
 
-pub returns-clause-core : goal.returns-clause-core
-returns-clause-core c = core_begun (shard_of c) (is_begun c)
-
-pub returns-clause-routers : goal.returns-clause-routers
-returns-clause-routers c = opened (shard_of c) (is_begun c)
+pub returns : goal.returns
+returns c = record {
+  core_is = core_begun (shard_of c) (is_begun c);
+  routers = opened (shard_of c) (is_begun c);
+  case_is = refl;
+  worker = refl;
+  count = refl;
+  keeps_are = refl;
+}

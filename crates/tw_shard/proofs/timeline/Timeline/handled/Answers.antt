@@ -1,4 +1,4 @@
-use Rattle.std.proofs.Common.{◌≡◌, ◌-◌, ◌≤◌, length, reverse, slice_get, ap, ap₂, ◌∙◌, arith}
+use Rattle.std.proofs.Common.{◌≡◌, ◌-◌, ◌≤◌, length, reverse, slice_get, ap, ◌∙◌, arith}
 use Rattle.tw_shard.specs.Timeline.{Timeline, events_of, history}
 use Rattle.tw_shard.proofs.Commits.{ahead_at}
 use Rattle.tw_shard.proofs.timeline.Timeline.handled.Goals as goal
@@ -11,6 +11,6 @@ returns-else-k-len c =
     let after : length a.past.events ≤ c.args.k = omega (arith, first) in
     let place : c.args.k - c.len-else-k-len.result ≡ c.args.k - length a.past.events = omega (arith, second) in
     c.event_at.ensures
-    ∙ (ap₂ (λ steps k. slice_get (events_of steps) k) c.deref.ensures.value place
-    ∙ (ahead_at a.past.events a.ahead.items c.args.k after
+    ∙ (ap (slice_get (events_of a.ahead)) place
+    ∙ (ahead_at a.past.events a.ahead c.args.k after
     ∙ ap (λ (t : Timeline). slice_get (reverse (history t)) c.args.k) c.self.view_is))

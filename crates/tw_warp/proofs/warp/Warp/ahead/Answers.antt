@@ -1,20 +1,14 @@
-use Rattle.std.proofs.Common.{◌+◌, ap, refl, ◌∙◌, arith}
-use Rattle.tw_warp.specs.Committed.{ahead_at}
-use Rattle.tw_warp.specs.Warp.{core, worker_of}
-use Rattle.tw_warp.proofs.CommittedEvents.{one_counted}
-use Rattle.tw_warp.proofs.Moves.{has_worker}
-use Rattle.tw_warp.proofs.Turns.{ahead_there}
+use Rattle.std.proofs.Common.{ap, sym, ◌∙◌, subst}
+use Rattle.tw_shard.specs.Shards.{HaveAll, ahead_of_all}
+use Rattle.tw_warp.proofs.AllShards.{have_all}
+use Rattle.tw_warp.specs.Committed.{count_ahead}
+use Rattle.tw_warp.specs.Inside.{warp_of}
 use Rattle.tw_warp.proofs.warp.Warp.ahead.Goals as goal
 
-pub loop-router-preserved : goal.loop-router-preserved
-loop-router-preserved c =
-    let w = c.args.self.now in
-    let r = c.loop-router.router in
-    let is = c.shard_for.ensures.machine in
-    let fits = c.loop-router.invariant.fits in
-    let most = c.ahead.type_inv in
-    let here = c.ahead.ensures ∙ ahead_there w is r (worker_of w r) refl c.shard_for.result.now c.shard_for.ensures.value (has_worker w is r) in
-    record {
-      count = ap (λ n. c.loop-router.count + n) here ∙ one_counted (λ r. ahead_at w.case (core w) r) r c.loop-router.count c.loop-router.invariant.count;
-      fits = omega arith;
-    }
+pub count_ahead-requires : goal.count_ahead-requires
+count_ahead-requires c = let w = warp_of c.self.inside in subst (HaveAll w.case) (sym c.deref.ensures.value) (have_all w c.self.invariant)
+
+pub returns : goal.returns
+returns c =
+    let w = warp_of c.self.inside in
+    c.count_ahead.ensures ∙ (ap (ahead_of_all w.case) c.deref.ensures.value ∙ ap count_ahead c.self.view_is)

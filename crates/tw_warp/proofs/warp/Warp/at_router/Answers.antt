@@ -1,23 +1,22 @@
 use Rattle.std.proofs.Common.{◌≡◌, ◌↔◌, Ok, Err, ◌∙◌, subst}
 use Rattle.std.specs.Prelude.{IsErrOf, OnOk}
-use Rattle.tw_core.specs.Steps.{step}
 use Rattle.tw_model.specs.Case.{simulation}
 use Rattle.tw_model.specs.declared.memory.OrMemory.TheVariants as or_memory
-use Rattle.tw_warp.specs.Calls.{calling, step_of}
+use Rattle.tw_warp.specs.Calls.{calling, outcome_of}
 use Rattle.tw_warp.specs.Inside.{warp_of}
 use Rattle.tw_warp.specs.Warp.{Warp, core, no_shard}
 use Rattle.tw_warp.proofs.Joined.{with_shard}
 use Rattle.tw_warp.proofs.Turns.{IsTurned, any_default, seq_of, call_outcome, turned, within_there, worker_there}
 use Rattle.tw_warp.proofs.warp.Warp.at_router.Goals as goal
 
-turn : (c : goal.After-self-1) → IsTurned (warp_of c.self.inside) c.worker_of-worker.result (step_of c.args.call c.args.router) c.call_on.new.shard c.call_on.new.flight c.call_on.result
+turn : (c : goal.After-self-1) → IsTurned (warp_of c.self.inside) c.worker_of-worker.result (outcome_of (simulation (warp_of c.self.inside).case) c.args.call c.args.router) c.call_on.new.shard c.call_on.new.flight c.call_on.result
 turn c =
     let w = warp_of c.self.inside in
     let r = c.args.router in
     let k = c.worker_of-worker.result in
     let within = within_there w c.args.self.now k c.self.view_is c.worker_of-worker.ensures.within in
     let told = c.call_on.ensures in
-    turned w c.self.invariant k within (step_of c.args.call r) (λ s. calling c.args.call w.stop s r)
+    turned w c.self.invariant k within (outcome_of (simulation w.case) c.args.call r) (λ s. calling c.args.call w.stop s r)
     (call_outcome w c.self.invariant k within c.args.call r (worker_there w c.args.self.now r k c.self.view_is c.worker_of-worker.ensures.value))
     c.index_mut.result.now c.call_on.new.shard c.call_on.new.flight c.call_on.result
     (c.index_mut.ensures.value ∙ any_default w.shards k c.index_mut.result.now no_shard within)
@@ -30,11 +29,11 @@ pub returns-clause-ok : goal.returns-clause-ok
 returns-clause-ok c =
     let w = warp_of c.self.inside in
     let after = with_shard w c.worker_of-worker.result c.call_on.new.shard c.call_on.new.flight in
-    subst (λ v. OnOk c.call_on.result (step (simulation v.case) (core v) (step_of c.args.call c.args.router) ≡ Ok (core after))) c.self.view_is (turn c).ok
+    subst (λ v. OnOk c.call_on.result (outcome_of (simulation v.case) c.args.call c.args.router (core v) ≡ Ok (core after))) c.self.view_is (turn c).ok
 
 pub returns-clause-refused : goal.returns-clause-refused
 returns-clause-refused c = λ f.
-    subst (λ (v : Warp). IsErrOf c.call_on.result (or_memory.Fault f) ↔ (step (simulation v.case) (core v) (step_of c.args.call c.args.router) ≡ Err f)) c.self.view_is ((turn c).refused f)
+    subst (λ (v : Warp). IsErrOf c.call_on.result (or_memory.Fault f) ↔ (outcome_of (simulation v.case) c.args.call c.args.router (core v) ≡ Err f)) c.self.view_is ((turn c).refused f)
 
 pub returns-clause-seq : goal.returns-clause-seq
 returns-clause-seq c = seq_of _ (turn c).is

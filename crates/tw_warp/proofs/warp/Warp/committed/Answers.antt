@@ -1,13 +1,25 @@
-use Rattle.std.proofs.Common.{◌∙◌}
-use Rattle.tw_warp.proofs.CommittedEvents.{sorted_committed}
+use Rattle.std.proofs.Common.{ap, sym, ◌∙◌, subst}
+use Rattle.tw_shard.specs.Shards.{HaveAll, KeepAll, committed_of_all}
+use Rattle.tw_warp.proofs.AllShards.{have_all, keep_all}
 use Rattle.tw_warp.proofs.Together.{are_run}
+use Rattle.tw_warp.specs.Committed.{committed_events}
+use Rattle.tw_warp.specs.Inside.{warp_of}
+use Rattle.tw_warp.specs.Warp.{IsWarp}
 use Rattle.tw_warp.proofs.warp.Warp.committed.Goals as goal
+
+pub committed_events-requires : goal.committed_events-requires
+committed_events-requires c =
+    let w = warp_of c.self.inside in
+    record {
+      all = subst (HaveAll w.case) (sym c.deref.ensures.value) (have_all w c.self.invariant);
+      kept = subst (KeepAll w.case) (sym c.deref.ensures.value) (keep_all w c.self.invariant);
+    }
 
 pub returns-clause-value : goal.returns-clause-value
 returns-clause-value c =
-    sorted_committed c.args.self.now c.in_ok-events.ensures.machine c.in_ok-events.events.items c.sort_unstable.new.self.items
-    c.in_ok-events.ensures.events c.sort_unstable.ensures.permutation c.sort_unstable.ensures.sorted
+    let w = warp_of c.self.inside in
+    c.in_ok-events.ensures ∙ (ap (committed_of_all w.case) c.deref.ensures.value ∙ ap committed_events c.self.view_is)
 
 pub returns-clause-run : goal.returns-clause-run
 returns-clause-run c = λ all.
-    returns-clause-value c ∙ are_run c.args.self.now c.in_ok-events.ensures.machine all
+    returns-clause-value c ∙ are_run c.args.self.now (subst IsWarp c.self.view_is c.self.invariant) all

@@ -11,4 +11,4 @@ returns c =
     let all = flat_map (λ s. s.kept) c.args.self.now.shards in
     let count = length-insert_all event_before all [] in
     let same : length all ≡ length (insert_all event_before all []) = omega arith in
-    c.sum_kept.ensures ∙ (ap (λ ss. length (flat_map (λ s. s.kept) ss)) (c.deref.ensures.value ∙ ap (λ (v : Warp). v.shards) c.self.view_is) ∙ same)
+    c.count_kept.ensures ∙ (ap (λ ss. length (flat_map (λ s. s.kept) ss)) (c.deref.ensures.value ∙ ap (λ (v : Warp). v.shards) c.self.view_is) ∙ same)

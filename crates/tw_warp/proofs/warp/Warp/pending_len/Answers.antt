@@ -11,4 +11,4 @@ returns c =
     let all = flat_map (λ s. s.pending) c.args.self.now.shards in
     let count = length-insert_all event_before all [] in
     let same : length all ≡ length (insert_all event_before all []) = omega arith in
-    c.sum_pending.ensures ∙ (ap (λ ss. length (flat_map (λ s. s.pending) ss)) (c.deref.ensures.value ∙ ap (λ (v : Warp). v.shards) c.self.view_is) ∙ same)
+    c.count_pending.ensures ∙ (ap (λ ss. length (flat_map (λ s. s.pending) ss)) (c.deref.ensures.value ∙ ap (λ (v : Warp). v.shards) c.self.view_is) ∙ same)

@@ -25,3 +25,8 @@ pub returns-in-Commit-clause-refused : goal.returns-in-Commit-clause-refused
 returns-in-Commit-clause-refused c = λ f.
     subst (λ x. IsErrOf c.at_router-in-Commit.result (or_memory.Fault f) ↔ (step (simulation c.args.self.now.case) (core c.args.self.now) x ≡ Err f)) (sym c.in-Commit.is)
     (c.at_router-in-Commit.ensures.refused f)
+
+pub returns-in-Release-clause-refused : goal.returns-in-Release-clause-refused
+returns-in-Release-clause-refused c = λ f.
+    subst (λ x. IsErrOf c.at_router-in-Release.result (or_memory.Fault f) ↔ (step (simulation c.args.self.now.case) (core c.args.self.now) x ≡ Err f)) (sym c.in-Release.is)
+    (c.at_router-in-Release.ensures.refused f)

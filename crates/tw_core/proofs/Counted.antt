@@ -1,0 +1,110 @@
+-- What is counted as committed is what is committed.
+use Rattle.std.proofs.Common.{◌≡◌, ℕ, zero, suc, ◌+◌, ◌<◌, ◌≤◌, ◌==◌, Bool, List, [], ◌∷◌, ◌++◌, length, reverse, Result, Ok, Err, slice_get, refl, ap, sym, ◌∙◌, subst, inl, inr, arith, nat_lt}
+use Rattle.std.proofs.lemmas.Bool.{cases_Bool, cases_eq, eq-eqb, ltb-true, ne_eqb}
+use Rattle.std.proofs.lemmas.List.{length-reverse, reverse-append}
+use Rattle.std.proofs.lemmas.List.Folds.{prefix_len-append}
+use Rattle.std.specs.List.{prefix_len, suffix_len}
+use Rattle.std.specs.Result.{result_unwrap_or}
+use Rattle.tw_core.proofs.Calls.{put_other, put_same}
+use Rattle.tw_core.proofs.Done.{at_router_done}
+use Rattle.tw_core.proofs.Headline.{good_log}
+use Rattle.tw_core.proofs.Steps.{StepKeeps, deliver_keeps, good_opening, handle_keeps, next_keeps, step_keeps, undo_keeps}
+use Rattle.tw_core.specs.declared.refusal.Refusal.{Refusal}
+use Rattle.tw_core.specs.Good.{IsGood}
+use Rattle.tw_core.specs.Machine.{Core, IsOpening, committed}
+use Rattle.tw_core.specs.Steps.{deliver, first_pending, handle, next, put, run, step, undo, with_bound, with_commit, with_release}
+use Rattle.tw_sim.proofs.Unique.{all_below}
+use Rattle.tw_sim.specs.declared.machine.Step.{Step}
+use Rattle.tw_sim.specs.declared.machine.Step.TheVariants.{Handle, Undo, Deliver, Bound, Commit, Release}
+use Rattle.tw_sim.specs.Simulation.{Simulation, IsFalling, IsLawful, IsNumbered, below}
+
+module _ {S E : Type 0} (m : Simulation S E) (law : IsLawful m) where
+  -- in a history that rises, the oldest events as far as all are before a time are all that are before it
+  oldest : (t : ℕ) (xs : List E) → IsFalling m xs → suffix_len (λ e. nat_lt (m.time e) t) xs ≡ length (below m t xs)
+  oldest t [] falling = refl
+  oldest t (x ∷ xs) falling =
+      let soon : E → Bool = λ e. nat_lt (m.time e) t in
+      let turned : suffix_len soon (x ∷ xs) ≡ prefix_len soon (reverse xs ++ x ∷ []) = ap (prefix_len soon) (reverse-append (x ∷ []) xs) in
+      let more : prefix_len soon (reverse xs) ≡ length (below m t xs) = oldest t xs falling.1 in
+      let whole = prefix_len-append soon (reverse xs) (x ∷ []) in
+      let long = length-reverse xs in
+      elim (cases_Bool (nat_lt (m.time x) t)) [
+        | inl b ↦ (
+            let all = all_below m law t xs (λ e h. let order = law.timely e x (falling.0 e h) in let before = ltb-true (m.time x) t b in omega arith) in
+            let same : length (below m t xs) ≡ length xs = ap length all in
+            let last : prefix_len soon (x ∷ []) ≡ 1 = rw b refl in
+            let here = rw (eq-eqb (prefix_len soon (reverse xs)) (length (reverse xs)) (omega arith)) at whole in
+            let size : length (below m t (x ∷ xs)) ≡ suc (length (below m t xs)) = rw b refl in
+            omega arith)
+        | inr b ↦ (
+            let last : prefix_len soon (x ∷ []) ≡ 0 = rw b refl in
+            let size : length (below m t (x ∷ xs)) ≡ length (below m t xs) = rw b refl in
+            elim (cases_eq (prefix_len soon (reverse xs)) (length (reverse xs))) [
+              | inl is ↦ (let here = rw (eq-eqb (prefix_len soon (reverse xs)) (length (reverse xs)) is) at whole in omega arith)
+              | inr ne ↦ (let here = rw (ne_eqb (prefix_len soon (reverse xs)) (length (reverse xs)) ne) at whole in omega arith)
+            ])
+      ]
+
+  -- as many of each router's events are counted as committed as are committed
+  abbrev pub AreCounted : Core E → Type 0
+  AreCounted C = (r : ℕ) → C.past r ≡ length (committed m C r)
+
+  module _ (numbered : IsNumbered m) where
+    -- where no router commits, what is committed stays
+    uncommitting : (C D : Core E) → IsGood m C → StepKeeps m law C D → D.done ≡ C.done → D.past ≡ C.past → AreCounted C → AreCounted D
+    uncommitting C D good keeps done past counted r =
+        let low = good.done r in
+        let rises = keeps.bound in
+        let before = good_log m law numbered C good (C.done r) low r in
+        let after = good_log m law numbered D keeps.good (C.done r) (omega arith) r in
+        let stays : committed m D r ≡ committed m C r = ap (λ f. below m (f r) (D.history r)) done ∙ (after ∙ sym before) in
+        ap (λ f. f r) past ∙ (counted r ∙ ap length (sym stays))
+
+    commit_counted : (C : Core E) (r : ℕ) → IsGood m C → AreCounted C → AreCounted (with_commit m C r)
+    commit_counted C r good counted q =
+        let soon : E → Bool = λ e. nat_lt (m.time e) C.bound in
+        elim (cases_eq q r) [
+          | inl same ↦ subst (λ p. (with_commit m C r).past p ≡ length (committed m (with_commit m C r) p)) (sym same)
+              (put_same C.past r (suffix_len soon (C.history r))
+              ∙ (oldest C.bound (C.history r) (good.part.falling r) ∙ ap (λ t. length (below m t (C.history r))) (sym (put_same C.done r C.bound))))
+          | inr other ↦
+              put_other C.past r q (suffix_len soon (C.history r)) other
+              ∙ (counted q ∙ ap (λ t. length (below m t (C.history q))) (sym (put_other C.done r q C.bound other)))
+        ]
+
+    step_counted : (C D : Core E) (x : Step) → IsGood m C → step m C x ≡ Ok D → AreCounted C → AreCounted D
+    step_counted C D (Handle r) good h counted =
+        let kept = handle_keeps m law C.bound C D r good.part (at_router_done m r (handle m C r (first_pending m C r)) D h) in
+        uncommitting C D good (step_keeps m law C D (Handle r) good h) kept.done kept.past counted
+    step_counted C D (Undo r) good h counted =
+        let kept = undo_keeps m law C.bound C D r (omega arith) good.part (at_router_done m r (undo m C r (C.history r)) D h) in
+        uncommitting C D good (step_keeps m law C D (Undo r) good h) kept.done kept.past counted
+    step_counted C D (Deliver zero) good h counted = cc
+    step_counted C D (Deliver (suc k)) good h counted =
+        let kept = deliver_keeps m law C.bound C D k good.part h in
+        uncommitting C D good (step_keeps m law C D (Deliver (suc k)) good h) kept.done kept.past counted
+    step_counted C D Bound good h counted =
+        let made : with_bound m C ≡ D = cc in
+        subst AreCounted made counted
+    step_counted C D (Commit r) good h counted =
+        let ok = at_router_done m r (Ok (with_commit m C r)) D h in
+        let made : with_commit m C r ≡ D = cc in
+        subst AreCounted made (commit_counted C r good counted)
+    step_counted C D (Release r) good h counted =
+        let ok = at_router_done m r (Ok (with_release m C r)) D h in
+        let made : with_release m C r ≡ D = cc in
+        subst AreCounted made counted
+
+    next_at : (C : Core E) (o : Result (Core E) Refusal) → AreCounted C → ((D : Core E) → o ≡ Ok D → AreCounted D) → AreCounted (result_unwrap_or o C)
+    next_at C (Ok D) counted done = done D refl
+    next_at C (Err refusal) counted done = counted
+
+    run_counted : (C : Core E) (xs : List Step) → IsGood m C → AreCounted C → AreCounted (run m C xs)
+    run_counted C [] good counted = counted
+    run_counted C (x ∷ xs) good counted =
+        run_counted (next m C x) xs (next_keeps m law C x good).good (next_at C (step m C x) counted (λ D h. step_counted C D x good h counted))
+
+    -- from the opening on
+    pub always_counted : (C : Core E) → IsOpening m C → (xs : List Step) → AreCounted (run m C xs)
+    always_counted C opens xs =
+        run_counted C xs (good_opening m law C opens) (λ r. opens.past r ∙ ap (λ h. length (below m (C.done r) h)) (sym (opens.history r)))

@@ -1,0 +1,75 @@
+//! A router that has handled as many events that are not committed as it has room for, by calls.
+
+ghost use Rattle.std.specs.Prelude.{◌<◌};
+
+use crate::machine::{machine, step};
+use std::alloc::{AllocError, Global};
+use tw_core::limits::OPENING_ROOM;
+use tw_rows::cases::case;
+use tw_sim::Step;
+use tw_warp::{OrMemory, Refusal, Warp};
+
+/// The text of a case of one router with 301 opening events: its start, and so many exchanges of its only path with itself.
+fn many_exchanges(alloc: Global) -> Result<String, AllocError> {
+    let mut text = String::from_str(alloc, "spp 1\nnodes 1\n")?;
+    for _ in 0..300 {
+        text.push_str("swap 1 0 1 1\n")?;
+    }
+    text.push_str("end\n")?;
+    Ok(text)
+}
+
+/// Whether the origin handles so many events.
+fn handles(warp: &mut Warp<'_>, count: usize) -> bool {
+    for _ in 0..count {
+        if step(warp, Step::Handle(0)) != Ok(()) {
+            return false;
+        }
+    }
+    true
+}
+
+/// Whether the origin has no room.
+fn is_full(warp: &mut Warp<'_>) -> bool {
+    step(warp, Step::Handle(0)) == Err(OrMemory::Fault(Refusal::AheadFull))
+}
+
+/// Whether the origin commits what is before the bound.
+fn commits(warp: &mut Warp<'_>) -> bool {
+    step(warp, Step::Bound) == Ok(()) && step(warp, Step::Commit(0)) == Ok(())
+}
+
+/// Whether the origin has room for as many events as a router begins with, and for one more once one is
+/// committed, and for twice as many once it is given more; and no other router is.
+fn has_its_room(warp: &mut Warp<'_>) -> bool {
+    handles(warp, OPENING_ROOM)
+        && is_full(warp)
+        && commits(warp)
+        && handles(warp, 1)
+        && is_full(warp)
+        && warp.widen(1) == Err(OrMemory::Fault(Refusal::NotMine))
+        && warp.widen(0) == Ok(())
+        && handles(warp, 44)
+        && warp.ahead() == 300
+}
+
+/// Whether the row holds for a machine of so many workers.
+fn holds(alloc: Global, workers: u32) -> bool
+    requires { 0 < workers }
+{
+    let Ok(text) = many_exchanges(alloc) else {
+        return false;
+    };
+    let Ok(case) = case(alloc, &text) else {
+        return false;
+    };
+    match machine(alloc, &case, workers) {
+        Ok(mut warp) => has_its_room(&mut warp),
+        Err(_) => false,
+    }
+}
+
+#[test]
+fn a_router_handles_no_more_than_it_has_room_for(rt: HostRuntime) {
+    assert!(rt; holds(rt.alloc(), 1));
+}

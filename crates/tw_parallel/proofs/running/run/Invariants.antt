@@ -1,9 +1,0 @@
-use Rattle.std.proofs.Common.{◌≡◌}
-use Rattle.tw_parallel.specs.Sim.{GoesOn}
-use Rattle.tw_parallel.proofs.running.run.Given as goal
-
-abbrev pub invariant-loop : goal.invariant-loop
-invariant-loop g l = record {
-  goes_on : GoesOn l.fn.sim l.sim;
-  stop : l.sim.board.stop ≡ l.fn.sim.board.stop;
-}

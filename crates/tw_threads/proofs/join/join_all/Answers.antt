@@ -1,0 +1,30 @@
+use Rattle.std.proofs.Common.{length, ap, ◌∙◌, subst, arith}
+use Rattle.std.proofs.lemmas.List.{nil_from_length}
+use Rattle.std.specs.Vec.Iter.{into_iter_items}
+use Rattle.tw_threads.proofs.Joins.{AreJoined, all_joined, one_joined}
+use Rattle.tw_threads.proofs.join.join_all.Goals as goal
+
+pub loop-one-preserved : goal.loop-one-preserved
+loop-one-preserved g c =
+    let was = c.loop-one.invariant in
+    let step = c.in-Some.ensures.steps in
+    let of = g.W.Work.share in
+    let worker = c.push_reserved.ensures in
+    let seat = c.push_reserved-in-loop-one.ensures in
+    record {
+      joined = λ t before each. one_joined of t before c.in-Some.one (into_iter_items c.next.new.self) c.loop-one.workers.items c.push_reserved.new.self.items
+          c.loop-one.seats.items c.push_reserved-in-loop-one.new.self.items c.loop-one.cause c.join-left.result.worker c.join-left.result.seat c.join-left.result.why c.worse-cause.result
+          (subst (λ rest. AreJoined of t before rest c.loop-one.workers.items c.loop-one.seats.items c.loop-one.cause) step.0 (was.joined t before each))
+          worker.items seat.items (λ s is. c.join-left.ensures t s is) c.worse-cause.ensures.full c.worse-cause.ensures.lower;
+      workers = omega (arith, was.workers, step.1, worker.len, worker.capacity);
+      seats = omega (arith, was.seats, step.1, seat.len, seat.capacity);
+      rest = (let long = ap length step.0 in omega (arith, was.rest, step.1, long));
+    }
+
+pub returns : goal.returns
+returns g c = λ t before each.
+    let was = c.loop-one.invariant in
+    let of = g.W.Work.share in
+    let none = nil_from_length (into_iter_items c.loop-one.one-iterator) (was.rest ∙ c.in-None.ensures.steps.0) in
+    all_joined of t before c.loop-one.workers.items c.loop-one.seats.items c.loop-one.cause
+    (subst (λ rest. AreJoined of t before rest c.loop-one.workers.items c.loop-one.seats.items c.loop-one.cause) none (was.joined t before each))
