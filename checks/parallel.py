@@ -3,7 +3,8 @@
 
     parallel.py                          after rt ci, or rt run in crates/twarp
 
-What both write has to be the same. Each run is ended after some seconds, and counts as failed:
+What both write has to be the same, where what undone events have sent is taken back at once and
+where it is taken back as late as may be. Each run is ended after some seconds, and counts as failed:
 workers that wait for one another without end are found by that. A proof can say nothing of it.
 """
 from __future__ import annotations
@@ -32,7 +33,11 @@ from twarp_tools.case import Case
 WORKERS = (1, 2, 3, 4, 8, 16)
 BATCHES = (1, 64, 4096)
 
-# Runs in a row of the smallest case and of a made one, each with every number of workers in turn.
+# What undone events have sent is taken back at once, or as late as may be.
+KINDS: tuple[list[str], ...] = ([], ["--lazy"])
+
+# Runs in a row of the smallest case and of a made one, each with every number of workers and each
+# kind in turn.
 SMALL_RUNS = 1000
 LARGE_RUNS = 100
 
@@ -83,9 +88,11 @@ def compare(tally: Tally, case: Path, runs: Runs) -> None:
     wanted = Answer.of(["seq", *runs.words], case)
     for workers in runs.workers:
         for batch in runs.batches:
-            words = ["run", *runs.words, "--workers", str(workers), "--batch", str(batch)]
-            wrong = Answer.of(words, case).differs(wanted)
-            tally.add(f"{name_of(words)} of {case.name}", wrong)
+            sizes = ["--workers", str(workers), "--batch", str(batch)]
+            for kind in KINDS:
+                words = ["run", *runs.words, *sizes, *kind]
+                wrong = Answer.of(words, case).differs(wanted)
+                tally.add(f"{name_of(words)} of {case.name}", wrong)
 
 
 def compare_stored(tally: Tally) -> None:
@@ -110,7 +117,9 @@ def compare_made(tally: Tally, folder: Path) -> None:
 def repeat(tally: Tally, case: Path, words: Sequence[str], wanted: Answer, times: int) -> None:
     """So many runs in a row."""
     for number in range(times):
-        run = ["run", *words, "--workers", str(WORKERS[number % len(WORKERS)])]
+        workers = WORKERS[number % len(WORKERS)]
+        kind = KINDS[number // len(WORKERS) % len(KINDS)]
+        run = ["run", *words, "--workers", str(workers), *kind]
         wrong = Answer.of(run, case).differs(wanted)
         if wrong:
             name = f"run {number} of {times} in a row of {case.name}: {name_of(run)}"

@@ -41,6 +41,7 @@ HELP = {
         "      --log",
         "      --workers <COUNT>",
         "      --batch <COUNT>",
+        "      --lazy",
         "Exit status:",
     ],
     "trail": [
@@ -54,6 +55,7 @@ HELP = {
         "Usage: twarp replay ",
         "      --stop <TICKS>",
         "      --workers <COUNT>",
+        "      --lazy",
         "Exit status:",
     ],
 }

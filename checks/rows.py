@@ -29,8 +29,9 @@ class Due(NamedTuple):
         return f"it ended with {done}, and {(self.status, self.written)} is due"
 
     def is_met_by(self, out: str) -> bool:
-        if self.written.startswith(ANY_LINES):
-            return out.endswith("\n" + self.written.removeprefix(ANY_LINES))
+        first, any_lines, last = self.written.partition(ANY_LINES)
+        if any_lines:
+            return out.startswith(first) and out[len(first) :].endswith("\n" + last)
         return out == self.written
 
 

@@ -286,6 +286,17 @@ class ReplayTimeline(ToolTest):
         self.assertEqual(len(elements(svg, "message underway anti")), 3)
         self.assertEqual(len(elements(svg, "commit")), 1)
 
+    def test_what_was_held_back(self) -> None:
+        svg = self.draw("lazy")
+        words = texts(svg)
+        self.assertIn("\nbound 6; undone: step 3 by step 6, step 16 by step 19\n", words)
+        # What step 6 undid had sent two messages, which step 18 takes back; what step 19 undoes
+        # had sent two more, which are held.
+        for time, router in (6, 1), (10, 0):
+            antimessage = f"antimessage of event {time} {router} update 2 "
+            self.assertRegex(words, rf"\n{antimessage}.*, sent by step 18: ")
+        self.assertEqual(words.count("antimessage of event "), 2)
+
     def test_what_was_refused(self) -> None:
         svg = self.draw("refusals")
         codes = re.findall(r'class="refused middle"[^>]*>([A-Z]\d)<', svg)

@@ -15,9 +15,9 @@ from tools_common import CASES, TOP, Done, ToolTest, run, tool
 OPTIONS = {
     "check": set(),
     "seq": {"--stop", "--every", "--log"},
-    "run": {"--stop", "--every", "--log", "--workers", "--batch"},
+    "run": {"--stop", "--every", "--log", "--workers", "--batch", "--lazy"},
     "trail": {"--router", "--stop", "--keep"},
-    "replay": {"--stop", "--workers"},
+    "replay": {"--stop", "--workers", "--lazy"},
 }
 HELP = {"-h", "--help"}
 TOOLS = ("relationships", "import", "draw", "timeline", "page", "sweep")

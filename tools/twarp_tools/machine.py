@@ -1,6 +1,7 @@
 """The Time Warp machine of a replay, followed step by step along its answers.
 
-Taken from Jefferson (1985): stragglers, antimessages, annihilation in either order of arrival, aggressive cancellation.
+Taken from Jefferson (1985): stragglers, antimessages, annihilation in either order of arrival, aggressive cancellation;
+and from Gafni (1988): lazy cancellation.
 """
 from __future__ import annotations
 
@@ -65,19 +66,23 @@ class History:
 
 
 class Machine:
-    """Routers with what is pending, handled, in flight and kept. `number` is that of the step under way, from 1.
+    """Routers with what is pending, handled, in flight, kept and held. `number` is that of the step under way, from 1.
+
+    Where it `is_lazy`, what an undone event had sent is held until its router sends it again or releases it.
 
     The run's stop is not told. The last bound is the stop where nothing loose is at it or before it, and else a time
     before the stop, which limits the bounds found as the stop does.
     """
 
-    def __init__(self, case: Case, last_bound: int):
+    def __init__(self, case: Case, last_bound: int, is_lazy: bool):
         self.routers = opening_routers(case)
         self.path_numbers = case.path_numbers()
         self.pending: list[list[Event]] = [[] for _ in self.routers]
         self.handled: list[list[Handling]] = [[] for _ in self.routers]
         self.flight: list[Signed] = []
         self.kept: list[Event] = []
+        self.held: list[Event] = []
+        self.is_lazy = is_lazy
         self.bound = 0
         self.last_bound = last_bound
         self.is_at_stop = False
@@ -113,7 +118,7 @@ class Machine:
                 self.deliver(place)
             case Step("bound"):
                 loose = [message.event.time for message in self.flight]
-                loose += [event.time for event in self.all_pending() + self.kept]
+                loose += [event.time for event in self.all_pending() + self.kept + self.held]
                 self.is_at_stop |= all(time > self.last_bound for time in loose)
                 self.bound = max(self.bound, min(loose + [self.last_bound]))
                 self.history.bounds.append((self.number, self.bound))
@@ -121,8 +126,8 @@ class Machine:
                 for handling in self.handled[router]:
                     if handling.committed_at is None and handling.event.time < self.bound:
                         handling.committed_at = self.number
-            case Step("release"):
-                pass  # An undone event's messages are taken back at once, so that nothing is held.
+            case Step("release", int(router)):
+                self.release(router)
 
     def handle(self, router: int) -> None:
         event = min(self.pending[router], key=self.key)
@@ -131,7 +136,17 @@ class Machine:
         handling = Handling(event, before, self.routers[router].handle(event), self.number)
         self.handled[router].append(handling)
         self.history.handlings.append(handling)
-        self.send(handling.sends, is_anti=False)
+        self.send(self.unheld(handling.sends), is_anti=False)
+
+    def unheld(self, sends: list[Event]) -> list[Event]:
+        """Those of what is sent that are not held; the others were sent before, and are held no more."""
+        going = []
+        for event in sends:
+            if event in self.held:
+                self.held.remove(event)
+            else:
+                going.append(event)
+        return going
 
     def send(self, events: Iterable[Event], is_anti: bool) -> None:
         messages = [Signed(is_anti, event, self.number) for event in events]
@@ -143,7 +158,15 @@ class Machine:
         handling.undone_at = self.number
         self.routers[router] = handling.before
         self.pending[router].append(handling.event)
-        self.send(handling.sends, is_anti=True)
+        if self.is_lazy:
+            self.held += handling.sends
+        else:
+            self.send(handling.sends, is_anti=True)
+
+    def release(self, router: int) -> None:
+        released = sorted((event for event in self.held if event.src == router), key=self.key)
+        self.held = [event for event in self.held if event.src != router]
+        self.send(released, is_anti=True)
 
     def deliver(self, place: int) -> None:
         message = self.flight.pop(place - 1)
@@ -176,7 +199,8 @@ class Machine:
 
     def loose_line(self) -> str:
         ahead = sum(handling.committed_at is None for row in self.handled for handling in row)
-        return f"flight {len(self.flight)} pending {len(self.all_pending())} kept {len(self.kept)} ahead {ahead}"
+        line = f"flight {len(self.flight)} pending {len(self.all_pending())} kept {len(self.kept)} ahead {ahead}"
+        return f"{line} held {len(self.held)}" if self.is_lazy else line
 
     def committed(self) -> list[Event]:
         events = [handling.event for row in self.handled for handling in row if handling.committed_at]
@@ -185,7 +209,7 @@ class Machine:
 
 def follow_replay(case: Case, steps: list[Step], replay: Replay) -> History:
     """What the steps did; refused at the first line that is not what they lead to."""
-    machine = Machine(case, replay.bound.value)
+    machine = Machine(case, replay.bound.value, replay.is_lazy)
     for machine.number, (step, answer) in enumerate(zip(steps, replay.answers), 1):
         if answer.value is not None:
             continue

@@ -91,6 +91,11 @@ class Replay:
     events: list[Told[Event]]
     routers: list[Told[RouterLine]]
 
+    @property
+    def is_lazy(self) -> bool:
+        """Whether it was asked for with --lazy: then it tells how much is held."""
+        return " held " in self.loose.value
+
 
 @dataclass(frozen=True, slots=True)
 class Step:
@@ -105,7 +110,7 @@ REPLAY_HEADER = "spp-replay 1"
 ROUTER_LINE = f"router ({NUMBER}) sent ({NUMBER}) handled ({NUMBER}) dropped ({NUMBER}) changed ({NUMBER}) rib ({PATH})"
 VERDICT_LINE = f"verdict (?:quiet ({NUMBER})|oscillates from ({NUMBER}) period ({NUMBER})|open)"
 ANSWER_LINE = "step {step} (?:ok|refused ([A-Z][0-9]+ [A-Za-z]+))"
-LOOSE_LINE = f"flight {NUMBER} pending {NUMBER} kept {NUMBER} ahead {NUMBER}"
+LOOSE_LINE = f"flight {NUMBER} pending {NUMBER} kept {NUMBER} ahead {NUMBER}(?: held {NUMBER})?"
 
 
 class Cursor:

@@ -1,9 +1,9 @@
 //! The program `tw_bench`: runs the case on standard input by threads, and says what its workers did. It
 //! belongs to `bench/`; nothing rests on it.
 //!
-//!     tw_bench STOP WORKERS BATCH < case.spp
+//!     tw_bench STOP WORKERS BATCH [lazy] < case.spp
 //!
-//! It prints a line with the turns that the workers took, the events that they handled and those that they
+//! With `lazy` what undone events have sent is taken back as late as may be. It prints a line with the turns that the workers took, the events that they handled and those that they
 //! undid, and ends with status 1 where it can't.
 #![tactic(auto)]
 
@@ -16,6 +16,7 @@ use std::thread::Threads;
 use tally::Tally;
 use tw_device::{OverRead, read_all};
 use tw_parallel::{Options, Sim, run_until};
+use tw_sim::Cancel;
 use tw_text::read_case;
 
 /// What the command line asks for.
@@ -24,6 +25,7 @@ struct Asked {
     stop: u64,
     workers: u32,
     batch: u32,
+    cancel: Cancel,
 }
 
 fn main(rt: HostRuntime) -> ExitCode {
@@ -37,16 +39,22 @@ fn main(rt: HostRuntime) -> ExitCode {
     }
 }
 
-/// The three numbers of the command line.
+/// The three numbers of the command line, and the word behind them, if there is one.
 fn read_words<R: Env + AllocGlobal>(rt: &R) -> Option<Asked> {
     let mut words = env::args(rt).ok()?.skip(1);
     let stop = words.next()?.parse().ok()?;
     let workers = words.next()?.parse().ok()?;
     let batch = words.next()?.parse().ok()?;
+    let cancel = match words.next() {
+        None => Cancel::Aggressive,
+        Some(word) if word.as_str() == "lazy" => Cancel::Lazy,
+        Some(_) => return None,
+    };
     Some(Asked {
         stop,
         workers,
         batch,
+        cancel,
     })
 }
 
@@ -63,7 +71,7 @@ fn run<R: Input + AllocGlobal + Threads + Wait + Sync>(
     let mut source = OverRead::new(rt.reader());
     let text = read_all(alloc, &mut source).ok()?;
     let case = read_case(alloc, &text).ok()?;
-    let sim = Sim::open(alloc, &case, asked.workers, false).ok()?;
+    let sim = Sim::open_with(alloc, &case, asked.workers, false, asked.cancel).ok()?;
     let options = Options { batch: asked.batch };
     run_until(rt, sim, asked.stop, options, tally).ok()?;
     Some(())

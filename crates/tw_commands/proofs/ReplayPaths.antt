@@ -18,6 +18,7 @@ use Rattle.tw_model.proofs.Paths.{permitted_is_path}
 use Rattle.tw_model.proofs.Suits.{own_state}
 use Rattle.tw_report.specs.Lines.{NamesPath}
 use Rattle.tw_report.specs.ReplayText.{Replayed, ShowsPaths}
+use Rattle.tw_sim.specs.declared.machine.Cancel.{Cancel}
 use Rattle.tw_sim.specs.declared.machine.Step.{Step}
 use Rattle.tw_sim.specs.Simulation.{state, times}
 use Rattle.tw_sim.proofs.Counts.{times-insert_all}
@@ -28,11 +29,11 @@ use Rattle.tw_warp.specs.Openings.{opening_machine}
 
 module _ (case : Case) (is : IsCase case) where
   -- the machine is good after whatever steps
-  stays_good : (stop : ℕ) (steps : List Step) → IsGood (simulation case) (run (simulation case) (opening_machine case stop) steps)
-  stays_good stop steps =
+  stays_good : (cancel : Cancel) (stop : ℕ) (steps : List Step) → IsGood (simulation case) (run (simulation case) (opening_machine case cancel stop) steps)
+  stays_good cancel stop steps =
       let m = simulation case in
       let law = lawful case is in
-      (run_keeps m law (opening_machine case stop) steps (good_opening m law (opening_machine case stop) (machine_opens case stop))).good
+      (run_keeps m law (opening_machine case cancel stop) steps (good_opening m law (opening_machine case cancel stop) (machine_opens case cancel stop))).good
 
   module _ (C : Core Event) (good : IsGood (simulation case) C) where
     home : (r : ℕ) (e : Event) → In e (C.history r) → e.dst ≡ r
@@ -61,18 +62,18 @@ module _ (case : Case) (is : IsCase case) where
         permitted_is_path case.net r (state (simulation case) r (C.history r)).rib own.rib
 
   -- all that the replay of steps shows
-  pub replay_paths : (stop : ℕ) (steps : List Step) → ShowsPaths case.net (replayed stop case steps)
-  replay_paths stop steps =
-      let C = run (simulation case) (opening_machine case stop) steps in
-      let good = stays_good stop steps in
+  pub replay_paths : (stop : ℕ) (cancel : Cancel) (steps : List Step) → ShowsPaths case.net (replayed stop cancel case steps)
+  replay_paths stop cancel steps =
+      let C = run (simulation case) (opening_machine case cancel stop) steps in
+      let good = stays_good cancel stop steps in
       record {
         events = all_from_in (λ e. NamesPath case.net e.body) (committed_of case C) (committed_names C good);
-        routers = all_from_in (λ x. IsPath case.net x.rib) (replayed stop case steps).routers (λ x there.
+        routers = all_from_in (λ x. IsPath case.net x.rib) (replayed stop cancel case steps).routers (λ x there.
             let of = in_map (end_at case C) x (range_with_len 0 case.net.nodes) there in
             subst (λ y. IsPath case.net y.rib) (sym of.1) (rib_is_path C good of.0));
       }
 
 -- the same of what is equal
-pub same_paths : (case : Case) → IsCase case → (stop : ℕ) (net : Net) (same : Case) (steps : List Step) (told : Replayed) → net ≡ case.net → same ≡ case → told ≡ replayed stop same steps
+pub same_paths : (case : Case) → IsCase case → (stop : ℕ) (cancel : Cancel) (net : Net) (same : Case) (steps : List Step) (told : Replayed) → net ≡ case.net → same ≡ case → told ≡ replayed stop cancel same steps
     → ShowsPaths net told
-same_paths case is stop net same steps told is_net is_case is_told = rw (is_net, is_told, is_case) (replay_paths case is stop steps)
+same_paths case is stop cancel net same steps told is_net is_case is_told = rw (is_net, is_told, is_case) (replay_paths case is stop cancel steps)

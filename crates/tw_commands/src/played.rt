@@ -12,7 +12,7 @@ use crate::no_memory::NoMemory;
 use std::alloc::{AllocError, Global};
 use tw_instance::Case;
 use tw_report::{Counts, Replay};
-use tw_sim::Step;
+use tw_sim::{Cancel, Step};
 use tw_warp::{Answer, Warp};
 
 /// The answers to the steps, and what the machine of the case becomes by them.
@@ -22,12 +22,13 @@ pub(crate) fn play(
     steps: &[Step],
     stop: u64,
     workers: u32,
+    cancel: Cancel,
 ) -> Result<Replay, NoMemory>
     requires stop { stop ≤ LATEST }
     requires workers { 0 < workers }
-    ensures { IfOk result (λ replay. replayed_of replay ≡ replayed stop case.now steps.now) }
+    ensures { IfOk result (λ replay. replayed_of replay ≡ replayed stop cancel case.now steps.now) }
 {
-    let (warp, answers) = take_steps(alloc, case, steps, stop, workers)?;
+    let (warp, answers) = take_steps(alloc, case, steps, stop, workers, cancel)?;
     Ok(told(&warp, answers)?)
 }
 
@@ -38,15 +39,16 @@ fn take_steps<'a>(
     steps: &[Step],
     stop: u64,
     workers: u32,
+    cancel: Cancel,
 ) -> Result<(Warp<'a>, Vec<Answer>), NoMemory>
     requires stop { stop ≤ LATEST }
     requires workers { 0 < workers }
-    ensures machine { IfOk result (λ after. core after.0 ≡ run (simulation case.now) (opening_machine case.now stop) steps.now) }
-    ensures answers { IfOk result (λ after. after.1.items ≡ answers (simulation case.now) (opening_machine case.now stop) steps.now) }
+    ensures machine { IfOk result (λ after. core after.0 ≡ run (simulation case.now) (opening_machine case.now cancel stop) steps.now) }
+    ensures answers { IfOk result (λ after. after.1.items ≡ answers (simulation case.now) (opening_machine case.now cancel stop) steps.now) }
     ensures case { IfOk result (λ after. after.0.case ≡ case.now) }
     ensures workers { IfOk result (λ after. length after.0.shards ≡ workers) }
 {
-    let mut warp = Warp::new(alloc, case, workers, stop)?;
+    let mut warp = Warp::with_cancel(alloc, case, workers, stop, cancel)?;
     let answers = warp.run(steps)?;
     Ok((warp, answers))
 }
@@ -75,5 +77,9 @@ fn counts(warp: &Warp<'_>) -> Counts
         pending: warp.pending_len(),
         kept: warp.kept_len(),
         ahead: warp.ahead(),
+        held: match warp.cancel() {
+            Cancel::Aggressive => None,
+            Cancel::Lazy => Some(warp.held_len()),
+        },
     }
 }

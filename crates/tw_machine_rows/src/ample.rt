@@ -9,7 +9,7 @@ use tw_rows::cases::case;
 use tw_rows::texts::DISAGREE;
 use tw_shard::Shard;
 use tw_shard::shards::{open_all, pending_events};
-use tw_sim::Step;
+use tw_sim::{Cancel, Step};
 use tw_warp::Warp;
 
 /// Whether a worker deposits two messages in a new exchange.
@@ -61,7 +61,7 @@ fn a_shard_handles_undoes_and_commits(rt: HostRuntime) {
 
 /// How many events wait at two workers as they begin.
 fn wait_at_first(alloc: Global, case: &Case) -> Option<usize> {
-    let shards = open_all(alloc, case, 2, true).ok()?;
+    let shards = open_all(alloc, case, 2, true, Cancel::Aggressive).ok()?;
     let events = pending_events(alloc, &shards).ok()?;
     Some(events.len())
 }
@@ -91,6 +91,26 @@ fn a_machine_takes_its_steps(rt: HostRuntime) {
         panic!(rt; "refused")
     };
     assert!(rt; takes_its_steps(rt.alloc(), &case));
+}
+
+/// Whether the lazy machine of a case takes back what it holds.
+fn takes_back_what_it_holds(alloc: Global, case: &Case) -> bool {
+    let Ok(mut warp) = Warp::with_cancel(alloc, case, 2, 20, Cancel::Lazy) else {
+        return false;
+    };
+    warp.run(&[Step::Handle(0), Step::Undo(0)]).is_ok()
+        && warp.held_len() == 2
+        && warp.step(Step::Release(0)) == Ok(())
+        && warp.held_len() == 0
+        && warp.flight_len() == 4
+}
+
+#[test]
+fn a_lazy_machine_takes_back_what_it_holds(rt: HostRuntime) {
+    let Ok(case) = case(rt.alloc(), DISAGREE) else {
+        panic!(rt; "refused")
+    };
+    assert!(rt; takes_back_what_it_holds(rt.alloc(), &case));
 }
 
 #[test]

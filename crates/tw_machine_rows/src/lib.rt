@@ -8,6 +8,8 @@ mod ample;
 #[cfg(test)]
 mod exchange;
 #[cfg(test)]
+mod lazy;
+#[cfg(test)]
 mod machine;
 #[cfg(test)]
 mod messages;

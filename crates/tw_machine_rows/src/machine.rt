@@ -102,7 +102,11 @@ fn goes_so(warp: &mut Warp<'_>, steps: &[(Step, &str)]) -> bool {
 }
 
 /// Whether the steps have these answers. Where memory was refused to one, it and the rest are taken once more.
-fn answers_so(warp: &mut Warp<'_>, steps: &[Step], answers: &[Result<(), Refusal>]) -> bool {
+pub(crate) fn answers_so(
+    warp: &mut Warp<'_>,
+    steps: &[Step],
+    answers: &[Result<(), Refusal>],
+) -> bool {
     let fault = match warp.run(steps) {
         Ok(found) => return found.as_slice() == answers,
         Err(fault) => fault,
@@ -130,7 +134,7 @@ fn owned_by(warp: &Warp<'_>, worker: usize) -> Option<[bool; 3]> {
 }
 
 /// The path that a router has chosen, and what it counts.
-fn told(warp: &Warp<'_>, router: u32) -> Option<(PathNo, Counters)> {
+pub(crate) fn told(warp: &Warp<'_>, router: u32) -> Option<(PathNo, Counters)> {
     if router >= warp.case().instance().nodes() {
         return None;
     }
@@ -139,7 +143,12 @@ fn told(warp: &Warp<'_>, router: u32) -> Option<(PathNo, Counters)> {
 }
 
 /// A path, and the counts of a router that has dropped nothing.
-fn counts(path: u32, sent: u64, handled: u64, changed: u64) -> Option<(PathNo, Counters)> {
+pub(crate) fn counts(
+    path: u32,
+    sent: u64,
+    handled: u64,
+    changed: u64,
+) -> Option<(PathNo, Counters)> {
     let counters = Counters {
         sent,
         handled,
@@ -195,7 +204,7 @@ fn all_come(warp: &mut Warp<'_>, count: u64, next: Next) -> bool {
 }
 
 /// Whether nothing but these numbers of messages is loose: on their way, pending and kept.
-fn has_loose(warp: &Warp<'_>, flight: u128, pending: u128, kept: u128) -> bool {
+pub(crate) fn has_loose(warp: &Warp<'_>, flight: u128, pending: u128, kept: u128) -> bool {
     warp.flight_len() == flight && warp.pending_len() == pending && warp.kept_len() == kept
 }
 

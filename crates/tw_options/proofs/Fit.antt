@@ -17,6 +17,8 @@ use Rattle.clap.specs.declared.parser.matches.ArgMatches.{ArgMatches}
 use Rattle.tw_model.specs.declared.limits.TheConstants.{LATEST, MOST_ROUTERS, MOST_WORKERS}
 use Rattle.tw_options.specs.App.{check_app, number_rule, replay_app, run_app, seq_app, trail_app, twarp_app}
 use Rattle.tw_options.specs.declared.number.TheConstants.{MOST_BATCH}
+use Rattle.tw_options.specs.declared.command_line.CommandLine.{CommandLine}
+use Rattle.tw_options.specs.Says.{Says}
 use Rattle.tw_options.specs.Fit.{Fits, HasNumber, HasNumberIfGiven, HasReplay, HasRun, HasSeq, HasTrail, IsFit}
 use Rattle.tw_options.proofs.Kept.{Fits as FitsRule, GoodRows, accepted, found_has, given_good, good_level, none_of_both, taken_text}
 use Rattle.tw_options.proofs.Stop.{IsNoHelp, no_help}
@@ -74,16 +76,16 @@ module _ (words : List Text) where
       }
 
   run_stop_fits : AllByRecursion (FitsRule (option_rule (codes "stop") true 1 LATEST)) (leaf run_app.top).rules
-  run_stop_fits = (((λ _. refl), tt), (((λ e. cc), tt), (((λ e. cc), tt), (((λ e. cc), tt), (((λ e. cc), tt), (((λ e. cc), tt), tt))))))
+  run_stop_fits = (((λ _. refl), tt), (((λ e. cc), tt), (((λ e. cc), tt), (((λ e. cc), tt), (((λ e. cc), tt), (((λ e. cc), tt), (((λ e. cc), tt), tt)))))))
 
   run_every_fits : AllByRecursion (FitsRule (option_rule (codes "every") false 1 LATEST)) (leaf run_app.top).rules
-  run_every_fits = (((λ e. cc), tt), (((λ _. refl), tt), (((λ e. cc), tt), (((λ e. cc), tt), (((λ e. cc), tt), (((λ e. cc), tt), tt))))))
+  run_every_fits = (((λ e. cc), tt), (((λ _. refl), tt), (((λ e. cc), tt), (((λ e. cc), tt), (((λ e. cc), tt), (((λ e. cc), tt), (((λ e. cc), tt), tt)))))))
 
   run_workers_fits : AllByRecursion (FitsRule (option_rule (codes "workers") false 1 MOST_WORKERS)) (leaf run_app.top).rules
-  run_workers_fits = (((λ e. cc), tt), (((λ e. cc), tt), (((λ e. cc), tt), (((λ _. refl), tt), (((λ e. cc), tt), (((λ e. cc), tt), tt))))))
+  run_workers_fits = (((λ e. cc), tt), (((λ e. cc), tt), (((λ e. cc), tt), (((λ _. refl), tt), (((λ e. cc), tt), (((λ e. cc), tt), (((λ e. cc), tt), tt)))))))
 
   run_batch_fits : AllByRecursion (FitsRule (option_rule (codes "batch") false 1 MOST_BATCH)) (leaf run_app.top).rules
-  run_batch_fits = (((λ e. cc), tt), (((λ e. cc), tt), (((λ e. cc), tt), (((λ e. cc), tt), (((λ _. refl), tt), (((λ e. cc), tt), tt))))))
+  run_batch_fits = (((λ e. cc), tt), (((λ e. cc), tt), (((λ e. cc), tt), (((λ e. cc), tt), (((λ _. refl), tt), (((λ e. cc), tt), (((λ e. cc), tt), tt)))))))
 
   run_level : level_fault (leaf run_app.top) [] nothing_held words false [] ≡ []
       → HasRun (rows_after (leaf run_app.top).rules [] words)
@@ -125,10 +127,10 @@ module _ (words : List Text) where
       }
 
   replay_stop_fits : AllByRecursion (FitsRule (option_rule (codes "stop") true 1 LATEST)) (leaf replay_app.top).rules
-  replay_stop_fits = (((λ _. refl), tt), (((λ e. cc), tt), (((λ e. cc), tt), tt)))
+  replay_stop_fits = (((λ _. refl), tt), (((λ e. cc), tt), (((λ e. cc), tt), (((λ e. cc), tt), tt))))
 
   workers_fits : AllByRecursion (FitsRule (option_rule (codes "workers") false 1 MOST_WORKERS)) (leaf replay_app.top).rules
-  workers_fits = (((λ e. cc), tt), (((λ _. refl), tt), (((λ e. cc), tt), tt)))
+  workers_fits = (((λ e. cc), tt), (((λ _. refl), tt), (((λ e. cc), tt), (((λ e. cc), tt), tt))))
 
   replay_level : level_fault (leaf replay_app.top) [] nothing_held words false [] ≡ []
       → HasReplay (rows_after (leaf replay_app.top).rules [] words)
@@ -237,3 +239,10 @@ pub matches_fit : (a : App) (words : List Text) (m : ArgMatches) → a ≡ twarp
 matches_fit a words m is has none =
     let here : HasMatchesOf twarp_app words m = subst (λ (b : App). HasMatchesOf b words m) is has in
     subst IsFit (sym (here refl).1) (fits words none)
+
+-- what the matches say, the words say
+pub words_say : (a : App) (words : List Text) (m : ArgMatches) (command : CommandLine) → a ≡ twarp_app → HasMatchesOf a words m
+    → Says (subcommand_rows_of m) command → Says (subcommand_of twarp_app words) command
+words_say a words m command is has said =
+    let here : HasMatchesOf twarp_app words m = subst (λ (b : App). HasMatchesOf b words m) is has in
+    subst (λ (found : Option (Text × List Row)). Says found command) (here refl).1 said

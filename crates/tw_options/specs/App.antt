@@ -24,9 +24,17 @@ stop_rule = number_rule (codes "stop") true 1 LATEST
 abbrev pub every_rule : Rule
 every_rule = number_rule (codes "every") false 1 LATEST
 
--- `--log`, a flag that may be left out
+-- a flag `--id`, which may be left out
+abbrev pub flag_rule : Text → Rule
+flag_rule id = record (new_rule id) { long = Some id; action = Some SetTrue }
+
+-- `--log`: the report lists the events
 abbrev pub log_rule : Rule
-log_rule = record (new_rule (codes "log")) { long = Some (codes "log"); action = Some SetTrue }
+log_rule = flag_rule (codes "log")
+
+-- `--lazy`: what an undone event has sent is taken back as late as may be
+abbrev pub lazy_rule : Rule
+lazy_rule = flag_rule (codes "lazy")
 
 -- `--router R`: the router whose last events are undone
 abbrev pub router_rule : Rule
@@ -56,17 +64,17 @@ seq_app = with_rule (with_rule (with_rule (new_app (codes "seq")) stop_rule) eve
 abbrev pub run_app_alone : App
 run_app_alone = with_rule (with_rule (with_rule (new_app (codes "run")) stop_rule) every_rule) log_rule
 
--- `twarp run --stop N [--every T] [--log] [--workers W] [--batch B]`
+-- `twarp run --stop N [--every T] [--log] [--workers W] [--batch B] [--lazy]`
 abbrev pub run_app : App
-run_app = with_rule (with_rule run_app_alone workers_rule) batch_rule
+run_app = with_rule (with_rule (with_rule run_app_alone workers_rule) batch_rule) lazy_rule
 
 -- `twarp trail --router R --stop S --keep K`
 abbrev pub trail_app : App
 trail_app = with_rule (with_rule (with_rule (new_app (codes "trail")) router_rule) stop_rule) keep_rule
 
--- `twarp replay --stop N [--workers W]`
+-- `twarp replay --stop N [--workers W] [--lazy]`
 abbrev pub replay_app : App
-replay_app = with_rule (with_rule (new_app (codes "replay")) stop_rule) workers_rule
+replay_app = with_rule (with_rule (with_rule (new_app (codes "replay")) stop_rule) workers_rule) lazy_rule
 
 -- `twarp`, which asks for a subcommand, and has a version that it tells at `--version` and `-V`
 abbrev pub top_app : App

@@ -3,7 +3,7 @@
 ghost use Rattle.std.specs.Prelude.{IfOk, ◌≡◌, false};
 ghost use Rattle.clap.specs.Words.{app_of, rule_of};
 ghost use Rattle.clap.specs.declared.builder.command.Command.TheViews.{out-Command as fields_of};
-ghost use Rattle.tw_options.specs.App.{check_app, log_rule, replay_app, report_app, run_app, run_app_alone, seq_app, top_app, trail_app, twarp_app};
+ghost use Rattle.tw_options.specs.App.{check_app, lazy_rule, log_rule, replay_app, report_app, run_app, run_app_alone, seq_app, top_app, trail_app, twarp_app};
 
 use crate::help;
 use crate::number::{BATCH, EVERY, KEEP, ROUTER, STOP, THREADS, WORKERS};
@@ -71,7 +71,8 @@ fn run<'a>(alloc: Global) -> Result<Command<'a>, AllocError>
 {
     run_alone(alloc)?
         .arg(THREADS.arg(alloc))?
-        .arg(BATCH.arg(alloc))
+        .arg(BATCH.arg(alloc))?
+        .arg(lazy(alloc))
 }
 
 /// `run` with the options that it shares with `seq`.
@@ -99,6 +100,16 @@ fn log<'a>(alloc: Global) -> Arg<'a>
         .help("Report each event of the run too")
 }
 
+fn lazy<'a>(alloc: Global) -> Arg<'a>
+    ensures rule { rule_of result ≡ lazy_rule }
+    ensures local { result.global ≡ false }
+{
+    Arg::new(alloc, "lazy")
+        .long("lazy")
+        .action(ArgAction::SetTrue)
+        .help("Take back what an undone event has sent as late as may be")
+}
+
 fn trail<'a>(alloc: Global) -> Result<Command<'a>, AllocError>
     ensures app { IfOk result (λ command. app_of command ≡ trail_app) }
     ensures local { IfOk result (λ command. (fields_of command).has_globals ≡ false) }
@@ -121,5 +132,6 @@ fn replay<'a>(alloc: Global) -> Result<Command<'a>, AllocError>
         .long_about(help::REPLAY_LONG)
         .after_help(help::STATUSES)
         .arg(STOP.arg(alloc))?
-        .arg(WORKERS.arg(alloc))
+        .arg(WORKERS.arg(alloc))?
+        .arg(lazy(alloc))
 }

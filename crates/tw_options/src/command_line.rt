@@ -35,6 +35,8 @@ pub enum CommandLine {
         workers: u32,
         /// How many events a worker handles at most between two meetings, from 1 to 4,096.
         batch: u32,
+        /// Whether what an undone event has sent is taken back as late as may be.
+        lazy: bool,
     },
     /// One router's events of the run of a case below `stop`, the last ones undone.
     Trail {
@@ -51,6 +53,8 @@ pub enum CommandLine {
         stop: u64,
         /// How many workers the routers are dealt out to, from 1 to 16.
         workers: u32,
+        /// As of `Run`.
+        lazy: bool,
     },
 }
 
@@ -92,6 +96,7 @@ fn run_of(given: &ArgMatches<'_>) -> CommandLine
         log: is_set(given, "log"),
         workers: THREADS.read_or(given, 4) as u32,
         batch: BATCH.read_or(given, 64) as u32,
+        lazy: is_set(given, "lazy"),
     }
 }
 
@@ -113,6 +118,7 @@ fn replay_of(given: &ArgMatches<'_>) -> CommandLine
     CommandLine::Replay {
         stop: STOP.read(given),
         workers: WORKERS.read_or(given, 1) as u32,
+        lazy: is_set(given, "lazy"),
     }
 }
 

@@ -68,6 +68,10 @@ Where a message comes late, its router rolls back. The report is that of seq, by
 whatever the number of workers and the batch: each router's counters and path at the end of the
 run, and a verdict. `twarp seq --help` says what the verdicts mean.
 
+What an event has sent is taken back where the event is undone: at once, or, with --lazy, only
+once the router has come past it without sending the same again (lazy cancellation). The report
+is the same.
+
 An oscillation is looked for where --every is given. The workers then come together at
 each checkpoint, so that a small --every makes them wait for one another often.
 
@@ -112,6 +116,10 @@ Reads a case text from standard input and behind it the steps, with an `end` of 
   deliver K  the message at place K in flight, from 1, reaches its router
   bound      the bound becomes the least time of all that is not handled, or --stop
   commit R   router R's events below the bound are committed, and stay
+  release R  router R sends the antimessages that --lazy holds back
+
+With --lazy, what an undone event had sent is held in place of sending antimessages, and what
+router R sends again is not sent twice. The counts then end with how much is held.
 
 The answer has `ok`, or `refused` with the reason, for each step; then the bound, how much is in
 flight, pending, kept and handled ahead, the committed events, and the routers. Of this text the

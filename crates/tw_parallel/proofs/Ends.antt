@@ -78,6 +78,23 @@ in_flight a is = flight_count (sim_of a) a.shards.items a.hands.items refl is.ha
 abbrev pub TellsStill : Bool → Sim → Type 0
 TellsStill b s = (IsTrue b → (machine s).flight ≡ []) × ((machine s).flight ≡ [] → IsTrue b)
 
+-- ---- what is held
+
+-- in shards
+parts_held : (stop : ℕ) (ss : List Shard) (hs : List Hand) → length hs ≡ length ss
+    → flat_map (λ (p : Part Event). p.core.held) (map (part_of stop) (map place_of (shares_of ss hs))) ≡ flat_map (λ (s : Shard). s.held) ss
+parts_held stop [] hs same = refl
+parts_held stop (s ∷ ss) [] same = absurd (omega arith)
+parts_held stop (s ∷ ss) (h ∷ hs) same = ap (λ es. s.held ++ es) (parts_held stop ss hs (omega arith))
+
+-- the same of the fields
+pub in_shards : (a : Inside) → IsInside a → (machine (sim_of a)).held ≡ flat_map (λ (s : Shard). s.held) a.shards.items
+in_shards a is = parts_held a.exchange.stop a.shards.items a.hands.items is.hands
+
+-- whether nothing is held
+abbrev pub HoldsNothing : Bool → Sim → Type 0
+HoldsNothing b s = (IsTrue b → (machine s).held ≡ []) × ((machine s).held ≡ [] → IsTrue b)
+
 -- ---- what is not committed
 
 shorter : {X : Type 0} (p : X → Bool) (xs : List X) → length (filter p xs) ≤ length xs
@@ -119,15 +136,12 @@ zero_each f from (suc n) r h least most =
       | inr later ↦ zero_each f (from + 1) n r (omega arith) (grind arith) (omega arith)
     ]
 
--- nothing is held
-none_held : (stop : ℕ) (shares : List Share) → flat_map (λ (p : Part Event). p.core.held) (map (part_of stop) (map place_of shares)) ≡ []
-none_held stop [] = refl
-none_held stop (s ∷ shares) = none_held stop shares
-
-pub settled_from : (s : Sim) → (machine s).bound ≡ (machine s).stop → (machine s).flight ≡ [] → total (λ r. ahead_of s r) (range_with_len 0 s.case.net.nodes) ≡ 0 → IsSettled s
-settled_from s bound flight none_ahead = record {
+pub settled_from : (s : Sim) → (machine s).bound ≡ (machine s).stop → (machine s).flight ≡ [] → (machine s).held ≡ []
+    → total (λ r. ahead_of s r) (range_with_len 0 s.case.net.nodes) ≡ 0 → IsSettled s
+settled_from s bound flight held none_ahead = record {
   bound = bound;
   flight = flight;
+  held = held;
   committed = λ r l.
       let zero_here = zero_each (λ r. ahead_of s r) 0 s.case.net.nodes r none_ahead (omega arith) (omega arith) in
       whole_filter _ ((machine s).history r) (omega arith);
@@ -146,7 +160,7 @@ module _ (s : Sim) (is : IsSim s) (settled : IsSettled s) where
       let good = good_of s is in
       at_end (simulation s.case) (law s is) (numbered s.case is.ruled.is_case) (machine s) good (record {
         flight = settled.flight;
-        held = none_held s.board.stop s.shares;
+        held = settled.held;
         pending = λ e there. let late = good.late e (omega arith) in let last = settled.bound in omega arith;
       })
 

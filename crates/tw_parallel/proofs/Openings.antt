@@ -20,6 +20,7 @@ use Rattle.tw_rule.specs.Place.{Place, part_of}
 use Rattle.tw_rule.specs.Rule.{AreOpeningPlaces, IsOpeningPlace, Rule}
 use Rattle.tw_shard.specs.Shard.{IsOpeningShard, Shard}
 use Rattle.tw_sim.specs.Simulation.{Simulation, times}
+use Rattle.tw_sim.specs.declared.machine.Cancel.{Cancel}
 use Rattle.tw_sim.specs.declared.machine.Signed.{Signed}
 use Rattle.tw_table.specs.declared.hand.Hand.{Hand}
 use Rattle.tw_table.specs.Shares.{Share, board_of, place_of, share, shares_of}
@@ -35,19 +36,19 @@ long_row : {X : Type 0} (n : ℕ) (x : X) → length (replicate n x) ≡ n
 long_row zero x = refl
 long_row (suc n) x = let more = long_row n x in omega arith
 
-module _ (case : Case) (is : IsCase case) (n : ℕ) (keeps : Bool) where
+module _ (case : Case) (is : IsCase case) (n : ℕ) (keeps : Bool) (cancel : Cancel) where
   -- a shard and a hand that begin are a place that begins
-  place_opens : (k : ℕ) (s : Shard) (h : Hand) → IsOpeningShard case k n keeps s → IsEmptyHand h → IsOpeningPlace (simulation case) (owner n) k (place_of (share s h))
+  place_opens : (k : ℕ) (s : Shard) (h : Hand) → IsOpeningShard case k n keeps cancel s → IsEmptyHand h → IsOpeningPlace (simulation case) (owner n) k (place_of (share s h))
   place_opens k s h at empty = record {
     worker = at.worker;
     owns = λ r l.
         (λ i. nat_lt r (at.case_is i).net.nodes && (owner (at.count i) r == at.worker i))
         ∙ ap (λ b. b && (owner n r == k)) (lt-ltb r case.net.nodes l);
     history = λ r. ap (λ (C : Core Event). C.history r) (at.core_is 0);
-    pending = λ e. waits case is n keeps k s e at;
+    pending = λ e. waits case is n keeps cancel k s e at;
     kept = ap (λ (C : Core Event). C.kept) (at.core_is 0);
     outgoing = ap (λ (C : Core Event). C.flight) (at.core_is 0);
-    held = refl;
+    held = ap (λ (C : Core Event). C.held) (at.core_is 0);
     done = λ r. ap (λ (C : Core Event). C.done r) (at.core_is 0);
     bound = ap (λ (C : Core Event). C.bound) (at.core_is 0);
     mail = λ i. drop (empty.next i) (empty.mail i);
@@ -56,13 +57,13 @@ module _ (case : Case) (is : IsCase case) (n : ℕ) (keeps : Bool) where
 
   -- the shards of the workers from k on begin
   abbrev Begin : ℕ → List Shard → Type 0
-  Begin k ss = (j : ℕ) → j < length ss → IsOpeningShard case (k + j) n keeps (get_or ss j no_shard)
+  Begin k ss = (j : ℕ) → j < length ss → IsOpeningShard case (k + j) n keeps cancel (get_or ss j no_shard)
 
-  first : (k : ℕ) (s : Shard) (ss : List Shard) → Begin k (s ∷ ss) → IsOpeningShard case k n keeps s
-  first k s ss each = subst (λ i. IsOpeningShard case i n keeps s) (omega arith) (each 0 (omega arith))
+  first : (k : ℕ) (s : Shard) (ss : List Shard) → Begin k (s ∷ ss) → IsOpeningShard case k n keeps cancel s
+  first k s ss each = subst (λ i. IsOpeningShard case i n keeps cancel s) (omega arith) (each 0 (omega arith))
 
   later : (k : ℕ) (s : Shard) (ss : List Shard) → Begin k (s ∷ ss) → Begin (k + 1) ss
-  later k s ss each = λ j h. subst (λ i. IsOpeningShard case i n keeps (get_or ss j no_shard)) (omega arith) (each (suc j) (omega arith))
+  later k s ss each = λ j h. subst (λ i. IsOpeningShard case i n keeps cancel (get_or ss j no_shard)) (omega arith) (each (suc j) (omega arith))
 
   places_open : (k : ℕ) (ss : List Shard) (hs : List Hand) → Begin k ss → AllByRecursion IsEmptyHand hs → length hs ≡ length ss
       → AreOpeningPlaces (simulation case) (owner n) k (map place_of (shares_of ss hs))
@@ -149,16 +150,16 @@ module _ {S E : Type 0} (m : Simulation S E) (who : ℕ → ℕ) (stop : ℕ) wh
   none_flies k (p ∷ ps) h = λ i. ((h.0.mail i ++ h.0.unsent i) ++ h.0.outgoing i) ++ none_flies (suc k) ps h.1 i
 
 -- shards and hands that begin, with a new exchange for as many workers
-module _ (case : Case) (is : IsCase case) (n : ℕ) (keeps : Bool) (some : 0 < n) (ss : List Shard) (hs : List Hand) (count : length ss ≡ n) (same : length hs ≡ length ss)
-    (each : (k : ℕ) → k < n → IsOpeningShard case k n keeps (get_or ss k no_shard)) (empty : AllByRecursion IsEmptyHand hs) where
+module _ (case : Case) (is : IsCase case) (n : ℕ) (keeps : Bool) (cancel : Cancel) (some : 0 < n) (ss : List Shard) (hs : List Hand) (count : length ss ≡ n) (same : length hs ≡ length ss)
+    (each : (k : ℕ) → k < n → IsOpeningShard case k n keeps cancel (get_or ss k no_shard)) (empty : AllByRecursion IsEmptyHand hs) where
   abbrev pub new_sim : Sim
   new_sim = record { case = case; board = opening n 0 0; shares = shares_of ss hs }
 
-  from_zero : Begin case is n keeps 0 ss
-  from_zero j h = subst (λ k. IsOpeningShard case k n keeps (get_or ss j no_shard)) (omega arith) (each j (omega arith))
+  from_zero : Begin case is n keeps cancel 0 ss
+  from_zero j h = subst (λ k. IsOpeningShard case k n keeps cancel (get_or ss j no_shard)) (omega arith) (each j (omega arith))
 
   new_places : AreOpeningPlaces (simulation case) (owner n) 0 (map place_of (shares_of ss hs))
-  new_places = places_open case is n keeps 0 ss hs from_zero empty same
+  new_places = places_open case is n keeps cancel 0 ss hs from_zero empty same
 
   many : workers (opening n 0 0) ≡ n
   many = long_row n (Some 0)
@@ -182,10 +183,10 @@ module _ (case : Case) (is : IsCase case) (n : ℕ) (keeps : Bool) (some : 0 < n
       let workers_are = many in
       record {
         some = omega arith;
-        order = in_order case is n keeps 0 ss hs from_zero same ∙ ap (range_with_len 0) (omega arith);
+        order = in_order case is n keeps cancel 0 ss hs from_zero same ∙ ap (range_with_len 0) (omega arith);
         ruled = record {
           is_case = is;
-          cases = all_of_case case is n keeps 0 ss hs from_zero same;
+          cases = all_of_case case is n keeps cancel 0 ss hs from_zero same;
           count = omega arith;
           rule = subst (λ k. Rule (simulation case) (owner k) (board_of (opening n 0 0)) (map place_of (shares_of ss hs))) (sym many) new_rule;
         };
@@ -198,12 +199,12 @@ module _ (case : Case) (is : IsCase case) (n : ℕ) (keeps : Bool) (some : 0 < n
       let ps = map place_of (shares_of ss hs) in
       record {
         history = λ r. no_history m (owner n) 0 r 0 ps new_places;
-        pending = λ e. ap (times m e) (pending_of 0 ss hs same) ∙ (all_wait case is n keeps e ss 0 from_zero).0 (omega arith) (let within : owner n e.dst < n = omega arith in omega arith);
+        pending = λ e. ap (times m e) (pending_of 0 ss hs same) ∙ (all_wait case is n keeps cancel e ss 0 from_zero).0 (omega arith) (let within : owner n e.dst < n = omega arith in omega arith);
         kept = none_kept m (owner n) 0 0 ps new_places;
         flight = λ i. no_mail n i ++ none_flies m (owner n) 0 0 ps new_places i;
         held = none_held m (owner n) 0 0 ps new_places;
         done = λ r. none_done m (owner n) 0 r 0 ps new_places;
-        past = λ r. none_past m (owner n) 0 r ps (nothing_past case is n keeps r 0 ss hs from_zero same);
+        past = λ r. none_past m (owner n) 0 r ps (nothing_past case is n keeps cancel r 0 ss hs from_zero same);
         bound = refl;
-        room = λ r. first_room m (owner n) 0 r ps (opening_rooms case is n keeps r 0 ss hs from_zero same);
+        room = λ r. first_room m (owner n) 0 r ps (opening_rooms case is n keeps cancel r 0 ss hs from_zero same);
       }

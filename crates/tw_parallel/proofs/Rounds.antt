@@ -64,6 +64,7 @@ goes_on s y shares is whole same bound = record {
   case = refl;
   workers = same_workers s y shares is whole same;
   keeps = still_keep s.shares shares same;
+  cancels = same_map (λ (t : Shard). t.cancel) (λ t u is. is.cancel) s.shares shares same;
   bound = bound;
 }
 
@@ -72,6 +73,7 @@ goes_on_both s t u one two = record {
   case = two.case ∙ one.case;
   workers = two.workers ∙ one.workers;
   keeps = λ all. two.keeps (one.keeps all);
+  cancels = two.cancels ∙ one.cancels;
   bound = (let a = one.bound in let b = two.bound in omega (arith, a, b));
 }
 

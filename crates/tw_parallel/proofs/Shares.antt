@@ -2,7 +2,9 @@
 use Rattle.std.proofs.Common.{◌≡◌, ℕ, zero, suc, ◌+◌, ◌<◌, ◌↔◌, true, List, [], ◌∷◌, drop, get_or, length, map, slice_get, Some, refl, ap, arith}
 use Rattle.std.proofs.lemmas.Bool.{and_parts}
 use Rattle.std.specs.List.{AllByRecursion, list_all, range_with_len}
+use Rattle.std.specs.Prelude.{replicate}
 use Rattle.tw_shard.specs.Shard.{Shard}
+use Rattle.tw_sim.specs.declared.machine.Cancel.{Cancel}
 use Rattle.tw_table.specs.declared.hand.Hand.{Hand}
 use Rattle.tw_table.specs.Shares.{Share, share, shares_of}
 use Rattle.tw_warp.specs.Warp.{no_shard}
@@ -39,7 +41,15 @@ all_keep [] hs each = tt
 all_keep (s ∷ ss) [] each = tt
 all_keep (s ∷ ss) (h ∷ hs) each = (each 0 (omega arith), all_keep ss hs (λ k l. each (suc k) (omega arith)))
 
--- all of them do where each shard does
+-- shards that take back at this time, with a hand each
+pub all_take : (cancel : Cancel) (ss : List Shard) (hs : List Hand) → length hs ≡ length ss → ((k : ℕ) → k < length ss → (get_or ss k no_shard).cancel ≡ cancel)
+    → map (λ (t : Share). t.shard.cancel) (shares_of ss hs) ≡ replicate (length ss) cancel
+all_take cancel [] hs same each = refl
+all_take cancel (s ∷ ss) [] same each = absurd (omega arith)
+all_take cancel (s ∷ ss) (h ∷ hs) same each =
+    λ i. each 0 (omega arith) i ∷ all_take cancel ss hs (omega arith) (λ k l. each (suc k) (omega arith)) i
+
+-- all of them keep their events where each shard does
 pub keep_all : (ss : List Shard) (hs : List Hand) → length hs ≡ length ss → (list_all (λ (s : Shard). s.keeps) ss ≡ true) ↔ AllByRecursion (λ (t : Share). t.shard.keeps ≡ true) (shares_of ss hs)
 keep_all [] hs same = ((λ h. tt), (λ h. refl))
 keep_all (s ∷ ss) [] same = absurd (omega arith)

@@ -16,6 +16,8 @@ pub record IsSettled (s : Sim) : Type 0 where
   pub bound : (machine s).bound ≡ (machine s).stop
   -- no message is on its way
   pub flight : (machine s).flight ≡ []
+  -- nothing is held
+  pub held : (machine s).held ≡ []
   -- and every handled event is committed
   pub committed : (r : ℕ) → r < s.case.net.nodes → committed (simulation s.case) (machine s) r ≡ (machine s).history r
 

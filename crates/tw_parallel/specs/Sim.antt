@@ -8,6 +8,7 @@ use Rattle.tw_exchange.specs.Board.{Board, workers}
 use Rattle.tw_model.specs.Case.{Case, simulation}
 use Rattle.tw_model.specs.declared.limits.TheConstants.{LATEST}
 use Rattle.tw_rule.specs.Rule.{assembled}
+use Rattle.tw_sim.specs.declared.machine.Cancel.{Cancel}
 use Rattle.tw_sim.specs.Ordered.{insert_all}
 use Rattle.tw_table.specs.Shares.{IsRuled, Share, board_of, place_of}
 
@@ -36,6 +37,10 @@ pub record IsSim (s : Sim) : Type 0 where
 abbrev pub KeepsEvents : Sim → Type 0
 KeepsEvents s = AllByRecursion (λ t. t.shard.keeps ≡ true) s.shares
 
+-- when each worker takes back what undone events have sent
+abbrev pub cancels_of : Sim → List Cancel
+cancels_of s = map (λ t. t.shard.cancel) s.shares
+
 -- the committed events of all routers, in the order of events
 abbrev pub committed_events : Sim → List Event
 committed_events s = insert_all event_before (flat_map (λ r. committed (simulation s.case) (machine s) r) (range_with_len 0 s.case.net.nodes)) []
@@ -44,9 +49,11 @@ committed_events s = insert_all event_before (flat_map (λ r. committed (simulat
 abbrev pub reopened : ℕ → Sim → Sim
 reopened stop s = record s { board = record s.board { stop = stop; halted = false } }
 
--- the run later: of the same case, with as many workers, whose routers keep their events if they did, its bound not fallen
+-- the run later: of the same case, with as many workers, whose routers keep their events if they did and take back what undone events
+-- have sent as before, its bound not fallen
 pub record GoesOn (s t : Sim) : Type 0 where
   pub case : t.case ≡ s.case
   pub workers : workers t.board ≡ workers s.board
   pub keeps : KeepsEvents s → KeepsEvents t
+  pub cancels : cancels_of t ≡ cancels_of s
   pub bound : s.board.bound ≤ t.board.bound

@@ -18,7 +18,7 @@ pub(crate) fn count_mail(exchange: &Exchange) -> u128
 }
 
 /// How many messages are in hands.
-pub(crate) fn count_held(hands: &[Hand]) -> u128
+pub(crate) fn count_in_hands(hands: &[Hand]) -> u128
     ensures { result ≡ length (flat_map (λ h. drop h.next h.mail.items ++ h.out.items) hands.now) }
 {
     let mut count = 0_u128;

@@ -11,21 +11,21 @@ ghost use Rattle.tw_shard.specs.Shards.{greatest};
 ghost use Rattle.tw_shape.specs.Shape.{bare, shape as shape_at};
 ghost use Rattle.tw_sim.specs.Seq.{log as run_log, rest};
 
-use crate::counts::{count_held, count_mail};
+use crate::counts::{count_in_hands, count_mail};
 use crate::sim::Sim;
 use std::alloc::AllocError;
 use thiserror::Error;
 use tw_model::{OrMemory, Outcome, RouterEnd};
 use tw_shape::{Shape, ShapeBuilder};
-use tw_shard::shards::{count_outgoing, last_change, router_ends};
+use tw_shard::shards::{count_held, count_outgoing, last_change, router_ends};
 
-/// The bound is below the stop, a message is on its way, or a handled event is not committed.
+/// The bound is below the stop, a message is on its way or held, or a handled event is not committed.
 #[derive(Clone, Copy, PartialEq, Eq, Debug, Error)]
 #[error("the run has not come to its stop")]
 pub struct NotSettled;
 
 impl Sim<'_> {
-    /// Whether the run has come to its stop: the bound is the stop, no message is on its way, and every
+    /// Whether the run has come to its stop: the bound is the stop, no message is on its way or held, and every
     /// handled event is committed.
     pub fn is_settled(&self) -> bool
         ensures value { IsTrue result ↔ IsSettled self.now }
@@ -35,6 +35,9 @@ impl Sim<'_> {
             return false;
         }
         if !self.is_still() {
+            return false;
+        }
+        if !self.holds_nothing() {
             return false;
         }
         self.ahead() == 0
@@ -47,10 +50,17 @@ impl Sim<'_> {
         if count_mail(&self.exchange) > 0 {
             return false;
         }
-        if count_held(&self.hands) > 0 {
+        if count_in_hands(&self.hands) > 0 {
             return false;
         }
         count_outgoing(&self.shards) == 0
+    }
+
+    /// Whether no message is held.
+    fn holds_nothing(&self) -> bool
+        ensures { IsTrue result ↔ ((machine self.now).held ≡ []) }
+    {
+        count_held(&self.shards) == 0
     }
 
     /// What the run leaves at its stop, its events only where `log` asks for them: all of it is that of the

@@ -1,5 +1,5 @@
 //! A parallel run between two runs of its workers, and what it consists of.
-ghost use Rattle.std.specs.Prelude.{◌≡◌, ◌↔◌, ◌<◌, ◌≤◌, true, IfOk, IsOk, IsTrue, OnErr, OnOk, length};
+ghost use Rattle.std.specs.Prelude.{◌≡◌, ◌↔◌, ◌<◌, ◌≤◌, true, IfOk, IsOk, IsTrue, OnErr, OnOk, length, replicate};
 ghost use Rattle.std.specs.List.{list_all};
 ghost use Rattle.tw_core.specs.Machine.{IsOpening};
 ghost use Rattle.tw_core.specs.Run.{IsSeq};
@@ -7,7 +7,8 @@ ghost use Rattle.tw_exchange.specs.Board.{opening, workers};
 ghost use Rattle.tw_model.specs.Case.{simulation};
 ghost use Rattle.tw_model.specs.declared.limits.TheConstants.{LATEST};
 ghost use Rattle.tw_parallel.specs.Inside.{HasHands, sim_of_parts};
-ghost use Rattle.tw_parallel.specs.Sim.{IsSim, KeepsEvents, machine, reopened};
+ghost use Rattle.tw_parallel.specs.Sim.{IsSim, KeepsEvents, cancels_of, machine, reopened};
+ghost use Rattle.tw_sim.specs.declared.machine.Cancel.TheVariants.{Aggressive};
 ghost use Rattle.tw_sim.specs.Simulation.{state};
 
 use crate::hands::open_hands;
@@ -19,6 +20,7 @@ use tw_model::limits::LATEST;
 use tw_router::Router;
 use tw_shard::Shard;
 use tw_shard::shards::{open_all, shard_for};
+use tw_sim::Cancel;
 use tw_table::Hand;
 use tw_warp::StopLower;
 
@@ -56,9 +58,7 @@ impl<'a> Model for Sim<'a> {
 }
 
 impl<'a> Sim<'a> {
-    /// A case as it begins, with its routers dealt out to so many workers in turn: bound and stop are 0, and
-    /// nothing is handled. There is one worker at least. Routers keep their committed events, or let them go.
-    /// It fails for want of memory alone.
+    /// A case as it begins, as [`Sim::open_with`] gives it; what an undone event has sent is taken back at once.
     pub fn open(
         alloc: Global,
         case: &'a Case,
@@ -70,9 +70,31 @@ impl<'a> Sim<'a> {
         ensures board { IfOk result (λ sim. sim.board ≡ opening workers 0 0) }
         ensures opens { IfOk result (λ sim. IsOpening (simulation case.now) (machine sim)) }
         ensures keeps { keeps ≡ true → IfOk result (λ sim. KeepsEvents sim) }
+        ensures cancels { IfOk result (λ sim. cancels_of sim ≡ replicate workers Aggressive) }
+    {
+        Sim::open_with(alloc, case, workers, keeps, Cancel::Aggressive)
+    }
+
+    /// A case as it begins, with its routers dealt out to so many workers in turn: bound and stop are 0, and
+    /// nothing is handled. There is one worker at least. Routers keep their committed events, or let them go.
+    /// What an undone event has sent is taken back at once, or as late as may be. It fails for want of memory
+    /// alone.
+    pub fn open_with(
+        alloc: Global,
+        case: &'a Case,
+        workers: u32,
+        keeps: bool,
+        cancel: Cancel,
+    ) -> Result<Sim<'a>, AllocError>
+        requires { 0 < workers }
+        ensures case { IfOk result (λ sim. sim.case ≡ case.now) }
+        ensures board { IfOk result (λ sim. sim.board ≡ opening workers 0 0) }
+        ensures opens { IfOk result (λ sim. IsOpening (simulation case.now) (machine sim)) }
+        ensures keeps { keeps ≡ true → IfOk result (λ sim. KeepsEvents sim) }
+        ensures cancels { IfOk result (λ sim. cancels_of sim ≡ replicate workers cancel) }
     {
         let exchange = Exchange::new(alloc, workers, 0, 0)?;
-        let shards = open_all(alloc, case, workers, keeps)?;
+        let shards = open_all(alloc, case, workers, keeps, cancel)?;
         let hands = open_hands(alloc, workers)?;
         // What a case keeps is told by a read of it.
         let _ = case.instance();

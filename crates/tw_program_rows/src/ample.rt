@@ -10,6 +10,7 @@ use tw_parallel::{OpenGate, Options, Sim, run_until};
 use tw_rows::cases::case;
 use tw_rows::texts::DISAGREE;
 use tw_run::run_io;
+use tw_sim::Cancel;
 
 /// Whether a program ends well on a text.
 fn ends_well(alloc: Global, asked: Asked, text: &str) -> bool {
@@ -35,7 +36,18 @@ fn a_program_with_threads_ends_well(rt: HostRuntime) {
         panic!(rt; "no memory")
     };
     let mut tape = Tape::new(DISAGREE.as_bytes(), usize::MAX);
-    let ended = run_io(&rt, alloc, &mut tape, &mut page, 20, Some(1), true, 2, 64);
+    let ended = run_io(
+        &rt,
+        alloc,
+        &mut tape,
+        &mut page,
+        20,
+        Some(1),
+        true,
+        2,
+        64,
+        Cancel::Lazy,
+    );
     assert!(rt; ended == Ok(Status::Done));
 }
 
@@ -53,7 +65,7 @@ fn a_parallel_run_succeeds(rt: HostRuntime) {
     let Ok(case) = case(rt.alloc(), DISAGREE) else {
         panic!(rt; "refused")
     };
-    let Ok(sim) = Sim::open(rt.alloc(), &case, 2, true) else {
+    let Ok(sim) = Sim::open_with(rt.alloc(), &case, 2, true, Cancel::Lazy) else {
         panic!(rt; "no memory")
     };
     let Ok(sim) = run_until(&rt, sim, 20, Options { batch: 64 }, &OpenGate) else {

@@ -7,6 +7,7 @@ use crate::texts::{ALONE_LOG, ALONE_REPLAY, DISAGREE_LOG, DISAGREE_TRAIL};
 use std::alloc::Global;
 use tw_commands::{Cause, Status, check_io, replay_io, seq_io, trail_io};
 use tw_rows::texts::{ALONE, DISAGREE};
+use tw_sim::Cancel;
 
 /// A program, with its options.
 #[derive(Clone, Copy, Debug)]
@@ -33,7 +34,7 @@ pub(crate) fn run(
         Asked::Check => check_io(alloc, tape, page),
         Asked::Seq { stop } => seq_io(alloc, tape, page, u64::from(stop), None, true),
         Asked::Trail => trail_io(alloc, tape, page, 1, 20, 0),
-        Asked::Replay => replay_io(alloc, tape, page, 20, 1),
+        Asked::Replay => replay_io(alloc, tape, page, 20, 1, Cancel::Aggressive),
     }
 }
 

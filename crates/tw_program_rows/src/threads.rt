@@ -15,6 +15,7 @@ use tw_parallel::{EndCause, Ended, Gate, OpenGate, Options, Sim, run_until};
 use tw_rows::cases::case;
 use tw_rows::texts::DISAGREE;
 use tw_run::run_io;
+use tw_sim::Cancel;
 use tw_table::Seat;
 
 /// How `run` to stop 20 by two workers ends on a text, with the log on the page that it wrote. It is run once
@@ -29,7 +30,18 @@ fn answer<X: Threads + Wait + Sync>(
             continue;
         };
         let mut tape = Tape::new(text.as_bytes(), usize::MAX);
-        match run_io(rt, alloc, &mut tape, &mut page, 20, None, true, 2, 64) {
+        match run_io(
+            rt,
+            alloc,
+            &mut tape,
+            &mut page,
+            20,
+            None,
+            true,
+            2,
+            64,
+            Cancel::Aggressive,
+        ) {
             Err(Cause::Memory | Cause::NoThread) if page.bytes().is_empty() => {}
             ended => return Some((ended, page)),
         }

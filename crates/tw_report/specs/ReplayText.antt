@@ -1,5 +1,5 @@
 -- The replay of a list of steps of the machine (own).
-use Rattle.std.specs.Prelude.{ℕ, List, [], ◌∷◌, ◌++◌, codes, Result, Ok, Err}
+use Rattle.std.specs.Prelude.{ℕ, List, [], ◌∷◌, ◌++◌, codes, Option, None, Some, Result, Ok, Err}
 use Rattle.std.specs.Fmt.{decimal}
 use Rattle.std.specs.List.{All, enumerate_from, flat_map}
 use Rattle.tw_core.specs.declared.refusal.Refusal.{Refusal}
@@ -42,10 +42,16 @@ step_words n (Err f) = refused_words (Step n) (refusal_label f).0 (refusal_label
 abbrev pub step_lines : ℕ → List (Result (Unit {0}) Refusal) → List ℕ
 step_lines n answers = flat_map (λ a. line (step_words a.0 a.1)) (enumerate_from n answers)
 
--- how many messages are in flight, events pending, antimessages kept, and events handled that are not committed
+-- how many messages are held, where they may be
+abbrev pub held_words : Option ℕ → List (List ℕ)
+held_words None = []
+held_words (Some n) = codes "held" ∷ decimal n ∷ []
+
+-- how many messages are in flight, events pending, antimessages kept, events handled that are not committed, and messages held
 abbrev pub counts_words : Counts → List (List ℕ)
 counts_words c =
-    codes "flight" ∷ decimal c.flight ∷ codes "pending" ∷ decimal c.pending ∷ codes "kept" ∷ decimal c.kept ∷ codes "ahead" ∷ decimal c.ahead ∷ []
+    codes "flight" ∷ decimal c.flight ∷ codes "pending" ∷ decimal c.pending ∷ codes "kept" ∷ decimal c.kept ∷ codes "ahead" ∷ decimal c.ahead
+    ∷ held_words c.held
 
 -- the name of the format, and the steps
 unfoldable pub told_lines : List (Result (Unit {0}) Refusal) → List ℕ

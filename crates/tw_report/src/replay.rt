@@ -2,7 +2,7 @@
 
 ghost use Rattle.std.specs.Prelude.{◌≡◌, false};
 ghost use Rattle.tw_device.specs.Sink.{Puts};
-ghost use Rattle.tw_report.specs.ReplayText.{ShowsPaths, replay_text, replayed_of, standing_lines, step_lines, step_words, told_lines};
+ghost use Rattle.tw_report.specs.ReplayText.{ShowsPaths, counts_words, replay_text, replayed_of, standing_lines, step_lines, step_words, told_lines};
 ghost use Rattle.tw_report.specs.Words.{line};
 
 use crate::event_page::put_events;
@@ -42,6 +42,9 @@ pub struct Counts {
     pub kept: u128,
     /// Events handled that are not committed.
     pub ahead: u128,
+    /// Messages that are held, which events that were undone had sent; `None` where what these have sent is taken
+    /// back at once, so that nothing is ever held.
+    pub held: Option<u128>,
 }
 
 /// Writes the replay of a list of steps: a line for each step, the bound, the counts, and a line for
@@ -101,17 +104,28 @@ fn put_standing<S: Sink>(sink: &mut S, bound: u64, counts: &Counts) -> Result<()
     ensures { Puts result (S.written sink.old) (S.written sink.new) (S.failed sink.new) (standing_lines bound counts.now) }
 {
     put_line(sink, &[Name("bound"), Number(bound)])?;
-    put_line(
-        sink,
-        &[
-            Name("flight"),
-            Count(counts.flight),
-            Name("pending"),
-            Count(counts.pending),
-            Name("kept"),
-            Count(counts.kept),
-            Name("ahead"),
-            Count(counts.ahead),
-        ],
-    )
+    put_counts(sink, counts)
+}
+
+/// Puts the line of the counts.
+fn put_counts<S: Sink>(sink: &mut S, counts: &Counts) -> Result<(), Failed>
+    requires open { S.failed sink.old ≡ false }
+    ensures { Puts result (S.written sink.old) (S.written sink.new) (S.failed sink.new) (line (counts_words counts.now)) }
+{
+    let words = [
+        Name("flight"),
+        Count(counts.flight),
+        Name("pending"),
+        Count(counts.pending),
+        Name("kept"),
+        Count(counts.kept),
+        Name("ahead"),
+        Count(counts.ahead),
+        Name("held"),
+        Count(counts.held.unwrap_or(0)),
+    ];
+    match counts.held {
+        Some(_) => put_line(sink, &words),
+        None => put_line(sink, &words[..8]),
+    }
 }

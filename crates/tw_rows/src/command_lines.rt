@@ -105,22 +105,34 @@ fn the_numbers_given_are_those_asked_for(rt: HostRuntime) {
 
 #[test]
 fn a_replay_has_one_worker_where_no_number_is_given(rt: HostRuntime) {
-    let rows: [(&[&str], u64, u32); 3] = [
-        (&["twarp", "replay", "--stop", "20"], 20, 1),
-        (&["twarp", "replay", "--workers", "3", "--stop", "1"], 1, 3),
+    let rows: [(&[&str], u64, u32, bool); 4] = [
+        (&["twarp", "replay", "--stop", "20"], 20, 1, false),
+        (
+            &["twarp", "replay", "--workers", "3", "--stop", "1"],
+            1,
+            3,
+            false,
+        ),
+        (&["twarp", "replay", "--lazy", "--stop", "20"], 20, 1, true),
         (
             &["twarp", "replay", "--stop", "1000000000", "--workers", "16"],
             1_000_000_000,
             16,
+            false,
         ),
     ];
-    for (words, stop, workers) in rows {
-        let line = CommandLine::Replay { stop, workers };
+    for (words, stop, workers, lazy) in rows {
+        let line = CommandLine::Replay {
+            stop,
+            workers,
+            lazy,
+        };
         assert!(rt; asks_for(rt.alloc(), words, line), "{words:?}");
     }
 }
 
-/// Whether a run to a stop has four workers and a batch of sixty-four, and neither log nor checkpoints.
+/// Whether a run to a stop has four workers and a batch of sixty-four, and neither log nor checkpoints, and takes back at
+/// once.
 fn runs_by_four_workers(alloc: Global) -> bool {
     let line = CommandLine::Run {
         stop: 20,
@@ -128,6 +140,7 @@ fn runs_by_four_workers(alloc: Global) -> bool {
         log: false,
         workers: 4,
         batch: 64,
+        lazy: false,
     };
     asks_for(alloc, &["twarp", "run", "--stop", "20"], line)
 }
@@ -138,6 +151,7 @@ fn runs_by_sixteen_workers(alloc: Global) -> bool {
         "twarp",
         "run",
         "--log",
+        "--lazy",
         "--batch",
         "4096",
         "--workers",
@@ -153,6 +167,7 @@ fn runs_by_sixteen_workers(alloc: Global) -> bool {
         log: true,
         workers: 16,
         batch: 4096,
+        lazy: true,
     };
     asks_for(alloc, &words, line)
 }

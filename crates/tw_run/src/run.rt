@@ -23,6 +23,7 @@ use tw_parallel::Sim;
 use tw_report::write_report;
 use tw_seq::CounterFull;
 use tw_shape::{Finding, Verdict};
+use tw_sim::Cancel;
 use tw_text::read_case;
 
 /// The options of `run`.
@@ -33,14 +34,16 @@ struct Asked {
     log: bool,
     workers: u32,
     batch: u32,
+    cancel: Cancel,
 }
 
 /// Reads a case, deals its routers out to so many workers, one at least, runs it by a thread for each of them to
 /// the stop, in ticks, and writes what `seq_io` writes: the report of the one-thread run, or where and why
 /// the text is refused.
 ///
-/// A worker handles at most `batch` events between two meetings with the others. Neither number shows in
-/// what is written. With `every` the workers come together at checkpoints.
+/// A worker handles at most `batch` events between two meetings with the others, and what an undone event has
+/// sent is taken back at once, or as late as may be. Neither the two numbers nor this shows in what is
+/// written. With `every` the workers come together at checkpoints.
 pub fn run_io<X: Threads + Wait + Sync, R: Source, W: Sink>(
     rt: &X,
     alloc: Global,
@@ -51,6 +54,7 @@ pub fn run_io<X: Threads + Wait + Sync, R: Source, W: Sink>(
     log: bool,
     workers: u32,
     batch: u32,
+    cancel: Cancel,
 ) -> Result<Status, Cause>
     requires source { R.failed source.old ≡ false }
     requires sink { W.failed sink.old ≡ false }
@@ -69,6 +73,7 @@ pub fn run_io<X: Threads + Wait + Sync, R: Source, W: Sink>(
         log,
         workers,
         batch,
+        cancel,
     };
     answer_text(rt, alloc, &text, asked, sink)
 }
@@ -144,7 +149,7 @@ fn run_by_workers<X: Threads + Wait + Sync>(
     ensures found { IfOk result (λ left. left.1 ≡ found_to case.now asked.stop asked.every) }
     ensures device { IsErrOf result cause.Device → ⊥ }
 {
-    let sim = Sim::open(alloc, case, asked.workers, asked.log)?;
+    let sim = Sim::open_with(alloc, case, asked.workers, asked.log, asked.cancel)?;
     let (sim, found) = run_through(rt, alloc, sim, asked.stop, asked.every, asked.batch)?;
     Ok((outcome_of(&sim, asked.log)?, found))
 }

@@ -24,9 +24,11 @@ pending_shard a q is routers suit = record {
     worker = is.whole.worker;
     routers = λ r own. let at = is.whole.routers r own in record { within = at.within; net = at.net; node = at.node; done = at.done; case = at.case; keeps = at.keeps };
     pending = suit;
+    held = is.whole.held;
   };
   pending = routers ∙ is.pending;
   kept = is.kept;
+  held = is.held;
 }
 
 -- ---- what a timeline has handled

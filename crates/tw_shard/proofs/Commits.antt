@@ -24,7 +24,6 @@ use Rattle.tw_shard.specs.Shard.{IsWhole, Shard, core, owns, timeline}
 use Rattle.tw_shard.specs.Timeline.{AreNoted, Timeline, changes_path, events_of, history, known, last_change_at, noted_change}
 use Rattle.tw_shard.proofs.Histories.{length-events, reverse-push}
 use Rattle.tw_shard.proofs.Shares.{put_same, read_put, read_same, timeline_here}
-use Rattle.tw_sim.specs.declared.machine.Cancel.TheVariants.{Aggressive}
 use Rattle.tw_sim.specs.Simulation.{IsFalling, below}
 
 -- the events of steps, in the other order
@@ -259,23 +258,23 @@ module _ (s : Shard) (r : ℕ) (whole : IsWhole s) (mine : owns s r ≡ true) wh
       let count : length t.past ≡ suffix_len (λ e. nat_lt e.time s.bound) ((core stop s).history r) =
       oldest_committed s.bound (timeline s r).ahead (timeline s r).past soon ∙ ap (suffix_len (λ e. nat_lt e.time s.bound)) (sym here) in
       let histories =
-      read_put s r t s.pending s.outgoing whole mine history []
+      read_put s r t s.pending s.outgoing s.held whole mine history []
       ∙ put_same (core stop s).history r (history t) (here ∙ sym (kept_history s.bound (timeline s r))) in
-      let dones = read_put s r t s.pending s.outgoing whole mine (λ (t : Timeline). t.done) 0 in
-      let pasts = read_put s r t s.pending s.outgoing whole mine (λ (t : Timeline). length t.past) 0 ∙ ap (put (core stop s).past r) count in
-      let rooms = read_same s r t s.pending s.outgoing whole mine (λ (t : Timeline). t.room) OPENING_ROOM refl in
+      let dones = read_put s r t s.pending s.outgoing s.held whole mine (λ (t : Timeline). t.done) 0 in
+      let pasts = read_put s r t s.pending s.outgoing s.held whole mine (λ (t : Timeline). length t.past) 0 ∙ ap (put (core stop s).past r) count in
+      let rooms = read_same s r t s.pending s.outgoing s.held whole mine (λ (t : Timeline). t.room) OPENING_ROOM refl in
       λ i. record {
         history = histories i;
         pending = s.pending;
         kept = s.kept;
         flight = s.outgoing;
-        held = [];
+        held = s.held;
         done = dones i;
         past = pasts i;
         room = rooms i;
         bound = s.bound;
         stop = stop;
-        cancel = Aggressive;
+        cancel = s.cancel;
       }
 
   -- what the machine does where the router is one of its own
@@ -288,7 +287,7 @@ module _ (s : Shard) (r : ℕ) (whole : IsWhole s) (mine : owns s r ≡ true) wh
       → P (timeline (committed_at s r) r) s.case ((core 0 s).history r)
   committed_timeline P told =
       let t : Timeline = committed_to s.bound (timeline s r) in
-      let now : timeline (committed_at s r) r ≡ t = timeline_here s r t s.pending s.outgoing whole mine in
+      let now : timeline (committed_at s r) r ≡ t = timeline_here s r t s.pending s.outgoing s.held whole mine in
       let here : (core 0 s).history r ≡ history (timeline s r) = rw mine refl in
       subst (λ u. P u s.case ((core 0 s).history r)) (sym now)
       (subst (P t s.case) (sym here) (subst (λ case. P t case (history (timeline s r))) (whole.routers r mine).case told))

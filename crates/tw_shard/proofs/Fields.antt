@@ -3,6 +3,7 @@ use Rattle.std.proofs.Common.{◌≡◌, ℕ, ◌≤◌, ◌==◌, true, List, [
 use Rattle.std.specs.List.{AllByRecursion}
 use Rattle.std.proofs.lemmas.Bool.{and_parts, eqb-true}
 use Rattle.tw_event.specs.declared.event.Event.{Event}
+use Rattle.tw_event.specs.Order.{event_before, event_same}
 use Rattle.tw_model.specs.declared.limits.TheConstants.{LATEST}
 use Rattle.tw_model.specs.Effect.{body_suits, fits, suits}
 use Rattle.tw_model.specs.Net.{Net}
@@ -11,6 +12,7 @@ use Rattle.tw_shard.specs.Inside.{IsShard, shard_of}
 use Rattle.tw_shard.specs.Shard.{IsWhole, owns, place}
 use Rattle.tw_shard.specs.Timeline.{Timeline}
 use Rattle.tw_shard.proofs.Shares.{whole_after}
+use Rattle.tw_sim.specs.Rising.{IsRising}
 
 take_front : {A : Type 0} (ws ys : List A) → take (length ws) (ws ++ ys) ≡ ws
 take_front [] ys = refl
@@ -29,7 +31,7 @@ pub fits_suits : (net : Net) (v : ℕ) (e : Event) → fits net v e ≡ true →
 fits_suits net v e h =
     subst (λ w. suits net w e ≡ true) (sym (fits_home net v e h)) (and_parts (nat_le e.time LATEST) (suits net v e) h).1
 
--- b has another timeline of router r, and perhaps another list of what is pending and what is sent
+-- b has another timeline of router r, and perhaps another list of what is pending, what is sent and what is held
 pub record IsChanged (a b : Inside) (r : ℕ) (t : Timeline) : Type 0 where
   pub case : b.case.now ≡ a.case.now
   pub worker : b.worker ≡ a.worker
@@ -38,13 +40,16 @@ pub record IsChanged (a b : Inside) (r : ℕ) (t : Timeline) : Type 0 where
   pub kept : b.kept.events ≡ a.kept.events
   pub bound : b.bound ≡ a.bound
   pub keeps : b.keeps ≡ a.keeps
+  pub cancel : b.cancel ≡ a.cancel
   pub pending_routers : b.pending.routers ≡ a.pending.routers
   pub kept_routers : b.kept.routers ≡ a.kept.routers
+  pub held_routers : b.held.routers ≡ a.held.routers
 
 pub changed_shard : (a b : Inside) (r : ℕ) (t : Timeline) → IsShard a → owns (shard_of a) r ≡ true → IsChanged a b r t
     → t.net ≡ (shard_of a).case.net → t.node ≡ r → t.done ≤ a.bound → t.case ≡ (shard_of a).case → t.keeps ≡ (shard_of a).keeps
-    → AllByRecursion (λ e. suits (shard_of a).case.net e.dst e ≡ true) b.pending.events → IsShard b
-changed_shard a b r t is mine h net node done case keeps suit = record {
+    → AllByRecursion (λ e. suits (shard_of a).case.net e.dst e ≡ true) b.pending.events
+    → IsRising event_before event_same b.held.events → IsShard b
+changed_shard a b r t is mine h net node done case keeps suit rising = record {
   whole =
       subst IsWhole (λ i. record {
         case = sym h.case i;
@@ -54,9 +59,12 @@ changed_shard a b r t is mine h net node done case keeps suit = record {
         pending = b.pending.events;
         kept = sym h.kept i;
         outgoing = b.outgoing.items;
+        held = b.held.events;
         bound = sym h.bound i;
         keeps = sym h.keeps i;
-      }) (whole_after (shard_of a) r t b.pending.events b.outgoing.items is.whole mine net node done case keeps suit);
+        cancel = sym h.cancel i;
+      }) (whole_after (shard_of a) r t b.pending.events b.outgoing.items b.held.events is.whole mine net node done case keeps suit rising);
   pending = h.pending_routers ∙ (is.pending ∙ ap (λ c. c.net.nodes) (sym h.case));
   kept = h.kept_routers ∙ (is.kept ∙ ap (λ c. c.net.nodes) (sym h.case));
+  held = h.held_routers ∙ (is.held ∙ ap (λ c. c.net.nodes) (sym h.case));
 }

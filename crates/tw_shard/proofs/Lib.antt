@@ -5,10 +5,12 @@ pub mod Commits
 pub mod CommittedEvents
 pub mod Fields
 pub mod Histories
+pub mod Holding
 pub mod LettingGo
 pub mod Openings
 pub mod Widening
 pub mod Queues
+pub mod Releasing
 pub mod Reports
 pub mod RollBack
 pub mod Shares

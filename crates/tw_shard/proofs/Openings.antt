@@ -16,10 +16,10 @@ use Rattle.tw_queue.proofs.Ordered.{all-filter}
 use Rattle.tw_shard.specs.Shard.{IsWhole, Shard, core, no_timeline, opening_core, owns, place, routers, timeline}
 use Rattle.tw_shard.specs.Timeline.{Timeline, history, opening_timeline}
 use Rattle.tw_shard.proofs.Shares.{listed}
-use Rattle.tw_sim.specs.declared.machine.Cancel.TheVariants.{Aggressive}
 use Rattle.tw_sim.specs.Ordered.{insert, insert_all}
 use Rattle.tw_sim.proofs.Counts.{is_order}
 use Rattle.tw_sim.specs.Owners.{owner}
+use Rattle.tw_sim.specs.Rising.{IsRising}
 use Rattle.tw_sim.proofs.Ordered.{all-insert, all_counted}
 
 -- each opening event suits its receiver
@@ -55,19 +55,21 @@ pub record IsBegun (s : Shard) : Type 0 where
   pub pending : s.pending ≡ insert_all event_before (filter (λ e. owner s.workers e.dst == s.worker) (opening_events s.case.scenes)) []
   pub kept : s.kept ≡ []
   pub outgoing : s.outgoing ≡ []
+  pub held : s.held ≡ []
   pub bound : s.bound ≡ 0
 
 pub begun : (s : Shard) → IsCase s.case → s.worker < s.workers
     → s.timelines ≡ map (opening_timeline s.case s.keeps) (routers s)
     → s.pending ≡ insert_all event_before (filter (λ e. owner s.workers e.dst == s.worker) (opening_events s.case.scenes)) []
-    → s.kept ≡ [] → s.outgoing ≡ [] → s.bound ≡ 0 → IsBegun s
-begun s case worker timelines pending kept outgoing bound = record {
+    → s.kept ≡ [] → s.outgoing ≡ [] → s.held ≡ [] → s.bound ≡ 0 → IsBegun s
+begun s case worker timelines pending kept outgoing held bound = record {
   case = case;
   worker = worker;
   timelines = timelines;
   pending = pending;
   kept = kept;
   outgoing = outgoing;
+  held = held;
   bound = bound;
 }
 
@@ -108,10 +110,11 @@ module _ (s : Shard) (is : IsBegun s) where
         let own = λ (e : Event). owner s.workers e.dst == s.worker in
         subst (AllByRecursion P) (sym is.pending)
         (all_inserted P (filter own (opening_events s.case.scenes)) [] (all-filter event_before event_same P own (opening_events s.case.scenes) (opening_suits s.case is.case)) tt);
+    held = subst (IsRising event_before event_same) (sym is.held) tt;
   }
 
   -- as a machine of its own routers it begins
-  pub core_begun : (stop : ℕ) → core stop s ≡ opening_core s.case s.worker s.workers stop
+  pub core_begun : (stop : ℕ) → core stop s ≡ opening_core s.case s.worker s.workers s.cancel stop
   core_begun stop =
       let histories = read_opened history [] (λ r. refl) in
       let dones = read_opened (λ (t : Timeline). t.done) 0 (λ r. refl) in
@@ -122,11 +125,11 @@ module _ (s : Shard) (is : IsBegun s) where
         pending = is.pending i;
         kept = is.kept i;
         flight = is.outgoing i;
-        held = [];
+        held = is.held i;
         done = dones i;
         past = pasts i;
         room = rooms i;
         bound = is.bound i;
         stop = stop;
-        cancel = Aggressive;
+        cancel = s.cancel;
       }

@@ -70,7 +70,7 @@ pub record IsRolling (reach : Reach) (e : Event) (s t : Shard) : Type 0 where
 pub rolling_none : (reach : Reach) (e : Event) (s : Shard) → owns s e.dst ≡ true → IsRolling reach e s s
 rolling_none reach e s own = record {
   own = own;
-  share = record { case = refl; worker = refl; workers = refl; keeps = refl };
+  share = record { case = refl; worker = refl; workers = refl; keeps = refl; cancel = refl };
   kept = refl;
   bound = refl;
   undone = λ stop. (0, refl);
@@ -93,10 +93,10 @@ rolling_more reach e s t u whole far must h =
     let here : (stop : ℕ) → (core stop t).history r ≡ x ∷ (older ++ past) = λ stop. (let own = far.own in rw own newest) in
     let one : (stop : ℕ) → core stop (undone_at t r x older) ≡ after_undoing m (core stop t) r x (older ++ past) = λ stop. core_undone t r whole far.own stop x older h.3 in
     let left : history (timeline (undone_at t r x older) r) ≡ older ++ past =
-    ap history (timeline_here t r (record (timeline t r) { ahead = older }) (undone_at t r x older).pending (undone_at t r x older).outgoing whole far.own) in
+    ap history (timeline_here t r (record (timeline t r) { ahead = older }) (undone_at t r x older).pending (undone_at t r x older).outgoing (undone_at t r x older).held whole far.own) in
     subst (IsRolling reach e s) (sym h.4) (record {
       own = far.own;
-      share = record { case = far.share.case; worker = far.share.worker; workers = far.share.workers; keeps = far.share.keeps };
+      share = record { case = far.share.case; worker = far.share.worker; workers = far.share.workers; keeps = far.share.keeps; cancel = far.share.cancel };
       kept = far.kept;
       bound = far.bound;
       undone = λ stop. (suc (far.undone stop).0, (core stop t, (far.undone stop).1, (x, older ++ past, here stop, rolled_late t.case whole.case reach e x goes, one stop)));
@@ -136,7 +136,7 @@ rolling_done reach e s t whole far mine late stops past stop =
 pub fewer_left : (t u : Shard) (r : ℕ) → IsWhole t → owns t r ≡ true → IsUndone r t u → length (timeline u r).ahead < length (timeline t r).ahead
 fewer_left t u r whole mine h =
     let s = undone_at t r h.0 h.1 in
-    let left = ap (λ l. length l.ahead) (timeline_here t r (record (timeline t r) { ahead = h.1 }) s.pending s.outgoing whole mine) in
+    let left = ap (λ l. length l.ahead) (timeline_here t r (record (timeline t r) { ahead = h.1 }) s.pending s.outgoing s.held whole mine) in
     let after = ap (λ s. length (timeline s r).ahead) h.4 in
     let before = ap length h.2 in
     omega arith

@@ -7,6 +7,7 @@ use Rattle.std.proofs.lemmas.List.{get_or-set_other, get_or-set_same}
 use Rattle.tw_core.proofs.Sums.{all_map}
 use Rattle.tw_core.specs.Steps.{put}
 use Rattle.tw_event.specs.declared.event.Event.{Event}
+use Rattle.tw_event.specs.Order.{event_before, event_same}
 use Rattle.tw_model.specs.Case.{Case, simulation}
 use Rattle.tw_model.specs.Effect.{effect, suits}
 use Rattle.tw_model.specs.State.{State}
@@ -15,6 +16,7 @@ use Rattle.tw_shard.specs.Timeline.{Timeline, history, known, last_change_at, ro
 use Rattle.tw_sim.specs.declared.machine.Signed.{Signed}
 use Rattle.tw_sim.proofs.Dealing.{all_own as all_members, stands_there}
 use Rattle.tw_sim.specs.Owners.{own_routers, owner}
+use Rattle.tw_sim.specs.Rising.{IsRising}
 use Rattle.tw_sim.specs.Simulation.{state}
 
 -- what a router knows, as the simulation has it
@@ -50,12 +52,12 @@ own_place s some q r mine ours same =
     cc both
 
 -- the shard with another timeline of router r, and other lists
-abbrev pub changed : Shard → ℕ → Timeline → List Event → List (Signed Event) → Shard
-changed s r t pending outgoing = record s { timelines = set s.timelines (place s r) t; pending = pending; outgoing = outgoing }
+abbrev pub changed : Shard → ℕ → Timeline → List Event → List (Signed Event) → List Event → Shard
+changed s r t pending outgoing held = record s { timelines = set s.timelines (place s r) t; pending = pending; outgoing = outgoing; held = held }
 
-module _ (s : Shard) (r : ℕ) (t : Timeline) (pending : List Event) (outgoing : List (Signed Event)) (whole : IsWhole s) (mine : owns s r ≡ true) where
+module _ (s : Shard) (r : ℕ) (t : Timeline) (pending : List Event) (outgoing : List (Signed Event)) (held : List Event) (whole : IsWhole s) (mine : owns s r ≡ true) where
   abbrev after : Shard
-  after = changed s r t pending outgoing
+  after = changed s r t pending outgoing held
 
   pub timeline_here : timeline after r ≡ t
   timeline_here = get_or-set_same s.timelines (place s r) t no_timeline (whole.routers r mine).within
@@ -85,8 +87,9 @@ module _ (s : Shard) (r : ℕ) (t : Timeline) (pending : List Event) (outgoing :
       ])
 
   -- the shard stays whole
-  pub whole_after : t.net ≡ s.case.net → t.node ≡ r → t.done ≤ s.bound → t.case ≡ s.case → t.keeps ≡ s.keeps → AllByRecursion (λ e. suits s.case.net e.dst e ≡ true) pending → IsWhole after
-  whole_after net node done case keeps suit = record {
+  pub whole_after : t.net ≡ s.case.net → t.node ≡ r → t.done ≤ s.bound → t.case ≡ s.case → t.keeps ≡ s.keeps → AllByRecursion (λ e. suits s.case.net e.dst e ≡ true) pending
+      → IsRising event_before event_same held → IsWhole after
+  whole_after net node done case keeps suit rising = record {
     case = whole.case;
     worker = whole.worker;
     routers = λ q ours. record {
@@ -98,6 +101,7 @@ module _ (s : Shard) (r : ℕ) (t : Timeline) (pending : List Event) (outgoing :
       keeps = each_timeline (λ p t. t.keeps ≡ s.keeps) keeps (λ p h. (whole.routers p h).keeps) q ours;
     };
     pending = suit;
+    held = rising;
   }
 
 -- putting what is there changes nothing
@@ -109,12 +113,12 @@ put_same f r a is =
     ])
 
 -- what is read of each router stays, where it is read of this one as before
-pub read_same : {A : Type 0} (s : Shard) (r : ℕ) (t : Timeline) (pending : List Event) (outgoing : List (Signed Event)) → IsWhole s → owns s r ≡ true
+pub read_same : {A : Type 0} (s : Shard) (r : ℕ) (t : Timeline) (pending : List Event) (outgoing : List (Signed Event)) (held : List Event) → IsWhole s → owns s r ≡ true
     → (read : Timeline → A) (none : A) → read t ≡ read (timeline s r)
-    → ◌≡◌ {A = ℕ → A} (λ q. if owns (changed s r t pending outgoing) q then read (timeline (changed s r t pending outgoing) q) else none)
+    → ◌≡◌ {A = ℕ → A} (λ q. if owns (changed s r t pending outgoing held) q then read (timeline (changed s r t pending outgoing held) q) else none)
     (λ q. if owns s q then read (timeline s q) else none)
-read_same s r t pending outgoing whole mine read none same =
-    read_put s r t pending outgoing whole mine read none ∙ put_same (λ q. if owns s q then read (timeline s q) else none) r (read t) (rw mine (sym same))
+read_same s r t pending outgoing held whole mine read none same =
+    read_put s r t pending outgoing held whole mine read none ∙ put_same (λ q. if owns s q then read (timeline s q) else none) r (read t) (rw mine (sym same))
 
 -- one of its routers, as its history leaves it
 pub router_known : (s : Shard) (r : ℕ) → IsWhole s → owns s r ≡ true

@@ -7,7 +7,7 @@ use Rattle.tw_core.specs.declared.refusal.Refusal.{Refusal}
 use Rattle.tw_core.specs.declared.refusal.Refusal.TheVariants.{NotMine, Nothing, Double, AheadFull, Committed, CounterFull}
 use Rattle.tw_core.specs.declared.limits.TheConstants.{OPENING_ROOM}
 use Rattle.tw_core.specs.Machine.{Core, count_ahead}
-use Rattle.tw_core.specs.Steps.{after_handling, after_undoing, first_pending, handle, is_newest, put, undo}
+use Rattle.tw_core.specs.Steps.{after_handling, after_undoing, first_pending, handle, held_back, is_newest, put, sent_back, still_held, to_send, undo}
 use Rattle.tw_event.specs.declared.event.Event.{Event}
 use Rattle.tw_handlers.specs.Calls.{is_full_at}
 use Rattle.tw_model.specs.Case.{simulation}
@@ -15,7 +15,6 @@ use Rattle.tw_model.specs.Effect.{body_suits, effect, is_full, suits}
 use Rattle.tw_shard.specs.Shard.{IsNext, IsUndone, IsWhole, Shard, core, handled_at, handling, may_handle, owns, timeline, undone_at, undoing}
 use Rattle.tw_shard.specs.Timeline.{Timeline, history, known, router_of, sends_after, signed}
 use Rattle.tw_shard.proofs.Shares.{known_state, read_put, read_same}
-use Rattle.tw_sim.specs.declared.machine.Cancel.TheVariants.{Aggressive}
 use Rattle.tw_sim.specs.Simulation.{state}
 
 -- nothing is refused
@@ -55,22 +54,22 @@ module _ (s : Shard) (r : ℕ) (whole : IsWhole s) (mine : owns s r ≡ true) wh
   core_undone stop e older home =
       let t : Timeline = record (timeline s r) { ahead = older } in
       let next = undone_at s r e older in
-      let histories = read_put s r t next.pending next.outgoing whole mine history [] in
-      let dones = read_same s r t next.pending next.outgoing whole mine (λ (t : Timeline). t.done) 0 refl in
-      let pasts = read_same s r t next.pending next.outgoing whole mine (λ (t : Timeline). length t.past) 0 refl in
-      let rooms = read_same s r t next.pending next.outgoing whole mine (λ (t : Timeline). t.room) OPENING_ROOM refl in
+      let histories = read_put s r t next.pending next.outgoing next.held whole mine history [] in
+      let dones = read_same s r t next.pending next.outgoing next.held whole mine (λ (t : Timeline). t.done) 0 refl in
+      let pasts = read_same s r t next.pending next.outgoing next.held whole mine (λ (t : Timeline). length t.past) 0 refl in
+      let rooms = read_same s r t next.pending next.outgoing next.held whole mine (λ (t : Timeline). t.room) OPENING_ROOM refl in
       λ i. record {
         history = histories i;
         pending = next.pending;
         kept = s.kept;
-        flight = s.outgoing ++ map (signed false) (same_sends e (older ++ (timeline s r).past) home i);
-        held = [];
+        flight = s.outgoing ++ sent_back (simulation s.case) s.cancel (same_sends e (older ++ (timeline s r).past) home i);
+        held = held_back (simulation s.case) s.cancel (same_sends e (older ++ (timeline s r).past) home i) s.held;
         done = dones i;
         past = pasts i;
         room = rooms i;
         bound = s.bound;
         stop = stop;
-        cancel = Aggressive;
+        cancel = s.cancel;
       }
 
   pub core_handled : (stop : ℕ) (e : Event) → e.dst ≡ r
@@ -79,22 +78,24 @@ module _ (s : Shard) (r : ℕ) (whole : IsWhole s) (mine : owns s r ≡ true) wh
       let t : Timeline = record (timeline s r) { ahead = e ∷ (timeline s r).ahead } in
       let next = handled_at s r e in
       let here : (core stop s).history r ≡ history (timeline s r) = rw mine refl in
-      let histories = read_put s r t next.pending next.outgoing whole mine history [] in
-      let dones = read_same s r t next.pending next.outgoing whole mine (λ (t : Timeline). t.done) 0 refl in
-      let pasts = read_same s r t next.pending next.outgoing whole mine (λ (t : Timeline). length t.past) 0 refl in
-      let rooms = read_same s r t next.pending next.outgoing whole mine (λ (t : Timeline). t.room) OPENING_ROOM refl in
+      let histories = read_put s r t next.pending next.outgoing next.held whole mine history [] in
+      let dones = read_same s r t next.pending next.outgoing next.held whole mine (λ (t : Timeline). t.done) 0 refl in
+      let pasts = read_same s r t next.pending next.outgoing next.held whole mine (λ (t : Timeline). length t.past) 0 refl in
+      let rooms = read_same s r t next.pending next.outgoing next.held whole mine (λ (t : Timeline). t.room) OPENING_ROOM refl in
+      let sends =
+      same_sends e (history (timeline s r)) home ∙ ap (λ h. (effect s.case.net e.dst (state (simulation s.case) r h) e).sends) (sym here) in
       λ i. record {
         history = (histories ∙ ap (λ h. put (core stop s).history r (e ∷ h)) (sym here)) i;
         pending = next.pending;
         kept = s.kept;
-        flight = s.outgoing ++ map (signed true) ((same_sends e (history (timeline s r)) home ∙ ap (λ h. (effect s.case.net e.dst (state (simulation s.case) r h) e).sends) (sym here)) i);
-        held = [];
+        flight = s.outgoing ++ map (signed true) (to_send (simulation s.case) (sends i) s.held);
+        held = still_held (simulation s.case) (sends i) s.held;
         done = dones i;
         past = pasts i;
         room = rooms i;
         bound = s.bound;
         stop = stop;
-        cancel = Aggressive;
+        cancel = s.cancel;
       }
 
   -- an undo that is not refused is the machine's

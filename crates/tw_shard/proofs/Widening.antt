@@ -8,30 +8,29 @@ use Rattle.tw_shard.specs.Shard.{IsWhole, Shard, core, owns, timeline, widened_a
 use Rattle.tw_shard.specs.Timeline.{Timeline, history}
 use Rattle.tw_shard.proofs.Shares.{read_put, read_same}
 use Rattle.tw_shard.proofs.Steps.{room_is}
-use Rattle.tw_sim.specs.declared.machine.Cancel.TheVariants.{Aggressive}
 
 module _ (s : Shard) (r : ℕ) (whole : IsWhole s) (mine : owns s r ≡ true) where
   core_widened : (stop : ℕ) → core stop (widened_at s r) ≡ with_room (simulation s.case) (core stop s) r
   core_widened stop =
       let t : Timeline = record (timeline s r) { room = 2 * (timeline s r).room } in
-      let histories = read_same s r t s.pending s.outgoing whole mine history [] refl in
-      let dones = read_same s r t s.pending s.outgoing whole mine (λ (t : Timeline). t.done) 0 refl in
-      let pasts = read_same s r t s.pending s.outgoing whole mine (λ (t : Timeline). length t.past) 0 refl in
+      let histories = read_same s r t s.pending s.outgoing s.held whole mine history [] refl in
+      let dones = read_same s r t s.pending s.outgoing s.held whole mine (λ (t : Timeline). t.done) 0 refl in
+      let pasts = read_same s r t s.pending s.outgoing s.held whole mine (λ (t : Timeline). length t.past) 0 refl in
       let rooms =
-      read_put s r t s.pending s.outgoing whole mine (λ (t : Timeline). t.room) OPENING_ROOM
+      read_put s r t s.pending s.outgoing s.held whole mine (λ (t : Timeline). t.room) OPENING_ROOM
       ∙ ap (λ n. put (core stop s).room r (2 * n)) (sym (room_is s r whole mine stop)) in
       λ i. record {
         history = histories i;
         pending = s.pending;
         kept = s.kept;
         flight = s.outgoing;
-        held = [];
+        held = s.held;
         done = dones i;
         past = pasts i;
         room = rooms i;
         bound = s.bound;
         stop = stop;
-        cancel = Aggressive;
+        cancel = s.cancel;
       }
 
   -- what the machine does where the router is one of its own

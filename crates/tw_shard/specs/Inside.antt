@@ -13,8 +13,10 @@ shard_of a = record {
   pending = a.pending.events;
   kept = a.kept.events;
   outgoing = a.outgoing.items;
+  held = a.held.events;
   bound = a.bound;
   keeps = a.keeps;
+  cancel = a.cancel;
 }
 
 -- it is whole, and what waits is for routers of the case
@@ -22,3 +24,4 @@ pub record IsShard (a : Inside) : Type 0 where
   pub whole : IsWhole (shard_of a)
   pub pending : a.pending.routers ≡ a.case.now.net.nodes
   pub kept : a.kept.routers ≡ a.case.now.net.nodes
+  pub held : a.held.routers ≡ a.case.now.net.nodes

@@ -5,7 +5,7 @@ use Rattle.tw_core.specs.declared.limits.TheConstants.{OPENING_ROOM}
 use Rattle.tw_core.specs.declared.refusal.Refusal.{Refusal}
 use Rattle.tw_core.specs.declared.refusal.Refusal.TheVariants.{NotMine, Double, AheadFull}
 use Rattle.tw_core.specs.Machine.{Core}
-use Rattle.tw_core.specs.Steps.{first_pending, handle, is_newest, undo, with_release, with_room}
+use Rattle.tw_core.specs.Steps.{first_pending, from, from_others, handle, held_back, is_newest, sent_back, still_held, to_send, undo, with_release, with_room}
 use Rattle.tw_event.specs.declared.event.Event.{Event}
 use Rattle.tw_event.specs.Order.{event_before, event_same}
 use Rattle.tw_model.specs.Case.{Case, IsCase, no_case, opening_events, simulation}
@@ -13,9 +13,11 @@ use Rattle.tw_model.specs.Effect.{suits}
 use Rattle.tw_model.specs.Net.{no_net}
 use Rattle.tw_shard.specs.Past.{own_run}
 use Rattle.tw_shard.specs.Timeline.{Timeline, history, opening_timeline, sends_after, signed}
+use Rattle.tw_sim.specs.declared.machine.Cancel.{Cancel}
 use Rattle.tw_sim.specs.declared.machine.Cancel.TheVariants.{Aggressive}
 use Rattle.tw_sim.specs.declared.machine.Signed.{Signed}
 use Rattle.tw_sim.specs.Ordered.{insert, insert_all, take_out}
+use Rattle.tw_sim.specs.Rising.{IsRising}
 use Rattle.tw_sim.specs.Owners.{own_place, own_routers, owner}
 use Rattle.tw_sim.specs.Simulation.{IsFalling, below}
 
@@ -31,9 +33,13 @@ pub record Shard : Type 0 where
   pub kept : List Event
   -- what waits to be sent, in order
   pub outgoing : List (Signed Event)
+  -- what events that were undone had sent, and what was neither sent again nor taken back
+  pub held : List Event
   pub bound : ℕ
   -- whether its routers keep their committed events
   pub keeps : Bool
+  -- when what an undone event has sent is taken back
+  pub cancel : Cancel
 
 -- whether r is one of its routers
 abbrev pub owns : Shard → ℕ → Bool
@@ -70,8 +76,10 @@ no_shard = record {
   pending = [];
   kept = [];
   outgoing = [];
+  held = [];
   bound = 0;
   keeps = true;
+  cancel = Aggressive;
 }
 
 -- router r, which is one of its own
@@ -85,18 +93,18 @@ core stop s = record {
   pending = s.pending;
   kept = s.kept;
   flight = s.outgoing;
-  held = [];
+  held = s.held;
   done = λ r. if owns s r then (timeline s r).done else 0;
   past = λ r. if owns s r then length (timeline s r).past else 0;
   room = λ r. if owns s r then (timeline s r).room else OPENING_ROOM;
   bound = s.bound;
   stop = stop;
-  cancel = Aggressive;
+  cancel = s.cancel;
 }
 
 -- a machine of the routers of this worker of so many, which has handled nothing: the opening events for them are pending
-abbrev pub opening_core : Case → ℕ → ℕ → ℕ → Core Event
-opening_core case worker workers stop = record {
+abbrev pub opening_core : Case → ℕ → ℕ → Cancel → ℕ → Core Event
+opening_core case worker workers cancel stop = record {
   history = λ r. [];
   pending = insert_all event_before (filter (λ e. owner workers e.dst == worker) (opening_events case.scenes)) [];
   kept = [];
@@ -107,13 +115,14 @@ opening_core case worker workers stop = record {
   room = λ r. OPENING_ROOM;
   bound = 0;
   stop = stop;
-  cancel = Aggressive;
+  cancel = cancel;
 }
 
--- worker k's shard, of so many, as it begins; its routers keep their committed events, or let them go
-pub record IsOpeningShard (case : Case) (k workers : ℕ) (keeps : Bool) (s : Shard) : Type 0 where
+-- worker k's shard, of so many, as it begins; its routers keep their committed events, or let them go, and it takes back what undone
+-- events have sent as this says
+pub record IsOpeningShard (case : Case) (k workers : ℕ) (keeps : Bool) (cancel : Cancel) (s : Shard) : Type 0 where
   -- it is that machine
-  pub core_is : (stop : ℕ) → core stop s ≡ opening_core case k workers stop
+  pub core_is : (stop : ℕ) → core stop s ≡ opening_core case k workers cancel stop
   -- and its routers have handled nothing
   pub routers : (r : ℕ) → owns s r ≡ true → timeline s r ≡ opening_timeline case keeps r
   pub case_is : s.case ≡ case
@@ -141,12 +150,13 @@ releasing stop s r = at_own s r (Ok (with_release (simulation s.case) (core stop
 abbrev pub widening : ℕ → Shard → ℕ → Result (Core Event) Refusal
 widening stop s r = at_own s r (Ok (with_room (simulation s.case) (core stop s) r))
 
--- the later shard has the same case, is the same worker's, and keeps as much
+-- the later shard has the same case, is the same worker's, keeps as much, and takes back what undone events have sent at the same time
 pub record IsSameShare (s t : Shard) : Type 0 where
   pub case : t.case ≡ s.case
   pub worker : t.worker ≡ s.worker
   pub workers : t.workers ≡ s.workers
   pub keeps : t.keeps ≡ s.keeps
+  pub cancel : t.cancel ≡ s.cancel
 
 -- with another timeline of router r
 abbrev pub with_timeline : Shard → ℕ → Timeline → Shard
@@ -156,20 +166,33 @@ with_timeline s r t = record s { timelines = slice_set s.timelines (place s r) t
 abbrev pub widened_at : Shard → ℕ → Shard
 widened_at s r = with_timeline s r (record (timeline s r) { room = 2 * (timeline s r).room })
 
--- router r has handled e, which was pending
+-- what e sends, or sent, at router r after this history
+abbrev pub sends_of : Shard → ℕ → List Event → Event → List Event
+sends_of s r older e = sends_after (timeline s r) older e
+
+-- router r has handled e, which was pending: what e sends goes out, but for what is held
 abbrev pub handled_at : Shard → ℕ → Event → Shard
 handled_at s r e = record s {
   timelines = slice_set s.timelines (place s r) (record (timeline s r) { ahead = e ∷ (timeline s r).ahead });
   pending = take_out event_same e s.pending;
-  outgoing = s.outgoing ++ map (signed true) (sends_after (timeline s r) (history (timeline s r)) e);
+  outgoing = s.outgoing ++ map (signed true) (to_send (simulation s.case) (sends_of s r (history (timeline s r)) e) s.held);
+  held = still_held (simulation s.case) (sends_of s r (history (timeline s r)) e) s.held;
 }
 
--- router r has undone e, its newest event, of which older are those that it can undo as well
+-- router r has undone e, its newest event, of which older are those that it can undo as well: what e had sent is taken back, or held
 abbrev pub undone_at : Shard → ℕ → Event → List Event → Shard
 undone_at s r e older = record s {
   timelines = slice_set s.timelines (place s r) (record (timeline s r) { ahead = older });
   pending = insert event_before e s.pending;
-  outgoing = s.outgoing ++ map (signed false) (sends_after (timeline s r) (older ++ (timeline s r).past) e);
+  outgoing = s.outgoing ++ sent_back (simulation s.case) s.cancel (sends_of s r (older ++ (timeline s r).past) e);
+  held = held_back (simulation s.case) s.cancel (sends_of s r (older ++ (timeline s r).past) e) s.held;
+}
+
+-- what is held for router r is taken back
+abbrev pub released_at : Shard → ℕ → Shard
+released_at s r = record s {
+  outgoing = s.outgoing ++ map (signed false) (from (simulation s.case) r s.held);
+  held = from_others (simulation s.case) r s.held;
 }
 
 -- whether router r may handle e, its first pending event, if no counter is full; or why not
@@ -210,9 +233,10 @@ pub record HasRun (s : Shard) (r : ℕ) : Type 0 where
   pub falling : IsFalling (simulation s.case) ((core 0 s).history r)
   pub run : below (simulation s.case) s.bound ((core 0 s).history r) ≡ own_run s.case r s.bound
 
--- each of its routers is there, and what is pending suits its receiver
+-- each of its routers is there, what is pending suits its receiver, and what is held is in order
 pub record IsWhole (s : Shard) : Type 0 where
   pub case : IsCase s.case
   pub worker : s.worker < s.workers
   pub routers : (r : ℕ) → owns s r ≡ true → HasTimeline s r
   pub pending : AllByRecursion (λ e. suits s.case.net e.dst e ≡ true) s.pending
+  pub held : IsRising event_before event_same s.held

@@ -1,10 +1,11 @@
 //! A shard: one worker's routers.
 
-ghost use Rattle.std.specs.Prelude.{◌≡◌, ◌≤◌, ◌<◌, [], length, max, slice_get, slice_index_or, slice_set, true, false, ℕ, IfOk, IfNone, IfSome, IsErrOf, IsTrue, OnErr, OnOk, ◌↔◌, Err, Ok, ◌++◌, ◌∷◌, map, List};
+ghost use Rattle.std.specs.Prelude.{◌≡◌, ◌≤◌, ◌<◌, [], length, max, min, slice_get, slice_index_or, slice_set, true, false, ℕ, IfOk, IfNone, IfSome, IsErrOf, IsTrue, OnErr, OnOk, ◌↔◌, Err, Ok, ◌++◌, ◌∷◌, map, List};
 ghost use Rattle.tw_core.specs.declared.refusal.Refusal.{Refusal as ARefusal};
+ghost use Rattle.std.specs.List.{reduce};
 ghost use Rattle.std.specs.Option.{option_copied};
 ghost use Rattle.std.specs.Result.{result_and};
-ghost use Rattle.tw_core.specs.Steps.{first_pending, with_commit};
+ghost use Rattle.tw_core.specs.Steps.{first_pending, from, held_back, sent_back, still_held, to_send, with_commit};
 ghost use Rattle.tw_handlers.specs.Calls.{counter_full, is_full_at};
 ghost use Rattle.tw_event.specs.declared.event.Event.{Event as AnEvent};
 ghost use Rattle.tw_event.specs.Order.{event_before, event_same};
@@ -33,9 +34,9 @@ use tw_event::Event;
 use tw_handlers::CounterFull;
 use tw_instance::{Case, Instance};
 use tw_model::OrMemory;
-use tw_queue::Pending;
+use tw_queue::{HeldSends, Pending};
 use tw_router::Router;
-use tw_sim::{Routers, Signed, own_place, owner};
+use tw_sim::{Cancel, Routers, Signed, own_place, owner};
 
 /// One worker's routers, which run ahead of the others and are rolled back.
 #[derive(Drop)]
@@ -47,9 +48,11 @@ pub struct Shard<'a> {
     pending: Pending,
     kept: Pending,
     outgoing: Vec<Signed<Event>>,
+    held: HeldSends,
     sends: SmallVec<Event, 8>,
     bound: u64,
     keeps: bool,
+    cancel: Cancel,
 }
 
 impl<'a> Model for Shard<'a> {
@@ -159,6 +162,30 @@ impl<'a> Shard<'a> {
         self.keeps
     }
 
+    /// When what an undone event has sent is taken back.
+    pub fn cancel(&self) -> Cancel
+        ensures { result ≡ self.now.cancel }
+    {
+        self.cancel
+    }
+
+    /// How many messages are held: events that were undone had sent them, and they were neither sent again nor
+    /// taken back.
+    pub fn held_len(&self) -> usize
+        ensures value { result ≡ length self.now.held }
+        ensures whole { IsWhole self.now }
+    {
+        self.held.len()
+    }
+
+    /// The least time, in ticks, of the messages that are held for a router, which had sent them. `None` where there
+    /// is none.
+    pub fn held_time(&self, router: u32) -> Option<u64>
+        ensures { result ≡ reduce min (map (λ e. e.time) (from (simulation self.now.case) router self.now.held)) }
+    {
+        self.held.least_time_of(router)
+    }
+
     /// One of its routers, as the events that it has handled left it.
     pub fn router(&self, router: u32) -> &Router<'a>
         requires { owns self.now router ≡ true }
@@ -184,8 +211,8 @@ impl<'a> Shard<'a> {
         self.bound = self.bound.max(bound);
     }
 
-    /// A router undoes the event that it handled last: it becomes pending again, and antimessages of what
-    /// it had sent go out, in the order sent.
+    /// A router undoes the event that it handled last: it becomes pending again. What it had sent is taken back:
+    /// antimessages go out at once, in the order sent, or, where the shard takes back late, it is held.
     ///
     /// It is refused as `NotMine` where the router is none of the shard's, as `Nothing` where it has
     /// handled nothing, and as `Committed` where the event lies before the bound. After a refusal and for
@@ -220,8 +247,8 @@ impl<'a> Shard<'a> {
         }
     }
 
-    /// A router handles its first pending event: what it sends goes out, in the order sent. The stop is at
-    /// most 1,000,000,000.
+    /// A router handles its first pending event: what it sends goes out, in the order sent, but for what equals a
+    /// message that is held, which is held no more. The stop is at most 1,000,000,000.
     ///
     /// It is refused as `NotMine` where the router is none of the shard's, as `Nothing` where none of its
     /// pending events is before the stop, as `Double` where the first of them equals the event that it
@@ -350,6 +377,7 @@ impl<'a> Shard<'a> {
             place,
             event,
             &mut self.sends,
+            &mut self.held,
             &mut self.outgoing,
         )?;
         self.pending.remove_one(event);
@@ -368,7 +396,9 @@ impl<'a> Shard<'a> {
         let event = undo_at(
             &mut self.timelines,
             place,
+            self.cancel,
             &mut self.sends,
+            &mut self.held,
             &mut self.outgoing,
         )?;
         self.pending.insert(event).unwrap();
@@ -382,6 +412,7 @@ fn handle_at(
     place: usize,
     event: &Event,
     sends: &mut SmallVec<Event, 8>,
+    held: &mut HeldSends,
     outgoing: &mut Vec<Signed<Event>>,
 ) -> Result<(), OrMemory<CounterFull>>
     requires within { place < length timelines.old }
@@ -389,31 +420,42 @@ fn handle_at(
     ensures ok { let t = slice_index_or timelines.old place no_timeline in
         OnOk result (timelines.new ≡ slice_set timelines.old place (record t { ahead = event.now ∷ t.ahead })) }
     ensures sends { let t = slice_index_or timelines.old place no_timeline in
-        OnOk result (outgoing.new.items ≡ outgoing.old.items ++ map (signed true) (sends_after t (history t) event.now)) }
+        OnOk result (outgoing.new.items ≡ outgoing.old.items
+        ++ map (signed true) (to_send (simulation t.case) (sends_after t (history t) event.now) held.old.events)) }
+    ensures held { let t = slice_index_or timelines.old place no_timeline in
+        OnOk result (held.new.events ≡ still_held (simulation t.case) (sends_after t (history t) event.now) held.old.events) }
     ensures err { OnErr result (timelines.new ≡ timelines.old) }
     ensures unsent { OnErr result (outgoing.new.items ≡ outgoing.old.items) }
+    ensures unheld { OnErr result (held.new.events ≡ held.old.events) }
+    ensures routers { held.new.routers ≡ held.old.routers }
     ensures full { IsErrOf result (or_memory.Fault counter_full)
         ↔ IsTrue (is_full_at (router_of (slice_index_or timelines.old place no_timeline)) event.now) }
 {
-    timelines[place].handle(event, sends, outgoing)
+    timelines[place].handle(event, sends, held, outgoing)
 }
 
 /// The timeline at a place undoes its newest event, which is answered.
 fn undo_at(
     timelines: &mut [Timeline<'_>],
     place: usize,
+    cancel: Cancel,
     sends: &mut SmallVec<Event, 8>,
+    held: &mut HeldSends,
     outgoing: &mut Vec<Signed<Event>>,
 ) -> Result<Event, AllocError>
     requires within { place < length timelines.old }
     requires some { 0 < length (slice_index_or timelines.old place no_timeline).ahead }
     requires net { IsNet (slice_index_or timelines.old place no_timeline).net }
+    requires routers { held.old.routers ≡ (slice_index_or timelines.old place no_timeline).net.nodes }
     ensures ok { let t = slice_index_or timelines.old place no_timeline in IfOk result (λ e. (older : List AnEvent) × (t.ahead ≡ e ∷ older)
         × (timelines.new ≡ slice_set timelines.old place (record t { ahead = older }))
-        × (outgoing.new.items ≡ outgoing.old.items ++ map (signed false) (sends_after t (older ++ t.past) e))) }
+        × (outgoing.new.items ≡ outgoing.old.items ++ sent_back (simulation t.case) cancel (sends_after t (older ++ t.past) e))
+        × (held.new.events ≡ held_back (simulation t.case) cancel (sends_after t (older ++ t.past) e) held.old.events)) }
     ensures fits { let t = slice_index_or timelines.old place no_timeline in IfOk result (λ e. IsTrue (fits t.net t.node e)) }
     ensures err { OnErr result (timelines.new ≡ timelines.old) }
     ensures unsent { OnErr result (outgoing.new.items ≡ outgoing.old.items) }
+    ensures unheld { OnErr result (held.new.events ≡ held.old.events) }
+    ensures routers { held.new.routers ≡ held.old.routers }
 {
-    timelines[place].undo(sends, outgoing)
+    timelines[place].undo(cancel, sends, held, outgoing)
 }

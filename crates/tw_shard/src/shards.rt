@@ -11,22 +11,23 @@ use std::alloc::{AllocError, Global};
 use tw_event::Event;
 use tw_instance::Case;
 use tw_model::RouterEnd;
-use tw_sim::owner;
+use tw_sim::{Cancel, owner};
 
 /// The shards of so many workers, by rising worker, as they begin. Routers keep their committed events, or
-/// let them go.
+/// let them go; what an undone event has sent is taken back at once, or as late as may be.
 pub fn open_all<'a>(
     alloc: Global,
     case: &'a Case,
     workers: u32,
     keeps: bool,
+    cancel: Cancel,
 ) -> Result<Vec<Shard<'a>>, AllocError>
     ensures count { IfOk result (λ v. length v.items ≡ workers) }
-    ensures each { IfOk result (λ v. (k : ℕ) → k < workers → IsOpeningShard case.now k workers keeps (slice_index_or v.items k no_shard)) }
+    ensures each { IfOk result (λ v. (k : ℕ) → k < workers → IsOpeningShard case.now k workers keeps cancel (slice_index_or v.items k no_shard)) }
 {
     let mut shards = Vec::with_capacity(alloc, workers as usize)?;
     for worker in 0..workers {
-        shards.push_reserved(Shard::open(alloc, case, worker, workers, keeps)?);
+        shards.push_reserved(Shard::open_with(alloc, case, worker, workers, keeps, cancel)?);
     }
     Ok(shards)
 }
@@ -168,6 +169,17 @@ pub fn count_kept(shards: &[Shard<'_>]) -> u128
     let mut count = 0_u128;
     for shard in shards {
         count += shard.kept().len() as u128;
+    }
+    count
+}
+
+/// How many messages are held at all of them.
+pub fn count_held(shards: &[Shard<'_>]) -> u128
+    ensures { result ≡ length (flat_map (λ s. s.held) shards.now) }
+{
+    let mut count = 0_u128;
+    for shard in shards {
+        count += shard.held_len() as u128;
     }
     count
 }

@@ -4,14 +4,17 @@ ghost use Rattle.std.specs.Prelude.{◌≡◌, ◌+◌, ◌*◌, ◌^◌, ◌≤
 ghost use Rattle.std.specs.List.{AllByRecursion};
 ghost use Rattle.std.specs.Option.{option_copied};
 ghost use Rattle.tw_event.specs.declared.event.Event.{Event as AnEvent};
-ghost use Rattle.tw_core.specs.Steps.{is_newest};
+ghost use Rattle.tw_core.specs.Steps.{held_back, is_newest, sent_back, still_held, to_send};
 ghost use Rattle.tw_model.specs.Case.{Case as ACase, simulation};
 ghost use Rattle.tw_handlers.specs.Calls.{counter_full, is_full_at};
 ghost use Rattle.tw_model.specs.declared.memory.OrMemory.TheVariants as or_memory;
 ghost use Rattle.tw_model.specs.Effect.{fits};
 ghost use Rattle.tw_model.specs.Rules.{IsNet};
-ghost use Rattle.tw_event.specs.Order.{event_same};
-ghost use Rattle.tw_sim.specs.Ordered.{times};
+ghost use Rattle.tw_event.specs.Order.{event_before, event_same};
+ghost use Rattle.tw_model.specs.declared.limits.TheConstants.{MOST_LINKS};
+ghost use Rattle.tw_queue.specs.Held.{AreFrom};
+ghost use Rattle.tw_sim.specs.declared.machine.Cancel.TheVariants.{Aggressive, Lazy};
+ghost use Rattle.tw_sim.specs.Ordered.{insert_all, times};
 ghost use Rattle.tw_shard.specs.Timeline.{history, opening_timeline, router_of as router_of_timeline, sends_after, signed};
 
 mod commit;
@@ -27,8 +30,9 @@ use tw_handlers::{CounterFull, UndoRecord, handle_fitting, take_back, undo};
 use tw_instance::Case;
 use tw_model::OrMemory;
 use tw_model::limits::MOST_LINKS;
+use tw_queue::HeldSends;
 use tw_router::Router;
-use tw_sim::Signed;
+use tw_sim::{Cancel, Signed};
 
 /// An event that was handled, and what undoing it needs.
 #[derive(Clone, Copy)]
@@ -150,19 +154,24 @@ impl<'a> Timeline<'a> {
         }
     }
 
-    /// Handles an event, and posts what it sends.
+    /// Handles an event, and posts what it sends and is not held. What is sent again is held no more.
     pub(crate) fn handle(
         &mut self,
         event: &Event,
         sends: &mut SmallVec<Event, 8>,
+        held: &mut HeldSends,
         outgoing: &mut Vec<Signed<Event>>,
     ) -> Result<(), OrMemory<CounterFull>>
         requires { IsTrue (fits self.old.net self.old.node event.now) }
         ensures ok { OnOk result (self.new ≡ record self.old { ahead = event.now ∷ self.old.ahead }) }
-        ensures sends { OnOk result
-            (outgoing.new.items ≡ outgoing.old.items ++ map (signed true) (sends_after self.old (history self.old) event.now)) }
+        ensures sends { OnOk result (outgoing.new.items ≡ outgoing.old.items
+            ++ map (signed true) (to_send (simulation self.old.case) (sends_after self.old (history self.old) event.now) held.old.events)) }
+        ensures held { OnOk result
+            (held.new.events ≡ still_held (simulation self.old.case) (sends_after self.old (history self.old) event.now) held.old.events) }
         ensures err { OnErr result (self.new ≡ self.old) }
         ensures unsent { OnErr result (outgoing.new.items ≡ outgoing.old.items) }
+        ensures unheld { OnErr result (held.new.events ≡ held.old.events) }
+        ensures routers { held.new.routers ≡ held.old.routers }
         ensures full { IsErrOf result (or_memory.Fault counter_full) ↔ IsTrue (is_full_at (router_of_timeline self.old) event.now) }
     {
         let instance = self.router.instance();
@@ -176,28 +185,35 @@ impl<'a> Timeline<'a> {
             take_back(instance, &mut self.router, event, note);
             return Err(OrMemory::from(error));
         }
-        post(outgoing, sends, true);
+        send_unheld(outgoing, sends, held);
         Ok(())
     }
 
-    /// Undoes the newest event, and posts the antimessages of what it had sent.
+    /// Undoes the newest event. What it had sent is taken back at once, or held.
     pub(crate) fn undo(
         &mut self,
+        cancel: Cancel,
         sends: &mut SmallVec<Event, 8>,
+        held: &mut HeldSends,
         outgoing: &mut Vec<Signed<Event>>,
     ) -> Result<Event, AllocError>
         requires some { 0 < length self.old.ahead }
         requires net { IsNet self.old.net }
+        requires routers { held.old.routers ≡ self.old.net.nodes }
         ensures ok { IfOk result (λ e. (older : List AnEvent) × (self.old.ahead ≡ e ∷ older)
             × (self.new ≡ record self.old { ahead = older })
-            × (outgoing.new.items ≡ outgoing.old.items ++ map (signed false) (sends_after self.old (older ++ self.old.past) e))) }
+            × (outgoing.new.items ≡ outgoing.old.items
+            ++ sent_back (simulation self.old.case) cancel (sends_after self.old (older ++ self.old.past) e))
+            × (held.new.events ≡ held_back (simulation self.old.case) cancel (sends_after self.old (older ++ self.old.past) e) held.old.events)) }
         ensures fits { IfOk result (λ e. IsTrue (fits self.old.net self.old.node e)) }
         ensures err { OnErr result (self.new ≡ self.old) }
         ensures unsent { OnErr result (outgoing.new.items ≡ outgoing.old.items) }
+        ensures unheld { OnErr result (held.new.events ≡ held.old.events) }
+        ensures routers { held.new.routers ≡ held.old.routers }
     {
         let instance = self.router.instance();
         let newest = *self.ahead.last().unwrap();
-        outgoing.reserve(MOST_LINKS)?;
+        make_room(cancel, held, outgoing)?;
         sends.clear();
         undo(
             instance,
@@ -207,7 +223,7 @@ impl<'a> Timeline<'a> {
             sends,
         )?;
         self.ahead.drop_last();
-        post(outgoing, sends, false);
+        call_back(cancel, sends, held, outgoing);
         Ok(newest.event)
     }
 }
@@ -226,6 +242,77 @@ fn add_step(
 {
     outgoing.reserve(count)?;
     ahead.push(step)
+}
+
+/// Makes room for what an undone event had sent: for its antimessages, or for what is held.
+fn make_room(
+    cancel: Cancel,
+    held: &mut HeldSends,
+    outgoing: &mut Vec<Signed<Event>>,
+) -> Result<(), AllocError>
+    ensures room { OnOk result (cancel ≡ Aggressive → vec_len outgoing.new + MOST_LINKS ≤ vec_capacity outgoing.new) }
+    ensures held { OnOk result (cancel ≡ Lazy → MOST_LINKS ≤ held.new.room) }
+    ensures messages { outgoing.new.items ≡ outgoing.old.items }
+    ensures events { held.new.events ≡ held.old.events }
+    ensures routers { held.new.routers ≡ held.old.routers }
+{
+    match cancel {
+        Cancel::Aggressive => outgoing.reserve(MOST_LINKS),
+        Cancel::Lazy => held.reserve(MOST_LINKS),
+    }
+}
+
+/// Takes back what an undone event had sent: by antimessages, or by holding it. There is room.
+fn call_back(
+    cancel: Cancel,
+    sends: &[Event],
+    held: &mut HeldSends,
+    outgoing: &mut Vec<Signed<Event>>,
+)
+    requires room { cancel ≡ Aggressive → vec_len outgoing.old + length sends.now ≤ vec_capacity outgoing.old }
+    requires space { cancel ≡ Lazy → length sends.now ≤ held.old.room }
+    requires senders { AreFrom held.old.routers sends.now }
+    ensures outgoing { (case : ACase) → outgoing.new.items ≡ outgoing.old.items ++ sent_back (simulation case) cancel sends.now }
+    ensures held { (case : ACase) → held.new.events ≡ held_back (simulation case) cancel sends.now held.old.events }
+    ensures routers { held.new.routers ≡ held.old.routers }
+{
+    match cancel {
+        Cancel::Aggressive => post(outgoing, sends, false),
+        Cancel::Lazy => hold(held, sends),
+    }
+}
+
+/// Holds events, for which there is room.
+fn hold(held: &mut HeldSends, events: &[Event])
+    requires room { length events.now ≤ held.old.room }
+    requires senders { AreFrom held.old.routers events.now }
+    ensures events { held.new.events ≡ insert_all event_before events.now held.old.events }
+    ensures routers { held.new.routers ≡ held.old.routers }
+{
+    for event in events {
+        held.insert(*event).unwrap();
+    }
+}
+
+/// Sends events, for which there is room, but for those that are held: these are sent already, and held no more.
+fn send_unheld(outgoing: &mut Vec<Signed<Event>>, events: &[Event], held: &mut HeldSends)
+    requires { vec_len outgoing.old + length events.now ≤ vec_capacity outgoing.old }
+    ensures sends { (case : ACase) → outgoing.new.items ≡ outgoing.old.items ++ map (signed true) (to_send (simulation case) events.now held.old.events) }
+    ensures held { (case : ACase) → held.new.events ≡ still_held (simulation case) events.now held.old.events }
+    ensures routers { held.new.routers ≡ held.old.routers }
+{
+    if held.is_empty() {
+        post(outgoing, events, true);
+        return;
+    }
+    for event in events {
+        if !held.remove_one(event) {
+            outgoing.push_reserved(Signed {
+                plus: true,
+                event: *event,
+            });
+        }
+    }
 }
 
 /// Adds events as messages, or as their antimessages, for which there is room.

@@ -59,7 +59,7 @@ module _ (case : Case) (is : IsCase case) (n : ℕ) where
     pending = λ e. waits k s e new;
     kept = ap (λ (C : Core Event). C.kept) (new.core_is 0);
     outgoing = ap (λ (C : Core Event). C.flight) (new.core_is 0);
-    held = refl;
+    held = ap (λ (C : Core Event). C.held) (new.core_is 0);
     done = λ r. ap (λ (C : Core Event). C.done r) (new.core_is 0);
     bound = ap (λ (C : Core Event). C.bound) (new.core_is 0);
     mail = new.mail;

@@ -4,9 +4,9 @@ use Rattle.tw_model.specs.Case.{Case}
 use Rattle.tw_shard.specs.Shard.{core, opening_core}
 use Rattle.tw_table.specs.Shares.{Share}
 
--- worker k's share, of so many: its shard as it opens, and an empty hand
+-- worker k's share, of so many: its shard as it opens, which takes back at once or late, and an empty hand
 pub record IsNew (case : Case) (k workers : ℕ) (s : Share) : Type 0 where
-  pub core_is : (stop : ℕ) → core stop s.shard ≡ opening_core case k workers stop
+  pub core_is : (stop : ℕ) → core stop s.shard ≡ opening_core case k workers s.shard.cancel stop
   pub case_is : s.shard.case ≡ case
   pub worker : s.shard.worker ≡ k
   pub count : s.shard.workers ≡ workers

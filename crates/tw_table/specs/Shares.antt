@@ -13,7 +13,6 @@ use Rattle.tw_rule.specs.Board as rule
 use Rattle.tw_rule.specs.Place.{Place, whole}
 use Rattle.tw_rule.specs.Rule.{Rule, Stands, assembled}
 use Rattle.tw_shard.specs.Shard.{Shard, core, no_shard, owns}
-use Rattle.tw_sim.specs.declared.machine.Cancel.TheVariants.{Aggressive}
 use Rattle.tw_sim.specs.declared.machine.Signed.{Signed}
 use Rattle.tw_table.specs.declared.hand.Hand.{Hand}
 
@@ -46,12 +45,12 @@ place_of s = record {
   pending = s.shard.pending;
   kept = s.shard.kept;
   outgoing = s.shard.outgoing;
-  held = [];
+  held = s.shard.held;
   done = (core 0 s.shard).done;
   past = (core 0 s.shard).past;
   room = (core 0 s.shard).room;
   bound = s.shard.bound;
-  cancel = Aggressive;
+  cancel = s.shard.cancel;
   mail = s.mail;
   unsent = s.unsent;
 }

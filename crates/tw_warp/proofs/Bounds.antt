@@ -10,7 +10,6 @@ use Rattle.std.specs.declared.vec.Vec.{Vec}
 use Rattle.tw_core.specs.Machine.{Core, antimessages, messages}
 use Rattle.tw_core.specs.Steps.{least_loose, least_time, with_bound}
 use Rattle.tw_core.specs.Good.{IsGood}
-use Rattle.tw_sim.specs.declared.machine.Cancel.TheVariants.{Aggressive}
 use Rattle.tw_sim.specs.declared.machine.Signed.{Signed}
 use Rattle.tw_sim.specs.Simulation.{Simulation, IsLawful, times}
 use Rattle.tw_sim.proofs.Counts.{in_cons, in_head, times-append}
@@ -164,13 +163,13 @@ module _ (w : Warp) (is : IsWarp w) (bound : ℕ) where
     pending = insert_all event_before (flat_map-raised (λ s. s.pending) bound (λ s. refl) w.shards i) [];
     kept = insert_all event_before (flat_map-raised (λ s. s.kept) bound (λ s. refl) w.shards i) [];
     flight = w.flight;
-    held = [];
+    held = insert_all event_before (flat_map-raised (λ s. s.held) bound (λ s. refl) w.shards i) [];
     done = read_raised (λ s r. (share.core w.stop s).done r) (λ s r. refl) i;
     past = read_raised (λ s r. (share.core w.stop s).past r) (λ s r. refl) i;
     room = read_raised (λ s r. (share.core w.stop s).room r) (λ s r. refl) i;
     bound = bound;
     stop = w.stop;
-    cancel = Aggressive;
+    cancel = w.cancel;
   }
 
   -- it is one where the bound is the least time of all that is loose
@@ -195,7 +194,9 @@ module _ (w : Warp) (is : IsWarp w) (bound : ℕ) where
               workers = old.workers ∙ sym same;
               bound = omega arith;
               keeps = old.keeps;
+              cancel = old.cancel;
               outgoing = old.outgoing;
+              held = old.held;
               own = own;
             });
         good = subst (IsGood m) (sym reached) (next_keeps m (moves.law w is) (core w) Bound is.good).good;
@@ -206,30 +207,48 @@ module _ (w : Warp) (is : IsWarp w) (bound : ℕ) where
   bound_step least = ap Ok (ap (λ b. record (core w) { bound = b }) (sym least) ∙ sym core_raised)
 
 -- the least time, as the code finds it
-pub least_found : (w : Warp) → IsWarp w → least_of_all (simulation w.case) (λ s. s.pending ++ s.kept) w.shards (least_time (simulation w.case) (map (λ x. x.event) w.flight) w.stop)
+pub least_found : (w : Warp) → IsWarp w
+    → least_of_all (simulation w.case) (λ s. s.pending ++ s.kept ++ s.held) w.shards (least_time (simulation w.case) (map (λ x. x.event) w.flight) w.stop)
     ≡ least_loose (simulation w.case) (core w)
 least_found w is =
     let m = simulation w.case in
-    let top = least_time m (map (λ x. x.event) w.flight) w.stop in
+    let flight = map (λ (x : Signed Event). x.event) w.flight in
+    let top = least_time m flight w.stop in
     let P = flat_map (λ s. s.pending) w.shards in
     let K = flat_map (λ s. s.kept) w.shards in
-    least_of_all_is m (moves.law w is) (λ s. s.pending ++ s.kept) w.shards top
-    ∙ (same_least_time m (moves.law w is) (flat_map (λ s. s.pending ++ s.kept) w.shards) (P ++ K) top top (λ e. both e w.shards) refl
-    ∙ (least-append m P K top
-    ∙ same_least_time m (moves.law w is) P (insert_all event_before P []) (least_time m K top) (least_time m (insert_all event_before K []) top) (λ e. sym (times-in_order m (moves.law w is) e P))
-    (same_least_time m (moves.law w is) K (insert_all event_before K []) top top (λ e. sym (times-in_order m (moves.law w is) e K)) refl))) where
-      both : (e : Event) (ss : List Shard)
-          → times (simulation w.case) e (flat_map (λ s. s.pending ++ s.kept) ss) ≡ times (simulation w.case) e (flat_map (λ s. s.pending) ss ++ flat_map (λ s. s.kept) ss)
-      both e [] = refl
-      both e (s ∷ ss) =
+    let H = flat_map (λ s. s.held) w.shards in
+    least_of_all_is m (moves.law w is) (λ s. s.pending ++ s.kept ++ s.held) w.shards top
+    ∙ (same_least_time m (moves.law w is) (flat_map (λ s. s.pending ++ s.kept ++ s.held) w.shards) (P ++ K ++ H) top top (λ e. all e w.shards) refl
+    ∙ (least-append m (P ++ K) H top
+    ∙ (least-append m P K (least_time m H top)
+    ∙ in_order_too P (least_time m K (least_time m H top)) (least_time m (insert_all event_before K []) (least_time m flight (least_time m (insert_all event_before H []) w.stop)))
+    (in_order_too K (least_time m H top) (least_time m flight (least_time m (insert_all event_before H []) w.stop))
+    (least-swap m H flight w.stop ∙ ap (least_time m flight) (in_order_too H w.stop w.stop refl)))))) where
+      -- a list in order has the same least time
+      in_order_too : (xs : List Event) (s t : ℕ) → s ≡ t → least_time (simulation w.case) xs s ≡ least_time (simulation w.case) (insert_all event_before xs []) t
+      in_order_too xs s t same =
+          same_least_time (simulation w.case) (moves.law w is) xs (insert_all event_before xs []) s t
+          (λ e. sym (times-in_order (simulation w.case) (moves.law w is) e xs)) same
+
+      all : (e : Event) (ss : List Shard) → times (simulation w.case) e (flat_map (λ s. s.pending ++ s.kept ++ s.held) ss)
+          ≡ times (simulation w.case) e (flat_map (λ s. s.pending) ss ++ flat_map (λ s. s.kept) ss ++ flat_map (λ s. s.held) ss)
+      all e [] = refl
+      all e (s ∷ ss) =
           let m = simulation w.case in
-          let h = both e ss in
-          let a = times-append m e (s.pending ++ s.kept) (flat_map (λ s. s.pending ++ s.kept) ss) in
-          let b = times-append m e s.pending s.kept in
-          let c = times-append m e (flat_map (λ s. s.pending) ss) (flat_map (λ s. s.kept) ss) in
-          let d = times-append m e (s.pending ++ flat_map (λ s. s.pending) ss) (s.kept ++ flat_map (λ s. s.kept) ss) in
-          let f = times-append m e s.pending (flat_map (λ s. s.pending) ss) in
-          let g = times-append m e s.kept (flat_map (λ s. s.kept) ss) in
+          let P = flat_map (λ (s : Shard). s.pending) ss in
+          let K = flat_map (λ (s : Shard). s.kept) ss in
+          let H = flat_map (λ (s : Shard). s.held) ss in
+          let h = all e ss in
+          let a = times-append m e (s.pending ++ s.kept ++ s.held) (flat_map (λ s. s.pending ++ s.kept ++ s.held) ss) in
+          let b = times-append m e (s.pending ++ s.kept) s.held in
+          let c = times-append m e s.pending s.kept in
+          let d = times-append m e (P ++ K) H in
+          let f = times-append m e P K in
+          let g = times-append m e ((s.pending ++ P) ++ (s.kept ++ K)) (s.held ++ H) in
+          let i = times-append m e (s.pending ++ P) (s.kept ++ K) in
+          let j = times-append m e s.pending P in
+          let k = times-append m e s.kept K in
+          let l = times-append m e s.held H in
           omega arith
 
 -- one message further on

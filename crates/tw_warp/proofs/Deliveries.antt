@@ -1,5 +1,5 @@
 -- What a message that is delivered leaves of the machine, and what is left where memory was refused to it.
-use Rattle.std.proofs.Common.{◌≡◌, ℕ, zero, suc, ◌-◌, not, cond, ◌<◌, ◌≤◌, ◌==◌, ◌||◌, Bool, true, false, List, [], ◌∷◌, ◌++◌, map, length, remove, nat_lt, slice_get, append_assoc, Some, None, Ok, Err, if◌then◌else◌, refl, ap, sym, ◌∙◌, subst, inl, inr, arith}
+use Rattle.std.proofs.Common.{◌≡◌, ℕ, zero, suc, ◌-◌, not, cond, ◌<◌, ◌≤◌, ◌==◌, ◌||◌, Bool, true, false, List, [], ◌∷◌, ◌++◌, length, remove, nat_lt, slice_get, append_assoc, Some, None, Ok, Err, if◌then◌else◌, refl, ap, sym, ◌∙◌, subst, inl, inr, arith}
 use Rattle.std.proofs.lemmas.Bool.{cases_Bool, eq-eqb, le-ltb, lt-ltb}
 use Rattle.std.proofs.lemmas.List.{append-nil, length-append}
 use Rattle.std.proofs.lemmas.Option.{slice_get_within}
@@ -22,7 +22,9 @@ use Rattle.tw_sim.specs.declared.machine.Signed.{Signed}
 use Rattle.tw_sim.specs.declared.machine.Step.TheVariants.{Deliver, Undo}
 use Rattle.tw_sim.specs.Simulation.{Simulation, IsLawful, state, times}
 use Rattle.tw_sim.proofs.Counts.{in_head}
+use Rattle.tw_sim.proofs.Rising.{IsRising}
 use Rattle.tw_warp.specs.Warp.{IsWarp, Warp, IsCutShort, after_undos, behind, core, lent, message_at, shard_at, worker_of}
+use Rattle.tw_warp.proofs.Held.{rising_arrival, rising_undoing}
 use Rattle.tw_warp.proofs.InChunks.{before_others}
 use Rattle.tw_warp.proofs.Joined.{joined, rest, rest_apart, with_shard}
 use Rattle.tw_warp.proofs.Moves.{deliver_step, law, next_is, now, own_lent, part, welcome_there}
@@ -53,15 +55,16 @@ module _ {S E : Type 0} (m : Simulation S E) (law : IsLawful m) where
     pub good : IsGood m (whole m X D)
     pub own : IsOwn m X.mine D
     pub bound : D.bound ≡ C.bound
+    pub held : IsRising m D.held
     pub sent : (back : _) × (D.flight ≡ C.flight ++ back)
 
   undone_to : (X : Rest E) (apart : IsApart m X) (x : E) (n : ℕ) (C D : Core E) → X.mine (m.dst x) ≡ true → m.dst x < m.routers → C.bound ≤ m.time x
-      → IsGood m (whole m X C) → IsOwn m X.mine C → AreUndone m n x C D → IsUndoneTo X x n C D
-  undone_to X apart x zero C D mine there late good own h =
-      subst (IsUndoneTo X x zero C) (sym h) (record { whole_is = refl; good = good; own = own; bound = refl; sent = ([], sym (append-nil C.flight)) })
-  undone_to X apart x (suc n) C D mine there late good own h =
+      → IsRising m C.held → IsGood m (whole m X C) → IsOwn m X.mine C → AreUndone m n x C D → IsUndoneTo X x n C D
+  undone_to X apart x zero C D mine there late rising good own h =
+      subst (IsUndoneTo X x zero C) (sym h) (record { whole_is = refl; good = good; own = own; bound = refl; held = rising; sent = ([], sym (append-nil C.flight)) })
+  undone_to X apart x (suc n) C D mine there late rising good own h =
       let B = h.0 in
-      let old = undone_to X apart x n C B mine there late good own h.1 in
+      let old = undone_to X apart x n C B mine there late rising good own h.1 in
       let e = h.2.0 in
       let older = h.2.1 in
       let r = m.dst x in
@@ -76,6 +79,7 @@ module _ {S E : Type 0} (m : Simulation S E) (law : IsLawful m) where
         good = subst (IsGood m) (sym reached) (next_keeps m law (whole m X B) (Undo r) old.good).good;
         own = own_undoing m law X.mine B r e older home h.2.2 old.own;
         bound = old.bound;
+        held = rising_undoing m law B r e older old.held;
         sent = (
           old.sent.0 ++ sent_back m B.cancel (m.sends (state m r older) e),
           ap (λ f. f ++ sent_back m B.cancel (m.sends (state m r older) e)) old.sent.1
@@ -129,12 +133,15 @@ module _ (w : Warp) (is : IsWarp w) (k : ℕ) (within : k < length w.shards) whe
     pub same : IsSameShare (shard_at w k) s
     pub none : s.outgoing ≡ []
 
+  same_cancel : (s : Shard) → IsBackFrom s → s.cancel ≡ w.cancel
+  same_cancel s back = back.same.cancel ∙ (is.shares k within).cancel
+
   -- the machine with that shard
-  next_good : (s : Shard) (flight : List (Signed Event)) → IsBackFrom s → s.bound ≡ w.bound → IsOwn (simulation w.case) (λ r. worker_of w r == k) (share.core w.stop s)
+  next_good : (s : Shard) (flight : List (Signed Event)) → IsBackFrom s → s.bound ≡ w.bound → IsRising (simulation w.case) s.held → IsOwn (simulation w.case) (λ r. worker_of w r == k) (share.core w.stop s)
       → IsGood (simulation w.case) (core (with_shard w k s flight)) → IsWarp (with_shard w k s flight)
-  next_good s flight back bound own good =
+  next_good s flight back bound rising own good =
       let bare : with_shard w k (record s { outgoing = [] }) flight ≡ with_shard w k s flight = λ i. with_shard w k (record s { outgoing = sym back.none i }) flight in
-      subst IsWarp bare (next_is w is k s flight within back.same bound own (subst (λ v. IsGood (simulation w.case) (core v)) (sym bare) good))
+      subst IsWarp bare (next_is w is k s flight within back.same bound rising own (subst (λ v. IsGood (simulation w.case) (core v)) (sym bare) good))
 
   -- the message has come, and leaves the flight
   pub record IsDelivered (place j : ℕ) (s : Shard) (flight : List (Signed Event)) : Type 0 where
@@ -151,10 +158,11 @@ module _ (w : Warp) (is : IsWarp w) (k : ℕ) (within : k < length w.shards) whe
       (own_arrival m (law w is) (λ r. worker_of w r == k) w.bound C x (part w is k within) (own_lent w is k within) (eq-eqb (worker_of w x.event.dst) k mine)) in
       let own : IsOwn m (λ r. worker_of w r == k) (share.core w.stop s) = record { history = arrived.history; waiting = arrived.waiting; held = arrived.held } in
       let did : step m (core w) (Deliver (suc j)) ≡ Ok (core (with_shard w k s (remove flight j))) =
-      deliver_step w is k within j x (behind s flight) there mine came ∙ ap Ok (sym (joined w is.case k within s (remove flight j) bound)) in
+      deliver_step w is k within j x (behind s flight) there mine came ∙ ap Ok (sym (joined w is.case k within s (remove flight j) bound (same_cancel s back))) in
+      let rising = subst (λ (D : Core Event). IsRising m D.held) came (rising_arrival m (law w is) C x (is.shares k within).held) in
       record {
         did = did;
-        good = next_good s (remove flight j) back bound own (step_keeps m (law w is) (core w) (core (with_shard w k s (remove flight j))) (Deliver (suc j)) is.good did).good;
+        good = next_good s (remove flight j) back bound rising own (step_keeps m (law w is) (core w) (core (with_shard w k s (remove flight j))) (Deliver (suc j)) is.good did).good;
       }
 
   pub delivered : (place j : ℕ) → suc j ≡ place → (x : Signed Event) (s : Shard) (flight : List (Signed Event)) → message_at w.flight place ≡ Some x → worker_of w x.event.dst ≡ k
@@ -176,10 +184,10 @@ module _ (w : Warp) (is : IsWarp w) (k : ℕ) (within : k < length w.shards) whe
       let fine = core_steps.welcome m (law w is) (core w) j x is.good there in
       let early : C.bound ≤ x.event.time = subst (λ b. b ≤ x.event.time) (sym (is.shares k within).bound) fine.0 in
       let to = undone_to m (law w is) (rest w k) (rest_apart w is.case k within is.shares) x.event h.0 C (share.core w.stop (behind s flight))
-      (eq-eqb (worker_of w x.event.dst) k mine) fine.1 early (subst (IsGood m) (now w is k within) is.good) (own_lent w is k within) h.1 in
+      (eq-eqb (worker_of w x.event.dst) k mine) fine.1 early (is.shares k within).held (subst (IsGood m) (now w is k within) is.good) (own_lent w is k within) h.1 in
       let bound : s.bound ≡ w.bound = to.bound ∙ (is.shares k within).bound in
       let own : IsOwn m (λ r. worker_of w r == k) (share.core w.stop s) = record { history = to.own.history; waiting = to.own.waiting; held = to.own.held } in
-      let reached : core (with_shard w k s flight) ≡ whole m (rest w k) (share.core w.stop (behind s flight)) = joined w is.case k within s flight bound in
+      let reached : core (with_shard w k s flight) ≡ whole m (rest w k) (share.core w.stop (behind s flight)) = joined w is.case k within s flight bound (same_cancel s back) in
       let stays : slice_get flight j ≡ Some x = ap (λ f. slice_get f j) to.sent.1 ∙ (before_others w.flight to.sent.0 j (slice_get_within w.flight j x there) ∙ there) in
       record {
         cut = record {
@@ -189,7 +197,7 @@ module _ (w : Warp) (is : IsWarp w) (k : ℕ) (within : k < length w.shards) whe
           stays = stays;
           undone = reached ∙ (to.whole_is ∙ ap (after_undos m h.0 x.event.dst) (sym (now w is k within)));
         };
-        good = next_good s flight back bound own (subst (IsGood m) (sym reached) to.good);
+        good = next_good s flight back bound to.held own (subst (IsGood m) (sym reached) to.good);
       }
 
   came_from : (at s : Shard) → at ≡ shard_at w k → IsSameShare at s → s.outgoing ≡ at.outgoing → IsBackFrom s

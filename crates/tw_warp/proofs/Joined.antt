@@ -9,7 +9,6 @@ use Rattle.tw_model.specs.Case.{Case, IsCase, simulation}
 use Rattle.tw_model.proofs.Lawful.{lawful}
 use Rattle.tw_shard.specs.Shard.{IsSameShare, Shard, owns}
 use Rattle.tw_shard.specs.Shard as share
-use Rattle.tw_sim.specs.declared.machine.Cancel.TheVariants.{Aggressive}
 use Rattle.tw_sim.specs.declared.machine.Signed.{Signed}
 use Rattle.tw_sim.specs.Owners.{owner}
 use Rattle.tw_sim.specs.Ordered.{times}
@@ -33,7 +32,7 @@ rest w k = record {
   room = (core w).room;
   pending = flat_map (λ s. s.pending) (others w.shards k);
   kept = flat_map (λ s. s.kept) (others w.shards k);
-  held = [];
+  held = flat_map (λ s. s.held) (others w.shards k);
 }
 
 -- with another shard of worker k, and other messages on their way
@@ -105,9 +104,9 @@ module _ (w : Warp) (is : IsCase w.case) (k : ℕ) (within : k < length w.shards
       ])
 
   -- the machine with another shard of this worker is that shard beside the rest
-  pub joined : (s : Shard) (flight : List (Signed Event)) → s.bound ≡ w.bound
+  pub joined : (s : Shard) (flight : List (Signed Event)) → s.bound ≡ w.bound → s.cancel ≡ w.cancel
       → core (with_shard w k s flight) ≡ whole (simulation w.case) (rest w k) (record (share.core w.stop s) { flight = flight })
-  joined s flight bound =
+  joined s flight bound cancel =
       let m = simulation w.case in
       let law = lawful w.case is in
       λ i. record {
@@ -117,20 +116,22 @@ module _ (w : Warp) (is : IsCase w.case) (k : ℕ) (within : k < length w.shards
         kept = same_order m law (flat_map (λ s. s.kept) (set w.shards k s)) (flat_map (λ s. s.kept) (others w.shards k) ++ s.kept)
             (λ e. times-others w.case is e (λ s. s.kept) w.shards k s within) i;
         flight = flight;
-        held = [];
+        held = same_order m law (flat_map (λ s. s.held) (set w.shards k s)) (flat_map (λ s. s.held) (others w.shards k) ++ s.held)
+            (λ e. times-others w.case is e (λ s. s.held) w.shards k s within) i;
         done = read_with (λ s r. (share.core w.stop s).done r) s flight i;
         past = read_with (λ s r. (share.core w.stop s).past r) s flight i;
         room = read_with (λ s r. (share.core w.stop s).room r) s flight i;
         bound = sym bound i;
         stop = w.stop;
-        cancel = Aggressive;
+        cancel = sym cancel i;
       }
 
   -- and so is the machine as it stands
-  pub joined_now : (shard_at w k).bound ≡ w.bound → core w ≡ whole (simulation w.case) (rest w k) (record (share.core w.stop (shard_at w k)) { flight = w.flight })
-  joined_now bound = ap (λ shards. core (record w { shards = shards })) (sym (set_same w.shards k no_shard within)) ∙ joined (shard_at w k) w.flight bound
+  pub joined_now : (shard_at w k).bound ≡ w.bound → (shard_at w k).cancel ≡ w.cancel
+      → core w ≡ whole (simulation w.case) (rest w k) (record (share.core w.stop (shard_at w k)) { flight = w.flight })
+  joined_now bound cancel = ap (λ shards. core (record w { shards = shards })) (sym (set_same w.shards k no_shard within)) ∙ joined (shard_at w k) w.flight bound cancel
 
-  -- nothing of the rest waits for this worker's routers
+  -- nothing of the rest waits for this worker's routers, or was sent by them and is held
   pub rest_apart : ((j : ℕ) → j < length w.shards → IsShare w j (shard_at w j)) → IsApart (simulation w.case) (rest w k)
   rest_apart shares = record {
     pending = λ e mine. none (times event_same e (rest w k).pending) (λ some.
@@ -143,5 +144,9 @@ module _ (w : Warp) (is : IsCase w.case) (k : ℕ) (within : k < length w.shards
         let count = at.3 in
         let theirs = (shares at.0 at.1).own.waiting e (omega arith) in
         at.2 (sym (eqb-true (worker_of w e.dst) at.0 theirs) ∙ eqb-true (worker_of w e.dst) k mine));
-    held = λ e mine. refl;
+    held = λ e mine. none (times event_same e (rest w k).held) (λ some.
+        let at = in_others w.case is e (λ s. s.held) no_shard w.shards k some in
+        let count = at.3 in
+        let theirs = (shares at.0 at.1).own.held e (omega arith) in
+        at.2 (sym (eqb-true (worker_of w e.src) at.0 theirs) ∙ eqb-true (worker_of w e.src) k mine));
   }

@@ -1,4 +1,5 @@
 pub mod Whole
+pub mod Held
 pub mod Joined
 pub mod Moves
 pub mod Behind

@@ -12,6 +12,7 @@ use Rattle.tw_core.specs.Parts.{IsOwn}
 use Rattle.tw_core.specs.Steps.{after_arrival, at_router, deliver, first_pending, handle, step, undo, with_commit, with_release, with_room}
 use Rattle.tw_core.proofs.Wording.{arrival-front}
 use Rattle.tw_event.specs.declared.event.Event.{Event}
+use Rattle.tw_event.specs.Order.{event_before, event_same}
 use Rattle.tw_model.specs.Case.{Case, simulation}
 use Rattle.tw_model.proofs.Lawful.{lawful}
 use Rattle.tw_model.specs.Effect.{suits}
@@ -23,6 +24,7 @@ use Rattle.tw_shard.specs.declared.rejection.Rejection.TheVariants.{Foreign, Lat
 use Rattle.tw_shard.specs.Shard.{IsSameShare, Shard, handling, owns, releasing, undoing, widening}
 use Rattle.tw_shard.specs.Shard as share
 use Rattle.tw_sim.specs.Owners.{owner}
+use Rattle.tw_sim.specs.Rising.{IsRising}
 use Rattle.tw_sim.specs.declared.machine.Signed.{Signed}
 use Rattle.tw_sim.specs.declared.machine.Step.TheVariants.{Commit, Handle, Release, Undo, Deliver}
 use Rattle.tw_sim.specs.Simulation.{IsLawful}
@@ -50,10 +52,10 @@ module _ (w : Warp) (is : IsWarp w) where
   module _ (k : ℕ) (within : k < length w.shards) where
     -- the machine is the lent shard beside the rest
     pub now : core w ≡ whole (simulation w.case) (rest w k) (share.core w.stop (lent w k))
-    now = joined_now w is.case k within (is.shares k within).bound
+    now = joined_now w is.case k within (is.shares k within).bound (is.shares k within).cancel
 
-    pub later : (s : Shard) → s.bound ≡ w.bound → core (given_back w k s) ≡ whole (simulation w.case) (rest w k) (share.core w.stop s)
-    later s bound = joined w is.case k within (record s { outgoing = [] }) s.outgoing bound
+    pub later : (s : Shard) → s.bound ≡ w.bound → s.cancel ≡ w.cancel → core (given_back w k s) ≡ whole (simulation w.case) (rest w k) (share.core w.stop s)
+    later s bound cancel = joined w is.case k within (record s { outgoing = [] }) s.outgoing bound cancel
 
     -- the lent shard owns the routers of its worker that are there
     pub lent_owns : (r : ℕ) → worker_of w r ≡ k → owns (lent w k) r ≡ nat_lt r w.case.net.nodes
@@ -138,7 +140,7 @@ module _ (w : Warp) (is : IsWarp w) where
         let C = share.core w.stop (lent w k) in
         let there = nat_lt r w.case.net.nodes in
         let done : ◌≡◌ {A = Result (Core Event) Refusal} (Ok (with_release m (core w) r)) (lift m (rest w k) (Ok (with_release m C r))) =
-        ap (λ W. Ok (with_release m W r)) now ∙ ap Ok (release_whole m law (rest w k) (rest_apart w is.case k within is.shares) C r (eq-eqb (worker_of w r) k mine) tt) in
+        ap (λ W. Ok (with_release m W r)) now ∙ ap Ok (release_whole m law (rest w k) (rest_apart w is.case k within is.shares) C r (eq-eqb (worker_of w r) k mine) (is.shares k within).held) in
         ap (λ outcome. if there then outcome else Err NotMine) done
         ∙ (lifted there (Ok (with_release m C r))
         ∙ ap (lift m (rest w k)) (asked r mine (Ok (with_release m C r))
@@ -194,10 +196,11 @@ own_as case j n p C is own = subst (λ q. IsOwn (simulation case) (λ r. owner q
 
 -- the machine with another shard of worker k, which has what is for its routers, is one again where it is good
 pub next_is : (w : Warp) (is : IsWarp w) (k : ℕ) (s : Shard) (flight : List (Signed Event)) → k < length w.shards → IsSameShare (shard_at w k) s → s.bound ≡ w.bound
+    → IsRising event_before event_same s.held
     → IsOwn (simulation w.case) (λ r. worker_of w r == k) (share.core w.stop s)
     → IsGood (simulation w.case) (core (with_shard w k (record s { outgoing = [] }) flight))
     → IsWarp (with_shard w k (record s { outgoing = [] }) flight)
-next_is w is k s flight within same bound own good =
+next_is w is k s flight within same bound held own good =
     let next : Shard = record s { outgoing = [] } in
     let count = length-set w.shards k next in
     record {
@@ -212,7 +215,9 @@ next_is w is k s flight within same bound own good =
               workers = same.workers ∙ ((is.shares k within).workers ∙ sym count);
               bound = bound;
               keeps = same.keeps ∙ (is.shares k within).keeps;
+              cancel = same.cancel ∙ (is.shares k within).cancel;
               outgoing = refl;
+              held = held;
               own = own_as w.case j (length w.shards) (length (set w.shards k next)) (share.core w.stop next) (sym count)
                   (subst (λ i. IsOwn (simulation w.case) (λ r. worker_of w r == i) (share.core w.stop next)) (sym here) (record { history = own.history; waiting = own.waiting; held = own.held }));
             }))
@@ -225,7 +230,9 @@ next_is w is k s flight within same bound own good =
               workers = old.workers ∙ sym count;
               bound = old.bound;
               keeps = old.keeps;
+              cancel = old.cancel;
               outgoing = old.outgoing;
+              held = old.held;
               own = own_as w.case j (length w.shards) (length (set w.shards k next)) (share.core w.stop (shard_at w j)) (sym count) old.own;
             }))
       ];

@@ -5,14 +5,15 @@ use Rattle.tw_core.specs.Machine.{Core, IsOpening}
 use Rattle.tw_core.specs.Parts.{IsOwn}
 use Rattle.tw_core.proofs.Steps.{good_opening}
 use Rattle.tw_event.specs.declared.event.Event.{Event}
-use Rattle.tw_event.specs.Order.{event_before}
+use Rattle.tw_event.specs.Order.{event_before, event_same}
 use Rattle.tw_model.specs.Case.{Case, IsCase, opening_events, simulation}
 use Rattle.tw_model.specs.declared.limits.TheConstants.{LATEST}
 use Rattle.tw_model.proofs.Lawful.{lawful}
 use Rattle.tw_shard.specs.Shard.{IsOpeningShard, Shard}
-use Rattle.tw_sim.specs.declared.machine.Cancel.TheVariants.{Aggressive}
+use Rattle.tw_sim.specs.declared.machine.Cancel.{Cancel}
 use Rattle.tw_sim.specs.Owners.{owner}
 use Rattle.tw_sim.specs.Ordered.{insert_all}
+use Rattle.tw_sim.specs.Rising.{IsRising}
 use Rattle.tw_sim.specs.Simulation.{times}
 use Rattle.tw_sim.proofs.Counts.{in_filter, times-append, times-filter-no, times-filter-yes, times-insert_all}
 use Rattle.std.proofs.Math.Path.{fun_ext}
@@ -20,9 +21,9 @@ use Rattle.tw_warp.specs.Openings.{opening_machine}
 use Rattle.tw_warp.proofs.Whole.{same_order}
 use Rattle.tw_warp.specs.Warp.{IsWarp, Warp, core, no_shard, shard_at, worker_of}
 
-module _ (case : Case) (is : IsCase case) (n : ℕ) (keeps : Bool) where
+module _ (case : Case) (is : IsCase case) (n : ℕ) (keeps : Bool) (cancel : Cancel) where
   -- how often an event waits at a shard that begins
-  pub waits : (k : ℕ) (s : Shard) (e : Event) → IsOpeningShard case k n keeps s
+  pub waits : (k : ℕ) (s : Shard) (e : Event) → IsOpeningShard case k n keeps cancel s
       → times (simulation case) e s.pending ≡ cond (owner n e.dst == k) (times (simulation case) e (opening_events case.scenes)) 0
   waits k s e at =
       let m = simulation case in
@@ -37,14 +38,14 @@ module _ (case : Case) (is : IsCase case) (n : ℕ) (keeps : Bool) where
       ]
 
   -- over shards from number a on, it waits once for its receiver's worker
-  pub all_wait : (e : Event) (ss : List Shard) (a : ℕ) → ((j : ℕ) → j < length ss → IsOpeningShard case (a + j) n keeps (get_or ss j no_shard))
+  pub all_wait : (e : Event) (ss : List Shard) (a : ℕ) → ((j : ℕ) → j < length ss → IsOpeningShard case (a + j) n keeps cancel (get_or ss j no_shard))
       → (a ≤ owner n e.dst → owner n e.dst < a + length ss → times (simulation case) e (flat_map (λ s. s.pending) ss) ≡ times (simulation case) e (opening_events case.scenes))
       × (owner n e.dst < a → times (simulation case) e (flat_map (λ s. s.pending) ss) ≡ 0)
   all_wait e [] a each = ((λ from to. absurd (omega arith)), (λ before. refl))
   all_wait e (s ∷ ss) a each =
       let m = simulation case in
-      let first = waits a s e (subst (λ k. IsOpeningShard case k n keeps s) (omega arith) (each 0 (omega arith))) in
-      let rest = all_wait e ss (a + 1) (λ j h. subst (λ k. IsOpeningShard case k n keeps (get_or ss j no_shard)) (omega arith) (each (suc j) (omega arith))) in
+      let first = waits a s e (subst (λ k. IsOpeningShard case k n keeps cancel s) (omega arith) (each 0 (omega arith))) in
+      let rest = all_wait e ss (a + 1) (λ j h. subst (λ k. IsOpeningShard case k n keeps cancel (get_or ss j no_shard)) (omega arith) (each (suc j) (omega arith))) in
       let both : times m e (flat_map (λ s. s.pending) (s ∷ ss)) ≡ times m e s.pending + times m e (flat_map (λ s. s.pending) ss) = times-append m e s.pending (flat_map (λ s. s.pending) ss) in (
         (λ from to. elim (cases_eq (owner n e.dst) a) [
           | inl here ↦ (
@@ -59,18 +60,25 @@ module _ (case : Case) (is : IsCase case) (n : ℕ) (keeps : Bool) where
             let more = rest.1 (omega arith) in omega arith),
       )
 
-  none_kept : (ss : List Shard) (a : ℕ) → ((j : ℕ) → j < length ss → IsOpeningShard case (a + j) n keeps (get_or ss j no_shard)) → flat_map (λ s. s.kept) ss ≡ []
+  none_kept : (ss : List Shard) (a : ℕ) → ((j : ℕ) → j < length ss → IsOpeningShard case (a + j) n keeps cancel (get_or ss j no_shard)) → flat_map (λ s. s.kept) ss ≡ []
   none_kept [] a each = refl
   none_kept (s ∷ ss) a each =
       let first : s.kept ≡ [] = ap (λ (C : Core Event). C.kept) ((each 0 (omega arith)).core_is 0) in
-      let rest = none_kept ss (a + 1) (λ j h. subst (λ k. IsOpeningShard case k n keeps (get_or ss j no_shard)) (omega arith) (each (suc j) (omega arith))) in
+      let rest = none_kept ss (a + 1) (λ j h. subst (λ k. IsOpeningShard case k n keeps cancel (get_or ss j no_shard)) (omega arith) (each (suc j) (omega arith))) in
+      λ i. first i ++ rest i
+
+  none_held : (ss : List Shard) (a : ℕ) → ((j : ℕ) → j < length ss → IsOpeningShard case (a + j) n keeps cancel (get_or ss j no_shard)) → flat_map (λ s. s.held) ss ≡ []
+  none_held [] a each = refl
+  none_held (s ∷ ss) a each =
+      let first : s.held ≡ [] = ap (λ (C : Core Event). C.held) ((each 0 (omega arith)).core_is 0) in
+      let rest = none_held ss (a + 1) (λ j h. subst (λ k. IsOpeningShard case k n keeps cancel (get_or ss j no_shard)) (omega arith) (each (suc j) (omega arith))) in
       λ i. first i ++ rest i
 
 -- shards that begin, one for each worker
-module _ (w : Warp) (is : IsCase w.case) (some : 0 < length w.shards) (each : (k : ℕ) → k < length w.shards → IsOpeningShard w.case k (length w.shards) true (shard_at w k))
+module _ (w : Warp) (is : IsCase w.case) (some : 0 < length w.shards) (each : (k : ℕ) → k < length w.shards → IsOpeningShard w.case k (length w.shards) true w.cancel (shard_at w k))
     (flight : w.flight ≡ []) (bound : w.bound ≡ 0) where
-  from_zero : (j : ℕ) → j < length w.shards → IsOpeningShard w.case (0 + j) (length w.shards) true (get_or w.shards j no_shard)
-  from_zero j h = subst (λ k. IsOpeningShard w.case k (length w.shards) true (shard_at w j)) (omega arith) (each j h)
+  from_zero : (j : ℕ) → j < length w.shards → IsOpeningShard w.case (0 + j) (length w.shards) true w.cancel (get_or w.shards j no_shard)
+  from_zero j h = subst (λ k. IsOpeningShard w.case k (length w.shards) true w.cancel (shard_at w j)) (omega arith) (each j h)
 
   own_worker : (r : ℕ) → worker_of w r < length w.shards
   own_worker r = omega arith
@@ -83,36 +91,36 @@ module _ (w : Warp) (is : IsCase w.case) (some : 0 < length w.shards) (each : (k
         pending = λ e.
             let all = flat_map (λ s. s.pending) w.shards in
             let count = times-insert_all m e all [] in
-            let once = (all_wait w.case is (length w.shards) true e w.shards 0 from_zero).0 (omega arith) (let h = own_worker e.dst in omega arith) in
+            let once = (all_wait w.case is (length w.shards) true w.cancel e w.shards 0 from_zero).0 (omega arith) (let h = own_worker e.dst in omega arith) in
             omega arith;
-        kept = ap (λ xs. insert_all event_before xs []) (none_kept w.case is (length w.shards) true w.shards 0 from_zero);
+        kept = ap (λ xs. insert_all event_before xs []) (none_kept w.case is (length w.shards) true w.cancel w.shards 0 from_zero);
         flight = flight;
-        held = refl;
+        held = ap (λ xs. insert_all event_before xs []) (none_held w.case is (length w.shards) true w.cancel w.shards 0 from_zero);
         done = λ r. ap (λ (C : Core Event). C.done r) ((each (worker_of w r) (own_worker r)).core_is w.stop);
         past = λ r. ap (λ (C : Core Event). C.past r) ((each (worker_of w r) (own_worker r)).core_is w.stop);
         bound = bound;
         room = λ r. ap (λ (C : Core Event). C.room r) ((each (worker_of w r) (own_worker r)).core_is w.stop);
       }
 
-  pub opens_exactly : core w ≡ opening_machine w.case w.stop
+  pub opens_exactly : core w ≡ opening_machine w.case w.cancel w.stop
   opens_exactly =
       let m = simulation w.case in
       let all = flat_map (λ s. s.pending) w.shards in
       let o = opens in
       let same = same_order m (lawful w.case is) all (opening_events w.case.scenes)
-      (λ e. (all_wait w.case is (length w.shards) true e w.shards 0 from_zero).0 (omega arith) (let h = own_worker e.dst in omega arith)) in
+      (λ e. (all_wait w.case is (length w.shards) true w.cancel e w.shards 0 from_zero).0 (omega arith) (let h = own_worker e.dst in omega arith)) in
       λ i. record {
         history = fun_ext o.history i;
         pending = same i;
         kept = o.kept i;
         flight = o.flight i;
-        held = [];
+        held = o.held i;
         done = fun_ext o.done i;
         past = fun_ext o.past i;
         room = fun_ext o.room i;
         bound = o.bound i;
         stop = w.stop;
-        cancel = Aggressive;
+        cancel = w.cancel;
       }
 
   pub opened_is : w.stop ≤ LATEST → IsWarp w
@@ -129,7 +137,9 @@ module _ (w : Warp) (is : IsCase w.case) (some : 0 < length w.shards) (each : (k
               workers = at.count;
               bound = ap (λ (C : Core Event). C.bound) (at.core_is 0) ∙ sym bound;
               keeps = at.keeps_are;
+              cancel = ap (λ (C : Core Event). C.cancel) (at.core_is 0);
               outgoing = ap (λ (C : Core Event). C.flight) (at.core_is 0);
+              held = subst (λ (C : Core Event). IsRising event_before event_same C.held) (sym (at.core_is 0)) tt;
               own = subst (IsOwn m (λ r. worker_of w r == k)) (sym (at.core_is w.stop)) (record {
                 history = λ r e none. absurd (omega arith);
                 held = λ e none. absurd (omega arith);
@@ -144,8 +154,8 @@ module _ (w : Warp) (is : IsCase w.case) (some : 0 < length w.shards) (each : (k
       }
 
 -- the machine of a case that has handled nothing begins
-pub machine_opens : (case : Case) (stop : ℕ) → IsOpening (simulation case) (opening_machine case stop)
-machine_opens case stop = record {
+pub machine_opens : (case : Case) (cancel : Cancel) (stop : ℕ) → IsOpening (simulation case) (opening_machine case cancel stop)
+machine_opens case cancel stop = record {
   history = λ r. refl;
   pending = λ e. let count = times-insert_all (simulation case) e (opening_events case.scenes) [] in omega arith;
   kept = refl;

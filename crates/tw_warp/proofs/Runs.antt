@@ -78,6 +78,7 @@ same_machine first second = record {
   case = second.case ∙ first.case;
   workers = second.workers ∙ first.workers;
   stop = second.stop ∙ first.stop;
+  cancel = second.cancel ∙ first.cancel;
 }
 
 -- ---- of the machine, whose case stays

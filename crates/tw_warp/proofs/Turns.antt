@@ -1,5 +1,5 @@
 -- What a turn at a router leaves of the machine.
-use Rattle.std.proofs.Common.{◌≡◌, ℕ, zero, suc, ◌∷◌, get_or, ◌↔◌, ◌<◌, ◌≤◌, ◌-◌, ◌==◌, Bool, true, false, List, [], length, reverse, take, nat_lt, if◌then◌else◌, arith, Result, Ok, Err, refl, ap, sym, ◌∙◌, subst}
+use Rattle.std.proofs.Common.{◌≡◌, ℕ, zero, suc, ◌∷◌, get_or, ◌↔◌, ◌<◌, ◌≤◌, ◌==◌, Bool, true, false, List, [], length, nat_lt, if◌then◌else◌, arith, Result, Ok, Err, refl, ap, sym, ◌∙◌, subst}
 use Rattle.std.specs.Prelude.{IsErrOf, OnErr, OnOk}
 use Rattle.tw_core.specs.declared.refusal.Refusal.{Refusal}
 use Rattle.tw_model.specs.declared.memory.OrMemory.{OrMemory}
@@ -14,10 +14,8 @@ use Rattle.tw_core.proofs.Headline.{good_is_seq}
 use Rattle.tw_core.proofs.Own.{own_handle, own_release, own_undo}
 use Rattle.tw_core.proofs.Steps.{good_further, handle_keeps, step_keeps, undo_keeps, widen_keeps}
 use Rattle.tw_event.specs.declared.event.Event.{Event}
-use Rattle.tw_model.specs.Case.{Case, simulation}
-use Rattle.tw_model.specs.State.{Router}
-use Rattle.tw_sim.specs.Simulation.{below, state}
-use Rattle.std.proofs.lemmas.Bool.{lt-ltb}
+use Rattle.tw_event.specs.Order.{event_before, event_same}
+use Rattle.tw_model.specs.Case.{simulation}
 use Rattle.tw_model.specs.declared.limits.TheConstants.{LATEST}
 use Rattle.tw_model.proofs.Lawful.{lawful, numbered}
 use Rattle.tw_shard.specs.Commit.{committing}
@@ -25,20 +23,24 @@ use Rattle.tw_shard.specs.Shard.{IsSameShare, Shard, handling, owns, releasing, 
 use Rattle.tw_shard.specs.Shard as share
 use Rattle.tw_sim.specs.declared.machine.Signed.{Signed}
 use Rattle.tw_sim.specs.declared.machine.Step.{Step}
+use Rattle.tw_sim.specs.Rising.{IsRising}
 use Rattle.tw_sim.specs.Simulation.{IsLawful, Simulation}
 use Rattle.tw_sim.specs.declared.machine.Step.TheVariants.{Commit, Handle, Release, Undo}
 use Rattle.tw_warp.specs.Calls.{calling, outcome_of}
 use Rattle.tw_warp.specs.declared.calls.RouterCall.{RouterCall}
 use Rattle.tw_warp.specs.declared.calls.RouterCall.TheVariants as calls
 use Rattle.tw_warp.specs.Warp.{IsWarp, Warp, behind, core, lent, no_shard, shard_at, worker_of}
+use Rattle.tw_warp.proofs.Held.{rising_handle, rising_release, rising_undo}
 use Rattle.tw_warp.proofs.Joined.{rest, set_same, with_shard}
-use Rattle.tw_warp.proofs.Moves.{lent_owns, commit_step, given_back, handle_step, later, law, next_is, own_lent, part, release_step, undo_step, widen_step}
+use Rattle.tw_warp.proofs.Moves.{commit_step, given_back, handle_step, later, law, next_is, own_lent, part, release_step, undo_step, widen_step}
 use Rattle.tw_warp.proofs.Whole.{Rest, lift}
 
 -- a call at worker k's shard has left this shard
 pub record IsCalled (w : Warp) (k : ℕ) (t : Shard) : Type 0 where
   pub same : IsSameShare (shard_at w k) t
   pub bound : t.bound ≡ w.bound
+  -- what is held is in order
+  pub held : IsRising event_before event_same t.held
   pub own : IsOwn (simulation w.case) (λ r. worker_of w r == k) (share.core w.stop t)
 
 -- what is refused at the part is what is refused
@@ -67,7 +69,7 @@ widen_good m law C r good = record { part = (widen_keeps m law C.bound C r good.
 module _ (w : Warp) (is : IsWarp w) (k : ℕ) (within : k < length w.shards) where
   -- a call that was made leaves the machine good
   pub done : (t : Shard) → IsCalled w k t → IsGood (simulation w.case) (core (given_back w k t)) → IsWarp (given_back w k t)
-  done t called good = next_is w is k t t.outgoing within called.same called.bound called.own good
+  done t called good = next_is w is k t t.outgoing within called.same called.bound called.held called.own good
 
   pub handled : (t : Shard) (r : ℕ) → IsSameShare (shard_at w k) t → handling w.stop (lent w k) r ≡ Ok (share.core w.stop t) → IsCalled w k t
   handled t r same went =
@@ -80,6 +82,7 @@ module _ (w : Warp) (is : IsWarp w) (k : ℕ) (within : k < length w.shards) whe
       record {
         same = same;
         bound = (handle_keeps m (law w is) w.bound C D r (part w is k within) did).bound ∙ (is.shares k within).bound;
+        held = rising_handle m (law w is) C D r (is.shares k within).held did;
         own = own_handle m (law w is) (λ r. worker_of w r == k) C D r (own_lent w is k within) did;
       }
 
@@ -95,6 +98,7 @@ module _ (w : Warp) (is : IsWarp w) (k : ℕ) (within : k < length w.shards) whe
       record {
         same = same;
         bound = (undo_keeps m (law w is) w.bound C D r (omega arith) (part w is k within) did).bound ∙ bound;
+        held = rising_undo m (law w is) C D r (is.shares k within).held did;
         own = own_undo m (law w is) (λ r. worker_of w r == k) w.bound C D r (part w is k within) (own_lent w is k within) did;
       }
 
@@ -111,6 +115,7 @@ module _ (w : Warp) (is : IsWarp w) (k : ℕ) (within : k < length w.shards) whe
       record {
         same = same;
         bound = sym (ap (λ (D : Core Event). D.bound) reached) ∙ (is.shares k within).bound;
+        held = subst (λ (D : Core Event). IsRising event_before event_same D.held) reached (is.shares k within).held;
         own = subst (IsOwn m (λ r. worker_of w r == k)) reached (record { history = own.history; waiting = own.waiting; held = own.held });
       }
 
@@ -126,6 +131,7 @@ module _ (w : Warp) (is : IsWarp w) (k : ℕ) (within : k < length w.shards) whe
       record {
         same = same;
         bound = sym (ap (λ (D : Core Event). D.bound) reached) ∙ (is.shares k within).bound;
+        held = subst (λ (D : Core Event). IsRising event_before event_same D.held) reached (rising_release m (law w is) C r (is.shares k within).held);
         own = subst (IsOwn m (λ r. worker_of w r == k)) reached (own_release m (law w is) (λ r. worker_of w r == k) C r (own_lent w is k within));
       }
 
@@ -142,6 +148,7 @@ module _ (w : Warp) (is : IsWarp w) (k : ℕ) (within : k < length w.shards) whe
       record {
         same = same;
         bound = sym (ap (λ (D : Core Event). D.bound) reached) ∙ (is.shares k within).bound;
+        held = subst (λ (D : Core Event). IsRising event_before event_same D.held) reached (is.shares k within).held;
         own = subst (IsOwn m (λ r. worker_of w r == k)) reached (record { history = own.history; waiting = own.waiting; held = own.held });
       }
 
@@ -199,13 +206,13 @@ module _ (w : Warp) (is : IsWarp w) (k : ℕ) (within : k < length w.shards) whe
     none = back.outgoing ∙ (is.shares k within).outgoing
 
     here : IsSameShare (shard_at w k) s → IsSameShare (shard_at w k) (behind s flight)
-    here same = record { case = same.case; worker = same.worker; workers = same.workers; keeps = same.keeps }
+    here same = record { case = same.case; worker = same.worker; workers = same.workers; keeps = same.keeps; cancel = same.cancel }
 
     did : IsSameShare (shard_at w k) s → call (lent w k) ≡ Ok (share.core w.stop (behind s flight)) → make (core w) ≡ Ok (core (given_back w k (behind s flight)))
     did same ok =
         outcome.made
         ∙ (ap (lift (simulation w.case) (rest w k)) ok
-        ∙ ap Ok (sym (later w is k within (behind s flight) (outcome.called (behind s flight) (here same) ok).bound)))
+        ∙ ap Ok (sym (later w is k within (behind s flight) (outcome.called (behind s flight) (here same) ok).bound (same.cancel ∙ (is.shares k within).cancel))))
 
     go : (result : Result (Unit {0}) (OrMemory Refusal)) → IsBack call (shard_at w k) s flight result → IsWarp (with_shard w k s flight)
     go (Ok u) back = subst IsWarp (sym (back_again w is k within s flight none))
@@ -265,7 +272,9 @@ later_stop w stop is rises most = record {
     workers = old.workers;
     bound = old.bound;
     keeps = old.keeps;
+    cancel = old.cancel;
     outgoing = old.outgoing;
+    held = old.held;
     own = record { history = old.own.history; waiting = old.own.waiting; held = old.own.held };
   });
   good = good_further (simulation w.case) (law w is) (core w) stop rises is.good;

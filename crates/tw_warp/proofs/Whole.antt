@@ -1,5 +1,5 @@
 -- A part of a machine beside the rest of it: what a step at the part's routers does to the whole.
-use Rattle.std.proofs.Common.{◌≡◌, ℕ, ◌+◌, ◌*◌, ◌-◌, ◌<◌, ◌==◌, ◌||◌, Bool, true, false, not, cond, List, [], ◌∷◌, ◌++◌, filter, length, map, nat_lt, Option, Some, None, Result, Ok, Err, if◌then◌else◌, refl, ap, sym, ◌∙◌, subst, inl, inr, arith}
+use Rattle.std.proofs.Common.{◌≡◌, ℕ, ◌+◌, ◌*◌, ◌<◌, ◌==◌, ◌||◌, Bool, true, false, not, cond, List, [], ◌∷◌, ◌++◌, map, nat_lt, Option, Some, None, Result, Ok, Err, if◌then◌else◌, refl, ap, sym, ◌∙◌, subst, inl, inr, arith}
 use Rattle.std.proofs.Math.Path.{fun_ext}
 use Rattle.std.specs.List.{suffix_len}
 use Rattle.std.proofs.lemmas.Bool.{cases_Bool, cases_eq, eq-eqb, eqb-true, ne_eqb}
@@ -85,7 +85,7 @@ module _ {S E : Type 0} (m : Simulation S E) where
     same_order xs ys h = same_rising m law (in_order xs) (in_order ys) (rising-in_order xs) (rising-in_order ys)
         (λ e. times-in_order e xs ∙ (h e ∙ sym (times-in_order e ys)))
 
-    rising-take_out : (e : E) (xs : List E) → IsRising m xs → IsRising m (take_out m e xs)
+    pub rising-take_out : (e : E) (xs : List E) → IsRising m xs → IsRising m (take_out m e xs)
     rising-take_out e [] r = tt
     rising-take_out e (x ∷ xs) r =
         elim (cases_Bool (m.same e x)) [

@@ -10,4 +10,5 @@ warp_of a = record {
   flight = a.flight;
   bound = a.bound;
   stop = a.stop;
+  cancel = a.cancel;
 }

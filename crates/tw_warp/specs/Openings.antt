@@ -5,12 +5,13 @@ use Rattle.tw_core.specs.Machine.{Core}
 use Rattle.tw_event.specs.declared.event.Event.{Event}
 use Rattle.tw_event.specs.Order.{event_before}
 use Rattle.tw_model.specs.Case.{Case, opening_events}
-use Rattle.tw_sim.specs.declared.machine.Cancel.TheVariants.{Aggressive}
+use Rattle.tw_sim.specs.declared.machine.Cancel.{Cancel}
 use Rattle.tw_sim.specs.Ordered.{insert_all}
 
--- the machine of a case that has handled nothing: the opening events are pending, in order
-abbrev pub opening_machine : Case → ℕ → Core Event
-opening_machine case stop = record {
+-- the machine of a case that has handled nothing, and takes back what undone events have sent as this says: the opening events are
+-- pending, in order
+abbrev pub opening_machine : Case → Cancel → ℕ → Core Event
+opening_machine case cancel stop = record {
   history = λ r. [];
   pending = insert_all event_before (opening_events case.scenes) [];
   kept = [];
@@ -21,5 +22,5 @@ opening_machine case stop = record {
   room = λ r. OPENING_ROOM;
   bound = 0;
   stop = stop;
-  cancel = Aggressive;
+  cancel = cancel;
 }

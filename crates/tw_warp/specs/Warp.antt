@@ -6,18 +6,19 @@ use Rattle.tw_core.specs.Machine.{Core}
 use Rattle.tw_core.specs.Parts.{IsOwn}
 use Rattle.tw_core.specs.Steps.{next}
 use Rattle.tw_event.specs.declared.event.Event.{Event}
-use Rattle.tw_event.specs.Order.{event_before}
+use Rattle.tw_event.specs.Order.{event_before, event_same}
 use Rattle.tw_model.specs.Case.{Case, IsCase, simulation}
 use Rattle.tw_model.specs.declared.limits.TheConstants.{LATEST}
 use Rattle.tw_shard.specs.Shard.{Shard}
 pub use Rattle.tw_shard.specs.Shard.{no_shard}
 use Rattle.tw_shard.specs.Shard as share
-use Rattle.tw_sim.specs.declared.machine.Cancel.TheVariants.{Aggressive}
+use Rattle.tw_sim.specs.declared.machine.Cancel.{Cancel}
 use Rattle.tw_sim.specs.declared.machine.Signed.{Signed}
 use Rattle.tw_sim.specs.declared.machine.Step.{Step}
 use Rattle.tw_sim.specs.declared.machine.Step.TheVariants.{Handle, Undo, Deliver, Bound, Commit, Release}
 use Rattle.tw_sim.specs.Ordered.{insert_all}
 use Rattle.tw_sim.specs.Owners.{owner}
+use Rattle.tw_sim.specs.Rising.{IsRising}
 use Rattle.tw_sim.specs.Simulation.{Simulation}
 
 pub record Warp : Type 0 where
@@ -28,6 +29,8 @@ pub record Warp : Type 0 where
   pub flight : List (Signed Event)
   pub bound : ℕ
   pub stop : ℕ
+  -- when what an undone event has sent is taken back
+  pub cancel : Cancel
 
 -- the shard of this worker
 abbrev pub shard_at : Warp → ℕ → Shard
@@ -37,20 +40,20 @@ shard_at w k = slice_index_or w.shards k no_shard
 abbrev pub worker_of : Warp → ℕ → ℕ
 worker_of w r = owner (length w.shards) r
 
--- the machine: what waits, in order
+-- the machine: what waits and what is held, in order
 abbrev pub core : Warp → Core Event
 core w = record {
   history = λ r. (share.core w.stop (shard_at w (worker_of w r))).history r;
   pending = insert_all event_before (flat_map (λ s. s.pending) w.shards) [];
   kept = insert_all event_before (flat_map (λ s. s.kept) w.shards) [];
   flight = w.flight;
-  held = [];
+  held = insert_all event_before (flat_map (λ s. s.held) w.shards) [];
   done = λ r. (share.core w.stop (shard_at w (worker_of w r))).done r;
   past = λ r. (share.core w.stop (shard_at w (worker_of w r))).past r;
   room = λ r. (share.core w.stop (shard_at w (worker_of w r))).room r;
   bound = w.bound;
   stop = w.stop;
-  cancel = Aggressive;
+  cancel = w.cancel;
 }
 
 -- a shard as this worker's of the machine
@@ -63,9 +66,13 @@ pub record IsShare (w : Warp) (k : ℕ) (s : Shard) : Type 0 where
   pub bound : s.bound ≡ w.bound
   -- its routers keep their committed events
   pub keeps : s.keeps ≡ true
+  -- what undone events have sent is taken back when it is for all
+  pub cancel : s.cancel ≡ w.cancel
   -- what its routers have sent is in flight
   pub outgoing : s.outgoing ≡ []
-  -- what waits there is for its routers
+  -- what is held is in order
+  pub held : IsRising event_before event_same s.held
+  -- what waits there is for its routers, and what is held was sent by them
   pub own : IsOwn (simulation w.case) (λ r. worker_of w r == k) (share.core w.stop s)
 
 -- the shards are the workers', and together they are a good state
@@ -84,11 +91,12 @@ behind s messages = record s { outgoing = messages }
 abbrev pub lent : Warp → ℕ → Shard
 lent w k = behind (shard_at w k) w.flight
 
--- the later machine has the same case, workers and stop
+-- the later machine has the same case, workers and stop, and takes back what undone events have sent at the same time
 pub record IsSameMachine (v w : Warp) : Type 0 where
   pub case : w.case ≡ v.case
   pub workers : length w.shards ≡ length v.shards
   pub stop : w.stop ≡ v.stop
+  pub cancel : w.cancel ≡ v.cancel
 
 -- the message at this place in flight, where places count from 1
 abbrev pub message_at : {E : Type 0} → List (Signed E) → ℕ → Option (Signed E)

@@ -26,7 +26,7 @@ pub(crate) enum RouterCall {
     Undo,
     /// It commits its events before the bound, and keeps them.
     Commit,
-    /// What it holds is taken back.
+    /// What is held for it is taken back.
     Release,
     /// It has twice the room for events that are not committed.
     Widen,

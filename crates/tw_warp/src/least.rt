@@ -9,9 +9,9 @@ use tw_event::Event;
 use tw_shard::Shard;
 use tw_sim::Signed;
 
-/// The least time of what waits at these shards, and of another time.
+/// The least time of what waits or is held at these shards, and of another time.
 pub(crate) fn least_waiting(shards: &[Shard<'_>], top: u64) -> u64
-    ensures { (case : ACase) → result ≡ least_of_all (simulation case) (λ s. s.pending ++ s.kept) shards.now top }
+    ensures { (case : ACase) → result ≡ least_of_all (simulation case) (λ s. s.pending ++ s.kept ++ s.held) shards.now top }
 {
     let mut least = top;
     for shard in shards {

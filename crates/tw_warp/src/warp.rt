@@ -12,6 +12,7 @@ ghost use Rattle.tw_core.specs.Run.{AreCommitted, IsSeq};
 ghost use Rattle.tw_core.specs.Steps.{answers as core_answers, at_router, least_loose, run as core_run, step as core_step, with_room};
 ghost use Rattle.tw_model.specs.Case.{simulation};
 ghost use Rattle.tw_model.specs.declared.memory.OrMemory.TheVariants as or_memory;
+ghost use Rattle.tw_sim.specs.declared.machine.Cancel.TheVariants.{Aggressive};
 ghost use Rattle.tw_sim.specs.declared.machine.Step.TheVariants as steps;
 ghost use Rattle.tw_sim.specs.Seq.{log};
 ghost use Rattle.tw_sim.specs.Simulation.{state};
@@ -32,9 +33,10 @@ use tw_model::{OrMemory, RouterEnd};
 use tw_router::Router;
 use tw_shard::Shard;
 use tw_shard::shards::{
-    committed_events, count_ahead, count_kept, count_pending, open_all, router_ends, shard_for,
+    committed_events, count_ahead, count_held, count_kept, count_pending, open_all, router_ends,
+    shard_for,
 };
-use tw_sim::{Signed, Step, owner};
+use tw_sim::{Cancel, Signed, Step, owner};
 
 /// The stop would fall, or pass its limit.
 #[derive(Clone, Copy, PartialEq, Eq, Debug, Error)]
@@ -61,6 +63,7 @@ pub struct Warp<'a> {
     flight: Flight,
     bound: u64,
     stop: u64,
+    cancel: Cancel,
 }
 
 impl<'a> Model for Warp<'a> {
@@ -75,8 +78,8 @@ impl<'a> Model for Warp<'a> {
 }
 
 impl<'a> Warp<'a> {
-    /// The machine of a case as it begins, with its routers dealt out to so many workers in turn, and to this
-    /// stop, in ticks, at most 1,000,000,000. There is one worker at least.
+    /// The machine of a case as it begins, as [`Warp::with_cancel`] gives it; what an undone event has sent is
+    /// taken back at once.
     pub fn new(
         alloc: Global,
         case: &'a Case,
@@ -86,12 +89,34 @@ impl<'a> Warp<'a> {
         requires some { 0 < workers }
         requires stop { stop ≤ LATEST }
         ensures opens { IfOk result (λ warp. IsOpening (simulation case.now) (core warp)) }
-        ensures core { IfOk result (λ warp. core warp ≡ opening_machine case.now stop) }
+        ensures core { IfOk result (λ warp. core warp ≡ opening_machine case.now Aggressive stop) }
         ensures case { IfOk result (λ warp. warp.case ≡ case.now) }
         ensures workers { IfOk result (λ warp. length warp.shards ≡ workers) }
         ensures stop { IfOk result (λ warp. warp.stop ≡ stop) }
     {
-        let shards = open_all(alloc, case, workers, true)?;
+        Warp::with_cancel(alloc, case, workers, stop, Cancel::Aggressive)
+    }
+
+    /// The machine of a case as it begins, with its routers dealt out to so many workers in turn, and to this
+    /// stop, in ticks, at most 1,000,000,000. There is one worker at least. What an undone event has sent is
+    /// taken back at once, or as late as may be.
+    pub fn with_cancel(
+        alloc: Global,
+        case: &'a Case,
+        workers: u32,
+        stop: u64,
+        cancel: Cancel,
+    ) -> Result<Warp<'a>, AllocError>
+        requires some { 0 < workers }
+        requires stop { stop ≤ LATEST }
+        ensures opens { IfOk result (λ warp. IsOpening (simulation case.now) (core warp)) }
+        ensures core { IfOk result (λ warp. core warp ≡ opening_machine case.now cancel stop) }
+        ensures case { IfOk result (λ warp. warp.case ≡ case.now) }
+        ensures workers { IfOk result (λ warp. length warp.shards ≡ workers) }
+        ensures stop { IfOk result (λ warp. warp.stop ≡ stop) }
+        ensures cancel { IfOk result (λ warp. warp.cancel ≡ cancel) }
+    {
+        let shards = open_all(alloc, case, workers, true, cancel)?;
         // What a case keeps is told by a read of it.
         let _ = case.instance();
         Ok(Warp {
@@ -100,6 +125,7 @@ impl<'a> Warp<'a> {
             flight: Flight::new(alloc),
             bound: 0,
             stop,
+            cancel,
         })
     }
 
@@ -111,6 +137,9 @@ impl<'a> Warp<'a> {
     /// as `CounterFull` where a counter would pass its limit; `Undo` as `Nothing` where it has handled nothing,
     /// and as `Committed` where the event that it handled last is before the bound; `Deliver` as `NoMessage`
     /// where no message has that place; and `Commit` and `Release` as `NotMine`.
+    ///
+    /// `Release` takes back what is held for a router: antimessages go out, in the order of events, and it is held
+    /// no more. It finds nothing where what undone events have sent is taken back at once.
     ///
     /// Where memory is refused, nothing has changed; but where a message was delivered, some of the events
     /// that its receiver has to undo for it may be undone, and the message is at its place still.
@@ -242,6 +271,13 @@ impl<'a> Warp<'a> {
         self.stop
     }
 
+    /// When what an undone event has sent is taken back.
+    pub fn cancel(&self) -> Cancel
+        ensures { result ≡ self.now.cancel }
+    {
+        self.cancel
+    }
+
     /// How many workers there are.
     pub fn workers(&self) -> usize
         ensures { result ≡ length self.now.shards }
@@ -303,6 +339,14 @@ impl<'a> Warp<'a> {
         ensures { result ≡ length (core self.now).kept }
     {
         count_kept(&self.shards)
+    }
+
+    /// How many messages are held: events that were undone had sent them, and they were neither sent again nor
+    /// taken back.
+    pub fn held_len(&self) -> u128
+        ensures { result ≡ length (core self.now).held }
+    {
+        count_held(&self.shards)
     }
 
     /// The worker that has this router.

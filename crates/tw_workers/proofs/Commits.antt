@@ -55,7 +55,7 @@ kept_committed stop r s t work same own =
     let m = simulation s.shard.case in
     let made : with_core (with_commit m (core stop s.shard) r) (place_of s) ≡ place_of (record s { shard = t })
     = (λ i. with_core (sym own i) (place_of s)) ∙ sym (place_after stop s (record s { shard = t }) same refl refl) in
-    record { case = same.case; workers = same.workers; keeping = same.keeps; place = subst (Keeps m stop (place_of s)) made (keeps_commit m stop r (place_of s) work.place) }
+    record { case = same.case; workers = same.workers; keeping = same.keeps; cancel = same.cancel; place = subst (Keeps m stop (place_of s)) made (keeps_commit m stop r (place_of s) work.place) }
 
 -- what one of its routers has handled before the bound is the run
 pub has_run : (stop : ℕ) (s : Share) → IsAtWork stop s → (r : ℕ) → owns s.shard r ≡ true → HasRun s.shard r
@@ -75,7 +75,8 @@ all_done s left none done r mine =
       | inr at ↦ (let got : ◌≡◌ {A = Option ℕ} None (Some r) = ap (λ rs. slice_get rs at.0) (sym none) ∙ at.1 in cc got)
     ]
 
-same_owns : (s t : Shard) → IsSameShare s t → (r : ℕ) → owns t r ≡ owns s r
+-- it has the same routers
+pub same_owns : (s t : Shard) → IsSameShare s t → (r : ℕ) → owns t r ≡ owns s r
 same_owns s t same r = ap (λ p. p.owns r) (place_after 0 (record { shard = s; mail = []; unsent = [] }) (record { shard = t; mail = []; unsent = [] }) same refl refl)
 
 -- the routers that are left are its own still

@@ -117,6 +117,7 @@ kept_sorted stop s work =
       case = refl;
       workers = refl;
       keeping = refl;
+      cancel = refl;
       place = keeps_moved m law stop (place_of s) (s.mail ++ own) (s.unsent ++ rest) [] work.place
           (λ e. (
           let a = messages-append m e s.mail own in
@@ -145,6 +146,7 @@ kept_sent stop s work =
       case = refl;
       workers = refl;
       keeping = refl;
+      cancel = refl;
       place = keeps_moved m (lawful s.shard.case work.case) stop (place_of s) s.mail (s.unsent ++ s.shard.outgoing) [] work.place
           (λ e. (let b = messages-append m e s.unsent s.shard.outgoing in omega arith))
           (λ e. (let b = antimessages-append m e s.unsent s.shard.outgoing in omega arith))

@@ -5,18 +5,17 @@ use Rattle.std.proofs.lemmas.List.{at_drop_more}
 use Rattle.tw_core.specs.declared.refusal.Refusal.TheVariants.{AheadFull, NotMine}
 use Rattle.tw_core.specs.declared.refusal.Refusal.{Refusal}
 use Rattle.tw_core.specs.Machine.{Core}
-use Rattle.tw_core.specs.Steps.{IsRolledBack, after_arrival, first_pending, handle, with_room}
+use Rattle.tw_core.specs.Steps.{IsRolledBack, after_arrival, first_pending, handle, with_release, with_room}
 use Rattle.tw_event.specs.declared.event.Event.{Event}
 use Rattle.tw_model.proofs.Lawful.{lawful}
 use Rattle.tw_model.specs.Case.{Case, IsCase, simulation}
 use Rattle.tw_model.specs.Effect.{suits}
 use Rattle.tw_rule.proofs.Before.{kept_before}
-use Rattle.tw_rule.proofs.Calls.{hand_is_loose, hand_is_own, keeps_handle, keeps_receive, keeps_roll_back, keeps_widen}
+use Rattle.tw_rule.proofs.Calls.{hand_is_loose, hand_is_own, keeps_handle, keeps_receive, keeps_release, keeps_roll_back, keeps_widen}
 use Rattle.tw_rule.specs.Place.{IsFrom, IsPlace, IsRunBefore, Keeps, with_core}
 use Rattle.std.specs.Result.{result_and}
 use Rattle.tw_shard.specs.Arrival.{receiving, refusing}
-use Rattle.tw_shard.specs.Shard.{IsSameShare, Shard, core, handling, owns, widening}
-use Rattle.tw_sim.specs.declared.machine.Cancel.TheVariants.{Aggressive}
+use Rattle.tw_shard.specs.Shard.{IsSameShare, Shard, core, handling, owns, releasing, widening}
 use Rattle.tw_sim.specs.declared.machine.Signed.{Signed}
 use Rattle.tw_sim.specs.Owners.{owner}
 use Rattle.tw_table.specs.Shares.{Share, place_of}
@@ -33,12 +32,12 @@ place_after stop s t same mail unsent = λ i. record {
   pending = t.shard.pending;
   kept = t.shard.kept;
   outgoing = t.shard.outgoing;
-  held = [];
+  held = t.shard.held;
   done = (core 0 t.shard).done;
   past = (core 0 t.shard).past;
   room = (core 0 t.shard).room;
   bound = t.shard.bound;
-  cancel = Aggressive;
+  cancel = t.shard.cancel;
   mail = mail i;
   unsent = unsent i;
 }
@@ -56,7 +55,7 @@ keeps_same stop s work = record {
 }
 
 pub kept_same : (stop : ℕ) (s : Share) → IsAtWork stop s → Kept stop s s
-kept_same stop s work = record { case = refl; workers = refl; keeping = refl; place = keeps_same stop s work }
+kept_same stop s work = record { case = refl; workers = refl; keeping = refl; cancel = refl; place = keeps_same stop s work }
 
 pub kept_both : (stop : ℕ) (s t u : Share) → Kept stop s t → Kept stop t u → Kept stop s u
 kept_both stop s t u one two =
@@ -67,6 +66,7 @@ kept_both stop s t u one two =
       case = two.case ∙ one.case;
       workers = two.workers ∙ one.workers;
       keeping = two.keeping ∙ one.keeping;
+      cancel = two.cancel ∙ one.cancel;
       place = record {
         worker = second.worker ∙ first.worker;
         owns = second.owns ∙ first.owns;
@@ -150,7 +150,7 @@ kept_received stop s t x rest work first same came mail unsent =
     let arrived : with_core (after_arrival m (core stop s.shard) x) (record (place_of s) { mail = remove s.mail 0 }) ≡ with_core (core stop t.shard) (place_of mid)
     = λ i. with_core (came i) (record (place_of s) { mail = left i }) in
     let made = arrived ∙ sym (place_after stop mid t same mail unsent) in
-    record { case = same.case; workers = same.workers; keeping = same.keeps; place = subst (Keeps m stop (place_of s)) made keeps }
+    record { case = same.case; workers = same.workers; keeping = same.keeps; cancel = same.cancel; place = subst (Keeps m stop (place_of s)) made keeps }
 
 -- some of what it undoes is undone, and it is in the hand still
 pub kept_rolled_back : (stop : ℕ) (s t : Share) (x : Signed Event) (rest : List (Signed Event)) → IsAtWork stop s → s.mail ≡ x ∷ rest → IsSameShare s.shard t.shard
@@ -159,7 +159,7 @@ kept_rolled_back stop s t x rest work first same back mail unsent =
     let m = simulation s.shard.case in
     let there : slice_get s.mail 0 ≡ Some x = ap (λ l. slice_get l 0) first in
     let keeps = keeps_roll_back m (lawful s.shard.case work.case) stop 0 (place_of s) x (core stop t.shard) work.place there back in
-    record { case = same.case; workers = same.workers; keeping = same.keeps; place = subst (Keeps m stop (place_of s)) (sym (place_after stop s t same mail unsent)) keeps }
+    record { case = same.case; workers = same.workers; keeping = same.keeps; cancel = same.cancel; place = subst (Keeps m stop (place_of s)) (sym (place_after stop s t same mail unsent)) keeps }
 
 -- ---- a router handles
 
@@ -182,7 +182,7 @@ kept_handled stop r s t work same done mail unsent =
     let own = own_of stop r s.shard t.shard done in
     let at_own : next ≡ Ok (core stop t.shard) = sym (ap (λ b. if b then next else Err NotMine) own) ∙ done in
     let keeps = keeps_handle m (lawful s.shard.case work.case) stop r (place_of s) (core stop t.shard) work.place at_own in
-    record { case = same.case; workers = same.workers; keeping = same.keeps; place = subst (Keeps m stop (place_of s)) (sym (place_after stop s t same mail unsent)) keeps }
+    record { case = same.case; workers = same.workers; keeping = same.keeps; cancel = same.cancel; place = subst (Keeps m stop (place_of s)) (sym (place_after stop s t same mail unsent)) keeps }
 
 -- a router that has no room is one of its own
 pub own_full : (stop r : ℕ) (s : Shard) → handling stop s r ≡ Err AheadFull → owns s r ≡ true
@@ -209,8 +209,34 @@ kept_widened stop r s t work same own done =
       case = same.case;
       workers = same.workers;
       keeping = same.keeps;
+      cancel = same.cancel;
       place = subst (Keeps m stop (place_of s)) made (keeps_widen m (lawful s.shard.case work.case) stop r (place_of s) work.place);
     }
+
+-- what is held for a router of its own is taken back
+pub kept_released : (stop r : ℕ) (s : Share) (t : Shard) → IsAtWork stop s → IsSameShare s.shard t → owns s.shard r ≡ true → releasing stop s.shard r ≡ Ok (core stop t)
+    → Kept stop s (record s { shard = t })
+kept_released stop r s t work same own done =
+    let m = simulation s.shard.case in
+    let less : Result (Core Event) Refusal = Ok (with_release m (core stop s.shard) r) in
+    let at_own : less ≡ Ok (core stop t) = sym (ap (λ b. if b then less else Err NotMine) own) ∙ done in
+    let reached : with_release m (core stop s.shard) r ≡ core stop t = cc at_own in
+    let made : with_core (with_release m (core stop s.shard) r) (place_of s) ≡ place_of (record s { shard = t })
+    = (λ i. with_core (reached i) (place_of s)) ∙ sym (place_after stop s (record s { shard = t }) same refl refl) in
+    record {
+      case = same.case;
+      workers = same.workers;
+      keeping = same.keeps;
+      cancel = same.cancel;
+      place = subst (Keeps m stop (place_of s)) made (keeps_release m (lawful s.shard.case work.case) stop r (place_of s) work.place);
+    }
+
+-- which is not refused
+pub no_release_refusal : (stop : ℕ) (s : Shard) (r : ℕ) (f : Refusal) → owns s r ≡ true → releasing stop s r ≡ Err f → ⊥
+no_release_refusal stop s r f own refused =
+    let done : releasing stop s r ≡ Ok (with_release (simulation s.case) (core stop s) r) =
+    ap (λ b. if b then Ok (with_release (simulation s.case) (core stop s) r) else Err NotMine) own in
+    cc (done, refused)
 
 -- it is not refused
 pub no_widening_refusal : (stop : ℕ) (s : Shard) (r : ℕ) (f : Refusal) → owns s r ≡ true → widening stop s r ≡ Err f → ⊥

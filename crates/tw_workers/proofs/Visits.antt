@@ -1,7 +1,6 @@
 -- What a worker may give back to the table: after a visit, and without one.
 use Rattle.std.proofs.Common.{◌≡◌, ℕ, ◌<◌, ◌≤◌, max, min, nat_lt, false, List, [], ◌∷◌, ◌++◌, Option, None, Some, IfSome, map, slice_get, refl, ap, sym, ◌∙◌, subst, arith}
 use Rattle.std.proofs.lemmas.Bool.{or_from}
-use Rattle.std.proofs.lemmas.List.{append-nil}
 use Rattle.std.specs.List.{list_any, reduce}
 use Rattle.std.specs.Option.{option_map_or}
 use Rattle.tw_event.specs.declared.event.Event.{Event}
@@ -84,12 +83,11 @@ report_not_early b (Some a) h = before_no a b h
 
 -- what a worker tells where its hand is delivered
 abbrev pub told_of : Share → Option ℕ
-told_of q = reduce min (map (λ e. e.time) (q.shard.pending ++ q.shard.kept))
+told_of q = reduce min (map (λ e. e.time) (q.shard.pending ++ q.shard.kept ++ q.shard.held))
 
 told_is : (case : Case) (q : Share) → q.mail ≡ [] → report_time (simulation case) (place_of q) ≡ told_of q
 told_is case q none =
-    ap (λ xs. least_report (simulation case) (reduce min (map (λ (e : Event). e.time) xs)) q.mail) (append-nil (q.shard.pending ++ q.shard.kept))
-    ∙ (ap (λ xs. least_report (simulation case) (told_of q) xs) none ∙ none_told (simulation case) (told_of q))
+    ap (λ xs. least_report (simulation case) (told_of q) xs) none ∙ none_told (simulation case) (told_of q)
 
 -- it is never early
 told_late : (x : Board) (stop : ℕ) (s q : Share) → IsMet (s ∷ []) x → x.stop ≡ stop → Kept stop s q → q.mail ≡ [] → IfSome (told_of q) (λ time. x.bound ≤ time)

@@ -1,9 +1,11 @@
 -- A worker at its work, and what each call at it keeps (own, after Jefferson, Virtual Time, 1985).
-use Rattle.std.specs.Prelude.{ℕ, ◌≡◌, true, List}
+use Rattle.std.specs.Prelude.{ℕ, ◌≡◌, ◌<◌, true, List}
 use Rattle.std.specs.List.{AllZip}
+use Rattle.tw_event.specs.declared.event.Event.{Event}
 use Rattle.tw_model.specs.Case.{IsCase, simulation}
 use Rattle.tw_rule.specs.Place.{IsFrom, IsPlace, IsRunBefore, Keeps}
-use Rattle.tw_shard.specs.Shard.{IsSameShare, core, owns}
+use Rattle.tw_shard.specs.Shard.{IsSameShare, Shard, core, owns}
+use Rattle.tw_sim.specs.Simulation.{times}
 use Rattle.tw_table.specs.Shares.{Share, place_of}
 
 -- a worker with what it has, and the time from which on it handles nothing
@@ -29,11 +31,29 @@ pub record Kept (stop : ℕ) (s t : Share) : Type 0 where
   pub workers : t.shard.workers ≡ s.shard.workers
   -- its routers keep their committed events, or let them go, as before
   pub keeping : t.shard.keeps ≡ s.shard.keeps
+  -- and it takes back what undone events have sent as before
+  pub cancel : t.shard.cancel ≡ s.shard.cancel
   pub place : Keeps (simulation s.shard.case) stop (place_of s) (place_of t)
 
 -- its routers have committed all before its stop
 abbrev pub HasCommitted : Worker → Type 0
 HasCommitted w = (r : ℕ) → owns w.share.shard r ≡ true → (core 0 w.share.shard).done r ≡ w.stop
+
+-- a held message may be sent again: its sender has an event pending that is before it, and before the stop
+pub record IsAwaited (stop : ℕ) (s : Shard) (e : Event) : Type 0 where
+  pub cause : Event
+  pub pending : 0 < times (simulation s.case) cause s.pending
+  pub sender : cause.dst ≡ e.src
+  pub sooner : cause.time < e.time
+  pub until : cause.time < stop
+
+-- all that is held for router r may be sent again
+abbrev pub AreAwaitedFrom : ℕ → ℕ → Shard → Type 0
+AreAwaitedFrom r stop s = (e : Event) → 0 < times (simulation s.case) e s.held → e.src ≡ r → IsAwaited stop s e
+
+-- and all that is held for any of its routers
+abbrev pub AreAwaited : ℕ → Shard → Type 0
+AreAwaited stop s = (e : Event) → 0 < times (simulation s.case) e s.held → IsAwaited stop s e
 
 -- what a worker has kept since any share, it still has later
 abbrev pub StillKeeps : Worker → Worker → Type 0

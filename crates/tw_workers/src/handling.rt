@@ -5,7 +5,7 @@ ghost use Rattle.tw_core.specs.declared.refusal.Refusal.TheVariants as refusal;
 ghost use Rattle.tw_handlers.specs.Calls.{counter_full};
 ghost use Rattle.tw_model.specs.declared.memory.OrMemory.TheVariants as or_memory;
 ghost use Rattle.tw_shard.specs.Shard.{handling, owns};
-ghost use Rattle.tw_workers.specs.Work.{StillKeeps};
+ghost use Rattle.tw_workers.specs.Work.{AreAwaited, StillKeeps};
 
 use crate::worker::Worker;
 use std::alloc::AllocError;
@@ -19,7 +19,8 @@ use tw_table::Hand;
 impl<'a> Worker<'a> {
     /// Its routers handle their least pending events, one after the other, until as many are handled as
     /// it may handle between two meetings, or the next is at or past the stop or its window. What is in the
-    /// hand is delivered before. What they send to one another comes at once; what is for others is unsent.
+    /// hand is delivered before, and what is held and can't be sent again is taken back behind. What they send to
+    /// one another comes at once; what is for others is unsent.
     ///
     /// An event that equals the one that its router handled last waits for its antimessage, and ends this.
     ///
@@ -35,11 +36,27 @@ impl<'a> Worker<'a> {
     {
         self.deliver()?;
         let limit = self.pace.limit(self.shard.bound(), self.stop);
-        let at_window = self.handle_until(limit)?;
+        let at_window = self.handle_and_release(limit)?;
         self.receive_own()?;
         self.send_rest()?;
         self.pace.adapt(at_window);
         Ok(())
+    }
+
+    /// Its routers handle a batch of events that are before a time, and take back what is held and can't be sent
+    /// again. It is answered whether the batch ended since none was left.
+    fn handle_and_release(&mut self, limit: u64) -> Result<bool, OrMemory<CounterFull>>
+        requires { self.old.share.mail ≡ [] }
+        ensures kept { StillKeeps self.old self.new }
+        ensures empty { OnOk result (self.new.share.mail ≡ []) }
+        ensures awaited { OnOk result (AreAwaited self.new.stop self.new.share.shard) }
+        ensures full { IsErrOf result (or_memory.Fault counter_full)
+            → (r : ℕ) × (handling self.new.stop self.new.share.shard r ≡ Err refusal.CounterFull) }
+        ensures stop { self.new.stop ≡ self.old.stop }
+    {
+        let at_window = self.handle_until(limit)?;
+        self.release_where_due()?;
+        Ok(at_window)
     }
 
     /// Its routers handle a batch of events that are before a time, and it is answered whether the batch

@@ -16,6 +16,7 @@ mod handling;
 pub mod laws;
 mod meeting;
 mod policy;
+mod releases;
 mod rooms;
 mod worker;
 mod working;

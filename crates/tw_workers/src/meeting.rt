@@ -42,6 +42,7 @@ impl<'a> Worker<'a> {
         ensures turned { HasTurned table.now seat result.0 self.old self.new }
         ensures kept { Kept self.new.stop (share_at result.0) self.new.share }
         ensures done { (r : ℕ) → (core 0 self.new.share.shard).done r ≡ (core 0 self.old.share.shard).done r }
+        ensures held { self.new.share.shard.held ≡ self.old.share.shard.held }
         ensures told { (result.1 ≡ Refused → ⊥) → self.new.share.shard.bound ≡ bound_at result.0 }
         ensures sent { (result.1 ≡ Refused → ⊥) → self.new.share.unsent ≡ [] }
         ensures open { result.1 ≡ Open → bound_at result.0 < self.new.stop }
@@ -87,6 +88,7 @@ fn visit(held: &mut Held, shard: &mut Shard<'_>, hand: &mut Hand, stop: u64) -> 
     ensures work { IsAtWork stop (share shard.new hand.new) }
     ensures same { IsSameShare shard.old shard.new }
     ensures done { (r : ℕ) → (core 0 shard.new).done r ≡ (core 0 shard.old).done r }
+    ensures held { shard.new.held ≡ shard.old.held }
     ensures rises { (taken_by held.old).bound ≤ (exchange_of held.new).bound }
     ensures told { (result ≡ Refused → ⊥) → shard.new.bound ≡ (exchange_of held.new).bound }
     ensures sent { (result ≡ Refused → ⊥) → hand.new.out.items ≡ [] }

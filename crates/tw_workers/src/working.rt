@@ -19,7 +19,7 @@ use tw_table::{Seat, Table};
 /// Why a worker takes no further turn.
 #[derive(Clone, Copy, PartialEq, Eq, Debug)]
 pub enum Leaving {
-    /// The bound is the stop, and its routers have committed all before it.
+    /// The bound is the stop, its routers have committed all before it, and nothing is held for them.
     Settled,
     /// The workers were told to take no further turn.
     Halted,
@@ -48,6 +48,7 @@ impl<'a> Worker<'a> {
         ensures turned { HasTurned table.now seat result.0 self.old self.new }
         ensures settled { result.1 ≡ leaving.Settled → bound_at result.0 ≡ self.new.stop }
         ensures committed { result.1 ≡ leaving.Settled → HasCommitted self.new }
+        ensures released { result.1 ≡ leaving.Settled → self.new.share.shard.held ≡ [] }
         ensures halts { (result.1 ≡ leaving.Settled → ⊥) → halted_at result.0 ≡ true }
         ensures open { result.1 ≡ leaving.Settled → halted_at result.0 ≡ false }
         ensures obeys { halted_at seat ≡ true → (result.0 ≡ seat) × (result.1 ≡ leaving.Halted) × (self.new ≡ self.old) }
@@ -96,6 +97,7 @@ impl<'a> Worker<'a> {
         ensures turned { HasTurned table.now seat result.0 self.old self.new }
         ensures settled { result.1 ≡ Some leaving.Settled → bound_at result.0 ≡ self.new.stop }
         ensures committed { result.1 ≡ Some leaving.Settled → HasCommitted self.new }
+        ensures released { result.1 ≡ Some leaving.Settled → self.new.share.shard.held ≡ [] }
         ensures halts { IfSome result.1 (λ why. (why ≡ leaving.Settled → ⊥) → halted_at result.0 ≡ true) }
         ensures goes_on { result.1 ≡ None → halted_at result.0 ≡ false }
         ensures open { result.1 ≡ Some leaving.Settled → halted_at result.0 ≡ false }
@@ -106,8 +108,9 @@ impl<'a> Worker<'a> {
         }
         let work = self.pace.turn();
         gate.worked(seat.worker(), work.handled, work.undone);
-        // A bound that is first told at this meeting leaves events that are not committed yet.
-        let last = self.shard.bound() == self.stop;
+        // A bound that is first told at this meeting leaves events that are not committed yet; and what is held
+        // is taken back in the next turn.
+        let last = self.shard.bound() == self.stop && self.shard.held_len() == 0;
         gate.enter(rt, seat.worker(), turn);
         let (seat, meeting) = self.meet(rt, table, seat);
         gate.turned(&seat, turn);
@@ -183,7 +186,7 @@ impl<'a> Worker<'a> {
 }
 
 /// Whether a worker leaves after a meeting, where it was told this. The last is one that it entered when
-/// it knew that the bound is the stop.
+/// it knew that the bound is the stop, with nothing held.
 fn leaving_after(meeting: Meeting, last: bool) -> Option<Leaving>
     ensures settled { result ≡ Some leaving.Settled → (meeting ≡ meetings.Settled) × (last ≡ true) }
     ensures halted { result ≡ Some leaving.Halted → meeting ≡ meetings.Halted }

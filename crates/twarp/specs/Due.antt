@@ -1,5 +1,5 @@
 -- What is due for a command line (own).
-use Rattle.std.specs.Prelude.{ℕ, ◌≡◌, ◌<◌, ◌≤◌, ◌⊎◌, Bool, false, IfSome, List, Option, Result, Ok, Err}
+use Rattle.std.specs.Prelude.{ℕ, ◌≡◌, ◌<◌, ◌≤◌, ◌⊎◌, Bool, false, IfSome, List, Option, Result, Ok, Err, if◌then◌else◌}
 use Rattle.tw_commands.specs.declared.cause.Cause.{Cause}
 use Rattle.tw_commands.specs.declared.cause.Status.{Status}
 use Rattle.tw_commands.specs.declared.cause.Status.TheVariants.{Done, Refused}
@@ -12,22 +12,28 @@ use Rattle.tw_model.specs.declared.limits.TheConstants.{LATEST}
 use Rattle.tw_options.specs.declared.command_line.CommandLine.{CommandLine}
 use Rattle.tw_options.specs.declared.command_line.CommandLine.TheVariants.{Check, Seq, Run, Trail, Replay}
 use Rattle.tw_run.specs.Threaded.{LacksThread}
+use Rattle.tw_sim.specs.declared.machine.Cancel.{Cancel}
+use Rattle.tw_sim.specs.declared.machine.Cancel.TheVariants.{Aggressive, Lazy}
 
 -- its stop and its checkpoints are within their limits, and there is a worker
 abbrev pub IsRunnable : CommandLine → Type 0
 IsRunnable Check = Unit {0}
 IsRunnable (Seq stop every log) = (stop ≤ LATEST) × IfSome every (λ n. (0 < n) × (n ≤ LATEST))
-IsRunnable (Run stop every log workers batch) = (stop ≤ LATEST) × IfSome every (λ n. (0 < n) × (n ≤ LATEST)) × (0 < workers)
+IsRunnable (Run stop every log workers batch lazy) = (stop ≤ LATEST) × IfSome every (λ n. (0 < n) × (n ≤ LATEST)) × (0 < workers)
 IsRunnable (Trail router stop keep) = stop ≤ LATEST
-IsRunnable (Replay stop workers) = (stop ≤ LATEST) × (0 < workers)
+IsRunnable (Replay stop workers lazy) = (stop ≤ LATEST) × (0 < workers)
+
+-- when what an undone event has sent is taken back
+abbrev pub cancel_of : Bool → Cancel
+cancel_of lazy = if lazy then Lazy else Aggressive
 
 -- what is written for this input, and how the program ends
 abbrev pub due : CommandLine → List ℕ → Output
 due Check = check_output
 due (Seq stop every log) = seq_output stop every log
-due (Run stop every log workers batch) = seq_output stop every log
+due (Run stop every log workers batch lazy) = seq_output stop every log
 due (Trail router stop keep) = trail_output router stop keep
-due (Replay stop workers) = replay_output stop
+due (Replay stop workers lazy) = replay_output stop (cancel_of lazy)
 
 -- the exit status of a program that ended so
 abbrev pub status_number : Result Status Cause → ℕ
@@ -39,17 +45,17 @@ status_number (Err cause) = 2
 abbrev pub StopsFull : CommandLine → List ℕ → Type 0
 StopsFull Check input = ⊥
 StopsFull (Seq stop every log) input = GetsStuckFor stop input
-StopsFull (Run stop every log workers batch) input = GetsStuckFor stop input
+StopsFull (Run stop every log workers batch lazy) input = GetsStuckFor stop input
 StopsFull (Trail router stop keep) input = TrailGetsStuck router stop input
-StopsFull (Replay stop workers) input = ⊥
+StopsFull (Replay stop workers lazy) input = ⊥
 
 -- it starts threads
 abbrev pub StartsThreads : CommandLine → Type 0
 StartsThreads Check = ⊥
 StartsThreads (Seq stop every log) = ⊥
-StartsThreads (Run stop every log workers batch) = Unit {0}
+StartsThreads (Run stop every log workers batch lazy) = Unit {0}
 StartsThreads (Trail router stop keep) = ⊥
-StartsThreads (Replay stop workers) = ⊥
+StartsThreads (Replay stop workers lazy) = ⊥
 
 -- what the program leaves for a command line: what is due, or nothing where it starts threads and one is refused
 abbrev pub Performs : CommandLine → Result Status Cause → Option (List ℕ) → Option (List ℕ) → Option (List ℕ) → Bool → Bool → Type 0

@@ -2,7 +2,7 @@
 
 ghost use Rattle.std.specs.Prelude.{◌≡◌, false, OnOk};
 ghost use Rattle.tw_device.specs.Source.{LosesInput, TakesInput};
-ghost use Rattle.twarp.specs.Due.{IsRunnable, Performs};
+ghost use Rattle.twarp.specs.Due.{IsRunnable, Performs, cancel_of};
 
 use std::alloc::Global;
 use std::sync::Wait;
@@ -11,6 +11,7 @@ use tw_commands::{Cause, Status, check_io, replay_io, seq_io, trail_io};
 use tw_device::{Sink, Source};
 use tw_options::CommandLine;
 use tw_run::run_io;
+use tw_sim::Cancel;
 
 /// Does what a command line asks: reads its input from the source and writes the answer that is due
 /// to the sink.
@@ -38,10 +39,31 @@ pub(crate) fn perform<X: Threads + Wait + Sync, R: Source, W: Sink>(
             log,
             workers,
             batch,
-        } => run_io(rt, alloc, source, sink, stop, every, log, workers, batch),
+            lazy,
+        } => {
+            let cancel = cancel_of(lazy);
+            run_io(
+                rt, alloc, source, sink, stop, every, log, workers, batch, cancel,
+            )
+        }
         CommandLine::Trail { router, stop, keep } => {
             trail_io(alloc, source, sink, router, stop, keep)
         }
-        CommandLine::Replay { stop, workers } => replay_io(alloc, source, sink, stop, workers),
+        CommandLine::Replay {
+            stop,
+            workers,
+            lazy,
+        } => replay_io(alloc, source, sink, stop, workers, cancel_of(lazy)),
+    }
+}
+
+/// When what an undone event has sent is taken back: at once, or as late as may be.
+fn cancel_of(lazy: bool) -> Cancel
+    ensures { result ≡ cancel_of lazy }
+{
+    if lazy {
+        Cancel::Lazy
+    } else {
+        Cancel::Aggressive
     }
 }

@@ -1,7 +1,7 @@
 use Rattle.std.proofs.Common.{map}
 use Rattle.clap.specs.Words.{app_of}
 use Rattle.tw_options.proofs.Faults.{explains_err, taken}
-use Rattle.tw_options.proofs.Fit.{matches_fit}
+use Rattle.tw_options.proofs.Fit.{matches_fit, words_say}
 use Rattle.tw_options.proofs.Version.{not_taken, version_told}
 use Rattle.tw_options.proofs.options.Goals as goal
 
@@ -21,6 +21,11 @@ command_line_of-requires g c =
     let words = map g.S.AsStr.text c.args.words.now in
     matches_fit (app_of c.in_ok-twarp.field-0) words c.in_ok-matches.matches c.in_ok-twarp.ensures c.in_ok-matches.ensures.matches
     (taken (app_of c.in_ok-twarp.field-0) words c.in_ok-twarp.ensures c.in_ok-matches.ensures.kinds)
+
+pub returns-clause-says : goal.returns-clause-says
+returns-clause-says g c =
+    words_say (app_of c.in_ok-twarp.field-0) (map g.S.AsStr.text c.args.words.now) c.in_ok-matches.matches c.command_line_of.result
+    c.in_ok-twarp.ensures c.in_ok-matches.ensures.matches c.command_line_of.ensures
 
 pub returns-clause-taken : goal.returns-clause-taken
 returns-clause-taken g c =

@@ -1,7 +1,8 @@
 //! Commits of a shard's routers.
 
-ghost use Rattle.std.specs.Prelude.{◌≡◌, ◌-◌, ◌≤◌, ◌<◌, ◌↔◌, ◌++◌, ℕ, length, map, min, reverse, slice_get, slice_index_or, slice_set, false, true, IsErrOf, IsOk, OnErr, OnOk, Ok, Err};
+ghost use Rattle.std.specs.Prelude.{◌≡◌, ◌-◌, ◌≤◌, ◌<◌, ◌↔◌, ◌++◌, ℕ, List, length, map, min, reverse, slice_get, slice_index_or, slice_set, false, true, IsErrOf, IsOk, OnErr, OnOk, Ok, Err};
 ghost use Rattle.std.specs.List.{AllByRecursion, reduce};
+ghost use Rattle.std.specs.Option.{option_map};
 ghost use Rattle.tw_core.specs.declared.refusal.Refusal.{Refusal as ARefusal};
 ghost use Rattle.tw_core.specs.Machine.{committed};
 ghost use Rattle.tw_model.specs.Case.{simulation};
@@ -102,17 +103,32 @@ impl<'a> Shard<'a> {
         self.timeline(router).handled(k)
     }
 
-    /// The least time, in ticks, of what waits for its routers and of the antimessages that came before
-    /// their message. `None` where there is neither.
+    /// The least time, in ticks, of what waits for its routers, of the antimessages that came before their
+    /// message, and of what is held. `None` where there is nothing of it.
     pub fn report_time(&self) -> Option<u64>
-        ensures { result ≡ reduce min (map (λ e. e.time) (self.now.pending ++ self.now.kept)) }
+        ensures { result ≡ reduce min (map (λ e. e.time) (self.now.pending ++ self.now.kept ++ self.now.held)) }
     {
-        match (self.pending.least(), self.kept.least()) {
-            (Some(event), Some(kept)) => Some(event.time.min(kept.time)),
-            (Some(event), None) => Some(event.time),
-            (None, Some(kept)) => Some(kept.time),
-            (None, None) => None,
-        }
+        let pending = time_of(self.pending.least());
+        let kept = time_of(self.kept.least());
+        earlier(earlier(pending, kept), self.held.least_time())
+    }
+}
+
+/// The time of an event, where there is one.
+fn time_of(event: Option<Event>) -> Option<u64>
+    ensures { result ≡ option_map (λ e. e.time) event }
+{
+    event.map(|event| event.time)
+}
+
+/// The lesser of two times, where there are two; else the one that there is.
+fn earlier(time: Option<u64>, other: Option<u64>) -> Option<u64>
+    ensures { (times others : List ℕ) → time ≡ reduce min times → other ≡ reduce min others → result ≡ reduce min (times ++ others) }
+{
+    match (time, other) {
+        (Some(time), Some(other)) => Some(time.min(other)),
+        (Some(time), None) => Some(time),
+        (None, other) => other,
     }
 }
 

@@ -6,6 +6,7 @@ ghost use Rattle.tw_model.specs.Case.{opening_events};
 ghost use Rattle.tw_queue.specs.Queue.{AreFor};
 ghost use Rattle.tw_shard.specs.Shard.{IsOpeningShard};
 ghost use Rattle.tw_shard.specs.Timeline.{opening_timeline};
+ghost use Rattle.tw_sim.specs.declared.machine.Cancel.TheVariants.{Aggressive};
 ghost use Rattle.tw_sim.specs.Ordered.{insert_all};
 ghost use Rattle.tw_sim.specs.Owners.{own_routers, owner};
 
@@ -15,13 +16,12 @@ use smallvec::SmallVec;
 use std::alloc::{AllocError, Global};
 use tw_event::Event;
 use tw_instance::Case;
-use tw_queue::Pending;
-use tw_sim::{Routers, owner};
+use tw_queue::{HeldSends, Pending};
+use tw_sim::{Cancel, Routers, owner};
 
 impl<'a> Shard<'a> {
-    /// What one worker of so many has of a case: its routers as they begin, and the opening events for
-    /// them. Workers have numbers from 0 on; one past the last router has none. Routers keep their committed
-    /// events, or let them go. It fails for want of memory alone.
+    /// What one worker of so many has of a case, as [`Shard::open_with`] gives it; what an undone event has sent
+    /// is taken back at once.
     pub fn open(
         alloc: Global,
         case: &'a Case,
@@ -30,7 +30,25 @@ impl<'a> Shard<'a> {
         keeps: bool,
     ) -> Result<Shard<'a>, AllocError>
         requires { worker < workers }
-        ensures { IfOk result (λ shard. IsOpeningShard case.now worker workers keeps shard) }
+        ensures { IfOk result (λ shard. IsOpeningShard case.now worker workers keeps Aggressive shard) }
+    {
+        Shard::open_with(alloc, case, worker, workers, keeps, Cancel::Aggressive)
+    }
+
+    /// What one worker of so many has of a case: its routers as they begin, and the opening events for
+    /// them. Workers have numbers from 0 on; one past the last router has none. Routers keep their committed
+    /// events, or let them go. What an undone event has sent is taken back at once, or as late as may be. It
+    /// fails for want of memory alone.
+    pub fn open_with(
+        alloc: Global,
+        case: &'a Case,
+        worker: u32,
+        workers: u32,
+        keeps: bool,
+        cancel: Cancel,
+    ) -> Result<Shard<'a>, AllocError>
+        requires { worker < workers }
+        ensures { IfOk result (λ shard. IsOpeningShard case.now worker workers keeps cancel shard) }
     {
         let instance = case.instance();
         let timelines = opening_timelines(alloc, case, worker, workers, keeps)?;
@@ -44,9 +62,11 @@ impl<'a> Shard<'a> {
             pending,
             kept,
             outgoing: Vec::new(alloc),
+            held: HeldSends::new(alloc, instance.nodes()),
             sends: SmallVec::new(alloc),
             bound: 0,
             keeps,
+            cancel,
         })
     }
 }

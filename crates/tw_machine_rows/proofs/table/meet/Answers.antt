@@ -20,7 +20,7 @@ give-seat-requires-clause-fair g c =
     let left = c.take_out-out.ensures.rest in
     let out = c.take_out-out.ensures.value in
     let own = (share_of h).shard.worker in
-    let report = c.report_time.ensures ∙ (λ i. reduce min (map (λ e. e.time) ((left i).pending ++ (left i).kept))) in
+    let report = c.report_time.ensures ∙ (λ i. reduce min (map (λ e. e.time) ((left i).pending ++ (left i).kept ++ (left i).held))) in
     may_give c.args.table.now w.seat h k (share w.shard w.hand) (share c.raise_bound.new.self (record w.hand { mail = c.in_ok-visit.visit.mail; next = 0 }))
     c.requires taken.share taken.exchange taken.met taken.board taken.stop told.same told.rising
     (told.board ∙ (λ i. visited own (out i) (report i) (exchange_of h)))

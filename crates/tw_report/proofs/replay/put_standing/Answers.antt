@@ -12,4 +12,4 @@ returns-in_err-put_line g c = puts_failed c.from_residual.result _ _ _ (line (co
 pub returns : goal.returns
 unfolding standing_lines
 returns g c =
-    puts_then c.put_line-2.result _ _ _ _ (line (codes "bound" ∷ decimal c.args.bound ∷ [])) (line (counts_words c.args.counts.now)) c.in_ok-put_line.ensures.0 c.put_line-2.ensures
+    puts_then c.put_counts.result _ _ _ _ (line (codes "bound" ∷ decimal c.args.bound ∷ [])) (line (counts_words c.args.counts.now)) c.in_ok-put_line.ensures.0 c.put_counts.ensures

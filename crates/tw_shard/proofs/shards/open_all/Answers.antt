@@ -1,4 +1,4 @@
-use Rattle.std.proofs.Common.{◌≡◌, ◌∷◌, [], get_or, length, ap, sym, ◌∙◌, subst, arith}
+use Rattle.std.proofs.Common.{◌∷◌, [], get_or, length, ap, sym, ◌∙◌, subst, arith}
 use Rattle.std.proofs.lemmas.List.{length-append}
 use Rattle.tw_shard.specs.Shard.{IsOpeningShard, no_shard}
 use Rattle.tw_shard.proofs.Walks.{one_more}
@@ -20,7 +20,7 @@ push_reserved-requires c =
 pub loop-worker-preserved : goal.loop-worker-preserved
 loop-worker-preserved c =
     let items = c.loop-worker.shards.items in
-    let s = c.in_ok-open.field-0 in
+    let s = c.in_ok-open_with.field-0 in
     let count = c.loop-worker.invariant.count in
     let room = c.loop-worker.invariant.room in
     let capacity = c.push_reserved.ensures.capacity in
@@ -29,9 +29,9 @@ loop-worker-preserved c =
       count = ap length c.push_reserved.ensures.items ∙ omega arith;
       room = omega arith;
       each = λ k h.
-          subst (λ xs. IsOpeningShard c.args.case.now k c.args.workers c.args.keeps (get_or xs k no_shard)) (sym c.push_reserved.ensures.items)
-          (one_more (λ k s. IsOpeningShard c.args.case.now k c.args.workers c.args.keeps s) items s no_shard c.loop-worker.worker count c.loop-worker.invariant.each
-          c.in_ok-open.ensures k h);
+          subst (λ xs. IsOpeningShard c.args.case.now k c.args.workers c.args.keeps c.args.cancel (get_or xs k no_shard)) (sym c.push_reserved.ensures.items)
+          (one_more (λ k s. IsOpeningShard c.args.case.now k c.args.workers c.args.keeps c.args.cancel s) items s no_shard c.loop-worker.worker count c.loop-worker.invariant.each
+          c.in_ok-open_with.ensures k h);
     }
 
 pub returns-clause-count : goal.returns-clause-count

@@ -7,7 +7,8 @@ use Rattle.tw_warp.specs.Openings.{opening_machine}
 use Rattle.tw_warp.proofs.laws.good_is_seq.Goals as goal
 
 pub returns-clause-always : goal.returns-clause-always
-returns-clause-always c = λ case is stop steps. core.always_seq (simulation case) (lawful case is) (numbered case is) (opening_machine case stop) (machine_opens case stop) steps
+returns-clause-always c = λ case is cancel stop steps.
+    core.always_seq (simulation case) (lawful case is) (numbered case is) (opening_machine case cancel stop) (machine_opens case cancel stop) steps
 
 pub returns-clause-together : goal.returns-clause-together
 returns-clause-together c = λ w is all. are_run w is all

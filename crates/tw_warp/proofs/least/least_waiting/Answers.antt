@@ -12,7 +12,7 @@ loop-shard-preserved c = λ case.
     let s = c.shard-item.result in
     let i = c.loop-shard.shard-index in
     let least = c.lesser-least.ensures ∙ (ap (λ o. option_map_or (λ o. min c.loop-shard.least o) o c.loop-shard.least) c.report_time.ensures
-    ∙ min_reduced m (s.pending ++ s.kept) c.loop-shard.least) in
+    ∙ min_reduced m (s.pending ++ s.kept ++ s.held) c.loop-shard.least) in
     let next = drop_next c.args.shards.now i s c.loop-shard-test.true ∙ ap (λ t. t ∷ drop (i + 1) c.args.shards.now) (sym c.shard-item.is) in
-    ap (least_of_all m (λ s. s.pending ++ s.kept) (drop (i + 1) c.args.shards.now)) least
-    ∙ (ap (λ xs. least_of_all m (λ s. s.pending ++ s.kept) xs c.loop-shard.least) (sym next) ∙ c.loop-shard.invariant case)
+    ap (least_of_all m (λ s. s.pending ++ s.kept ++ s.held) (drop (i + 1) c.args.shards.now)) least
+    ∙ (ap (λ xs. least_of_all m (λ s. s.pending ++ s.kept ++ s.held) xs c.loop-shard.least) (sym next) ∙ c.loop-shard.invariant case)

@@ -5,4 +5,4 @@ use Rattle.tw_warp.proofs.least.least_waiting.Given as goal
 
 abbrev pub invariant-loop-shard : goal.invariant-loop-shard
 invariant-loop-shard l = (case : Case)
-    → least_of_all (simulation case) (λ s. s.pending ++ s.kept) (drop l.shard-index l.shards) l.least ≡ least_of_all (simulation case) (λ s. s.pending ++ s.kept) l.fn.shards l.fn.top
+    → least_of_all (simulation case) (λ s. s.pending ++ s.kept ++ s.held) (drop l.shard-index l.shards) l.least ≡ least_of_all (simulation case) (λ s. s.pending ++ s.kept ++ s.held) l.fn.shards l.fn.top

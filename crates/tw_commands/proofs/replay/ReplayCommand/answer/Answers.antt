@@ -4,4 +4,4 @@ use Rattle.tw_commands.proofs.replay.ReplayCommand.answer.Goals as goal
 
 pub write_replay-requires-clause-paths : goal.write_replay-requires-clause-paths
 write_replay-requires-clause-paths g c =
-    same_paths c.case-2.result.now c.instance.ensures.case c.args.self.now.stop _ _ _ _ c.instance.ensures.value (c.case.ensures ∙ sym c.case-2.ensures) c.in_ok-replay.ensures
+    same_paths c.case-2.result.now c.instance.ensures.case c.args.self.now.stop c.args.self.now.cancel _ _ _ _ c.instance.ensures.value (c.case.ensures ∙ sym c.case-2.ensures) c.in_ok-replay.ensures

@@ -11,11 +11,11 @@ returns-then-count_mail-gt0 c =
     let some = c.if-count_mail-gt0.true in
     subst (TellsStill false) c.self.view_is ((λ h. absurd (true≢false (sym h))), (λ none. absurd (let long = ap length none in omega arith)))
 
-pub returns-then-count_held-gt0 : goal.returns-then-count_held-gt0
-returns-then-count_held-gt0 c =
+pub returns-then-count_in_hands-gt0 : goal.returns-then-count_in_hands-gt0
+returns-then-count_in_hands-gt0 c =
     let all = in_flight c.self.inside c.self.invariant in
-    let hands = c.count_held.ensures ∙ ap (λ hs. length (flat_map held hs)) c.deref.ensures.value in
-    let some = c.if-count_held-gt0.true in
+    let hands = c.count_in_hands.ensures ∙ ap (λ hs. length (flat_map held hs)) c.deref.ensures.value in
+    let some = c.if-count_in_hands-gt0.true in
     subst (TellsStill false) c.self.view_is ((λ h. absurd (true≢false (sym h))), (λ none. absurd (let long = ap length none in omega arith)))
 
 pub returns : goal.returns
@@ -23,8 +23,8 @@ returns c =
     let all = in_flight c.self.inside c.self.invariant in
     let mail = c.count_mail.ensures in
     let no_mail = c.if-count_mail-gt0.false in
-    let hands = c.count_held.ensures ∙ ap (λ hs. length (flat_map held hs)) c.deref.ensures.value in
-    let no_hands = c.if-count_held-gt0.false in
+    let hands = c.count_in_hands.ensures ∙ ap (λ hs. length (flat_map held hs)) c.deref.ensures.value in
+    let no_hands = c.if-count_in_hands-gt0.false in
     let shards = c.count_outgoing.ensures ∙ ap (λ ss. length (flat_map (λ (s : Shard). s.outgoing) ss)) c.deref-2.ensures.value in
     subst (TellsStill (c.count_outgoing.result == 0)) c.self.view_is (
       (λ h. empty_of _ (let none = eqb-true c.count_outgoing.result 0 h in omega arith)),

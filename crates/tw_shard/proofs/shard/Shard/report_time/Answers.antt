@@ -1,26 +1,21 @@
-use Rattle.std.proofs.Common.{Some, ap, ap₂, sym, ◌∙◌}
-use Rattle.tw_shard.proofs.Reports.{first_time, told}
+use Rattle.std.proofs.Common.{◌≡◌, ◌++◌, map, min, option_map, ap, ◌∙◌}
+use Rattle.std.specs.List.{reduce}
+use Rattle.tw_event.specs.declared.event.Event.{Event}
+use Rattle.tw_shard.specs.Shard.{Shard}
+use Rattle.tw_shard.proofs.Reports.{least_first, times_of_all}
 use Rattle.tw_shard.proofs.shard.Shard.report_time.Goals as goal
 
-pub returns-in-Some-Some : goal.returns-in-Some-Some
-returns-in-Some-Some c =
-    let e = c.in-Some-Some in
-    ap (λ n. Some n) c.min.ensures
-    ∙ (ap₂ first_time e.ensures.first e.ensures'.first ∙ told c.self.inside c.args.self.now c.self.view_is c.self.invariant e.ensures.queue e.ensures'.queue)
-
-pub returns-in-Some-None : goal.returns-in-Some-None
-returns-in-Some-None c =
-    let e = c.in-Some-None in
-    ap₂ first_time e.ensures.first e.ensures'.first ∙ told c.self.inside c.args.self.now c.self.view_is c.self.invariant e.ensures.queue e.ensures'.queue
-
-pub returns-in-None-Some : goal.returns-in-None-Some
-returns-in-None-Some c =
-    let e = c.in-None-Some in
-    ap₂ first_time (sym e.is-0 ∙ c.least.ensures.first) e.ensures.first
-    ∙ told c.self.inside c.args.self.now c.self.view_is c.self.invariant c.least.ensures.queue e.ensures.queue
-
-pub returns-in-None-None : goal.returns-in-None-None
-returns-in-None-None c =
-    let e = c.in-None-None in
-    ap₂ first_time (sym e.is-0 ∙ c.least.ensures.first) (sym e.is-1 ∙ c.least-2.ensures.first)
-    ∙ told c.self.inside c.args.self.now c.self.view_is c.self.invariant c.least.ensures.queue c.least-2.ensures.queue
+pub returns : goal.returns
+returns c =
+    let a = c.self.inside in
+    let is = c.self.invariant.whole.case in
+    let time = λ (e : Event). e.time in
+    let pending : c.time_of-pending.result ≡ reduce min (map time a.pending.events) =
+    c.time_of-pending.ensures ∙ (ap (option_map time) c.least.ensures.first ∙ least_first a.case.now is a.pending.events c.least.ensures.queue.rising) in
+    let kept : c.time_of-kept.result ≡ reduce min (map time a.kept.events) =
+    c.time_of-kept.ensures ∙ (ap (option_map time) c.least-2.ensures.first ∙ least_first a.case.now is a.kept.events c.least-2.ensures.queue.rising) in
+    let held = c.least_time.ensures ∙ least_first a.case.now is a.held.events c.self.invariant.whole.held in
+    let both = c.earlier.ensures (map time a.pending.events) (map time a.kept.events) pending kept in
+    c.earlier-2.ensures (map time a.pending.events ++ map time a.kept.events) (map time a.held.events) both held
+    ∙ (ap (reduce min) (times_of_all a.pending.events a.kept.events a.held.events)
+    ∙ ap (λ (s : Shard). reduce min (map time (s.pending ++ s.kept ++ s.held))) c.self.view_is)

@@ -1,14 +1,18 @@
-use Rattle.std.proofs.Common.{◌≡◌, refl, ap, sym, ◌∙◌, subst, true, false, set, get_or, map, ◌++◌}
+use Rattle.std.proofs.Common.{◌≡◌, refl, ap, sym, ◌∙◌, subst, true, set, get_or, ◌++◌}
 use Rattle.std.specs.Vec.{with_items}
 use Rattle.std.specs.List.{AllByRecursion}
-use Rattle.tw_event.specs.Order.{event_before}
+use Rattle.tw_core.specs.Steps.{held_back, sent_back}
+use Rattle.tw_event.specs.Order.{event_before, event_same}
+use Rattle.tw_model.specs.Case.{Case, simulation}
 use Rattle.tw_sim.specs.Ordered.{insert}
+use Rattle.tw_sim.specs.Rising.{IsRising}
 use Rattle.tw_sim.proofs.Ordered.{all-insert}
 use Rattle.tw_model.specs.Effect.{fits, suits}
 use Rattle.tw_shard.specs.Inside.{shard_of}
 use Rattle.tw_shard.specs.Shard.{IsUndone, no_timeline, owns, place, timeline}
-use Rattle.tw_shard.specs.Timeline.{Timeline, sends_after, signed}
+use Rattle.tw_shard.specs.Timeline.{Timeline, sends_after}
 use Rattle.tw_shard.proofs.Fields.{changed_shard, fits_home, fits_suits, other_items}
+use Rattle.tw_shard.proofs.Holding.{rising-held_back}
 use Rattle.tw_shard.proofs.shard.Shard.step_back.Goals as goal
 
 pub invariant_of-self-3 : goal.invariant_of-self-3
@@ -36,11 +40,16 @@ invariant_of-self-3 c =
       kept = refl;
       bound = refl;
       keeps = refl;
+      cancel = refl;
       pending_routers = c.insert.ensures.routers ∙ c.reserve.ensures.routers;
       kept_routers = refl;
+      held_routers = c.in_ok-event.ensures.routers;
     }) own.net own.node own.done own.case own.keeps
     (subst (AllByRecursion (λ x. suits s.case.net x.dst x ≡ true)) (sym pending)
     (all-insert event_before (λ x. suits s.case.net x.dst x ≡ true) e a.pending.events suit c.self.invariant.whole.pending))
+    (subst (IsRising event_before event_same) (sym undone.4)
+    (let t = get_or c.deref_mut.result.now c.place-place.result no_timeline in
+    rising-held_back t.case a.cancel (sends_after t (undone.0 ++ t.past) e) a.held.events c.self.invariant.whole.held))
 
 pub returns-clause-ok : goal.returns-clause-ok
 returns-clause-ok c =
@@ -59,7 +68,11 @@ returns-clause-ok c =
     let timelines =
     other_items a.timelines.len c.undo_at.new.timelines _ (c.undo_at.auto.timelines ∙ c.deref_mut.ensures.len)
     ∙ (undone.2 ∙ λ i. set (c.deref_mut.ensures.value i) (at i) (record (there i) { ahead = undone.0 })) in
-    let outgoing = undone.3 ∙ λ i. a.outgoing.items ++ map (signed false) (sends_after (there i) (undone.0 ++ (there i).past) e) in
+    let back = λ (case : Case) (t : Timeline). sent_back (simulation case) a.cancel (sends_after t (undone.0 ++ t.past) e) in
+    let outgoing =
+    undone.3 ∙ ((λ i. a.outgoing.items ++ back (there i).case (there i)) ∙ ap (λ case. a.outgoing.items ++ back case (timeline s r)) own.case) in
+    let left = λ (case : Case) (t : Timeline). held_back (simulation case) a.cancel (sends_after t (undone.0 ++ t.past) e) a.held.events in
+    let held = undone.4 ∙ ((λ i. left (there i).case (there i)) ∙ ap (λ case. left case (timeline s r)) own.case) in
     subst (λ s. IsUndone r s (shard_of (record {
       case = a.case;
       worker = a.worker;
@@ -68,9 +81,11 @@ returns-clause-ok c =
       pending = c.insert.new.self;
       kept = a.kept;
       outgoing = c.undo_at.new.outgoing;
+      held = c.undo_at.new.held;
       sends = c.undo_at.new.sends;
       bound = a.bound;
       keeps = a.keeps;
+      cancel = a.cancel;
     }))) c.self.view_is (
       e,
       undone.0,
@@ -84,7 +99,9 @@ returns-clause-ok c =
         pending = pending i;
         kept = a.kept.events;
         outgoing = outgoing i;
+        held = held i;
         bound = a.bound;
         keeps = a.keeps;
+        cancel = a.cancel;
       },
     )

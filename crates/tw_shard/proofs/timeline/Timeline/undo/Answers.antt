@@ -1,13 +1,16 @@
-use Rattle.std.proofs.Common.{◌≡◌, ◌-◌, ◌≤◌, true, false, List, ◌++◌, [], ◌∷◌, refl, length, map, reverse, take, ap, ap₂, sym, ◌∙◌, subst, arith}
+use Rattle.std.proofs.Common.{◌≡◌, ◌-◌, ◌≤◌, true, List, ◌++◌, [], ◌∷◌, refl, length, reverse, take, ap, sym, ◌∙◌, subst, arith}
 use Rattle.std.specs.Option.{option_copied}
+use Rattle.tw_core.specs.Steps.{held_back, sent_back}
 use Rattle.tw_handlers.specs.Record.{IsHandled}
+use Rattle.tw_model.specs.Case.{simulation}
 use Rattle.tw_model.specs.Effect.{effect, fits}
 use Rattle.tw_model.specs.Rules.{IsNet}
 use Rattle.tw_event.specs.declared.event.Event.{Event}
 use Rattle.tw_model.specs.State.{Router, State}
-use Rattle.tw_shard.specs.Timeline.{AreNoted, IsTimeline, Timeline, events_of, known, sends_after, signed}
+use Rattle.tw_queue.specs.Held.{AreFrom}
+use Rattle.tw_shard.specs.Timeline.{AreNoted, IsTimeline, Timeline, events_of, known, sends_after}
 use Rattle.tw_shard.specs.declared.timeline.HandledEvent.{HandledEvent}
-use Rattle.tw_shard.proofs.Histories.{few_sends, newest_first, newest_noted}
+use Rattle.tw_shard.proofs.Histories.{few_sends, newest_first, newest_noted, sends_from}
 use Rattle.tw_shard.proofs.Rings.{last_is}
 use Rattle.tw_shard.proofs.timeline.Timeline.undo.Goals as goal
 
@@ -21,8 +24,9 @@ undo-requires-clause-handled c =
       newest_noted a.router.net a.router.node a.past.events a.ahead older d a.router.state split c.self.invariant.noted c.self.invariant.state,
     )
 
-pub post-requires : goal.post-requires
-post-requires c =
+-- what is to be taken back is at most 64 events, each from a router of the net
+told : (c : goal.After-call_back-arg-2-1) → (length c.deref.result.now ≤ 64) × AreFrom c.self.inside.router.net.nodes c.deref.result.now
+told c =
     let a = c.self.inside in
     let older = take (length a.ahead - 1) a.ahead in
     let d = c.unwrap.result.now in
@@ -31,10 +35,20 @@ post-requires c =
     let came = newest_noted a.router.net a.router.node a.past.events a.ahead older d a.router.state split c.self.invariant.noted c.self.invariant.state in
     let sends = (effect a.router.net a.router.node before d.event).sends in
     let sent : c.deref.result.now ≡ sends = c.deref.ensures ∙ (c.in_ok-undo.ensures.sends before came ∙ ap (λ xs. xs ++ sends) c.clear.ensures.items) in
-    let few : length sends ≤ 64 = few_sends a.router.net a.router.node before d.event (subst (λ (t : Timeline). IsNet t.net) (sym c.self.view_is) c.requires.net) in
-    let count : length c.deref.result.now ≡ length sends = ap length sent in
-    let room = c.in_ok-reserve.ensures.ok in
-    omega arith
+    let net = subst (λ (t : Timeline). IsNet t.net) (sym c.self.view_is) c.requires.net in
+    subst (λ xs. (length xs ≤ 64) × AreFrom a.router.net.nodes xs) (sym sent)
+    (few_sends a.router.net a.router.node before d.event net, sends_from a.router.net a.router.node before d.event net came.fits)
+
+pub call_back-requires-clause-room : goal.call_back-requires-clause-room
+call_back-requires-clause-room c = λ at_once. let count = (told c).0 in let room = c.in_ok-make_room.ensures.room at_once in omega arith
+
+pub call_back-requires-clause-space : goal.call_back-requires-clause-space
+call_back-requires-clause-space c = λ late. let count = (told c).0 in let room = c.in_ok-make_room.ensures.held late in omega arith
+
+pub call_back-requires-clause-senders : goal.call_back-requires-clause-senders
+call_back-requires-clause-senders c =
+    let count = c.in_ok-make_room.ensures.routers ∙ (c.requires.routers ∙ ap (λ (t : Timeline). t.net.nodes) (sym c.self.view_is)) in
+    subst (λ n. AreFrom n c.deref.result.now) (sym count) (told c).1
 
 -- the steps without the newest one
 abbrev older : goal.After-result-1 → List HandledEvent
@@ -75,6 +89,8 @@ returns-clause-ok c =
     let a = c.self.inside in
     let d = c.unwrap.result.now in
     let left = events_of (reverse (older c)) in
+    let m = simulation a.past.case in
+    let room = c.in_ok-make_room.ensures in
     let router = c.in_ok-undo.ensures.state (before c) (came c) in (
       left,
       ap (λ (t : Timeline). t.ahead) (sym c.self.view_is) ∙ ap events_of (newest_first a.ahead (older c) d (split c)),
@@ -89,9 +105,12 @@ returns-clause-ok c =
         keeps = a.past.keeps;
       })
           ∙ ap (λ (t : Timeline). record t { ahead = left }) c.self.view_is,
-      c.post.ensures
-          ∙ (ap₂ (λ xs ys. xs ++ map (signed false) ys) c.in_ok-reserve.ensures.items (sent c)
-          ∙ ap (λ (t : Timeline). c.args.outgoing.now.items ++ map (signed false) (sends_after t (left ++ t.past) d.event)) c.self.view_is),
+      c.call_back.ensures.outgoing a.past.case
+          ∙ ((λ i. room.messages i ++ sent_back m c.args.cancel (sent c i))
+          ∙ ap (λ (t : Timeline). c.args.outgoing.now.items ++ sent_back (simulation t.case) c.args.cancel (sends_after t (left ++ t.past) d.event)) c.self.view_is),
+      c.call_back.ensures.held a.past.case
+          ∙ ((λ i. held_back m c.args.cancel (sent c i) (room.events i))
+          ∙ ap (λ (t : Timeline). held_back (simulation t.case) c.args.cancel (sends_after t (left ++ t.past) d.event) c.args.held.now.events) c.self.view_is),
     )
 
 pub returns-clause-fits : goal.returns-clause-fits

@@ -12,6 +12,6 @@ returns c =
     let w = warp_of c.self.inside in
     let m = simulation w.case in
     c.least_waiting.ensures w.case
-    ∙ ((λ i. least_of_all m (λ s. s.pending ++ s.kept) (c.deref.ensures.value i)
+    ∙ ((λ i. least_of_all m (λ s. s.pending ++ s.kept ++ s.held) (c.deref.ensures.value i)
     (c.least_time-in_flight.ensures w.case i))
     ∙ (least_found w c.self.invariant ∙ ap (λ (v : Warp). least_loose (simulation v.case) (core v)) c.self.view_is))

@@ -1,4 +1,4 @@
-use Rattle.std.proofs.Common.{ℕ, ◌<◌, List, length, ap, sym, ◌∙◌, subst}
+use Rattle.std.proofs.Common.{◌<◌, List, length, ap, sym, ◌∙◌, subst}
 use Rattle.tw_shard.proofs.CommittedEvents.{own_there, router_there, told}
 use Rattle.tw_shard.specs.Shard.{Shard}
 use Rattle.tw_shard.specs.Shards.{HaveAll, history_in}

@@ -16,7 +16,7 @@ pub loop-step-init : goal.loop-step-init
 loop-step-init c = record {
   far = subst (IsRun (simulation c.args.self.now.case) c.args.steps.now 0 (core c.args.self.now) (core c.args.self.now)) (sym (c.reserve.ensures.items ∙ c.new-answers.ensures.items))
       (run_none (simulation c.args.self.now.case) c.args.steps.now (core c.args.self.now));
-  same = record { case = refl; workers = refl; stop = refl };
+  same = record { case = refl; workers = refl; stop = refl; cancel = refl };
   rising = omega arith;
   seq = subst (λ (v : Warp). IsSeq (simulation v.case) (core v)) c.self.view_is (seq_of _ c.self.invariant);
   count = c.reserve.ensures.len ∙ c.new-answers.ensures.len;

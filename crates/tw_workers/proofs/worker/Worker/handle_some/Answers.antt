@@ -5,4 +5,4 @@ use Rattle.tw_workers.proofs.worker.Worker.handle_some.Goals as goal
 pub returns-clause-kept : goal.returns-clause-kept
 returns-clause-kept c = λ s kept.
     subst (λ (w : Worker). Kept w.stop s w.share) (sym c.self-2.view_is)
-    (c.send_rest.ensures.kept s (c.receive_own.ensures.kept s (c.handle_until.ensures.kept s (c.deliver.ensures.kept s kept))))
+    (c.send_rest.ensures.kept s (c.receive_own.ensures.kept s (c.handle_and_release.ensures.kept s (c.deliver.ensures.kept s kept))))

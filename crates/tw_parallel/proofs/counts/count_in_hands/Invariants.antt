@@ -1,6 +1,6 @@
 use Rattle.std.proofs.Common.{◌≡◌, ◌+◌, ◌*◌, ◌≤◌, ◌++◌, drop, length}
 use Rattle.std.specs.List.{flat_map}
-use Rattle.tw_parallel.proofs.counts.count_held.Given as goal
+use Rattle.tw_parallel.proofs.counts.count_in_hands.Given as goal
 
 abbrev pub invariant-loop-hand : goal.invariant-loop-hand
 invariant-loop-hand l = record {

@@ -1,0 +1,124 @@
+-- What is held by a worker's routers once they have taken back what they can't send again.
+use Rattle.std.proofs.Common.{◌≡◌, ◌⊎◌, ℕ, zero, suc, ◌<◌, ◌≤◌, ◌==◌, List, [], ◌∷◌, true, false, not, map, min, slice_get, Option, Some, None, Result, Ok, Err, refl, ap, sym, ◌∙◌, subst, inl, inr, arith, if◌then◌else◌}
+use Rattle.std.proofs.lemmas.Bool.{cases_eq, eq-eqb, eqb-true}
+use Rattle.std.specs.List.{filter, reduce}
+use Rattle.std.specs.Option.{IsSomeAnd}
+use Rattle.tw_core.specs.declared.refusal.Refusal.{Refusal}
+use Rattle.tw_core.specs.declared.refusal.Refusal.TheVariants.{NotMine}
+use Rattle.tw_core.specs.Machine.{Core}
+use Rattle.tw_core.specs.Steps.{from, with_release}
+use Rattle.tw_event.specs.declared.event.Event.{Event}
+use Rattle.tw_model.specs.Case.{Case, simulation}
+use Rattle.tw_rule.proofs.Least.{events_told}
+use Rattle.tw_shard.proofs.Shares.{listed}
+use Rattle.tw_shard.specs.Shard.{IsSameShare, Shard, core, owns, place, releasing, routers}
+use Rattle.tw_sim.proofs.Counts.{in_filter, one_self, times-filter-yes}
+use Rattle.tw_sim.specs.Simulation.{IsLawful, Simulation, times}
+use Rattle.tw_table.specs.Shares.{Share}
+use Rattle.tw_workers.proofs.Commits.{same_owns}
+use Rattle.tw_workers.specs.Work.{AreAwaited, AreAwaitedFrom, IsAtWork, IsAwaited}
+
+-- for the routers that are not left, what is held may be sent again
+abbrev pub AreReleased : List ℕ → ℕ → Shard → Type 0
+AreReleased left stop s = (r : ℕ) → owns s r ≡ true → AreAwaitedFrom r stop s ⊎ ((k : ℕ) × (slice_get left k ≡ Some r))
+
+pub all_to_release : (stop : ℕ) (s : Shard) (left : List ℕ) → s.worker < s.workers → left ≡ routers s → AreReleased left stop s
+all_to_release stop s left some all r mine = inr (place s r, ap (λ rs. slice_get rs (place s r)) all ∙ listed s some r mine)
+
+-- none is left
+pub all_released : (stop : ℕ) (s : Share) (left : List ℕ) → left ≡ [] → IsAtWork stop s → AreReleased left stop s.shard → AreAwaited stop s.shard
+all_released stop s left none work done e held =
+    elim (done e.src (work.place.held e held)) [
+      | inl is ↦ is e held refl
+      | inr at ↦ (let got : ◌≡◌ {A = Option ℕ} None (Some e.src) = ap (λ rs. slice_get rs at.0) (sym none) ∙ at.1 in absurd cc)
+    ]
+
+-- one router less is left: what is held for it may be sent again
+pub awaited_more : (n stop : ℕ) (left rest : List ℕ) (s : Shard) → left ≡ n ∷ rest → AreReleased left stop s → AreAwaitedFrom n stop s → AreReleased rest stop s
+awaited_more n stop left rest s is old now r mine =
+    elim (cases_eq r n) [
+      | inl here ↦ inl (subst (λ k. AreAwaitedFrom k stop s) (sym here) now)
+      | inr other ↦ elim (old r mine) [
+        | inl was ↦ inl was
+        | inr at ↦ inr (behind at.0 (ap (λ rs. slice_get rs at.0) (sym is) ∙ at.1) other)
+      ]
+    ]
+  where
+    behind : (k : ℕ) → slice_get (n ∷ rest) k ≡ Some r → (r ≡ n → ⊥) → (j : ℕ) × (slice_get rest j ≡ Some r)
+    behind zero got apart = absurd (apart (cc got))
+    behind (suc j) got apart = (j, got)
+
+-- ---- a router whose next event may send again what is held for it
+
+module _ {S : Type 0} (m : Simulation S Event) (law : IsLawful m) where
+  -- the first of a list stands there
+  first_there : (xs : List Event) (f : Event) → slice_get xs 0 ≡ Some f → 0 < times m f xs
+  first_there [] f got = cc
+  first_there (x ∷ xs) f got =
+      let same : x ≡ f = cc in
+      subst (λ y. 0 < times m f (y ∷ xs)) (sym same) (let self = one_self m law f in omega arith)
+
+-- what is held for it is not before the least of that
+held_told : (r : ℕ) (s : Shard) → IsLawful (simulation s.case) → (e : Event) → 0 < times (simulation s.case) e s.held → e.src ≡ r
+    → IsSomeAnd (reduce min (map (λ x. x.time) (from (simulation s.case) r s.held))) (λ time. time ≤ e.time)
+held_told r s law e held sender =
+    let m = simulation s.case in
+    let there = times-filter-yes m law (λ x. x.src == r) e s.held (eq-eqb e.src r sender) in
+    events_told m law (from m r s.held) e (omega arith)
+
+pub none_awaited : (r stop : ℕ) (s : Shard) → IsLawful (simulation s.case) → reduce min (map (λ x. x.time) (from (simulation s.case) r s.held)) ≡ None
+    → AreAwaitedFrom r stop s
+none_awaited r stop s law none e held sender = absurd (subst (λ o. IsSomeAnd o (λ time. time ≤ e.time)) none (held_told r s law e held sender))
+
+pub first_awaited : (r stop least : ℕ) (f : Event) (s : Shard) → IsLawful (simulation s.case)
+    → reduce min (map (λ x. x.time) (from (simulation s.case) r s.held)) ≡ Some least → slice_get (filter (λ x. x.dst == r) s.pending) 0 ≡ Some f
+    → f.time < stop → f.time < least → AreAwaitedFrom r stop s
+first_awaited r stop least f s law told first until sooner e held sender =
+    let m = simulation s.case in
+    let late : least ≤ e.time = subst (λ o. IsSomeAnd o (λ time. time ≤ e.time)) told (held_told r s law e held sender) in
+    let there = in_filter m law (λ x. x.dst == r) f s.pending (first_there m law (filter (λ x. x.dst == r) s.pending) f first) in
+    record { cause = f; pending = there.1; sender = eqb-true f.dst r there.0 ∙ sym sender; sooner = omega arith; until = until }
+
+-- ---- a router takes back what is held for it
+
+module _ (n stop : ℕ) (s t : Shard) (law : IsLawful (simulation s.case)) (same : IsSameShare s t) (own : owns s n ≡ true)
+    (done : releasing 0 s n ≡ Ok (core 0 t)) where
+  released : core 0 t ≡ with_release (simulation s.case) (core 0 s) n
+  released =
+      let less : Result (Core Event) Refusal = Ok (with_release (simulation s.case) (core 0 s) n) in
+      let at_own : less ≡ Ok (core 0 t) = sym (ap (λ b. if b then less else Err NotMine) own) ∙ done in
+      cc at_own
+
+  -- what is held still was held, and others sent it
+  held_before : (e : Event) → 0 < times (simulation t.case) e t.held → (not (e.src == n) ≡ true) × (0 < times (simulation s.case) e s.held)
+  held_before e held =
+      let m = simulation s.case in
+      let there = subst (λ (xs : List Event). 0 < times m e xs) (ap (λ C. C.held) released) (subst (λ (c : Case). 0 < times (simulation c) e t.held) same.case held) in
+      in_filter m law (λ x. not (x.src == n)) e s.held there
+
+  awaited_still : (e : Event) → IsAwaited stop s e → IsAwaited stop t e
+  awaited_still e is = record {
+    cause = is.cause;
+    pending = subst (λ (c : Case). 0 < times (simulation c) is.cause t.pending) (sym same.case)
+        (subst (λ (xs : List Event). 0 < times (simulation s.case) is.cause xs) (sym (ap (λ C. C.pending) released)) is.pending);
+    sender = is.sender;
+    sooner = is.sooner;
+    until = is.until;
+  }
+
+  -- nothing is held for it
+  its_own : AreAwaitedFrom n stop t
+  its_own e held sender =
+      let other = (held_before e held).0 in
+      let here : not (e.src == n) ≡ false = ap (λ b. not b) (eq-eqb e.src n sender) in
+      absurd (cc (here, other))
+
+  -- for the others all is as before
+  from_still : (r : ℕ) → AreAwaitedFrom r stop s → AreAwaitedFrom r stop t
+  from_still r was e held sender = awaited_still e (was e (held_before e held).1 sender)
+
+  pub released_more : (left rest : List ℕ) → left ≡ n ∷ rest → AreReleased left stop s → AreReleased rest stop t
+  released_more left rest is old =
+      awaited_more n stop left rest t is
+      (λ r mine. elim (old r (sym (same_owns s t same r) ∙ mine)) [ inl was ↦ inl (from_still r was) | inr at ↦ inr at ])
+      its_own

@@ -1,0 +1,74 @@
+//! What is held of what undone events had sent is taken back.
+ghost use Rattle.std.specs.Prelude.{ℕ, ◌≡◌, Ok, OnErr, OnOk, false, true};
+ghost use Rattle.tw_shard.specs.Shard.{IsSameShare, core, owns, releasing};
+ghost use Rattle.tw_workers.specs.Work.{AreAwaited, AreAwaitedFrom, IsAtWork, StillKeeps};
+
+use crate::worker::Worker;
+use std::alloc::AllocError;
+use tw_model::OrMemory;
+use tw_shard::Shard;
+
+impl<'a> Worker<'a> {
+    /// Each of its routers takes back what is held for it, where its next events can't send that again: it has
+    /// none pending before the stop, or its first one is not before what is held. The others wait, since they
+    /// may send the same once more.
+    ///
+    /// For want of memory it is broken off, and some routers have taken back.
+    pub(crate) fn release_where_due(&mut self) -> Result<(), AllocError>
+        ensures kept { StillKeeps self.old self.new }
+        ensures awaited { OnOk result (AreAwaited self.new.stop self.new.share.shard) }
+        ensures mail { self.new.share.mail ≡ self.old.share.mail }
+        ensures stop { self.new.stop ≡ self.old.stop }
+    {
+        if self.shard.held_len() == 0 {
+            return Ok(());
+        }
+        for router in self.shard.routers() {
+            if self.is_release_due(router) {
+                self.release_router(router)?;
+            }
+        }
+        Ok(())
+    }
+
+    /// One of its routers takes back what is held for it.
+    fn release_router(&mut self, router: u32) -> Result<(), AllocError>
+        requires own { owns self.old.share.shard router ≡ true }
+        ensures kept { StillKeeps self.old self.new }
+        ensures mail { self.new.share.mail ≡ self.old.share.mail }
+        ensures stop { self.new.stop ≡ self.old.stop }
+        ensures work { IsAtWork self.new.stop self.new.share }
+        ensures same { IsSameShare self.old.share.shard self.new.share.shard }
+        ensures released { OnOk result (releasing 0 self.old.share.shard router ≡ Ok (core 0 self.new.share.shard)) }
+    {
+        release_at(&mut self.shard, router)?;
+        Ok(())
+    }
+
+    /// Whether a router's next events can't send again what is held for it: messages take a tick at least.
+    fn is_release_due(&self, router: u32) -> bool
+        ensures { result ≡ false → AreAwaitedFrom router self.now.stop self.now.share.shard }
+    {
+        let Some(held) = self.shard.held_time(router) else {
+            return false;
+        };
+        match self.shard.pending().first_at(router) {
+            Some(event) if event.time < self.stop => held <= event.time,
+            _ => true,
+        }
+    }
+}
+
+/// One of a shard's routers takes back what is held for it.
+fn release_at(shard: &mut Shard<'_>, router: u32) -> Result<(), AllocError>
+    requires own { owns shard.old router ≡ true }
+    ensures ok { (stop : ℕ) → OnOk result (releasing stop shard.old router ≡ Ok (core stop shard.new)) }
+    ensures err { OnErr result (shard.new ≡ shard.old) }
+    ensures same { IsSameShare shard.old shard.new }
+{
+    match shard.release(router) {
+        Ok(()) => Ok(()),
+        Err(OrMemory::Memory) => Err(AllocError),
+        Err(OrMemory::Fault(_)) => unreachable!(),
+    }
+}
