@@ -4,7 +4,7 @@
     bench.py make NAME [--seed N] > case.spp     one of: hierarchy gadgets mesh limits
     bench.py run [NAME ..] [--seed N] [--events N ..] [--program FILE]
     bench.py threads [NAME ..] [--seed N] [--events N ..] [--workers N ..] [--batch N ..]
-                     [--program FILE]
+                     [--lazy] [--case FILE --stop N] [--program FILE]
 
 `run` prints for each case the bytes read per second, and for each number of events: the stop,
 events handled, seconds, events per second, the greatest memory in use, and memory per event beside
@@ -14,7 +14,8 @@ by proportion. Times are the least of three runs.
 `threads` prints for each case and number of events how long `twarp seq` takes, and for each number
 of workers and each batch how long `twarp run` takes, how many times that of `seq` this is, events
 per second, and the greatest memory. It stops where the two reports differ. Times are the least of
-five runs in turns. Where crates/tw_bench is built (`rt run` there), a further run is counted:
+five runs in turns. With `--lazy` each run is also measured with lazy cancellation; `--case` takes
+a file in place of the cases by name. Where crates/tw_bench is built (`rt run` there), a further run is counted:
 turns of all workers, and events undone for each event that is committed.
 """
 from __future__ import annotations
@@ -32,6 +33,7 @@ from measuring import CRATES, Measured, least, measure, measure_once, parser_of,
 COUNTER = CRATES / "tw_bench/out/tw_bench"
 MOST_STOP = 2**29
 RUNS_IN_TURNS = 5
+LAZY = "--lazy"
 
 
 class Asked(NamedTuple):
@@ -42,6 +44,7 @@ class Asked(NamedTuple):
     events: list[int]
     workers: list[int]
     batches: list[int]
+    lazy: bool
 
 
 def handled(report: str) -> int:
@@ -96,7 +99,7 @@ def counted(case: Path, words: Sequence[str], committed: int) -> str:
         return ""
     with open(case, "rb") as source:
         # The numbers of the stop, the workers and the batch.
-        line = [str(COUNTER), *words[2::2]]
+        line = [str(COUNTER), *words[2:7:2], *(["lazy"] if LAZY in words else [])]
         done = subprocess.run(line, stdin=source, capture_output=True, check=True, text=True)
     turns, _handled, undone = map(int, re.findall(r"\d+", done.stdout))
     return f", {turns} turns, {undone / committed:.3f} undone"
@@ -107,7 +110,8 @@ def lines_of(stop: str, asked: Asked) -> list[list[str]]:
     lines = [["seq", "--stop", stop]]
     for workers in map(str, asked.workers):
         for batch in map(str, asked.batches):
-            lines.append(["run", "--stop", stop, "--workers", workers, "--batch", batch])
+            line = ["run", "--stop", stop, "--workers", workers, "--batch", batch]
+            lines += [line, [*line, LAZY]] if asked.lazy else [line]
     return lines
 
 
@@ -119,9 +123,9 @@ def in_turns(program: str, lines: Sequence[Sequence[str]], case: Path) -> list[M
     return list(map(least, zip(*rounds)))
 
 
-def compare(name: str, case: Path, events: int, asked: Asked) -> None:
+def compare(name: str, case: Path, stop: str, asked: Asked) -> None:
     """Prints how long runs by threads take beside `seq`."""
-    lines = lines_of(find_stop(asked.program, case, events), asked)
+    lines = lines_of(stop, asked)
     runs = in_turns(asked.program, lines, case)
     seq = runs[0]
     count = handled(seq.out)
@@ -139,7 +143,7 @@ def compare(name: str, case: Path, events: int, asked: Asked) -> None:
 def threads(name: str, asked: Asked) -> None:
     with stored(text_of(name, asked.seed)) as case:
         for events in asked.events:
-            compare(name, case, events, asked)
+            compare(name, case, find_stop(asked.program, case, events), asked)
 
 
 def main() -> None:
@@ -148,11 +152,17 @@ def main() -> None:
     parser.add_argument("--events", type=int, nargs="*", default=[10**5, 10**6, 10**7])
     parser.add_argument("--workers", type=int, nargs="*", default=[1, 2, 4])
     parser.add_argument("--batch", type=int, nargs="*", default=[64])
+    parser.add_argument("--lazy", action="store_true")
+    parser.add_argument("--case", type=Path)
+    parser.add_argument("--stop")
     line = parser.parse_args()
     if line.what == "make":
         sys.stdout.write(text_of(line.names[0], line.seed))
         return
-    asked = Asked(line.program, line.seed, line.events, line.workers, line.batch)
+    asked = Asked(line.program, line.seed, line.events, line.workers, line.batch, line.lazy)
+    if line.case:
+        compare(line.case.stem, line.case, line.stop, asked)
+        return
     for name in line.names or MAKERS:
         if line.what == "run":
             run(name, asked)

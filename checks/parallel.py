@@ -10,6 +10,7 @@ workers that wait for one another without end are found by that. A proof can say
 from __future__ import annotations
 
 import tempfile
+from collections import Counter
 from collections.abc import Callable, Sequence
 from pathlib import Path
 from random import Random
@@ -28,7 +29,7 @@ from common import (
 
 # Where they are is known from common.
 from at_scale import gadgets, hierarchy, mesh
-from twarp_tools.case import Case
+from twarp_tools.case import BarScene, Case, Link
 
 WORKERS = (1, 2, 3, 4, 8, 16)
 BATCHES = (1, 64, 4096)
@@ -42,14 +43,34 @@ SMALL_RUNS = 1000
 LARGE_RUNS = 100
 
 
+def barred(draw: Random) -> Case:
+    """The hierarchy in version 2: each link has another delay back, and half of its failures give
+    place to paths that are forbidden and allowed again."""
+    case = hierarchy(draw)
+    case.links = [Link(link.a, link.b, link.delay, draw.randint(1, 20)) for link in case.links]
+    given = Counter(path[0] for path in case.paths)
+    case.scenes = case.scenes[:2000]
+    for _ in range(1000):
+        router, time = draw.randrange(1, 200), draw.randint(50, 100000)
+        place, later = draw.randint(1, given[router]), time + draw.randint(1, 200)
+        case.scenes.append(BarScene("forbid", time, router, place))
+        case.scenes.append(BarScene("allow", later, router, place))
+    return case
+
+
 class Made(NamedTuple):
-    """How a case of the benchmark is made, and a stop that leads to about 10^5 events."""
+    """How a case is made, and a stop that leads to about 10^5 events."""
 
     make: Callable[[Random], Case]
     stop: int
 
 
-MADE = {"hierarchy": Made(hierarchy, 57998), "gadgets": Made(gadgets, 50), "mesh": Made(mesh, 765)}
+MADE = {
+    "hierarchy": Made(hierarchy, 57998),
+    "barred": Made(barred, 65000),
+    "gadgets": Made(gadgets, 50),
+    "mesh": Made(mesh, 765),
+}
 
 
 class Answer(NamedTuple):
@@ -103,7 +124,7 @@ def compare_stored(tally: Tally) -> None:
 
 
 def compare_made(tally: Tally, folder: Path) -> None:
-    """The cases of the benchmark."""
+    """The cases that are made."""
     for name, (make, stop) in MADE.items():
         case = folder / f"{name}.spp"
         case.write_text(str(make(Random(1))))

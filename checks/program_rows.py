@@ -69,8 +69,9 @@ RANGES = {
     "replay": ["1 to 1000000000", "1 to 16"],
 }
 
-# The beginning of a case, of six lines.
+# The beginning of a case, of six lines, in each version.
 TWO_LINKS = "spp 1\nnodes 3\nlink 0 1 3\nlink 1 2 3\npath 1 1 0\npath 2 2 1 0\n"
+TWO_WAYS = "spp 2\nnodes 3\nlink 0 1 3 4\nlink 1 2 3 3\npath 1 1 0\npath 2 2 1 0\n"
 
 # A text, and the line that each command answers to it.
 REFUSED = {
@@ -90,6 +91,39 @@ REFUSED = {
     "spp 1\nnodes 2\nfail 1000000001 0 1\n": "line 3 I11 NoSuchLink",
     TWO_LINKS + "fail 4 0 2\n": "line 7 I11 NoSuchLink",
     TWO_LINKS + "swap 4 2 1 2\n": "line 7 I12 NoSuchPlace",
+}
+
+# Texts refused for what differs between the two versions, and the line that the readers of cases and
+# of replays answer.
+REFUSED_BY_VERSION = {
+    "spp 3\nnodes 1\nend\n": "line 1 X2 Header",
+    "spp\nnodes 1\nend\n": "line 1 X2 Header",
+    "spp 2 \nnodes 1\nend\n": "line 1 X2 Header",
+    "spp 1\nnodes 2\nlink 0 1 3 3\nend\n": "line 3 X3 Word",
+    TWO_LINKS + "forbid 4 2 1\nend\n": "line 7 X3 Word",
+    TWO_LINKS + "allow 4 2 1\nend\n": "line 7 X3 Word",
+    "spp 2\nnodes 2\nlink 0 1 3\nend\n": "line 3 X3 Word",
+    "spp 2\nnodes 2\nlink 0 1 3 3 3\nend\n": "line 3 X3 Word",
+    "spp 2\nnodes 2\nlink 0 1 3 x\nend\n": "line 3 X4 Number",
+    "spp 2\nnodes 2\nlink 0 1 0 3\nend\n": "line 3 I4 Delay",
+    "spp 2\nnodes 2\nlink 0 1 3 0\nend\n": "line 3 I4 Delay",
+    "spp 2\nnodes 2\nlink 0 1 1000001 3\nend\n": "line 3 I4 Delay",
+    "spp 2\nnodes 2\nlink 0 1 3 1000001\nend\n": "line 3 I4 Delay",
+    TWO_WAYS + "forbid 4 2\nend\n": "line 7 X3 Word",
+    TWO_WAYS + "forbid 4 2 1 1\nend\n": "line 7 X3 Word",
+    TWO_WAYS + "allow 4 2\nend\n": "line 7 X3 Word",
+    TWO_WAYS + "allow 4 2 1 1\nend\n": "line 7 X3 Word",
+    TWO_WAYS + "forbid 4 3 1\nend\n": "line 7 I1 Range",
+    TWO_WAYS + "allow 4 3 1\nend\n": "line 7 I1 Range",
+    TWO_WAYS + "forbid 4 0 1\nend\n": "line 7 I12 NoSuchPlace",
+    TWO_WAYS + "allow 4 0 1\nend\n": "line 7 I12 NoSuchPlace",
+    TWO_WAYS + "forbid 4 2 0\nend\n": "line 7 I12 NoSuchPlace",
+    TWO_WAYS + "forbid 4 2 2\nend\n": "line 7 I12 NoSuchPlace",
+    TWO_WAYS + "allow 4 2 2\nend\n": "line 7 I12 NoSuchPlace",
+    TWO_WAYS + "forbid 1000000001 2 2\nend\n": "line 7 I12 NoSuchPlace",
+    TWO_WAYS + "forbid 1000000001 2 1\nend\n": "line 7 I13 Time",
+    TWO_WAYS + "allow 1000000001 2 1\nend\n": "line 7 I13 Time",
+    TWO_WAYS + "forbid 4 2 1\npath 1 1 0\nend\n": "line 8 X5 Order",
 }
 
 # A text that goes on behind a case, and the line that each command whose input is a case answers.
@@ -151,7 +185,7 @@ def stated(text: str) -> bytes:
     """The line of `twarp check` for a case, by counting its lines."""
     lines = [line.split() for line in text.splitlines()]
     of_kind = Counter(line[0] for line in lines)
-    scenes = of_kind["fail"] + of_kind["restore"] + of_kind["swap"]
+    scenes = sum(of_kind[word] for word in ("fail", "restore", "swap", "forbid", "allow"))
     return (
         f"accepted nodes {lines[1][1]} links {of_kind['link']} paths {of_kind['path']} "
         f"scenario {scenes}\n"
@@ -213,7 +247,12 @@ def refused_texts(folder: Path) -> Iterator[Row]:
     """The texts of the tables, each in a file in the folder, and every command that refuses it."""
     of_a_case = [words for words in COMMANDS if words != REPLAY]
     replays = {DISAGREE.read_text() + steps: line for steps, line in REFUSED_STEPS.items()}
-    tables = (REFUSED, COMMANDS), (REFUSED_BEHIND_A_CASE, of_a_case), (replays, [REPLAY])
+    tables = (
+        (REFUSED, COMMANDS),
+        (REFUSED_BY_VERSION, [["check"], REPLAY]),
+        (REFUSED_BEHIND_A_CASE, of_a_case),
+        (replays, [REPLAY]),
+    )
     for number, (texts, commands) in enumerate(tables):
         for place, (text, line) in enumerate(texts.items()):
             file = folder / f"refused-{number}-{place}"

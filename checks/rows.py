@@ -50,3 +50,8 @@ def rows_of(text: str) -> Iterator[Due]:
 def all_rows() -> Iterator[Due]:
     for file in sorted(FOLDER.glob("*.txt")):
         yield from rows_of(file.read_text(encoding="ascii"))
+
+
+def row_of(command: str, source: Path) -> Due:
+    """The first row of a command on this input."""
+    return next(due for due in all_rows() if due.words[0] == command and due.source == source)

@@ -24,6 +24,7 @@ import tools_page
 import tools_relationships
 import tools_sweep
 import tools_tutorial
+import tools_versions
 from common import need, run_tests
 
 MODULES = (
@@ -34,6 +35,7 @@ MODULES = (
     tools_page,
     tools_sweep,
     tools_cases,
+    tools_versions,
     tools_tutorial,
     tools_install,
 )

@@ -32,6 +32,8 @@ STABLE: dict[str, set[Assignment]] = {
     "one-violation": set(),
     "disagree": {((0,), (1, 0), (2, 1, 0)), ((0,), (1, 2, 0), (2, 0))},
     "slow-flap": {((0,), (1, 0), (2, 1, 0)), ((0,), (1, 2, 0), (2, 0))},
+    "forbidden-path": {((0,), (1, 0), (2, 1, 0)), ((0,), (1, 2, 0), (2, 0))},
+    "slow-one-way": {((0,), (1, 0), (2, 1, 0)), ((0,), (1, 2, 0), (2, 0))},
 }
 
 
@@ -42,7 +44,9 @@ def with_lines(text: str, *lines: str) -> str:
 
 def without_link(text: str, a: int, b: int) -> str:
     """The case without a link, the paths over it and its scenario."""
-    hop = re.compile(rf"path .* ({a} {b}|{b} {a})\b|link {a} {b} |(fail|restore|swap) ")
+    hop = re.compile(
+        rf"path .* ({a} {b}|{b} {a})\b|link {a} {b} |(fail|restore|swap|forbid|allow) "
+    )
     return "".join(line for line in text.splitlines(keepends=True) if not hop.match(line))
 
 
@@ -139,6 +143,27 @@ class CasesOfTheLiterature(ToolTest):
             if known != "open":
                 known = f"oscillates from {known[0]} period {known[1]}"
             self.assertEqual(verdicts[every], f"verdict {known}")
+
+    def test_a_path_forbidden_for_a_while_leaves_the_other_assignment(self) -> None:
+        text = case_of("forbidden-path")
+        before, after = ((0,), (1, 0), (2, 1, 0)), ((0,), (1, 2, 0), (2, 0))
+        for stop, paths in (9, before), (12, after), (30, after):
+            with self.subTest(stop=stop):
+                self.assertEqual(self.seq(text, stop)[0], paths)
+        # At 9 router 2 takes its own link, of which router 1 hears 2 ticks later.
+        self.assertEqual(self.seq(text, 30)[1], "verdict quiet 11")
+
+    def test_a_link_that_is_slow_one_way_decides_by_its_direction(self) -> None:
+        # Router 1 has (1 0) at 1, 8, 15, .. and (1 2 0) at 6, 13, .., router 2 (2 0) at 5, 12, ..
+        # and (2 1 0) at 7, 14, ..; the origin hears of (2 0) at 10 first, so all repeats from 11
+        # on, every 7 ticks.
+        text = case_of("slow-one-way")
+        self.assertEqual(self.seq(text, 100)[1], "verdict oscillates from 11 period 7")
+        # The other way round router 2 hears of (1 0) at 2, before the origin's own message.
+        turned = text.replace("link 1 2 6 1", "link 1 2 1 6")
+        self.assertEqual(
+            self.seq(turned, 100), (((0,), (1, 0), (2, 1, 0)), "verdict quiet 2")
+        )
 
     def test_the_page_of_the_cases_says_what_its_commands_say(self) -> None:
         page = (CASES / "README.md").read_text()

@@ -42,9 +42,10 @@ class EveryTool(ToolTest):
         self.assertRegex(done.stderr.decode(), r"^draw: stopped device: .*\n$")
 
 
-# The beginning of a case, and cases with what is repeated up to a limit: a star, a mesh and a
-# chain of links.
+# The beginning of a case, also in version 2, and cases with what is repeated up to a limit: a star,
+# a mesh and a chain of links.
 CASE = "spp 1\nnodes 3\nlink 0 1 1\nlink 1 2 1\n"
+SECOND = "spp 2\nnodes 3\nlink 0 1 1 2\nlink 1 2 1 1\n"
 STAR = "spp 1\nnodes 80\n" + "".join(f"link 0 {node} 1\n" for node in range(1, 65))
 MESH = "spp 1\nnodes 17\n" + "".join(f"link {a} {b} 1\n" for b in range(17) for a in range(b))
 CHAIN = "spp 1\nnodes 33\n" + "".join(f"link {node} {node + 1} 1\n" for node in range(32))
@@ -53,7 +54,7 @@ CHAIN_PATH = " ".join(str(node) for node in range(32, -1, -1))
 # Each fault that a case can have, with its line and a text that has it.
 BAD_CASES = [
     ("X1 Byte", 3, "spp 1\nnodes 3\nlink 0 1 A\nend\n"),
-    ("X2 Header", 1, "spp 2\nnodes 3\nend\n"),
+    ("X2 Header", 1, "spp 3\nnodes 3\nend\n"),
     ("X3 Word", 5, CASE + "links 0 2 1\nend\n"),
     ("X3 Word", 5, CASE + "link 0 2\nend\n"),
     ("X3 Word", 5, CASE + "link 0 2  1\nend\n"),
@@ -83,6 +84,21 @@ BAD_CASES = [
     ("I11 NoSuchLink", 5, CASE + "fail 1 0 2\nend\n"),
     ("I12 NoSuchPlace", 5, CASE + "swap 1 1 1 1\nend\n"),
     ("I13 Time", 5, CASE + "restore 1000000001 1 2\nend\n"),
+    ("X3 Word", 5, CASE + "link 0 2 1 1\nend\n"),
+    ("X3 Word", 5, CASE + "forbid 1 1 1\nend\n"),
+    ("X3 Word", 5, CASE + "allow 1 1 1\nend\n"),
+    ("X3 Word", 5, SECOND + "link 0 2 1\nend\n"),
+    ("X3 Word", 5, SECOND + "forbid 1 1\nend\n"),
+    ("X4 Number", 5, SECOND + "allow 1 1 01\nend\n"),
+    ("X5 Order", 6, SECOND + "path 1 1 0\nlink 0 2 1 1\nend\n"),
+    ("I1 Range", 5, SECOND + "forbid 1 3 1\nend\n"),
+    ("I3 TwiceLink", 5, SECOND + "link 2 1 1 1\nend\n"),
+    ("I4 Delay", 5, SECOND + "link 0 2 0 1\nend\n"),
+    ("I4 Delay", 5, SECOND + "link 0 2 1 1000001\nend\n"),
+    ("I10 TooMany", 4102, SECOND + "path 1 1 0\n" + "forbid 1 1 1\n" * 4097),
+    ("I12 NoSuchPlace", 5, SECOND + "forbid 1 0 1\nend\n"),
+    ("I12 NoSuchPlace", 6, SECOND + "path 1 1 0\nallow 1 1 2\nend\n"),
+    ("I13 Time", 6, SECOND + "path 1 1 0\nforbid 1000000001 1 1\nend\n"),
 ]
 
 

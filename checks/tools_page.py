@@ -12,6 +12,7 @@ from pathlib import Path
 from typing import Any
 
 import browser
+from rows import row_of
 from tools_common import CASES, ToolTest, case_of_a_late_failure, read, report_of, tool, twarp
 from twarp_tools.layout import distance, lay_out
 from twarp_tools.palette import DARK, LIGHT, PLACES
@@ -45,7 +46,8 @@ def states_at_the_end(data: Json) -> dict[int, Json]:
     states = {router["router"]: router["opening"] for router in data["routers"]}
     for event in data["events"]:
         state = states[event["router"]]
-        state |= {name: event[name] for name in ("counters", "rib", "order") if name in event}
+        changed = ("counters", "rib", "order", "barred")
+        state |= {name: event[name] for name in changed if name in event}
         if "row" in event:
             state["rows"] = [
                 event["row"] if row[0] == event["row"][0] else row for row in state["rows"]
@@ -338,6 +340,20 @@ class PageInBrowser(ToolTest):
         self.browser.run("choose(2)")
         self.browser.run("goTo(4)")
         self.assertRegex(self.words("table"), r"1\s+3\s+down\s+0\s+no path")
+
+    def test_a_forbidden_path_and_a_delay_for_each_direction(self) -> None:
+        report = row_of("seq", CASES / "forbidden-path.spp").written
+        self.browser.open(self.make("forbidden-path", report), 1280)
+        self.browser.run("choose(2)")
+        for time, now in (8, "in use"), (9, "offered, forbidden"), (12, "forbidden"), (20, ""):
+            self.browser.run(f"goTo(run.stops.indexOf({time}))")
+            self.assertRegex(self.words("table"), rf"1st\s+\(2 1 0\)[ \t]*{now}\n")
+        self.assertRegex(self.words("table"), r"0\s+5\s+up[^\n]*\n1\s+2\s+up")
+        self.browser.run("choose(1)")
+        self.assertRegex(self.words("table"), r"0\s+1\s+up[^\n]*\n2\s+1\s+up")
+        delays = "[...document.querySelectorAll('#network .delay')].map((text) => text.textContent)"
+        self.assertEqual(self.browser.run(delays), ["1", "5", "1", "2"])
+        self.assertEqual(self.browser.run(OVERLAPS), [])
 
     def test_a_click_chooses_a_router_or_a_time(self) -> None:
         self.browser.open(self.make("bad-gadget", report_of("bad-gadget", 20)), 1280)

@@ -21,15 +21,31 @@ GREATEST_TIME = 1_000_000_000
 
 ORIGIN = 0
 
+# The versions of the text, by its first line.
+VERSIONS = {"spp 1": 1, "spp 2": 2}
+
 
 @dataclass(frozen=True, slots=True)
 class Link:
+    """A link with its delays: from `a` to `b`, and `back` from `b` to `a`, which is the same where none is given."""
+
     a: int
     b: int
     delay: int
+    back: int = 0
 
-    def __str__(self) -> str:
-        return f"link {self.a} {self.b} {self.delay}"
+    def __post_init__(self) -> None:
+        if not self.back:
+            object.__setattr__(self, "back", self.delay)
+
+    @property
+    def is_even(self) -> bool:
+        """Whether both directions have one delay, as version 1 says it."""
+        return self.delay == self.back
+
+    def line(self, version: int) -> str:
+        delays = f"{self.delay}" if version == 1 else f"{self.delay} {self.back}"
+        return f"link {self.a} {self.b} {delays}"
 
 
 @dataclass(frozen=True, slots=True)
@@ -58,21 +74,46 @@ class SwapScene:
         return f"swap {self.time} {self.router} {self.first} {self.second}"
 
 
-Scene = LinkScene | SwapScene
+@dataclass(frozen=True, slots=True)
+class BarScene:
+    """A scenario line by which a router's path is forbidden or allowed again.
+
+    The place, from 1, is that among the paths given for the router, whatever changed places in its order.
+    """
+
+    word: str
+    time: int
+    router: int
+    place: int
+
+    def __str__(self) -> str:
+        return f"{self.word} {self.time} {self.router} {self.place}"
+
+
+Scene = LinkScene | SwapScene | BarScene
 
 
 @dataclass
 class Case:
+    """A case. One that was not read has no version: it is written in the first one that can say it."""
+
     nodes: int = 0
     links: list[Link] = field(default_factory=list)
     paths: list[Nodes] = field(default_factory=list)
     scenes: list[Scene] = field(default_factory=list)
+    version: int | None = None
+
+    def first_version(self) -> int:
+        """The first version that can say the case."""
+        is_first = all(link.is_even for link in self.links)
+        return 1 if is_first and not any(isinstance(scene, BarScene) for scene in self.scenes) else 2
 
     def delays(self) -> list[dict[int, int]]:
-        """For each router its neighbours in ascending order, each with the delay of the link to it."""
+        """For each router its neighbours in ascending order, each with the delay of what is sent to it."""
         rows: list[dict[int, int]] = [{} for _ in range(self.nodes)]
         for link in self.links:
-            rows[link.a][link.b] = rows[link.b][link.a] = link.delay
+            rows[link.a][link.b] = link.delay
+            rows[link.b][link.a] = link.back
         return [dict(sorted(row.items())) for row in rows]
 
     def orders(self) -> list[list[Nodes]]:
@@ -88,7 +129,10 @@ class Case:
         return {path: number for number, path in enumerate([(), (ORIGIN,), *self.paths])}
 
     def __str__(self) -> str:
-        lines = ["spp 1", f"nodes {self.nodes}", *self.links, *map(path_line, self.paths), *self.scenes, "end"]
+        version = self.version or self.first_version()
+        links = (link.line(version) for link in self.links)
+        paths = map(path_line, self.paths)
+        lines = [f"spp {version}", f"nodes {self.nodes}", *links, *paths, *self.scenes, "end"]
         return "".join(f"{line}\n" for line in lines)
 
 
@@ -115,10 +159,12 @@ KINDS = {
     "fail": Kind.SCENE,
     "restore": Kind.SCENE,
     "swap": Kind.SCENE,
+    "forbid": Kind.SCENE,
+    "allow": Kind.SCENE,
     "end": Kind.END,
 }
-# How many words a line may have, by its first word.
-WORD_COUNTS = {
+# How many words a line may have, by its first word, in each version.
+FIRST_COUNTS: dict[str, Container[int]] = {
     "nodes": {2},
     "link": {4},
     "path": range(3, sys.maxsize),
@@ -127,6 +173,7 @@ WORD_COUNTS = {
     "swap": {5},
     "end": {1},
 }
+WORD_COUNTS = {1: FIRST_COUNTS, 2: FIRST_COUNTS | {"link": {5}, "forbid": {4}, "allow": {4}}}
 OTHER_BYTE = re.compile(r"[^ a-z0-9]")
 A_NUMBER = re.compile(r"0|[1-9][0-9]{0,9}")
 
@@ -147,6 +194,7 @@ class CaseReader:
 
     def __init__(self) -> None:
         self.case = Case()
+        self.version = 0
         self.kind = 0
         self.links: set[frozenset[int]] = set()
         self.link_counts: list[int] = []
@@ -161,7 +209,9 @@ class CaseReader:
         fault = next(self.faults(line), None)
         if fault:
             raise Refused(f"refused line {line.number} {fault}")
-        if line.number > 1:
+        if line.number == 1:
+            self.version = self.case.version = VERSIONS[line.text]
+        else:
             word, *rest = line.words
             self.kind = KINDS[word]
             self.add(word, list(map(int, rest)))
@@ -171,7 +221,7 @@ class CaseReader:
         if line.number == 1:
             yield from self.header_faults(line)
             return
-        yield from word_faults(line, WORD_COUNTS)
+        yield from word_faults(line, WORD_COUNTS[self.version])
         word, *rest = line.words
         kind = KINDS[word]
         if (kind == Kind.NODES) != (line.number == 2) or (kind <= Kind.PATH and kind < self.kind):
@@ -184,7 +234,7 @@ class CaseReader:
     def header_faults(line: Line) -> Iterator[str]:
         if OTHER_BYTE.search(line.text):
             yield "X1 Byte"
-        if line.text != "spp 1":
+        if line.text not in VERSIONS:
             yield "X2 Header"
         if not line.is_ended:
             yield "X6 End"
@@ -194,23 +244,25 @@ class CaseReader:
             case "nodes", [nodes]:
                 if not 1 <= nodes <= MOST_ROUTERS:
                     yield "I1 Range"
-            case "link", [a, b, delay]:
-                yield from self.link_faults(a, b, delay)
+            case "link", [a, b, *delays]:
+                yield from self.link_faults(a, b, delays)
             case "path", [owner, *nodes]:
                 yield from self.path_faults(owner, tuple(nodes))
             case "swap", [time, router, first, second]:
                 yield from self.swap_faults(time, router, first, second)
             case "fail" | "restore", [time, a, b]:
                 yield from self.link_scene_faults(time, a, b)
+            case "forbid" | "allow", [time, router, place]:
+                yield from self.bar_faults(time, router, place)
 
-    def link_faults(self, a: int, b: int, delay: int) -> Iterator[str]:
+    def link_faults(self, a: int, b: int, delays: list[int]) -> Iterator[str]:
         if max(a, b) >= self.case.nodes:
             yield "I1 Range"
         if a == b:
             yield "I2 SelfLink"
         if frozenset((a, b)) in self.links:
             yield "I3 TwiceLink"
-        if not 1 <= delay <= GREATEST_DELAY:
+        if not all(1 <= delay <= GREATEST_DELAY for delay in delays):
             yield "I4 Delay"
         if max(self.link_counts[a], self.link_counts[b]) == MOST_LINKS:
             yield "I10 TooMany"
@@ -252,14 +304,25 @@ class CaseReader:
         if time > GREATEST_TIME:
             yield "I13 Time"
 
+    def bar_faults(self, time: int, router: int, place: int) -> Iterator[str]:
+        if router >= self.case.nodes:
+            yield "I1 Range"
+        if len(self.case.scenes) == MOST_SCENES:
+            yield "I10 TooMany"
+        # The origin's only path is not given.
+        if router == ORIGIN or not 1 <= place <= self.path_counts[router]:
+            yield "I12 NoSuchPlace"
+        if time > GREATEST_TIME:
+            yield "I13 Time"
+
     def add(self, word: str, numbers: list[int]) -> None:
         match word, numbers:
             case "nodes", [nodes]:
                 self.case.nodes = nodes
                 self.link_counts = [0] * nodes
                 self.path_counts = [1 if router == ORIGIN else 0 for router in range(nodes)]
-            case "link", [a, b, delay]:
-                self.case.links.append(Link(a, b, delay))
+            case "link", [a, b, *delays]:
+                self.case.links.append(Link(a, b, *delays))
                 self.links.add(frozenset((a, b)))
                 self.link_counts[a] += 1
                 self.link_counts[b] += 1
@@ -271,6 +334,8 @@ class CaseReader:
                 self.case.scenes.append(SwapScene(time, router, first, second))
             case "fail" | "restore", [time, a, b]:
                 self.case.scenes.append(LinkScene(word, time, a, b))
+            case "forbid" | "allow", [time, router, place]:
+                self.case.scenes.append(BarScene(word, time, router, place))
 
 
 def read_case(text: bytes) -> Case:

@@ -21,7 +21,8 @@ Draws a case as Graphviz text on standard output; dot -Tsvg makes the picture.
 
 Each router is a box with its permitted paths, the best at the top; the number at a link is its delay. With a report the
 path that a router uses is coloured by its place (blue is the 1st, orange the 2nd), and so is the arrow to the router
-that it goes to next. Links that are down at the report's bound are dashed."""
+that it goes to next. Links that are down at the report's bound are dashed, and paths that are forbidden then are struck
+out."""
 EXAMPLE = """\
 examples:
   tools/draw cases/disagree.spp | dot -Tsvg > disagree.svg
@@ -73,6 +74,13 @@ def distances(case: Case) -> list[int]:
     return [found.get(node, case.nodes) for node in range(case.nodes)]
 
 
+def delay_words(link: Link) -> str:
+    """The link's delay, or that of each direction on a line of its own."""
+    if link.is_even:
+        return str(link.delay)
+    return f"{link.a} to {link.b}: {link.delay}\\n{link.b} to {link.a}: {link.back}"
+
+
 @dataclass
 class Drawing:
     """What is to be drawn: at most so many paths at a router, and those of one router only where that is asked for."""
@@ -111,7 +119,10 @@ class Drawing:
                 continue
             place = place_of(number)
             ground = f' BGCOLOR="{place.fill}"' if is_coloured else ""
-            yield PATH_ROW.format(ground=ground, ink=place.ink if is_coloured else "#222222", words=write_path(path))
+            ink, words = place.ink if is_coloured else "#222222", write_path(path)
+            if path in self.standing.barred:
+                ink, words = "#c1121f", f"<S>{words}</S>"
+            yield PATH_ROW.format(ground=ground, ink=ink, words=words)
         more = sum(path != rib for path in order[self.most :]) if self.only is None else 0
         if more:
             yield PATH_ROW.format(ground="", ink="#777777", words=f"and {more} more")
@@ -127,7 +138,7 @@ class Drawing:
         """
         tail, head = sorted((link.a, link.b), key=lambda node: (-depth[node], node))
         is_level, is_down = depth[tail] == depth[head], frozenset((tail, head)) in self.standing.down
-        words = f"{link.delay}{' down' if is_down else ''}"
+        words = f"{delay_words(link)}{' down' if is_down else ''}"
         label = f'xlabel="{words}", ' if is_level else f'label=" {words} ", '
         level = ", constraint=false" if is_level else ""
         used = [(hop, arrow) for hop, arrow in (((tail, head), "forward"), ((head, tail), "back")) if hop in uses]

@@ -68,9 +68,11 @@ class DelayDraws:
         return [drawn(self.within, seed, "delay", *ends) for ends in self.ends]
 
     def change(self, case: Case, values: Sequence[int]) -> Case:
-        """The case with these delays."""
+        """The case with these delays, each in both directions of its link."""
         delays = dict(zip(self.ends, values))
-        links = [Link(link.a, link.b, delays.get(ends_of(link), link.delay)) for link in case.links]
+        links = [
+            Link(link.a, link.b, delays[ends_of(link)]) if ends_of(link) in delays else link for link in case.links
+        ]
         return replace(case, links=links)
 
 

@@ -4,7 +4,7 @@ from __future__ import annotations
 import re
 from dataclasses import dataclass
 
-from twarp_tools.case import Case, LinkScene, SwapScene
+from twarp_tools.case import BarScene, Case, LinkScene, SwapScene
 from twarp_tools.lines import NUMBER, PATH, Nodes, read_path, write_path
 
 
@@ -30,13 +30,27 @@ class Swap:
 
 
 @dataclass(frozen=True, slots=True)
+class Forbid:
+    """The path at this place among those given for the router, from 1, is forbidden."""
+
+    place: int
+
+
+@dataclass(frozen=True, slots=True)
+class Allow:
+    """The path at this place among those given for the router, from 1, is allowed again."""
+
+    place: int
+
+
+@dataclass(frozen=True, slots=True)
 class Update:
     path: Nodes
     session: int
 
 
-Body = Start | Fail | Restore | Swap | Update
-CLASSES = (Start, Fail, Restore, Swap, Update)
+Body = Start | Fail | Restore | Swap | Forbid | Allow | Update
+CLASSES = (Start, Fail, Restore, Swap, Forbid, Allow, Update)
 
 
 @dataclass(frozen=True, slots=True)
@@ -57,6 +71,10 @@ class Event:
                 rest = f"restore {peer} {self.seq}"
             case Swap(first, second):
                 rest = f"swap {self.seq} {first} {second}"
+            case Forbid(place):
+                rest = f"forbid {self.seq} {place}"
+            case Allow(place):
+                rest = f"allow {self.seq} {place}"
             case Update(path, session):
                 rest = f"update {self.src} {self.seq} {session} {write_path(path)}"
         return f"event {self.time} {self.dst} {rest}"
@@ -71,6 +89,8 @@ class Event:
                 body = (peer,)
             case Swap(first, second):
                 body = (first, second)
+            case Forbid(place) | Allow(place):
+                body = (place,)
             case Update(path, session):
                 body = (path_numbers[path], session)
         return (self.time, self.dst, CLASSES.index(type(self.body)), self.src, self.seq, *body)
@@ -96,6 +116,10 @@ def read_event(text: str) -> Event | None:
             return Event(time, dst, dst, seq, Restore(peer))
         case "swap", [seq, first, second], None:
             return Event(time, dst, dst, seq, Swap(first, second))
+        case "forbid", [seq, place], None:
+            return Event(time, dst, dst, seq, Forbid(place))
+        case "allow", [seq, place], None:
+            return Event(time, dst, dst, seq, Allow(place))
         case "update", [src, seq, session], str(path):
             return Event(time, dst, src, seq, Update(read_path(path), session))
     return None
@@ -112,4 +136,7 @@ def opening_events(case: Case) -> list[Event]:
                 events += [Event(time, a, a, seq, Restore(b)), Event(time, b, b, seq, Restore(a))]
             case SwapScene(time, router, first, second):
                 events.append(Event(time, router, router, seq, Swap(first, second)))
+            case BarScene(word, time, router, place):
+                body = Forbid(place) if word == "forbid" else Allow(place)
+                events.append(Event(time, router, router, seq, body))
     return events

@@ -1,7 +1,7 @@
 """The drawing of a network in view: where its routers stand, and where its words do."""
 from __future__ import annotations
 
-from collections.abc import Iterator
+from collections.abc import Iterator, Sequence
 
 from twarp_tools.case import ORIGIN, Case
 from twarp_tools.lanes import View
@@ -17,6 +17,8 @@ ROOMY = (135.0, 112.0, 60.0, 40.0)
 CLOSE = (86.0, 54.0, 30.0, 30.0)
 # Parts of a link's way at which its delay may be written, the best first, and how far from other words it should be.
 LABEL_PARTS = (0.5, 0.44, 0.56, 0.38, 0.62, 0.32, 0.68, 0.26, 0.74)
+# The same where each direction has a delay of its own, which is written nearer to the end that sends.
+END_PARTS = ((0.34, 0.28, 0.4, 0.24), (0.66, 0.72, 0.6, 0.76))
 LABEL_ROOM = 32.0
 # How far below a router, or above it, the middle of its path's words is.
 WORDS_ASIDE = (25.0, -25.0)
@@ -52,20 +54,25 @@ class NetworkDrawing:
         rows = ([self.points[peer] for peer in row] for row in neighbours)
         self.words = [words_of(point, row) for point, row in zip(self.points, rows)]
 
-    def label_parts(self) -> Iterator[float]:
-        """For each link at which part of its way its delay is to be written: near the middle, where there is room."""
+    def label_parts(self) -> Iterator[list[float]]:
+        """For each link at which parts of its way its delay, or that of each direction, is to be written."""
         if not self.has_words:
-            yield from (0.5 for _ in self.links)
+            yield from ([0.5] for _ in self.links)
             return
         places = {router: point for router, point in zip(self.routers, self.points)}
         taken = [*self.points, *self.words]
         for link in self.links:
-            a, b = places[link.a], places[link.b]
-            spots = [point_between(a, b, part) for part in LABEL_PARTS]
-            rooms = [min(LABEL_ROOM, *(distance(spot, other) for other in taken)) for spot in spots]
-            best = rooms.index(max(rooms))
-            taken.append(spots[best])
-            yield LABEL_PARTS[best]
+            ways = [LABEL_PARTS] if link.is_even else END_PARTS
+            yield [self.label_part(places[link.a], places[link.b], parts, taken) for parts in ways]
+
+    @staticmethod
+    def label_part(a: Point, b: Point, parts: Sequence[float], taken: list[Point]) -> float:
+        """The first of these parts of the way where there is the most room, which is taken then."""
+        spots = [point_between(a, b, part) for part in parts]
+        rooms = [min(LABEL_ROOM, *(distance(spot, other) for other in taken)) for spot in spots]
+        best = rooms.index(max(rooms))
+        taken.append(spots[best])
+        return parts[best]
 
     def json(self) -> Json:
         right, bottom = max(point.x for point in self.points), max(point.y for point in self.points)
@@ -73,5 +80,7 @@ class NetworkDrawing:
             "width": round(right + 2 * self.left),
             "height": round(bottom + 2 * self.top),
             "has_words": self.has_words,
-            "links": [[link.a, link.b, link.delay, part] for link, part in zip(self.links, self.label_parts())],
+            "links": [
+                [link.a, link.b, link.delay, link.back, parts] for link, parts in zip(self.links, self.label_parts())
+            ],
         }

@@ -6,18 +6,20 @@ from collections import Counter
 from dataclasses import dataclass, field
 
 from twarp_tools.case import ORIGIN, Case
-from twarp_tools.event import Event, Fail, Restore, Start, Swap, Update
+from twarp_tools.event import Allow, Event, Fail, Forbid, Restore, Start, Swap, Update
 from twarp_tools.lines import Nodes
 from twarp_tools.report import RouterLine
 
 
 @dataclass
 class Router:
-    """A router's state. `delays` has its neighbours in ascending order."""
+    """A router's state. `delays` has its neighbours in ascending order, `given` its paths as they were given."""
 
     node: int
     delays: dict[int, int]
+    given: tuple[Nodes, ...]
     order: list[Nodes]
+    barred: set[Nodes] = field(default_factory=set)
     rib: Nodes = ()
     heard: dict[int, Nodes] = field(default_factory=dict)
     down: set[int] = field(default_factory=set)
@@ -43,6 +45,12 @@ class Router:
                 order, i, j = self.order, first - 1, second - 1
                 order[i], order[j] = order[j], order[i]
                 return self.settle(event.time)
+            case Forbid(place) if self.given[place - 1] not in self.barred:
+                self.barred.add(self.given[place - 1])
+                return self.settle(event.time)
+            case Allow(place) if self.given[place - 1] in self.barred:
+                self.barred.remove(self.given[place - 1])
+                return self.settle(event.time)
             case Update(_, session) if event.src in self.down or session != self.sessions[event.src]:
                 self.dropped += 1
             case Update(path):
@@ -63,7 +71,8 @@ class Router:
     def best(self) -> Nodes:
         if self.node == ORIGIN:
             return (ORIGIN,)
-        return next((path for path in self.order if self.heard.get(path[1]) == path[1:]), ())
+        allowed = (path for path in self.order if path not in self.barred)
+        return next((path for path in allowed if self.heard.get(path[1]) == path[1:]), ())
 
     def update(self, peer: int, time: int) -> Event:
         seq = self.sent
@@ -76,11 +85,11 @@ class Router:
     def copy(self) -> Router:
         """A router that later events of this one leave as it is."""
         other = copy.copy(self)
-        other.order, other.heard = self.order.copy(), self.heard.copy()
+        other.order, other.barred, other.heard = self.order.copy(), self.barred.copy(), self.heard.copy()
         other.down, other.sessions = self.down.copy(), self.sessions.copy()
         return other
 
 
 def opening_routers(case: Case) -> list[Router]:
     rows = zip(case.delays(), case.orders())
-    return [Router(node, delays, order) for node, (delays, order) in enumerate(rows)]
+    return [Router(node, delays, tuple(order), order) for node, (delays, order) in enumerate(rows)]

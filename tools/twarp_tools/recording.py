@@ -4,7 +4,7 @@ from __future__ import annotations
 from typing import Any
 
 from twarp_tools.case import Case
-from twarp_tools.event import Event, Fail, Restore, Swap, Update
+from twarp_tools.event import Allow, Event, Fail, Forbid, Restore, Swap, Update
 from twarp_tools.lanes import View
 from twarp_tools.lines import write_path
 from twarp_tools.protocol import Router, opening_routers
@@ -43,6 +43,8 @@ class Recording:
             made["rib"] = self.paths[after.rib]
         if before.order != after.order:
             made["order"] = self.order(after)
+        if before.barred != after.barred:
+            made["barred"] = self.barred(after)
         if (peer := peer_of(event)) is not None:
             made["row"] = self.row(after, peer)
         return made
@@ -50,13 +52,22 @@ class Recording:
     def state(self, router: Router) -> Json:
         """A router's whole state."""
         rows = [self.row(router, peer) for peer in router.delays]
-        return {"rib": self.paths[router.rib], "order": self.order(router), "rows": rows, "counters": counters(router)}
+        return {
+            "rib": self.paths[router.rib],
+            "order": self.order(router),
+            "barred": self.barred(router),
+            "rows": rows,
+            "counters": counters(router),
+        }
 
     def order(self, router: Router) -> list[int]:
         return [self.paths[path] for path in router.order]
 
+    def barred(self, router: Router) -> list[int]:
+        return sorted(self.paths[path] for path in router.barred)
+
     def row(self, router: Router, peer: int) -> list[int]:
-        """A neighbour, the delay of the link, whether it is up, its session, and the path heard last."""
+        """A neighbour, the delay to it, whether the link is up, its session, and the path heard last."""
         heard = self.paths[router.heard.get(peer, ())]
         return [peer, router.delays[peer], int(peer not in router.down), router.sessions[peer], heard]
 
@@ -101,6 +112,10 @@ def told(event: Event, before: Router, after: Router) -> str:
             return f"has the link to {peer} again"
         case Swap(first, second):
             return f"exchanges places {first} and {second} of its order"
+        case Forbid(place):
+            return f"may not use {write_path(after.given[place - 1])} from now on"
+        case Allow(place):
+            return f"may use {write_path(after.given[place - 1])} again"
         case Update(path) if after.dropped > before.dropped:
             why = "since the link is down" if event.src in after.down else "which is of an earlier session"
             return f"drops {write_path(path)} from {event.src}, {why}"

@@ -8,7 +8,7 @@ from xml.etree.ElementTree import Element
 
 from twarp_tools.axis import TimeAxis, fit
 from twarp_tools.case import Case
-from twarp_tools.event import Event, Fail, Restore, Start, Swap
+from twarp_tools.event import Allow, Event, Fail, Forbid, Restore, Start, Swap
 from twarp_tools.lanes import TOP, Lanes, Sample, View, draw_legend, sample_box, sample_line
 from twarp_tools.lines import Nodes, write_path
 from twarp_tools.palette import PLACES, place_of
@@ -16,13 +16,18 @@ from twarp_tools.report import Oscillates, Quiet, Report
 from twarp_tools.run import Change, Fate, Message, Run
 from twarp_tools.svg import Picture, add, clipped
 
-# Beyond so many failures and repairs what happens to a link stands in tooltips alone.
+# Beyond so many events of the scenario what happens to a link or a path stands in tooltips alone.
 MOST_NOTES = 16
 LETTER_WIDTH = 6.4
 # How wide the bar of a path is that was given up at the time at which it was taken.
 MOMENT = 4.0
 # How far the bars of a run that is at rest go on beyond its last event.
 REST = 36.0
+# How far below a router's bar the time in which a path is forbidden is drawn, how far apart those of several paths are,
+# and how many stand below one another; further ones share the last place.
+BAN_BELOW = 7.0
+BAN_STEP = 6.0
+MOST_BANS = 3
 
 MESSAGES = {
     "message": "message",
@@ -63,6 +68,64 @@ def bars_of(run: Run) -> Iterator[Bar]:
         yield Bar(change.router, change.time, None, change.path)
 
 
+@dataclass(frozen=True, slots=True)
+class Ban:
+    """The time in which a path is forbidden at a router; `end` is None where it stays so until the run's end.
+
+    At `level`, from 0, it is drawn: no two of a router that meet have the same one.
+    """
+
+    router: int
+    path: Nodes
+    start: int
+    end: int | None
+    level: int
+
+    def is_seen(self, view: View) -> bool:
+        return self.router in view.shown and view.meets(self.start, view.last if self.end is None else self.end)
+
+    @property
+    def tooltip(self) -> str:
+        until = "on" if self.end is None else f"to {self.end}"
+        return f"router {self.router}: path {write_path(self.path)} forbidden from {self.start} {until}"
+
+
+class Bans:
+    """What the scenario of a run forbids and allows."""
+
+    def __init__(self, case: Case, run: Run):
+        self.given = case.orders()
+        self.all: list[Ban] = []
+        # The level at which each event that forbids or allows is drawn.
+        self.levels: dict[Event, int] = {}
+        # For each router the paths forbidden now, by their levels, each with the time from which on it is.
+        self.now: dict[int, dict[int, tuple[Nodes, int]]] = {}
+        for scene in run.scenes:
+            self.take(scene)
+        for router, row in self.now.items():
+            self.all += [Ban(router, path, start, None, level) for level, (path, start) in row.items()]
+
+    def path(self, scene: Event) -> Nodes:
+        """The path that an event forbids or allows."""
+        assert isinstance(scene.body, (Forbid, Allow)), "only these name a path"
+        return self.given[scene.dst][scene.body.place - 1]
+
+    def take(self, scene: Event) -> None:
+        if not isinstance(scene.body, (Forbid, Allow)):
+            return
+        path, row = self.path(scene), self.now.setdefault(scene.dst, {})
+        level = next((level for level, (known, _) in row.items() if known == path), None)
+        if level is None:
+            self.levels[scene] = next(level for level in range(len(row) + 1) if level not in row)
+            if isinstance(scene.body, Forbid):
+                row[self.levels[scene]] = path, scene.time
+            return
+        self.levels[scene] = level
+        if isinstance(scene.body, Allow):
+            _, start = row.pop(level)
+            self.all.append(Ban(scene.dst, path, start, scene.time, level))
+
+
 def last_time(report: Report) -> int:
     """Where the picture of a whole run ends: at its last event where nothing is under way then, else at its bound."""
     if isinstance(report.verdict, Quiet):
@@ -84,6 +147,8 @@ class RunPicture:
             if message.event.dst in view.shown and view.meets(message.sent, message.event.time)
         ]
         self.scenes = [scene for scene in run.scenes if scene.dst in view.shown and view.meets(scene.time, scene.time)]
+        self.known_bans = Bans(case, run)
+        self.bans = [ban for ban in self.known_bans.all if ban.is_seen(view)]
         self.lanes = Lanes(view)
         self.axis = self.fit_axis()
         is_at_rest = isinstance(report.verdict, Quiet) and view.last >= last_time(report)
@@ -97,7 +162,7 @@ class RunPicture:
         return fit(first, last, self.lanes.left, len(moments), spans)
 
     def draw(self, title: str, subtitle: str) -> str:
-        self.view.refuse_crowd(len(self.bars) + len(self.messages) + len(self.scenes))
+        self.view.refuse_crowd(len(self.bars) + len(self.messages) + len(self.scenes) + len(self.bans))
         picture = Picture(title, subtitle)
         self.draw_onto(picture.root, picture.root, picture.root)
         right = max(self.right, 640.0)
@@ -114,6 +179,8 @@ class RunPicture:
             self.draw_message(area, message)
         for bar in self.bars:
             self.draw_bar(area, bar)
+        for ban in self.bans:
+            self.draw_ban(area, ban)
         for scene in self.scenes:
             self.draw_scene(area, scene)
 
@@ -166,6 +233,16 @@ class RunPicture:
             else:
                 add(group, "text", words, class_="path quiet", **at)
 
+    def ban_height(self, router: int, level: int) -> float:
+        """Where a path's time of being forbidden is drawn, below the router's bar."""
+        return self.lanes.y(router) + self.lanes.bar / 2 + BAN_BELOW + BAN_STEP * min(level, MOST_BANS - 1)
+
+    def draw_ban(self, parent: Element, ban: Ban) -> None:
+        start = self.axis.x(max(ban.start, self.view.first))
+        end = self.right if ban.end is None or ban.end > self.view.last else self.axis.x(ban.end)
+        y = self.ban_height(ban.router, ban.level)
+        add(parent, "line", "", ban.tooltip, class_="ban", x1=start, y1=y, x2=end, y2=y)
+
     def draw_message(self, parent: Element, message: Message) -> None:
         event = message.event
         x1, x2, here = self.axis.x(message.sent), self.axis.x(event.time), self.lanes.y(event.dst)
@@ -187,8 +264,24 @@ class RunPicture:
             case Swap(first, second):
                 tooltip = f"{scene.time}: router {scene.dst} exchanges places {first} and {second} of its order"
                 draw_swap(add(parent, "g", "", tooltip), x, y - self.lanes.bar / 2 - 7)
+            case Forbid() | Allow():
+                self.draw_bar_scene(parent, scene, x)
             case _:
                 draw_start(add(parent, "g", "", f"{scene.time}: start"), x - 5, y)
+
+    def draw_bar_scene(self, parent: Element, scene: Event, x: float) -> None:
+        """A mark where a path is forbidden or allowed. Words stand at the highest one of those that forbid alone."""
+        path, level = write_path(self.known_bans.path(scene)), self.known_bans.levels[scene]
+        y = self.ban_height(scene.dst, level)
+        words, draw = ("forbidden", draw_forbid) if isinstance(scene.body, Forbid) else ("allowed", draw_allow)
+        group = add(parent, "g", "", f"{scene.time}: path {path} is {words} at router {scene.dst}")
+        draw(group, x, y)
+        if draw is draw_forbid and level == 0 and len(self.scenes) <= MOST_NOTES:
+            note = f"{path} {words}"
+            # At the end of the picture the words stand before the mark.
+            is_last = x + 8 + LETTER_WIDTH * len(note) > self.right
+            at = {"x": x - 8, "text_anchor": "end"} if is_last else {"x": x + 8}
+            add(group, "text", note, class_="note failnote", y=y + 15, **at)
 
     def draw_link_scene(self, parent: Element, scene: Event, x: float, peer: int) -> None:
         """A mark at this end of a link, and once for both ends the link between them and what happens to it."""
@@ -220,6 +313,8 @@ class RunPicture:
         entries += [(name, sample_line(class_=look)) for look, name in MESSAGES.items() if look in looks]
         bodies = {type(scene.body) for scene in self.scenes}
         entries += [(name, draw) for body, name, draw in SCENES if body in bodies]
+        if self.bans:
+            entries.append(("while it is forbidden", sample_line(class_="ban")))
         if isinstance(self.verdict, Oscillates):
             entries.append(("the period found", sample_box(class_="period")))
         if self.axis.folds:
@@ -252,9 +347,19 @@ def draw_swap(parent: Element, x: float, y: float) -> None:
     add(parent, "path", class_="swap", d=f"M{x:.1f} {y - 6:.1f}l5 6l-5 6l-5 -6z")
 
 
+def draw_forbid(parent: Element, x: float, y: float) -> None:
+    add(parent, "rect", class_="forbid", x=x - 4, y=y - 4, width=8, height=8)
+
+
+def draw_allow(parent: Element, x: float, y: float) -> None:
+    add(parent, "rect", class_="allow", x=x - 4, y=y - 4, width=8, height=8)
+
+
 SCENES = [
     (Start, "start", draw_start),
     (Fail, "link fails", draw_failure),
     (Restore, "link is repaired", draw_repair),
     (Swap, "ranks exchanged", draw_swap),
+    (Forbid, "path forbidden", draw_forbid),
+    (Allow, "path allowed again", draw_allow),
 ]

@@ -6,27 +6,28 @@ from dataclasses import dataclass
 
 from twarp_tools.case import ORIGIN, Case
 from twarp_tools.command import Refused
-from twarp_tools.event import Fail, Restore, Swap, opening_events
+from twarp_tools.event import Allow, Fail, Forbid, Restore, Swap, opening_events
 from twarp_tools.lines import Nodes, write_path
 from twarp_tools.report import Report
 
 
 @dataclass
 class Standing:
-    """Where a run stands: the orders of paths, the links that are down, and each router's rib where that is known."""
+    """Where a run stands: orders of paths, paths that are forbidden, links that are down, and ribs where known."""
 
     orders: list[list[Nodes]]
+    barred: set[Nodes]
     down: set[frozenset[int]]
     ribs: list[Nodes] | None
 
 
 def opening(case: Case) -> Standing:
-    return Standing(case.orders(), set(), None)
+    return Standing(case.orders(), set(), set(), None)
 
 
 def reached(case: Case, report: Report) -> Standing:
     """Where the run stands that was reported: after what the scenario has below its bound."""
-    standing = opening(case)
+    standing, given = opening(case), case.orders()
     scenes = (event for event in opening_events(case) if event.time < report.bound.value)
     for scene in sorted(scenes, key=lambda scene: scene.key({})):
         match scene.body:
@@ -37,6 +38,10 @@ def reached(case: Case, report: Report) -> Standing:
             case Swap(first, second):
                 order, i, j = standing.orders[scene.dst], first - 1, second - 1
                 order[i], order[j] = order[j], order[i]
+            case Forbid(place):
+                standing.barred.add(given[scene.dst][place - 1])
+            case Allow(place):
+                standing.barred.discard(given[scene.dst][place - 1])
     standing.ribs = [told.value.rib for told in report.routers]
     for told in report.routers:
         if told.value.rib and told.value.rib not in standing.orders[told.value.router]:
@@ -57,12 +62,13 @@ class Unstable:
 
 
 def chosen_path(router: int, standing: Standing) -> Nodes:
-    """The first path of the router's order that goes on as a neighbour's rib, over a link that is up."""
+    """The first allowed path of the router's order that goes on as a neighbour's rib, over a link that is up."""
     if router == ORIGIN:
         return (ORIGIN,)
     ribs = standing.ribs or []
     for path in standing.orders[router]:
-        if ribs[path[1]] == path[1:] and frozenset(path[:2]) not in standing.down:
+        is_offered = ribs[path[1]] == path[1:] and frozenset(path[:2]) not in standing.down
+        if is_offered and path not in standing.barred:
             return path
     return ()
 

@@ -35,6 +35,9 @@ text { font-family: Helvetica, Arial, sans-serif; font-size: 12px; fill: $ink; }
 .failnote { fill: $bad; }
 .repairnote { fill: $good; }
 .swap { fill: $swap; }
+.forbid { fill: $bad; stroke: $bad; stroke-width: 1.5; }
+.allow { fill: $ground; stroke: $good; stroke-width: 1.8; }
+.ban { stroke: $bad; stroke-width: 3; stroke-opacity: .55; }
 .start { fill: $ink; }
 .period { fill: $period; fill-opacity: .4; }
 .again { stroke: $again; stroke-width: 1.5; stroke-dasharray: 6 4; }

@@ -3,7 +3,7 @@ use Rattle.std.proofs.Common.{◌≡◌, ℕ, ◌<◌, ◌==◌, true, List, rev
 use Rattle.std.specs.List.{All, range_with_len}
 use Rattle.std.proofs.lemmas.Bool.{and_parts, eqb-true}
 use Rattle.tw_event.specs.declared.event.Body.{Body}
-use Rattle.tw_event.specs.declared.event.Body.TheVariants.{Start, Fail, Restore, Swap, Update}
+use Rattle.tw_event.specs.declared.event.Body.TheVariants.{Start, Fail, Restore, Swap, Forbid, Allow, Update}
 use Rattle.tw_event.specs.declared.event.Event.{Event}
 use Rattle.tw_event.proofs.Order.{same_self}
 use Rattle.tw_model.specs.Net.{Net, IsPath, is_permitted}
@@ -28,6 +28,8 @@ names_path net v e Start h = tt
 names_path net v e (Fail w) h = tt
 names_path net v e (Restore w) h = tt
 names_path net v e (Swap i j) h = tt
+names_path net v e (Forbid k) h = tt
+names_path net v e (Allow k) h = tt
 names_path net v e (Update q n) h = permitted_is_path net e.src q (and_parts (has_peer net v e.src) (is_permitted net e.src q) h).1
 
 module _ (case : Case) (is : IsCase case) where

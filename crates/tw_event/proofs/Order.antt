@@ -23,6 +23,8 @@ first body.Start = 0
 first (body.Fail w) = w
 first (body.Restore w) = w
 first (body.Swap i j) = i
+first (body.Forbid k) = k
+first (body.Allow k) = k
 first (body.Update p n) = p.0
 
 second : Body → ℕ
@@ -65,6 +67,8 @@ body_numbers (body.Swap i j) (body.Swap k l) s n = refl
 body_numbers (body.Update p i) (body.Update q j) s n = refl
 body_numbers (body.Fail w) (body.Fail x) s n = ap (λ o. ordering_then s (ordering_then n o)) (then_nothing (nat_cmp w x))
 body_numbers (body.Restore w) (body.Restore x) s n = ap (λ o. ordering_then s (ordering_then n o)) (then_nothing (nat_cmp w x))
+body_numbers (body.Forbid k) (body.Forbid l) s n = ap (λ o. ordering_then s (ordering_then n o)) (then_nothing (nat_cmp k l))
+body_numbers (body.Allow k) (body.Allow l) s n = ap (λ o. ordering_then s (ordering_then n o)) (then_nothing (nat_cmp k l))
 body_numbers _ _ s n = refl
 
 same_order : (d e : Event) → numbers_cmp d e ≡ event_cmp d e
@@ -94,6 +98,8 @@ body_exact (body.Swap i j) (body.Swap k l) p h =
     let a = exact_unsigned i k t.0 in
     let b = exact_unsigned j l t.1 in
     cc
+body_exact (body.Forbid k) (body.Forbid l) p h = ap body.Forbid (exact_unsigned k l h)
+body_exact (body.Allow k) (body.Allow l) p h = ap body.Allow (exact_unsigned k l h)
 body_exact (body.Update p n) (body.Update q m) s h =
     let t = then_equal (nat_cmp p.0 q.0) (nat_cmp n m) h in
     let path : ℕ → PathNo = λ k. record { 0 = k } in
@@ -174,6 +180,8 @@ order_at t u r q s p n m body.Start body.Start = refl
 order_at t u r q s p n m (body.Fail w) (body.Fail x) = refl
 order_at t u r q s p n m (body.Restore w) (body.Restore x) = refl
 order_at t u r q s p n m (body.Swap i j) (body.Swap k l) = refl
+order_at t u r q s p n m (body.Forbid k) (body.Forbid l) = refl
+order_at t u r q s p n m (body.Allow k) (body.Allow l) = refl
 order_at t u r q s p n m (body.Update a k) (body.Update b l) = refl
 order_at t u r q s p n m _ _ = refl
 

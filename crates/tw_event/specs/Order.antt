@@ -15,21 +15,27 @@ class_of body.Start = class.Start
 class_of (body.Fail w) = class.Fail
 class_of (body.Restore w) = class.Restore
 class_of (body.Swap i j) = class.Swap
+class_of (body.Forbid k) = class.Forbid
+class_of (body.Allow k) = class.Allow
 class_of (body.Update p n) = class.Update
 
--- the classes in their order: Start, Fail, Restore, Swap, Update
+-- the classes in their order: Start, Fail, Restore, Swap, Forbid, Allow, Update
 abbrev pub place_of : Class → ℕ
 place_of class.Start = 0
 place_of class.Fail = 1
 place_of class.Restore = 2
 place_of class.Swap = 3
-place_of class.Update = 4
+place_of class.Forbid = 4
+place_of class.Allow = 5
+place_of class.Update = 6
 
--- two bodies of one class: by peer, by places, by path number and session
+-- two bodies of one class: by peer, by place or places, by path number and session
 abbrev pub body_cmp : Body → Body → Ordering
 body_cmp (body.Fail w) (body.Fail x) = nat_cmp w x
 body_cmp (body.Restore w) (body.Restore x) = nat_cmp w x
 body_cmp (body.Swap i j) (body.Swap k l) = ordering_then (nat_cmp i k) (nat_cmp j l)
+body_cmp (body.Forbid k) (body.Forbid l) = nat_cmp k l
+body_cmp (body.Allow k) (body.Allow l) = nat_cmp k l
 body_cmp (body.Update p n) (body.Update q m) = ordering_then (nat_cmp p.0 q.0) (nat_cmp n m)
 body_cmp a b = Equal
 

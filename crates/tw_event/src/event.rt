@@ -35,6 +35,10 @@ pub enum Body {
     Restore(u32),
     /// The paths at these two places of the router's order, from 1, change places.
     Swap(u32, u32),
+    /// The path at this place among the router's paths as they were given, from 1, is barred.
+    Forbid(u32),
+    /// The path at this place among the router's paths as they were given, from 1, is no longer barred.
+    Allow(u32),
     /// A neighbour's path arrives; the empty path is a withdrawal.
     Update {
         /// The path that the sender now uses.
@@ -51,6 +55,8 @@ pub enum Class {
     Fail,
     Restore,
     Swap,
+    Forbid,
+    Allow,
     Update,
 }
 
@@ -64,6 +70,8 @@ impl Body {
             Body::Fail(_) => Class::Fail,
             Body::Restore(_) => Class::Restore,
             Body::Swap(_, _) => Class::Swap,
+            Body::Forbid(_) => Class::Forbid,
+            Body::Allow(_) => Class::Allow,
             Body::Update { .. } => Class::Update,
         }
     }

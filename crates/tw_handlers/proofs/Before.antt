@@ -2,20 +2,20 @@
 use Rattle.std.proofs.Common.{◌≡◌, ℕ, ◌+◌, ◌-◌, ◌<◌, ◌≤◌, ◌==◌, ◌&&◌, Bool, true, false, not, [], ◌∷◌, length, sym, ap, ◌∙◌, refl, subst, arith, leb}
 use Rattle.std.proofs.lemmas.Bool.{and_parts, eq-eqb, leb-true, ltb-true}
 use Rattle.tw_event.specs.declared.event.Body.{Body}
-use Rattle.tw_event.specs.declared.event.Body.TheVariants.{Start, Fail, Restore, Swap, Update}
+use Rattle.tw_event.specs.declared.event.Body.TheVariants.{Start, Fail, Restore, Swap, Forbid, Allow, Update}
 use Rattle.tw_event.specs.declared.event.Event.{Event}
 use Rattle.tw_event.specs.declared.event.PathNo.{PathNo}
 use Rattle.tw_model.specs.declared.state.Counters.{Counters}
 use Rattle.tw_model.specs.declared.state.Row.{Row}
 use Rattle.tw_model.specs.Net.{Net, empty_path, is_permitted, paths_of}
 use Rattle.tw_model.specs.Rules.{has_place}
-use Rattle.tw_model.specs.State.{IsState, State, best, has_peer, hop, row, slot}
-use Rattle.tw_model.specs.Effect.{accepts, acts, body_suits, with_handled, effect, with_failed_link, fits, with_heard, with_repaired_link, settle, with_swap, update_to, updates, ups}
+use Rattle.tw_model.specs.State.{IsState, State, best, has_peer, hop, is_barred, row, slot}
+use Rattle.tw_model.specs.Effect.{accepts, acts, body_suits, with_handled, effect, with_failed_link, fits, with_heard, with_repaired_link, settle, with_bar, with_swap, update_to, updates, ups}
 use Rattle.tw_handlers.specs.declared.record.UndoRecord.{UndoRecord}
 use Rattle.tw_handlers.specs.Record.{heard_before, record_of, takes_effect}
 use Rattle.tw_handlers.specs.Undo.{state_before, counters_before, with_body_undone, sends_again, sends_of_settling, counters_without_event, with_failure_undone, with_repair_undone, counters_without_settling, with_old_rib}
 use Rattle.tw_model.proofs.Suits.{body_suits-fits}
-use Rattle.tw_handlers.proofs.Rows.{back-row, row-with_row, with_swap-with_swap}
+use Rattle.tw_handlers.proofs.Rows.{back-row, row-with_row, with_bar-with_bar, with_swap-with_swap}
 
 back : (a b : ℕ) → a + b - b ≡ a
 back a b = omega arith
@@ -138,6 +138,18 @@ swap-back : (net : Net) (v : ℕ) (s : State) (e : Event) (i j : ℕ) → i - 1 
 swap-back net v s e i j hi hj =
     ap (λ x. with_swap x i j) (back-settle net v e.time (with_swap s i j) true empty_path) ∙ with_swap-with_swap s i j hi hj
 
+forbid-back : (net : Net) (v : ℕ) (s : State) (e : Event) (k : ℕ) (b : Bool) → is_barred s k ≡ b
+    → back_by net v (with_handled (acts net v s e (Forbid k)).state) e (Forbid k) (note net v s e (Forbid k)) ≡ s
+forbid-back net v s e k true is = rw is (rw (eq-eqb s.rib.0 s.rib.0 refl) (quiet-back net v s))
+forbid-back net v s e k false is =
+    rw is (ap (λ x. with_bar x k false) (back-settle net v e.time (with_bar s k true) true empty_path) ∙ with_bar-with_bar s k true false (sym is))
+
+allow-back : (net : Net) (v : ℕ) (s : State) (e : Event) (k : ℕ) (b : Bool) → is_barred s k ≡ b
+    → back_by net v (with_handled (acts net v s e (Allow k)).state) e (Allow k) (note net v s e (Allow k)) ≡ s
+allow-back net v s e k true is =
+    rw is (ap (λ x. with_bar x k true) (back-settle net v e.time (with_bar s k false) true empty_path) ∙ with_bar-with_bar s k false true (sym is))
+allow-back net v s e k false is = rw is (rw (eq-eqb s.rib.0 s.rib.0 refl) (quiet-back net v s))
+
 acts-back : (net : Net) (v : ℕ) (s : State) (e : Event) (b : Body) → IsState net v s → body_suits net v e b ≡ true
     → back_by net v (with_handled (acts net v s e b).state) e b (note net v s e b) ≡ s
 acts-back net v s e Start state h = back-settle net v e.time s true empty_path
@@ -149,6 +161,8 @@ acts-back net v s e (Swap i j) state h =
     let p = and_parts _ (has_place net v i && has_place net v j) h in
     let q = and_parts (has_place net v i) (has_place net v j) p.1 in
     swap-back net v s e i j (has_order net v s i state q.0) (has_order net v s j state q.1)
+acts-back net v s e (Forbid k) state h = forbid-back net v s e k (is_barred s k) refl
+acts-back net v s e (Allow k) state h = allow-back net v s e k (is_barred s k) refl
 acts-back net v s e (Update q n) state h =
     let p = and_parts (has_peer net v e.src) (is_permitted net e.src q) h in
     update-back net v s e q n (accepts s (slot net v e.src) n) refl (has_slot net v s e.src state p.0)
@@ -176,11 +190,23 @@ update-again net v s e q n true is =
     rw is (again-settle net v e.time (with_heard s (slot net v e.src) q) true (row s (slot net v e.src)).heard)
 update-again net v s e q n false is = rw is (rw (eq-eqb s.rib.0 s.rib.0 refl) refl)
 
+forbid-again : (net : Net) (v : ℕ) (s : State) (e : Event) (k : ℕ) (b : Bool) → is_barred s k ≡ b
+    → sends_again net v (acts net v s e (Forbid k)).state e (Forbid k) (note net v s e (Forbid k)) ≡ (acts net v s e (Forbid k)).sends
+forbid-again net v s e k true is = rw is (rw (eq-eqb s.rib.0 s.rib.0 refl) refl)
+forbid-again net v s e k false is = rw is (again-settle net v e.time (with_bar s k true) true empty_path)
+
+allow-again : (net : Net) (v : ℕ) (s : State) (e : Event) (k : ℕ) (b : Bool) → is_barred s k ≡ b
+    → sends_again net v (acts net v s e (Allow k)).state e (Allow k) (note net v s e (Allow k)) ≡ (acts net v s e (Allow k)).sends
+allow-again net v s e k true is = rw is (again-settle net v e.time (with_bar s k false) true empty_path)
+allow-again net v s e k false is = rw is (rw (eq-eqb s.rib.0 s.rib.0 refl) refl)
+
 acts-again : (net : Net) (v : ℕ) (s : State) (e : Event) (b : Body) → sends_again net v (acts net v s e b).state e b (note net v s e b) ≡ (acts net v s e b).sends
 acts-again net v s e Start = again-settle net v e.time s true empty_path
 acts-again net v s e (Fail w) = fail-again net v s e w (row s (slot net v w)).up refl
 acts-again net v s e (Restore w) = restore-again net v s e w (row s (slot net v w)).up refl
 acts-again net v s e (Swap i j) = again-settle net v e.time (with_swap s i j) true empty_path
+acts-again net v s e (Forbid k) = forbid-again net v s e k (is_barred s k) refl
+acts-again net v s e (Allow k) = allow-again net v s e k (is_barred s k) refl
 acts-again net v s e (Update q n) = update-again net v s e q n (accepts s (slot net v e.src) n) refl
 
 counted-again : (net : Net) (v : ℕ) (s : State) (e : Event) (b : Body) (u : UndoRecord) → sends_again net v (with_handled s) e b u ≡ sends_again net v s e b u
@@ -188,6 +214,8 @@ counted-again net v s e Start u = refl
 counted-again net v s e (Fail w) u = refl
 counted-again net v s e (Restore w) u = refl
 counted-again net v s e (Swap i j) u = refl
+counted-again net v s e (Forbid k) u = refl
+counted-again net v s e (Allow k) u = refl
 counted-again net v s e (Update q n) u = refl
 
 -- from the state that an event left, its record leads back to what it sent

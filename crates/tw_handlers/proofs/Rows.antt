@@ -1,12 +1,12 @@
--- A row, or two places of the order, written and written back.
-use Rattle.std.proofs.Common.{◌≡◌, ℕ, ◌-◌, ◌<◌, List, length, get_or, set, set-set, get_or-set_same, sym, ap, ◌∙◌, refl, subst, inl, inr}
+-- A row, two places of the order or a bar, written and written back.
+use Rattle.std.proofs.Common.{◌≡◌, ℕ, ◌-◌, ◌<◌, Bool, false, List, length, get_or, set, set-set, get_or-set_same, sym, ap, ◌∙◌, refl, subst, inl, inr}
 use Rattle.std.proofs.lemmas.List.{set-get_or, same_lists}
 use Rattle.std.proofs.lemmas.List.Edits.{swapped_from_swap, length-swap}
 use Rattle.std.proofs.lemmas.Bool.{cases_eq}
 use Rattle.std.specs.List.{swap}
 use Rattle.tw_model.specs.declared.state.Row.{Row}
-use Rattle.tw_model.specs.State.{State, no_row, row}
-use Rattle.tw_model.specs.Effect.{with_swap, with_row}
+use Rattle.tw_model.specs.State.{State, is_barred, no_row, row}
+use Rattle.tw_model.specs.Effect.{with_bar, with_swap, with_row}
 
 -- a second write at a place undoes the first where it writes what stood there
 pub set-back : {X : Type 0} (xs : List X) (k : ℕ) (x y d : X) → y ≡ get_or xs k d → set (set xs k x) k y ≡ xs
@@ -40,3 +40,7 @@ row-with_row s k x h = get_or-set_same s.rows k x no_row h
 -- two places of the order changed and changed back
 pub with_swap-with_swap : (s : State) (i j : ℕ) → i - 1 < length s.order → j - 1 < length s.order → with_swap (with_swap s i j) i j ≡ s
 with_swap-with_swap s i j hi hj = ap (λ order. record s { order = order }) (swap-swap s.order (i - 1) (j - 1) hi hj)
+
+-- a bar written and written back
+pub with_bar-with_bar : (s : State) (k : ℕ) (b kept : Bool) → kept ≡ is_barred s k → with_bar (with_bar s k b) k kept ≡ s
+with_bar-with_bar s k b kept is = ap (λ barred. record s { barred = barred }) (set-back s.barred (k - 1) b kept false is)

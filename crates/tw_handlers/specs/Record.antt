@@ -1,20 +1,22 @@
 -- What a record keeps of handling an event (Carothers, Perumalla, Fujimoto 1999).
 use Rattle.std.specs.Prelude.{ℕ, ◌≡◌, ◌==◌, Bool, true, not}
 use Rattle.tw_event.specs.declared.event.Body.{Body}
-use Rattle.tw_event.specs.declared.event.Body.TheVariants.{Start, Fail, Restore, Swap, Update}
+use Rattle.tw_event.specs.declared.event.Body.TheVariants.{Start, Fail, Restore, Swap, Forbid, Allow, Update}
 use Rattle.tw_event.specs.declared.event.Event.{Event}
 use Rattle.tw_event.specs.declared.event.PathNo.{PathNo}
 use Rattle.tw_model.specs.Net.{Net, empty_path}
-use Rattle.tw_model.specs.State.{IsState, Router, State, row, slot}
+use Rattle.tw_model.specs.State.{IsState, Router, State, is_barred, row, slot}
 use Rattle.tw_model.specs.Effect.{accepts, effect, fits}
 use Rattle.tw_handlers.specs.declared.record.UndoRecord.{UndoRecord}
 
--- whether an event takes effect: it is not dropped, and its link not already down or up
+-- whether an event takes effect: it is not dropped, its link not already down or up, its path not already barred or allowed
 abbrev pub takes_effect : Net → ℕ → State → Event → Body → Bool
 takes_effect net v s e Start = true
 takes_effect net v s e (Fail w) = (row s (slot net v w)).up
 takes_effect net v s e (Restore w) = not (row s (slot net v w)).up
 takes_effect net v s e (Swap i j) = true
+takes_effect net v s e (Forbid k) = not (is_barred s k)
+takes_effect net v s e (Allow k) = is_barred s k
 takes_effect net v s e (Update q n) = accepts s (slot net v e.src) n
 
 -- what was heard before from the neighbour whose link fails or that sent the update
@@ -23,6 +25,8 @@ heard_before net v s e Start = empty_path
 heard_before net v s e (Fail w) = (row s (slot net v w)).heard
 heard_before net v s e (Restore w) = empty_path
 heard_before net v s e (Swap i j) = empty_path
+heard_before net v s e (Forbid k) = empty_path
+heard_before net v s e (Allow k) = empty_path
 heard_before net v s e (Update q n) = (row s (slot net v e.src)).heard
 
 -- the record of handling e in s

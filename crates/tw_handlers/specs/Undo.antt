@@ -1,12 +1,12 @@
 -- The way back from an event: what it led from, and what it sent (Carothers, Perumalla, Fujimoto 1999).
 use Rattle.std.specs.Prelude.{ℕ, ◌-◌, true, false, List, [], ◌∷◌, length, if◌then◌else◌}
 use Rattle.tw_event.specs.declared.event.Body.{Body}
-use Rattle.tw_event.specs.declared.event.Body.TheVariants.{Start, Fail, Restore, Swap, Update}
+use Rattle.tw_event.specs.declared.event.Body.TheVariants.{Start, Fail, Restore, Swap, Forbid, Allow, Update}
 use Rattle.tw_event.specs.declared.event.Event.{Event}
 use Rattle.tw_model.specs.declared.state.Counters.{Counters}
 use Rattle.tw_model.specs.Net.{Net}
 use Rattle.tw_model.specs.State.{State, hop, row, slot}
-use Rattle.tw_model.specs.Effect.{with_heard, with_swap, update_to, updates, ups, with_row}
+use Rattle.tw_model.specs.Effect.{with_bar, with_heard, with_swap, update_to, updates, ups, with_row}
 use Rattle.tw_handlers.specs.declared.record.UndoRecord.{UndoRecord}
 
 -- with the path used before
@@ -21,12 +21,14 @@ with_failure_undone s k u = with_row s k (record (row s k) { up = true; heard = 
 abbrev pub with_repair_undone : State → ℕ → State
 with_repair_undone s k = with_row s k (record (row s k) { up = false; session = (row s k).session - 1 })
 
--- the rows and the order before: one equation for each body
+-- the rows, the order and the bars before: one equation for each body
 abbrev pub with_body_undone : Net → ℕ → State → Event → Body → UndoRecord → State
 with_body_undone net v s e Start u = s
 with_body_undone net v s e (Fail w) u = if u.took_effect then with_failure_undone s (slot net v w) u else s
 with_body_undone net v s e (Restore w) u = if u.took_effect then with_repair_undone s (slot net v w) else s
 with_body_undone net v s e (Swap i j) u = with_swap s i j
+with_body_undone net v s e (Forbid k) u = if u.took_effect then with_bar s k false else s
+with_body_undone net v s e (Allow k) u = if u.took_effect then with_bar s k true else s
 with_body_undone net v s e (Update q n) u = if u.took_effect then with_heard s (slot net v e.src) u.heard else s
 
 -- one event fewer is handled
@@ -48,6 +50,8 @@ counters_before net v s (Fail w) u = counters_without_settling net v s u
 counters_before net v s (Restore w) u =
     if u.took_effect then record (counters_without_event s.counters) { sent = s.counters.sent - 1 } else counters_without_event s.counters
 counters_before net v s (Swap i j) u = counters_without_settling net v s u
+counters_before net v s (Forbid k) u = counters_without_settling net v s u
+counters_before net v s (Allow k) u = counters_without_settling net v s u
 counters_before net v s (Update q n) u =
     if u.took_effect then counters_without_settling net v s u else record (counters_without_event s.counters) { dropped = s.counters.dropped - 1 }
 
@@ -70,4 +74,6 @@ sends_again net v s e Start u = sends_of_settling net v e.time s u
 sends_again net v s e (Fail w) u = sends_of_settling net v e.time s u
 sends_again net v s e (Restore w) u = if u.took_effect then sends_of_repair net v e.time s w else []
 sends_again net v s e (Swap i j) u = sends_of_settling net v e.time s u
+sends_again net v s e (Forbid k) u = sends_of_settling net v e.time s u
+sends_again net v s e (Allow k) u = sends_of_settling net v e.time s u
 sends_again net v s e (Update q n) u = sends_of_settling net v e.time s u

@@ -2,7 +2,7 @@
 
 ghost use Rattle.std.specs.Prelude.{◌≡◌, ◌<◌, ◌↔◌, length, IsTrue};
 ghost use Rattle.tw_model.specs.Net.{IsPath, begins_at as begins_at_of, hops_of, is_own as is_own_of, is_permitted as is_permitted_of};
-ghost use Rattle.tw_model.specs.Rules.{has_place as has_place_of};
+ghost use Rattle.tw_model.specs.Rules.{has_line as has_line_of, has_place as has_place_of};
 ghost use Rattle.tw_model.specs.State.{has_peer as has_peer_of, slot as slot_of};
 ghost use Rattle.tw_model.specs.Effect.{body_suits, fits, suits};
 
@@ -21,8 +21,9 @@ pub fn does_fit(instance: &Instance, node: u32, event: &Event) -> bool
 /// Whether the event is one for the router of this number, the limit on its time aside.
 ///
 /// Its receiver is this router. The start is one for router 0 at time 0. A failure, a repair and an
-/// exchange come from the router itself, and name a neighbour or places of its order, from 1. An update
-/// comes from a neighbour, with an empty path or one that is permitted there.
+/// exchange come from the router itself, and name a neighbour or places of its order, from 1. So do a path
+/// forbidden and a path allowed, which name a place of the paths as they were given, from 1; the origin was
+/// given none. An update comes from a neighbour, with an empty path or one that is permitted there.
 pub fn does_suit(instance: &Instance, node: u32, event: &Event) -> bool
     ensures { result ≡ suits instance.now node event.now }
 {
@@ -41,6 +42,8 @@ fn does_body_suit(instance: &Instance, node: u32, event: &Event) -> bool
                 && has_place(instance, node, first)
                 && has_place(instance, node, second)
         }
+        Body::Forbid(line) => event.src == node && has_line(instance, node, line),
+        Body::Allow(line) => event.src == node && has_line(instance, node, line),
         Body::Update { path, .. } => {
             has_peer(instance, node, event.src) && is_permitted(instance, event.src, path)
         }
@@ -57,6 +60,13 @@ fn has_place(instance: &Instance, node: u32, place: u32) -> bool
     ensures { result ≡ has_place_of instance.now node place }
 {
     1 <= place && place as usize <= instance.permitted(node).len()
+}
+
+/// Whether a path was given for the node at the place, from 1.
+fn has_line(instance: &Instance, node: u32, line: u32) -> bool
+    ensures { result ≡ has_line_of instance.now node line }
+{
+    node != 0 && has_place(instance, node, line)
 }
 
 /// Whether the path is empty or permitted at the node.

@@ -13,7 +13,7 @@ use crate::fault::{CounterFull, Fault};
 use crate::fit::{does_fit, slot_of_peer};
 use crate::record::UndoRecord;
 use crate::send::News;
-use crate::settle::{count_handled, settle, settle_with_heard, settle_with_row};
+use crate::settle::{count_handled, settle, settle_with_bar, settle_with_heard, settle_with_row};
 use smallvec::SmallVec;
 use tw_event::{Body, Event, PathNo};
 use tw_instance::Instance;
@@ -105,6 +105,8 @@ fn handle_any(
         Body::Fail(peer) => handle_fail(instance, router, event, peer, sends),
         Body::Restore(peer) => handle_restore(instance, router, event, peer, sends),
         Body::Swap(first, second) => handle_swap(instance, router, event, first, second, sends),
+        Body::Forbid(line) => handle_forbid(instance, router, event, line, sends),
+        Body::Allow(line) => handle_allow(instance, router, event, line, sends),
         Body::Update { path, session } => {
             handle_update(instance, router, event, path, session, sends)
         }
@@ -230,6 +232,54 @@ fn handle_swap(
             Err(error)
         }
     }
+}
+
+#[inline(never)]
+fn handle_forbid(
+    instance: &Instance,
+    router: &mut Router<'_>,
+    event: &Event,
+    line: u32,
+    sends: &mut SmallVec<Event, 8>,
+) -> Result<UndoRecord, OrMemory<CounterFull>>
+    requires reaction { CanReact instance.now router.old event.now.time }
+    requires body { event.now.body ≡ Body.Forbid line }
+    requires first { 0 < line }
+    requires within { line ≤ length router.old.state.barred }
+    ensures reaction { Reacts router.old router.new sends.old.items sends.new.items (effect_at router.old event.now) result }
+    ensures note { IfOk result (λ note. note ≡ record_at router.old event.now) }
+{
+    let rib = router.rib();
+    if router.is_barred(line) {
+        count_handled(router);
+        return Ok(UndoRecord::without_effect(rib, PathNo::EMPTY));
+    }
+    let changed = settle_with_bar(instance, router, line, true, event.time, sends)?;
+    Ok(UndoRecord::of_effect(changed, rib, PathNo::EMPTY))
+}
+
+#[inline(never)]
+fn handle_allow(
+    instance: &Instance,
+    router: &mut Router<'_>,
+    event: &Event,
+    line: u32,
+    sends: &mut SmallVec<Event, 8>,
+) -> Result<UndoRecord, OrMemory<CounterFull>>
+    requires reaction { CanReact instance.now router.old event.now.time }
+    requires body { event.now.body ≡ Body.Allow line }
+    requires first { 0 < line }
+    requires within { line ≤ length router.old.state.barred }
+    ensures reaction { Reacts router.old router.new sends.old.items sends.new.items (effect_at router.old event.now) result }
+    ensures note { IfOk result (λ note. note ≡ record_at router.old event.now) }
+{
+    let rib = router.rib();
+    if !router.is_barred(line) {
+        count_handled(router);
+        return Ok(UndoRecord::without_effect(rib, PathNo::EMPTY));
+    }
+    let changed = settle_with_bar(instance, router, line, false, event.time, sends)?;
+    Ok(UndoRecord::of_effect(changed, rib, PathNo::EMPTY))
 }
 
 #[inline(always)]

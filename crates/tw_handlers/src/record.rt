@@ -11,7 +11,8 @@ const SIZE: usize = size_of::<UndoRecord>();
 /// collection: what the event sent is made again from the state.
 #[derive(Clone, Copy, PartialEq, Eq, Debug)]
 pub struct UndoRecord {
-    /// Whether the event took effect: it was not dropped, and its link not already down or up.
+    /// Whether the event took effect: it was not dropped, its link not already down or up, and its path not
+    /// already barred or allowed.
     pub took_effect: bool,
     /// Whether the router's path changed.
     pub changed: bool,

@@ -4,7 +4,7 @@ ghost use Rattle.std.specs.Prelude.{◌≡◌, ◌+◌, ◌≤◌, ◌<◌, ◌=
 ghost use Rattle.tw_model.specs.Net.{IsPath};
 ghost use Rattle.tw_model.specs.declared.limits.TheConstants.{MOST_COUNTED};
 ghost use Rattle.tw_model.specs.State.{row as row_of};
-ghost use Rattle.tw_model.specs.Effect.{settle as settle_of, ups, with_handled, with_row};
+ghost use Rattle.tw_model.specs.Effect.{settle as settle_of, ups, with_bar, with_handled, with_row};
 ghost use Rattle.tw_handlers.specs.Calls.{CanReact, Reacts, with_count};
 
 use crate::fault::CounterFull;
@@ -116,6 +116,34 @@ pub(crate) fn settle_with_heard(
         Ok(changed) => Ok(changed),
         Err(error) => {
             router.set_row(instance, slot, kept);
+            Err(error)
+        }
+    }
+}
+
+/// Bars one of the paths as they were given, or allows it, and settles. After an error its bar is as it was.
+#[inline(never)]
+pub(crate) fn settle_with_bar(
+    instance: &Instance,
+    router: &mut Router<'_>,
+    line: u32,
+    barred: bool,
+    time: u64,
+    sends: &mut SmallVec<Event, 8>,
+) -> Result<bool, OrMemory<CounterFull>>
+    requires reaction { CanReact instance.now router.old time }
+    requires first { 0 < line }
+    requires within { line ≤ length router.old.state.barred }
+    ensures reaction { Reacts router.old router.new sends.old.items sends.new.items
+        (with_count (settle_of router.old.net router.old.node time (with_bar router.old.state line barred))) result }
+    ensures changed { IfOk result (λ changed. changed ≡ not (router.old.state.rib.0 == router.new.state.rib.0)) }
+{
+    let kept = router.is_barred(line);
+    router.set_barred(instance, line, barred);
+    match settle(instance, router, time, sends) {
+        Ok(changed) => Ok(changed),
+        Err(error) => {
+            router.set_barred(instance, line, kept);
             Err(error)
         }
     }

@@ -4,11 +4,11 @@ ghost use Rattle.std.specs.Prelude.{◌≡◌, ◌≤◌, ◌++◌, length, IsOk
 ghost use Rattle.smallvec.specs.SmallVec.{HasRoomFor};
 ghost use Rattle.tw_model.specs.declared.limits.TheConstants.{LATEST};
 ghost use Rattle.tw_model.specs.Net.{IsPath};
-ghost use Rattle.tw_model.specs.State.{IsState, State as AState, has_peer};
+ghost use Rattle.tw_model.specs.State.{IsState, State as AState, has_peer, slot as slot_of};
 ghost use Rattle.tw_model.specs.Effect.{effect, fits};
 ghost use Rattle.tw_handlers.specs.Record.{CameFrom};
 ghost use Rattle.tw_handlers.specs.Undo.{counters_before as counters_before_of, counters_without_settling as counters_without_settling_of};
-ghost use Rattle.tw_handlers.specs.Undo.{sends_again, sends_of_repair, sends_of_settling, state_before, with_body_undone};
+ghost use Rattle.tw_handlers.specs.Undo.{sends_again, sends_of_repair, sends_of_settling, state_before, with_body_undone, with_failure_undone, with_repair_undone};
 
 use crate::fit::slot_of_peer;
 use crate::record::UndoRecord;
@@ -75,6 +75,8 @@ fn send_again(
             }
         }
         Body::Swap(_, _) => send_settled(instance, router, event, note, sends),
+        Body::Forbid(_) => send_settled(instance, router, event, note, sends),
+        Body::Allow(_) => send_settled(instance, router, event, note, sends),
         Body::Update { .. } => send_settled(instance, router, event, note, sends),
     }
 }
@@ -152,7 +154,7 @@ pub fn take_back(instance: &Instance, router: &mut Router<'_>, event: &Event, no
     router.set_counters(counters);
 }
 
-/// Writes the row or the order as they were before the event.
+/// Writes the row, the order or the bar as they were before the event.
 fn move_back(instance: &Instance, router: &mut Router<'_>, event: &Event, note: UndoRecord)
     requires own { instance.now ≡ router.old.net }
     requires fits { IsTrue (fits router.old.net router.old.node event.now) }
@@ -166,25 +168,22 @@ fn move_back(instance: &Instance, router: &mut Router<'_>, event: &Event, note: 
         Body::Swap(first, second) => router.swap(instance, first, second),
         Body::Fail(peer) => {
             if note.took_effect {
-                let slot = slot_of_peer(instance, node, peer);
-                let repaired = Row {
-                    heard: note.heard,
-                    up: true,
-                    ..router.row(slot)
-                };
-                router.set_row(instance, slot, repaired);
+                undo_failure(instance, router, peer, note);
             }
         }
         Body::Restore(peer) => {
             if note.took_effect {
-                let slot = slot_of_peer(instance, node, peer);
-                let row = router.row(slot);
-                let failed = Row {
-                    up: false,
-                    session: row.session.saturating_sub(1),
-                    ..row
-                };
-                router.set_row(instance, slot, failed);
+                undo_repair(instance, router, peer);
+            }
+        }
+        Body::Forbid(line) => {
+            if note.took_effect {
+                router.set_barred(instance, line, false);
+            }
+        }
+        Body::Allow(line) => {
+            if note.took_effect {
+                router.set_barred(instance, line, true);
             }
         }
         Body::Update { .. } => {
@@ -194,6 +193,40 @@ fn move_back(instance: &Instance, router: &mut Router<'_>, event: &Event, note: 
             }
         }
     }
+}
+
+/// Writes the row of a neighbour as it was before its link failed.
+fn undo_failure(instance: &Instance, router: &mut Router<'_>, peer: u32, note: UndoRecord)
+    requires own { instance.now ≡ router.old.net }
+    requires neighbour { IsTrue (has_peer router.old.net router.old.node peer) }
+    requires heard { IsPath router.old.net note.heard }
+    ensures { router.new
+        ≡ record router.old { state = with_failure_undone router.old.state (slot_of router.old.net router.old.node peer) note } }
+{
+    let slot = slot_of_peer(instance, router.node(), peer);
+    let repaired = Row {
+        heard: note.heard,
+        up: true,
+        ..router.row(slot)
+    };
+    router.set_row(instance, slot, repaired);
+}
+
+/// Writes the row of a neighbour as it was before its link was repaired.
+fn undo_repair(instance: &Instance, router: &mut Router<'_>, peer: u32)
+    requires own { instance.now ≡ router.old.net }
+    requires neighbour { IsTrue (has_peer router.old.net router.old.node peer) }
+    ensures { router.new
+        ≡ record router.old { state = with_repair_undone router.old.state (slot_of router.old.net router.old.node peer) } }
+{
+    let slot = slot_of_peer(instance, router.node(), peer);
+    let row = router.row(slot);
+    let failed = Row {
+        up: false,
+        session: row.session.saturating_sub(1),
+        ..row
+    };
+    router.set_row(instance, slot, failed);
 }
 
 /// The counters before the event.
@@ -235,6 +268,8 @@ fn counters_before(
         Body::Start => counters_without_settling(instance, router, note),
         Body::Fail(_) => counters_without_settling(instance, router, note),
         Body::Swap(_, _) => counters_without_settling(instance, router, note),
+        Body::Forbid(_) => counters_without_settling(instance, router, note),
+        Body::Allow(_) => counters_without_settling(instance, router, note),
     }
 }
 

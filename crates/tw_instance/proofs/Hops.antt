@@ -7,10 +7,10 @@ use Rattle.std.proofs.lemmas.Option.{IfSome_then}
 use Rattle.std.proofs.lemmas.Bool.{cases_Bool, cases_eq, eq-eqb, lt-ltb, le-ltb, ne_eqb, and_left, and_right, or_from, or_parts}
 use Rattle.tw_model.specs.declared.net.Hop.{Hop}
 use Rattle.tw_model.specs.declared.net.Link.{Link}
-use Rattle.tw_model.specs.Net.{Net, hop_to, hops_of, joins}
+use Rattle.tw_model.specs.Net.{Net, delay_from, hop_to, hops_of, joins}
 use Rattle.tw_model.specs.Rules.{is_linked}
 use Rattle.tw_model.proofs.Nets.{joins_back, linked_back}
-use Rattle.tw_instance.specs.Tables.{with_hop}
+use Rattle.tw_instance.specs.Tables.{hop_back, hop_there, with_hop}
 use Rattle.tw_instance.proofs.Lists.{find_more, find_new}
 use Rattle.tw_instance.proofs.Rows.{IsLinkedTable}
 
@@ -86,12 +86,16 @@ hops_more h k named b x e none some same (suc n) a low high =
 
 -- ---- of a net
 
-named_of : (o : Option Link) (w : ℕ) → IfSome (option_map (λ l. record { peer = w; delay = l.delay }) o) (λ (x : Hop). x.peer ≡ w)
-named_of None w = tt
-named_of (Some l) w = refl
+-- w as a neighbour of v, over the link
+abbrev hop_by : ℕ → ℕ → Link → Hop
+hop_by v w l = record { peer = w; delay = delay_from v l }
+
+named_of : (v w : ℕ) (o : Option Link) → IfSome (option_map (hop_by v w) o) (λ x. x.peer ≡ w)
+named_of v w None = tt
+named_of v w (Some l) = refl
 
 pub named_hop : (links : List Link) (v w : ℕ) → IfSome (hop_to links v w) (λ x. x.peer ≡ w)
-named_hop links v w = named_of (find (joins v w) links) w
+named_hop links v w = named_of v w (find (joins v w) links)
 
 -- ---- one more link
 
@@ -99,25 +103,25 @@ find_none : (links : List Link) (v w : ℕ) → is_linked links v w ≡ false �
 find_none [] v w h = refl
 find_none (l ∷ links) v w h = let parts = or_parts (joins v w l) (is_linked links v w) h in rw parts.0 (find_none links v w parts.1)
 
-abbrev hop_for : ℕ → Option Link → Option Hop
-hop_for w o = option_map (λ l. record { peer = w; delay = l.delay }) o
+abbrev hop_for : ℕ → ℕ → Option Link → Option Hop
+hop_for v w o = option_map (hop_by v w) o
 
 -- a link adds its other end to the neighbours of an end
 pub hops_added : (net : Net) (l : Link) (v w : ℕ) → w < net.nodes → joins v w l ≡ true → ((u : ℕ) → (u ≡ w → ⊥) → joins v u l ≡ false) → is_linked net.links v w ≡ false
-    → hops_of (record net { links = net.links ++ l ∷ [] }) v ≡ with_hop (record { peer = w; delay = l.delay }) (hops_of net v)
+    → hops_of (record net { links = net.links ++ l ∷ [] }) v ≡ with_hop (hop_by v w l) (hops_of net v)
 unfolding hops_of
 hops_added net l v w below ends only new =
     let none = find_none net.links v w new in
-    hops_more (hop_to net.links v) (hop_to (net.links ++ l ∷ []) v) (named_hop net.links v) w (record { peer = w; delay = l.delay }) refl
-    (ap (hop_for w) none)
-    (ap (hop_for w) (find_new (joins v w) net.links l ends none))
-    (λ u ne. ap (hop_for u) (find_more (joins v u) net.links l (only u ne)))
+    hops_more (hop_to net.links v) (hop_to (net.links ++ l ∷ []) v) (named_hop net.links v) w (hop_by v w l) refl
+    (ap (hop_for v w) none)
+    (ap (hop_for v w) (find_new (joins v w) net.links l ends none))
+    (λ u ne. ap (hop_for v u) (find_more (joins v u) net.links l (only u ne)))
     net.nodes 0 (omega arith) (omega arith)
 
 -- and none to those of others
 pub hops_kept : (net : Net) (l : Link) (v : ℕ) → ((u : ℕ) → joins v u l ≡ false) → hops_of (record net { links = net.links ++ l ∷ [] }) v ≡ hops_of net v
 unfolding hops_of
-hops_kept net l v none = hops_same (hop_to net.links v) (hop_to (net.links ++ l ∷ []) v) net.nodes 0 (λ u low. ap (hop_for u) (find_more (joins v u) net.links l (none u)))
+hops_kept net l v none = hops_same (hop_to net.links v) (hop_to (net.links ++ l ∷ []) v) net.nodes 0 (λ u low. ap (hop_for v u) (find_more (joins v u) net.links l (none u)))
 
 joins_first : (l : Link) → joins l.first l.second l ≡ true
 joins_first l = rw (eq-eqb l.first l.first refl, eq-eqb l.second l.second refl) refl
@@ -140,14 +144,24 @@ joins_apart l v u ne nf =
     let b : (l.second == v) ≡ false = ne_eqb l.second v (λ e. nf (sym e)) in
     or_from (l.first == v && l.second == u) (l.first == u && l.second == v) (and_left (l.first == v) (l.second == u) a) (and_right (l.first == u) (l.second == v) b)
 
+-- from its first end a link takes the delay, from its second the one back
+hop_from_first : (l : Link) → hop_by l.first l.second l ≡ hop_there l
+hop_from_first l = rw (eq-eqb l.first l.first refl) refl
+
+hop_from_second : (l : Link) → (l.first ≡ l.second → ⊥) → hop_by l.second l.first l ≡ hop_back l
+hop_from_second l apart = rw (ne_eqb l.first l.second apart) refl
+
 -- the neighbours after one more link: its ends have each other
 pub is_joined : (net : Net) (l : Link) → l.first < net.nodes → l.second < net.nodes → (l.first ≡ l.second → ⊥) → is_linked net.links l.first l.second ≡ false
     → IsLinkedTable (hops_of net) (hops_of (record net { links = net.links ++ l ∷ [] })) l
 is_joined net l below below' apart new = record {
-  first = sym (hops_added net l l.first l.second below' (joins_first l) (λ u ne. joins_first_only l u apart ne) new);
+  first =
+      let added = hops_added net l l.first l.second below' (joins_first l) (λ u ne. joins_first_only l u apart ne) new in
+      ap (λ x. with_hop x (hops_of net l.first)) (sym (hop_from_first l)) ∙ sym added;
   second =
       let back = joins_back l.second l.first l ∙ joins_first l in
-      sym (hops_added net l l.second l.first below back (λ u ne. joins_second_only l u apart ne) (linked_back net.links l.second l.first ∙ new));
+      let added = hops_added net l l.second l.first below back (λ u ne. joins_second_only l u apart ne) (linked_back net.links l.second l.first ∙ new) in
+      ap (λ x. with_hop x (hops_of net l.second)) (sym (hop_from_second l apart)) ∙ sym added;
   others = λ v ne nf. sym (hops_kept net l v (λ u. joins_apart l v u ne nf));
 }
 

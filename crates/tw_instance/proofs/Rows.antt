@@ -5,7 +5,7 @@ use Rattle.std.proofs.lemmas.Bool.{cases_eq}
 use Rattle.std.proofs.lemmas.List.{get_or-map, get_or-set_other, get_or-set_same, length-map, length-replicate, length-set, map-set, set-get_or, with_items_is}
 use Rattle.std.specs.declared.vec.Vec.{Vec}
 use Rattle.std.specs.Vec.{with_items}
-use Rattle.tw_instance.specs.Tables.{IsTable, hop_over, items, push_at, row, with_hop, with_link}
+use Rattle.tw_instance.specs.Tables.{IsTable, hop_back, hop_there, items, push_at, row, with_hop, with_link}
 use Rattle.tw_model.specs.declared.net.Hop.{Hop}
 use Rattle.tw_model.specs.declared.net.Link.{Link}
 
@@ -107,22 +107,22 @@ module _ {X Z : Type 0} where
 
 -- rows of neighbours, with one more link between those of f and s
 pub record IsLinkedTable (F G : ℕ → List Hop) (l : Link) : Type 0 where
-  pub first : with_hop (hop_over l l.second) (F l.first) ≡ G l.first
-  pub second : with_hop (hop_over l l.first) (F l.second) ≡ G l.second
+  pub first : with_hop (hop_there l) (F l.first) ≡ G l.first
+  pub second : with_hop (hop_back l) (F l.second) ≡ G l.second
   pub others : (v : ℕ) → (v ≡ l.first → ⊥) → (v ≡ l.second → ⊥) → F v ≡ G v
 
 module _ {Z : Type 0} where
   -- two rows after each other, with room made in both first
   pub items-join : (rows : List (Vec Hop Z)) (l : Link) (v w x y a b c d : Vec Hop Z) → l.first < length rows → l.second < length rows → (l.first ≡ l.second → ⊥)
       → v.items ≡ (get_or rows l.first a).items → w.items ≡ (get_or (set rows l.first v) l.second b).items
-      → x.items ≡ with_hop (hop_over l l.second) (get_or (set (set rows l.first v) l.second w) l.first c).items
-      → y.items ≡ with_hop (hop_over l l.first) (get_or (set (set (set rows l.first v) l.second w) l.first x) l.second d).items
+      → x.items ≡ with_hop (hop_there l) (get_or (set (set rows l.first v) l.second w) l.first c).items
+      → y.items ≡ with_hop (hop_back l) (get_or (set (set (set rows l.first v) l.second w) l.first x) l.second d).items
       → items (set (set (set (set rows l.first v) l.second w) l.first x) l.second y) ≡ with_link (items rows) l
   items-join rows l v w x y a b c d below below' apart ev ew ex ey =
       let f = l.first in
       let s = l.second in
-      let h = hop_over l s in
-      let k = hop_over l f in
+      let h = hop_there l in
+      let k = hop_back l in
       let ready = set (set rows f v) s w in
       let first = set ready f x in
       let long : f < length ready = omega (arith, length-set rows f v, length-set (set rows f v) s w) in
@@ -139,8 +139,8 @@ module _ {Z : Type 0} where
   pub table_link : (rows more : List (Vec Hop Z)) (nodes : ℕ) (F G : ℕ → List Hop) (l : Link) → l.first < nodes → l.second < nodes → IsTable rows nodes F
       → items more ≡ with_link (items rows) l → IsLinkedTable F G l → IsTable more nodes G
   table_link rows more nodes F G l below below' h e linked =
-      let first = with_hop (hop_over l l.second) (row rows l.first) in
-      let second = with_hop (hop_over l l.first) (row rows l.second) in
+      let first = with_hop (hop_there l) (row rows l.first) in
+      let second = with_hop (hop_back l) (row rows l.second) in
       let one = set (items rows) l.first first in
       let long = length-items rows in
       let wide = length-set (items rows) l.first first in
@@ -149,11 +149,11 @@ module _ {Z : Type 0} where
       let within' : l.second < length one = omega arith in
       let others : (v : ℕ) → (v ≡ l.second → ⊥) → get_or one v [] ≡ G v = λ v ns. elim (cases_eq v l.first) [
         | inl is ↦ (ap (λ u. get_or one u []) is
-            ∙ (get_or-set_same (items rows) l.first first [] within ∙ (ap (with_hop (hop_over l l.second)) (h.rows l.first) ∙ (linked.first ∙ ap G (sym is)))))
+            ∙ (get_or-set_same (items rows) l.first first [] within ∙ (ap (with_hop (hop_there l)) (h.rows l.first) ∙ (linked.first ∙ ap G (sym is)))))
         | inr nf ↦ (get_or-set_other (items rows) l.first v first [] nf ∙ (h.rows v ∙ linked.others v nf ns))
       ] in
       record {
         long = sym (length-items more) ∙ (ap length e ∙ (length-set one l.second second ∙ (wide ∙ (long ∙ h.long))));
         rows = λ v. ap (λ (t : List (List Hop)). get_or t v []) e
-            ∙ row_set one (λ u. get_or one u []) G l.second second within' (λ u. refl) (ap (with_hop (hop_over l l.first)) (h.rows l.second) ∙ linked.second) others v;
+            ∙ row_set one (λ u. get_or one u []) G l.second second within' (λ u. refl) (ap (with_hop (hop_back l)) (h.rows l.second) ∙ linked.second) others v;
       }

@@ -7,10 +7,10 @@ use Rattle.tw_model.specs.declared.net.Link.{Link as ALink}
 use Rattle.tw_model.specs.declared.rule.Rule.{Rule}
 use Rattle.tw_model.specs.PermittedPath.{PermittedPath}
 use Rattle.tw_model.specs.Net.{Net, bare_net}
-use Rattle.tw_model.specs.Rules.{link_fault, nodes_fault, path_fault, scene_fault}
+use Rattle.tw_model.specs.Rules.{case_fault, link_fault, nodes_fault, path_fault, scene_fault}
 use Rattle.tw_instance.specs.declared.refusal.At.{At}
 use Rattle.tw_instance.specs.declared.refusal.Item.{Item}
-use Rattle.tw_instance.specs.declared.refusal.Item.TheVariants.{Nodes, Link, Path, Start, Scene}
+use Rattle.tw_instance.specs.declared.refusal.Item.TheVariants.{Nodes, Link, Path, Start, Scene, Whole}
 
 -- the words of an item
 abbrev pub item_text : Item → List ℕ
@@ -19,6 +19,7 @@ item_text (Link n) = codes "link " ++ decimal n
 item_text (Path n) = codes "path " ++ decimal n
 item_text Start = codes "start"
 item_text (Scene n) = codes "scene " ++ decimal n
+item_text Whole = codes "whole"
 
 -- an item, and the first rule that it breaks after the items before it
 abbrev pub JudgedItem : Type 0
@@ -46,9 +47,13 @@ judged_instance nodes links paths =
     let of_paths = judged_paths (record { nodes = nodes; links = links; permitted = [] }) 1 paths in
     (Nodes, nodes_fault nodes) ∷ of_links ++ of_paths
 
--- the items of a whole case: the start of the origin, which breaks no rule, and the scenes
-abbrev pub judged_case : Net → List AScene → List JudgedItem
-judged_case net scenes = (Start, None) ∷ judged_scenes net 0 scenes
+-- the scenes of a case, and behind them the whole of it in a version
+abbrev pub judged_scenario : ℕ → Net → List AScene → List JudgedItem
+judged_scenario version net scenes = judged_scenes net 0 scenes ++ (Whole, case_fault version net scenes) ∷ []
+
+-- the items of a whole case: the start of the origin, which breaks no rule, the scenes, and the whole of it in a version
+abbrev pub judged_case : ℕ → Net → List AScene → List JudgedItem
+judged_case version net scenes = (Start, None) ∷ judged_scenario version net scenes
 
 -- none of these items breaks a rule
 abbrev pub NoneBreaks : List JudgedItem → Type 0

@@ -45,12 +45,16 @@ push_at rows v x = slice_set rows v (slice_index_or rows v [] ++ x ∷ [])
 abbrev pub with_hop : Hop → List Hop → List Hop
 with_hop = insert (λ h k. nat_lt h.peer k.peer)
 
--- the end w of a link as a neighbour of the other end
-abbrev pub hop_over : Link → ℕ → Hop
-hop_over l w = record { peer = w; delay = l.delay }
+-- the second end of a link as a neighbour of the first
+abbrev pub hop_there : Link → Hop
+hop_there l = record { peer = l.second; delay = l.delay }
+
+-- the first end of a link as a neighbour of the second
+abbrev pub hop_back : Link → Hop
+hop_back l = record { peer = l.first; delay = l.back }
 
 -- rows of neighbours with one more link: each of its ends has the other
 abbrev pub with_link : List (List Hop) → Link → List (List Hop)
 with_link rows l =
-    let one = slice_set rows l.first (with_hop (hop_over l l.second) (slice_index_or rows l.first [])) in
-    slice_set one l.second (with_hop (hop_over l l.first) (slice_index_or rows l.second []))
+    let one = slice_set rows l.first (with_hop (hop_there l) (slice_index_or rows l.first [])) in
+    slice_set one l.second (with_hop (hop_back l) (slice_index_or rows l.second []))

@@ -264,7 +264,7 @@ impl Instance {
         }
     }
 
-    /// The delay in ticks, 1 to 1,000,000, of the link to the neighbour of a slot.
+    /// How many ticks, 1 to 1,000,000, a message to the neighbour of a slot takes.
     pub fn delay(&self, node: u32, slot: usize) -> u64
         requires { slot < length (hops_of self.now node) }
         ensures value { result ≡ (hop self.now node slot).delay }

@@ -45,6 +45,12 @@ pub fn add(events: &mut Vec<Event>, number: u64, scene: &Scene) -> Result<(), Al
             first,
             second,
         } => events.push_reserved(at(number, time, node, Body::Swap(first, second))),
+        Scene::Forbid { time, node, line } => {
+            events.push_reserved(at(number, time, node, Body::Forbid(line)));
+        }
+        Scene::Allow { time, node, line } => {
+            events.push_reserved(at(number, time, node, Body::Allow(line)));
+        }
     }
     Ok(())
 }

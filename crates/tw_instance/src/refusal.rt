@@ -20,6 +20,8 @@ pub enum Item {
     Start,
     /// A scene, from 1.
     Scene(usize),
+    /// The whole case in its version, which is judged last.
+    Whole,
 }
 
 impl Display for Item {
@@ -32,6 +34,7 @@ impl Display for Item {
             Item::Path(number) => write!(f, "path {number}"),
             Item::Start => write!(f, "start"),
             Item::Scene(number) => write!(f, "scene {number}"),
+            Item::Whole => write!(f, "whole"),
         }
     }
 }

@@ -1,8 +1,9 @@
-//! Items judged by the rules of an instance and of a scenario: the first rule that an item breaks.
+//! Items judged by the rules of an instance and of a scenario, and a whole case by its version: the
+//! first rule that an item breaks.
 
 ghost use Rattle.std.specs.Prelude.{◌≡◌, ℕ, ◌∷◌, ◌==◌, ◌&&◌, ◌||◌, not, nat_le, nat_lt, slice_set, true};
 ghost use Rattle.std.specs.List.{list_all, list_any};
-ghost use Rattle.tw_model.specs.declared.limits.TheConstants.{MOST_LINKS, MOST_PATHS};
+ghost use Rattle.tw_model.specs.declared.limits.TheConstants.{LATEST_VERSION, LONGEST_DELAY, MOST_LINKS, MOST_PATHS};
 ghost use Rattle.tw_model.specs.Net as net;
 ghost use Rattle.tw_model.specs.Rules as defined;
 ghost use Rattle.tw_instance.specs.Marks.{is_met as is_met_of};
@@ -11,7 +12,7 @@ use crate::instance::Instance;
 use tw_model::{Link, PermittedPath, Rule, Scene, limits};
 
 /// The rules in ascending order of their codes. Of those that an item breaks the first decides.
-const RULES: [Rule; 13] = [
+const RULES: [Rule; 14] = [
     Rule::Range,
     Rule::SelfLink,
     Rule::TwiceLink,
@@ -25,6 +26,7 @@ const RULES: [Rule; 13] = [
     Rule::NoSuchLink,
     Rule::NoSuchPlace,
     Rule::Time,
+    Rule::Version,
 ];
 
 /// The first rule that a number of routers breaks.
@@ -67,6 +69,17 @@ pub fn scene_fault(instance: &Instance, count: usize, scene: &Scene) -> Option<R
         .find(|rule| scene_breaks(instance, count, scene, *rule))
 }
 
+/// The first rule that a whole case breaks in this version.
+pub fn case_fault(version: u32, instance: &Instance, scenes: &[Scene]) -> Option<Rule>
+    ensures { result ≡ defined.case_fault version instance.now scenes.now }
+{
+    if has_version(version, instance.links(), scenes) {
+        None
+    } else {
+        Some(Rule::Version)
+    }
+}
+
 fn link_breaks(instance: &Instance, link: &Link, rule: Rule) -> bool
     ensures { result ≡ defined.link_breaks instance.now link.now rule }
 {
@@ -74,7 +87,7 @@ fn link_breaks(instance: &Instance, link: &Link, rule: Rule) -> bool
         Rule::Range => link.first >= instance.nodes() || link.second >= instance.nodes(),
         Rule::SelfLink => link.first == link.second,
         Rule::TwiceLink => instance.is_linked(link.first, link.second),
-        Rule::Delay => link.delay < 1 || limits::LONGEST_DELAY < link.delay,
+        Rule::Delay => !is_delay(link.delay) || !is_delay(link.back),
         Rule::TooMany => has_all_links(instance, link.first)
             || has_all_links(instance, link.second),
         _ => false,
@@ -119,7 +132,9 @@ fn names_no_router(instance: &Instance, scene: &Scene) -> bool
         Scene::Fail { first, second, .. } | Scene::Restore { first, second, .. } => {
             first >= instance.nodes() || second >= instance.nodes()
         }
-        Scene::Swap { node, .. } => node >= instance.nodes(),
+        Scene::Swap { node, .. } | Scene::Forbid { node, .. } | Scene::Allow { node, .. } => {
+            node >= instance.nodes()
+        }
     }
 }
 
@@ -131,11 +146,12 @@ fn names_no_link(instance: &Instance, scene: &Scene) -> bool
         Scene::Fail { first, second, .. } | Scene::Restore { first, second, .. } => {
             !instance.is_linked(first, second)
         }
-        Scene::Swap { .. } => false,
+        Scene::Swap { .. } | Scene::Forbid { .. } | Scene::Allow { .. } => false,
     }
 }
 
-/// Whether a scene is the exchange of a place that the router's order does not have.
+/// Whether a scene is the exchange of a place that the router's order does not have, or forbids or
+/// allows a path that was not given.
 fn names_no_place(instance: &Instance, scene: &Scene) -> bool
     ensures { (count : ℕ) → result ≡ defined.scene_breaks instance.now count scene.now Rule.NoSuchPlace }
 {
@@ -147,6 +163,9 @@ fn names_no_place(instance: &Instance, scene: &Scene) -> bool
             second,
             ..
         } => !has_place(instance, node, first) || !has_place(instance, node, second),
+        Scene::Forbid { node, line, .. } | Scene::Allow { node, line, .. } => {
+            !has_line(instance, node, line)
+        }
     }
 }
 
@@ -155,9 +174,11 @@ fn is_late(scene: &Scene) -> bool
     ensures { (n : net.Net) (count : ℕ) → result ≡ defined.scene_breaks n count scene.now Rule.Time }
 {
     match *scene {
-        Scene::Fail { time, .. } | Scene::Restore { time, .. } | Scene::Swap { time, .. } => {
-            time > limits::LATEST
-        }
+        Scene::Fail { time, .. }
+        | Scene::Restore { time, .. }
+        | Scene::Swap { time, .. }
+        | Scene::Forbid { time, .. }
+        | Scene::Allow { time, .. } => time > limits::LATEST,
     }
 }
 
@@ -166,6 +187,54 @@ fn has_place(instance: &Instance, node: u32, place: u32) -> bool
     ensures { result ≡ defined.has_place instance.now node place }
 {
     1 <= place && place as usize <= instance.permitted(node).len()
+}
+
+/// Whether a path was given for a router at this place, from 1; the origin was given none.
+fn has_line(instance: &Instance, node: u32, line: u32) -> bool
+    ensures { result ≡ defined.has_line instance.now node line }
+{
+    node != 0 && has_place(instance, node, line)
+}
+
+/// Whether a message may take so many ticks over a link.
+fn is_delay(ticks: u64) -> bool
+    ensures { result ≡ defined.is_within 1 LONGEST_DELAY ticks }
+{
+    1 <= ticks && ticks <= limits::LONGEST_DELAY
+}
+
+/// Whether there is such a version, and a text of it can say these links and scenes.
+fn has_version(version: u32, links: &[Link], scenes: &[Scene]) -> bool
+    ensures { result ≡ (defined.is_within 1 LATEST_VERSION version && defined.suits_version version links.now scenes.now) }
+{
+    match version {
+        1 => have_one_delay(links) && are_first(scenes),
+        _ => 1 <= version && version <= limits::LATEST_VERSION,
+    }
+}
+
+/// Whether both directions of each link have one delay, as version 1 says it.
+fn have_one_delay(links: &[Link]) -> bool
+    ensures { result ≡ list_all defined.is_first_link links.now }
+{
+    links.iter().all(|link| link.delay == link.back)
+}
+
+/// Whether version 1 has such scenes.
+fn are_first(scenes: &[Scene]) -> bool
+    ensures { result ≡ list_all defined.is_first_scene scenes.now }
+{
+    scenes.iter().all(is_first)
+}
+
+/// Whether version 1 has such a scene.
+fn is_first(scene: &Scene) -> bool
+    ensures { result ≡ defined.is_first_scene scene.now }
+{
+    match *scene {
+        Scene::Fail { .. } | Scene::Restore { .. } | Scene::Swap { .. } => true,
+        Scene::Forbid { .. } | Scene::Allow { .. } => false,
+    }
 }
 
 /// Whether a router has as many links as it may.

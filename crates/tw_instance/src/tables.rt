@@ -55,7 +55,7 @@ pub fn opening_places(alloc: Global) -> Result<Vec<u32>, AllocError>
     Ok(vec![in alloc; 0, 0]?)
 }
 
-/// Makes the two ends of a link neighbours of each other.
+/// Makes the two ends of a link neighbours of each other, each with the delay from it to the other.
 pub fn join(rows: &mut [Vec<Hop>], link: &Link) -> Result<(), AllocError>
     requires first { link.now.first < length rows.old }
     requires second { link.now.second < length rows.old }
@@ -77,7 +77,7 @@ pub fn join(rows: &mut [Vec<Hop>], link: &Link) -> Result<(), AllocError>
         &mut rows[second],
         Hop {
             peer: link.first,
-            delay: link.delay,
+            delay: link.back,
         },
     );
     Ok(())

@@ -3,21 +3,11 @@
 ghost use Rattle.std.specs.Prelude.{◌<◌};
 
 use crate::machine::{machine, step};
-use std::alloc::{AllocError, Global};
+use std::alloc::Global;
 use tw_core::limits::OPENING_ROOM;
-use tw_rows::cases::case;
+use tw_rows::cases::{case, many_exchanges};
 use tw_sim::Step;
 use tw_warp::{OrMemory, Refusal, Warp};
-
-/// The text of a case of one router with 301 opening events: its start, and so many exchanges of its only path with itself.
-fn many_exchanges(alloc: Global) -> Result<String, AllocError> {
-    let mut text = String::from_str(alloc, "spp 1\nnodes 1\n")?;
-    for _ in 0..300 {
-        text.push_str("swap 1 0 1 1\n")?;
-    }
-    text.push_str("end\n")?;
-    Ok(text)
-}
 
 /// Whether the origin handles so many events.
 fn handles(warp: &mut Warp<'_>, count: usize) -> bool {

@@ -5,7 +5,7 @@ use Rattle.std.specs.Ordering.{is_lt}
 use Rattle.std.specs.declared.cmp.Ordering.TheVariants.{Equal}
 use Rattle.std.proofs.lemmas.Bool.{cases_Bool, false≢true, eqb-true, eq-eqb}
 use Rattle.tw_event.specs.declared.event.Body.{Body}
-use Rattle.tw_event.specs.declared.event.Body.TheVariants.{Start, Fail, Restore, Swap, Update}
+use Rattle.tw_event.specs.declared.event.Body.TheVariants.{Start, Fail, Restore, Swap, Forbid, Allow, Update}
 use Rattle.tw_event.specs.declared.event.Event.{Event}
 use Rattle.tw_event.specs.Order.{body_cmp, class_of, event_before, event_cmp}
 use Rattle.tw_event.proofs.Order.{same_is, same_self}
@@ -26,6 +26,8 @@ about w Start = false
 about w (Fail x) = x == w
 about w (Restore x) = x == w
 about w (Swap i j) = false
+about w (Forbid k) = false
+about w (Allow k) = false
 about w (Update q n) = false
 
 -- the same failure or repair, of the link to w
@@ -34,6 +36,8 @@ turn_to w Start = Start
 turn_to w (Fail x) = Fail w
 turn_to w (Restore x) = Restore w
 turn_to w (Swap i j) = Swap i j
+turn_to w (Forbid k) = Forbid k
+turn_to w (Allow k) = Allow k
 turn_to w (Update q n) = Update q n
 
 -- the event as it happens at v, the other end of the link to w
@@ -49,6 +53,8 @@ other_after w t Start l h = refl
 other_after w t (Fail x) l h = rw h refl
 other_after w t (Restore x) l h = rw h refl
 other_after w t (Swap i j) l h = refl
+other_after w t (Forbid k) l h = refl
+other_after w t (Allow k) l h = refl
 other_after w t (Update q n) l h = refl
 
 link_marks : (w : ℕ) (h : List Event) → link_along w h ≡ link_along w (marks w h)
@@ -64,6 +70,8 @@ turned_after v w t Start l h = cc
 turned_after v w t (Fail x) l h = rw (h, eq-eqb w w refl) refl
 turned_after v w t (Restore x) l h = rw (h, eq-eqb w w refl) refl
 turned_after v w t (Swap i j) l h = cc
+turned_after v w t (Forbid k) l h = cc
+turned_after v w t (Allow k) l h = cc
 turned_after v w t (Update q n) l h = cc
 
 link_mirror : (v w : ℕ) (xs : List Event) → ((e : Event) → In e xs → about v e.body ≡ true) → link_along v xs ≡ link_along w (map (mirror v w) xs)
@@ -82,12 +90,16 @@ turned_class w Start = refl
 turned_class w (Fail x) = refl
 turned_class w (Restore x) = refl
 turned_class w (Swap i j) = refl
+turned_class w (Forbid k) = refl
+turned_class w (Allow k) = refl
 turned_class w (Update q n) = refl
 
 about_cmp : (v : ℕ) (b c : Body) → about v b ≡ true → about v c ≡ true → body_cmp b c ≡ Equal
 about_cmp v (Fail x) (Fail y) h k = same_cmp x y (eqb-true x v h ∙ sym (eqb-true y v k))
 about_cmp v (Restore x) (Restore y) h k = same_cmp x y (eqb-true x v h ∙ sym (eqb-true y v k))
 about_cmp v (Swap i j) (Swap k l) h m = absurd (false≢true h)
+about_cmp v (Forbid k) (Forbid l) h m = absurd (false≢true h)
+about_cmp v (Allow k) (Allow l) h m = absurd (false≢true h)
 about_cmp v (Update q n) (Update p m) h k = absurd (false≢true h)
 about_cmp v b c h k = refl
 
@@ -96,6 +108,8 @@ turned_about v w (Fail x) h = eq-eqb w w refl
 turned_about v w (Restore x) h = eq-eqb w w refl
 turned_about v w Start h = h
 turned_about v w (Swap i j) h = h
+turned_about v w (Forbid k) h = h
+turned_about v w (Allow k) h = h
 turned_about v w (Update q n) h = h
 
 -- at the other end they come in the same order
@@ -112,6 +126,8 @@ turned_back v w (Fail x) h = ap Fail (sym (eqb-true x v h))
 turned_back v w (Restore x) h = ap Restore (sym (eqb-true x v h))
 turned_back v w Start h = refl
 turned_back v w (Swap i j) h = refl
+turned_back v w (Forbid k) h = refl
+turned_back v w (Allow k) h = refl
 turned_back v w (Update q n) h = refl
 
 mirror_back : (v w : ℕ) (e : Event) → IsMark w v e → mirror w v (mirror v w e) ≡ e
@@ -141,9 +157,15 @@ mirror_scene v w n (scene.Restore t a b) e (inr (inl is)) m =
     inl (ap (mirror v w) is ∙ (λ i. opening_event n t (sym there i) (Restore (sym here i))))
 mirror_scene v w n (scene.Swap t x i j) e (inl is) m =
     absurd (false≢true (subst (λ z. about v z.body ≡ true) is m.about))
+mirror_scene v w n (scene.Forbid t x k) e (inl is) m =
+    absurd (false≢true (subst (λ z. about v z.body ≡ true) is m.about))
+mirror_scene v w n (scene.Allow t x k) e (inl is) m =
+    absurd (false≢true (subst (λ z. about v z.body ≡ true) is m.about))
 mirror_scene v w n (scene.Fail t a b) e (inr (inr z)) m = absurd z
 mirror_scene v w n (scene.Restore t a b) e (inr (inr z)) m = absurd z
 mirror_scene v w n (scene.Swap t x i j) e (inr z) m = absurd z
+mirror_scene v w n (scene.Forbid t x k) e (inr z) m = absurd z
+mirror_scene v w n (scene.Allow t x k) e (inr z) m = absurd z
 
 module _ (case : Case) (is : IsCase case) where
   mirror_opening : (v w : ℕ) (e : Event) → In e (opening_events case.scenes) → IsMark w v e → In (mirror v w e) (opening_events case.scenes)

@@ -3,12 +3,13 @@ use Rattle.std.proofs.Common.{◌≡◌, ℕ, ◌+◌, true, false, not, List, [
 use Rattle.std.proofs.lemmas.Bool.{not-false, or_left, or_parts}
 use Rattle.std.proofs.lemmas.List.Folds.{list_any-append}
 use Rattle.tw_model.specs.declared.case.Scene.{Scene}
+use Rattle.tw_model.specs.declared.limits.TheConstants.{LATEST_VERSION}
 use Rattle.tw_model.specs.declared.net.Link.{Link}
 use Rattle.tw_model.specs.declared.rule.Rule.TheVariants.{PathNoLink}
-use Rattle.tw_model.specs.Case.{IsCase}
+use Rattle.tw_model.specs.Case.{Case, IsCase, bare_case}
 use Rattle.tw_model.specs.PermittedPath.{PermittedPath}
 use Rattle.tw_model.specs.Net.{Net, joins}
-use Rattle.tw_model.specs.Rules.{IsNet, LinksFollow, PathsFollow, ScenesFollow, is_linked, leaves_links, path_breaks, path_fault, link_fault, nodes_fault, scene_fault}
+use Rattle.tw_model.specs.Rules.{IsNet, LinksFollow, PathsFollow, ScenesFollow, case_fault, is_linked, leaves_links, path_breaks, path_fault, link_fault, nodes_fault, scene_fault}
 use Rattle.tw_model.proofs.Unbroken.{none_broken}
 
 -- a net without links and paths keeps the rules where its number of routers does
@@ -67,14 +68,20 @@ net_with_path net p h next = record {
 
 -- ---- one more scenario line
 
-pub case_alone : (net : Net) → IsNet net → IsCase (record { net = net; scenes = [] })
-case_alone net h = record { net = h; scenes = tt }
+pub case_alone : (net : Net) → IsNet net → IsCase (bare_case net)
+case_alone net h = record { net = h; scenes = tt; version = refl }
 
 scenes_follow_push : (net : Net) (count whole : ℕ) (scenes : List Scene) (s : Scene) → count + length scenes ≡ whole → ScenesFollow net count scenes → scene_fault net whole s ≡ None
     → ScenesFollow net count (scenes ++ s ∷ [])
 scenes_follow_push net count whole [] s e h next = let same : whole ≡ count = omega arith in (rw same at next, tt)
 scenes_follow_push net count whole (t ∷ scenes) s e h next = (h.0, scenes_follow_push net (count + 1) whole scenes s (omega arith) h.1 next)
 
-pub case_with_scene : (net : Net) (scenes : List Scene) (s : Scene) → IsCase (record { net = net; scenes = scenes }) → scene_fault net (length scenes) s ≡ None
-    → IsCase (record { net = net; scenes = scenes ++ s ∷ [] })
-case_with_scene net scenes s h next = record { net = h.net; scenes = scenes_follow_push net 0 (length scenes) scenes s (omega arith) h.scenes next }
+-- with one more line a case is one of the latest version, whatever version it was
+pub case_with_scene : {version : ℕ} (net : Net) (scenes : List Scene) (s : Scene) → IsCase (record { version = version; net = net; scenes = scenes }) → scene_fault net (length scenes) s ≡ None
+    → IsCase (record { version = LATEST_VERSION; net = net; scenes = scenes ++ s ∷ [] })
+case_with_scene net scenes s h next = record { net = h.net; scenes = scenes_follow_push net 0 (length scenes) scenes s (omega arith) h.scenes next; version = refl }
+
+-- ---- another version
+
+pub case_in_version : (version : ℕ) (case : Case) → IsCase case → case_fault version case.net case.scenes ≡ None → IsCase (record case { version = version })
+case_in_version version case h fits = record { net = h.net; scenes = h.scenes; version = fits }

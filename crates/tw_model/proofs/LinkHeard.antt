@@ -3,7 +3,7 @@ use Rattle.std.proofs.Common.{◌≡◌, ℕ, suc, zero, ◌+◌, ◌<◌, ◌�
 use Rattle.std.proofs.lemmas.Bool.{false≢true, both_ways, and_parts, and_from, eqb-true, eqb-false, eq-eqb}
 use Rattle.std.proofs.lemmas.List.{length-map}
 use Rattle.tw_event.specs.declared.event.Body.{Body}
-use Rattle.tw_event.specs.declared.event.Body.TheVariants.{Start, Fail, Restore, Swap, Update}
+use Rattle.tw_event.specs.declared.event.Body.TheVariants.{Start, Fail, Restore, Swap, Forbid, Allow, Update}
 use Rattle.tw_event.specs.declared.event.Event.{Event}
 use Rattle.tw_event.specs.declared.event.PathNo.{PathNo}
 use Rattle.tw_event.specs.Order.{event_before}
@@ -35,6 +35,8 @@ link_after w t Start l = l
 link_after w t (Fail x) l = if x == w then (if l.up then record l { up = false } else l) else l
 link_after w t (Restore x) l = if x == w then (if l.up then l else record { up = true; session = l.session + 1; since = t }) else l
 link_after w t (Swap i j) l = l
+link_after w t (Forbid k) l = l
+link_after w t (Allow k) l = l
 link_after w t (Update q n) l = l
 
 abbrev pub link_along : ℕ → List Event → LinkState
@@ -84,6 +86,8 @@ module _ (w : ℕ) (e : Event) (r : Row) (l : LinkState) where
   change_body : l.up ≡ r.up → (b : Body) → e.body ≡ b → Change w e r l (row_after w e.src b r) (link_after w e.time b l)
   change_body same Start is = not_update Start is (λ q n d. cc)
   change_body same (Swap i j) is = not_update (Swap i j) is (λ q n d. cc)
+  change_body same (Forbid k) is = not_update (Forbid k) is (λ q n d. cc)
+  change_body same (Allow k) is = not_update (Allow k) is (λ q n d. cc)
   change_body same (Fail x) is =
       subst (λ up. Change w e r l (row_after w e.src (Fail x) r) (if x == w then (if up then record l { up = false } else l) else l)) (sym same)
       (change_fail x is (x == w) r.up refl refl)

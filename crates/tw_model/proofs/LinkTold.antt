@@ -4,15 +4,15 @@ use Rattle.std.specs.List.{enumerate_from, position_or_len, zip}
 use Rattle.std.proofs.lemmas.Bool.{cases_Bool, cases_eq, both_ways, and_parts, eq-eqb, ne_eqb, ltb-true}
 use Rattle.std.proofs.Math.Numerals.{one-add}
 use Rattle.tw_event.specs.declared.event.Body.{Body}
-use Rattle.tw_event.specs.declared.event.Body.TheVariants.{Start, Fail, Restore, Swap, Update}
+use Rattle.tw_event.specs.declared.event.Body.TheVariants.{Start, Fail, Restore, Swap, Forbid, Allow, Update}
 use Rattle.tw_event.specs.declared.event.Event.{Event}
 use Rattle.tw_event.specs.declared.event.PathNo.{PathNo}
 use Rattle.tw_model.specs.declared.net.Hop.{Hop}
 use Rattle.tw_model.specs.declared.state.Row.{Row}
 use Rattle.std.proofs.lemmas.List.{length-set}
 use Rattle.tw_model.specs.Net.{Net, hops_of}
-use Rattle.tw_model.specs.State.{State, best, has_peer, hop, no_hop, no_row, row, slot}
-use Rattle.tw_model.specs.Effect.{Reaction, acts, accepts, body_suits, effect, with_failed_link, with_heard, with_repaired_link, settle, with_swap, tell, update_to, updates, ups}
+use Rattle.tw_model.specs.State.{State, best, has_peer, hop, is_barred, no_hop, no_row, row, slot}
+use Rattle.tw_model.specs.Effect.{Reaction, acts, accepts, body_suits, effect, with_bar, with_failed_link, with_heard, with_repaired_link, settle, with_swap, tell, update_to, updates, ups}
 use Rattle.tw_sim.specs.Simulation.{sent}
 use Rattle.tw_sim.proofs.Members.{In, in_enumerate, in_filter, in_filtered, in_map, in_mapped, in_zip}
 use Rattle.tw_model.proofs.Nets.{Rises, hop_slot, hops_rises}
@@ -183,6 +183,16 @@ module _ (net : Net) (a b : ℕ) (there : has_peer net a b ≡ true) where
       ]
   tell_acts s e (Swap i j) full suit =
       from_changed e.time s (with_swap s i j) (settle net a e.time (with_swap s i j)) refl refl (λ u. u) (tell_settle e.time (with_swap s i j) full)
+  tell_acts s e (Forbid k) full suit =
+      elim (cases_Bool (is_barred s k)) [
+        | inl c ↦ rw c (tell_quiet e.time s)
+        | inr c ↦ rw c (from_changed e.time s (with_bar s k true) (settle net a e.time (with_bar s k true)) refl refl (λ u. u) (tell_settle e.time (with_bar s k true) full))
+      ]
+  tell_acts s e (Allow k) full suit =
+      elim (cases_Bool (is_barred s k)) [
+        | inl c ↦ rw c (from_changed e.time s (with_bar s k false) (settle net a e.time (with_bar s k false)) refl refl (λ u. u) (tell_settle e.time (with_bar s k false) full))
+        | inr c ↦ rw c (tell_quiet e.time s)
+      ]
   tell_acts s e (Update q n) full suit =
       elim (cases_Bool (accepts s (slot net a e.src) n)) [
         | inl c ↦ rw c (from_changed e.time s (with_heard s (slot net a e.src) q) (settle net a e.time (with_heard s (slot net a e.src) q)) refl refl (hear_up s q full e.src (cases_eq e.src b))

@@ -11,9 +11,9 @@ use Rattle.tw_model.specs.declared.net.Hop.{Hop}
 use Rattle.tw_model.specs.declared.net.Link.{Link}
 use Rattle.tw_model.specs.declared.rule.Rule.{Rule}
 use Rattle.tw_model.specs.declared.rule.Rule.TheVariants.{Range, SelfLink, Delay, TooMany}
-use Rattle.tw_model.specs.Net.{Net, joins, hop_to, hops_of}
+use Rattle.tw_model.specs.Net.{Net, delay_from, joins, hop_to, hops_of}
 use Rattle.tw_model.specs.State.{has_peer, hop, no_hop, slot}
-use Rattle.tw_model.specs.Rules.{IsNet, LinksFollow, degree, is_linked, link_breaks, link_fault, nodes_break, nodes_fault}
+use Rattle.tw_model.specs.Rules.{IsNet, LinksFollow, degree, is_linked, is_within, link_breaks, link_fault, nodes_break, nodes_fault}
 use Rattle.tw_model.proofs.Unbroken.{none_broken}
 use Rattle.tw_sim.proofs.Members.{In, in_find, in_filter_map, in_filter_mapped, in_get_or, in_range, place_within, range_has, find_agree, find_some}
 
@@ -30,17 +30,23 @@ pub record IsLink (nodes : ℕ) (l : Link) : Type 0 where
   pub apart : l.first ≡ l.second → ⊥
   pub least : 1 ≤ l.delay
   pub most : l.delay ≤ 1000000
+  pub back_least : 1 ≤ l.back
+  pub back_most : l.back ≤ 1000000
 
 pub is_link : (net : Net) (l : Link) → ((r : Rule) → link_breaks net l r ≡ false) → IsLink net.nodes l
 is_link net l k =
     let range = and_parts (nat_lt l.first net.nodes) (nat_lt l.second net.nodes) (not-false _ (k Range)) in
-    let delay = and_parts (nat_le 1 l.delay) (nat_le l.delay 1000000) (not-false _ (k Delay)) in
+    let both = and_parts (is_within 1 1000000 l.delay) (is_within 1 1000000 l.back) (not-false _ (k Delay)) in
+    let delay = and_parts (nat_le 1 l.delay) (nat_le l.delay 1000000) both.0 in
+    let back = and_parts (nat_le 1 l.back) (nat_le l.back 1000000) both.1 in
     record {
       first = ltb-true l.first net.nodes range.0;
       second = ltb-true l.second net.nodes range.1;
       apart = eqb-false l.first l.second (k SelfLink);
       least = leb-true 1 l.delay delay.0;
       most = leb-true l.delay 1000000 delay.1;
+      back_least = leb-true 1 l.back back.0;
+      back_most = leb-true l.back 1000000 back.1;
     }
 
 links_kept : (net : Net) (links : List Link) → LinksFollow net links → (l : Link) → In l links → IsLink net.nodes l
@@ -48,7 +54,7 @@ links_kept net (x ∷ links) h l (inl e) = subst (IsLink net.nodes) (sym e) (is_
 links_kept net (x ∷ links) h l (inr k) = links_kept (record net { links = net.links ++ x ∷ [] }) links h.1 l k
 links_kept net [] h l k = absurd k
 
--- links are between two different routers and take 1 to 1,000,000 ticks
+-- links are between two different routers and take 1 to 1,000,000 ticks each way
 pub is_link_of : (net : Net) → IsNet net → (l : Link) → In l net.links → IsLink net.nodes l
 is_link_of net is l h = links_kept (record { nodes = net.nodes; links = []; permitted = [] }) net.links is.links l h
 
@@ -81,17 +87,21 @@ joined_by net v w l is h =
           record { here = subst (λ n. n < net.nodes) b is.second; there = subst (λ n. n < net.nodes) a is.first; apart = λ e. is.apart (a ∙ sym e ∙ sym b) })
     ]
 
+-- whichever end sends, a message takes 1 to 1,000,000 ticks
+delay_within : (nodes v : ℕ) (l : Link) → IsLink nodes l → (1 ≤ delay_from v l) × (delay_from v l ≤ 1000000)
+delay_within nodes v l is = elim (cases_Bool (l.first == v)) [ inl b ↦ rw b (is.least, is.most) | inr b ↦ rw b (is.back_least, is.back_most) ]
+
 -- the link behind a hop
 pub record IsHop (net : Net) (v : ℕ) (h : Hop) (l : Link) : Type 0 where
   pub given : In l net.links
   pub between : joins v h.peer l ≡ true
   pub first : find (joins v h.peer) net.links ≡ Some l
-  pub delay : h.delay ≡ l.delay
+  pub delay : h.delay ≡ delay_from v l
 
-hop_from : (links : List Link) (v w : ℕ) (h : Hop) (o : Option Link) → find (joins v w) links ≡ o → option_map (λ l. record { peer = w; delay = l.delay }) o ≡ Some h
-    → (l : Link) × (find (joins v w) links ≡ Some l) × (h ≡ record { peer = w; delay = l.delay })
+hop_from : (links : List Link) (v w : ℕ) (h : Hop) (o : Option Link) → find (joins v w) links ≡ o → option_map (λ l. record { peer = w; delay = delay_from v l }) o ≡ Some h
+    → (l : Link) × (find (joins v w) links ≡ Some l) × (h ≡ record { peer = w; delay = delay_from v l })
 hop_from links v w h None e k = cc
-hop_from links v w h (Some l) e k = (l, e, (let r : Some h ≡ Some (record { peer = w; delay = l.delay }) = sym k in cc))
+hop_from links v w h (Some l) e k = (l, e, (let r : Some h ≡ Some (record { peer = w; delay = delay_from v l }) = sym k in cc))
 
 pub hop_of : (net : Net) (v : ℕ) (h : Hop) → In h (hops_of net v) → (l : Link) × IsHop net v h l × (h.peer < net.nodes)
 unfolding hops_of
@@ -118,14 +128,15 @@ neighbour net is v h k =
     let l = is_link_of net is a.0 a.1.given in
     let j = joined_by net v h.peer a.0 l a.1.between in
     let d = a.1.delay in
-    record { here = j.here; there = j.there; apart = j.apart; least = subst (λ n. 1 ≤ n) (sym d) l.least; most = subst (λ n. n ≤ 1000000) (sym d) l.most }
+    let within = delay_within net.nodes v a.0 l in
+    record { here = j.here; there = j.there; apart = j.apart; least = subst (λ n. 1 ≤ n) (sym d) within.0; most = subst (λ n. n ≤ 1000000) (sym d) within.1 }
 
 -- routers that a link joins are neighbours
 pub hop_between : (net : Net) (v w : ℕ) → w < net.nodes → is_linked net.links v w ≡ true → (h : Hop) × In h (hops_of net v) × (h.peer ≡ w)
 unfolding hops_of
 hop_between net v w below linked =
     let f = find_some (joins v w) net.links linked in
-    let h : Hop = record { peer = w; delay = f.0.delay } in
+    let h : Hop = record { peer = w; delay = delay_from v f.0 } in
     let e : hop_to net.links v w ≡ Some h = rw f.1 refl in
     (h, in_filter_mapped (hop_to net.links v) w h (range_with_len 0 net.nodes) e (range_has w 0 net.nodes (omega arith) (omega arith)), refl)
 
@@ -135,15 +146,15 @@ hop_in net v w h e below =
     in_filter_mapped (hop_to net.links v) w h (range_with_len 0 net.nodes) e (range_has w 0 net.nodes (omega arith) (omega arith))
 
 -- a neighbour has one back, over the same link
-pub hop_back : (net : Net) → IsNet net → (v : ℕ) (h : Hop) → In h (hops_of net v) → (b : Hop) × In b (hops_of net h.peer) × (b.peer ≡ v) × (b.delay ≡ h.delay)
+pub hop_back : (net : Net) → IsNet net → (v : ℕ) (h : Hop) → In h (hops_of net v) → (b : Hop) × In b (hops_of net h.peer) × (b.peer ≡ v)
 hop_back net is v h k =
     let a = hop_of net v h k in
     let n = neighbour net is v h k in
     let l = a.0 in
     let back = sym (find_agree (joins v h.peer) (joins h.peer v) (joins_back v h.peer) net.links) ∙ a.1.first in
-    let b : Hop = record { peer = v; delay = l.delay } in
+    let b : Hop = record { peer = v; delay = delay_from h.peer l } in
     let e : hop_to net.links h.peer v ≡ Some b = rw back refl in
-    (b, hop_in net h.peer v b e n.here, refl, sym a.1.delay)
+    (b, hop_in net h.peer v b e n.here, refl)
 
 -- each neighbour has a higher number than those before it
 abbrev pub Rises : List Hop → Type 0

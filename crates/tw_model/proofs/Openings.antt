@@ -11,7 +11,7 @@ use Rattle.tw_model.specs.declared.case.Scene.TheVariants as scene
 use Rattle.tw_model.specs.declared.rule.Rule.{Rule}
 use Rattle.tw_model.specs.declared.rule.Rule.TheVariants.{Range, NoSuchLink, NoSuchPlace}
 use Rattle.tw_model.specs.Net.{Net, joins}
-use Rattle.tw_model.specs.Rules.{IsNet, ScenesFollow, has_place, is_linked, scene_breaks}
+use Rattle.tw_model.specs.Rules.{IsNet, ScenesFollow, has_line, has_place, is_linked, scene_breaks}
 use Rattle.tw_model.specs.State.{has_peer}
 use Rattle.tw_model.specs.Effect.{suits}
 use Rattle.tw_sim.specs.Simulation.{times}
@@ -47,6 +47,8 @@ abbrev pub SceneFits : Net → Scene → Type 0
 SceneFits net (scene.Fail t a b) = AreEnds net a b
 SceneFits net (scene.Restore t a b) = AreEnds net a b
 SceneFits net (scene.Swap t v i j) = (v < net.nodes) × (has_place net v i ≡ true) × (has_place net v j ≡ true)
+SceneFits net (scene.Forbid t v k) = (v < net.nodes) × (has_line net v k ≡ true)
+SceneFits net (scene.Allow t v k) = (v < net.nodes) × (has_line net v k ≡ true)
 
 scene_fits : (net : Net) → IsNet net → (n : ℕ) (s : Scene) → ((r : Rule) → scene_breaks net n s r ≡ false) → SceneFits net s
 scene_fits net is n (scene.Fail t a b) h = are_ends net is a b (not-false (is_linked net.links a b) (h NoSuchLink))
@@ -54,6 +56,8 @@ scene_fits net is n (scene.Restore t a b) h = are_ends net is a b (not-false (is
 scene_fits net is n (scene.Swap t v i j) h =
     let p = and_parts (has_place net v i) (has_place net v j) (not-false (has_place net v i && has_place net v j) (h NoSuchPlace)) in
     (ltb-true v net.nodes (not-false (nat_lt v net.nodes) (h Range)), p.0, p.1)
+scene_fits net is n (scene.Forbid t v k) h = (ltb-true v net.nodes (not-false (nat_lt v net.nodes) (h Range)), not-false (has_line net v k) (h NoSuchPlace))
+scene_fits net is n (scene.Allow t v k) h = (ltb-true v net.nodes (not-false (nat_lt v net.nodes) (h Range)), not-false (has_line net v k) (h NoSuchPlace))
 
 pub scene_of : (case : Case) → IsCase case → (s : Scene) → In s case.scenes → SceneFits case.net s
 scene_of case is s h =
@@ -86,9 +90,15 @@ is_opening net n (scene.Swap t v i j) f x (inl e) =
       body = λ q k c. cc;
       suit = both_suit v (has_place net v i && has_place net v j) (and_from (has_place net v i) (has_place net v j) f.1 f.2);
     })
+is_opening net n (scene.Forbid t v k) f x (inl e) =
+    subst (IsOpening net n) (sym e) (record { seq = refl; src = refl; body = λ q l c. cc; suit = both_suit v (has_line net v k) f.1 })
+is_opening net n (scene.Allow t v k) f x (inl e) =
+    subst (IsOpening net n) (sym e) (record { seq = refl; src = refl; body = λ q l c. cc; suit = both_suit v (has_line net v k) f.1 })
 is_opening net n (scene.Fail t a b) f x (inr (inr z)) = absurd z
 is_opening net n (scene.Restore t a b) f x (inr (inr z)) = absurd z
 is_opening net n (scene.Swap t v i j) f x (inr z) = absurd z
+is_opening net n (scene.Forbid t v k) f x (inr z) = absurd z
+is_opening net n (scene.Allow t v k) f x (inr z) = absurd z
 
 module _ (case : Case) (is : IsCase case) where
   -- an opening event of the case: the origin's start, numbered 0, or one of a line, numbered from 1
@@ -130,6 +140,8 @@ module _ (case : Case) (is : IsCase case) where
   scene_once n (scene.Restore t a b) f x =
       pair_once x (opening_event n t a (body.Restore b)) (opening_event n t b (body.Restore a)) (λ e. f.apart (ap (λ z. z.dst) e))
   scene_once n (scene.Swap t v i j) f x = let first = one_le case x (opening_event n t v (body.Swap i j)) in omega arith
+  scene_once n (scene.Forbid t v k) f x = let first = one_le case x (opening_event n t v (body.Forbid k)) in omega arith
+  scene_once n (scene.Allow t v k) f x = let first = one_le case x (opening_event n t v (body.Allow k)) in omega arith
 
   -- events of lines from n on have numbers from n on, and stand once
   scenes_number : (n : ℕ) (scenes : List Scene) → ((s : Scene) → In s scenes → SceneFits case.net s) → (x : Event)

@@ -1,5 +1,5 @@
 -- When a run is over, every router has the best path that its neighbours' present paths allow.
-use Rattle.std.proofs.Common.{◌≡◌, ℕ, ◌+◌, ◌<◌, ◌==◌, Bool, true, ◌||◌, List, [], ◌∷◌, length, refl, ap, sym, ◌∙◌, subst, ◌⊎◌, inl, inr, arith, nat_lt, if◌then◌else◌}
+use Rattle.std.proofs.Common.{◌≡◌, ℕ, ◌+◌, ◌<◌, ◌==◌, Bool, true, not, ◌&&◌, ◌||◌, List, [], ◌∷◌, length, refl, ap, sym, ◌∙◌, subst, ◌⊎◌, inl, inr, arith, nat_lt, if◌then◌else◌}
 use Rattle.std.specs.List.{list_any, zip}
 use Rattle.std.specs.Option.{unwrap_or}
 use Rattle.std.proofs.lemmas.Bool.{cases_Bool, false≢true, and_parts, eqb-true, eq-eqb, ltb-true, ltb-false}
@@ -11,12 +11,12 @@ use Rattle.tw_event.proofs.Order.{same_is, same_self}
 use Rattle.tw_model.specs.declared.net.Hop.{Hop}
 use Rattle.tw_model.specs.declared.state.Row.{Row}
 use Rattle.tw_model.specs.Net.{empty_path, hops_of, origin_path}
-use Rattle.tw_model.specs.State.{has_peer, offers, row, slot}
+use Rattle.tw_model.specs.State.{bars, has_peer, is_choice, offers, row, slot}
 use Rattle.tw_model.specs.Effect.{body_suits}
 use Rattle.tw_sim.specs.Simulation.{all_sent, only, sent, state, times}
 use Rattle.tw_sim.specs.Seq.{at, begin, finished, log, rest, seq, weight}
 use Rattle.tw_model.specs.Case.{Case, IsCase, opening_events, simulation}
-use Rattle.tw_model.specs.Quiet.{IsQuiet, IsStable, reaches}
+use Rattle.tw_model.specs.Quiet.{IsQuiet, IsStable, is_reached, reaches}
 use Rattle.tw_sim.proofs.Members.{In, find_agree, in_append, in_filter, in_filtered, in_times, in_zip, times_in}
 use Rattle.tw_model.proofs.Nets.{has_peer_back, has_peer_of, hops_rises}
 use Rattle.tw_model.proofs.Sends.{tells_effect}
@@ -213,6 +213,7 @@ module _ (case : Case) (is : IsCase case) (t : ℕ) (quiet : IsQuiet case t) whe
       let start_in : v ≡ 0 → In start (history v) = λ z. in_history v start (opening_handled start (inl refl)) (sym z) in
       best_along case v (history v) (is_history v) start_in
       ∙ ap (λ o. if v == 0 then origin_path else unwrap_or o empty_path)
-      (find_agree (λ q. list_any (offers case.net v q) s.rows) (λ q. list_any (reaches case.net v (λ w. (at (simulation case) t w).rib) q) (zip (hops_of case.net v) s.rows))
-      (λ q. any_zip (hops_of case.net v) s.rows (offers case.net v q) (reaches case.net v (λ w. (at (simulation case) t w).rib) q)
-      (rows_full case v (history v) (is_history v).home) (offers_reaches v q)) s.order)
+      (find_agree (is_choice case.net v s) (is_reached case.net (λ w. (at (simulation case) t w).rib) v s)
+      (λ q. ap (λ b. not (bars case.net v s.barred q) && b)
+      (any_zip (hops_of case.net v) s.rows (offers case.net v q) (reaches case.net v (λ w. (at (simulation case) t w).rib) q)
+      (rows_full case v (history v) (is_history v).home) (offers_reaches v q))) s.order)

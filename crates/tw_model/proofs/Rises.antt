@@ -1,13 +1,13 @@
 -- Counters only rise, and what an event does leaves the one of events handled to the event itself.
-use Rattle.std.proofs.Common.{◌≡◌, ℕ, ◌≤◌, ◌==◌, refl, inl, inr, arith}
+use Rattle.std.proofs.Common.{◌≡◌, ℕ, ◌≤◌, ◌==◌, true, false, refl, inl, inr, arith}
 use Rattle.std.proofs.lemmas.Bool.{cases_Bool}
 use Rattle.tw_event.specs.declared.event.Body.{Body}
-use Rattle.tw_event.specs.declared.event.Body.TheVariants.{Start, Fail, Restore, Swap, Update}
+use Rattle.tw_event.specs.declared.event.Body.TheVariants.{Start, Fail, Restore, Swap, Forbid, Allow, Update}
 use Rattle.tw_event.specs.declared.event.Event.{Event}
 use Rattle.tw_model.specs.declared.state.Counters.{Counters}
 use Rattle.tw_model.specs.Net.{Net}
-use Rattle.tw_model.specs.State.{State, best, row, slot}
-use Rattle.tw_model.specs.Effect.{accepts, acts, settle, with_failed_link, with_heard, with_swap}
+use Rattle.tw_model.specs.State.{State, best, is_barred, row, slot}
+use Rattle.tw_model.specs.Effect.{accepts, acts, settle, with_bar, with_failed_link, with_heard, with_swap}
 
 -- what an event does to the counters, the one of events handled aside
 pub record Rises (a b : Counters) : Type 0 where
@@ -34,6 +34,16 @@ rises_acts net v s e (Restore w) =
       | inr c ↦ rw c (record { sent = omega arith; handled = refl })
     ]
 rises_acts net v s e (Swap i j) = let r = rises_settle net v e.time (with_swap s i j) in record { sent = r.sent; handled = r.handled }
+rises_acts net v s e (Forbid k) =
+    elim (cases_Bool (is_barred s k)) [
+      | inl c ↦ rw c (record { sent = omega arith; handled = refl })
+      | inr c ↦ rw c (let r = rises_settle net v e.time (with_bar s k true) in record { sent = r.sent; handled = r.handled })
+    ]
+rises_acts net v s e (Allow k) =
+    elim (cases_Bool (is_barred s k)) [
+      | inl c ↦ rw c (let r = rises_settle net v e.time (with_bar s k false) in record { sent = r.sent; handled = r.handled })
+      | inr c ↦ rw c (record { sent = omega arith; handled = refl })
+    ]
 rises_acts net v s e (Update q n) =
     elim (cases_Bool (accepts s (slot net v e.src) n)) [
       | inl c ↦ rw c (let r = rises_settle net v e.time (with_heard s (slot net v e.src) q) in record { sent = r.sent; handled = r.handled })

@@ -3,12 +3,12 @@ use Rattle.std.proofs.Common.{◌≡◌, ℕ, ◌+◌, ◌==◌, true, false, �
 use Rattle.std.proofs.lemmas.Bool.{cases_Bool, cases_eq, eq-eqb, ltb-true, lt-ltb, ne_eqb}
 use Rattle.std.proofs.lemmas.List.{get_or-set_same, get_or-set_other, length-set}
 use Rattle.tw_event.specs.declared.event.Body.{Body}
-use Rattle.tw_event.specs.declared.event.Body.TheVariants.{Start, Fail, Restore, Swap, Update}
+use Rattle.tw_event.specs.declared.event.Body.TheVariants.{Start, Fail, Restore, Swap, Forbid, Allow, Update}
 use Rattle.tw_event.specs.declared.event.Event.{Event}
 use Rattle.tw_model.specs.declared.state.Row.{Row}
 use Rattle.tw_model.specs.Net.{Net, empty_path, hops_of}
-use Rattle.tw_model.specs.State.{State, best, has_peer, hop, no_row, row, slot}
-use Rattle.tw_model.specs.Effect.{acts, accepts, with_dropped, effect, with_failed_link, with_heard, settle, with_swap, with_row}
+use Rattle.tw_model.specs.State.{State, best, has_peer, hop, is_barred, no_row, row, slot}
+use Rattle.tw_model.specs.Effect.{acts, accepts, with_dropped, effect, with_bar, with_failed_link, with_heard, settle, with_swap, with_row}
 use Rattle.tw_model.proofs.Nets.{hop_slot}
 
 -- what an event with this sender and body makes of the row for neighbour w
@@ -17,6 +17,8 @@ row_after w s Start r = r
 row_after w s (Fail x) r = if x == w then (if r.up then record r { up = false; heard = empty_path } else r) else r
 row_after w s (Restore x) r = if x == w then (if r.up then r else record r { up = true; session = r.session + 1 }) else r
 row_after w s (Swap i j) r = r
+row_after w s (Forbid k) r = r
+row_after w s (Allow k) r = r
 row_after w s (Update q n) r = if s == w then (if r.up && r.session == n then record r { heard = q } else r) else r
 
 settle_rows : (net : Net) (v t : ℕ) (s : State) → (settle net v t s).state.rows ≡ s.rows
@@ -36,6 +38,16 @@ acts_rows net v s e (Restore x) =
       | inr c ↦ rw c (length-set s.rows (slot net v x) _)
     ]
 acts_rows net v s e (Swap i j) = ap length (settle_rows net v e.time (with_swap s i j))
+acts_rows net v s e (Forbid k) =
+    elim (cases_Bool (is_barred s k)) [
+      | inl c ↦ rw c refl
+      | inr c ↦ rw c (ap length (settle_rows net v e.time (with_bar s k true)))
+    ]
+acts_rows net v s e (Allow k) =
+    elim (cases_Bool (is_barred s k)) [
+      | inl c ↦ rw c (ap length (settle_rows net v e.time (with_bar s k false)))
+      | inr c ↦ rw c refl
+    ]
 acts_rows net v s e (Update q n) =
     elim (cases_Bool (accepts s (slot net v e.src) n)) [
       | inl c ↦ rw c (ap length (settle_rows net v e.time (with_heard s (slot net v e.src) q)) ∙ length-set s.rows (slot net v e.src) _)
@@ -113,6 +125,16 @@ module _ (net : Net) (v w : ℕ) (there : has_peer net v w ≡ true) where
   row_acts s e (Fail x) full = row_fail s e full x (cases_eq x w)
   row_acts s e (Restore x) full = row_restore s e full x (cases_eq x w)
   row_acts s e (Swap i j) full = settled e.time (with_swap s i j)
+  row_acts s e (Forbid k) full =
+      elim (cases_Bool (is_barred s k)) [
+        | inl c ↦ rw c refl
+        | inr c ↦ rw c (settled e.time (with_bar s k true))
+      ]
+  row_acts s e (Allow k) full =
+      elim (cases_Bool (is_barred s k)) [
+        | inl c ↦ rw c (settled e.time (with_bar s k false))
+        | inr c ↦ rw c refl
+      ]
   row_acts s e (Update q n) full = row_update s e full q n e.src (cases_eq e.src w)
 
   -- the row for w after an event

@@ -1,12 +1,12 @@
 -- What an event at a router sends: later than itself, from its router, numbered, each once, at most 64, to neighbours.
-use Rattle.std.proofs.Common.{◌≡◌, ℕ, ◌+◌, ◌<◌, ◌≤◌, ◌==◌, List, [], ◌∷◌, length, map, ap, inl, inr, arith, nat_lt}
+use Rattle.std.proofs.Common.{◌≡◌, ℕ, ◌+◌, ◌<◌, ◌≤◌, ◌==◌, true, false, List, [], ◌∷◌, length, map, ap, inl, inr, arith, nat_lt}
 use Rattle.std.specs.List.{enumerate_from, zip}
 use Rattle.std.proofs.lemmas.Bool.{cases_Bool, ltb-true, ltb-false}
 use Rattle.std.proofs.lemmas.List.{length-map}
 use Rattle.std.proofs.lemmas.List.FromFn.{length-enumerate_from}
 use Rattle.std.proofs.lemmas.List.Sums.{count_by-le-length, length-filter}
 use Rattle.tw_event.specs.declared.event.Body.{Body}
-use Rattle.tw_event.specs.declared.event.Body.TheVariants.{Start, Fail, Restore, Swap, Update}
+use Rattle.tw_event.specs.declared.event.Body.TheVariants.{Start, Fail, Restore, Swap, Forbid, Allow, Update}
 use Rattle.tw_event.specs.declared.event.Event.{Event}
 use Rattle.tw_event.specs.declared.event.PathNo.{PathNo}
 use Rattle.tw_event.proofs.Order.{same_is}
@@ -14,8 +14,8 @@ use Rattle.tw_model.specs.declared.net.Hop.{Hop}
 use Rattle.tw_model.specs.declared.state.Row.{Row}
 use Rattle.tw_model.specs.Net.{hops_of}
 use Rattle.tw_model.specs.Rules.{IsNet}
-use Rattle.tw_model.specs.State.{State, best, hop, no_hop, row, slot}
-use Rattle.tw_model.specs.Effect.{Reaction, acts, accepts, with_dropped, effect, with_failed_link, with_heard, without_sends, with_repaired_link, settle, with_swap, tell, update_to, updates, ups}
+use Rattle.tw_model.specs.State.{State, best, hop, is_barred, no_hop, row, slot}
+use Rattle.tw_model.specs.Effect.{Reaction, acts, accepts, with_dropped, effect, with_bar, with_failed_link, with_heard, without_sends, with_repaired_link, settle, with_swap, tell, update_to, updates, ups}
 use Rattle.tw_sim.specs.Simulation.{one, times}
 use Rattle.tw_model.specs.Case.{Case, simulation}
 use Rattle.tw_sim.proofs.Members.{In, in_enumerate, in_filter, in_map, in_times, in_zip, in_or_default}
@@ -139,6 +139,16 @@ module _ (case : Case) where
         | inr c ↦ rw c (tells_tell v e.time (with_repaired_link s (slot case.net v w)) (slot case.net v w) is)
       ]
   tells_acts v s e (Swap i j) is = tells_settle v e.time (with_swap s i j) is
+  tells_acts v s e (Forbid k) is =
+      elim (cases_Bool (is_barred s k)) [
+        | inl c ↦ rw c (tells_quiet v e.time s)
+        | inr c ↦ rw c (tells_settle v e.time (with_bar s k true) is)
+      ]
+  tells_acts v s e (Allow k) is =
+      elim (cases_Bool (is_barred s k)) [
+        | inl c ↦ rw c (tells_settle v e.time (with_bar s k false) is)
+        | inr c ↦ rw c (tells_quiet v e.time s)
+      ]
   tells_acts v s e (Update q n) is =
       elim (cases_Bool (accepts s (slot case.net v e.src) n)) [
         | inl c ↦ rw c (tells_settle v e.time (with_heard s (slot case.net v e.src) q) is)

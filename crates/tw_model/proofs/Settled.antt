@@ -1,17 +1,17 @@
 -- A router uses the best path that its neighbours offer, the origin once it has started.
-use Rattle.std.proofs.Common.{◌≡◌, ℕ, suc, zero, ◌+◌, ◌==◌, Bool, true, false, ◌||◌, List, [], ◌∷◌, map, get_or, set, None, refl, ap, sym, ◌∙◌, subst, inl, inr, if◌then◌else◌}
+use Rattle.std.proofs.Common.{◌≡◌, ℕ, suc, zero, ◌+◌, ◌==◌, Bool, true, false, not, ◌&&◌, ◌||◌, List, [], ◌∷◌, map, get_or, set, None, refl, ap, sym, ◌∙◌, subst, inl, inr, if◌then◌else◌}
 use Rattle.std.specs.List.{find, list_any}
 use Rattle.std.specs.Option.{unwrap_or}
-use Rattle.std.proofs.lemmas.Bool.{cases_Bool, and_parts, eqb-true, ne_eqb}
+use Rattle.std.proofs.lemmas.Bool.{cases_Bool, and_parts, and_right, eqb-true, ne_eqb}
 use Rattle.tw_event.specs.declared.event.Body.{Body}
-use Rattle.tw_event.specs.declared.event.Body.TheVariants.{Start, Fail, Restore, Swap, Update}
+use Rattle.tw_event.specs.declared.event.Body.TheVariants.{Start, Fail, Restore, Swap, Forbid, Allow, Update}
 use Rattle.tw_event.specs.declared.event.Event.{Event}
 use Rattle.tw_event.specs.declared.event.PathNo.{PathNo}
 use Rattle.tw_model.specs.declared.net.Hop.{Hop}
 use Rattle.tw_model.specs.declared.state.Row.{Row}
 use Rattle.tw_model.specs.Net.{Net, empty_path, hops_of, origin_path, paths_of}
-use Rattle.tw_model.specs.State.{State, best, fresh_row, has_peer, no_row, offers, opening, row, slot}
-use Rattle.tw_model.specs.Effect.{acts, accepts, body_suits, effect, with_failed_link, with_heard, with_repaired_link, settle, with_swap}
+use Rattle.tw_model.specs.State.{State, bars, best, fresh_row, has_peer, is_barred, is_choice, no_row, offers, opening, row, slot}
+use Rattle.tw_model.specs.Effect.{acts, accepts, body_suits, effect, with_bar, with_failed_link, with_heard, with_repaired_link, settle, with_swap}
 use Rattle.tw_sim.specs.Simulation.{state}
 use Rattle.tw_model.specs.Case.{Case, opening_event, simulation}
 use Rattle.tw_sim.proofs.Members.{In, find_agree}
@@ -40,11 +40,16 @@ restored_offers : (net : Net) (v : ℕ) (q : PathNo) (r : Row) → r.up ≡ fals
     → offers net v q (record r { up = true; session = r.session + 1 }) ≡ offers net v q r
 restored_offers net v q r down none = rw (down, none) refl
 
+-- nor does it open a choice
+restored_choice : (net : Net) (v k : ℕ) (s : State) → (row s k).up ≡ false → (row s k).heard ≡ empty_path → (q : PathNo) → is_choice net v (with_repaired_link s k) q ≡ is_choice net v s q
+restored_choice net v k s down none q =
+    ap (λ b. not (bars net v s.barred q) && b)
+    (any_set (offers net v q) s.rows k (record (row s k) { up = true; session = (row s k).session + 1 }) no_row (restored_offers net v q (row s k) down none))
+
 restored_best : (net : Net) (v k : ℕ) (s : State) → (row s k).up ≡ false → (row s k).heard ≡ empty_path → best net v (with_repaired_link s k) ≡ best net v s
 restored_best net v k s down none =
     ap (λ o. if v == 0 then origin_path else unwrap_or o empty_path)
-    (find_agree (λ q. list_any (offers net v q) (with_repaired_link s k).rows) (λ q. list_any (offers net v q) s.rows)
-    (λ q. any_set (offers net v q) s.rows k (record (row s k) { up = true; session = (row s k).session + 1 }) no_row (restored_offers net v q (row s k) down none)) s.order)
+    (find_agree (is_choice net v (with_repaired_link s k)) (is_choice net v s) (restored_choice net v k s down none) s.order)
 
 -- either the router has settled, or nothing that matters has changed
 data Settles (net : Net) (v : ℕ) (b : Body) (s after : State) : Type 0 where
@@ -65,6 +70,16 @@ settles_acts net v s e (Restore x) none =
       | inr c ↦ (let best_kept = restored_best net v (slot net v x) s c (none x refl c) in rw c (kept refl best_kept (λ d. cc)))
     ]
 settles_acts net v s e (Swap i j) none = settled (settle_best net v e.time (with_swap s i j))
+settles_acts net v s e (Forbid k) none =
+    elim (cases_Bool (is_barred s k)) [
+      | inl c ↦ rw c (kept refl refl (λ d. cc))
+      | inr c ↦ rw c (settled (settle_best net v e.time (with_bar s k true)))
+    ]
+settles_acts net v s e (Allow k) none =
+    elim (cases_Bool (is_barred s k)) [
+      | inl c ↦ rw c (settled (settle_best net v e.time (with_bar s k false)))
+      | inr c ↦ rw c (kept refl refl (λ d. cc))
+    ]
 settles_acts net v s e (Update q n) none =
     elim (cases_Bool (accepts s (slot net v e.src) n)) [
       | inl c ↦ rw c (settled (settle_best net v e.time (with_heard s (slot net v e.src) q)))
@@ -90,7 +105,8 @@ find_none p (x ∷ xs) h = rw (h x) (find_none p xs h)
 
 opening_best : (net : Net) (v : ℕ) → (v ≡ 0 → ⊥) → empty_path ≡ best net v (opening net v)
 opening_best net v other =
-    rw (ne_eqb v 0 other) (sym (ap (λ o. unwrap_or o empty_path) (find_none (λ q. list_any (offers net v q) (opening net v).rows) (paths_of net v) (λ q. none_offered net v q (hops_of net v)))))
+    rw (ne_eqb v 0 other) (sym (ap (λ o. unwrap_or o empty_path) (find_none (is_choice net v (opening net v)) (paths_of net v)
+    (λ q. and_right (not (bars net v (opening net v).barred q)) (list_any (offers net v q) (opening net v).rows) (none_offered net v q (hops_of net v))))))
 
 abbrev pub start : Event
 start = opening_event 0 0 0 Start

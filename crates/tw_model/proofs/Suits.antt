@@ -1,17 +1,17 @@
 -- What a router knows and sends is permitted: its path is its own or empty, and an update goes to a neighbour of its sender.
-use Rattle.std.proofs.Common.{◌≡◌, ℕ, ◌==◌, Bool, true, List, [], ◌∷◌, length, Option, Some, None, refl, ap, sym, subst, inl, inr, nat_le}
-use Rattle.std.specs.List.{enumerate_from, find, list_any, zip}
+use Rattle.std.proofs.Common.{◌≡◌, ℕ, ◌==◌, Bool, true, false, List, [], ◌∷◌, length, Option, Some, None, refl, ap, sym, subst, inl, inr, nat_le}
+use Rattle.std.specs.List.{enumerate_from, find, zip}
 use Rattle.std.specs.Option.{unwrap_or}
 use Rattle.std.proofs.lemmas.Bool.{cases_Bool, and_parts, and_from, or_right, eqb-true, eq-eqb, ltb-true}
 use Rattle.tw_event.specs.declared.event.Body.{Body}
-use Rattle.tw_event.specs.declared.event.Body.TheVariants.{Start, Fail, Restore, Swap, Update}
+use Rattle.tw_event.specs.declared.event.Body.TheVariants.{Start, Fail, Restore, Swap, Forbid, Allow, Update}
 use Rattle.tw_event.specs.declared.event.Event.{Event}
 use Rattle.tw_event.specs.declared.event.PathNo.{PathNo}
 use Rattle.tw_model.specs.declared.net.Hop.{Hop}
 use Rattle.tw_model.specs.Net.{Net, hops_of, is_own, is_permitted, empty_path}
 use Rattle.tw_model.specs.Rules.{IsNet}
-use Rattle.tw_model.specs.State.{State, best, has_peer, hop, offers, row, slot, opening}
-use Rattle.tw_model.specs.Effect.{acts, accepts, body_suits, effect, with_failed_link, fits, with_heard, settle, suits, with_swap, update_to, ups}
+use Rattle.tw_model.specs.State.{State, best, has_peer, hop, is_barred, is_choice, row, slot, opening}
+use Rattle.tw_model.specs.Effect.{acts, accepts, body_suits, effect, with_bar, with_failed_link, fits, with_heard, settle, suits, with_swap, update_to, ups}
 use Rattle.tw_sim.specs.Simulation.{state}
 use Rattle.tw_model.specs.Case.{Case, simulation}
 use Rattle.tw_sim.proofs.Members.{In, in_enumerate, in_filter, in_find, in_map, in_swap, in_zip}
@@ -36,7 +36,7 @@ pub best_permitted : (net : Net) (v : ℕ) (s : State) → ((q : PathNo) → In 
 best_permitted net v s own =
     elim (cases_Bool (v == 0)) [
       | inl b ↦ rw b (rw (path_origin net) (eq-eqb 0 v (sym (eqb-true v 0 b))))
-      | inr b ↦ rw b (permitted_found net v s.order (λ q. list_any (offers net v q) s.rows) own (find (λ q. list_any (offers net v q) s.rows) s.order) refl)
+      | inr b ↦ rw b (permitted_found net v s.order (is_choice net v s) own (find (is_choice net v s) s.order) refl)
     ]
 
 own_settle : (net : Net) (v t : ℕ) (s : State) → IsOwnState net v s → IsOwnState net v (settle net v t s).state
@@ -60,6 +60,16 @@ own_acts net v s e (Restore w) is =
     ]
 own_acts net v s e (Swap i j) is =
     own_settle net v e.time (with_swap s i j) (record { rib = is.rib; order = λ q h. is.order q (in_swap q s.order _ _ h) })
+own_acts net v s e (Forbid k) is =
+    elim (cases_Bool (is_barred s k)) [
+      | inl c ↦ rw c is
+      | inr c ↦ rw c (own_settle net v e.time (with_bar s k true) (record { rib = is.rib; order = is.order }))
+    ]
+own_acts net v s e (Allow k) is =
+    elim (cases_Bool (is_barred s k)) [
+      | inl c ↦ rw c (own_settle net v e.time (with_bar s k false) (record { rib = is.rib; order = is.order }))
+      | inr c ↦ rw c is
+    ]
 own_acts net v s e (Update q n) is =
     elim (cases_Bool (accepts s (slot net v e.src) n)) [
       | inl c ↦ rw c (own_settle net v e.time (with_heard s (slot net v e.src) q) (record { rib = is.rib; order = is.order }))
@@ -128,6 +138,16 @@ to_acts net v s e (Restore w) suit is x h =
     ]
 to_acts net v s e (Swap i j) suit is x h =
     to_settle net v e.time (with_swap s i j) (record { rib = is.rib; order = λ q k. is.order q (in_swap q s.order _ _ k) }) x h
+to_acts net v s e (Forbid k) suit is x h =
+    elim (cases_Bool (is_barred s k)) [
+      | inl c ↦ absurd (rw c at h)
+      | inr c ↦ to_settle net v e.time (with_bar s k true) (record { rib = is.rib; order = is.order }) x (rw c at h)
+    ]
+to_acts net v s e (Allow k) suit is x h =
+    elim (cases_Bool (is_barred s k)) [
+      | inl c ↦ to_settle net v e.time (with_bar s k false) (record { rib = is.rib; order = is.order }) x (rw c at h)
+      | inr c ↦ absurd (rw c at h)
+    ]
 to_acts net v s e (Update q n) suit is x h =
     elim (cases_Bool (accepts s (slot net v e.src) n)) [
       | inl c ↦ to_settle net v e.time (with_heard s (slot net v e.src) q) (record { rib = is.rib; order = is.order }) x (rw c at h)

@@ -4,7 +4,7 @@ use Rattle.std.proofs.Common.{◌≡◌, Bool, false, List, [], ◌∷◌, inl, 
 use Rattle.std.specs.List.{AllByRecursion}
 use Rattle.std.proofs.lemmas.Bool.{cases_Bool}
 use Rattle.tw_model.specs.declared.rule.Rule.{Rule}
-use Rattle.tw_model.specs.declared.rule.Rule.TheVariants.{Range, SelfLink, TwiceLink, Delay, PathOwner, PathEnd, PathRepeats, PathNoLink, TwicePath, TooMany, NoSuchLink, NoSuchPlace, Time}
+use Rattle.tw_model.specs.declared.rule.Rule.TheVariants.{Range, SelfLink, TwiceLink, Delay, PathOwner, PathEnd, PathRepeats, PathNoLink, TwicePath, TooMany, NoSuchLink, NoSuchPlace, Time, Version}
 use Rattle.tw_model.specs.Rules.{rules_in_order}
 
 all_unbroken : (broken : Rule → Bool) (rs : List Rule) → find broken rs ≡ None → AllByRecursion (λ r. broken r ≡ false) rs
@@ -29,6 +29,7 @@ each_unbroken broken all TooMany = all.1.1.1.1.1.1.1.1.1.0
 each_unbroken broken all NoSuchLink = all.1.1.1.1.1.1.1.1.1.1.0
 each_unbroken broken all NoSuchPlace = all.1.1.1.1.1.1.1.1.1.1.1.0
 each_unbroken broken all Time = all.1.1.1.1.1.1.1.1.1.1.1.1.0
+each_unbroken broken all Version = all.1.1.1.1.1.1.1.1.1.1.1.1.1.0
 
 pub none_broken : (broken : Rule → Bool) → find broken rules_in_order ≡ None → (r : Rule) → broken r ≡ false
 none_broken broken h = each_unbroken broken (all_unbroken broken rules_in_order h)

@@ -3,13 +3,13 @@ use Rattle.std.proofs.Common.{◌≡◌, ℕ, suc, zero, ◌<◌, ◌≤◌, ◌
 use Rattle.std.specs.List.{range_with_len, list_all}
 use Rattle.std.proofs.lemmas.Bool.{cases_lt, eqb-true, ltb-true, ne_eqb, both_ways, and_parts, or_parts, not-false, and_left, and_right, lt-leb, false_from_ne_true}
 use Rattle.tw_event.specs.declared.event.Body.{Body}
-use Rattle.tw_event.specs.declared.event.Body.TheVariants.{Start, Fail, Restore, Swap, Update}
+use Rattle.tw_event.specs.declared.event.Body.TheVariants.{Start, Fail, Restore, Swap, Forbid, Allow, Update}
 use Rattle.tw_event.specs.declared.event.Event.{Event}
 use Rattle.tw_model.specs.declared.net.Link.{Link}
 use Rattle.tw_model.specs.declared.rule.Rule.TheVariants.{Range, PathOwner}
 use Rattle.tw_model.specs.PermittedPath.{PermittedPath}
 use Rattle.tw_model.specs.Net.{Net, begins_at, hops_of, is_permitted, paths, paths_of}
-use Rattle.tw_model.specs.Rules.{IsNet, PathsFollow, has_place, path_breaks}
+use Rattle.tw_model.specs.Rules.{IsNet, PathsFollow, has_line, has_place, path_breaks}
 use Rattle.tw_model.specs.State.{has_peer, hop, slot}
 use Rattle.tw_model.specs.Effect.{body_suits, suits}
 use Rattle.tw_model.proofs.Nets.{hop_in_hops, neighbour, nodes_within}
@@ -66,6 +66,8 @@ suits_no net v e Start h out = let some = (nodes_within net.nodes h.nodes).0 in 
 suits_no net v e (Fail w) h out = and_right (e.src == v) (has_peer net v w) (no_peer net v w h out)
 suits_no net v e (Restore w) h out = and_right (e.src == v) (has_peer net v w) (no_peer net v w h out)
 suits_no net v e (Swap i j) h out = and_right (e.src == v) (has_place net v i && has_place net v j) (and_left (has_place net v i) (has_place net v j) (no_place net v i h out))
+suits_no net v e (Forbid k) h out = and_right (e.src == v) (has_line net v k) (and_right (not (v == 0)) (has_place net v k) (no_place net v k h out))
+suits_no net v e (Allow k) h out = and_right (e.src == v) (has_line net v k) (and_right (not (v == 0)) (has_place net v k) (no_place net v k h out))
 suits_no net v e (Update q n) h out = and_left (has_peer net v e.src) (is_permitted net e.src q) (no_peer net v e.src h out)
 
 -- an event that suits a router suits one of the net's

@@ -3,15 +3,15 @@
 use Rattle.std.specs.Prelude.{ℕ, ◌+◌, ◌-◌, ◌==◌, Bool, true, false, ◌||◌, ◌&&◌, List, [], ◌∷◌, length, map, nat_lt, nat_le, slice_set, if◌then◌else◌}
 use Rattle.std.specs.List.{filter, zip, enumerate_from, swap}
 use Rattle.tw_event.specs.declared.event.Body.{Body}
-use Rattle.tw_event.specs.declared.event.Body.TheVariants.{Start, Fail, Restore, Swap, Update}
+use Rattle.tw_event.specs.declared.event.Body.TheVariants.{Start, Fail, Restore, Swap, Forbid, Allow, Update}
 use Rattle.tw_event.specs.declared.event.Event.{Event}
 use Rattle.tw_event.specs.declared.event.PathNo.{PathNo}
 use Rattle.tw_model.specs.declared.limits.TheConstants.{LATEST, MOST_COUNTED}
 use Rattle.tw_model.specs.declared.net.Hop.{Hop}
 use Rattle.tw_model.specs.declared.state.Row.{Row}
 use Rattle.tw_model.specs.Net.{Net, empty_path, hops_of, is_permitted}
-use Rattle.tw_model.specs.Rules.{has_place}
-use Rattle.tw_model.specs.State.{State, best, has_peer, hop, row, slot}
+use Rattle.tw_model.specs.Rules.{has_line, has_place}
+use Rattle.tw_model.specs.State.{State, best, has_peer, hop, is_barred, row, slot}
 
 -- a state, and what was sent on the way to it
 pub record Reaction : Type 0 where
@@ -70,6 +70,10 @@ with_repaired_link s k = with_row s k (record (row s k) { up = true; session = (
 abbrev pub with_swap : State → ℕ → ℕ → State
 with_swap s i j = record s { order = swap s.order (i - 1) (j - 1) }
 
+-- path k of those given, from 1, is barred or not
+abbrev pub with_bar : State → ℕ → Bool → State
+with_bar s k barred = record s { barred = slice_set s.barred (k - 1) barred }
+
 -- tell the neighbour of slot k alone the present path, also an empty one
 abbrev pub tell : Net → ℕ → ℕ → State → ℕ → Reaction
 tell net v t s k = record {
@@ -91,6 +95,8 @@ acts net v s e Start = settle net v e.time s
 acts net v s e (Fail w) = if (row s (slot net v w)).up then settle net v e.time (with_failed_link s (slot net v w)) else without_sends s
 acts net v s e (Restore w) = if (row s (slot net v w)).up then without_sends s else tell net v e.time (with_repaired_link s (slot net v w)) (slot net v w)
 acts net v s e (Swap i j) = settle net v e.time (with_swap s i j)
+acts net v s e (Forbid k) = if is_barred s k then without_sends s else settle net v e.time (with_bar s k true)
+acts net v s e (Allow k) = if is_barred s k then settle net v e.time (with_bar s k false) else without_sends s
 acts net v s e (Update q n) = if accepts s (slot net v e.src) n then settle net v e.time (with_heard s (slot net v e.src) q) else without_sends (with_dropped s)
 
 -- the new state of router v, and what it sends
@@ -103,6 +109,8 @@ body_suits net v e Start = e.src == v && (v == 0 && e.time == 0)
 body_suits net v e (Fail w) = e.src == v && has_peer net v w
 body_suits net v e (Restore w) = e.src == v && has_peer net v w
 body_suits net v e (Swap i j) = e.src == v && (has_place net v i && has_place net v j)
+body_suits net v e (Forbid k) = e.src == v && has_line net v k
+body_suits net v e (Allow k) = e.src == v && has_line net v k
 body_suits net v e (Update q n) = has_peer net v e.src && is_permitted net e.src q
 
 -- whether the event is one for router v, the limit on its time aside

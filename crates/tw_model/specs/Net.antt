@@ -1,5 +1,5 @@
--- An instance of the stable paths problem (Griffin, Shepherd, Wilfong 2002), with a delay for each link.
-use Rattle.std.specs.Prelude.{ℕ, ◌<◌, ◌==◌, Bool, false, ◌||◌, ◌&&◌, List, [], ◌∷◌, length, map, slice_index_or, nat_eq, Option}
+-- An instance of the stable paths problem (Griffin, Shepherd, Wilfong 2002), with a delay for each direction of a link.
+use Rattle.std.specs.Prelude.{ℕ, ◌<◌, ◌==◌, Bool, false, ◌||◌, ◌&&◌, List, [], ◌∷◌, length, map, slice_index_or, nat_eq, Option, if◌then◌else◌}
 use lib.Pointwise.{pointwise}
 use Rattle.std.specs.List.{filter, filter_map, find, range_with_len}
 use Rattle.std.specs.Option.{option_map}
@@ -26,11 +26,15 @@ no_net = bare_net 0
 abbrev pub joins : ℕ → ℕ → Link → Bool
 joins v w l = (l.first == v && l.second == w) || (l.first == w && l.second == v)
 
+-- how many ticks a message takes that v sends over the link
+abbrev pub delay_from : ℕ → Link → ℕ
+delay_from v l = if l.first == v then l.delay else l.back
+
 -- w as a neighbour of v, where a link joins them
 abbrev pub hop_to : List Link → ℕ → ℕ → Option Hop
-hop_to links v w = option_map (λ l. record { peer = w; delay = l.delay }) (find (joins v w) links)
+hop_to links v w = option_map (λ l. record { peer = w; delay = delay_from v l }) (find (joins v w) links)
 
--- the neighbours of v in ascending order, each with the delay of its link
+-- the neighbours of v in ascending order, each with the delay from v to it
 unfoldable pub hops_of : Net → ℕ → List Hop
 hops_of net v = filter_map (hop_to net.links v) (range_with_len 0 net.nodes)
 

@@ -7,7 +7,7 @@ use Rattle.tw_event.specs.declared.event.PathNo.{PathNo}
 use Rattle.tw_model.specs.declared.net.Hop.{Hop}
 use Rattle.tw_model.specs.declared.state.Row.{Row}
 use Rattle.tw_model.specs.Net.{Net, empty_path, hops_of, origin_path, path, same_path}
-use Rattle.tw_model.specs.State.{State}
+use Rattle.tw_model.specs.State.{State, bars}
 use Rattle.tw_sim.specs.Simulation.{only, state}
 use Rattle.tw_sim.specs.Seq.{rest}
 use Rattle.tw_model.specs.Case.{Case, simulation}
@@ -20,10 +20,14 @@ IsQuiet case t = rest (simulation case) t ≡ []
 abbrev pub reaches : Net → ℕ → (ℕ → PathNo) → PathNo → Hop × Row → Bool
 reaches net v ribs q p = p.1.up && (not ((ribs p.0.peer).0 == 0) && same_path (path net q) (v ∷ path net (ribs p.0.peer)))
 
--- the first of v's paths that a neighbour's present path allows, or the empty path; at the origin (0)
+-- whether q is not barred at v, and a neighbour's present path allows it
+abbrev pub is_reached : Net → (ℕ → PathNo) → ℕ → State → PathNo → Bool
+is_reached net ribs v s q = not (bars net v s.barred q) && list_any (reaches net v ribs q) (zip (hops_of net v) s.rows)
+
+-- the first of v's paths that is not barred and that a neighbour's present path allows, or the empty path; at the origin (0)
 abbrev pub stable_path : Net → (ℕ → PathNo) → ℕ → State → PathNo
 stable_path net ribs v s =
-    if v == 0 then origin_path else unwrap_or (find (λ q. list_any (reaches net v ribs q) (zip (hops_of net v) s.rows)) s.order) empty_path
+    if v == 0 then origin_path else unwrap_or (find (is_reached net ribs v s) s.order) empty_path
 
 -- every router has the best path that its neighbours' present paths allow
 abbrev pub IsStable : Net → (ℕ → State) → Type 0

@@ -1,5 +1,5 @@
 -- What a router knows, and how it begins (Griffin, Shepherd, Wilfong 2002; sessions and counters own).
-use Rattle.std.specs.Prelude.{ℕ, ◌≡◌, ◌≢◌, ◌≤◌, ◌==◌, Bool, true, not, ◌&&◌, List, [], ◌∷◌, length, map, nat_lt, slice_index_or, if◌then◌else◌}
+use Rattle.std.specs.Prelude.{ℕ, ◌≡◌, ◌≢◌, ◌≤◌, ◌==◌, Bool, true, not, ◌&&◌, List, [], ◌∷◌, ◌-◌, false, length, map, nat_lt, slice_index_or, if◌then◌else◌}
 use Rattle.std.specs.List.{All, AllPairs, find, list_any, position_or_len}
 use Rattle.std.specs.Option.{unwrap_or}
 use Rattle.tw_event.specs.declared.event.PathNo.{PathNo}
@@ -9,11 +9,12 @@ use Rattle.tw_model.specs.declared.state.Counters.{Counters}
 use Rattle.tw_model.specs.declared.state.Row.{Row}
 use Rattle.tw_model.specs.Net.{Net, IsPath, empty_path, origin_path, path, same_path, is_own, hops_of, no_net, paths_of}
 
--- one row for each neighbour in ascending order; the permitted paths best first
+-- one row for each neighbour in ascending order; the permitted paths best first; which paths are barred, in the order given
 pub record State : Type 0 where
   pub rib : PathNo
   pub rows : List Row
   pub order : List PathNo
+  pub barred : List Bool
   pub counters : Counters
 
 -- a router of an instance, with its state
@@ -26,9 +27,21 @@ pub record Router : Type 0 where
 abbrev pub offers : Net → ℕ → PathNo → Row → Bool
 offers net v q row = row.up && (not (row.heard.0 == 0) && same_path (path net q) (v ∷ path net row.heard))
 
--- the first path in order that a neighbour offers, or the empty path; at the origin (0)
+-- the place of q among the paths of v as they were given, from 0
+abbrev pub line_of : Net → ℕ → PathNo → ℕ
+line_of net v q = position_or_len (λ p. p.0 == q.0) (paths_of net v)
+
+-- whether path q of v is barred
+abbrev pub bars : Net → ℕ → List Bool → PathNo → Bool
+bars net v barred q = slice_index_or barred (line_of net v q) false
+
+-- whether q may be used: it is not barred, and a neighbour offers it
+abbrev pub is_choice : Net → ℕ → State → PathNo → Bool
+is_choice net v s q = not (bars net v s.barred q) && list_any (offers net v q) s.rows
+
+-- the first path in order that is not barred and that a neighbour offers, or the empty path; at the origin (0)
 abbrev pub best : Net → ℕ → State → PathNo
-best net v s = if v == 0 then origin_path else unwrap_or (find (λ q. list_any (offers net v q) s.rows) s.order) empty_path
+best net v s = if v == 0 then origin_path else unwrap_or (find (is_choice net v s) s.order) empty_path
 
 -- counters that a router can have
 pub record IsCounted (c : Counters) : Type 0 where
@@ -46,6 +59,7 @@ pub record IsState (net : Net) (v : ℕ) (s : State) : Type 0 where
   pub places : length s.order ≡ length (paths_of net v)
   pub order : All (λ q. is_own net v q ≡ true) s.order
   pub distinct : AllPairs (λ p q. p ≢ q) s.order
+  pub barred : length s.barred ≡ length (paths_of net v)
   pub counters : IsCounted s.counters
 
 -- how many neighbours of v stand before w
@@ -72,13 +86,21 @@ hop net v k = slice_index_or (hops_of net v) k no_hop
 abbrev pub row : State → ℕ → Row
 row s k = slice_index_or s.rows k no_row
 
+-- whether path k of those given, from 1, is barred
+abbrev pub is_barred : State → ℕ → Bool
+is_barred s k = slice_index_or s.barred (k - 1) false
+
+-- no path of v is barred
+abbrev pub none_barred : Net → ℕ → List Bool
+none_barred net v = map (λ q. false) (paths_of net v)
+
 -- nothing is counted yet
 abbrev pub no_counts : Counters
 no_counts = record { sent = 0; handled = 0; dropped = 0; changed = 0 }
 
 -- what stands where there is no router
 abbrev pub no_router : Router
-no_router = record { net = no_net; node = 0; state = record { rib = empty_path; rows = []; order = []; counters = no_counts } }
+no_router = record { net = no_net; node = 0; state = record { rib = empty_path; rows = []; order = []; barred = []; counters = no_counts } }
 
 -- the row with which a link begins: up, in its first session, with nothing heard
 abbrev pub fresh_row : Hop → Row
@@ -86,7 +108,7 @@ fresh_row h = record { heard = empty_path; up = true; session = 0 }
 
 -- the state in which router v begins, with these counters
 abbrev pub opening_with : Net → ℕ → Counters → State
-opening_with net v c = record { rib = empty_path; rows = map fresh_row (hops_of net v); order = paths_of net v; counters = c }
+opening_with net v c = record { rib = empty_path; rows = map fresh_row (hops_of net v); order = paths_of net v; barred = none_barred net v; counters = c }
 
 -- the state in which router v begins
 abbrev pub opening : Net → ℕ → State

@@ -32,4 +32,22 @@ pub enum Scene {
         /// The other place.
         second: u32,
     },
+    /// A router may not use one of its permitted paths from now on.
+    Forbid {
+        /// When, in ticks.
+        time: u64,
+        /// The router.
+        node: u32,
+        /// The path's place among the router's paths as they were given, from 1.
+        line: u32,
+    },
+    /// A router may use one of its permitted paths again.
+    Allow {
+        /// When, in ticks.
+        time: u64,
+        /// The router.
+        node: u32,
+        /// The path's place among the router's paths as they were given, from 1.
+        line: u32,
+    },
 }

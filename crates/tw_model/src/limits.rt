@@ -33,6 +33,9 @@ pub const MOST_WORKERS: u32 = 16;
 /// How many steps a step text has at most.
 pub const MOST_STEPS: usize = 1_000_000;
 
+/// The latest version of the text of a case; the first is 1.
+pub const LATEST_VERSION: u32 = 2;
+
 /// How many digits a number of a text has at most.
 pub const MOST_DIGITS: usize = 10;
 

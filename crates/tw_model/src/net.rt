@@ -9,8 +9,10 @@ pub struct Link {
     pub first: u32,
     /// The other end.
     pub second: u32,
-    /// How many ticks a message takes, 1 to 1,000,000.
+    /// How many ticks a message from `first` to `second` takes, 1 to 1,000,000.
     pub delay: u64,
+    /// How many ticks a message from `second` to `first` takes, 1 to 1,000,000.
+    pub back: u64,
 }
 
 /// A neighbour of a router, seen from that router.

@@ -39,10 +39,13 @@ pub enum Rule {
     /// A failure or a repair of a link that is not there.
     #[error("there is no such link")]
     NoSuchLink,
-    /// An exchange of a place that the router's order does not have.
+    /// An exchange of a place that the router's order does not have, or a path forbidden or allowed that was not given.
     #[error("there is no such place in the order of the router")]
     NoSuchPlace,
     /// A time above 1,000,000,000.
     #[error("a time is above 1,000,000,000")]
     Time,
+    /// A version of the text that is not 1 or 2, or version 1 of a case that only version 2 can say.
+    #[error("the version is not 1 or 2, or the case has what version 1 can't say")]
+    Version,
 }

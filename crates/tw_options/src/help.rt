@@ -25,6 +25,9 @@ This case has two routers that prefer to go by way of each other:
   path 2 2 0
   end
 
+Where the first line is `spp 2`, a link has a delay for each direction, as `link 1 2 1 3`; and
+`forbid 9 2 1` and `allow 20 2 1`, before `end`, forbid router 2 its first path from 9 to 20.
+
 Example:
   twarp seq --stop 20 --log < case.txt";
 

@@ -163,7 +163,13 @@ impl Sim<'_> {
         for number in 0..self.case.instance().nodes() {
             let router = self.router(number);
             let sent = router.counters().sent;
-            builder.add_router(router.rib(), router.rows(), router.order(), sent)?;
+            builder.add_router(
+                router.rib(),
+                router.rows(),
+                router.order(),
+                router.barred(),
+                sent,
+            )?;
         }
         Ok(())
     }

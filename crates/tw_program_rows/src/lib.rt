@@ -14,6 +14,8 @@ mod parallel;
 #[cfg(test)]
 mod programs;
 #[cfg(test)]
+mod rooms;
+#[cfg(test)]
 mod runs;
 #[cfg(test)]
 mod texts;

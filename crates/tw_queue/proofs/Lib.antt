@@ -15,3 +15,6 @@ pub mod Widths
 pub mod Rotated
 pub mod Keyed
 pub mod Released
+pub mod Times
+pub mod Fars
+pub mod Queues

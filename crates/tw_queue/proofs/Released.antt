@@ -1,12 +1,11 @@
 -- What passes a test comes out, the first one first, and the others stay.
-use Rattle.std.proofs.Common.{◌≡◌, ◌≤◌, ◌+◌, ◌++◌, ◌∷◌, [], suc, zero, Bool, true, false, cond, not, Option, Some, None, List, drop, filter, length, map, slice_get}
+use Rattle.std.proofs.Common.{◌≡◌, ◌≤◌, ◌+◌, ◌∷◌, [], suc, Bool, true, false, not, Some, None, List, drop, filter, length, slice_get}
 use Rattle.std.proofs.Common.{refl, ap, sym, ◌∙◌, subst, inl, inr, arith}
 use Rattle.std.proofs.lemmas.Bool.{cases_Bool, false≢true}
 use Rattle.std.proofs.lemmas.Option.{none-some}
 use Rattle.tw_event.specs.declared.event.Event.{Event}
 use Rattle.tw_event.specs.Order.{event_before, event_same}
 use Rattle.tw_sim.specs.Ordered.{insert, insert_all, take_out}
-use Rattle.tw_sim.proofs.Ordered.{one_self}
 use Rattle.tw_queue.proofs.Events.{event_law, filter_no, filter_yes, same_some}
 
 -- a list with a first element is that one and the rest

@@ -14,3 +14,6 @@ pub mod Held
 pub mod SenderQueue
 pub mod SenderTable
 pub mod HeldSends
+pub mod Times
+pub mod Far
+pub mod BucketQueue

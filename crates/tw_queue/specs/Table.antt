@@ -1,21 +1,13 @@
 -- The events of all routers, by router (own).
-use Rattle.std.specs.Prelude.{◌≡◌, ◌<◌, ◌-◌, ◌^◌, ℕ, List, [], ◌∷◌, map}
+use Rattle.std.specs.Prelude.{◌≡◌, ◌<◌, ℕ, [], map}
 use Rattle.std.specs.List.{slice_index_or}
 use Rattle.tw_event.specs.declared.event.Event.{Event}
 use Rattle.tw_event.specs.Order.{event_before, event_same}
 use Rattle.tw_sim.specs.Ordered.{times}
 use Rattle.tw_sim.specs.Rising.{IsRising}
+pub use Rattle.tw_queue.specs.Times.{first_time, never}
 use Rattle.tw_queue.specs.Buckets.{IsPlaced}
 use Rattle.tw_queue.specs.declared.queue_table.QueueTable.TheInside.{Inside}
-
--- the time that stands for no event
-abbrev pub never : ℕ
-never = 2 ^ 64 - 1
-
--- the time of the first event
-abbrev pub first_time : List Event → ℕ
-first_time [] = never
-first_time (e ∷ events) = e.time
 
 -- each queue is in order, has events of its router alone, before the last tick, and its first time stands in the row
 pub record IsTable (a : Inside) : Type 0 where

@@ -7,8 +7,10 @@
 #![tactic(auto)]
 
 mod bucket;
+mod bucket_queue;
 mod calendar;
 mod event_list;
+mod far;
 mod held;
 mod least_times;
 mod level;
@@ -22,6 +24,7 @@ mod search;
 mod sender_queue;
 mod sender_table;
 mod tick;
+mod timed_events;
 mod update;
 mod wheels;
 

@@ -11,8 +11,8 @@ ghost use Rattle.tw_queue.specs.Table.{first_time, never};
 ghost use Rattle.tw_sim.specs.Ordered.{insert, take_out, times};
 ghost use Rattle.tw_sim.specs.Rising.{IsRising};
 
+use crate::bucket_queue::BucketQueue;
 use crate::least_times::LeastTimes;
-use crate::router_queue::RouterQueue;
 use std::alloc::{AllocError, Global};
 use std::marker::Model;
 use tw_event::Event;
@@ -20,7 +20,7 @@ use tw_event::Event;
 /// A queue for each router, and a row of their least times.
 #[derive(Drop)]
 pub(crate) struct QueueTable {
-    queues: Vec<RouterQueue>,
+    queues: Vec<BucketQueue>,
     least_times: LeastTimes,
 }
 
@@ -129,7 +129,7 @@ impl QueueTable {
 }
 
 // One router's queue, if it has one.
-fn queue_of(queues: &[RouterQueue], router: u32) -> Option<&RouterQueue>
+fn queue_of(queues: &[BucketQueue], router: u32) -> Option<&BucketQueue>
     ensures some { IfSome result (λ queue. queue.now ≡ slice_index_or queues.now router []) }
     ensures none { IfNone result (slice_index_or queues.now router [] ≡ []) }
 {
@@ -137,7 +137,7 @@ fn queue_of(queues: &[RouterQueue], router: u32) -> Option<&RouterQueue>
 }
 
 // Puts the events of queues at the end of a list.
-fn append_all(queues: &[RouterQueue], events: &mut Vec<Event>) -> Result<(), AllocError>
+fn append_all(queues: &[BucketQueue], events: &mut Vec<Event>) -> Result<(), AllocError>
     ensures ok { OnOk result ((e : Event) → times event_same e events.new.items ≡ times event_same e (together queues.now) + times event_same e events.old.items) }
 {
     for queue in queues {
@@ -147,22 +147,22 @@ fn append_all(queues: &[RouterQueue], events: &mut Vec<Event>) -> Result<(), All
 }
 
 // So many queues with no event.
-fn empty_queues(alloc: Global, count: usize) -> Result<Vec<RouterQueue>, AllocError>
+fn empty_queues(alloc: Global, count: usize) -> Result<Vec<BucketQueue>, AllocError>
     ensures { IfOk result (λ queues. queues.items ≡ replicate count []) }
 {
     let mut queues = Vec::with_capacity(alloc, count)?;
     for _ in 0..count {
-        queues.push(RouterQueue::new(alloc))?;
+        queues.push(BucketQueue::new(alloc))?;
     }
     Ok(queues)
 }
 
 // The time of a queue's least event, in ticks, and the last tick where it has none.
-fn first_time(queue: &RouterQueue) -> u64
+fn first_time(queue: &BucketQueue) -> u64
     ensures time { result ≡ first_time queue.now }
     ensures rising { IsRising event_before event_same queue.now }
 {
-    match queue.least() {
+    match queue.first() {
         Some(event) => event.time,
         None => u64::MAX,
     }

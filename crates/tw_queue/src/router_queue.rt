@@ -1,11 +1,12 @@
 //! The events that wait for one router.
 
-ghost use Rattle.std.specs.Prelude.{◌≡◌, ◌<◌, ◌↔◌, ◌^◌, ◌+◌, IsTrue, [], OnErr, OnOk, false, length, slice_get, slice_index_or, true};
+ghost use Rattle.std.specs.Prelude.{◌≡◌, ◌<◌, ◌↔◌, ◌^◌, ◌+◌, IfNone, IfSome, IsTrue, [], OnErr, OnOk, false, length, slice_get, slice_index_or, true};
 ghost use Rattle.std.specs.Bool.{OnFalse, OnTrue};
 ghost use Rattle.std.specs.Option.{option_copied};
 ghost use Rattle.tw_event.specs.declared.event.Event.{Event};
 ghost use Rattle.tw_event.specs.Order.{event_before, event_same};
 ghost use Rattle.tw_queue.specs.InOrder.{IsPlace};
+ghost use Rattle.tw_queue.specs.Times.{IsLastTime};
 ghost use Rattle.tw_sim.specs.Ordered.{insert, take_out, times};
 ghost use Rattle.tw_sim.specs.Rising.{IsRising};
 
@@ -57,6 +58,33 @@ impl RouterQueue {
         Ok(())
     }
 
+    /// How many events there are.
+    #[inline(always)]
+    pub(crate) fn len(&self) -> usize
+        ensures { result ≡ length self.now }
+    {
+        self.events.len()
+    }
+
+    /// The time of the last event, in ticks.
+    #[inline(always)]
+    pub(crate) fn last_time(&self) -> Option<u64>
+        ensures some { IfSome result (λ time. IsLastTime self.now time) }
+        ensures none { IfNone result (self.now ≡ []) }
+    {
+        match self.events.back() {
+            Some(last) => Some(last.time),
+            None => None,
+        }
+    }
+
+    /// Takes all events out.
+    pub(crate) fn clear(&mut self)
+        ensures { self.new ≡ [] }
+    {
+        self.events.clear();
+    }
+
     /// Takes out one event that equals `event`, and tells whether there was one.
     pub(crate) fn remove(&mut self, event: &Event) -> bool
         ensures found { IsTrue result ↔ (0 < times event_same event.now self.old) }
@@ -73,7 +101,7 @@ impl RouterQueue {
     /// How often an event is pending.
     pub(crate) fn count(&self, event: &Event) -> usize
         ensures times { result ≡ times event_same event.now self.now }
-        ensures bound { result < 2 ^ 63 }
+        ensures bound { result < 2 ^ 62 }
     {
         let (first, second) = self.events.as_slices();
         count_of(first, event) + count_of(second, event)

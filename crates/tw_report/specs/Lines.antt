@@ -2,7 +2,7 @@
 use Rattle.std.specs.Prelude.{ℕ, List, [], ◌∷◌, codes}
 use Rattle.std.specs.Fmt.{decimal}
 use Rattle.tw_event.specs.declared.event.Body.{Body}
-use Rattle.tw_event.specs.declared.event.Body.TheVariants.{Start, Fail, Restore, Swap, Update}
+use Rattle.tw_event.specs.declared.event.Body.TheVariants.{Start, Fail, Restore, Swap, Forbid, Allow, Update}
 use Rattle.tw_event.specs.declared.event.Event.{Event}
 use Rattle.tw_model.specs.declared.outcome.RouterEnd.{RouterEnd}
 use Rattle.tw_model.specs.Net.{Net, IsPath, path}
@@ -16,6 +16,8 @@ body_words net e Start = codes "start" ∷ []
 body_words net e (Fail w) = codes "fail" ∷ decimal w ∷ decimal e.seq ∷ []
 body_words net e (Restore w) = codes "restore" ∷ decimal w ∷ decimal e.seq ∷ []
 body_words net e (Swap i j) = codes "swap" ∷ decimal e.seq ∷ decimal i ∷ decimal j ∷ []
+body_words net e (Forbid k) = codes "forbid" ∷ decimal e.seq ∷ decimal k ∷ []
+body_words net e (Allow k) = codes "allow" ∷ decimal e.seq ∷ decimal k ∷ []
 body_words net e (Update q n) = codes "update" ∷ decimal e.src ∷ decimal e.seq ∷ decimal n ∷ path_text (path net q) ∷ []
 
 -- an event, with its time and its receiver
@@ -40,4 +42,6 @@ NamesPath net Start = Unit {0}
 NamesPath net (Fail w) = Unit {0}
 NamesPath net (Restore w) = Unit {0}
 NamesPath net (Swap i j) = Unit {0}
+NamesPath net (Forbid k) = Unit {0}
+NamesPath net (Allow k) = Unit {0}
 NamesPath net (Update q n) = IsPath net q

@@ -8,9 +8,9 @@ use Rattle.tw_report.specs.Words.{path_text, spaced_number}
 unfoldable pub head_text : Event → List ℕ
 head_text e = codes "event " ++ (decimal e.time ++ spaced_number e.dst)
 
--- a failure or a repair, with the space before its name
-unfoldable pub link_text : List ℕ → ℕ → ℕ → List ℕ
-link_text name w seq = name ++ (spaced_number w ++ (spaced_number seq ++ 10 ∷ []))
+-- what two numbers tell, with the space before its name: a failure, a repair, a path forbidden or allowed
+unfoldable pub pair_text : List ℕ → ℕ → ℕ → List ℕ
+pair_text name a b = name ++ (spaced_number a ++ (spaced_number b ++ 10 ∷ []))
 
 -- an exchange of ranks
 unfoldable pub swap_text : ℕ → ℕ → ℕ → List ℕ

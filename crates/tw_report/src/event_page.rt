@@ -4,7 +4,7 @@ ghost use Rattle.std.specs.Prelude.{◌≡◌, ◌+◌, ◌<◌, ◌≤◌, ◌+
 ghost use Rattle.std.specs.List.{All};
 ghost use Rattle.tw_device.specs.Sink.{Puts};
 ghost use Rattle.tw_report.specs.Lines.{NamesPath, event_words};
-ghost use Rattle.tw_report.specs.Pieces.{head_text, link_text, swap_text, update_text};
+ghost use Rattle.tw_report.specs.Pieces.{head_text, pair_text, swap_text, update_text};
 ghost use Rattle.tw_report.specs.Report.{event_lines};
 ghost use Rattle.tw_report.specs.Words.{line};
 
@@ -122,9 +122,11 @@ fn spell_event(
     let end = spell_head(page, at, numerals, event);
     match event.body {
         Body::Start => spell(page, end, b" start\n"),
-        Body::Fail(peer) => spell_link(page, end, numerals, b" fail", peer, event.seq),
-        Body::Restore(peer) => spell_link(page, end, numerals, b" restore", peer, event.seq),
+        Body::Fail(peer) => spell_pair(page, end, numerals, b" fail", peer.into(), event.seq),
+        Body::Restore(peer) => spell_pair(page, end, numerals, b" restore", peer.into(), event.seq),
         Body::Swap(i, j) => spell_swap(page, end, numerals, event.seq, i, j),
+        Body::Forbid(k) => spell_pair(page, end, numerals, b" forbid", event.seq, k.into()),
+        Body::Allow(k) => spell_pair(page, end, numerals, b" allow", event.seq, k.into()),
         Body::Update { path, session } => {
             spell_update(page, end, numerals, event, session, instance.path(path))
         }
@@ -142,24 +144,25 @@ fn spell_head(page: &mut [u8; PAGE], at: usize, numerals: &Numerals, event: &Eve
     spell_next(page, timed, numerals, u64::from(event.dst))
 }
 
-/// Writes the rest of the line of a failure or a repair, which this name tells.
-fn spell_link(
+/// Writes the rest of the line of what this name and two numbers tell: a failure, a repair, or a path
+/// that is forbidden or allowed.
+fn spell_pair(
     page: &mut [u8; PAGE],
     at: usize,
     numerals: &Numerals,
     name: &[u8],
-    peer: u32,
-    seq: u64,
+    first: u64,
+    second: u64,
 ) -> usize
     requires name { length name.now ≤ 8 }
     requires room { at + 51 ≤ length page.old }
     ensures end { result ≤ at + 51 }
-    ensures text { take result page.new ≡ take at page.old ++ link_text name.now peer seq }
+    ensures text { take result page.new ≡ take at page.old ++ pair_text name.now first second }
 {
     let named = spell(page, at, name);
-    let told = spell_next(page, named, numerals, u64::from(peer));
-    let numbered = spell_next(page, told, numerals, seq);
-    spell(page, numbered, b"\n")
+    let one = spell_next(page, named, numerals, first);
+    let both = spell_next(page, one, numerals, second);
+    spell(page, both, b"\n")
 }
 
 /// Writes the rest of the line of an exchange of ranks.

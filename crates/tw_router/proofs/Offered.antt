@@ -1,17 +1,18 @@
 -- The path that a neighbour offers, by its place among the permitted ones.
-use Rattle.std.proofs.Common.{◌≡◌, ◌≢◌, ℕ, ◌==◌, ◌∷◌, false, not, List, Option, Some, None, IfSome, IsTrue, refl, ap, sym, ◌∙◌}
+use Rattle.std.proofs.Common.{◌≡◌, ◌≢◌, ℕ, ◌==◌, ◌∷◌, ◌-◌, Bool, false, not, List, length, Option, Some, None, IfSome, IsTrue, if◌then◌else◌, refl, ap, sym, ◌∙◌}
 use Rattle.std.specs.List.{AllPairs, position_or_len, slice_get}
+use Rattle.std.specs.Prelude.{slice_index_or}
 use Rattle.std.proofs.lemmas.Bool.{ne_eqb, not-false}
 use Rattle.std.proofs.lemmas.Option.{get_or_from_slice_get, slice_get_within}
 use Rattle.tw_event.specs.declared.event.PathNo.{PathNo}
 use Rattle.tw_model.specs.declared.state.Row.{Row}
-use Rattle.tw_model.specs.Net.{Net, path, same_path}
-use Rattle.tw_model.specs.State.{offers}
-use Rattle.tw_model.proofs.Paths.{same_path_is}
+use Rattle.tw_model.specs.Net.{Net, path, paths_of, same_path}
+use Rattle.tw_model.specs.State.{bars, line_of, offers}
+use Rattle.tw_model.proofs.Paths.{paths_of-distinct, same_path_is}
 use Rattle.tw_instance.specs.Extensions.{IsExtendedAt}
 use Rattle.tw_instance.specs.Hops.{AreDistinct}
 use Rattle.tw_instance.proofs.Finding.{is-same, is_path}
-use Rattle.tw_router.specs.Ranks.{IsOfferedAt}
+use Rattle.tw_router.specs.Ranks.{IsOfferedAt, rank_of_path}
 use Rattle.tw_router.proofs.Places.{place_of-distinct}
 
 -- ---- over a link that is up
@@ -48,3 +49,24 @@ pub place_kept : (order permitted : List PathNo) (k : ℕ) (q : PathNo) → AllP
 place_kept order permitted k q distinct same at =
     let here : slice_get order k ≡ Some q = ap (λ qs. slice_get qs k) same ∙ at in
     place_of-distinct order k q q distinct (slice_get_within order k q here) (ap (λ (p : PathNo). p.0) (get_or_from_slice_get order k q q here))
+
+-- ---- bars
+
+-- where no path is barred
+pub rank_unbarred : (net : Net) (v : ℕ) (order : List PathNo) (barred : List Bool) (k : ℕ) (q : PathNo) → AllPairs (λ p q. p ≢ q) order
+    → order ≡ paths_of net v → ((k : ℕ) → slice_index_or barred k false ≡ false) → slice_get (paths_of net v) k ≡ Some q
+    → length order - k ≡ rank_of_path net v order barred q
+rank_unbarred net v order barred k q distinct same none at =
+    ap (λ n. length order - n) (place_kept order (paths_of net v) k q distinct same at)
+    ∙ sym (ap (λ b. if b then 0 else length order - position_or_len (λ p. p.0 == q.0) order) (none (line_of net v q)))
+
+-- the bar of a path stands at its place among the permitted ones
+pub bars_at : (net : Net) (v : ℕ) (barred : List Bool) (k : ℕ) (q : PathNo) → slice_get (paths_of net v) k ≡ Some q
+    → slice_index_or barred k false ≡ bars net v barred q
+bars_at net v barred k q at =
+    ap (λ n. slice_index_or barred n false) (place_kept (paths_of net v) (paths_of net v) k q (paths_of-distinct net v) refl at)
+
+-- a path whose bar is known
+pub rank_known : (net : Net) (v : ℕ) (order : List PathNo) (barred : List Bool) (b : Bool) (q : PathNo) → b ≡ bars net v barred q
+    → (if b then 0 else length order - position_or_len (λ p. p.0 == q.0) order) ≡ rank_of_path net v order barred q
+rank_known net v order barred b q is = ap (λ b. if b then 0 else length order - position_or_len (λ p. p.0 == q.0) order) is

@@ -6,18 +6,19 @@ ghost use Rattle.tw_event.specs.declared.event.PathNo.{PathNo as APathNo};
 ghost use Rattle.tw_model.specs.declared.limits.TheConstants.{MOST_PATHS};
 ghost use Rattle.tw_model.specs.Net.{IsPath, hops_of, paths_of};
 ghost use Rattle.tw_model.specs.State.{offers};
-ghost use Rattle.tw_router.specs.Ranks.{IsOfferedAt, IsOrderOf, rank};
+ghost use Rattle.tw_router.specs.Ranks.{IsOfferedAt, IsOrderOf, rank, rank_of_path};
 
 use tw_event::PathNo;
 use tw_instance::Instance;
 use tw_lanes::best_rank;
 use tw_model::Row;
 
-/// Writes the rank of each slot anew, of an order in which paths were exchanged.
+/// Writes the rank of each slot anew, where paths were exchanged or barred.
 pub(crate) fn refresh(
     instance: &Instance,
     node: u32,
     order: &[PathNo],
+    barred: &[bool],
     rows: &[Row],
     ranks: &mut [u32],
 )
@@ -25,12 +26,13 @@ pub(crate) fn refresh(
     requires slots { length rows.now ≡ length (hops_of instance.now node) }
     requires ranks { length ranks.old ≡ length rows.now }
     requires heard { All (λ row. IsPath instance.now row.heard) rows.now }
+    requires bars { length barred.now ≡ length (paths_of instance.now node) }
     requires few { length order.now ≤ MOST_PATHS }
     requires distinct { AllPairs (λ p q. p ≢ q) order.now }
-    ensures { ranks.new ≡ map (rank instance.now node order.now) rows.now }
+    ensures { ranks.new ≡ map (rank instance.now node order.now barred.now) rows.now }
 {
     for (slot, row) in rows.iter().enumerate() {
-        refresh_slot(instance, node, slot, order, true, *row, ranks);
+        refresh_slot(instance, node, slot, order, barred, true, *row, ranks);
     }
 }
 
@@ -41,7 +43,8 @@ pub(crate) fn refresh_slot(
     node: u32,
     slot: usize,
     order: &[PathNo],
-    exchanged: bool,
+    barred: &[bool],
+    altered: bool,
     row: Row,
     ranks: &mut [u32],
 )
@@ -49,12 +52,13 @@ pub(crate) fn refresh_slot(
     requires slot { slot < length (hops_of instance.now node) }
     requires rank { slot < length ranks.old }
     requires path { IsPath instance.now row.heard }
-    requires order { IsOrderOf instance.now node exchanged order.now }
+    requires order { IsOrderOf instance.now node altered order.now barred.now }
+    requires bars { length barred.now ≡ length (paths_of instance.now node) }
     requires few { length order.now ≤ MOST_PATHS }
     requires distinct { AllPairs (λ p q. p ≢ q) order.now }
-    ensures { ranks.new ≡ slice_set ranks.old slot (rank instance.now node order.now row) }
+    ensures { ranks.new ≡ slice_set ranks.old slot (rank instance.now node order.now barred.now row) }
 {
-    ranks[slot] = rank_of(instance, node, order, exchanged, row);
+    ranks[slot] = rank_of(instance, node, order, barred, altered, row);
 }
 
 /// The greatest of the ranks, where that of one slot was another one before, and the greatest with it is
@@ -75,18 +79,26 @@ pub(crate) fn greatest_after(greatest: u32, before: u32, ranks: &[u32], slot: us
     }
 }
 
-/// The rank of the path that a neighbour offers, and 0 where it offers none.
+/// The rank of the path that a neighbour offers, and 0 where it offers none or that path is barred.
 #[inline(always)]
-fn rank_of(instance: &Instance, node: u32, order: &[PathNo], exchanged: bool, row: Row) -> u32
+fn rank_of(
+    instance: &Instance,
+    node: u32,
+    order: &[PathNo],
+    barred: &[bool],
+    altered: bool,
+    row: Row,
+) -> u32
     requires router { node < instance.now.nodes }
     requires path { IsPath instance.now row.heard }
-    requires order { IsOrderOf instance.now node exchanged order.now }
+    requires order { IsOrderOf instance.now node altered order.now barred.now }
+    requires bars { length barred.now ≡ length (paths_of instance.now node) }
     requires few { length order.now ≤ MOST_PATHS }
     requires distinct { AllPairs (λ p q. p ≢ q) order.now }
-    ensures { result ≡ rank instance.now node order.now row }
+    ensures { result ≡ rank instance.now node order.now barred.now row }
 {
     match offered_place(instance, node, row) {
-        Some(place) => (order.len() - order_place(instance, node, order, exchanged, place)) as u32,
+        Some(place) => rank_at(instance, node, order, barred, altered, place),
         None => 0,
     }
 }
@@ -105,27 +117,32 @@ fn offered_place(instance: &Instance, node: u32, row: Row) -> Option<usize>
     instance.extended_place(node, row.heard)
 }
 
-/// How many paths of the order stand before the one at a place, from 0, of the permitted paths.
+/// The rank of the path at a place, from 0, of the permitted paths, and 0 where it is barred.
 #[inline(always)]
-fn order_place(
+fn rank_at(
     instance: &Instance,
     node: u32,
     order: &[PathNo],
-    exchanged: bool,
+    barred: &[bool],
+    altered: bool,
     place: usize,
-) -> usize
+) -> u32
     requires place { place < length (paths_of instance.now node) }
-    requires order { IsOrderOf instance.now node exchanged order.now }
+    requires order { IsOrderOf instance.now node altered order.now barred.now }
+    requires bars { length barred.now ≡ length (paths_of instance.now node) }
+    requires few { length order.now ≤ MOST_PATHS }
     requires distinct { AllPairs (λ p q. p ≢ q) order.now }
-    ensures within { result ≤ length order.now }
-    ensures value { (q : APathNo) → slice_get (paths_of instance.now node) place ≡ Some q
-        → result ≡ position_or_len (λ p. p.0 == q.0) order.now }
+    ensures { (q : APathNo) → slice_get (paths_of instance.now node) place ≡ Some q
+        → result ≡ rank_of_path instance.now node order.now barred.now q }
 {
-    if exchanged {
-        count_before(order, instance.permitted(node)[place])
-    } else {
-        place
+    // Bars are read only where there may be some, so that they cost nothing elsewhere.
+    if !altered {
+        return (order.len() - place) as u32;
     }
+    if barred[place] {
+        return 0;
+    }
+    (order.len() - count_before(order, instance.permitted(node)[place])) as u32
 }
 
 fn count_before(order: &[PathNo], path: PathNo) -> usize

@@ -1,12 +1,12 @@
 //! A router: its reads and its writers.
 
-ghost use Rattle.std.specs.Prelude.{◌≡◌, ◌-◌, ◌≤◌, ◌<◌, ◌↔◌, fold, map, max, length, IfOk, IsErrOf, IsTrue};
+ghost use Rattle.std.specs.Prelude.{◌≡◌, ◌-◌, ◌≤◌, ◌<◌, ◌↔◌, false, fold, map, max, length, IfOk, IsErrOf, IsTrue};
 ghost use Rattle.std.specs.List.{All};
 ghost use Rattle.tw_model.specs.declared.memory.OrMemory.TheVariants.{Fault};
 ghost use Rattle.tw_model.specs.Net.{IsPath, path as path_of};
 ghost use Rattle.tw_model.specs.Rules.{IsNet};
-ghost use Rattle.tw_model.specs.State.{IsCounted, IsState, best as best_of, fresh_row, offers, opening, opening_with, row as row_of};
-ghost use Rattle.tw_model.specs.Effect.{with_swap, with_row};
+ghost use Rattle.tw_model.specs.State.{IsCounted, IsState, best as best_of, fresh_row, is_barred as is_barred_of, offers, opening, opening_with, row as row_of};
+ghost use Rattle.tw_model.specs.Effect.{with_bar, with_swap, with_row};
 ghost use Rattle.tw_model.specs.Summary.{end_of};
 ghost use Rattle.tw_router.specs.Nodes.{best_nodes, heard_of, order_of};
 ghost use Rattle.tw_router.specs.Ranks.{rank_row as rank_row_of};
@@ -32,9 +32,10 @@ pub enum OpenFault {
 /// A router of an instance, with what it knows.
 ///
 /// It has a row for each neighbour, in ascending order; a slot is the place of a row, from 0. Its order has
-/// its permitted paths, the best first. A neighbour whose link is up offers the router's number followed by
-/// the path that it told. Each slot has a rank: how many paths of the order stand from the offered one on,
-/// and 0 where none of them is offered. So the path of the greatest rank is the best.
+/// its permitted paths, the best first, and each of them may be barred. A neighbour whose link is up offers
+/// the router's number followed by the path that it told. Each slot has a rank: how many paths of the order
+/// stand from the offered one on, and 0 where none of them is offered, or a barred one. So the path of the
+/// greatest rank is the best.
 #[derive(Drop)]
 pub struct Router<'a> {
     instance: &'a Instance,
@@ -45,9 +46,12 @@ pub struct Router<'a> {
     ranks: Vec<u32>,
     /// The greatest of the ranks, and 0 where there are none.
     greatest: u32,
-    /// Whether paths of the order were ever exchanged. Where none were, it is the order of the instance.
-    exchanged: bool,
+    /// Whether paths of the order were ever exchanged, or one was ever barred. Where this is false, the
+    /// order is that of the instance, and no path is barred.
+    altered: bool,
     counters: Counters,
+    /// Which paths are barred, in the order in which they were given.
+    barred: Vec<bool>,
 }
 
 impl<'a> Model for Router<'a> {
@@ -56,11 +60,11 @@ impl<'a> Model for Router<'a> {
 
     ghost Value = { state.Router };
 
-    ghost view = { λ a. record { net = a.instance.now; node = a.node; state = record { rib = a.rib; rows = a.rows.items; order = a.order.items; counters = a.counters } } };
+    ghost view = { λ a. record { net = a.instance.now; node = a.node; state = record { rib = a.rib; rows = a.rows.items; order = a.order.items; barred = a.barred.items; counters = a.counters } } };
 
     ghost invariant = { λ a. IsRanked
-        (record { net = a.instance.now; node = a.node; state = record { rib = a.rib; rows = a.rows.items; order = a.order.items; counters = a.counters } })
-        a.ranks.items a.greatest a.exchanged };
+        (record { net = a.instance.now; node = a.node; state = record { rib = a.rib; rows = a.rows.items; order = a.order.items; barred = a.barred.items; counters = a.counters } })
+        a.ranks.items a.greatest a.altered };
 }
 
 impl<'a> Router<'a> {
@@ -109,16 +113,18 @@ impl<'a> Router<'a> {
             (λ router. router ≡ record { net = instance.now; node = node; state = opening_with instance.now node counters }) }
     {
         let hops = instance.hops(node);
+        let permitted = instance.permitted(node);
         Ok(Router {
             instance,
             node,
             rib: PathNo::EMPTY,
             rows: fresh_rows(alloc, hops)?,
-            order: Vec::from_slice(alloc, instance.permitted(node))?,
+            order: Vec::from_slice(alloc, permitted)?,
             ranks: vec![in alloc; 0; hops.len()]?,
             greatest: 0,
-            exchanged: false,
+            altered: false,
             counters,
+            barred: unbarred(alloc, permitted)?,
         })
     }
 
@@ -203,9 +209,27 @@ impl<'a> Router<'a> {
         self.order.as_slice()
     }
 
+    /// Which of its permitted paths are barred, in the order in which they were given.
+    pub fn barred(&self) -> &[bool]
+        ensures value { result.now ≡ self.now.state.barred }
+        ensures state { IsState self.now.net self.now.node self.now.state }
+    {
+        self.barred.as_slice()
+    }
+
+    /// Whether the path at a place, from 1, among its permitted paths as they were given is barred. Swaps
+    /// change no path's place there.
+    pub fn is_barred(&self, line: u32) -> bool
+        requires first { 0 < line }
+        requires within { line ≤ length self.now.state.barred }
+        ensures { result ≡ is_barred_of self.now.state line }
+    {
+        self.barred[line as usize - 1]
+    }
+
     /// The rank of each slot. Of a router with three permitted paths it is 3 where the neighbour offers the
     /// best of them, 1 where it offers the last, and 0 where it offers none: the link is down, or it told no
-    /// path, or one that no permitted path goes on with.
+    /// path, or one that no permitted path goes on with. It is 0 also where it offers a barred path.
     pub fn rank_row(&self) -> &[u32]
         ensures { result.now ≡ rank_row_of self.now }
     {
@@ -231,14 +255,14 @@ impl<'a> Router<'a> {
         }
     }
 
-    /// The first path of its order that is itself followed by what a neighbour told it over a link that
-    /// is up, or else the empty path; at the origin, (0).
+    /// The first path of its order that is not barred and that is itself followed by what a neighbour told
+    /// it over a link that is up, or else the empty path; at the origin, (0).
     #[inline(always)]
     pub fn best(&self) -> PathNo
         ensures value { result ≡ best_of self.now.net self.now.node self.now.state }
         ensures path { IsPath self.now.net result }
         ensures nodes { path_of self.now.net result
-            ≡ best_nodes self.now.node (heard_of self.now.net self.now.state) (order_of self.now.net self.now.state) }
+            ≡ best_nodes self.now.node (heard_of self.now.net self.now.state) (order_of self.now.net self.now.node self.now.state) }
     {
         let node = self.node();
         if node == 0 {
@@ -284,7 +308,8 @@ impl<'a> Router<'a> {
             node,
             slot,
             &self.order,
-            self.exchanged,
+            &self.barred,
+            self.altered,
             row,
             &mut self.ranks,
         );
@@ -295,7 +320,7 @@ impl<'a> Router<'a> {
     /// Writes the rank of a slot anew. The instance is the router's own.
     ///
     /// The writers do this themselves where a rank may change, so a router's ranks are always those of its
-    /// rows and its order, and the call changes nothing that can be read.
+    /// rows, its order and its bars, and the call changes nothing that can be read.
     pub fn refresh_slot(&mut self, instance: &Instance, slot: usize)
         requires own { instance.now ≡ self.old.net }
         requires slot { slot < length self.old.state.rows }
@@ -308,7 +333,8 @@ impl<'a> Router<'a> {
             node,
             slot,
             &self.order,
-            self.exchanged,
+            &self.barred,
+            self.altered,
             row,
             &mut self.ranks,
         );
@@ -334,7 +360,8 @@ impl<'a> Router<'a> {
             node,
             slot,
             &self.order,
-            self.exchanged,
+            &self.barred,
+            self.altered,
             row,
             &mut self.ranks,
         );
@@ -378,9 +405,38 @@ impl<'a> Router<'a> {
     {
         self.order.swap(first as usize - 1, second as usize - 1);
         let node = self.node;
-        self.exchanged = true;
-        refresh(instance, node, &self.order, &self.rows, &mut self.ranks);
+        refresh(
+            instance,
+            node,
+            &self.order,
+            &self.barred,
+            &self.rows,
+            &mut self.ranks,
+        );
         self.greatest = best_rank(&self.ranks);
+        self.altered = true;
+    }
+
+    /// Bars the path at a place, from 1, among its permitted paths as they were given, or allows it. The
+    /// instance is the router's own.
+    pub fn set_barred(&mut self, instance: &Instance, line: u32, barred: bool)
+        requires own { instance.now ≡ self.old.net }
+        requires first { 0 < line }
+        requires within { line ≤ length self.old.state.barred }
+        ensures { self.new ≡ record self.old { state = with_bar self.old.state line barred } }
+    {
+        self.barred[line as usize - 1] = barred;
+        let node = self.node;
+        refresh(
+            instance,
+            node,
+            &self.order,
+            &self.barred,
+            &self.rows,
+            &mut self.ranks,
+        );
+        self.greatest = best_rank(&self.ranks);
+        self.altered |= barred;
     }
 
     /// Changes what it counts.
@@ -403,6 +459,12 @@ fn fresh_rows(alloc: Global, hops: &[Hop]) -> Result<Vec<Row>, AllocError>
         session: 0,
     };
     hops.iter().map(|_| fresh).collect(alloc)
+}
+
+fn unbarred(alloc: Global, paths: &[PathNo]) -> Result<Vec<bool>, AllocError>
+    ensures { IfOk result (λ bars. bars.items ≡ map (λ q. false) paths.now) }
+{
+    paths.iter().map(|_| false).collect(alloc)
 }
 
 fn is_counted(counters: Counters) -> bool

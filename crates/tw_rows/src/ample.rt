@@ -23,6 +23,7 @@ fn adds_items(alloc: Global) -> bool {
         first: 0,
         second: 1,
         delay: 3,
+        back: 3,
     };
     if instance.add_link(link) != Ok(())
         || instance.add_path(PermittedPath { owner: 1, nodes }) != Ok(())
@@ -153,7 +154,7 @@ fn gathers_a_router(alloc: Global) -> bool {
     let mut builder = ShapeBuilder::new(alloc, 4);
     builder.reserve(1, 0, 1).is_ok()
         && builder
-            .add_router(PathNo::ORIGIN, &[], &[PathNo::ORIGIN], 0)
+            .add_router(PathNo::ORIGIN, &[], &[PathNo::ORIGIN], &[false], 0)
             .is_ok()
         && Watch::new(alloc, 1).is_ok()
 }

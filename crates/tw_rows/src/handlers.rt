@@ -96,6 +96,8 @@ enum Row {
     GoesBack,
     RankRow,
     RankExchange,
+    ForbiddenPath,
+    AllowedPath,
     AnotherSession,
     FullCounter,
     ImpossibleCounters,
@@ -117,6 +119,8 @@ fn holds_in(alloc: Global, instance: &Instance, row: Row) -> bool
         Row::GoesBack => goes_back_to_each_state(alloc, instance),
         Row::RankRow => keeps_its_rank_row(alloc, instance),
         Row::RankExchange => takes_an_exchange_back(alloc, instance),
+        Row::ForbiddenPath => takes_a_bar_back(alloc, instance),
+        Row::AllowedPath => bars_a_path_again(alloc, instance),
         Row::AnotherSession => drops_another_session(alloc, instance),
         Row::FullCounter => refuses_a_full_counter(alloc, instance),
         Row::ImpossibleCounters => refuses_impossible_counters(alloc, instance),
@@ -184,6 +188,59 @@ fn takes_an_exchange_back(alloc: Global, instance: &Instance) -> bool
         && back(trail, instance, 1, sends) == (PathNo(2), 2)
         && sends.is_empty()
         && trail.router().order() == [PathNo(2), PathNo(3)].as_slice()
+}
+
+/// What happens to router 1 by a line of the scenario.
+fn scene(time: u64, seq: u64, body: Body) -> Event {
+    Event {
+        time,
+        dst: 1,
+        src: 1,
+        seq,
+        body,
+    }
+}
+
+/// Whether a path that is forbidden is given up, and comes back where that is undone.
+fn takes_a_bar_back(alloc: Global, instance: &Instance) -> bool
+    requires { 1 < instance.now.nodes }
+{
+    let Ok(router) = router(alloc, instance, NO_COUNTS) else {
+        return false;
+    };
+    let trail = &mut Trail::over(alloc, router);
+    let sends = &mut SmallVec::new(alloc);
+    step(trail, instance, &update(1, 0, 0, 1, 0)) == Ok((PathNo(3), 2))
+        && step(trail, instance, &scene(2, 1, Body::Forbid(2))) == Ok((PathNo::EMPTY, 4))
+        && trail.router().rank_row() == [0, 0].as_slice()
+        && step(trail, instance, &scene(3, 2, Body::Forbid(2))) == Ok((PathNo::EMPTY, 4))
+        && back(trail, instance, 2, sends) == (PathNo::EMPTY, 4)
+        && trail.router().barred() == [false, true].as_slice()
+        && back(trail, instance, 1, sends) == (PathNo(3), 2)
+        && times(sends, &[(3, 2), (3, 3)])
+        && trail.router().barred() == [false, false].as_slice()
+        && trail.router().rank_row() == [1, 0].as_slice()
+}
+
+/// Whether a path that is allowed again is taken up, and is forbidden where that is undone.
+fn bars_a_path_again(alloc: Global, instance: &Instance) -> bool
+    requires { 1 < instance.now.nodes }
+{
+    let Ok(router) = router(alloc, instance, NO_COUNTS) else {
+        return false;
+    };
+    let trail = &mut Trail::over(alloc, router);
+    let sends = &mut SmallVec::new(alloc);
+    step(trail, instance, &scene(0, 1, Body::Forbid(2))) == Ok((PathNo::EMPTY, 0))
+        && step(trail, instance, &update(1, 0, 0, 1, 0)) == Ok((PathNo::EMPTY, 0))
+        && step(trail, instance, &scene(2, 2, Body::Allow(2))) == Ok((PathNo(3), 2))
+        && step(trail, instance, &scene(3, 3, Body::Allow(2))) == Ok((PathNo(3), 2))
+        && back(trail, instance, 2, sends) == (PathNo::EMPTY, 0)
+        && trail.router().barred() == [false, true].as_slice()
+        && trail.router().rank_row() == [0, 0].as_slice()
+        && step(trail, instance, &update(4, 2, 0, 5, 0)) == Ok((PathNo(2), 2))
+        && step(trail, instance, &scene(5, 4, Body::Forbid(3)))
+            == Err(OrMemory::Fault(Fault::Foreign))
 }
 
 /// Whether a router has counted one event, which it dropped, and is as it was but for that.
@@ -272,6 +329,16 @@ fn the_rank_row_follows_what_is_heard_and_goes_back(rt: HostRuntime) {
 #[test]
 fn an_exchange_of_ranks_is_taken_back(rt: HostRuntime) {
     assert!(rt; holds(rt.alloc(), RANK_EXCHANGE, Row::RankExchange));
+}
+
+#[test]
+fn a_path_that_was_forbidden_comes_back(rt: HostRuntime) {
+    assert!(rt; holds(rt.alloc(), DISAGREE, Row::ForbiddenPath));
+}
+
+#[test]
+fn a_path_that_was_allowed_is_forbidden_again(rt: HostRuntime) {
+    assert!(rt; holds(rt.alloc(), DISAGREE, Row::AllowedPath));
 }
 
 #[test]

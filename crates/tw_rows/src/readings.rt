@@ -1,7 +1,7 @@
 //! Texts that are read, and written again.
 
 use crate::cases::case;
-use crate::texts::{DISAGREE, FAILURE_AND_REPAIR, RANK_EXCHANGE};
+use crate::texts::{DISAGREE, FAILURE_AND_REPAIR, FORBIDDEN_PATH, RANK_EXCHANGE};
 use std::alloc::Global;
 use tw_instance::Case;
 use tw_model::OrMemory;
@@ -45,7 +45,7 @@ fn the_steps_of_a_replay_follow_its_case(rt: HostRuntime) {
 #[test]
 fn a_case_that_was_read_is_written_as_it_was(rt: HostRuntime) {
     let alloc = rt.alloc();
-    for text in [DISAGREE, RANK_EXCHANGE, FAILURE_AND_REPAIR] {
+    for text in [DISAGREE, RANK_EXCHANGE, FAILURE_AND_REPAIR, FORBIDDEN_PATH] {
         let Ok(case) = case(alloc, text) else {
             panic!(rt; "the case is refused")
         };

@@ -76,3 +76,20 @@ path 2 2 0
 swap 8 1 1 2
 end
 ";
+
+/// DISAGREE in version 2, with a link whose directions have delays of their own, and a path that is forbidden at
+/// router 2 from 9 to 20.
+pub const FORBIDDEN_PATH: &str = "\
+spp 2
+nodes 3
+link 0 1 1 1
+link 0 2 5 5
+link 1 2 1 2
+path 1 1 2 0
+path 1 1 0
+path 2 2 1 0
+path 2 2 0
+forbid 9 2 1
+allow 20 2 1
+end
+";

@@ -70,7 +70,8 @@ pub(crate) fn gather(builder: &mut ShapeBuilder, routers: &[Router<'_>]) -> Resu
     builder.reserve(routers.len(), count_rows(routers), count_paths(routers))?;
     for router in routers {
         let sent = router.counters().sent;
-        builder.add_router(router.rib(), router.rows(), router.order(), sent)?;
+        let (rows, order, barred) = (router.rows(), router.order(), router.barred());
+        builder.add_router(router.rib(), rows, order, barred, sent)?;
     }
     Ok(())
 }

@@ -4,7 +4,7 @@ use Rattle.std.specs.List.{enumerate_from}
 use Rattle.std.proofs.lemmas.Bool.{cases_Bool}
 use Rattle.std.specs.Ordering.{nat_cmp}
 use Rattle.tw_event.specs.declared.event.Body.{Body}
-use Rattle.tw_event.specs.declared.event.Body.TheVariants.{Start, Fail, Restore, Swap, Update}
+use Rattle.tw_event.specs.declared.event.Body.TheVariants.{Start, Fail, Restore, Swap, Forbid, Allow, Update}
 use Rattle.tw_event.specs.declared.event.Event.{Event}
 use Rattle.tw_event.specs.declared.event.PathNo.{PathNo}
 use Rattle.tw_model.specs.declared.net.Hop.{Hop}
@@ -66,6 +66,8 @@ module _ (net : Net) (p : ℕ) (d : ℕ → ℕ) where
   react_acts s u e (Fail w) g a = cc
   react_acts s u e (Restore w) g a = cc
   react_acts s u e (Swap i j) g a = cc
+  react_acts s u e (Forbid k) g a = cc
+  react_acts s u e (Allow k) g a = cc
   react_acts s u e (Update q n) g a =
       rw a.same (elim (cases_Bool (accepts s (slot net e.dst e.src) n)) [
         | inl b ↦ rw b (react_settle e.dst e.time (with_heard s (slot net e.dst e.src) q) (record (with_heard s (slot net e.dst e.src) q) { counters = a.counters })
@@ -105,6 +107,8 @@ module _ (net : Net) (p : ℕ) (d : ℕ → ℕ) where
   updates_acts s e (Fail w) g = cc
   updates_acts s e (Restore w) g = cc
   updates_acts s e (Swap i j) g = cc
+  updates_acts s e (Forbid k) g = cc
+  updates_acts s e (Allow k) g = cc
   updates_acts s e (Update q n) g =
       elim (cases_Bool (accepts s (slot net e.dst e.src) n)) [
         | inl b ↦ rw b (updates_settle e.dst e.time (with_heard s (slot net e.dst e.src) q))

@@ -1,7 +1,7 @@
 -- Shapes as they are stored: routers are stored alike exactly where they are the same, and pending events in any order.
 use Rattle.std.proofs.Common.{◌≡◌, ℕ, suc, zero, ◌+◌, ◌-◌, ◌≤◌, ◌==◌, Bool, false, true, ◌&&◌, not, slice_index, List, [], ◌∷◌, ◌++◌, drop, length, map, take, min, refl, ap, sym, ◌∙◌, subst, ◌⊎◌, inl, inr, arith}
 use lib.Pointwise.{pointwise, pointwise_decides}
-use Rattle.std.specs.Bool.{Decides, one_answer}
+use Rattle.std.specs.Bool.{Decides, beq, one_answer}
 use Rattle.std.specs.Cmp.{unsigned_Decides}
 use Rattle.std.specs.List.{All, fold, list_all}
 use Rattle.std.specs.Global.{Vec}
@@ -25,38 +25,41 @@ use Rattle.tw_shape.specs.Packed.{Covers, hash_by, in_order, least_time, routers
 use Rattle.tw_shape.specs.Storage.{IsHashed, routers_in, shape_of}
 use Rattle.tw_shape.proofs.Multiset.{all_in-insert_all, from_in_order, in_order_again, to_in_order}
 use Rattle.tw_shape.proofs.Hashing.{hash_in_order}
-use Rattle.tw_shape.proofs.Sameness.{both_decide, path_decides, router_decides, row_decides}
+use Rattle.tw_shape.proofs.Sameness.{both_decide, lists_decide, path_decides, router_decides}
 use Rattle.tw_sim.proofs.Ordered.{length-insert_all}
 
 -- ---- the code's equality of parts
 
-span_of : PathNo → ℕ → ℕ → Span
-span_of p a b = record { rib = p; rows = a; order = b }
+span_of : PathNo → ℕ → ℕ → ℕ → Span
+span_of p a b n = record { rib = p; rows = a; order = b; barred = n }
 
 span_decides : (r s : Span) → Decides (span_eqs.ghosts.eq r s) (r ≡ s)
 unfolding span_of
 span_decides r s =
-    both_decide (same_path r.rib s.rib) ((r.rows == s.rows) && (r.order == s.order)) (path_decides r.rib s.rib)
-    (both_decide {R = (r.rows ≡ s.rows) × (r.order ≡ s.order)} (r.rows == s.rows) (r.order == s.order)
-    (unsigned_Decides r.rows s.rows) (unsigned_Decides r.order s.order) (λ p q. (p, q)) (λ p. (p.0, p.1)))
-    (λ p q. let all : span_of r.rib r.rows r.order ≡ span_of s.rib s.rows s.order = (let a = q.0 in let b = q.1 in cc) in all)
-    (λ e. (ap (λ x. x.rib) e, (ap (λ x. x.rows) e, ap (λ x. x.order) e)))
+    both_decide (same_path r.rib s.rib) ((r.rows == s.rows) && ((r.order == s.order) && (r.barred == s.barred))) (path_decides r.rib s.rib)
+    (both_decide {R = (r.rows ≡ s.rows) × (r.order ≡ s.order) × (r.barred ≡ s.barred)} (r.rows == s.rows) ((r.order == s.order) && (r.barred == s.barred))
+    (unsigned_Decides r.rows s.rows)
+    (both_decide {R = (r.order ≡ s.order) × (r.barred ≡ s.barred)} (r.order == s.order) (r.barred == s.barred)
+    (unsigned_Decides r.order s.order) (unsigned_Decides r.barred s.barred) (λ p q. (p, q)) (λ p. (p.0, p.1)))
+    (λ p q. (p, q.0, q.1)) (λ p. (p.0, (p.1, p.2))))
+    (λ p q. let all : span_of r.rib r.rows r.order r.barred ≡ span_of s.rib s.rows s.order s.barred = (let a = q.0 in let b = q.1 in let n = q.2 in cc) in all)
+    (λ e. (ap (λ x. x.rib) e, (ap (λ x. x.rows) e, ap (λ x. x.order) e, ap (λ x. x.barred) e)))
 
 -- two shapes' routers are stored alike
 pub record AreStoredAlike (p q : Parts) : Type 0 where
   pub spans : p.spans.items ≡ q.spans.items
   pub rows : p.rows.items ≡ q.rows.items
   pub order : p.order.items ≡ q.order.items
+  pub barred : p.barred.items ≡ q.barred.items
 
 parts_decide : (p q : Parts) → Decides (parts_eqs.ghosts.eq p q) (AreStoredAlike p q)
 parts_decide p q =
-    both_decide (pointwise span_eqs.ghosts.eq p.spans.items q.spans.items) (pointwise same_row p.rows.items q.rows.items && pointwise same_path p.order.items q.order.items)
+    both_decide (pointwise span_eqs.ghosts.eq p.spans.items q.spans.items)
+    (pointwise same_row p.rows.items q.rows.items && (pointwise same_path p.order.items q.order.items && pointwise beq p.barred.items q.barred.items))
     (pointwise_decides span_decides p.spans.items q.spans.items)
-    (both_decide {R = (p.rows.items ≡ q.rows.items) × (p.order.items ≡ q.order.items)} (pointwise same_row p.rows.items q.rows.items)
-    (pointwise same_path p.order.items q.order.items) (pointwise_decides row_decides p.rows.items q.rows.items) (pointwise_decides path_decides p.order.items q.order.items)
-    (λ a b. (a, b)) (λ r. (r.0, r.1)))
-    (λ a b. record { spans = a; rows = b.0; order = b.1 })
-    (λ r. (r.spans, (r.rows, r.order)))
+    (lists_decide p.rows.items q.rows.items p.order.items q.order.items p.barred.items q.barred.items)
+    (λ a b. record { spans = a; rows = b.0; order = b.1; barred = b.2 })
+    (λ r. (r.spans, (r.rows, r.order, r.barred)))
 
 -- ---- the routers
 
@@ -73,35 +76,36 @@ take_drop (suc n) (suc m) (x ∷ xs) (y ∷ ys) a b t d =
     let r = take_drop n m xs ys (omega arith) (omega arith) (let k : take n xs ≡ take m ys = cc in k) d in
     (ap suc r.0, (let k = r.1 in cc))
 
--- the same routers have the same spans, rows and paths
-routers_back : (ss ts : List Span) (rs qs : List Row) (os ps : List PathNo) → Covers ss rs os → Covers ts qs ps → routers_of ss rs os ≡ routers_of ts qs ps
-    → (ss ≡ ts) × (rs ≡ qs) × (os ≡ ps)
-routers_back [] [] rs qs os ps c d h = (refl, c.0 ∙ sym d.0, c.1 ∙ sym d.1)
-routers_back [] (t ∷ ts) rs qs os ps c d h = cc
-routers_back (s ∷ ss) [] rs qs os ps c d h = cc
-routers_back (s ∷ ss) (t ∷ ts) rs qs os ps c d h =
-    let one : RouterShape = record { rib = s.rib; rows = take s.rows rs; order = take s.order os } in
-    let two : RouterShape = record { rib = t.rib; rows = take t.rows qs; order = take t.order ps } in
+-- the same routers have the same spans, rows, paths and bars
+routers_back : (ss ts : List Span) (rs qs : List Row) (os ps : List PathNo) (bs cs : List Bool) → Covers ss rs os bs → Covers ts qs ps cs
+    → routers_of ss rs os bs ≡ routers_of ts qs ps cs → (ss ≡ ts) × (rs ≡ qs) × (os ≡ ps) × (bs ≡ cs)
+routers_back [] [] rs qs os ps bs cs c d h = (refl, c.0 ∙ sym d.0, c.1 ∙ sym d.1, c.2 ∙ sym d.2)
+routers_back [] (t ∷ ts) rs qs os ps bs cs c d h = cc
+routers_back (s ∷ ss) [] rs qs os ps bs cs c d h = cc
+routers_back (s ∷ ss) (t ∷ ts) rs qs os ps bs cs c d h =
+    let one : RouterShape = record { rib = s.rib; rows = take s.rows rs; order = take s.order os; barred = take s.barred bs } in
+    let two : RouterShape = record { rib = t.rib; rows = take t.rows qs; order = take t.order ps; barred = take t.barred cs } in
     let head : one ≡ two = cc in
-    let tail : routers_of ss (drop s.rows rs) (drop s.order os) ≡ routers_of ts (drop t.rows qs) (drop t.order ps) = cc in
-    let more = routers_back ss ts (drop s.rows rs) (drop t.rows qs) (drop s.order os) (drop t.order ps) c.2 d.2 tail in
+    let tail : routers_of ss (drop s.rows rs) (drop s.order os) (drop s.barred bs) ≡ routers_of ts (drop t.rows qs) (drop t.order ps) (drop t.barred cs) = cc in
+    let more = routers_back ss ts (drop s.rows rs) (drop t.rows qs) (drop s.order os) (drop t.order ps) (drop s.barred bs) (drop t.barred cs) c.3 d.3 tail in
     let rows = take_drop s.rows t.rows rs qs c.0 d.0 (ap (λ r. r.rows) head) more.1 in
     let order = take_drop s.order t.order os ps c.1 d.1 (ap (λ r. r.order) head) more.2 in
-    let span = span_same s t (ap (λ r. r.rib) head) rows.0 order.0 in
+    let barred = take_drop s.barred t.barred bs cs c.2 d.2 (ap (λ r. r.barred) head) more.3 in
+    let span = span_same s t (ap (λ r. r.rib) head) rows.0 order.0 barred.0 in
     let spans = more.0 in
-    (cc, rows.1, order.1) where
-      span_same : (s t : Span) → s.rib ≡ t.rib → s.rows ≡ t.rows → s.order ≡ t.order → s ≡ t
-      span_same s t a b e = λ i. record { rib = a i; rows = b i; order = e i }
+    (cc, rows.1, order.1, barred.1) where
+      span_same : (s t : Span) → s.rib ≡ t.rib → s.rows ≡ t.rows → s.order ≡ t.order → s.barred ≡ t.barred → s ≡ t
+      span_same s t a b e n = λ i. record { rib = a i; rows = b i; order = e i; barred = n i }
 
 -- the code's equality of parts is the definition's of routers
-pub routers_same : (p q : Parts) → Covers p.spans.items p.rows.items p.order.items → Covers q.spans.items q.rows.items q.order.items
+pub routers_same : (p q : Parts) → Covers p.spans.items p.rows.items p.order.items p.barred.items → Covers q.spans.items q.rows.items q.order.items q.barred.items
     → parts_eqs.ghosts.eq p q ≡ pointwise same_router (routers_in p) (routers_in q)
 routers_same p q a b =
     let k = pointwise_decides router_decides (routers_in p) (routers_in q) in
     one_answer (parts_eqs.ghosts.eq p q) (pointwise same_router (routers_in p) (routers_in q)) (parts_decide p q) (
-      (λ h. let r = routers_back p.spans.items q.spans.items p.rows.items q.rows.items p.order.items q.order.items a b (k.0 h) in
-          record { spans = r.0; rows = r.1; order = r.2 }),
-      (λ h. k.1 (λ i. routers_of (h.spans i) (h.rows i) (h.order i))),
+      (λ h. let r = routers_back p.spans.items q.spans.items p.rows.items q.rows.items p.order.items q.order.items p.barred.items q.barred.items a b (k.0 h) in
+          record { spans = r.0; rows = r.1; order = r.2; barred = r.3 }),
+      (λ h. k.1 (λ i. routers_of (h.spans i) (h.rows i) (h.order i) (h.barred i))),
     )
 
 -- ---- the pending events
@@ -151,39 +155,66 @@ whole : {X : Type 0} (xs : List X) → (take (length xs) xs ≡ xs) × (drop (le
 whole [] = (refl, refl)
 whole (x ∷ xs) = let r = whole xs in (ap (λ l. x ∷ l) r.0, r.1)
 
--- one more router, with the rows and paths that follow
-pub covers-push : (ss : List Span) (rows rs : List Row) (order os : List PathNo) (s : Span) → s.rows ≡ length rs → s.order ≡ length os → Covers ss rows order
-    → Covers (ss ++ s ∷ []) (rows ++ rs) (order ++ os)
-covers-push [] rows rs order os s a b c =
-    subst (λ l. Covers (s ∷ []) (l ++ rs) (order ++ os)) (sym c.0) (subst (λ l. Covers (s ∷ []) rs (l ++ os)) (sym c.1)
-    (subst (λ n. n ≤ length rs) (sym a) (omega arith), subst (λ n. n ≤ length os) (sym b) (omega arith), (ap (λ n. drop n rs) a ∙ (whole rs).1, ap (λ n. drop n os) b ∙ (whole os).1)))
-covers-push (t ∷ ss) rows rs order os s a b c =
-    let r = next_rows t.rows rows rs c.0 in
-    let o = next_rows t.order order os c.1 in
-    let n = length-append rows rs in
-    let m = length-append order os in
-    let first = c.0 in
-    let second = c.1 in (
-      omega arith,
-      omega arith,
-      subst (λ l. Covers (ss ++ s ∷ []) l (drop t.order (order ++ os))) (sym r.1)
-          (subst (λ l. Covers (ss ++ s ∷ []) (drop t.rows rows ++ rs) l) (sym o.1) (covers-push ss (drop t.rows rows) rs (drop t.order order) os s a b c.2)),
-    )
+-- so many of the next stand there, and they are the first of what is left, before and after more are added
+record IsSpanned {X : Type 0} (n : ℕ) (xs ys : List X) : Type 0 where
+  pub fits : n ≤ length (xs ++ ys)
+  pub first : take n (xs ++ ys) ≡ take n xs
+  pub others : drop n (xs ++ ys) ≡ drop n xs ++ ys
 
-pub routers-push : (ss : List Span) (rows rs : List Row) (order os : List PathNo) (s : Span) → s.rows ≡ length rs → s.order ≡ length os → Covers ss rows order
-    → routers_of (ss ++ s ∷ []) (rows ++ rs) (order ++ os) ≡ routers_of ss rows order ++ record { rib = s.rib; rows = rs; order = os } ∷ []
-routers-push [] rows rs order os s a b c =
-    let one : take s.rows (rows ++ rs) ≡ rs = ap (λ l. take s.rows (l ++ rs)) c.0 ∙ ap (λ n. take n rs) a ∙ (whole rs).0 in
-    let two : take s.order (order ++ os) ≡ os = ap (λ l. take s.order (l ++ os)) c.1 ∙ ap (λ n. take n os) b ∙ (whole os).0 in
-    λ i. record { rib = s.rib; rows = one i; order = two i } ∷ []
-routers-push (t ∷ ss) rows rs order os s a b c =
-    let r = next_rows t.rows rows rs c.0 in
-    let o = next_rows t.order order os c.1 in
-    let more = routers-push ss (drop t.rows rows) rs (drop t.order order) os s a b c.2 in
-    let rest : routers_of (ss ++ s ∷ []) (drop t.rows (rows ++ rs)) (drop t.order (order ++ os))
-    ≡ routers_of ss (drop t.rows rows) (drop t.order order) ++ record { rib = s.rib; rows = rs; order = os } ∷ []
-    = (λ i. routers_of (ss ++ s ∷ []) (r.1 i) (o.1 i)) ∙ more in
-    λ i. record { rib = t.rib; rows = r.0 i; order = o.0 i } ∷ rest i
+spanned : {X : Type 0} (n : ℕ) (xs ys : List X) → n ≤ length xs → IsSpanned n xs ys
+spanned n xs ys fits =
+    let both = next_rows n xs ys fits in
+    let long = length-append xs ys in
+    record { fits = omega arith; first = both.0; others = both.1 }
+
+-- what is added last is spanned by its length
+record IsLastSpan {X : Type 0} (n : ℕ) (xs ys : List X) : Type 0 where
+  pub fits : n ≤ length (xs ++ ys)
+  pub first : take n (xs ++ ys) ≡ ys
+  pub others : drop n (xs ++ ys) ≡ []
+
+last_span : {X : Type 0} (n : ℕ) (xs ys : List X) → n ≡ length ys → xs ≡ [] → IsLastSpan n xs ys
+last_span n xs ys all none =
+    let both = whole ys in
+    let joined : xs ++ ys ≡ ys = ap (λ l. l ++ ys) none in
+    record {
+      fits = subst (λ l. n ≤ length l) (sym joined) (omega arith);
+      first = ap (take n) joined ∙ ap (λ k. take k ys) all ∙ both.0;
+      others = ap (drop n) joined ∙ ap (λ k. drop k ys) all ∙ both.1;
+    }
+
+-- one more router, with the rows, paths and bars that follow
+pub covers-push : (ss : List Span) (rows rs : List Row) (order os : List PathNo) (barred bs : List Bool) (s : Span)
+    → s.rows ≡ length rs → s.order ≡ length os → s.barred ≡ length bs → Covers ss rows order barred → Covers (ss ++ s ∷ []) (rows ++ rs) (order ++ os) (barred ++ bs)
+covers-push [] rows rs order os barred bs s a b e c =
+    let r = last_span s.rows rows rs a c.0 in
+    let o = last_span s.order order os b c.1 in
+    let n = last_span s.barred barred bs e c.2 in
+    (r.fits, o.fits, n.fits, (r.others, o.others, n.others))
+covers-push (t ∷ ss) rows rs order os barred bs s a b e c =
+    let r = spanned t.rows rows rs c.0 in
+    let o = spanned t.order order os c.1 in
+    let n = spanned t.barred barred bs c.2 in
+    let more = covers-push ss (drop t.rows rows) rs (drop t.order order) os (drop t.barred barred) bs s a b e c.3 in
+    (r.fits, o.fits, n.fits, rw (r.others, o.others, n.others) more)
+
+pub routers-push : (ss : List Span) (rows rs : List Row) (order os : List PathNo) (barred bs : List Bool) (s : Span)
+    → s.rows ≡ length rs → s.order ≡ length os → s.barred ≡ length bs → Covers ss rows order barred
+    → routers_of (ss ++ s ∷ []) (rows ++ rs) (order ++ os) (barred ++ bs) ≡ routers_of ss rows order barred ++ record { rib = s.rib; rows = rs; order = os; barred = bs } ∷ []
+routers-push [] rows rs order os barred bs s a b e c =
+    let r = last_span s.rows rows rs a c.0 in
+    let o = last_span s.order order os b c.1 in
+    let n = last_span s.barred barred bs e c.2 in
+    λ i. record { rib = s.rib; rows = r.first i; order = o.first i; barred = n.first i } ∷ []
+routers-push (t ∷ ss) rows rs order os barred bs s a b e c =
+    let r = spanned t.rows rows rs c.0 in
+    let o = spanned t.order order os c.1 in
+    let n = spanned t.barred barred bs c.2 in
+    let more = routers-push ss (drop t.rows rows) rs (drop t.order order) os (drop t.barred barred) bs s a b e c.3 in
+    let rest : routers_of (ss ++ s ∷ []) (drop t.rows (rows ++ rs)) (drop t.order (order ++ os)) (drop t.barred (barred ++ bs))
+    ≡ routers_of ss (drop t.rows rows) (drop t.order order) (drop t.barred barred) ++ record { rib = s.rib; rows = rs; order = os; barred = bs } ∷ []
+    = (λ i. routers_of (ss ++ s ∷ []) (r.others i) (o.others i) (n.others i)) ∙ more in
+    λ i. record { rib = t.rib; rows = r.first i; order = o.first i; barred = n.first i } ∷ rest i
 
 -- ---- counting pending times from the least
 
@@ -258,7 +289,7 @@ pub hash_alike : (a b : Inside) → IsHashed a → IsHashed b → (s w : Shape) 
 hash_alike a b p q s w one two d e still too same =
     let both : later d (shape_of a) ≡ later e (shape_of b) = ap (later d) one ∙ same ∙ sym (ap (later e) two) in
     let spans = (routers_back a.parts.spans.items b.parts.spans.items a.parts.rows.items b.parts.rows.items a.parts.order.items b.parts.order.items
-    p.covers q.covers (ap (λ z. z.routers) both)).0 in
+    a.parts.barred.items b.parts.barred.items p.covers q.covers (ap (λ z. z.routers) both)).0 in
     let first = moved d (shape_of a).pending (subst (IsStill d) (sym one) still) in
     let second = moved e (shape_of b).pending (subst (IsStill e) (sym two) too) in
     let events : map (sooner a.due) (shape_of a).pending ≡ map (sooner b.due) (shape_of b).pending

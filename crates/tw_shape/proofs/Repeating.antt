@@ -1,5 +1,5 @@
 -- Where a shape comes again with updates pending alone, it comes again for ever, and something is always pending.
-use Rattle.std.proofs.Common.{◌≡◌, ℕ, suc, zero, ◌+◌, ◌-◌, ◌*◌, ◌<◌, ◌≤◌, ◌==◌, true, false, ◌&&◌, not, List, [], ◌∷◌, length, map, refl, ap, sym, ◌∙◌, subst, inl, inr, arith}
+use Rattle.std.proofs.Common.{◌≡◌, ℕ, suc, zero, ◌+◌, ◌-◌, ◌*◌, ◌<◌, ◌≤◌, ◌==◌, Bool, true, false, ◌&&◌, not, List, [], ◌∷◌, length, map, refl, ap, sym, ◌∙◌, subst, inl, inr, arith}
 use Rattle.std.specs.List.{list_all, range_with_len}
 use Rattle.std.specs.Ordering.{is_lt, nat_cmp, ordering_then}
 use Rattle.std.specs.declared.cmp.Ordering.{Ordering}
@@ -57,8 +57,14 @@ map_back f g [] h x k = absurd k
 
 -- ---- from shapes to runs and back
 
-state_of : PathNo → List Row → List PathNo → Counters → State
-state_of rib rows order c = record { rib = rib; rows = rows; order = order; counters = c }
+-- times of the same shape have the same bars
+pub same_bars : (case : Case) (t u r : ℕ) → r < case.net.nodes → shape case t ≡ shape case u → (at (simulation case) t r).barred ≡ (at (simulation case) u r).barred
+same_bars case t u r below same =
+    ap (λ s. s.barred) (map_back (λ q. bare (at (simulation case) t q)) (λ q. bare (at (simulation case) u q)) (range_with_len 0 case.net.nodes)
+    (ap (λ s. s.routers) same) r (range_has r 0 case.net.nodes (omega arith) (omega arith)))
+
+state_of : PathNo → List Row → List PathNo → List Bool → Counters → State
+state_of rib rows order barred c = record { rib = rib; rows = rows; order = order; barred = barred; counters = c }
 
 -- two states that are the same but for their counters
 same_but_counters : (s u : State) → bare u ≡ bare s → u ≡ record s { counters = u.counters }
@@ -67,7 +73,8 @@ same_but_counters s u h =
     let rib = ap (λ r. r.rib) h in
     let rows = ap (λ r. r.rows) h in
     let order = ap (λ r. r.order) h in
-    let all : state_of u.rib u.rows u.order u.counters ≡ state_of s.rib s.rows s.order u.counters = cc in
+    let barred = ap (λ r. r.barred) h in
+    let all : state_of u.rib u.rows u.order u.barred u.counters ≡ state_of s.rib s.rows s.order s.barred u.counters = cc in
     all
 
 each_from_all : (f : Event → Event) (xs : List Event) → ((x : Event) → (f x).body ≡ x.body) → list_all (λ e. is_update e.body) (map f xs) ≡ true → Each IsUpdate xs

@@ -1,5 +1,5 @@
 -- The tests of sameness decide equality.
-use Rattle.std.proofs.Common.{◌≡◌, ℕ, ◌==◌, Bool, true, ◌&&◌, ap, subst}
+use Rattle.std.proofs.Common.{◌≡◌, ℕ, ◌==◌, Bool, true, ◌&&◌, List, ap, subst}
 use lib.Pointwise.{pointwise, pointwise_decides}
 use Rattle.std.specs.Bool.{Decides, beq}
 use Rattle.std.specs.Cmp.{booleans_Decides, unsigned_Decides}
@@ -37,13 +37,21 @@ row_decides r s =
     (λ p q. let all : row_of r.heard r.up r.session ≡ row_of s.heard s.up s.session = (let a = q.0 in let b = q.1 in cc) in all)
     (λ e. (ap (λ x. x.heard) e, (ap (λ x. x.up) e, ap (λ x. x.session) e)))
 
+-- whether a router's rows, paths and bars are the same
+pub lists_decide : (rs qs : List Row) (os ps : List PathNo) (bs cs : List Bool)
+    → Decides (pointwise same_row rs qs && (pointwise same_path os ps && pointwise beq bs cs)) ((rs ≡ qs) × (os ≡ ps) × (bs ≡ cs))
+lists_decide rs qs os ps bs cs =
+    both_decide (pointwise same_row rs qs) (pointwise same_path os ps && pointwise beq bs cs) (pointwise_decides row_decides rs qs)
+    (both_decide {R = (os ≡ ps) × (bs ≡ cs)} (pointwise same_path os ps) (pointwise beq bs cs)
+    (pointwise_decides path_decides os ps) (pointwise_decides booleans_Decides bs cs) (λ p q. (p, q)) (λ p. (p.0, p.1)))
+    (λ p q. (p, q.0, q.1)) (λ p. (p.0, (p.1, p.2)))
+
 pub router_decides : (r s : RouterShape) → Decides (same_router r s) (r ≡ s)
 router_decides r s =
-    both_decide (same_path r.rib s.rib) (pointwise same_row r.rows s.rows && pointwise same_path r.order s.order) (path_decides r.rib s.rib)
-    (both_decide {R = (r.rows ≡ s.rows) × (r.order ≡ s.order)} (pointwise same_row r.rows s.rows) (pointwise same_path r.order s.order)
-    (pointwise_decides row_decides r.rows s.rows) (pointwise_decides path_decides r.order s.order) (λ p q. (p, q)) (λ p. (p.0, p.1)))
-    (λ p q. λ i. record { rib = p i; rows = q.0 i; order = q.1 i })
-    (λ e. (ap (λ x. x.rib) e, (ap (λ x. x.rows) e, ap (λ x. x.order) e)))
+    both_decide (same_path r.rib s.rib) (pointwise same_row r.rows s.rows && (pointwise same_path r.order s.order && pointwise beq r.barred s.barred)) (path_decides r.rib s.rib)
+    (lists_decide r.rows s.rows r.order s.order r.barred s.barred)
+    (λ p q. λ i. record { rib = p i; rows = q.0 i; order = q.1 i; barred = q.2 i })
+    (λ e. (ap (λ x. x.rib) e, (ap (λ x. x.rows) e, ap (λ x. x.order) e, ap (λ x. x.barred) e)))
 
 pub event_decides : (d e : Event) → Decides (event_same d e) (d ≡ e)
 event_decides d e = (same_is d e, (λ h. subst (λ x. event_same d x ≡ true) h (same_self d)))

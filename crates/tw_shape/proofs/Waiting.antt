@@ -3,7 +3,7 @@
 use Rattle.std.proofs.Common.{◌≡◌, ℕ, suc, zero, ◌+◌, ◌<◌, ◌≤◌, ◌==◌, Bool, true, false, cond, ◌&&◌, List, [], ◌∷◌, filter, refl, ap, sym, subst, inl, inr, arith, nat_lt}
 use Rattle.std.proofs.lemmas.Bool.{cases_Bool, and_parts, eqb-true, ltb-false, ltb-true}
 use Rattle.tw_event.specs.declared.event.Body.{Body}
-use Rattle.tw_event.specs.declared.event.Body.TheVariants.{Start, Fail, Restore, Swap, Update}
+use Rattle.tw_event.specs.declared.event.Body.TheVariants.{Start, Fail, Restore, Swap, Forbid, Allow, Update}
 use Rattle.tw_event.specs.declared.event.Event.{Event}
 use Rattle.tw_event.specs.declared.event.PathNo.{PathNo}
 use Rattle.tw_event.proofs.Order.{same_is, same_self}
@@ -30,6 +30,8 @@ update_of Start h = cc
 update_of (Fail w) h = cc
 update_of (Restore w) h = cc
 update_of (Swap i j) h = cc
+update_of (Forbid k) h = cc
+update_of (Allow k) h = cc
 update_of (Update q n) h = (q, n, refl)
 
 filter-none : {X : Type 0} (p : X → Bool) (xs : List X) → ((x : X) → In x xs → p x ≡ false) → filter p xs ≡ []
@@ -120,6 +122,8 @@ module _ (case : Case) (is : IsCase case) where
   sender e (Fail w) h below = own_sender e _ h below
   sender e (Restore w) h below = own_sender e _ h below
   sender e (Swap i j) h below = own_sender e _ h below
+  sender e (Forbid k) h below = own_sender e _ h below
+  sender e (Allow k) h below = own_sender e _ h below
   sender e (Update q n) h below =
       let there = (and_parts (has_peer case.net e.dst e.src) _ h).0 in
       let near = ltb-true (slot case.net e.dst e.src) _ there in

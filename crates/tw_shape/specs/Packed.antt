@@ -1,8 +1,8 @@
--- How a shape is stored: the rows and the orders of all routers one after the other, and the pending events in any order (own).
-use Rattle.std.specs.Prelude.{ℕ, ◌≡◌, ◌≤◌, ◌+◌, ◌*◌, ◌%◌, ◌^◌, List, [], ◌∷◌, drop, length, map, min, slice_index, take}
+-- How a shape is stored: the rows, the orders and the bars of all routers one after the other, and the pending events in any order (own).
+use Rattle.std.specs.Prelude.{ℕ, Bool, ◌≡◌, ◌≤◌, ◌+◌, ◌*◌, ◌%◌, ◌^◌, List, [], ◌∷◌, drop, length, map, min, slice_index, take}
 use Rattle.std.specs.List.{fold, sum_by}
 use Rattle.tw_event.specs.declared.event.Body.{Body}
-use Rattle.tw_event.specs.declared.event.Body.TheVariants.{Start, Fail, Restore, Swap, Update}
+use Rattle.tw_event.specs.declared.event.Body.TheVariants.{Start, Fail, Restore, Swap, Forbid, Allow, Update}
 use Rattle.tw_event.specs.declared.event.Event.{Event}
 use Rattle.tw_event.specs.declared.event.PathNo.{PathNo}
 use Rattle.tw_event.specs.Order.{event_before}
@@ -12,16 +12,19 @@ use Rattle.tw_shape.specs.declared.shape.Span.{Span}
 use Rattle.tw_shape.specs.Shape.{RouterShape, seen_from}
 use Rattle.tw_sim.specs.Ordered.{insert_all}
 
--- the routers, each with the next rows and paths, as many as its span says
-abbrev pub routers_of : List Span → List Row → List PathNo → List RouterShape
-routers_of [] rows order = []
-routers_of (s ∷ spans) rows order =
-    record { rib = s.rib; rows = take s.rows rows; order = take s.order order } ∷ routers_of spans (drop s.rows rows) (drop s.order order)
+-- the routers, each with the next rows, paths and bars, as many as its span says
+abbrev pub routers_of : List Span → List Row → List PathNo → List Bool → List RouterShape
+routers_of [] rows order barred = []
+routers_of (s ∷ spans) rows order barred =
+    record { rib = s.rib; rows = take s.rows rows; order = take s.order order; barred = take s.barred barred }
+    ∷ routers_of spans (drop s.rows rows) (drop s.order order) (drop s.barred barred)
 
--- the spans say of every row and path whose it is
-abbrev pub Covers : List Span → List Row → List PathNo → Type 0
-Covers [] rows order = (rows ≡ []) × (order ≡ [])
-Covers (s ∷ spans) rows order = (s.rows ≤ length rows) × (s.order ≤ length order) × Covers spans (drop s.rows rows) (drop s.order order)
+-- the spans say of every row, path and bar whose it is
+abbrev pub Covers : List Span → List Row → List PathNo → List Bool → Type 0
+Covers [] rows order barred = (rows ≡ []) × (order ≡ []) × (barred ≡ [])
+Covers (s ∷ spans) rows order barred =
+    (s.rows ≤ length rows) × (s.order ≤ length order) × (s.barred ≤ length barred)
+    × Covers spans (drop s.rows rows) (drop s.order order) (drop s.barred barred)
 
 -- events in their order
 abbrev pub in_order : List Event → List Event
@@ -42,6 +45,8 @@ path_in Start = 0
 path_in (Fail w) = 0
 path_in (Restore w) = 0
 path_in (Swap i j) = 0
+path_in (Forbid k) = 0
+path_in (Allow k) = 0
 path_in (Update q n) = q.0
 
 -- a hash with one more number, by Horner's rule

@@ -17,7 +17,7 @@ same_row r s = same_path r.heard s.heard && (beq r.up s.up && (r.session == s.se
 
 -- whether two routers are the same in every part
 abbrev pub same_router : RouterShape → RouterShape → Bool
-same_router r s = same_path r.rib s.rib && (pointwise same_row r.rows s.rows && pointwise same_path r.order s.order)
+same_router r s = same_path r.rib s.rib && (pointwise same_row r.rows s.rows && (pointwise same_path r.order s.order && pointwise beq r.barred s.barred))
 
 -- whether two shapes are the same in every part
 abbrev pub same_shape : Shape → Shape → Bool

@@ -2,7 +2,7 @@
 use Rattle.std.specs.Prelude.{ℕ, ◌≡◌, ◌≤◌, ◌+◌, ◌-◌, ◌*◌, ◌==◌, Bool, false, true, not, ◌&&◌, List, length, map, if◌then◌else◌}
 use Rattle.std.specs.List.{All, list_all, range_with_len}
 use Rattle.tw_event.specs.declared.event.Body.{Body}
-use Rattle.tw_event.specs.declared.event.Body.TheVariants.{Start, Fail, Restore, Swap, Update}
+use Rattle.tw_event.specs.declared.event.Body.TheVariants.{Start, Fail, Restore, Swap, Forbid, Allow, Update}
 use Rattle.tw_event.specs.declared.event.Event.{Event}
 use Rattle.tw_event.specs.declared.event.PathNo.{PathNo}
 use Rattle.tw_model.specs.declared.state.Row.{Row}
@@ -15,6 +15,7 @@ pub record RouterShape : Type 0 where
   pub rib : PathNo
   pub rows : List Row
   pub order : List PathNo
+  pub barred : List Bool
 
 -- the routers in ascending order, and the pending events in their order, each as it is seen from that time
 pub record Shape : Type 0 where
@@ -23,7 +24,7 @@ pub record Shape : Type 0 where
 
 -- a state without its counters
 abbrev pub bare : State → RouterShape
-bare s = record { rib = s.rib; rows = s.rows; order = s.order }
+bare s = record { rib = s.rib; rows = s.rows; order = s.order; barred = s.barred }
 
 -- whether a body is an update; every other event is an opening one
 abbrev pub is_update : Body → Bool
@@ -31,6 +32,8 @@ is_update Start = false
 is_update (Fail w) = false
 is_update (Restore w) = false
 is_update (Swap i j) = false
+is_update (Forbid k) = false
+is_update (Allow k) = false
 is_update (Update q n) = true
 
 -- an event seen from time t, when its sender has sent n messages: in how many ticks it is handled, and of an update how many

@@ -19,6 +19,7 @@ pub struct ShapeBuilder {
     spans: Vec<Span>,
     rows: Vec<Row>,
     order: Vec<PathNo>,
+    barred: Vec<bool>,
     sent: Vec<u64>,
 }
 
@@ -28,9 +29,9 @@ impl Model for ShapeBuilder {
 
     ghost Value = { shape.Draft };
 
-    ghost view = { λ a. record { time = a.time; routers = routers_of a.spans.items a.rows.items a.order.items; sent = a.sent.items } };
+    ghost view = { λ a. record { time = a.time; routers = routers_of a.spans.items a.rows.items a.order.items a.barred.items; sent = a.sent.items } };
 
-    ghost invariant = { λ a. Covers a.spans.items a.rows.items a.order.items };
+    ghost invariant = { λ a. Covers a.spans.items a.rows.items a.order.items a.barred.items };
 }
 
 impl ShapeBuilder {
@@ -43,45 +44,51 @@ impl ShapeBuilder {
             spans: Vec::new(alloc),
             rows: Vec::new(alloc),
             order: Vec::new(alloc),
+            barred: Vec::new(alloc),
             sent: Vec::new(alloc),
         }
     }
 
-    /// Takes room for so many routers, rows and paths of orders before they are added, so that no list
-    /// grows while they are. It adds nothing.
+    /// Takes room for so many routers, rows and paths of orders, and for as many bars as paths, before they
+    /// are added, so that no list grows while they are. It adds nothing.
     pub fn reserve(&mut self, routers: usize, rows: usize, paths: usize) -> Result<(), AllocError>
         ensures { self.new ≡ self.old }
     {
         self.spans.reserve(routers)?;
         self.rows.reserve(rows)?;
         self.order.reserve(paths)?;
+        self.barred.reserve(paths)?;
         self.sent.reserve(routers)
     }
 
-    /// Adds the next router: its path, its rows, its order, and how many messages it has sent. An error
-    /// changes nothing.
+    /// Adds the next router: its path, its rows, its order, which of its paths are barred, and how many
+    /// messages it has sent. An error changes nothing.
     pub fn add_router(
         &mut self,
         rib: PathNo,
         rows: &[Row],
         order: &[PathNo],
+        barred: &[bool],
         sent: u64,
     ) -> Result<(), AllocError>
         ensures ok { OnOk result
-            (self.new ≡ record self.old { routers = self.old.routers ++ record { rib = rib; rows = rows.now; order = order.now } ∷ []; sent = self.old.sent ++ sent ∷ [] }) }
+            (self.new ≡ record self.old { routers = self.old.routers ++ record { rib = rib; rows = rows.now; order = order.now; barred = barred.now } ∷ []; sent = self.old.sent ++ sent ∷ [] }) }
         ensures err { OnErr result (self.new ≡ self.old) }
     {
         self.spans.reserve(1)?;
         self.rows.reserve(rows.len())?;
         self.order.reserve(order.len())?;
+        self.barred.reserve(barred.len())?;
         self.sent.push(sent)?;
         self.spans.push_reserved(Span {
             rib,
             rows: rows.len(),
             order: order.len(),
+            barred: barred.len(),
         });
         self.rows.extend_from_slice(rows).unwrap();
         self.order.extend_from_slice(order).unwrap();
+        self.barred.extend_from_slice(barred).unwrap();
         Ok(())
     }
 
@@ -96,6 +103,7 @@ impl ShapeBuilder {
             spans: self.spans,
             rows: self.rows,
             order: self.order,
+            barred: self.barred,
         };
         let pending = Seen {
             time: self.time,

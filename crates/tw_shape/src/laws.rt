@@ -41,6 +41,12 @@ pub fn shape_is_gathered()
         } }
 {}
 
+/// Two times of a run that have the same shape have the same paths barred at each router.
+pub fn bars_are_in_shape()
+    ensures { (case : Case) (t u r : ℕ) → r < case.net.nodes → shape case t ≡ shape case u
+        → (at (simulation case) t r).barred ≡ (at (simulation case) u r).barred }
+{}
+
 /// What is found at checkpoints is the first of them whose shape came before, with events pending and
 /// none of them an opening event; it is the only one, and nothing is found where there is none. What was
 /// found stays found as checkpoints are added.

@@ -10,20 +10,22 @@ use std::marker::Model;
 use tw_event::PathNo;
 use tw_model::Row;
 
-/// A router's path, and how many of the rows and paths that follow are its own.
+/// A router's path, and how many of the rows, paths and bars that follow are its own.
 #[derive(Clone, Copy, PartialEq, Eq, Debug)]
 pub(crate) struct Span {
     pub(crate) rib: PathNo,
     pub(crate) rows: usize,
     pub(crate) order: usize,
+    pub(crate) barred: usize,
 }
 
-/// The routers, whose rows and paths lie one after the other.
+/// The routers, whose rows, paths and bars lie one after the other.
 #[derive(PartialEq, Eq, Drop, Debug)]
 pub(crate) struct Parts {
     pub(crate) spans: Vec<Span>,
     pub(crate) rows: Vec<Row>,
     pub(crate) order: Vec<PathNo>,
+    pub(crate) barred: Vec<bool>,
 }
 
 /// What a run looks like at a time, when all events before it are handled: every router without its
@@ -65,9 +67,9 @@ impl Shape {
 
     /// The shape of these routers and pending events, which may stand in any order.
     pub(crate) fn of_parts(parts: Parts, pending: Seen) -> Shape
-        requires { Covers parts.spans.items parts.rows.items parts.order.items }
+        requires { Covers parts.spans.items parts.rows.items parts.order.items parts.barred.items }
         ensures { result ≡ record {
-          routers = routers_of parts.spans.items parts.rows.items parts.order.items;
+          routers = routers_of parts.spans.items parts.rows.items parts.order.items parts.barred.items;
           pending = seen pending.time pending.sent.items (in_order pending.events.items);
         } }
     {

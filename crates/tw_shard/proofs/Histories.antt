@@ -6,6 +6,7 @@ use Rattle.std.proofs.lemmas.List.{length-map, length-reverse, reverse-append, t
 use Rattle.tw_event.specs.declared.event.Event.{Event}
 use Rattle.tw_handlers.specs.Record.{IsHandled}
 use Rattle.tw_model.specs.declared.limits.TheConstants.{LATEST}
+use Rattle.tw_model.specs.Case.{bare_case}
 use Rattle.tw_model.specs.Effect.{effect, fits, suits}
 use Rattle.tw_model.specs.Net.{Net}
 use Rattle.tw_model.specs.Rules.{IsNet}
@@ -27,7 +28,7 @@ split_last xs n x h is =
 
 -- an event sends at most 64
 pub few_sends : (net : Net) (v : ℕ) (s : State) (e : Event) → IsNet net → length (effect net v s e).sends ≤ 64
-few_sends net v s e is = (tells_effect (record { net = net; scenes = [] }) is v s e).few
+few_sends net v s e is = (tells_effect (bare_case net) is v s e).few
 
 -- each of a list's elements is as each that is in it
 all_in : {X : Type 0} (P : X → Type 0) (xs : List X) → ((x : X) → In x xs → P x) → AllByRecursion P xs
@@ -39,7 +40,7 @@ pub sends_from : (net : Net) (v : ℕ) (s : State) (e : Event) → IsNet net →
 sends_from net v s e is fit =
     let within = suits_within net v e is (and_parts (nat_le e.time LATEST) (suits net v e) fit).1 in
     all_in (λ x. x.src < net.nodes) (effect net v s e).sends
-    (λ x there. let src = ((tells_effect (record { net = net; scenes = [] }) is v s e).sent x there).src in omega arith)
+    (λ x there. let src = ((tells_effect (bare_case net) is v s e).sent x there).src in omega arith)
 
 -- the newest step, where it stands last
 pub newest_first : (items older : List HandledEvent) (d : HandledEvent) → items ≡ older ++ d ∷ [] → reverse items ≡ d ∷ reverse older

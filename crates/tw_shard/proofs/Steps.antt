@@ -1,7 +1,8 @@
 -- What a shard does at one of its routers is what the machine of its routers does there.
-use Rattle.std.proofs.Common.{◌≡◌, ℕ, ◌<◌, ◌==◌, Bool, true, false, ◌||◌, List, [], ◌∷◌, ◌++◌, length, map, refl, ap, ap₂, sym, ◌∙◌, inl, inr, nat_lt, Some, Result, Ok, Err, if◌then◌else◌, arith}
+use Rattle.std.proofs.Common.{◌≡◌, ℕ, ◌<◌, ◌≤◌, ◌==◌, Bool, true, false, ◌||◌, List, [], ◌∷◌, ◌++◌, drop, length, map, refl, ap, ap₂, sym, ◌∙◌, inl, inr, nat_lt, Some, slice_get, Result, Ok, Err, if◌then◌else◌, arith}
+use Rattle.std.specs.List.{AllByRecursion}
 use Rattle.std.specs.Result.{result_and}
-use Rattle.std.proofs.lemmas.Bool.{and_parts, cases_Bool, eqb-true, false_from_ne_true, lt-ltb}
+use Rattle.std.proofs.lemmas.Bool.{and_parts, cases_Bool, eqb-true, false_from_ne_true, lt-ltb, ltb-true}
 use Rattle.std.proofs.lemmas.List.{length-append}
 use Rattle.tw_core.specs.declared.refusal.Refusal.{Refusal}
 use Rattle.tw_core.specs.declared.refusal.Refusal.TheVariants.{NotMine, Nothing, Double, AheadFull, Committed, CounterFull}
@@ -38,6 +39,34 @@ checked-ok : {A : Type 0} (double room : Bool) (rest : Result A Refusal) → che
 checked-ok true room rest h = absurd (cc h)
 checked-ok false true rest h = refl
 checked-ok false false rest h = absurd (cc h)
+
+-- a list by its first element
+first_is : {A : Type 0} (xs : List A) (x : A) → slice_get xs 0 ≡ Some x → xs ≡ x ∷ drop 1 xs
+first_is [] x h = absurd (cc h)
+first_is (y ∷ xs) x h = let same : y ≡ x = cc h in ap (λ z. z ∷ xs) same
+
+-- what is told of an undo that may come too late
+told_late : (late : Bool) (C : Core Event) → result_and (if late then Err Committed else Ok C) told_ok ≡ (if late then Err Committed else told_ok)
+told_late true C = refl
+told_late false C = refl
+
+late_by : (done bound : Bool) → bound ≡ true → (if done || bound then Err Committed else told_ok) ≡ Err Committed
+late_by true bound h = refl
+late_by false bound h = ap (λ b. if b then Err Committed else told_ok) h
+
+in_time : (done bound : Bool) → done ≡ false → bound ≡ false → (if done || bound then Err Committed else told_ok) ≡ told_ok
+in_time done bound h k = ap₂ (λ a b. if a || b then Err Committed else told_ok) h k
+
+-- the newest event of a history can be undone where it is not before what is done
+pub is_ahead : (ahead past : List Event) (done : ℕ) (e : Event) → slice_get (ahead ++ past) 0 ≡ Some e
+    → AllByRecursion (λ (e : Event). e.time < done) past → done ≤ e.time → 0 < length ahead
+is_ahead [] [] done e h all late = absurd (cc h)
+is_ahead [] (x ∷ past) done e h all late =
+    let same : x ≡ e = cc h in
+    let early : x.time < done = all.0 in
+    let time : x.time ≡ e.time = ap (λ (e : Event). e.time) same in
+    omega arith
+is_ahead (x ∷ ahead) past done e h all late = omega arith
 
 module _ (s : Shard) (r : ℕ) (whole : IsWhole s) (mine : owns s r ≡ true) where
   -- what the timeline tells as sent is what the machine sends
@@ -116,6 +145,36 @@ module _ (s : Shard) (r : ℕ) (whole : IsWhole s) (mine : owns s r ≡ true) wh
         | inr late ↦ rw late refl
       ] in
       same ∙ (ok ∙ ap (λ c. Ok c) (sym (core_undone stop e h.1 h.3) ∙ ap (core stop) (sym h.4)))
+
+  -- what is told of an undo of the newest event
+  undo_told : (stop : ℕ) (e : Event) → slice_get (history (timeline s r)) 0 ≡ Some e
+      → result_and (undoing stop s r) told_ok ≡ (if nat_lt e.time (timeline s r).done || nat_lt e.time s.bound then Err Committed else told_ok)
+  undo_told stop e first =
+      let m = simulation s.case in
+      let older = drop 1 (history (timeline s r)) in
+      let newest : history (timeline s r) ≡ e ∷ older = first_is (history (timeline s r)) e first in
+      let here : (core stop s).history r ≡ history (timeline s r) = rw mine refl in
+      let done : (core stop s).done r ≡ (timeline s r).done = rw mine refl in
+      let same : undoing stop s r ≡ undo m (core stop s) r (e ∷ older) =
+      ap (λ b. if b then undo m (core stop s) r ((core stop s).history r) else Err NotMine) mine ∙ ap (undo m (core stop s) r) (here ∙ newest) in
+      ap (λ x. result_and x told_ok) same
+      ∙ (told_late (nat_lt e.time ((core stop s).done r) || nat_lt e.time s.bound) (after_undoing m (core stop s) r e older)
+      ∙ ap (λ d. if nat_lt e.time d || nat_lt e.time s.bound then Err Committed else told_ok) done)
+
+  -- an undo of an event before the bound is refused
+  pub undo_late : (stop : ℕ) (e : Event) → slice_get (history (timeline s r)) 0 ≡ Some e → e.time < s.bound
+      → Err Committed ≡ result_and (undoing stop s r) told_ok
+  undo_late stop e first early =
+      sym (undo_told stop e first ∙ late_by (nat_lt e.time (timeline s r).done) (nat_lt e.time s.bound) (lt-ltb e.time s.bound early))
+
+  -- and of another one it is not
+  pub undo_open : (stop : ℕ) (e : Event) → slice_get (history (timeline s r)) 0 ≡ Some e → s.bound ≤ e.time
+      → told_ok ≡ result_and (undoing stop s r) told_ok
+  undo_open stop e first late =
+      let within = (whole.routers r mine).done in
+      let done = false_from_ne_true (nat_lt e.time (timeline s r).done) (λ yes. let early = ltb-true e.time (timeline s r).done yes in omega arith) in
+      let bound = false_from_ne_true (nat_lt e.time s.bound) (λ yes. let early = ltb-true e.time s.bound yes in omega arith) in
+      sym (undo_told stop e first ∙ in_time (nat_lt e.time (timeline s r).done) (nat_lt e.time s.bound) done bound)
 
   -- an event that suits a router is for it
   own_event : (e : Event) → suits s.case.net r e ≡ true → e.dst ≡ r

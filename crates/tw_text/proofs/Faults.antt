@@ -1,7 +1,8 @@
 -- The lowest fault of a line, test by test.
-use Rattle.std.proofs.Common.{◌≡◌, ℕ, Bool, true, false, not, ◌&&◌, ◌||◌, cond, List, [], ◌∷◌, map, Option, Some, None, Result, Ok, Err, refl, ap, sym, ◌∙◌, inl, inr, bytes_eq, codes}
+use Rattle.std.proofs.Common.{◌≡◌, ℕ, Bool, true, false, not, ◌&&◌, ◌||◌, cond, List, [], ◌∷◌, map, Option, Some, None, Result, Ok, Err, if◌then◌else◌, refl, ap, sym, ◌∙◌, inl, inr}
 use Rattle.std.proofs.lemmas.Bool.{cases_Bool}
 use Rattle.std.specs.List.{find, list_all}
+use Rattle.std.specs.Option.{is_some}
 use Rattle.std.specs.Str.Parse.{digits_value}
 use Rattle.tw_model.specs.Rules.{rules_in_order}
 use Rattle.tw_model.specs.declared.rule.Rule.{Rule}
@@ -12,9 +13,10 @@ use Rattle.tw_text.specs.declared.keyword.Keyword.TheVariants as keyword
 use Rattle.tw_text.specs.declared.text_fault.LineFault.{LineFault}
 use Rattle.tw_text.specs.declared.text_fault.LineFault.TheVariants as x
 use Rattle.tw_text.specs.Drafts.{of_rule, step_said}
-use Rattle.tw_text.specs.FaultTable.{breaks, fault_of, from_second, has_no_number, holds, if_said, is_done, is_misplaced, is_no_statement, is_start, step}
-use Rattle.tw_text.specs.FaultTable.{unless_fault, with_line, with_said, with_statement}
-use Rattle.tw_text.specs.Statements.{Statement, takes_words, keyword_before, keyword_of, numbers_of, statement_with, statement_of}
+use Rattle.tw_text.specs.FaultTable.{breaks, fault_of, from_second, has_no_number, holds, if_said, is_done, is_misplaced, is_no_statement, is_start, said_after, step, version_in}
+use Rattle.tw_text.specs.FaultTable.{unless_fault, with_header, with_line, with_said, with_statement}
+use Rattle.tw_text.specs.Statements.{Statement, scene_line, takes_words, keyword_before, keyword_of, numbers_of, scene_with, statement_with, statement_of}
+use Rattle.tw_text.specs.Versions.{version_of}
 use Rattle.tw_text.specs.Words.{is_number, is_plain, words}
 use Rattle.tw_text.proofs.Early.{IsToldEarly, early_if, early_on}
 
@@ -48,11 +50,11 @@ abbrev form : Draft → Bool → Bool → Bool → Result Statement LineFault �
 form d ended plain header said = rows d ended plain header said (of_rule (find (breaks_if_said d said) rules_in_order))
 
 fault_of-form : (d : Draft) (line : List ℕ) (ended : Bool)
-    → fault_of d line ended ≡ form d ended (list_all is_plain line) (bytes_eq line (codes "spp 1")) (statement_of (words line))
+    → fault_of d line ended ≡ form d ended (list_all is_plain line) (is_some (version_of line)) (said_after d line)
 unfolding fault_of
 fault_of-form d line ended =
-    let said = statement_of (words line) in
-    ap (rows d ended (list_all is_plain line) (bytes_eq line (codes "spp 1")) said) (find_rules (holds d line ended) (breaks_if_said d said) (λ r. refl) rules_in_order)
+    let said = said_after d line in
+    ap (rows d ended (list_all is_plain line) (is_some (version_of line)) said) (find_rules (holds d line ended) (breaks_if_said d said) (λ r. refl) rules_in_order)
 
 pub plain_fault : (d : Draft) (line : List ℕ) (ended : Bool) → list_all is_plain line ≡ false → fault_of d line ended ≡ Some x.Byte
 plain_fault d line ended h = fault_of-form d line ended ∙ rw h refl
@@ -70,49 +72,50 @@ plain-from_step d after line ended h =
 
 -- ---- line 1
 
-form-start : (ended header : Bool) (said : Result Statement LineFault) → form Start ended true header said ≡ cond header (cond ended None (Some x.End)) (Some x.Header)
-form-start ended false said = refl
-form-start true true said = refl
-form-start false true said = refl
+-- what line 1 gives, by the version of which it is the header
+abbrev pub started : Option ℕ → Bool → Result Draft LineFault
+started None ended = Err x.Header
+started (Some version) ended = if ended then Ok (Header version) else Err x.End
 
-pub start_fault : (line : List ℕ) (ended : Bool) → list_all is_plain line ≡ true
-    → fault_of Start line ended ≡ cond (bytes_eq line (codes "spp 1")) (cond ended None (Some x.End)) (Some x.Header)
-start_fault line ended plain = fault_of-form Start line ended ∙ rw plain (form-start ended (bytes_eq line (codes "spp 1")) (statement_of (words line)))
+form-start : (found : Option ℕ) (ended : Bool) (said : Result Statement LineFault) → unless_fault (form Start ended true (is_some found) said) (with_header found) ≡ started found ended
+form-start None ended said = refl
+form-start (Some version) true said = refl
+form-start (Some version) false said = refl
 
-start_if : (ended header : Bool) → unless_fault (cond header (cond ended None (Some x.End)) (Some x.Header)) Header ≡ cond header (cond ended (Ok Header) (Err x.End)) (Err x.Header)
-start_if ended false = refl
-start_if true true = refl
-start_if false true = refl
-
--- the step of line 1, by what a comparison with the header told
-pub start_step : (line : List ℕ) (ended header : Bool) → list_all is_plain line ≡ true → header ≡ bytes_eq line (codes "spp 1")
-    → step Start line ended ≡ cond header (cond ended (Ok Header) (Err x.End)) (Err x.Header)
+-- the step of line 1, by what was told of the header
+pub start_step : (line : List ℕ) (found : Option ℕ) (ended : Bool) → list_all is_plain line ≡ true → found ≡ version_of line → step Start line ended ≡ started found ended
 unfolding with_line
-start_step line ended header plain is =
-    ap (λ fault. unless_fault fault Header) (start_fault line ended plain) ∙ start_if ended (bytes_eq line (codes "spp 1"))
-    ∙ ap (λ b. cond b (cond ended (Ok Header) (Err x.End)) (Err x.Header)) (sym is)
+start_step line found ended plain is =
+    ap (λ fault. unless_fault fault (with_header (version_of line))) (fault_of-form Start line ended ∙ rw plain refl)
+    ∙ form-start (version_of line) ended (said_after Start line) ∙ ap (λ found. started found ended) (sym is)
 
 -- ---- the lines behind it
+
+scene_early : (k : Keyword) (ns : List ℕ) → IsToldEarly (scene_with k ns)
+scene_early keyword.Fail (t ∷ a ∷ b ∷ []) = tt
+scene_early keyword.Restore (t ∷ a ∷ b ∷ []) = tt
+scene_early keyword.Swap (t ∷ v ∷ i ∷ j ∷ []) = tt
+scene_early keyword.Forbid (t ∷ v ∷ k ∷ []) = tt
+scene_early keyword.Allow (t ∷ v ∷ k ∷ []) = tt
+scene_early k ns = tt
 
 said_early : (k : Keyword) (ns : List ℕ) → IsToldEarly (statement_with k ns)
 said_early keyword.Nodes (n ∷ []) = tt
 said_early keyword.Link (a ∷ b ∷ delay ∷ []) = tt
+said_early keyword.TwoWayLink (a ∷ b ∷ delay ∷ back ∷ []) = tt
 said_early keyword.Path (v ∷ path) = tt
-said_early keyword.Fail (t ∷ a ∷ b ∷ []) = tt
-said_early keyword.Restore (t ∷ a ∷ b ∷ []) = tt
-said_early keyword.Swap (t ∷ v ∷ i ∷ j ∷ []) = tt
 said_early keyword.End [] = tt
-said_early k ns = tt
+said_early k ns = early_on (scene_with k ns) (λ s. Ok (scene_line s)) (scene_early k ns) (λ s. tt)
 
 early_before : (found : Option Keyword) (ws : List (List ℕ)) → IsToldEarly (keyword_before found ws)
 early_before None ws = tt
 early_before (Some k) ws = early_if (takes_words k ws) (Ok k) (Err x.Word) tt tt
 
-early : (ws : List (List ℕ)) → IsToldEarly (statement_of ws)
+pub early : (version : ℕ) (ws : List (List ℕ)) → IsToldEarly (statement_of version ws)
 unfolding statement_of
-early [] = tt
-early (word ∷ ws) =
-    early_on (keyword_before (keyword_of word) ws) _ (early_before (keyword_of word) ws) (λ k.
+early version [] = tt
+early version (word ∷ ws) =
+    early_on (keyword_before (keyword_of version word) ws) _ (early_before (keyword_of version word) ws) (λ k.
     early_on (numbers_of ws) _ (early_if (list_all is_number ws) (Ok (map (digits_value 10) ws)) (Err x.Number) tt tt) (λ ns. said_early k ns))
 
 form-later : (d : Draft) (ended header : Bool) (said : Result Statement LineFault) → IsToldEarly said → is_start d ≡ false
@@ -122,12 +125,13 @@ form-later d ended header (Err x.Word) early h = rw h refl
 form-later d ended header (Err x.Number) early h = rw h refl
 form-later d ended header (Err fault) early h = absurd early
 
-with_line-later : (d : Draft) (line : List ℕ) → is_start d ≡ false → with_line d line ≡ with_said with_statement d (statement_of (words line))
+with_line-later : (d : Draft) (line : List ℕ) → is_start d ≡ false → with_line d line ≡ with_said with_statement d (said_after d line)
 unfolding with_line
 with_line-later Start line h = absurd (cc)
 with_line-later d line h = refl
 
 pub later_step : (d : Draft) (line : List ℕ) (ended : Bool) → is_start d ≡ false → list_all is_plain line ≡ true
-    → step d line ended ≡ step_said d (statement_of (words line)) ended
+    → step d line ended ≡ step_said d (said_after d line) ended
 later_step d line ended later plain =
-    rw (fault_of-form d line ended, with_line-later d line later, plain) (form-later d ended (bytes_eq line (codes "spp 1")) (statement_of (words line)) (early (words line)) later)
+    rw (fault_of-form d line ended, with_line-later d line later, plain)
+    (form-later d ended (is_some (version_of line)) (said_after d line) (early (version_in d) (words line)) later)

@@ -13,6 +13,7 @@ pub mod Lines
 pub mod Short
 pub mod Only
 pub mod Found
+pub mod Suited
 pub mod Writing
 pub mod StepSaid
 pub mod StepLines

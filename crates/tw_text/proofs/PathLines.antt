@@ -1,5 +1,5 @@
 -- Path lines that are read number by number.
-use Rattle.std.proofs.Common.{◌≡◌, ℕ, ◌+◌, ◌<◌, ◌≤◌, ◌==◌, nat_lt, nat_le, true, false, not, ◌&&◌, List, [], ◌∷◌, ◌++◌, length, map, take, drop, take-append-drop, get_or, slice_index, refl, ap, sym, ◌∙◌, inl, inr, add-one, arith, bytes_eq, codes}
+use Rattle.std.proofs.Common.{◌≡◌, ℕ, ◌+◌, ◌<◌, ◌≤◌, ◌==◌, nat_lt, nat_le, Bool, true, false, not, ◌&&◌, List, [], ◌∷◌, ◌++◌, length, map, take, drop, take-append-drop, get_or, slice_index, refl, ap, sym, ◌∙◌, inl, inr, add-one, arith, bytes_eq, codes, if◌then◌else◌, Some}
 use Rattle.std.proofs.Math.Seq.{split_at}
 use Rattle.std.proofs.lemmas.Bool.{and_parts, cases_lt, not-true}
 use Rattle.std.proofs.lemmas.Bool.Decides.{nat_tests}
@@ -9,7 +9,7 @@ use Rattle.std.proofs.lemmas.List.Folds.{list_all-append}
 use Rattle.std.proofs.lemmas.List.Splits.{slice_split_at, slice_split_none}
 use Rattle.std.specs.Char.{is_ascii_digit}
 use Rattle.std.specs.Cmp.Lexicographic.{bytes_decides}
-use Rattle.std.specs.List.{list_all, list_any}
+use Rattle.std.specs.List.{find, list_all, list_any}
 use Rattle.std.specs.Str.Parse.{digits_value}
 use Rattle.tw_text.specs.declared.keyword.Keyword.TheVariants as keyword
 use Rattle.tw_model.specs.Net.{Net}
@@ -18,7 +18,8 @@ use Rattle.tw_text.specs.declared.draft.Draft.TheVariants.{Paths}
 use Rattle.tw_text.specs.Drafts.{step_said, with_path}
 use Rattle.tw_text.specs.FaultTable.{step}
 use Rattle.tw_text.specs.PathLine.{AreNumbers, BeginsWith, IsPathLine}
-use Rattle.tw_text.specs.Statements.{statement_of, statement_with}
+use Rattle.tw_text.specs.Statements.{◌>>=◌, keyword_before, keyword_of, numbers_of, statement_of, statement_with, word_of}
+use Rattle.tw_text.specs.Versions.{first_keywords, second_keywords}
 use Rattle.tw_text.specs.Words.{is_number, is_plain, words}
 use Rattle.tw_text.proofs.Faults.{later_step}
 use Rattle.tw_text.proofs.Splits.{all_plain, digits_are_signs, no_space}
@@ -72,10 +73,19 @@ more_numbers text ns n end b apart h =
     let split : text ≡ take end text ++ 32 ∷ drop (end + 1) text = split_at text end 0 less ∙ (ap (λ k. take end text ++ get_or text end 0 ∷ drop k text) (sym (add-one end)) ∙ ap (λ c. take end text ++ c ∷ drop (end + 1) text) (b.ends less)) in
     rw (split, ← b.value) (more (take end text) (drop (end + 1) text) ns b.number h)
 
-path_said : (ws : List (List ℕ)) (ns : List ℕ) → list_all is_number ws ≡ true → map (digits_value 10) ws ≡ ns → nat_le 2 (length ws) ≡ true
-    → statement_of ((112 ∷ 97 ∷ 116 ∷ 104 ∷ []) ∷ ws) ≡ statement_with keyword.Path ns
+-- each version has paths
+path_word : (version : ℕ) → keyword_of version (112 ∷ 97 ∷ 116 ∷ 104 ∷ []) ≡ Some keyword.Path
+path_word version = word_in (version == 1)
+  where
+    word_in : (first : Bool) → find (λ k. bytes_eq (112 ∷ 97 ∷ 116 ∷ 104 ∷ []) (word_of k)) (if first then first_keywords else second_keywords) ≡ Some keyword.Path
+    word_in true = refl
+    word_in false = refl
+
+path_said : (version : ℕ) (ws : List (List ℕ)) (ns : List ℕ) → list_all is_number ws ≡ true → map (digits_value 10) ws ≡ ns → nat_le 2 (length ws) ≡ true
+    → statement_of version ((112 ∷ 97 ∷ 116 ∷ 104 ∷ []) ∷ ws) ≡ statement_with keyword.Path ns
 unfolding statement_of
-path_said ws ns numbers values two = rw (two, none_empty ws numbers, numbers, values) refl
+path_said version ws ns numbers values two =
+    ap (λ found. keyword_before found ws >>= λ k. numbers_of ws >>= λ ns. statement_with k ns) (path_word version) ∙ rw (two, none_empty ws numbers, numbers, values) refl
 
 pub path_line : (text ns : List ℕ) → AreNumbers text ns → 2 ≤ length ns
     → IsPathLine (112 ∷ 97 ∷ 116 ∷ 104 ∷ 32 ∷ text) (record { owner = get_or ns 0 0; nodes = drop 1 ns })
@@ -86,7 +96,7 @@ path_line text (v ∷ nodes) h two =
     let count : length (words text) ≡ length (v ∷ nodes) = sym (length-map (words text) (digits_value 10)) ∙ ap length h.values in
     record {
       plain = h.plain;
-      said = ap statement_of cut ∙ path_said (words text) (v ∷ nodes) h.numbers h.values (grind (arith, nat_tests));
+      said = λ version. ap (statement_of version) cut ∙ path_said version (words text) (v ∷ nodes) h.numbers h.values (grind (arith, nat_tests));
     }
 
 pub path_line_from : (line front text ns : List ℕ) → front ≡ codes "path " → bytes_eq (take (length front) line) front ≡ true → text ≡ drop (length front) line
@@ -98,5 +108,5 @@ path_line_from line front text ns is begins rest h two =
     rw spelt (path_line text ns h two)
 
 -- a path line, where paths may follow
-pub path_step : (net : Net) (line : List ℕ) (path : PermittedPath) → IsPathLine line path → step (Paths net) line true ≡ with_path net path
-path_step net line path h = later_step (Paths net) line true refl h.plain ∙ ap (λ said. step_said (Paths net) said true) h.said
+pub path_step : (version : ℕ) (net : Net) (line : List ℕ) (path : PermittedPath) → IsPathLine line path → step (Paths version net) line true ≡ with_path version net path
+path_step version net line path h = later_step (Paths version net) line true refl h.plain ∙ ap (λ said. step_said (Paths version net) said true) (h.said version)

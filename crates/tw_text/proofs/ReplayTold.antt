@@ -64,10 +64,10 @@ record IsSame (d : Draft) : Type 0 where
 same : (d : Draft) → IsDraft d → IsSame d
 same (Done case) h = record { draft = (h, no_steps); lines = append-nil (lines_of case) }
 same Start h = record { draft = h; lines = refl }
-same Header h = record { draft = h; lines = refl }
-same (Links net) h = record { draft = h; lines = refl }
-same (Paths net) h = record { draft = h; lines = refl }
-same (Scenes case) h = record { draft = h; lines = refl }
+same (Header version) h = record { draft = h; lines = refl }
+same (Links version net) h = record { draft = h; lines = refl }
+same (Paths version net) h = record { draft = h; lines = refl }
+same (Scenes version case) h = record { draft = h; lines = refl }
 
 replay_kept : (d after : ReplayDraft) (l : List ℕ) → IsReplayDraft d → after_replay_line d l true ≡ Ok after → Keeps replay_reader IsReplayDraft replay_lines_in d after l
 replay_kept (replay.Case d) after l h stepped =
@@ -104,10 +104,10 @@ replay_of-is text case list h =
 unended : (d : Draft) → is_done d ≡ false → after_case d ≡ replay.Case d
 unended (Done case) h = absurd (cc)
 unended Start h = refl
-unended Header h = refl
-unended (Links net) h = refl
-unended (Paths net) h = refl
-unended (Scenes case) h = refl
+unended (Header version) h = refl
+unended (Links version net) h = refl
+unended (Paths version net) h = refl
+unended (Scenes version case) h = refl
 
 -- the lines of a case lead to its steps
 follow_case : (d : Draft) (case : Case) (lines : List (List ℕ)) → is_done d ≡ false → Follows case_reader d lines (Done case)

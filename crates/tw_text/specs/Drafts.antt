@@ -7,8 +7,9 @@ use Rattle.std.specs.declared.vec.Vec.{Vec}
 use Rattle.tw_model.specs.Case.{Case, bare_case}
 use Rattle.tw_model.specs.Net.{Net, bare_net}
 use Rattle.tw_model.specs.PermittedPath.{PermittedPath}
-use Rattle.tw_model.specs.Rules.{link_fault, nodes_fault, path_fault, rules_in_order, scene_fault}
+use Rattle.tw_model.specs.Rules.{case_fault, link_fault, nodes_fault, path_fault, rules_in_order, scene_fault}
 use Rattle.tw_model.specs.declared.case.Scene.{Scene}
+use Rattle.tw_model.specs.declared.limits.TheConstants.{LATEST_VERSION}
 use Rattle.tw_model.specs.declared.net.Link.{Link}
 use Rattle.tw_model.specs.declared.rule.Rule.{Rule}
 use Rattle.tw_model.specs.declared.rule.Rule.TheVariants.{Range}
@@ -58,42 +59,47 @@ nodes_in net ns = if list_all (λ n. nat_lt n net.nodes) ns then Ok ns else Err 
 abbrev pub place_of : ℕ → ℕ
 place_of n = if nat_lt n (2 ^ 32) then n else 0
 
--- the line after the header may say nodes, where it has its end
-abbrev pub check_header : Draft → Bool → Result (Unit {0}) LineFault
-check_header Header ended = check_ended ended tt
-check_header d ended = Err x.Order
+-- the version of the text, where the line after the header may say nodes and has its end
+abbrev pub after_header : Draft → Bool → Result ℕ LineFault
+after_header (Header version) ended = check_ended ended version
+after_header d ended = Err x.Order
 
--- the instance to which links may be added, where the line has its end
-abbrev pub before_links : Draft → Bool → Result Net LineFault
-before_links (Links net) ended = check_ended ended net
+-- the version of the text and the instance to which links may be added, where the line has its end
+abbrev pub before_links : Draft → Bool → Result (ℕ × Net) LineFault
+before_links (Links version net) ended = check_ended ended (version, net)
 before_links d ended = Err x.Order
 
--- the instance to which paths may be added, where the line has its end
-abbrev pub before_paths : Draft → Bool → Result Net LineFault
-before_paths (Links net) ended = check_ended ended net
-before_paths (Paths net) ended = check_ended ended net
+-- the version of the text and the instance to which paths may be added, where the line has its end
+abbrev pub before_paths : Draft → Bool → Result (ℕ × Net) LineFault
+before_paths (Links version net) ended = check_ended ended (version, net)
+before_paths (Paths version net) ended = check_ended ended (version, net)
 before_paths d ended = Err x.Order
 
--- the case to which scenes may be added, where the line has its end
-abbrev pub before_scenes : Draft → Bool → Result Case LineFault
-before_scenes (Links net) ended = check_ended ended (bare_case net)
-before_scenes (Paths net) ended = check_ended ended (bare_case net)
-before_scenes (Scenes case) ended = check_ended ended case
+-- the version of the text and the case to which scenes may be added, where the line has its end
+abbrev pub before_scenes : Draft → Bool → Result (ℕ × Case) LineFault
+before_scenes (Links version net) ended = check_ended ended (version, bare_case net)
+before_scenes (Paths version net) ended = check_ended ended (version, bare_case net)
+before_scenes (Scenes version case) ended = check_ended ended (version, case)
 before_scenes (Done case) ended = Err x.End
 before_scenes d ended = Err x.Order
 
 -- a number of routers that keeps the rules, as an instance
-abbrev pub with_nodes : ℕ → Result Draft LineFault
-with_nodes n = unless_fault (of_rule (nodes_fault n)) (Links (bare_net n))
+abbrev pub with_nodes : ℕ → ℕ → Result Draft LineFault
+with_nodes version n = unless_fault (of_rule (nodes_fault n)) (Links version (bare_net n))
 
 -- the instance with one more link that keeps the rules
-abbrev pub with_link : Net → Link → Result Draft LineFault
-with_link net l = unless_fault (of_rule (link_fault net l)) (Links (record net { links = net.links ++ l ∷ [] }))
+abbrev pub with_link : ℕ → Net → Link → Result Draft LineFault
+with_link version net l = unless_fault (of_rule (link_fault net l)) (Links version (record net { links = net.links ++ l ∷ [] }))
 
 -- the instance with one more path that keeps the rules
-abbrev pub with_path : Net → PermittedPath → Result Draft LineFault
-with_path net p = unless_fault (of_rule (path_fault net p)) (Paths (record net { permitted = net.permitted ++ p ∷ [] }))
+abbrev pub with_path : ℕ → Net → PermittedPath → Result Draft LineFault
+with_path version net p = unless_fault (of_rule (path_fault net p)) (Paths version (record net { permitted = net.permitted ++ p ∷ [] }))
 
 -- the case with one more scene that keeps the rules
-abbrev pub with_scene : Case → Scene → Result Draft LineFault
-with_scene case s = unless_fault (of_rule (scene_fault case.net (length case.scenes) s)) (Scenes (record case { scenes = case.scenes ++ s ∷ [] }))
+abbrev pub with_scene : ℕ → Case → Scene → Result Draft LineFault
+with_scene version case s =
+    unless_fault (of_rule (scene_fault case.net (length case.scenes) s)) (Scenes version (record case { version = LATEST_VERSION; scenes = case.scenes ++ s ∷ [] }))
+
+-- the whole case, which keeps the rules in its version
+abbrev pub with_end : ℕ → Case → Result Draft LineFault
+with_end version case = unless_fault (of_rule (case_fault version case.net case.scenes)) (Done (record case { version = version }))

@@ -21,6 +21,7 @@ rule_label rule.TooMany = (codes "I10", codes "TooMany")
 rule_label rule.NoSuchLink = (codes "I11", codes "NoSuchLink")
 rule_label rule.NoSuchPlace = (codes "I12", codes "NoSuchPlace")
 rule_label rule.Time = (codes "I13", codes "Time")
+rule_label rule.Version = (codes "I14", codes "Version")
 
 -- the code and the name of a fault of a line
 abbrev pub fault_label : LineFault → List ℕ × List ℕ

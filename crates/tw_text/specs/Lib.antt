@@ -1,4 +1,5 @@
 pub mod Words
+pub mod Versions
 pub mod Statements
 pub mod FaultNames
 pub mod FaultTable

@@ -19,7 +19,7 @@ pub record AreNumbers (text : List ℕ) (ns : List ℕ) : Type 0 where
   pub numbers : list_all is_number (words text) ≡ true
   pub values : map (digits_value 10) (words text) ≡ ns
 
--- the line is plain, and says this path
+-- the line is plain, and says this path in each version of the text
 pub record IsPathLine (line : List ℕ) (path : PermittedPath) : Type 0 where
   pub plain : list_all is_plain line ≡ true
-  pub said : statement_of (words line) ≡ Ok (path_line path)
+  pub said : (version : ℕ) → statement_of version (words line) ≡ Ok (path_line path)

@@ -3,13 +3,14 @@ use Rattle.std.specs.Prelude.{ℕ, ◌==◌, nat_le, Bool, not, ◌&&◌, List, 
 use Rattle.std.specs.List.{find, list_all, list_any}
 use Rattle.std.specs.Str.Parse.{digits_value}
 use Rattle.tw_model.specs.declared.case.Scene.{Scene}
-use Rattle.tw_model.specs.declared.case.Scene.TheVariants.{Fail, Restore, Swap}
+use Rattle.tw_model.specs.declared.case.Scene.TheVariants.{Allow, Fail, Forbid, Restore, Swap}
 use Rattle.tw_model.specs.declared.net.Link.{Link}
 use Rattle.tw_model.specs.PermittedPath.{PermittedPath}
 use Rattle.tw_text.specs.declared.keyword.Keyword.{Keyword}
 use Rattle.tw_text.specs.declared.keyword.Keyword.TheVariants as keyword
 use Rattle.tw_text.specs.declared.text_fault.LineFault.{LineFault}
 use Rattle.tw_text.specs.declared.text_fault.LineFault.TheVariants as x
+use Rattle.tw_text.specs.Versions.{keywords}
 use Rattle.tw_text.specs.Words.{is_number}
 
 -- what a line says
@@ -30,28 +31,30 @@ abbrev pub ◌>>=◌ : {A B E : Type 0} → Result A E → (A → Result B E) �
 abbrev pub word_of : Keyword → List ℕ
 word_of keyword.Nodes = codes "nodes"
 word_of keyword.Link = codes "link"
+word_of keyword.TwoWayLink = codes "link"
 word_of keyword.Path = codes "path"
 word_of keyword.Fail = codes "fail"
 word_of keyword.Restore = codes "restore"
 word_of keyword.Swap = codes "swap"
+word_of keyword.Forbid = codes "forbid"
+word_of keyword.Allow = codes "allow"
 word_of keyword.End = codes "end"
 
--- every keyword
-abbrev pub keywords : List Keyword
-keywords = keyword.Nodes ∷ keyword.Link ∷ keyword.Path ∷ keyword.Fail ∷ keyword.Restore ∷ keyword.Swap ∷ keyword.End ∷ []
-
--- the keyword that a word is
-abbrev pub keyword_of : List ℕ → Option Keyword
-keyword_of word = find (λ k. bytes_eq word (word_of k)) keywords
+-- the keyword that a word is in a version of the text
+abbrev pub keyword_of : ℕ → List ℕ → Option Keyword
+keyword_of version word = find (λ k. bytes_eq word (word_of k)) (keywords version)
 
 -- whether so many words may follow the keyword on its line
 abbrev pub takes : Keyword → ℕ → Bool
 takes keyword.Nodes n = n == 1
 takes keyword.Link n = n == 3
+takes keyword.TwoWayLink n = n == 4
 takes keyword.Path n = nat_le 2 n
 takes keyword.Fail n = n == 3
 takes keyword.Restore n = n == 3
 takes keyword.Swap n = n == 4
+takes keyword.Forbid n = n == 3
+takes keyword.Allow n = n == 3
 takes keyword.End n = n == 0
 
 -- whether these words, none of them empty, may follow the keyword
@@ -71,18 +74,29 @@ number_of w = if is_number w then Ok (digits_value 10 w) else Err x.Number
 abbrev pub numbers_of : List (List ℕ) → Result (List ℕ) LineFault
 numbers_of ws = if list_all is_number ws then Ok (map (digits_value 10) ws) else Err x.Number
 
+-- the scenario line that the keyword is with these numbers
+abbrev pub scene_with : Keyword → List ℕ → Result Scene LineFault
+scene_with keyword.Fail (t ∷ a ∷ b ∷ []) = Ok (Fail t a b)
+scene_with keyword.Restore (t ∷ a ∷ b ∷ []) = Ok (Restore t a b)
+scene_with keyword.Swap (t ∷ v ∷ i ∷ j ∷ []) = Ok (Swap t v i j)
+scene_with keyword.Forbid (t ∷ v ∷ k ∷ []) = Ok (Forbid t v k)
+scene_with keyword.Allow (t ∷ v ∷ k ∷ []) = Ok (Allow t v k)
+scene_with k ns = Err x.Word
+
+-- what a scenario line says, if the keyword with these numbers is one
+abbrev pub scene_said : Keyword → List ℕ → Result Statement LineFault
+scene_said k ns = scene_with k ns >>= λ s. Ok (scene_line s)
+
 -- what the keyword says with these numbers
 abbrev pub statement_with : Keyword → List ℕ → Result Statement LineFault
 statement_with keyword.Nodes (n ∷ []) = Ok (nodes_line n)
-statement_with keyword.Link (a ∷ b ∷ delay ∷ []) = Ok (link_line (record { first = a; second = b; delay = delay }))
+statement_with keyword.Link (a ∷ b ∷ delay ∷ []) = Ok (link_line (record { first = a; second = b; delay = delay; back = delay }))
+statement_with keyword.TwoWayLink (a ∷ b ∷ delay ∷ back ∷ []) = Ok (link_line (record { first = a; second = b; delay = delay; back = back }))
 statement_with keyword.Path (v ∷ path) = Ok (path_line (record { owner = v; nodes = path }))
-statement_with keyword.Fail (t ∷ a ∷ b ∷ []) = Ok (scene_line (Fail t a b))
-statement_with keyword.Restore (t ∷ a ∷ b ∷ []) = Ok (scene_line (Restore t a b))
-statement_with keyword.Swap (t ∷ v ∷ i ∷ j ∷ []) = Ok (scene_line (Swap t v i j))
 statement_with keyword.End [] = Ok end_line
-statement_with k ns = Err x.Word
+statement_with k ns = scene_said k ns
 
--- what the words of a line say, or why they say nothing
-unfoldable pub statement_of : List (List ℕ) → Result Statement LineFault
-statement_of [] = Err x.Word
-statement_of (word ∷ ws) = keyword_before (keyword_of word) ws >>= λ k. numbers_of ws >>= λ ns. statement_with k ns
+-- what the words of a line say in a version of the text, or why they say nothing
+unfoldable pub statement_of : ℕ → List (List ℕ) → Result Statement LineFault
+statement_of version [] = Err x.Word
+statement_of version (word ∷ ws) = keyword_before (keyword_of version word) ws >>= λ k. numbers_of ws >>= λ ns. statement_with k ns

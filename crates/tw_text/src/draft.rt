@@ -1,12 +1,13 @@
 //! What the lines so far have given.
 
-ghost use Rattle.std.specs.Prelude.{◌≡◌};
+ghost use Rattle.std.specs.Prelude.{◌≡◌, ℕ};
 ghost use Rattle.tw_model.specs.Memory.{IsUnlessMemory, map_fault};
 ghost use Rattle.tw_model.specs.declared.case.Scene.TheVariants as AScene;
-ghost use Rattle.tw_text.specs.Drafts.{before_links, before_paths, before_scenes, check_ended, check_header, node_in, nodes_in, place_of};
-ghost use Rattle.tw_text.specs.Drafts.{result_items, step_said, with_link, with_nodes, with_path, with_scene};
+ghost use Rattle.tw_text.specs.Drafts.{after_header, before_links, before_paths, before_scenes, check_ended, node_in, nodes_in, place_of};
+ghost use Rattle.tw_text.specs.Drafts.{result_items, step_said, with_end, with_link, with_nodes, with_path, with_scene};
+ghost use Rattle.tw_text.specs.FaultTable.{version_in};
 ghost use Rattle.tw_text.specs.LineReader.{left_by};
-ghost use Rattle.tw_text.specs.Statements.{statement_with};
+ghost use Rattle.tw_text.specs.Statements.{scene_said, statement_with};
 ghost use Rattle.tw_text.specs.declared.draft.Draft.TheVariants as AsDraft;
 
 use crate::keyword::Keyword;
@@ -15,21 +16,37 @@ use std::alloc::Global;
 use tw_instance::{Case, Instance};
 use tw_model::{Link, OrMemory, PermittedPath, Rule, Scene};
 
-/// What the lines so far have given, by what may follow.
+/// What the lines so far have given, by what may follow: from line 1 on the version of the text too.
 #[derive(Drop)]
 pub(crate) enum Draft {
     /// No line.
     Start,
     /// Line 1.
-    Header,
+    Header(u32),
     /// No path yet.
-    Links(Instance),
+    Links(u32, Instance),
     /// No scene yet.
-    Paths(Instance),
+    Paths(u32, Instance),
     /// A scene.
-    Scenes(Case),
+    Scenes(u32, Case),
     /// The last line.
     Done(Case),
+}
+
+impl Draft {
+    /// The version of the text, 0 before line 1.
+    pub(crate) fn version(&self) -> u32
+        ensures { result ≡ version_in self.now }
+    {
+        match self {
+            Draft::Start => 0,
+            Draft::Header(version)
+            | Draft::Links(version, _)
+            | Draft::Paths(version, _)
+            | Draft::Scenes(version, _) => *version,
+            Draft::Done(case) => case.version(),
+        }
+    }
 }
 
 /// The draft with a line of this keyword and these numbers, or the lowest fault of the line.
@@ -44,55 +61,87 @@ pub(crate) fn take_statement(
 {
     match (keyword, numbers) {
         (Keyword::Nodes, [nodes]) => {
-            check_header(draft, ended)?;
-            with_nodes(alloc, *nodes)
+            let version = after_header(draft, ended)?;
+            with_nodes(alloc, version, *nodes)
         }
         (Keyword::Link, [first, second, delay]) => {
-            let instance = before_links(draft, ended)?;
-            with_link(instance, *first, *second, *delay)
+            let (version, instance) = before_links(draft, ended)?;
+            with_link(version, instance, *first, *second, *delay, *delay)
+        }
+        (Keyword::TwoWayLink, [first, second, delay, back]) => {
+            let (version, instance) = before_links(draft, ended)?;
+            with_link(version, instance, *first, *second, *delay, *back)
         }
         (Keyword::Path, [owner, nodes @ ..]) => {
-            let instance = before_paths(draft, ended)?;
-            with_path(alloc, instance, *owner, nodes)
+            let (version, instance) = before_paths(draft, ended)?;
+            with_path(alloc, version, instance, *owner, nodes)
         }
+        (Keyword::End, []) => {
+            let (version, case) = before_scenes(alloc, draft, ended)?;
+            with_end(version, case)
+        }
+        _ => take_scene(alloc, draft, keyword, numbers, ended),
+    }
+}
+
+/// The draft with a scenario line of this keyword and these numbers, or the lowest fault of the line.
+fn take_scene(
+    alloc: Global,
+    draft: Draft,
+    keyword: Keyword,
+    numbers: &[u64],
+    ended: bool,
+) -> Result<Draft, OrMemory<LineFault>>
+    ensures { IsUnlessMemory result (step_said draft (scene_said keyword numbers.now) ended) }
+{
+    match (keyword, numbers) {
         (Keyword::Fail, [time, first, second]) => {
-            let case = before_scenes(alloc, draft, ended)?;
-            with_fail(case, *time, *first, *second)
+            let (version, case) = before_scenes(alloc, draft, ended)?;
+            with_fail(version, case, *time, *first, *second)
         }
         (Keyword::Restore, [time, first, second]) => {
-            let case = before_scenes(alloc, draft, ended)?;
-            with_restore(case, *time, *first, *second)
+            let (version, case) = before_scenes(alloc, draft, ended)?;
+            with_restore(version, case, *time, *first, *second)
         }
         (Keyword::Swap, [time, node, first, second]) => {
-            let case = before_scenes(alloc, draft, ended)?;
-            with_swap(case, *time, *node, *first, *second)
+            let (version, case) = before_scenes(alloc, draft, ended)?;
+            with_swap(version, case, *time, *node, *first, *second)
         }
-        (Keyword::End, []) => Ok(Draft::Done(before_scenes(alloc, draft, ended)?)),
+        (Keyword::Forbid, [time, node, line]) => {
+            let (version, case) = before_scenes(alloc, draft, ended)?;
+            with_forbid(version, case, *time, *node, *line)
+        }
+        (Keyword::Allow, [time, node, line]) => {
+            let (version, case) = before_scenes(alloc, draft, ended)?;
+            with_allow(version, case, *time, *node, *line)
+        }
         _ => Err(OrMemory::Fault(LineFault::Word)),
     }
 }
 
 /// An instance of so many routers, with no link and no path.
-fn with_nodes(alloc: Global, nodes: u64) -> Result<Draft, OrMemory<LineFault>>
-    ensures { IsUnlessMemory result (with_nodes nodes) }
+fn with_nodes(alloc: Global, version: u32, nodes: u64) -> Result<Draft, OrMemory<LineFault>>
+    ensures { IsUnlessMemory result (with_nodes version nodes) }
 {
     let Ok(nodes) = u32::try_from(nodes) else {
         return Err(OrMemory::Fault(LineFault::Rule(Rule::Range)));
     };
     match Instance::new(alloc, nodes) {
-        Ok(instance) => Ok(Draft::Links(instance)),
+        Ok(instance) => Ok(Draft::Links(version, instance)),
         Err(refusal) => Err(rule_fault(refusal)),
     }
 }
 
 /// The instance with one more link.
 fn with_link(
+    version: u32,
     mut instance: Instance,
     first: u64,
     second: u64,
     delay: u64,
+    back: u64,
 ) -> Result<Draft, OrMemory<LineFault>>
-    ensures { IsUnlessMemory result (with_link instance (record { first = first; second = second; delay = delay })) }
+    ensures { IsUnlessMemory result (with_link version instance (record { first = first; second = second; delay = delay; back = back })) }
 {
     let first = node_in(&instance, first)?;
     let second = node_in(&instance, second)?;
@@ -100,8 +149,9 @@ fn with_link(
         first,
         second,
         delay,
+        back,
     }) {
-        Ok(()) => Ok(Draft::Links(instance)),
+        Ok(()) => Ok(Draft::Links(version, instance)),
         Err(refusal) => Err(rule_fault(refusal)),
     }
 }
@@ -109,16 +159,17 @@ fn with_link(
 /// The instance with one more path.
 fn with_path(
     alloc: Global,
+    version: u32,
     mut instance: Instance,
     owner: u64,
     nodes: &[u64],
 ) -> Result<Draft, OrMemory<LineFault>>
-    ensures { IsUnlessMemory result (with_path instance (record { owner = owner; nodes = nodes.now })) }
+    ensures { IsUnlessMemory result (with_path version instance (record { owner = owner; nodes = nodes.now })) }
 {
     let owner = node_in(&instance, owner)?;
     let nodes = nodes_in(alloc, &instance, nodes)?;
     add_path(&mut instance, PermittedPath { owner, nodes })?;
-    Ok(Draft::Paths(instance))
+    Ok(Draft::Paths(version, instance))
 }
 
 /// Adds a path to the instance.
@@ -126,7 +177,7 @@ pub(crate) fn add_path(
     instance: &mut Instance,
     path: PermittedPath,
 ) -> Result<(), OrMemory<LineFault>>
-    ensures { IsUnlessMemory (left_by result (AsDraft.Paths instance.new)) (with_path instance.old path) }
+    ensures { (version : ℕ) → IsUnlessMemory (left_by result (AsDraft.Paths version instance.new)) (with_path version instance.old path) }
 {
     match instance.add_path(path) {
         Ok(()) => Ok(()),
@@ -135,12 +186,19 @@ pub(crate) fn add_path(
 }
 
 /// The case with one more failure of a link.
-fn with_fail(case: Case, time: u64, first: u64, second: u64) -> Result<Draft, OrMemory<LineFault>>
-    ensures { IsUnlessMemory result (with_scene case (AScene.Fail time first second)) }
+fn with_fail(
+    version: u32,
+    case: Case,
+    time: u64,
+    first: u64,
+    second: u64,
+) -> Result<Draft, OrMemory<LineFault>>
+    ensures { IsUnlessMemory result (with_scene version case (AScene.Fail time first second)) }
 {
     let first = node_in(case.instance(), first)?;
     let second = node_in(case.instance(), second)?;
     with_scene(
+        version,
         case,
         Scene::Fail {
             time,
@@ -152,16 +210,18 @@ fn with_fail(case: Case, time: u64, first: u64, second: u64) -> Result<Draft, Or
 
 /// The case with one more repair of a link.
 fn with_restore(
+    version: u32,
     case: Case,
     time: u64,
     first: u64,
     second: u64,
 ) -> Result<Draft, OrMemory<LineFault>>
-    ensures { IsUnlessMemory result (with_scene case (AScene.Restore time first second)) }
+    ensures { IsUnlessMemory result (with_scene version case (AScene.Restore time first second)) }
 {
     let first = node_in(case.instance(), first)?;
     let second = node_in(case.instance(), second)?;
     with_scene(
+        version,
         case,
         Scene::Restore {
             time,
@@ -173,17 +233,19 @@ fn with_restore(
 
 /// The case with one more exchange of two places of an order.
 fn with_swap(
+    version: u32,
     case: Case,
     time: u64,
     node: u64,
     first: u64,
     second: u64,
 ) -> Result<Draft, OrMemory<LineFault>>
-    ensures { IsUnlessMemory result (with_scene case (AScene.Swap time node first second)) }
+    ensures { IsUnlessMemory result (with_scene version case (AScene.Swap time node first second)) }
 {
     let node = node_in(case.instance(), node)?;
     let (first, second) = (place_of(first), place_of(second));
     with_scene(
+        version,
         case,
         Scene::Swap {
             time,
@@ -194,67 +256,114 @@ fn with_swap(
     )
 }
 
+/// The case with one more path forbidden.
+fn with_forbid(
+    version: u32,
+    case: Case,
+    time: u64,
+    node: u64,
+    line: u64,
+) -> Result<Draft, OrMemory<LineFault>>
+    ensures { IsUnlessMemory result (with_scene version case (AScene.Forbid time node line)) }
+{
+    let node = node_in(case.instance(), node)?;
+    let line = place_of(line);
+    with_scene(version, case, Scene::Forbid { time, node, line })
+}
+
+/// The case with one more path allowed again.
+fn with_allow(
+    version: u32,
+    case: Case,
+    time: u64,
+    node: u64,
+    line: u64,
+) -> Result<Draft, OrMemory<LineFault>>
+    ensures { IsUnlessMemory result (with_scene version case (AScene.Allow time node line)) }
+{
+    let node = node_in(case.instance(), node)?;
+    let line = place_of(line);
+    with_scene(version, case, Scene::Allow { time, node, line })
+}
+
 /// The case with one more scene.
-fn with_scene(mut case: Case, scene: Scene) -> Result<Draft, OrMemory<LineFault>>
-    ensures { IsUnlessMemory result (with_scene case scene) }
+fn with_scene(version: u32, mut case: Case, scene: Scene) -> Result<Draft, OrMemory<LineFault>>
+    ensures { IsUnlessMemory result (with_scene version case scene) }
 {
     match case.add(scene) {
-        Ok(()) => Ok(Draft::Scenes(case)),
+        Ok(()) => Ok(Draft::Scenes(version, case)),
         Err(refusal) => Err(rule_fault(refusal)),
     }
 }
 
-/// That the header is the line before, and that this one has its end.
-fn check_header(draft: Draft, ended: bool) -> Result<(), LineFault>
-    ensures { result ≡ check_header draft ended }
+/// The whole case, in its version.
+fn with_end(version: u32, mut case: Case) -> Result<Draft, OrMemory<LineFault>>
+    ensures { IsUnlessMemory result (with_end version case) }
+{
+    match case.set_version(version) {
+        Ok(()) => Ok(Draft::Done(case)),
+        Err(rule) => Err(OrMemory::Fault(LineFault::Rule(rule))),
+    }
+}
+
+/// The version of the text, where the header is the line before and this one has its end.
+fn after_header(draft: Draft, ended: bool) -> Result<u32, LineFault>
+    ensures { result ≡ after_header draft ended }
 {
     match draft {
-        Draft::Header => check_end(ended),
+        Draft::Header(version) => {
+            check_end(ended)?;
+            Ok(version)
+        }
         _ => Err(LineFault::Order),
     }
 }
 
-/// The instance to which a link may be added, where its line has its end.
-fn before_links(draft: Draft, ended: bool) -> Result<Instance, LineFault>
+/// The version of the text and the instance to which a link may be added, where its line has its end.
+fn before_links(draft: Draft, ended: bool) -> Result<(u32, Instance), LineFault>
     ensures { result ≡ before_links draft ended }
 {
     match draft {
-        Draft::Links(instance) => {
+        Draft::Links(version, instance) => {
             check_end(ended)?;
-            Ok(instance)
+            Ok((version, instance))
         }
         _ => Err(LineFault::Order),
     }
 }
 
-/// The instance to which a path may be added, where its line has its end.
-fn before_paths(draft: Draft, ended: bool) -> Result<Instance, LineFault>
+/// The version of the text and the instance to which a path may be added, where its line has its end.
+fn before_paths(draft: Draft, ended: bool) -> Result<(u32, Instance), LineFault>
     ensures { result ≡ before_paths draft ended }
 {
     match draft {
-        Draft::Links(instance) | Draft::Paths(instance) => {
+        Draft::Links(version, instance) | Draft::Paths(version, instance) => {
             check_end(ended)?;
-            Ok(instance)
+            Ok((version, instance))
         }
         _ => Err(LineFault::Order),
     }
 }
 
-/// The case to which a scene may be added, where its line has its end.
-fn before_scenes(alloc: Global, draft: Draft, ended: bool) -> Result<Case, OrMemory<LineFault>>
+/// The version of the text and the case to which a scene may be added, where its line has its end.
+fn before_scenes(
+    alloc: Global,
+    draft: Draft,
+    ended: bool,
+) -> Result<(u32, Case), OrMemory<LineFault>>
     ensures { IsUnlessMemory result (before_scenes draft ended) }
 {
     match draft {
-        Draft::Links(instance) | Draft::Paths(instance) => {
+        Draft::Links(version, instance) | Draft::Paths(version, instance) => {
             check_end(ended)?;
-            Ok(Case::new(alloc, instance)?)
+            Ok((version, Case::new(alloc, instance)?))
         }
-        Draft::Scenes(case) => {
+        Draft::Scenes(version, case) => {
             check_end(ended)?;
-            Ok(case)
+            Ok((version, case))
         }
         Draft::Done(_) => Err(OrMemory::Fault(LineFault::End)),
-        Draft::Start | Draft::Header => Err(OrMemory::Fault(LineFault::Order)),
+        Draft::Start | Draft::Header(_) => Err(OrMemory::Fault(LineFault::Order)),
     }
 }
 

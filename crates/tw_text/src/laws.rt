@@ -1,9 +1,11 @@
 //! Laws over the definitions alone.
 
-ghost use Rattle.std.specs.Prelude.{◌≡◌, ◌↔◌, ℕ, List, Ok};
+ghost use Rattle.std.specs.Prelude.{◌≡◌, ◌↔◌, ℕ, List, Ok, Err};
 ghost use Rattle.tw_model.specs.Case.{Case, IsCase};
 ghost use Rattle.tw_sim.specs.declared.machine.Step.{Step};
-ghost use Rattle.tw_text.specs.Reading.{case_of};
+ghost use Rattle.tw_model.specs.declared.rule.Rule.TheVariants.{Version};
+ghost use Rattle.tw_text.specs.declared.text_fault.LineFault.TheVariants as LineFault;
+ghost use Rattle.tw_text.specs.Reading.{case_of, fault_at};
 ghost use Rattle.tw_text.specs.ReplayText.{replay_of, text_of_replay};
 ghost use Rattle.tw_text.specs.StepText.{HasText, steps_of, text_of_steps};
 ghost use Rattle.tw_text.specs.Text.{text_of_case};
@@ -11,6 +13,12 @@ ghost use Rattle.tw_text.specs.Text.{text_of_case};
 /// A text is read as a case exactly where the case keeps the rules and this is its text.
 pub fn case_of_text()
     ensures { (text : List ℕ) (c : Case) → (case_of text ≡ Ok c) ↔ (IsCase c × (text ≡ text_of_case c)) }
+{}
+
+/// No text is refused for its version: each version has a line for what a case of it may have, and for
+/// nothing else.
+pub fn no_text_of_another_version()
+    ensures { (text : List ℕ) (line : ℕ) → case_of text ≡ Err (fault_at line (LineFault.Rule Version)) → ⊥ }
 {}
 
 /// Two cases with the same text are one.

@@ -1,8 +1,9 @@
 //! Case texts, step texts and replay texts: reading one, writing a case, and the first fault of a text
 //! that is none.
 //!
-//! A text is bytes in lines. Contracts see a `Case` as the instance and the scenes that it holds,
-//! and a text as its bytes. `text_of_case` (`specs/Text.antt`) is the one text of a case, and
+//! A text is bytes in lines. Contracts see a `Case` as the instance and the scenes that it holds with
+//! its version, 1 or 2, and a text as its bytes. Which words a version has stands in
+//! `specs/Versions.antt`. `text_of_case` (`specs/Text.antt`) is the one text of a case, and
 //! `case_of` (`specs/Reading.antt`) what a text is read as, by the table of faults
 //! (`specs/FaultTable.antt`). Proved is that `read_case` answers `case_of` and `write_case` writes
 //! `text_of_case`, unless memory is refused, and that each undoes the other (`laws`). That memory

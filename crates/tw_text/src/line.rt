@@ -1,11 +1,12 @@
 //! One more line of a case text.
 
 ghost use Rattle.std.specs.List.{list_all};
-ghost use Rattle.std.specs.Prelude.{◌≡◌, map, false, true, bytes_eq, codes};
+ghost use Rattle.std.specs.Prelude.{◌≡◌, map, false, true};
 ghost use Rattle.tw_model.specs.Memory.{IsUnlessMemory};
 ghost use Rattle.tw_text.specs.Drafts.{result_items, step_said};
-ghost use Rattle.tw_text.specs.FaultTable.{is_start, step};
+ghost use Rattle.tw_text.specs.FaultTable.{is_start, step, version_in};
 ghost use Rattle.tw_text.specs.Statements.{keyword_before, keyword_of, numbers_of, statement_of};
+ghost use Rattle.tw_text.specs.Versions.{version_of};
 ghost use Rattle.tw_text.specs.Words.{is_plain, words};
 
 use crate::draft::{Draft, take_statement};
@@ -39,19 +40,24 @@ fn read_header(line: &[u8], ended: bool) -> Result<Draft, LineFault>
     requires { list_all is_plain line.now ≡ true }
     ensures { result ≡ step Draft.Start line.now ended }
 {
-    if !is_header(line) {
-        Err(LineFault::Header)
-    } else if !ended {
-        Err(LineFault::End)
-    } else {
-        Ok(Draft::Header)
+    match version_of(line) {
+        Some(version) if ended => Ok(Draft::Header(version)),
+        Some(_) => Err(LineFault::End),
+        None => Err(LineFault::Header),
     }
 }
 
-fn is_header(line: &[u8]) -> bool
-    ensures { result ≡ bytes_eq line.now (codes "spp 1") }
+/// The version of which the line is the header, if it is one.
+fn version_of(line: &[u8]) -> Option<u32>
+    ensures { result ≡ version_of line.now }
 {
-    line == b"spp 1".as_slice()
+    if line == b"spp 1".as_slice() {
+        Some(1)
+    } else if line == b"spp 2".as_slice() {
+        Some(2)
+    } else {
+        None
+    }
 }
 
 /// What a line from the second on adds.
@@ -76,21 +82,21 @@ fn read_words(
     words: &[&[u8]],
     ended: bool,
 ) -> Result<Draft, OrMemory<LineFault>>
-    ensures { IsUnlessMemory result (step_said draft (statement_of (map (λ w. w.now) words.now)) ended) }
+    ensures { IsUnlessMemory result (step_said draft (statement_of (version_in draft) (map (λ w. w.now) words.now)) ended) }
 {
     let [word, arguments @ ..] = words else {
         return Err(OrMemory::Fault(LineFault::Word));
     };
-    let keyword = keyword_before(word, arguments)?;
+    let keyword = keyword_before(draft.version(), word, arguments)?;
     let numbers = numbers_of(alloc, arguments)?;
     take_statement(alloc, draft, keyword, &numbers, ended)
 }
 
-/// The keyword that a word is, where these words may follow it.
-fn keyword_before(word: &[u8], arguments: &[&[u8]]) -> Result<Keyword, LineFault>
-    ensures { result ≡ keyword_before (keyword_of word.now) (map (λ w. w.now) arguments.now) }
+/// The keyword that a word is in a version of the text, where these words may follow it.
+fn keyword_before(version: u32, word: &[u8], arguments: &[&[u8]]) -> Result<Keyword, LineFault>
+    ensures { result ≡ keyword_before (keyword_of version word.now) (map (λ w. w.now) arguments.now) }
 {
-    let keyword = Keyword::from_word(word).ok_or(LineFault::Word)?;
+    let keyword = Keyword::from_word(version, word).ok_or(LineFault::Word)?;
     if keyword.takes_words(arguments) {
         Ok(keyword)
     } else {

@@ -16,8 +16,8 @@ use std::mem;
 use tw_instance::Case;
 use tw_model::OrMemory;
 
-/// The case of a text in the grammar of `docs/FORMATS.md`. A text that is none is refused at its
-/// first line that has a fault, with the lowest fault of that line.
+/// The case of a text in the grammar of `docs/FORMATS.md`, of version 1 or 2. A text that is none is
+/// refused at its first line that has a fault, with the lowest fault of that line.
 pub fn read_case(alloc: Global, text: &[u8]) -> Result<Case, OrMemory<TextFault>>
     ensures found { IfOk result (λ c. IsCase c × (text.now ≡ text_of_case c)) }
     ensures only { (c : ACase) → IsCase c → text.now ≡ text_of_case c → IsUnlessMemory result (Ok c) }
@@ -46,7 +46,7 @@ impl LineReader for Draft {
         ended: bool,
     ) -> Result<(), OrMemory<LineFault>> {
         // A long text has path lines most of all, so these are taken without moving what was read.
-        if let Draft::Paths(instance) = self {
+        if let Draft::Paths(_, instance) = self {
             if ended && let Some(path) = path_in(alloc, line)? {
                 return add_path(instance, path);
             }

@@ -14,10 +14,10 @@ use tw_model::{OrMemory, Rule};
 pub enum LineFault {
     /// The line holds a byte that is no space, no letter a to z and no digit.
     Byte,
-    /// Line 1 is not `spp 1`.
+    /// Line 1 is neither `spp 1` nor `spp 2`.
     Header,
-    /// The line has no word, or an empty one, or begins with no known word, or has too few or too
-    /// many words.
+    /// The line has no word, or an empty one, or begins with no word of its version, or has too few
+    /// or too many words.
     Word,
     /// A word after the first is not a number of at most ten digits, or is too great for a router of a
     /// step.
@@ -40,7 +40,7 @@ pub struct TextFault {
 }
 
 impl LineFault {
-    /// The code: `X1` to `X6`, and `I1` to `I13` of the rules.
+    /// The code: `X1` to `X6`, and `I1` to `I14` of the rules.
     pub fn code(&self) -> &'static str
         ensures { result.now ≡ (fault_label self.now).0 }
     {
@@ -123,5 +123,6 @@ fn rule_label(rule: Rule) -> (&'static str, &'static str)
         Rule::NoSuchLink => ("I11", "NoSuchLink"),
         Rule::NoSuchPlace => ("I12", "NoSuchPlace"),
         Rule::Time => ("I13", "Time"),
+        Rule::Version => ("I14", "Version"),
     }
 }

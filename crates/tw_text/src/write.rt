@@ -3,49 +3,55 @@
 ghost use Rattle.std.specs.Prelude.{◌≡◌, ◌∷◌, ◌++◌, decimal, IfOk, OnOk};
 ghost use Rattle.std.specs.List.{flat_map};
 ghost use Rattle.std.specs.String.{string_bytes};
-ghost use Rattle.tw_text.specs.Statements.{link_line, path_line, scene_line};
-ghost use Rattle.tw_text.specs.Text.{ended_line, line_of, text_of_case};
+ghost use Rattle.tw_text.specs.Statements.{link_line};
+ghost use Rattle.tw_text.specs.Text.{ended_line, line_of, line_of_path, line_of_scene, text_of_case};
 
 use std::alloc::{AllocError, Global};
 use tw_instance::Case;
 use tw_model::{Link, PermittedPath, Scene};
 
-/// The text of a case, which `read_case` reads as that case.
+/// The text of a case in its version, which `read_case` reads as that case.
 pub fn write_case(alloc: Global, case: &Case) -> Result<Vec<u8>, AllocError>
     ensures { IfOk result (λ v. v.items ≡ text_of_case case.now) }
 {
+    let version = case.version();
     let instance = case.instance();
     let nodes = instance.nodes();
-    let mut text = format!(in alloc; "spp 1\nnodes {nodes}\n")?;
-    push_links(&mut text, instance.links())?;
+    let mut text = format!(in alloc; "spp {version}\nnodes {nodes}\n")?;
+    push_links(&mut text, version, instance.links())?;
     push_paths(&mut text, instance.paths())?;
     push_scenes(&mut text, case.scenario())?;
     text.push_str("end\n")?;
     Ok(text.into_bytes())
 }
 
-fn push_links(text: &mut String, links: &[Link]) -> Result<(), AllocError>
-    ensures { OnOk result (string_bytes text.new ≡ string_bytes text.old ++ flat_map (λ l. ended_line (line_of (link_line l))) links.now) }
+fn push_links(text: &mut String, version: u32, links: &[Link]) -> Result<(), AllocError>
+    ensures { OnOk result (string_bytes text.new ≡ string_bytes text.old ++ flat_map (λ l. ended_line (line_of version (link_line l))) links.now) }
 {
     for link in links {
-        push_link(text, link)?;
+        push_link(text, version, link)?;
     }
     Ok(())
 }
 
-fn push_link(text: &mut String, link: &Link) -> Result<(), AllocError>
-    ensures { OnOk result (string_bytes text.new ≡ string_bytes text.old ++ ended_line (line_of (link_line link.now))) }
+fn push_link(text: &mut String, version: u32, link: &Link) -> Result<(), AllocError>
+    ensures { OnOk result (string_bytes text.new ≡ string_bytes text.old ++ ended_line (line_of version (link_line link.now))) }
 {
     let Link {
         first,
         second,
         delay,
+        back,
     } = *link;
-    writeln!(text, "link {first} {second} {delay}")
+    if version == 1 {
+        writeln!(text, "link {first} {second} {delay}")
+    } else {
+        writeln!(text, "link {first} {second} {delay} {back}")
+    }
 }
 
 fn push_paths(text: &mut String, paths: &[PermittedPath]) -> Result<(), AllocError>
-    ensures { OnOk result (string_bytes text.new ≡ string_bytes text.old ++ flat_map (λ p. ended_line (line_of (path_line p))) paths.now) }
+    ensures { OnOk result (string_bytes text.new ≡ string_bytes text.old ++ flat_map (λ p. ended_line (line_of_path p)) paths.now) }
 {
     for path in paths {
         push_path(text, path.owner, &path.nodes)?;
@@ -54,7 +60,7 @@ fn push_paths(text: &mut String, paths: &[PermittedPath]) -> Result<(), AllocErr
 }
 
 fn push_path(text: &mut String, owner: u32, nodes: &[u32]) -> Result<(), AllocError>
-    ensures { OnOk result (string_bytes text.new ≡ string_bytes text.old ++ ended_line (line_of (path_line (record { owner = owner; nodes = nodes.now })))) }
+    ensures { OnOk result (string_bytes text.new ≡ string_bytes text.old ++ ended_line (line_of_path (record { owner = owner; nodes = nodes.now }))) }
 {
     write!(text, "path {owner}")?;
     push_nodes(text, nodes)?;
@@ -73,7 +79,7 @@ fn push_nodes(text: &mut String, nodes: &[u32]) -> Result<(), AllocError>
 }
 
 fn push_scenes(text: &mut String, scenes: &[Scene]) -> Result<(), AllocError>
-    ensures { OnOk result (string_bytes text.new ≡ string_bytes text.old ++ flat_map (λ s. ended_line (line_of (scene_line s))) scenes.now) }
+    ensures { OnOk result (string_bytes text.new ≡ string_bytes text.old ++ flat_map (λ s. ended_line (line_of_scene s)) scenes.now) }
 {
     for scene in scenes {
         push_scene(text, scene)?;
@@ -82,7 +88,7 @@ fn push_scenes(text: &mut String, scenes: &[Scene]) -> Result<(), AllocError>
 }
 
 fn push_scene(text: &mut String, scene: &Scene) -> Result<(), AllocError>
-    ensures { OnOk result (string_bytes text.new ≡ string_bytes text.old ++ ended_line (line_of (scene_line scene.now))) }
+    ensures { OnOk result (string_bytes text.new ≡ string_bytes text.old ++ ended_line (line_of_scene scene.now)) }
 {
     match *scene {
         Scene::Fail {
@@ -101,5 +107,7 @@ fn push_scene(text: &mut String, scene: &Scene) -> Result<(), AllocError>
             first,
             second,
         } => writeln!(text, "swap {time} {node} {first} {second}"),
+        Scene::Forbid { time, node, line } => writeln!(text, "forbid {time} {node} {line}"),
+        Scene::Allow { time, node, line } => writeln!(text, "allow {time} {node} {line}"),
     }
 }

@@ -43,6 +43,7 @@ function apply(state, event) {
   state.counters = event.counters;
   if (event.rib !== undefined) state.rib = event.rib;
   if (event.order) state.order = event.order;
+  if (event.barred) state.barred = event.barred;
   if (event.row) state.rows = state.rows.map((row) => (row[0] === event.row[0] ? event.row : row));
 }
 
@@ -93,14 +94,17 @@ function along(a, b, part, aside, inset = RADIUS) {
   return [from.x + (x * way - y * aside) / length, from.y + (y * way + x * aside) / length];
 }
 
-function drawWire([a, b, delay, part]) {
+function writeDelay(a, b, part, delay) {
+  const [x, y] = along(a, b, part, 0, 0);
+  add(layers.delays, "text", { class: "delay", x, y: y + 4 }, delay.toLocaleString("en"));
+}
+
+function drawWire([a, b, delay, back, parts]) {
   const [from, to] = [points.get(a), points.get(b)];
   const line = add(layers.wires, "line", { class: "wire", x1: from.x, y1: from.y, x2: to.x, y2: to.y });
-  add(line, "title", {}, `link ${a} ${b}, delay ${delay}`);
-  if (run.has_words) {
-    const [x, y] = along(a, b, part, 0, 0);
-    add(layers.delays, "text", { class: "delay", x, y: y + 4 }, delay.toLocaleString("en"));
-  }
+  const words = delay === back ? `delay ${delay}` : `delay ${delay} from ${a} and ${back} from ${b}`;
+  add(line, "title", {}, `link ${a} ${b}, ${words}`);
+  if (run.has_words) parts.forEach((part, place) => writeDelay(a, b, part, [delay, back][place]));
   return line;
 }
 
@@ -231,9 +235,11 @@ function isOffered(path, rows) {
 }
 
 function pathRow(path, number, state) {
-  const isUsed = path === state.rib;
-  const now = isUsed ? "in use" : isOffered(path, state.rows) ? "offered" : "";
-  return { look: isUsed ? "used" : "", cells: [placeCell(number), cell(pathWords(path), "nodes"), cell(now)] };
+  const [isUsed, isBarred] = [path === state.rib, state.barred.includes(path)];
+  const words = isUsed ? ["in use"] : isOffered(path, state.rows) ? ["offered"] : [];
+  const now = [...words, ...(isBarred ? ["forbidden"] : [])].join(", ");
+  const nodes = cell(pathWords(path), isBarred ? "nodes barred" : "nodes");
+  return { look: isUsed ? "used" : "", cells: [placeCell(number), nodes, cell(now)] };
 }
 
 function peerRow([peer, delay, isUp, session, heard]) {

@@ -9,4 +9,4 @@ pub returns-in-Err : goal.returns-in-Err
 returns-in-Err c =
     let net : Net = c.args.instance.now in
     let path = c.args.path in
-    refused c.add_path.result _ _ (path_fault net path) (Paths (record net { permitted = net.permitted ++ path ∷ [] })) c.in-Err.is c.rule_fault.ensures c.add_path.ensures.rule
+    λ version. refused c.add_path.result _ _ (path_fault net path) (Paths version (record net { permitted = net.permitted ++ path ∷ [] })) c.in-Err.is c.rule_fault.ensures c.add_path.ensures.rule

@@ -1,5 +1,6 @@
 use Rattle.std.proofs.Common.{[], ◌∷◌, ◌++◌, length}
 use Rattle.tw_model.specs.Rules.{scene_fault}
+use Rattle.tw_model.specs.declared.limits.TheConstants.{LATEST_VERSION}
 use Rattle.tw_text.specs.declared.draft.Draft.TheVariants.{Scenes}
 use Rattle.tw_text.proofs.Adding.{refused}
 use Rattle.tw_text.proofs.draft.with_scene.Goals as goal
@@ -8,5 +9,5 @@ pub returns-in-Err : goal.returns-in-Err
 returns-in-Err c =
     let case = c.args.case in
     let fault = scene_fault case.net (length case.scenes) c.args.scene in
-    let next = Scenes (record case { scenes = case.scenes ++ c.args.scene ∷ [] }) in
+    let next = Scenes c.args.version (record case { version = LATEST_VERSION; scenes = case.scenes ++ c.args.scene ∷ [] }) in
     refused c.add.result _ _ fault next c.in-Err.is c.rule_fault.ensures c.add.ensures.rule

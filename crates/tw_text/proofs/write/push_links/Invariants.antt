@@ -7,5 +7,5 @@ use Rattle.tw_text.proofs.write.push_links.Given as goal
 
 abbrev pub invariant-loop-link : goal.invariant-loop-link
 invariant-loop-link l =
-    string_bytes l.text ++ flat_map (λ l. ended_line (line_of (link_line l))) (drop l.link-index l.links)
-    ≡ string_bytes l.initial.text ++ flat_map (λ l. ended_line (line_of (link_line l))) l.links
+    string_bytes l.text ++ flat_map (λ k. ended_line (line_of l.version (link_line k))) (drop l.link-index l.links)
+    ≡ string_bytes l.initial.text ++ flat_map (λ k. ended_line (line_of l.version (link_line k))) l.links

@@ -18,6 +18,6 @@ invariant_of-self-2 c =
     let count = c.len-count.ensures ∙ a.scenario.ok.0 in
     let fault = sym c.scene_fault.ensures ∙ c.in_default.is in
     let pushed = c.push_reserved.ensures.items ∙ ap (λ ss. ss ++ scene ∷ []) c.in_ok-reserve.ensures.items in
-    let more = with_scene a.instance a.scenario.items c.push_reserved.new.self.items a.opening.items c.add.new.events.items c.len-count.result _ scene
+    let more = with_scene a.version a.instance a.scenario.items c.push_reserved.new.self.items a.opening.items c.add.new.events.items c.len-count.result _ scene
     c.self.invariant.case c.self.invariant.opening count fault refl pushed c.in_ok-add.ensures.ok in
     record { case = more.case; opening = more.opening }

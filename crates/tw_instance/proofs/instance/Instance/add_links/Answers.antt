@@ -9,7 +9,7 @@ use Rattle.tw_instance.proofs.Told.{Covers, covers_after, covers_end, covers_her
 use Rattle.tw_instance.proofs.instance.Instance.add_links.Goals as goal
 
 abbrev none : ALink
-none = record { first = 0; second = 0; delay = 0 }
+none = record { first = 0; second = 0; delay = 0; back = 0 }
 
 pub returns-in-Err-clause-told : goal.returns-in-Err-clause-told
 returns-in-Err-clause-told c =

@@ -25,9 +25,9 @@ loop-number-preserved c =
     let now = c.loop-number.builder in
     let added = c.in_ok-add_router.ensures.ok in
     let router = c.router-router.ensures.value in
-    let read : ◌≡◌ {A = RouterShape} (record { rib = c.rib.result; rows = c.rows.result.now; order = c.order.result.now }) (bare c.router-router.result.now.state)
-    = λ i. record { rib = c.rib.ensures.value i; rows = c.rows.ensures.value i; order = c.order.ensures.value i } in
-    let shape : ◌≡◌ {A = RouterShape} (record { rib = c.rib.result; rows = c.rows.result.now; order = c.order.result.now }) (bare (known n))
+    let read : ◌≡◌ {A = RouterShape} (record { rib = c.rib.result; rows = c.rows.result.now; order = c.order.result.now; barred = c.barred.result.now }) (bare c.router-router.result.now.state)
+    = λ i. record { rib = c.rib.ensures.value i; rows = c.rows.ensures.value i; order = c.order.ensures.value i; barred = c.barred.ensures.value i } in
+    let shape : ◌≡◌ {A = RouterShape} (record { rib = c.rib.result; rows = c.rows.result.now; order = c.order.result.now; barred = c.barred.result.now }) (bare (known n))
     = read ∙ ap (λ r. bare r.state) router in
     let sent : c.counters-sent.result.sent ≡ (known n).counters.sent = ap (λ k. k.sent) c.counters-sent.ensures.value ∙ ap (λ r. r.state.counters.sent) router in
     record {

@@ -1,4 +1,4 @@
-use Rattle.std.proofs.Common.{length, slice_get, ap, sym, ◌∙◌}
+use Rattle.std.proofs.Common.{slice_get, ap, sym, ◌∙◌}
 use Rattle.std.specs.Option.{option_copied}
 use Rattle.tw_queue.specs.InOrder.{least_with}
 use Rattle.tw_queue.proofs.Released.{no_length}

@@ -10,11 +10,12 @@ invariant_of-self c =
     let a = c.self.inside in
     let again = take-written a.ranks.len c.refresh_slot.new.ranks a.ranks.items (sym (c.refresh_slot.auto.ranks ∙ c.deref_mut.ensures.len))
     ∙ (c.refresh_slot.ensures
-    ∙ (ap (λ ranks. set ranks c.args.slot (rank c.args.instance.now a.node c.deref.result.now c.row-row.result)) c.deref_mut.ensures.value
-    ∙ ranks_set_again (record { net = a.instance.now; node = a.node; state = record { rib = a.rib; rows = a.rows.items; order = a.order.items; counters = a.counters } })
+    ∙ (ap (λ ranks. set ranks c.args.slot (rank c.args.instance.now a.node c.deref.result.now c.deref-2.result.now c.row-row.result)) c.deref_mut.ensures.value
+    ∙ ranks_set_again (record { net = a.instance.now; node = a.node; state = record { rib = a.rib; rows = a.rows.items; order = a.order.items; barred = a.barred.items; counters = a.counters } })
     a.ranks.items c.args.slot c.row-row.result _ c.self.invariant.ranks
     (c.row-row.ensures.value ∙ ap (λ (x : ARouter). row x.state c.args.slot) (sym c.self.view_is))
-    (ap₂ (λ net order. rank net a.node order c.row-row.result) (c.requires.own ∙ ap (λ (x : ARouter). x.net) (sym c.self.view_is)) c.deref.ensures.value))) in
+    (ap (λ net. rank net a.node c.deref.result.now c.deref-2.result.now c.row-row.result) (c.requires.own ∙ ap (λ (x : ARouter). x.net) (sym c.self.view_is))
+    ∙ ap₂ (λ order barred. rank a.instance.now a.node order barred c.row-row.result) c.deref.ensures.value c.deref-2.ensures.value))) in
     record {
       valid = c.self.invariant.valid;
       few = c.self.invariant.few;

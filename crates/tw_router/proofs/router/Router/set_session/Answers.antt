@@ -10,7 +10,7 @@ invariant_of-self c =
       valid = search rules;
       few = c.self.invariant.few;
       ranks = c.self.invariant.ranks
-          ∙ sym (map-set_same (rank a.instance.now a.node a.order.items) a.rows.items c.args.slot _ _ (ap (rank a.instance.now a.node a.order.items) c.index_mut.ensures.value));
+          ∙ sym (map-set_same (rank a.instance.now a.node a.order.items a.barred.items) a.rows.items c.args.slot _ _ (ap (rank a.instance.now a.node a.order.items a.barred.items) c.index_mut.ensures.value));
       greatest = c.self.invariant.greatest;
       order = c.self.invariant.order;
     }

@@ -28,14 +28,16 @@ invariant_of-self c =
           order = grind (arith, elements, s.order);
           distinct = subst (AllPairs (λ (p q : PathNo). p ≢ q)) (sym c.swap.ensures.items)
               (distinct-swap c.self.inside.order.items (c.args.first - 1) (c.args.second - 1) (omega arith) (omega arith) s.distinct);
+          barred = s.barred;
           counters = s.counters;
         };
       };
       few = subst (λ (n : ℕ). n ≤ MOST_PATHS) (sym same_length) c.self.invariant.few;
       ranks = take-written c.self.inside.ranks.len c.refresh.new.ranks c.self.inside.ranks.items (sym (c.refresh.auto.ranks ∙ c.deref_mut.ensures.len))
           ∙ (c.refresh.ensures
-          ∙ (ap₂ (λ net order. map (rank net c.self.inside.node order) c.deref-2.result.now) (c.requires.own ∙ ap (λ (x : ARouter). x.net) (sym c.self.view_is)) c.deref.ensures.value
-          ∙ ap (map (rank c.self.inside.instance.now c.self.inside.node c.swap.new.self.items)) c.deref-2.ensures.value));
-      greatest = c.best_rank-self-inside.ensures.value ∙ ap (fold max 0) c.deref-3.ensures.value;
+          ∙ (ap (λ net. map (rank net c.self.inside.node c.deref.result.now c.deref-2.result.now) c.deref-3.result.now) (c.requires.own ∙ ap (λ (x : ARouter). x.net) (sym c.self.view_is))
+          ∙ (ap₂ (λ order barred. map (rank c.self.inside.instance.now c.self.inside.node order barred) c.deref-3.result.now) c.deref.ensures.value c.deref-2.ensures.value
+          ∙ ap (map (rank c.self.inside.instance.now c.self.inside.node c.swap.new.self.items c.self.inside.barred.items)) c.deref-3.ensures.value)));
+      greatest = c.best_rank-self-inside.ensures.value ∙ ap (fold max 0) c.deref-4.ensures.value;
       order = λ h. cc;
     }
