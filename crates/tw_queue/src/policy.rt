@@ -11,8 +11,8 @@ pub(crate) fn is_full(events: usize, receivers: usize) -> bool {
     events >= FEWEST_EVENTS && events >= receivers / RECEIVERS_FOR_ONE_EVENT
 }
 
-// With so many events a router's queue takes to buckets.
-const MANY_EVENTS: usize = 32;
+// With so many events a router's queue takes to buckets; with fewer the buckets, which stand apart in memory, cost more time than one list.
+const MANY_EVENTS: usize = 256;
 
 /// Whether so many events of a router stand best in one list in order.
 pub(crate) fn are_few(events: usize) -> bool {

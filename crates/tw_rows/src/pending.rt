@@ -78,7 +78,7 @@ fn an_event_is_counted_as_often_as_it_was_inserted(rt: HostRuntime) {
 }
 
 /// How many events of one router make its queue take to buckets, and more.
-const MANY: u64 = 40;
+const MANY: u64 = 300;
 
 /// Inserts many events of router 1, all at the first tick.
 fn insert_many(pending: &mut Pending) -> Result<(), AllocError>
@@ -136,7 +136,7 @@ fn scatter(pending: &mut Pending, events: &mut Vec<Event>) -> Result<(), AllocEr
     requires { pending.old.routers ≡ 3 }
     ensures { pending.new.routers ≡ 3 }
 {
-    for seq in 0..200 {
+    for seq in 0..600 {
         let event = offer(seq * 769 % 3079, 1, seq);
         insert(pending, event)?;
         push(events, event)?;
