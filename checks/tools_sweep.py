@@ -247,7 +247,7 @@ exec "$TWARP" "$@"
             CASES / "disagree.spp",
         ]
         self.assertRegex(
-            tool("sweep", *words).err, r"^sweep: 30 of 30 runs, \d+ a second, .* in all\n$"
+            tool("sweep", *words).err, r"^sweep: 30 of 30 runs, [\d,]+ a second, .* in all\n$"
         )
         here, there = pty.openpty()
         with open(here, "rb", buffering=0) as terminal, open(os.devnull, "wb") as nothing:
