@@ -56,6 +56,8 @@ pub enum CommandLine {
         /// As of `Run`.
         lazy: bool,
     },
+    /// The text of a case in the latest version.
+    Upgrade,
 }
 
 /// The command line that the parser's matches stand for.
@@ -70,6 +72,7 @@ pub(crate) fn command_line_of(matches: &ArgMatches<'_>) -> CommandLine
         "run" => run_of(given),
         "trail" => trail_of(given),
         "replay" => replay_of(given),
+        "upgrade" => CommandLine::Upgrade,
         _ => unreachable!(),
     }
 }
