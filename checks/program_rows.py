@@ -15,7 +15,7 @@ SEQ = ["seq", "--stop", "20", "--log"]
 RUN = ["run", "--stop", "20", "--log", "--workers", "2"]
 TRAIL = ["trail", "--router", "1", "--stop", "20", "--keep", "0"]
 REPLAY = ["replay", "--stop", "20", "--workers", "2"]
-COMMANDS = [["check"], SEQ, RUN, TRAIL, REPLAY]
+COMMANDS = [["check"], SEQ, RUN, TRAIL, REPLAY, ["upgrade"]]
 
 # What a line of the help begins with, for each command.
 HELP = {
@@ -26,6 +26,7 @@ HELP = {
         "  run ",
         "  trail ",
         "  replay ",
+        "  upgrade ",
         "Exit status:",
         "  0  ",
         "  1  ",
@@ -58,6 +59,7 @@ HELP = {
         "      --lazy",
         "Exit status:",
     ],
+    "upgrade": ["Usage: twarp upgrade", "Exit status:"],
 }
 
 # What the help of a command says somewhere: the ranges of its numbers, and what they are where no
@@ -149,6 +151,7 @@ BAD_LINES: dict[str, Sequence[Word]] = {
     "an unknown option": ["seq", "--stop", "20", "--loud"],
     "another command's option": ["check", "--stop", "20"],
     "a word too many": ["check", "case"],
+    "an option of a command that has none": ["upgrade", "--stop", "20"],
     "an option given twice": ["seq", "--stop", "20", "--stop", "20"],
     "an option without its number": ["seq", "--stop"],
     "no stop": ["seq", "--log"],

@@ -66,6 +66,7 @@ LINES = (
     ["trail", "--router", "3", "--stop", "20", "--keep", "0"],
     ["replay", "--stop", "20"],
     ["replay", "--stop", "20", "--workers", "3"],
+    ["upgrade"],
     ["seq", "--stop", "20", "--every", "1"],
     ["run", "--stop", "20", "--every", "1", "--workers", "2"],
     ["run", "--stop", "20", "--log", "--workers", "2"],
