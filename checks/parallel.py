@@ -31,7 +31,7 @@ from common import (
 from at_scale import gadgets, hierarchy, mesh
 from twarp_tools.case import BarScene, Case, Link
 
-WORKERS = (1, 2, 3, 4, 8, 16)
+WORKERS = (1, 2, 3, 4, 8, 64)
 BATCHES = (1, 64, 4096)
 
 # What undone events have sent is taken back at once, or as late as may be.

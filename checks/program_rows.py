@@ -15,7 +15,7 @@ SEQ = ["seq", "--stop", "20", "--log"]
 RUN = ["run", "--stop", "20", "--log", "--workers", "2"]
 TRAIL = ["trail", "--router", "1", "--stop", "20", "--keep", "0"]
 REPLAY = ["replay", "--stop", "20", "--workers", "2"]
-COMMANDS = [["check"], SEQ, RUN, TRAIL, REPLAY]
+COMMANDS = [["check"], SEQ, RUN, TRAIL, REPLAY, ["upgrade"]]
 
 # What a line of the help begins with, for each command.
 HELP = {
@@ -26,6 +26,7 @@ HELP = {
         "  run ",
         "  trail ",
         "  replay ",
+        "  upgrade ",
         "Exit status:",
         "  0  ",
         "  1  ",
@@ -58,15 +59,16 @@ HELP = {
         "      --lazy",
         "Exit status:",
     ],
+    "upgrade": ["Usage: twarp upgrade", "Exit status:"],
 }
 
 # What the help of a command says somewhere: the ranges of its numbers, and what they are where no
 # number is given.
 RANGES = {
     "seq": ["1 to 1000000000"],
-    "run": ["1 to 1000000000", "1 to 16, and 4", "1 to 4096, or else 64"],
+    "run": ["1 to 1000000000", "1 to 64, and 4", "1 to 4096, or else 64"],
     "trail": ["0 to 1023", "1 to 1000000000", "0 to 1000000000"],
-    "replay": ["1 to 1000000000", "1 to 16"],
+    "replay": ["1 to 1000000000", "1 to 64"],
 }
 
 # The beginning of a case, of six lines, in each version.
@@ -149,6 +151,7 @@ BAD_LINES: dict[str, Sequence[Word]] = {
     "an unknown option": ["seq", "--stop", "20", "--loud"],
     "another command's option": ["check", "--stop", "20"],
     "a word too many": ["check", "case"],
+    "an option of a command that has none": ["upgrade", "--stop", "20"],
     "an option given twice": ["seq", "--stop", "20", "--stop", "20"],
     "an option without its number": ["seq", "--stop"],
     "no stop": ["seq", "--log"],
@@ -164,11 +167,11 @@ BAD_LINES: dict[str, Sequence[Word]] = {
     "a keep past its limit": ["trail", "--router", "1", "--stop", "20", "--keep", "1000000001"],
     "no stop of a replay": ["replay", "--workers", "2"],
     "no worker": ["replay", "--stop", "20", "--workers", "0"],
-    "a worker too many": ["replay", "--stop", "20", "--workers", "17"],
+    "a worker too many": ["replay", "--stop", "20", "--workers", "65"],
     "a replay that is to be logged": ["replay", "--stop", "20", "--log"],
     "no stop of a run": ["run", "--workers", "2"],
     "a run by no worker": ["run", "--stop", "20", "--workers", "0"],
-    "a run by a worker too many": ["run", "--stop", "20", "--workers", "17"],
+    "a run by a worker too many": ["run", "--stop", "20", "--workers", "65"],
     "a batch of 0": ["run", "--stop", "20", "--batch", "0"],
     "a batch past its limit": ["run", "--stop", "20", "--batch", "4097"],
     "a batch of one thread": ["seq", "--stop", "20", "--batch", "64"],
@@ -221,11 +224,11 @@ def answers() -> Iterator[Row]:
         [],
         ["--workers", "1"],
         ["--workers", "3", "--batch", "1"],
-        ["--workers", "16", "--batch", "4096"],
+        ["--workers", "64", "--batch", "4096"],
     ):
         words = ["run", "--stop", "20", "--log", *more]
         yield row(name_of(words), words, DISAGREE, 0, report)
-    for count in "1", "2", "16":
+    for count in "1", "2", "64":
         words = ["replay", "--stop", "20", "--workers", count]
         yield row(name_of(words), words, STRAGGLER, 0, replayed)
 

@@ -18,7 +18,7 @@ so do its help and a line that it does not accept. Refused memory must end it wi
 line `stopped memory`, or `stopped thread` where a thread needed it, with nothing on standard
 output; or, where the standard library then asks for less and gets it, it must end as it does with
 all its memory. Of a run by one worker the allocation that starts its thread is the only one that
-may be told as a refused thread. Of runs by 1 to 16 workers each thread is refused in turn.
+may be told as a refused thread. Of runs by 1 to 64 workers each thread is refused in turn.
 """
 from __future__ import annotations
 
@@ -66,6 +66,7 @@ LINES = (
     ["trail", "--router", "3", "--stop", "20", "--keep", "0"],
     ["replay", "--stop", "20"],
     ["replay", "--stop", "20", "--workers", "3"],
+    ["upgrade"],
     ["seq", "--stop", "20", "--every", "1"],
     ["run", "--stop", "20", "--every", "1", "--workers", "2"],
     ["run", "--stop", "20", "--log", "--workers", "2"],
@@ -171,7 +172,7 @@ def refuse_in_all(tests: dict[str, Path], tally: Tally) -> int:
         for line in LINES:
             jobs[name_of(line)] = pool.submit(refuse_in_program, refuser, line)
         jobs["what is told as a refused thread"] = pool.submit(refuse_start, refuser)
-        for workers in (1, 2, 5, 16):
+        for workers in (1, 2, 5, 64):
             name = f"{name_of(run_by(workers))} with each thread refused"
             jobs[name] = pool.submit(refuse_threads, refuser, workers)
         for name, job in jobs.items():

@@ -18,6 +18,7 @@ OPTIONS = {
     "run": {"--stop", "--every", "--log", "--workers", "--batch", "--lazy"},
     "trail": {"--router", "--stop", "--keep"},
     "replay": {"--stop", "--workers", "--lazy"},
+    "upgrade": set(),
 }
 HELP = {"-h", "--help"}
 TOOLS = ("relationships", "import", "draw", "timeline", "page", "sweep")

@@ -1,16 +1,16 @@
 -- The paths that a replay shows are paths of its instance.
-use Rattle.std.proofs.Common.{◌≡◌, ℕ, ◌<◌, ◌==◌, true, List, refl, sym, subst, [], flat_map, nat_lt, arith}
+use Rattle.std.proofs.Common.{◌≡◌, ℕ, ◌<◌, ◌==◌, true, List, sym, subst, [], flat_map, nat_lt, arith}
 use Rattle.std.specs.List.{range_with_len}
 use Rattle.std.proofs.lemmas.Bool.{and_parts}
 use Rattle.tw_commands.proofs.RunPaths.{names_path}
 use Rattle.tw_commands.specs.Replay.{committed_of, replayed}
 use Rattle.tw_core.specs.Good.{IsGood}
-use Rattle.tw_core.specs.Machine.{Core, IsOpening, committed}
+use Rattle.tw_core.specs.Machine.{Core, committed}
 use Rattle.tw_core.specs.Steps.{run}
 use Rattle.tw_core.proofs.Steps.{good_opening, run_keeps}
 use Rattle.tw_event.specs.declared.event.Event.{Event}
 use Rattle.tw_event.proofs.Order.{same_is, same_self}
-use Rattle.tw_model.specs.Case.{Case, IsCase, opening_events, simulation}
+use Rattle.tw_model.specs.Case.{Case, IsCase, simulation}
 use Rattle.tw_model.specs.Effect.{body_suits, suits}
 use Rattle.tw_model.specs.Net.{Net, IsPath}
 use Rattle.tw_model.proofs.Lawful.{lawful}

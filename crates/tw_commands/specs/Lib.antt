@@ -5,3 +5,4 @@ pub mod Check
 pub mod Seq
 pub mod Trail
 pub mod Replay
+pub mod Upgrade

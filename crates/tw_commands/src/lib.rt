@@ -1,5 +1,5 @@
-//! The programs `check`, `seq`, `trail` and `replay` as calls: each reads a case, `replay` with steps
-//! behind it, from any source, does its work and writes its answer to any sink.
+//! The programs `check`, `seq`, `trail`, `replay` and `upgrade` as calls: each reads a case, `replay` with
+//! steps behind it, from any source, does its work and writes its answer to any sink.
 //!
 //! A program is a `Command`: what it reads, what it writes for that, and how it ends then. `answer_io` is
 //! the one way from input to answer. Proved, for sources and sinks that tell their bytes: what is written is exactly
@@ -19,6 +19,7 @@ mod replay;
 mod seq;
 mod trail;
 mod trail_page;
+mod upgrade;
 
 pub use cause::{Cause, Status};
 pub use check::check_io;
@@ -28,3 +29,4 @@ pub use refusal::refuse;
 pub use replay::replay_io;
 pub use seq::{run_on_one_thread, seq_io};
 pub use trail::trail_io;
+pub use upgrade::upgrade_io;

@@ -28,7 +28,7 @@ pub const MOST_COUNTED: u64 = 1 << 48;
 pub const WINDOW: usize = 64;
 
 /// How many workers a machine's routers are dealt out to at most.
-pub const MOST_WORKERS: u32 = 16;
+pub const MOST_WORKERS: u32 = 64;
 
 /// How many steps a step text has at most.
 pub const MOST_STEPS: usize = 1_000_000;

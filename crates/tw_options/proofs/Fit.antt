@@ -15,7 +15,7 @@ use Rattle.clap.specs.Walk.{Row, Rule, Text, Walk, answers_to, finished, nothing
 use Rattle.clap.specs.Words.{HasMatchesOf, fault_of, subcommand_of, subcommand_rows_of}
 use Rattle.clap.specs.declared.parser.matches.ArgMatches.{ArgMatches}
 use Rattle.tw_model.specs.declared.limits.TheConstants.{LATEST, MOST_ROUTERS, MOST_WORKERS}
-use Rattle.tw_options.specs.App.{check_app, number_rule, replay_app, run_app, seq_app, trail_app, twarp_app}
+use Rattle.tw_options.specs.App.{check_app, number_rule, replay_app, run_app, seq_app, trail_app, twarp_app, upgrade_app}
 use Rattle.tw_options.specs.declared.number.TheConstants.{MOST_BATCH}
 use Rattle.tw_options.specs.declared.command_line.CommandLine.{CommandLine}
 use Rattle.tw_options.specs.Says.{Says}
@@ -29,10 +29,10 @@ leaf s = built_leaf (inherited (with_leaf_noted (marked_built twarp_app.top)) s)
 
 abbrev IsOurs : Shape → Type 0
 IsOurs s =
-    (s ≡ leaf check_app.top) ⊎ ((s ≡ leaf seq_app.top) ⊎ ((s ≡ leaf run_app.top) ⊎ ((s ≡ leaf trail_app.top) ⊎ ((s ≡ leaf replay_app.top) ⊎ (s ≡ built_leaf help_shape)))))
+    (s ≡ leaf check_app.top) ⊎ ((s ≡ leaf seq_app.top) ⊎ ((s ≡ leaf run_app.top) ⊎ ((s ≡ leaf trail_app.top) ⊎ ((s ≡ leaf replay_app.top) ⊎ ((s ≡ leaf upgrade_app.top) ⊎ (s ≡ built_leaf help_shape))))))
 
 all_ours : AllByRecursion IsOurs (built twarp_app).subs
-all_ours = (inl refl, (inr (inl refl), (inr (inr (inl refl)), (inr (inr (inr (inl refl))), (inr (inr (inr (inr (inl refl)))), (inr (inr (inr (inr (inr refl)))), tt))))))
+all_ours = (inl refl, (inr (inl refl), (inr (inr (inl refl)), (inr (inr (inr (inl refl))), (inr (inr (inr (inr (inl refl)))), (inr (inr (inr (inr (inr (inl refl))))), (inr (inr (inr (inr (inr (inr refl))))), tt)))))))
 
 -- an option, as the parser builds it
 abbrev option_rule : Text → Bool → ℕ → ℕ → Rule
@@ -192,13 +192,21 @@ leaf_fit p s ours named other f = elim ours [
       })
   | inr (inr (inr (inr (inl is)))) ↦ subst (λ (x : Shape). Fits x.name (rows_after x.rules [] p.1)) (sym is)
       (record {
-        known = inr (inr (inr (inr refl)));
+        known = inr (inr (inr (inr (inl refl))));
         seq = λ e. absurd (differ (codes "replay") (codes "seq") refl e);
         run = λ e. absurd (differ (codes "replay") (codes "run") refl e);
         trail = λ e. absurd (differ (codes "replay") (codes "trail") refl e);
         replay = λ e. replay_level p.1 (subst (λ (x : Shape). level_fault x [] nothing_held p.1 false [] ≡ []) is f);
       })
-  | inr (inr (inr (inr (inr is)))) ↦
+  | inr (inr (inr (inr (inr (inl is))))) ↦ subst (λ (x : Shape). Fits x.name (rows_after x.rules [] p.1)) (sym is)
+      (record {
+        known = inr (inr (inr (inr (inr refl))));
+        seq = λ e. absurd (differ (codes "upgrade") (codes "seq") refl e);
+        run = λ e. absurd (differ (codes "upgrade") (codes "run") refl e);
+        trail = λ e. absurd (differ (codes "upgrade") (codes "trail") refl e);
+        replay = λ e. absurd (differ (codes "upgrade") (codes "replay") refl e);
+      })
+  | inr (inr (inr (inr (inr (inr is))))) ↦
       let help : answers_to p.0 (label_of (built_leaf help_shape)) ≡ true = subst (λ (x : Shape). answers_to p.0 (label_of x) ≡ true) is named in
       absurd (not_both p.0 help other)
 ]

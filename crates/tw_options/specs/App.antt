@@ -76,6 +76,10 @@ trail_app = with_rule (with_rule (with_rule (new_app (codes "trail")) router_rul
 abbrev pub replay_app : App
 replay_app = with_rule (with_rule (with_rule (new_app (codes "replay")) stop_rule) workers_rule) lazy_rule
 
+-- `twarp upgrade`
+abbrev pub upgrade_app : App
+upgrade_app = new_app (codes "upgrade")
+
 -- `twarp`, which asks for a subcommand, and has a version that it tells at `--version` and `-V`
 abbrev pub top_app : App
 top_app = let a = new_app (codes "twarp") in record a { top = record a.top { subcommand_required = true; has_version = true } }
@@ -86,4 +90,4 @@ report_app = with_subcommand (with_subcommand (with_subcommand top_app check_app
 
 -- `twarp` with its subcommands
 abbrev pub twarp_app : App
-twarp_app = with_subcommand (with_subcommand report_app trail_app.top) replay_app.top
+twarp_app = with_subcommand (with_subcommand (with_subcommand report_app trail_app.top) replay_app.top) upgrade_app.top

@@ -38,7 +38,7 @@ pub record HasReplay (rows : List Row) : Type 0 where
 
 -- a subcommand of ours was matched, with each option that it requires
 pub record Fits (name : Text) (rows : List Row) : Type 0 where
-  pub known : (name ≡ codes "check") ⊎ ((name ≡ codes "seq") ⊎ ((name ≡ codes "run") ⊎ ((name ≡ codes "trail") ⊎ (name ≡ codes "replay"))))
+  pub known : (name ≡ codes "check") ⊎ ((name ≡ codes "seq") ⊎ ((name ≡ codes "run") ⊎ ((name ≡ codes "trail") ⊎ ((name ≡ codes "replay") ⊎ (name ≡ codes "upgrade")))))
   pub seq : name ≡ codes "seq" → HasSeq rows
   pub run : name ≡ codes "run" → HasRun rows
   pub trail : name ≡ codes "trail" → HasTrail rows

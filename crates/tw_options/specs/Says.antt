@@ -5,7 +5,7 @@ use Rattle.clap.specs.Words.{Row, Text, one_of}
 use Rattle.tw_model.specs.declared.limits.TheConstants.{LATEST, MOST_ROUTERS, MOST_WORKERS}
 use Rattle.tw_options.specs.declared.number.TheConstants.{MOST_BATCH}
 use Rattle.tw_options.specs.declared.command_line.CommandLine.{CommandLine}
-use Rattle.tw_options.specs.declared.command_line.CommandLine.TheVariants.{Check, Seq, Run, Trail, Replay}
+use Rattle.tw_options.specs.declared.command_line.CommandLine.TheVariants.{Check, Seq, Run, Trail, Replay, Upgrade}
 
 -- n is the number given for the option id: its text is a decimal numeral for n, and n lies in the bounds
 pub record IsNumberGiven (id : Text) (least most : ℕ) (rows : List Row) (n : ℕ) : Type 0 where
@@ -47,3 +47,4 @@ Says (Some found) (Trail router stop keep) =
 Says (Some found) (Replay stop workers lazy) =
     (found.0 ≡ codes "replay") × IsNumberGiven (codes "stop") 1 LATEST found.1 stop
     × IsNumberOr (codes "workers") 1 MOST_WORKERS 1 found.1 workers × Sets (codes "lazy") found.1 lazy
+Says (Some found) Upgrade = found.0 ≡ codes "upgrade"

@@ -3,7 +3,7 @@
 ghost use Rattle.std.specs.Prelude.{IfOk, ◌≡◌, false};
 ghost use Rattle.clap.specs.Words.{app_of, rule_of};
 ghost use Rattle.clap.specs.declared.builder.command.Command.TheViews.{out-Command as fields_of};
-ghost use Rattle.tw_options.specs.App.{check_app, lazy_rule, log_rule, replay_app, report_app, run_app, run_app_alone, seq_app, top_app, trail_app, twarp_app};
+ghost use Rattle.tw_options.specs.App.{check_app, lazy_rule, log_rule, replay_app, report_app, run_app, run_app_alone, seq_app, top_app, trail_app, twarp_app, upgrade_app};
 
 use crate::help;
 use crate::number::{BATCH, EVERY, KEEP, ROUTER, STOP, THREADS, WORKERS};
@@ -16,7 +16,8 @@ pub(crate) fn twarp<'a>(alloc: Global) -> Result<Command<'a>, AllocError>
 {
     reports(alloc)?
         .subcommand(trail(alloc)?)?
-        .subcommand(replay(alloc)?)
+        .subcommand(replay(alloc)?)?
+        .subcommand(upgrade(alloc))
 }
 
 /// The command with the subcommands that check a case and report its run.
@@ -134,4 +135,14 @@ fn replay<'a>(alloc: Global) -> Result<Command<'a>, AllocError>
         .arg(STOP.arg(alloc))?
         .arg(WORKERS.arg(alloc))?
         .arg(lazy(alloc))
+}
+
+fn upgrade<'a>(alloc: Global) -> Command<'a>
+    ensures app { app_of result ≡ upgrade_app }
+    ensures local { (fields_of result).has_globals ≡ false }
+{
+    Command::new(alloc, "upgrade")
+        .about(help::UPGRADE)
+        .long_about(help::UPGRADE_LONG)
+        .after_help(help::STATUSES)
 }

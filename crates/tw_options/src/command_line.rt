@@ -31,7 +31,7 @@ pub enum CommandLine {
         every: Option<u64>,
         /// Whether the report lists the events.
         log: bool,
-        /// How many workers share the routers, from 1 to 16; each is a thread.
+        /// How many workers share the routers, from 1 to 64; each is a thread.
         workers: u32,
         /// How many events a worker handles at most between two meetings, from 1 to 4,096.
         batch: u32,
@@ -51,11 +51,13 @@ pub enum CommandLine {
     Replay {
         /// From 1 to 1,000,000,000.
         stop: u64,
-        /// How many workers the routers are dealt out to, from 1 to 16.
+        /// How many workers the routers are dealt out to, from 1 to 64.
         workers: u32,
         /// As of `Run`.
         lazy: bool,
     },
+    /// The text of a case in the latest version.
+    Upgrade,
 }
 
 /// The command line that the parser's matches stand for.
@@ -70,6 +72,7 @@ pub(crate) fn command_line_of(matches: &ArgMatches<'_>) -> CommandLine
         "run" => run_of(given),
         "trail" => trail_of(given),
         "replay" => replay_of(given),
+        "upgrade" => CommandLine::Upgrade,
         _ => unreachable!(),
     }
 }

@@ -152,6 +152,19 @@ With --stop 20 the answer is `spp-replay 1`, `step 1 ok` to `step 11 ok`, and
 Example:
   twarp replay --stop 20 --workers 2 < steps.txt";
 
+pub(crate) const UPGRADE: &str = "Writes a case in the latest version of its text";
+
+pub(crate) const UPGRADE_LONG: &str = "\
+Writes a case in the latest version of its text, `spp 2`.
+
+Reads a case text from standard input. Of a text that begins with `spp 1`, each link is written
+with its delay twice, once for each direction: `link 1 2 3` becomes `link 1 2 3 3`. All other
+lines stay, and so does every answer to the case. A text that begins with `spp 2` is written as
+it is.
+
+Example:
+  twarp upgrade < case.txt > upgraded.txt";
+
 pub(crate) const STATUSES: &str = "\
 Exit status:
   0  done

@@ -67,11 +67,11 @@ pub(crate) const WORKERS: NumberOption = NumberOption {
     is_required: false,
     least: 1,
     most: MOST_WORKERS as u64,
-    help: "How many workers the routers are dealt out to: 1 to 16, and 1 where none is given",
+    help: "How many workers the routers are dealt out to: 1 to 64, and 1 where none is given",
 };
 
 pub(crate) const THREADS: NumberOption = NumberOption {
-    help: "How many workers share the routers, each a thread: 1 to 16, and 4 where none is given",
+    help: "How many workers share the routers, each a thread: 1 to 64, and 4 where none is given",
     ..WORKERS
 };
 

@@ -11,7 +11,7 @@ use tw_queue::{EventList, HeldSends, Pending};
 use tw_router::Router;
 use tw_seq::{LoggedRun, OneThread, Running, run_watched};
 use tw_shape::{Finding, ShapeBuilder, Watch};
-use tw_text::{read_case, read_replay, read_steps, write_case};
+use tw_text::{read_case, read_replay, read_steps, upgrade, write_case};
 
 /// Whether a link, a path and a failure are added to an instance of two routers.
 fn adds_items(alloc: Global) -> bool {
@@ -46,10 +46,12 @@ fn a_case_is_built_item_by_item(rt: HostRuntime) {
     assert!(rt; adds_items(rt.alloc()));
 }
 
-/// Whether a case is read and written, and steps, a replay and a command line are read.
+/// Whether a case is read, written and upgraded, and steps, a replay and a command line are read.
 fn reads_and_writes(alloc: Global) -> bool {
     match read_case(alloc, DISAGREE.as_bytes()) {
-        Ok(case) => write_case(alloc, &case).is_ok() && reads_steps(alloc),
+        Ok(case) => {
+            write_case(alloc, &case).is_ok() && upgrade(alloc, &case).is_ok() && reads_steps(alloc)
+        }
         Err(_) => false,
     }
 }

@@ -28,13 +28,13 @@ fn numbers_left_out_or_out_of_range_are_refused(rt: HostRuntime) {
         ],
         &["twarp", "run", "--workers", "2"],
         &["twarp", "run", "--stop", "20", "--workers", "0"],
-        &["twarp", "run", "--stop", "20", "--workers", "17"],
+        &["twarp", "run", "--stop", "20", "--workers", "65"],
         &["twarp", "run", "--stop", "20", "--batch", "0"],
         &["twarp", "run", "--stop", "20", "--batch", "4097"],
         &["twarp", "replay"],
         &["twarp", "replay", "--stop", "0"],
         &["twarp", "replay", "--stop", "20", "--workers", "0"],
-        &["twarp", "replay", "--stop", "20", "--workers", "17"],
+        &["twarp", "replay", "--stop", "20", "--workers", "65"],
     ];
     for words in refused {
         assert!(rt;
@@ -115,9 +115,9 @@ fn a_replay_has_one_worker_where_no_number_is_given(rt: HostRuntime) {
         ),
         (&["twarp", "replay", "--lazy", "--stop", "20"], 20, 1, true),
         (
-            &["twarp", "replay", "--stop", "1000000000", "--workers", "16"],
+            &["twarp", "replay", "--stop", "1000000000", "--workers", "64"],
             1_000_000_000,
-            16,
+            64,
             false,
         ),
     ];
@@ -155,7 +155,7 @@ fn runs_by_sixteen_workers(alloc: Global) -> bool {
         "--batch",
         "4096",
         "--workers",
-        "16",
+        "64",
         "--every",
         "2",
         "--stop",
@@ -165,7 +165,7 @@ fn runs_by_sixteen_workers(alloc: Global) -> bool {
         stop: 1_000_000_000,
         every: Some(2),
         log: true,
-        workers: 16,
+        workers: 64,
         batch: 4096,
         lazy: true,
     };

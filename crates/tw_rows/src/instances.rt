@@ -1,10 +1,11 @@
 //! Instances and cases by calls, from items in place of a text.
 
-use crate::texts::{DISAGREE, FORBIDDEN_PATH};
+use crate::cases::case;
+use crate::texts::{DISAGREE, FAILURE_AND_REPAIR, FAILURE_AND_REPAIR_IN_VERSION_2, FORBIDDEN_PATH};
 use std::alloc::{AllocError, Global};
 use tw_event::{Body, Event, PathNo};
 use tw_instance::{At, Case, Instance, Item, Link, OrMemory, PermittedPath, Rule, Scene};
-use tw_text::write_case;
+use tw_text::{upgrade, write_case};
 
 /// A link between two routers, with the delay from the first to the second and the delay back.
 fn link(first: u32, second: u32, delay: u64, back: u64) -> Link {
@@ -143,6 +144,33 @@ fn is_that_of_the_text_in_version_2(alloc: Global) -> bool {
 #[test]
 fn a_case_of_version_2_is_that_of_its_text(rt: HostRuntime) {
     assert!(rt; is_that_of_the_text_in_version_2(rt.alloc()));
+}
+
+/// Whether the case of a text is upgraded to one of version 2 that is written as this one.
+fn is_upgraded_to(alloc: Global, text: &str, due: &str) -> bool {
+    let Ok(given) = case(alloc, text) else {
+        return false;
+    };
+    match upgrade(alloc, &given).or_else(|_| upgrade(alloc, &given)) {
+        Ok(upgraded) => is_written_as(alloc, &upgraded, 2, due),
+        Err(_) => false,
+    }
+}
+
+#[test]
+fn a_case_with_failures_is_upgraded(rt: HostRuntime) {
+    assert!(rt;
+        is_upgraded_to(
+            rt.alloc(),
+            FAILURE_AND_REPAIR,
+            FAILURE_AND_REPAIR_IN_VERSION_2
+        )
+    );
+}
+
+#[test]
+fn a_case_of_the_latest_version_is_upgraded_to_itself(rt: HostRuntime) {
+    assert!(rt; is_upgraded_to(rt.alloc(), FORBIDDEN_PATH, FORBIDDEN_PATH));
 }
 
 /// Whether the paths of DISAGREE have the numbers that their nodes give them.

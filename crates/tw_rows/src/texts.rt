@@ -62,6 +62,19 @@ restore 5 1 2
 end
 ";
 
+/// The same case in version 2.
+pub const FAILURE_AND_REPAIR_IN_VERSION_2: &str = "\
+spp 2
+nodes 3
+link 0 1 3 3
+link 1 2 3 3
+path 1 1 0
+path 2 2 1 0
+fail 4 1 2
+restore 5 1 2
+end
+";
+
 /// DISAGREE with an exchange of ranks at router 1 at time 8.
 pub const RANK_EXCHANGE: &str = "\
 spp 1

@@ -23,3 +23,4 @@ pub mod ReplayTold
 pub mod Digits
 pub mod PathLines
 pub mod FirstBytes
+pub mod Judged

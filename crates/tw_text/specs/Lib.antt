@@ -10,3 +10,4 @@ pub mod Text
 pub mod StepText
 pub mod ReplayText
 pub mod PathLine
+pub mod Upgraded

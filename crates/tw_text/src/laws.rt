@@ -1,14 +1,16 @@
 //! Laws over the definitions alone.
 
 ghost use Rattle.std.specs.Prelude.{◌≡◌, ◌↔◌, ℕ, List, Ok, Err};
-ghost use Rattle.tw_model.specs.Case.{Case, IsCase};
+ghost use Rattle.tw_model.specs.Case.{Case, IsCase, simulation};
 ghost use Rattle.tw_sim.specs.declared.machine.Step.{Step};
+ghost use Rattle.tw_sim.specs.Seq.{at, log, rest};
 ghost use Rattle.tw_model.specs.declared.rule.Rule.TheVariants.{Version};
 ghost use Rattle.tw_text.specs.declared.text_fault.LineFault.TheVariants as LineFault;
 ghost use Rattle.tw_text.specs.Reading.{case_of, fault_at};
 ghost use Rattle.tw_text.specs.ReplayText.{replay_of, text_of_replay};
 ghost use Rattle.tw_text.specs.StepText.{HasText, steps_of, text_of_steps};
 ghost use Rattle.tw_text.specs.Text.{text_of_case};
+ghost use Rattle.tw_text.specs.Upgraded.{upgraded};
 
 /// A text is read as a case exactly where the case keeps the rules and this is its text.
 pub fn case_of_text()
@@ -40,4 +42,13 @@ pub fn one_text_of_steps()
 /// the steps.
 pub fn replay_of_text()
     ensures { (text : List ℕ) (c : Case) (steps : List Step) → (replay_of text ≡ Ok (c, steps)) ↔ (IsCase c × HasText steps × (text ≡ text_of_replay c steps)) }
+{}
+
+/// A case in the latest version keeps the rules, and its run to each time is that of the case: the same
+/// events are handled and left pending, and every router has the same state.
+pub fn upgrading_keeps_the_run()
+    ensures rules { (c : Case) → IsCase c → IsCase (upgraded c) }
+    ensures log { (c : Case) (t : ℕ) → log (simulation (upgraded c)) t ≡ log (simulation c) t }
+    ensures at { (c : Case) (t r : ℕ) → at (simulation (upgraded c)) t r ≡ at (simulation c) t r }
+    ensures rest { (c : Case) (t : ℕ) → rest (simulation (upgraded c)) t ≡ rest (simulation c) t }
 {}

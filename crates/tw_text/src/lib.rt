@@ -25,6 +25,7 @@ mod replay_text;
 mod step_list;
 mod step_text;
 mod text_fault;
+mod upgrading;
 mod words;
 mod write;
 
@@ -32,4 +33,5 @@ pub use read::read_case;
 pub use replay_text::read_replay;
 pub use step_text::read_steps;
 pub use text_fault::{LineFault, TextFault};
+pub use upgrading::upgrade;
 pub use write::write_case;

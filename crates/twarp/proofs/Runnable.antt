@@ -4,7 +4,7 @@ use Rattle.std.specs.Prelude.{IfSome}
 use Rattle.clap.specs.Words.{Row, Text}
 use Rattle.tw_model.specs.declared.limits.TheConstants.{LATEST}
 use Rattle.tw_options.specs.declared.command_line.CommandLine.{CommandLine}
-use Rattle.tw_options.specs.declared.command_line.CommandLine.TheVariants.{Check, Seq, Run, Trail, Replay}
+use Rattle.tw_options.specs.declared.command_line.CommandLine.TheVariants.{Check, Seq, Run, Trail, Replay, Upgrade}
 use Rattle.tw_options.specs.Says.{IsNumberIfGiven, IsNumberOr, Says}
 use Rattle.twarp.specs.Due.{IsRunnable}
 
@@ -23,3 +23,4 @@ runnable (Some f) (Seq stop every log) h = (h.1.high, every_in _ f.1 every h.2)
 runnable (Some f) (Run stop every log workers batch lazy) h = (h.1.high, every_in _ f.1 every h.2, some_in _ _ _ f.1 workers (omega arith) h.4)
 runnable (Some f) (Trail router stop keep) h = h.2.high
 runnable (Some f) (Replay stop workers lazy) h = (h.1.high, some_in _ _ _ f.1 workers (omega arith) h.2)
+runnable (Some f) Upgrade h = tt

@@ -8,9 +8,10 @@ use Rattle.tw_commands.specs.Output.{Answers, Output}
 use Rattle.tw_commands.specs.Replay.{replay_output}
 use Rattle.tw_commands.specs.Seq.{GetsStuckFor, seq_output}
 use Rattle.tw_commands.specs.Trail.{TrailGetsStuck, trail_output}
+use Rattle.tw_commands.specs.Upgrade.{upgrade_output}
 use Rattle.tw_model.specs.declared.limits.TheConstants.{LATEST}
 use Rattle.tw_options.specs.declared.command_line.CommandLine.{CommandLine}
-use Rattle.tw_options.specs.declared.command_line.CommandLine.TheVariants.{Check, Seq, Run, Trail, Replay}
+use Rattle.tw_options.specs.declared.command_line.CommandLine.TheVariants.{Check, Seq, Run, Trail, Replay, Upgrade}
 use Rattle.tw_run.specs.Threaded.{LacksThread}
 use Rattle.tw_sim.specs.declared.machine.Cancel.{Cancel}
 use Rattle.tw_sim.specs.declared.machine.Cancel.TheVariants.{Aggressive, Lazy}
@@ -22,6 +23,7 @@ IsRunnable (Seq stop every log) = (stop ≤ LATEST) × IfSome every (λ n. (0 < 
 IsRunnable (Run stop every log workers batch lazy) = (stop ≤ LATEST) × IfSome every (λ n. (0 < n) × (n ≤ LATEST)) × (0 < workers)
 IsRunnable (Trail router stop keep) = stop ≤ LATEST
 IsRunnable (Replay stop workers lazy) = (stop ≤ LATEST) × (0 < workers)
+IsRunnable Upgrade = Unit {0}
 
 -- when what an undone event has sent is taken back
 abbrev pub cancel_of : Bool → Cancel
@@ -34,6 +36,7 @@ due (Seq stop every log) = seq_output stop every log
 due (Run stop every log workers batch lazy) = seq_output stop every log
 due (Trail router stop keep) = trail_output router stop keep
 due (Replay stop workers lazy) = replay_output stop (cancel_of lazy)
+due Upgrade = upgrade_output
 
 -- the exit status of a program that ended so
 abbrev pub status_number : Result Status Cause → ℕ
@@ -48,6 +51,7 @@ StopsFull (Seq stop every log) input = GetsStuckFor stop input
 StopsFull (Run stop every log workers batch lazy) input = GetsStuckFor stop input
 StopsFull (Trail router stop keep) input = TrailGetsStuck router stop input
 StopsFull (Replay stop workers lazy) input = ⊥
+StopsFull Upgrade input = ⊥
 
 -- it starts threads
 abbrev pub StartsThreads : CommandLine → Type 0
@@ -56,6 +60,7 @@ StartsThreads (Seq stop every log) = ⊥
 StartsThreads (Run stop every log workers batch lazy) = Unit {0}
 StartsThreads (Trail router stop keep) = ⊥
 StartsThreads (Replay stop workers lazy) = ⊥
+StartsThreads Upgrade = ⊥
 
 -- what the program leaves for a command line: what is due, or nothing where it starts threads and one is refused
 abbrev pub Performs : CommandLine → Result Status Cause → Option (List ℕ) → Option (List ℕ) → Option (List ℕ) → Bool → Bool → Type 0

@@ -7,7 +7,7 @@ ghost use Rattle.twarp.specs.Due.{IsRunnable, Performs, cancel_of};
 use std::alloc::Global;
 use std::sync::Wait;
 use std::thread::Threads;
-use tw_commands::{Cause, Status, check_io, replay_io, seq_io, trail_io};
+use tw_commands::{Cause, Status, check_io, replay_io, seq_io, trail_io, upgrade_io};
 use tw_device::{Sink, Source};
 use tw_options::CommandLine;
 use tw_run::run_io;
@@ -54,6 +54,7 @@ pub(crate) fn perform<X: Threads + Wait + Sync, R: Source, W: Sink>(
             workers,
             lazy,
         } => replay_io(alloc, source, sink, stop, workers, cancel_of(lazy)),
+        CommandLine::Upgrade => upgrade_io(alloc, source, sink),
     }
 }
 

@@ -18,3 +18,6 @@ returns-in-Run-clause-answer g c = elim c.run_io.ensures.answer [
   | inl told ↦ inl (rw c.in-Run.is told)
   | inr lacks ↦ inr (rw c.in-Run.is tt, lacks.0, lacks.1)
 ]
+
+pub returns-in-Upgrade-clause-answer : goal.returns-in-Upgrade-clause-answer
+returns-in-Upgrade-clause-answer g c = inl (rw c.in-Upgrade.is c.upgrade_io.ensures.answer)
