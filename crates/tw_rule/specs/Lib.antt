@@ -1,3 +1,4 @@
 pub mod Board
 pub mod Place
 pub mod Rule
+pub mod Moving

@@ -10,6 +10,7 @@ ghost use Rattle.tw_core.specs.Run.{IsAtEnd, IsSeq};
 ghost use Rattle.tw_core.specs.Steps.{IsRolledBack, after_arrival, first_pending, handle, with_commit, with_release, with_room};
 ghost use Rattle.tw_rule.specs.Board.{Board, IsBoard, IsVisit, times_among};
 ghost use Rattle.tw_rule.specs.Place.{IsFrom, IsPlace, IsRunBefore, Keeps, Place, Tells, after_visit, core, in_hand, report_time, with_core, with_unsent};
+ghost use Rattle.tw_rule.specs.Moving.{IsMoved};
 ghost use Rattle.tw_rule.specs.Rule.{AreOpeningPlaces, IsOpeningBoard, MayGive, Rule, Stands, assembled, owning};
 ghost use Rattle.tw_sim.specs.declared.machine.Signed.{Signed};
 ghost use Rattle.tw_sim.specs.Seq.{log};
@@ -108,4 +109,13 @@ pub fn mail_is_welcome<S, E>()
     ensures { (m : Simulation S E) → IsLawful m → (who : ℕ → ℕ) (x : Board E) (p q : Place E) (k : ℕ) (s : Signed E) → IsBoard m x → Stands m who x p
         → Keeps m x.stop p q → slice_get q.mail k ≡ Some s
         → (q.bound ≤ m.time s.event) × (q.owns (m.dst s.event) ≡ true) × (m.suits s.event ≡ true) }
+{}
+
+/// A router goes from one worker's place to another's with all that is its own: what it has handled, what
+/// waits for it, what is held that it has sent, and its messages in the first one's hand and in the mail.
+/// Then the rule holds of the new board and places, where that worker is named for the router.
+pub fn routers_may_move<S, E>()
+    ensures { (m : Simulation S E) → IsLawful m → (who later : ℕ → ℕ) (r i j : ℕ) (x y : Board E) (ps : List (Place E)) (p q p2 q2 : Place E) → Rule m who x ps
+        → r < m.routers → slice_get ps i ≡ Some p → slice_get ps j ≡ Some q → (p.worker ≡ q.worker → ⊥) → who r ≡ p.worker → later r ≡ q.worker
+        → ((k : ℕ) → (k ≡ r → ⊥) → later k ≡ who k) → IsMoved m r x p q y p2 q2 → Rule m later y (slice_set (slice_set ps i p2) j q2) }
 {}
