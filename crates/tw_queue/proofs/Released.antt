@@ -1,6 +1,7 @@
 -- What passes a test comes out, the first one first, and the others stay.
 use Rattle.std.proofs.Common.{◌≡◌, ◌≤◌, ◌+◌, ◌∷◌, [], suc, Bool, true, false, not, Some, None, List, drop, filter, length, slice_get}
 use Rattle.std.proofs.Common.{refl, ap, sym, ◌∙◌, subst, inl, inr, arith}
+use Rattle.std.specs.List.{AllByRecursion}
 use Rattle.std.proofs.lemmas.Bool.{cases_Bool, false≢true}
 use Rattle.std.proofs.lemmas.Option.{none-some}
 use Rattle.tw_event.specs.declared.event.Event.{Event}
@@ -34,6 +35,17 @@ module _ (p : Event → Bool) where
             let k : Some x ≡ Some e = ap (λ ys. slice_get ys 0) (sym (filter_yes p x xs b)) ∙ h in
             subst (λ y. p y ≡ true) (same_some x e k) b
         | inr b ↦ first_passes e xs (ap (λ ys. slice_get ys 0) (sym (filter_no p x xs b)) ∙ h)
+      ]
+
+  -- what holds of all holds of the first that passes
+  pub all_first : (P : Event → Type 0) (e : Event) (xs : List Event) → AllByRecursion P xs → slice_get (filter p xs) 0 ≡ Some e → P e
+  all_first P e [] a h = absurd (none-some e h)
+  all_first P e (x ∷ xs) a h =
+      elim (cases_Bool (p x)) [
+        | inl b ↦
+            let k : Some x ≡ Some e = ap (λ ys. slice_get ys 0) (sym (filter_yes p x xs b)) ∙ h in
+            subst P (same_some x e k) a.0
+        | inr b ↦ all_first P e xs a.1 (ap (λ ys. slice_get ys 0) (sym (filter_no p x xs b)) ∙ h)
       ]
 
   -- an element that does not pass is another one than the first that does

@@ -1,5 +1,5 @@
 -- The events that are pending (own).
-use Rattle.std.specs.Prelude.{ℕ, ◌<◌, List}
+use Rattle.std.specs.Prelude.{ℕ, ◌<◌, ◌==◌, not, List, filter}
 use Rattle.std.specs.List.{AllByRecursion}
 use Rattle.tw_event.specs.declared.event.Event.{Event}
 use Rattle.tw_event.specs.Order.{event_before, event_same}
@@ -21,6 +21,14 @@ pub record Table : Type 0 where
 -- each is for one of the routers
 abbrev pub AreFor : ℕ → List Event → Type 0
 AreFor routers events = AllByRecursion (λ e. e.dst < routers) events
+
+-- those of some events that are for one router
+abbrev pub for_router : ℕ → List Event → List Event
+for_router router events = filter (λ e. e.dst == router) events
+
+-- and those that are for others
+abbrev pub for_others : ℕ → List Event → List Event
+for_others router events = filter (λ e. not (e.dst == router)) events
 
 -- the events of a table are in order, and for its routers
 pub record IsInOrder (t : Table) : Type 0 where

@@ -1,6 +1,6 @@
 //! What events that were undone had sent, and what is held of it until it is sent again or taken back.
 
-ghost use Rattle.std.specs.Prelude.{◌≡◌, ◌↔◌, ◌+◌, ◌++◌, ◌-◌, ◌<◌, ◌≤◌, ◌==◌, IfOk, IsOk, IsTrue, OnErr, OnOk};
+ghost use Rattle.std.specs.Prelude.{◌≡◌, ◌↔◌, ◌+◌, ◌++◌, ◌-◌, ◌<◌, ◌≤◌, ◌==◌, IfOk, IfSome, IsOk, IsTrue, OnErr, OnOk};
 ghost use Rattle.std.specs.Prelude.{[], drop, length, map, option_map, slice_get, vec_capacity, vec_len};
 ghost use Rattle.std.specs.Option.{option_copied};
 ghost use Rattle.tw_event.specs.Order.{event_before, event_same};
@@ -160,6 +160,26 @@ impl HeldSends {
         }
     }
 
+    /// Moves what this router has sent to `to`, each event as often as it is held. The others stay.
+    ///
+    /// For want of memory nothing is moved.
+    pub fn hand_over(&mut self, router: u32, to: &mut HeldSends) -> Result<(), AllocError>
+        requires { self.old.routers ≤ to.old.routers }
+        ensures given { OnOk result (to.new.events ≡ insert_all event_before (sent_by router self.old.events) to.old.events) }
+        ensures rest { OnOk result (self.new.events ≡ sent_by_others router self.old.events) }
+        ensures err { OnErr result (self.new.events ≡ self.old.events) }
+        ensures none_given { OnErr result (to.new.events ≡ to.old.events) }
+        ensures routers { self.new.routers ≡ self.old.routers }
+        ensures to_routers { to.new.routers ≡ to.old.routers }
+        ensures room { self.old.room ≤ self.new.room }
+    {
+        to.reserve(self.count_of_sender(router))?;
+        while let Some(event) = self.take_first_of(router) {
+            to.insert(event).unwrap();
+        }
+        Ok(())
+    }
+
     /// All events, in rising order.
     pub fn list(&self) -> Result<Vec<Event>, AllocError>
         ensures events { IfOk result (λ v. v.items ≡ self.now.events) }
@@ -183,7 +203,8 @@ impl HeldSends {
 
     // The least event that a router has sent.
     fn first_of(&self, router: u32) -> Option<&Event>
-        ensures { option_copied result ≡ slice_get (sent_by router self.now.events) 0 }
+        ensures first { option_copied result ≡ slice_get (sent_by router self.now.events) 0 }
+        ensures held { IsHeld self.now }
     {
         least_from(router, self.table.first_of(router), &self.spare)
     }
@@ -193,6 +214,7 @@ impl HeldSends {
         ensures first { result ≡ slice_get (sent_by router self.old.events) 0 }
         ensures own { sent_by router self.new.events ≡ drop 1 (sent_by router self.old.events) }
         ensures others { sent_by_others router self.new.events ≡ sent_by_others router self.old.events }
+        ensures sender { IfSome result (λ e. e.src < self.old.routers) }
         ensures routers { self.new.routers ≡ self.old.routers }
         ensures room { self.old.room ≤ self.new.room }
     {

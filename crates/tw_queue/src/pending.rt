@@ -5,7 +5,7 @@ ghost use Rattle.std.specs.Prelude.{[], if◌then◌else◌, drop, filter, lengt
 ghost use Rattle.std.specs.Option.{option_copied};
 ghost use Rattle.tw_event.specs.Order.{event_before, event_same};
 ghost use Rattle.tw_queue.specs.InOrder.{least_with};
-ghost use Rattle.tw_queue.specs.Queue.{AreFor, IsInOrder, IsQueue};
+ghost use Rattle.tw_queue.specs.Queue.{AreFor, IsInOrder, IsQueue, for_others, for_router};
 ghost use Rattle.tw_sim.specs.Ordered.{insert, insert_all, take_out, times};
 
 use crate::queue_table::QueueTable;
@@ -173,6 +173,40 @@ impl Pending {
         ensures queue { IsQueue self.now }
     {
         least_for(router, self.table.first_at(router), &self.spare)
+    }
+
+    /// Moves the events for this router to `to`, each as often as it is pending. The others stay.
+    ///
+    /// For want of memory nothing is moved.
+    pub fn hand_over(&mut self, router: u32, to: &mut Pending) -> Result<(), AllocError>
+        requires { self.old.routers ≤ to.old.routers }
+        ensures given { OnOk result (to.new.events ≡ insert_all event_before (for_router router self.old.events) to.old.events) }
+        ensures rest { OnOk result (self.new.events ≡ for_others router self.old.events) }
+        ensures err { OnErr result (self.new.events ≡ self.old.events) }
+        ensures none_given { OnErr result (to.new.events ≡ to.old.events) }
+        ensures routers { self.new.routers ≡ self.old.routers }
+        ensures to_routers { to.new.routers ≡ to.old.routers }
+        ensures room { self.old.room ≤ self.new.room }
+    {
+        to.reserve(self.len())?;
+        while let Some(event) = self.take_first_at(router) {
+            to.insert(event).unwrap();
+        }
+        Ok(())
+    }
+
+    // Takes out the least event for a router.
+    fn take_first_at(&mut self, router: u32) -> Option<Event>
+        ensures first { result ≡ slice_get (for_router router self.old.events) 0 }
+        ensures own { for_router router self.new.events ≡ drop 1 (for_router router self.old.events) }
+        ensures others { for_others router self.new.events ≡ for_others router self.old.events }
+        ensures home { IfSome result (λ e. e.dst < self.old.routers) }
+        ensures routers { self.new.routers ≡ self.old.routers }
+        ensures room { self.old.room ≤ self.new.room }
+    {
+        let event = *self.first_at(router)?;
+        self.remove_one(&event);
+        Some(event)
     }
 
     /// All events, in rising order.
