@@ -13,6 +13,7 @@ pub mod Queues
 pub mod Releasing
 pub mod Reports
 pub mod RollBack
+pub mod Rosters
 pub mod Shares
 pub mod Steps
 pub mod Walks
