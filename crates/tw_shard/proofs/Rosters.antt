@@ -1,13 +1,13 @@
 -- Where routers stand in a list of them, and the table of their places.
 use Rattle.std.proofs.Common.{◌≡◌, ◌≢◌, ◌⊎◌, ℕ, zero, suc, ◌+◌, ◌-◌, ◌<◌, ◌≤◌, ◌==◌, ◌++◌, ◌∷◌, ◌&&◌, [], Bool, true, false, not, List, Some, None, filter, if◌then◌else◌, get_or, length, nat_eq, nat_lt, set, slice_get, refl, ap, sym, ◌∙◌, subst, inl, inr, arith}
-use Rattle.std.specs.List.{range_with_len}
+use Rattle.std.specs.List.{AllByRecursion, range_with_len}
 use Rattle.circular_buffer.proofs.Places.{slice_get-set_other, slice_get-set_same}
 use Rattle.std.proofs.Math.Seq.{get_or-append_seam}
-use Rattle.std.proofs.lemmas.Bool.{cases_Bool, cases_eq, cases_lt, eq-eqb, eqb-true, false≢true, false_from_ne_true, lt-ltb, ltb-true, ne_eqb}
+use Rattle.std.proofs.lemmas.Bool.{cases_Bool, cases_eq, cases_lt, eq-eqb, eqb-true, false≢true, false_from_ne_true, lt-ltb, ltb-false, ltb-true, ne_eqb}
 use Rattle.std.proofs.lemmas.List.Elements.{filter-append}
 use Rattle.std.proofs.lemmas.List.{append-nil, get_or_append_left, length-append, length-set}
-use Rattle.std.proofs.lemmas.List.Sums.{passes_at_first, position_or_len_is}
-use Rattle.std.proofs.lemmas.Option.{get_or_from_slice_get, none-some, slice_get_within}
+use Rattle.std.proofs.lemmas.List.Sums.{fails_before_first, passes_at_first, position_or_len_is}
+use Rattle.std.proofs.lemmas.Option.{none-some, slice_get-get_or, slice_get_within}
 use Rattle.tw_instance.proofs.Lists.{range_push}
 use Rattle.tw_shard.specs.Roster.{AreApart, IsRoster, IsTableOf, IsWithout, Stands, has, place_in}
 use Rattle.tw_shard.specs.declared.roster.TheConstants.{NOT_HERE}
@@ -32,6 +32,32 @@ stands_has rs k r apart at =
     let place = place_is rs k r apart at in
     let within = at.within in
     lt-ltb (place_in rs r) (length rs) (omega arith)
+
+-- a router that stands somewhere is one of them
+pub has_at : (rs : List ℕ) (k r : ℕ) → Stands rs k r → has rs r ≡ true
+has_at rs k r at =
+    elim (cases_lt k (place_in rs r)) [
+      | inl before ↦ absurd (false≢true (sym (fails_before_first (λ q. q == r) rs k 0 before) ∙ eq-eqb (get_or rs k 0) r at.is))
+      | inr past ↦ (let within = at.within in lt-ltb (place_in rs r) (length rs) (omega arith))
+    ]
+
+-- what holds of each that stands there holds of all
+pub all_standing : (P : ℕ → Type 0) (rs : List ℕ) → ((k r : ℕ) → Stands rs k r → P r) → AllByRecursion P rs
+all_standing P [] each = tt
+all_standing P (r ∷ rs) each = (
+  each 0 r (record { within = omega arith; is = refl }),
+  all_standing P rs (λ k q at. each (suc k) q (record { within = (let within = at.within in omega arith); is = at.is })),
+)
+
+-- two routers at one place are one
+pub same_place : (rs : List ℕ) (q r : ℕ) → has rs q ≡ true → has rs r ≡ true → place_in rs q ≡ place_in rs r → q ≡ r
+same_place rs q r mine ours same = sym (stands rs q mine).is ∙ (ap (λ k. get_or rs k 0) same ∙ (stands rs r ours).is)
+
+-- it is listed there
+pub listed_at : (rs : List ℕ) (r : ℕ) → has rs r ≡ true → slice_get rs (place_in rs r) ≡ Some r
+listed_at rs r mine =
+    let at = stands rs r mine in
+    slice_get-get_or rs (place_in rs r) 0 at.within ∙ ap Some at.is
 
 -- a router that stands nowhere is none of them
 pub stands_not : (rs : List ℕ) (r : ℕ) → ((k : ℕ) → Stands rs k r → ⊥) → has rs r ≡ false
@@ -231,10 +257,10 @@ module _ (rs ps qs : List ℕ) (r : ℕ) (t : IsTableOf rs ps) (here : has rs r 
       let long = less.long in
       record {
         here = λ k q at. (let within = at.within in let was = stood rs qs p r apart there less k q at in
-          elim (was.1) [
-            | inl x ↦ cleared_other q was.0 ∙ t.here k q x.1
-            | inr x ↦ (let more = x.1 in absurd (omega arith))
-          ]);
+            elim (was.1) [
+              | inl x ↦ cleared_other q was.0 ∙ t.here k q x.1
+              | inr x ↦ (let more = x.1 in absurd (omega arith))
+            ]);
         placed = λ k q got. elim (cases_eq q r) [
           | inl same ↦ inl (same_of k 4294967295 (sym got ∙ (ap (slice_get cleared) same ∙ cleared_one)))
           | inr other ↦ elim (t.placed k q (sym (cleared_other q other) ∙ got)) [
@@ -332,4 +358,42 @@ module _ (own : ℕ → Bool) where
       elim (cases_Bool (own n)) [
         | inl mine ↦ rw mine (rw mine at parts)
         | inr other ↦ rw other ((rw other at parts) ∙ append-nil (own_from 0 n))
+      ]
+
+  -- each of them passes the test, and each that passes it is one of them
+  passing : (a n k r : ℕ) → Stands (own_from a n) k r → own r ≡ true
+  passing a zero k r at = let within = at.within in absurd (omega arith)
+  passing a (suc n) k r at =
+      elim (cases_Bool (own a)) [
+        | inl mine ↦ (let one : own_from a (suc n) ≡ a ∷ own_from (a + 1) n = rw mine refl in first mine (passing (a + 1) n) k (subst (λ rs. Stands rs k r) one at))
+        | inr other ↦ (let none : own_from a (suc n) ≡ own_from (a + 1) n = rw other refl in passing (a + 1) n k r (subst (λ rs. Stands rs k r) none at))
+      ]
+    where
+      first : own a ≡ true → ((k r : ℕ) → Stands (own_from (a + 1) n) k r → own r ≡ true) → (k : ℕ) → Stands (a ∷ own_from (a + 1) n) k r → own r ≡ true
+      first mine later zero at = let is : a ≡ r = at.is in ap own (sym is) ∙ mine
+      first mine later (suc k) at = later k r (record { within = (let within = at.within in omega arith); is = at.is })
+
+  found : (a n r : ℕ) → a ≤ r → r < a + n → own r ≡ true → (k : ℕ) × Stands (own_from a n) k r
+  found a zero r low high mine = absurd (omega arith)
+  found a (suc n) r low high mine =
+      elim (cases_eq r a) [
+        | inl here ↦ (let one : own_from a (suc n) ≡ a ∷ own_from (a + 1) n = (let yours : own a ≡ true = ap own (sym here) ∙ mine in rw yours refl) in
+            (0, subst (λ rs. Stands rs 0 r) (sym one) (record { within = omega arith; is = sym here })))
+        | inr apart ↦ (let later = found (a + 1) n r (omega arith) (omega arith) mine in elim (cases_Bool (own a)) [
+          | inl yours ↦ (let one : own_from a (suc n) ≡ a ∷ own_from (a + 1) n = rw yours refl in
+              (suc later.0, subst (λ rs. Stands rs (suc later.0) r) (sym one) (record { within = (let within = later.1.within in omega arith); is = later.1.is })))
+          | inr other ↦ (let none : own_from a (suc n) ≡ own_from (a + 1) n = rw other refl in (later.0, subst (λ rs. Stands rs later.0 r) (sym none) later.1))
+        ])
+      ]
+
+  pub has_own : (n r : ℕ) → has (own_from 0 n) r ≡ (nat_lt r n && own r)
+  has_own n r =
+      elim (cases_Bool (nat_lt r n)) [
+        | inl within ↦ elim (cases_Bool (own r)) [
+          | inl mine ↦ (let at = found 0 n r (omega arith) (let low = ltb-true r n within in omega arith) mine in
+              has_at (own_from 0 n) at.0 r at.1 ∙ sym (ap (λ b. b && own r) within ∙ mine))
+          | inr other ↦ stands_not (own_from 0 n) r (λ k at. false≢true (sym other ∙ passing 0 n k r at)) ∙ sym (ap (λ b. b && own r) within ∙ other)
+        ]
+        | inr past ↦ stands_not (own_from 0 n) r (λ k at. (let bound = (range_bound 0 n k r at).1 in let high = ltb-false r n past in omega arith))
+            ∙ sym (ap (λ b. b && own r) past)
       ]
