@@ -162,13 +162,14 @@ impl HeldSends {
 
     /// Moves what this router has sent to `to`, each event as often as it is held. The others stay.
     ///
-    /// For want of memory nothing is moved.
+    /// For want of memory nothing is moved. It cannot fail where `to` has room for what is moved.
     pub fn hand_over(&mut self, router: u32, to: &mut HeldSends) -> Result<(), AllocError>
         requires { self.old.routers ≤ to.old.routers }
         ensures given { OnOk result (to.new.events ≡ insert_all event_before (sent_by router self.old.events) to.old.events) }
         ensures rest { OnOk result (self.new.events ≡ sent_by_others router self.old.events) }
         ensures err { OnErr result (self.new.events ≡ self.old.events) }
         ensures none_given { OnErr result (to.new.events ≡ to.old.events) }
+        ensures succeeds { length (sent_by router self.old.events) ≤ to.old.room → IsOk result }
         ensures routers { self.new.routers ≡ self.old.routers }
         ensures to_routers { to.new.routers ≡ to.old.routers }
         ensures room { self.old.room ≤ self.new.room }

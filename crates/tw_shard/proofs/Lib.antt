@@ -4,6 +4,7 @@ pub mod Rings
 pub mod Commits
 pub mod CommittedEvents
 pub mod Fields
+pub mod HandingOver
 pub mod Histories
 pub mod Holding
 pub mod LettingGo

@@ -38,7 +38,7 @@ opening_home case routers events is are count =
     subst (λ n. AllByRecursion (λ e. e.dst < n) events) (sym count) (subst (AllByRecursion (λ e. e.dst < case.net.nodes)) (sym are)
     (all_map (λ e. suits case.net e.dst e ≡ true) (λ e. e.dst < case.net.nodes) (λ e h. suits_within case.net e.dst e is.net h) (opening_events case.scenes) (opening_suits case is)))
 
-all_inserted : (P : Event → Type 0) (events pending : List Event) → AllByRecursion P events → AllByRecursion P pending
+pub all_inserted : (P : Event → Type 0) (events pending : List Event) → AllByRecursion P events → AllByRecursion P pending
     → AllByRecursion P (insert_all event_before events pending)
 all_inserted P [] pending new old = old
 all_inserted P (e ∷ events) pending new old = all_inserted P events (insert event_before e pending) new.1 (all-insert event_before P e pending new.0 old)

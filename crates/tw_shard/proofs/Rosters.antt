@@ -10,7 +10,6 @@ use Rattle.std.proofs.lemmas.List.Sums.{fails_before_first, passes_at_first, pos
 use Rattle.std.proofs.lemmas.Option.{none-some, slice_get-get_or, slice_get_within}
 use Rattle.tw_instance.proofs.Lists.{range_push}
 use Rattle.tw_shard.specs.Roster.{AreApart, IsRoster, IsTableOf, IsWithout, Stands, has, place_in}
-use Rattle.tw_shard.specs.declared.roster.TheConstants.{NOT_HERE}
 
 -- a router of the list stands at its place
 pub stands : (rs : List ℕ) (r : ℕ) → has rs r ≡ true → Stands rs (place_in rs r) r

@@ -1,6 +1,7 @@
 pub mod Arrival
 pub mod Commit
 pub mod Inside
+pub mod Moving
 pub mod Past
 pub mod Roster
 pub mod Shard

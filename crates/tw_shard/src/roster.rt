@@ -2,7 +2,7 @@
 
 ghost use Rattle.std.specs.Prelude.{◌≡◌, ◌<◌, ◌≤◌, ◌==◌, ◌++◌, ◌∷◌, [], ℕ, false, true, filter, if◌then◌else◌, length, slice_get, slice_index_or, IfOk, OnErr, OnOk};
 ghost use Rattle.std.specs.List.{range_with_len, swap_remove};
-ghost use Rattle.tw_shard.specs.Roster.{IsRoster, has, place_in};
+ghost use Rattle.tw_shard.specs.Roster.{IsRoster, IsWithout, has, place_in};
 ghost use Rattle.tw_sim.specs.Owners.{owner};
 
 use std::alloc::{AllocError, Global};
@@ -156,6 +156,7 @@ impl Roster {
         ensures place { result ≡ place_in self.old.routers router }
         ensures count { self.new.count ≡ self.old.count }
         ensures routers { self.new.routers ≡ swap_remove self.old.routers (place_in self.old.routers router) router }
+        ensures less { IsWithout ℕ 0 (place_in self.old.routers router) self.old.routers self.new.routers }
     {
         let noted = self.places[router as usize];
         let place = noted as usize;

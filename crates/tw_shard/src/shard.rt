@@ -20,6 +20,7 @@ ghost use Rattle.tw_shard.specs.Shard.{IsSameShare, IsUndone, IsWhole, IsNext, c
 ghost use Rattle.tw_shard.specs.Timeline.{history, router_of, sends_after, signed};
 
 mod commit;
+mod moving;
 mod open;
 mod release;
 mod widen;

@@ -1,4 +1,4 @@
-use Rattle.std.proofs.Common.{◌≡◌, ◌==◌, ◌++◌, ◌∷◌, [], if◌then◌else◌, false, ap, sym, ◌∙◌}
+use Rattle.std.proofs.Common.{◌==◌, ◌++◌, ◌∷◌, [], if◌then◌else◌, ap, sym, ◌∙◌}
 use Rattle.tw_shard.specs.Roster.{has}
 use Rattle.tw_sim.specs.Owners.{owner}
 use Rattle.tw_shard.proofs.Rosters.{fresh, next_own}

@@ -1,4 +1,4 @@
-use Rattle.std.proofs.Common.{◌≡◌, ◌<◌, ◌≤◌, ◌-◌, ◌+◌, ◌≢◌, ℕ, List, Some, true, length, get_or, set, slice_get, take, ap, sym, subst, ◌∙◌, refl, arith}
+use Rattle.std.proofs.Common.{◌≡◌, ◌<◌, ◌≤◌, ◌-◌, ℕ, List, Some, true, length, get_or, set, slice_get, take, ap, sym, subst, ◌∙◌, arith}
 use Rattle.std.specs.List.{swap_remove}
 use Rattle.std.proofs.lemmas.List.{get_or_default, length-set}
 use Rattle.std.proofs.lemmas.Option.{get_or_from_slice_get, slice_get_within}
@@ -33,6 +33,9 @@ module _ (a : Inside) (x : Roster) (r : ℕ) (is : roster_of a ≡ x) (t : IsPla
     module _ (qs : List ℕ) (less : IsWithout ℕ 0 p rs qs) where
       less_here : IsWithout ℕ 0 (place_in rs r) rs qs
       less_here = subst (λ p. IsWithout ℕ 0 p rs qs) at less
+
+      less_now : IsWithout ℕ 0 (place_in x.routers r) x.routers qs
+      less_now = subst (λ x. IsWithout ℕ 0 (place_in x.routers r) x.routers qs) is less_here
 
       shorter : length qs ≤ p → IsTableOf qs (set a.places.items r 4294967295)
       shorter last = table_shorter rs a.places.items qs r t here less_here (subst (λ p. length qs ≤ p) at last)
@@ -112,3 +115,19 @@ pub returns-else-place-len-clause-routers : goal.returns-else-place-len-clause-r
 returns-else-place-len-clause-routers c =
     removed c.self.inside c.args.self.now c.args.router c.self.view_is c.self.invariant c.requires c.index-noted.result.now c.index-noted.ensures
     c.swap_remove.new.self.items c.swap_remove.result c.swap_remove.ensures.items
+
+pub returns-then-place-len-clause-less : goal.returns-then-place-len-clause-less
+returns-then-place-len-clause-less c =
+    let a = c.self.inside in
+    let v = c.swap_remove.new.self in
+    let p = c.index-noted.result.now in
+    let less = without_of 0 a.routers.items v.items p a.routers.len v.len a.routers.ok.0 v.ok.0 c.swap_remove.ensures.len c.swap_remove.ensures.by_index.0 c.swap_remove.ensures.by_index.1 in
+    less_now a c.args.self.now c.args.router c.self.view_is c.self.invariant c.requires p c.index-noted.ensures v.items less
+
+pub returns-else-place-len-clause-less : goal.returns-else-place-len-clause-less
+returns-else-place-len-clause-less c =
+    let a = c.self.inside in
+    let v = c.swap_remove.new.self in
+    let p = c.index-noted.result.now in
+    let less = without_of 0 a.routers.items v.items p a.routers.len v.len a.routers.ok.0 v.ok.0 c.swap_remove.ensures.len c.swap_remove.ensures.by_index.0 c.swap_remove.ensures.by_index.1 in
+    less_now a c.args.self.now c.args.router c.self.view_is c.self.invariant c.requires p c.index-noted.ensures v.items less

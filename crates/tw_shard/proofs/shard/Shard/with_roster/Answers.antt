@@ -1,4 +1,4 @@
-use Rattle.std.proofs.Common.{ℕ, ◌<◌, map, refl, subst, ap, sym, ◌∙◌}
+use Rattle.std.proofs.Common.{◌<◌, map, refl, subst, ap, ◌∙◌}
 use Rattle.tw_shard.specs.Roster.{Stands}
 use Rattle.tw_shard.specs.Shard.{Shard}
 use Rattle.tw_shard.specs.Timeline.{opening_timeline}
