@@ -13,6 +13,7 @@ use Rattle.tw_shard.specs.Roster.{AreApart, IsRoster, IsTableOf, IsWithout, Stan
 
 -- a router of the list stands at its place
 pub stands : (rs : List ℕ) (r : ℕ) → has rs r ≡ true → Stands rs (place_in rs r) r
+unfolding has
 stands rs r h =
     let within = ltb-true (place_in rs r) (length rs) h in
     record { within = within; is = eqb-true (get_or rs (place_in rs r) 0) r (passes_at_first (λ q. q == r) rs 0 within) }
@@ -27,6 +28,7 @@ place_is rs k r apart at =
 
 -- and it is one of the list
 pub stands_has : (rs : List ℕ) (k r : ℕ) → AreApart rs → Stands rs k r → has rs r ≡ true
+unfolding has
 stands_has rs k r apart at =
     let place = place_is rs k r apart at in
     let within = at.within in
@@ -34,6 +36,7 @@ stands_has rs k r apart at =
 
 -- a router that stands somewhere is one of them
 pub has_at : (rs : List ℕ) (k r : ℕ) → Stands rs k r → has rs r ≡ true
+unfolding has
 has_at rs k r at =
     elim (cases_lt k (place_in rs r)) [
       | inl before ↦ absurd (false≢true (sym (fails_before_first (λ q. q == r) rs k 0 before) ∙ eq-eqb (get_or rs k 0) r at.is))

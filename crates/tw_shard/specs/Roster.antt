@@ -18,7 +18,7 @@ abbrev pub place_in : List ℕ → ℕ → ℕ
 place_in routers r = position_or_len (λ q. q == r) routers
 
 -- whether router r is one of these
-abbrev pub has : List ℕ → ℕ → Bool
+unfoldable pub has : List ℕ → ℕ → Bool
 has routers r = nat_lt (place_in routers r) (length routers)
 
 -- router r stands at place k of a list

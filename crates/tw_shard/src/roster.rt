@@ -154,6 +154,7 @@ impl Roster {
     pub(crate) fn remove(&mut self, router: u32) -> usize
         requires { has self.old.routers router ≡ true }
         ensures place { result ≡ place_in self.old.routers router }
+        ensures within { result < length self.old.routers }
         ensures count { self.new.count ≡ self.old.count }
         ensures routers { self.new.routers ≡ swap_remove self.old.routers (place_in self.old.routers router) router }
         ensures less { IsWithout ℕ 0 (place_in self.old.routers router) self.old.routers self.new.routers }

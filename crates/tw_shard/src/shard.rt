@@ -1,6 +1,6 @@
 //! A shard: one worker's routers.
 
-ghost use Rattle.std.specs.Prelude.{◌≡◌, ◌≤◌, ◌<◌, [], length, max, min, slice_get, slice_index_or, slice_set, true, false, ℕ, IfOk, IfNone, IfSome, IsErrOf, IsTrue, OnErr, OnOk, ◌↔◌, Err, Ok, ◌++◌, ◌∷◌, map, List};
+ghost use Rattle.std.specs.Prelude.{◌≡◌, ◌≤◌, ◌<◌, [], length, max, min, Some, slice_get, slice_index_or, slice_set, true, false, ℕ, IfOk, IfNone, IfSome, IsErrOf, IsTrue, OnErr, OnOk, ◌↔◌, Err, Ok, ◌++◌, ◌∷◌, map, List};
 ghost use Rattle.tw_core.specs.declared.refusal.Refusal.{Refusal as ARefusal};
 ghost use Rattle.std.specs.List.{reduce};
 ghost use Rattle.std.specs.Option.{option_copied};
@@ -104,12 +104,14 @@ impl<'a> Shard<'a> {
         self.roster.routers().len()
     }
 
-    /// Router number `k`, from 0, of those that it has. `None` past the last.
-    pub fn router_at(&self, k: usize) -> Option<u32>
-        ensures value { result ≡ slice_get (routers self.now) k }
+    /// Router number `k`, from 0, of those that it has.
+    pub fn router_at(&self, k: usize) -> u32
+        requires { k < length (routers self.now) }
+        ensures value { slice_get (routers self.now) k ≡ Some result }
+        ensures own { owns self.now result ≡ true }
         ensures whole { IsWhole self.now }
     {
-        self.roster.routers().get(k).copied()
+        self.roster.routers()[k]
     }
 
     /// Where the timeline of one of its routers stands.

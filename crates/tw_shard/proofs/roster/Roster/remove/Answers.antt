@@ -30,6 +30,9 @@ module _ (a : Inside) (x : Roster) (r : ℕ) (is : roster_of a ≡ x) (t : IsPla
     at_now : p ≡ place_in x.routers r
     at_now = at ∙ ap (λ x. place_in x.routers r) is
 
+    within_now : p < length x.routers
+    within_now = subst (λ x. p < length x.routers) is there.within
+
     module _ (qs : List ℕ) (less : IsWithout ℕ 0 p rs qs) where
       less_here : IsWithout ℕ 0 (place_in rs r) rs qs
       less_here = subst (λ p. IsWithout ℕ 0 p rs qs) at less
@@ -131,3 +134,9 @@ returns-else-place-len-clause-less c =
     let p = c.index-noted.result.now in
     let less = without_of 0 a.routers.items v.items p a.routers.len v.len a.routers.ok.0 v.ok.0 c.swap_remove.ensures.len c.swap_remove.ensures.by_index.0 c.swap_remove.ensures.by_index.1 in
     less_now a c.args.self.now c.args.router c.self.view_is c.self.invariant c.requires p c.index-noted.ensures v.items less
+
+pub returns-then-place-len-clause-within : goal.returns-then-place-len-clause-within
+returns-then-place-len-clause-within c = within_now c.self.inside c.args.self.now c.args.router c.self.view_is c.self.invariant c.requires c.index-noted.result.now c.index-noted.ensures
+
+pub returns-else-place-len-clause-within : goal.returns-else-place-len-clause-within
+returns-else-place-len-clause-within c = within_now c.self.inside c.args.self.now c.args.router c.self.view_is c.self.invariant c.requires c.index-noted.result.now c.index-noted.ensures
