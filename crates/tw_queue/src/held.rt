@@ -175,8 +175,8 @@ impl HeldSends {
         ensures room { self.old.room ≤ self.new.room }
     {
         to.reserve(self.count_of_sender(router))?;
-        while let Some(event) = self.take_first_of(router) {
-            to.insert(event).unwrap();
+        while let Some(sent) = self.take_first_of(router) {
+            to.insert(sent).unwrap();
         }
         Ok(())
     }

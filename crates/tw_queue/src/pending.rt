@@ -205,9 +205,9 @@ impl Pending {
         ensures routers { self.new.routers ≡ self.old.routers }
         ensures room { self.old.room ≤ self.new.room }
     {
-        let event = *self.first_at(router)?;
-        self.remove_one(&event);
-        Some(event)
+        let first = *self.first_at(router)?;
+        self.remove_one(&first);
+        Some(first)
     }
 
     /// All events, in rising order.

@@ -5,8 +5,8 @@ use Rattle.tw_sim.specs.Ordered.{insert_all}
 use Rattle.tw_queue.proofs.Released.{no_first_nothing, none_passes}
 use Rattle.tw_queue.proofs.held.HeldSends.hand_over.Goals as goal
 
-pub loop-event-init : goal.loop-event-init
-loop-event-init c =
+pub loop-sent-init : goal.loop-sent-init
+loop-sent-init c =
     let r = c.args.router in
     let few = c.count_of_sender.ensures in
     let free = c.in_ok-reserve.ensures.ok in
@@ -26,4 +26,4 @@ returns-clause-rest c =
     let taken = c.take_first_of.ensures in
     let nothing = no_first_nothing _ (sym taken.first ∙ c.in_default.is) in
     let gone = taken.own ∙ ap (drop 1) nothing in
-    sym (none_passes (λ e. e.src == r) c.take_first_of.new.self.events gone) ∙ taken.others ∙ c.loop-event.invariant.others
+    sym (none_passes (λ e. e.src == r) c.take_first_of.new.self.events gone) ∙ taken.others ∙ c.loop-sent.invariant.others

@@ -4,8 +4,8 @@ use Rattle.tw_queue.specs.Held.{sent_by, sent_by_others}
 use Rattle.tw_sim.specs.Ordered.{insert_all}
 use Rattle.tw_queue.proofs.held.HeldSends.hand_over.Given as goal
 
-abbrev pub invariant-loop-event : goal.invariant-loop-event
-invariant-loop-event l = record {
+abbrev pub invariant-loop-sent : goal.invariant-loop-sent
+invariant-loop-sent l = record {
   places : length (sent_by l.router l.self.events) ≤ l.to.room;
   given : insert_all event_before (sent_by l.router l.self.events) l.to.events ≡ insert_all event_before (sent_by l.router l.fn.self.events) l.fn.to.events;
   others : sent_by_others l.router l.self.events ≡ sent_by_others l.router l.fn.self.events;
@@ -14,5 +14,5 @@ invariant-loop-event l = record {
   room : l.fn.self.room ≤ l.self.room;
 }
 
-abbrev pub decreases-loop-event : goal.decreases-loop-event
-decreases-loop-event l = length (sent_by l.router l.self.events)
+abbrev pub decreases-loop-sent : goal.decreases-loop-sent
+decreases-loop-sent l = length (sent_by l.router l.self.events)
