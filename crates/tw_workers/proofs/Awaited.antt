@@ -22,8 +22,8 @@ use Rattle.tw_workers.specs.Work.{AreAwaited, AreAwaitedFrom, IsAtWork, IsAwaite
 abbrev pub AreReleased : List ℕ → ℕ → Shard → Type 0
 AreReleased left stop s = (r : ℕ) → owns s r ≡ true → AreAwaitedFrom r stop s ⊎ ((k : ℕ) × (slice_get left k ≡ Some r))
 
-pub all_to_release : (stop : ℕ) (s : Shard) (left : List ℕ) → s.worker < s.workers → left ≡ routers s → AreReleased left stop s
-all_to_release stop s left some all r mine = inr (place s r, ap (λ rs. slice_get rs (place s r)) all ∙ listed s some r mine)
+pub all_to_release : (stop : ℕ) (s : Shard) → AreReleased (routers s) stop s
+all_to_release stop s r mine = inr (place s r, listed s r mine)
 
 -- none is left
 pub all_released : (stop : ℕ) (s : Share) (left : List ℕ) → left ≡ [] → IsAtWork stop s → AreReleased left stop s.shard → AreAwaited stop s.shard

@@ -15,6 +15,7 @@ use Rattle.tw_rule.proofs.Calls.{hand_is_loose, hand_is_own, keeps_handle, keeps
 use Rattle.tw_rule.specs.Place.{IsFrom, IsPlace, IsRunBefore, Keeps, with_core}
 use Rattle.std.specs.Result.{result_and}
 use Rattle.tw_shard.specs.Arrival.{receiving, refusing}
+use Rattle.tw_shard.specs.Roster.{has}
 use Rattle.tw_shard.specs.Shard.{IsSameShare, Shard, core, handling, owns, releasing, widening}
 use Rattle.tw_sim.specs.declared.machine.Signed.{Signed}
 use Rattle.tw_sim.specs.Owners.{owner}
@@ -27,7 +28,7 @@ use Rattle.tw_workers.specs.Work.{IsAtWork, Kept}
 pub place_after : (stop : ℕ) (s t : Share) → IsSameShare s.shard t.shard → t.mail ≡ s.mail → t.unsent ≡ s.unsent → place_of t ≡ with_core (core stop t.shard) (place_of s)
 place_after stop s t same mail unsent = λ i. record {
   worker = same.worker i;
-  owns = λ r. nat_lt r (same.case i).net.nodes && (owner (same.workers i) r == same.worker i);
+  owns = λ r. has (same.routers i) r;
   history = (core 0 t.shard).history;
   pending = t.shard.pending;
   kept = t.shard.kept;

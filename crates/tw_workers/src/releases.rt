@@ -23,7 +23,8 @@ impl<'a> Worker<'a> {
         if self.shard.held_len() == 0 {
             return Ok(());
         }
-        for router in self.shard.routers() {
+        for place in 0..self.shard.router_count() {
+            let router = self.shard.router_at(place);
             if self.is_release_due(router) {
                 self.release_router(router)?;
             }
