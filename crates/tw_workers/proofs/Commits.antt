@@ -55,7 +55,7 @@ kept_committed stop r s t work same own =
     let m = simulation s.shard.case in
     let made : with_core (with_commit m (core stop s.shard) r) (place_of s) ≡ place_of (record s { shard = t })
     = (λ i. with_core (sym own i) (place_of s)) ∙ sym (place_after stop s (record s { shard = t }) same refl refl) in
-    record { case = same.case; workers = same.workers; keeping = same.keeps; cancel = same.cancel; place = subst (Keeps m stop (place_of s)) made (keeps_commit m stop r (place_of s) work.place) }
+    record { case = same.case; workers = same.workers; routers = same.routers; keeping = same.keeps; cancel = same.cancel; place = subst (Keeps m stop (place_of s)) made (keeps_commit m stop r (place_of s) work.place) }
 
 -- what one of its routers has handled before the bound is the run
 pub has_run : (stop : ℕ) (s : Share) → IsAtWork stop s → (r : ℕ) → owns s.shard r ≡ true → r < s.shard.case.net.nodes → HasRun s.shard r

@@ -1,8 +1,7 @@
-use Rattle.std.proofs.Common.{◌≡◌, ◌+◌, ◌≤◌, ℕ, Some, drop, length, slice_get, refl, ap, sym, ◌∙◌, subst}
-use Rattle.tw_model.proofs.Lawful.{lawful}
+use Rattle.std.proofs.Common.{◌≡◌, true, ◌+◌, ◌≤◌, ℕ, Some, drop, length, slice_get, refl, ap, sym, ◌∙◌, subst}
 use Rattle.std.proofs.Math.ListN.{drop_of_length-le}
-use Rattle.tw_shard.specs.Shard.{Shard, routers}
-use Rattle.tw_workers.proofs.Awaited.{AreReleased, all_released, all_to_release, awaited_more, released_more}
+use Rattle.tw_shard.specs.Shard.{Shard, owns, routers}
+use Rattle.tw_workers.proofs.Awaited.{AreReleased, all_released, all_to_release, released_more}
 use Rattle.tw_workers.proofs.Commits.{next_left}
 use Rattle.tw_workers.specs.Work.{AreAwaitedFrom, IsAtWork, Worker}
 use Rattle.tw_workers.proofs.worker.Worker.release_where_due.Goals as goal
@@ -17,12 +16,36 @@ loop-place-init c = record {
   stop = refl;
 }
 
--- one router less is left
-fewer : (stop k r : ℕ) (s : Shard) → slice_get (routers s) k ≡ Some r → AreReleased (drop k (routers s)) stop s → AreAwaitedFrom r stop s → AreReleased (drop (k + 1) (routers s)) stop s
-fewer stop k r s got is now = awaited_more r stop (drop k (routers s)) (drop (k + 1) (routers s)) s (next_left (routers s) k r got) is now
+pub release_if_due-requires : goal.release_if_due-requires
+release_if_due-requires c = record { own = subst (λ (w : Worker). owns w.share.shard c.router_at-router.result ≡ true) c.self-in-loop-place.view_is c.router_at-router.ensures.own; work = c.loop-place.invariant.work }
 
 pub loop-place-preserved : goal.loop-place-preserved
-loop-place-preserved c = ?
+loop-place-preserved c =
+    let is = c.loop-place.invariant in
+    let done = c.release_if_due.ensures in
+    let told = c.in_ok-release_if_due.ensures in
+    let stop = c.loop-place.self.stop in
+    let s = c.loop-place.self.share.shard in
+    let t = c.release_if_due.new.self.share.shard in
+    let r = c.router_at-router.result in
+    let k = c.loop-place.place in
+    let next_at = subst (λ (w : Worker). slice_get (routers w.share.shard) k ≡ Some r) c.self-in-loop-place.view_is c.router_at-router.ensures.value in
+    record {
+      same = done.routers ∙ is.same;
+      work = done.work;
+      awaited = subst (λ rs. AreReleased (drop (k + 1) rs) c.release_if_due.new.self.stop t) (sym done.routers)
+          (subst (λ until. AreReleased (drop (k + 1) (routers s)) until t) (sym done.stop)
+          (released_more r stop (drop k (routers s)) (drop (k + 1) (routers s)) s t done.routers
+          (next_left (routers s) k r next_at) is.awaited
+          (subst (λ until. AreAwaitedFrom r until t) done.stop told.awaited)
+          (λ q was. subst (λ until. AreAwaitedFrom q until t) done.stop (told.others q was))));
+      kept = λ s kept. done.kept s (is.kept s kept);
+      mail = done.mail ∙ is.mail;
+      stop = done.stop ∙ is.stop;
+    }
+
+pub returns-in_err-release_if_due-clause-kept : goal.returns-in_err-release_if_due-clause-kept
+returns-in_err-release_if_due-clause-kept c = λ s kept. c.release_if_due.ensures.kept s (c.loop-place.invariant.kept s kept)
 
 pub returns-clause-awaited : goal.returns-clause-awaited
 returns-clause-awaited c =
