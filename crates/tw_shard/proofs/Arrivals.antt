@@ -22,10 +22,13 @@ pending_shard a q is routers suit = record {
   whole = record {
     case = is.whole.case;
     worker = is.whole.worker;
-    routers = λ r own. let at = is.whole.routers r own in record { within = at.within; net = at.net; node = at.node; done = at.done; case = at.case; keeps = at.keeps };
+    apart = is.whole.apart;
+    long = is.whole.long;
+    routers = λ r own. let at = is.whole.routers r own in record { known = at.known; within = at.within; net = at.net; node = at.node; done = at.done; case = at.case; keeps = at.keeps };
     pending = suit;
     held = is.whole.held;
   };
+  roster = is.roster;
   pending = routers ∙ is.pending;
   kept = is.kept;
   held = is.held;

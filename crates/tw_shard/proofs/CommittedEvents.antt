@@ -8,7 +8,6 @@ use Rattle.std.proofs.lemmas.Grind.{flat_map-append}
 use Rattle.tw_core.specs.Machine.{committed}
 use Rattle.tw_core.specs.Parts.{total}
 use Rattle.tw_event.specs.declared.event.Event.{Event}
-use Rattle.tw_event.specs.Order.{event_before}
 use Rattle.tw_event.specs.contracts.event.EventOrd.TheImpl as event_ord
 use Rattle.tw_model.specs.Case.{Case, IsCase, simulation}
 use Rattle.tw_model.proofs.Lawful.{lawful}
@@ -17,7 +16,6 @@ use Rattle.tw_queue.proofs.Spares.{sorted_whole}
 use Rattle.tw_shard.specs.Shard.{Shard, core, owns}
 use Rattle.tw_shard.specs.Shards.{HaveAll, KeepAll, ahead_in, committed_of_all, committed_in, greatest, history_in, oldest_in, shard_for}
 use Rattle.tw_shard.specs.Timeline.{last_change_at}
-use Rattle.tw_sim.specs.Ordered.{insert_all}
 use Rattle.tw_sim.specs.Simulation.{Simulation, IsFalling, IsLawful, below, state, times}
 use Rattle.tw_sim.proofs.Counts.{in_head, times-append, times-reverse}
 

@@ -36,6 +36,7 @@ pub record IsChanged (a b : Inside) (r : ℕ) (t : Timeline) : Type 0 where
   pub case : b.case.now ≡ a.case.now
   pub worker : b.worker ≡ a.worker
   pub workers : b.workers ≡ a.workers
+  pub roster : b.roster ≡ a.roster
   pub timelines : b.timelines.items ≡ set a.timelines.items (place (shard_of a) r) t
   pub kept : b.kept.events ≡ a.kept.events
   pub bound : b.bound ≡ a.bound
@@ -55,6 +56,7 @@ changed_shard a b r t is mine h net node done case keeps suit rising = record {
         case = sym h.case i;
         worker = sym h.worker i;
         workers = sym h.workers i;
+        routers = (sym h.roster i).routers;
         timelines = sym h.timelines i;
         pending = b.pending.events;
         kept = sym h.kept i;
@@ -64,6 +66,7 @@ changed_shard a b r t is mine h net node done case keeps suit rising = record {
         keeps = sym h.keeps i;
         cancel = sym h.cancel i;
       }) (whole_after (shard_of a) r t b.pending.events b.outgoing.items b.held.events is.whole mine net node done case keeps suit rising);
+  roster = ap (λ x. x.count) h.roster ∙ (is.roster ∙ ap (λ c. c.net.nodes) (sym h.case));
   pending = h.pending_routers ∙ (is.pending ∙ ap (λ c. c.net.nodes) (sym h.case));
   kept = h.kept_routers ∙ (is.kept ∙ ap (λ c. c.net.nodes) (sym h.case));
   held = h.held_routers ∙ (is.held ∙ ap (λ c. c.net.nodes) (sym h.case));

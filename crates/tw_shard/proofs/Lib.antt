@@ -4,6 +4,7 @@ pub mod Rings
 pub mod Commits
 pub mod CommittedEvents
 pub mod Fields
+pub mod HandingOver
 pub mod Histories
 pub mod Holding
 pub mod LettingGo
@@ -13,6 +14,7 @@ pub mod Queues
 pub mod Releasing
 pub mod Reports
 pub mod RollBack
+pub mod Rosters
 pub mod Shares
 pub mod Steps
 pub mod Walks

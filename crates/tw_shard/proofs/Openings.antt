@@ -1,9 +1,10 @@
 -- A shard as it begins.
-use Rattle.std.proofs.Common.{◌≡◌, ℕ, zero, suc, ◌<◌, ◌==◌, true, List, [], ◌∷◌, ap, sym, ◌∙◌, refl, subst, inl, inr, arith, if◌then◌else◌}
+use Rattle.std.proofs.Common.{◌≡◌, ℕ, zero, suc, ◌<◌, ◌==◌, ◌&&◌, Bool, true, false, nat_lt, List, [], ◌∷◌, ap, sym, ◌∙◌, refl, subst, inl, inr, arith, if◌then◌else◌}
 use Rattle.std.proofs.Common.{Some, filter, get_or, length, map, slice_get}
-use Rattle.std.specs.List.{AllByRecursion}
+use Rattle.std.specs.List.{AllByRecursion, range_with_len}
 use Rattle.std.proofs.Math.Path.{fun_ext}
-use Rattle.std.proofs.lemmas.Bool.{cases_Bool}
+use Rattle.std.proofs.lemmas.Bool.{cases_Bool, lt-ltb}
+use Rattle.std.proofs.lemmas.List.{length-map}
 use Rattle.tw_core.proofs.Sums.{all_map}
 use Rattle.tw_core.specs.declared.limits.TheConstants.{OPENING_ROOM}
 use Rattle.tw_event.specs.declared.event.Event.{Event}
@@ -13,12 +14,13 @@ use Rattle.tw_model.specs.Effect.{suits}
 use Rattle.tw_model.proofs.Lawful.{lawful}
 use Rattle.tw_model.proofs.Within.{suits_within}
 use Rattle.tw_queue.proofs.Ordered.{all-filter}
-use Rattle.tw_shard.specs.Shard.{IsWhole, Shard, core, no_timeline, opening_core, owns, place, routers, timeline}
+use Rattle.tw_shard.specs.Roster.{AreApart, Stands, has}
+use Rattle.tw_shard.specs.Shard.{IsOpeningBy, IsWhole, Shard, core, no_timeline, opening_core_by, owns, place, routers, timeline}
+use Rattle.tw_shard.proofs.Rosters.{has_own, stands}
 use Rattle.tw_shard.specs.Timeline.{Timeline, history, opening_timeline}
 use Rattle.tw_shard.proofs.Shares.{listed}
 use Rattle.tw_sim.specs.Ordered.{insert, insert_all}
 use Rattle.tw_sim.proofs.Counts.{is_order}
-use Rattle.tw_sim.specs.Owners.{owner}
 use Rattle.tw_sim.specs.Rising.{IsRising}
 use Rattle.tw_sim.proofs.Ordered.{all-insert, all_counted}
 
@@ -36,7 +38,7 @@ opening_home case routers events is are count =
     subst (λ n. AllByRecursion (λ e. e.dst < n) events) (sym count) (subst (AllByRecursion (λ e. e.dst < case.net.nodes)) (sym are)
     (all_map (λ e. suits case.net e.dst e ≡ true) (λ e. e.dst < case.net.nodes) (λ e h. suits_within case.net e.dst e is.net h) (opening_events case.scenes) (opening_suits case is)))
 
-all_inserted : (P : Event → Type 0) (events pending : List Event) → AllByRecursion P events → AllByRecursion P pending
+pub all_inserted : (P : Event → Type 0) (events pending : List Event) → AllByRecursion P events → AllByRecursion P pending
     → AllByRecursion P (insert_all event_before events pending)
 all_inserted P [] pending new old = old
 all_inserted P (e ∷ events) pending new old = all_inserted P events (insert event_before e pending) new.1 (all-insert event_before P e pending new.0 old)
@@ -47,38 +49,35 @@ read_there f [] k x d there = cc there
 read_there f (y ∷ xs) zero x d there = (omega arith, (let same : y ≡ x = cc there in ap f same))
 read_there f (y ∷ xs) (suc k) x d there = let more = read_there f xs k x d there in (let within = more.0 in omega arith, more.1)
 
+-- events of the same routers are the same
+same_filter : (p q : ℕ → Bool) (events : List Event) → AllByRecursion (λ e. p e.dst ≡ q e.dst) events → filter (λ e. p e.dst) events ≡ filter (λ e. q e.dst) events
+same_filter p q [] all = refl
+same_filter p q (e ∷ events) all =
+    let more = same_filter p q events all.1 in
+    elim (cases_Bool (q e.dst)) [
+      | inl there ↦ (let here : p e.dst ≡ true = all.0 ∙ there in rw (here, there) (ap (λ es. e ∷ es) more))
+      | inr other ↦ (let none : p e.dst ≡ false = all.0 ∙ other in rw (none, other) more)
+    ]
+
 -- a shard with its routers as they begin, the opening events for them, and nothing else
 pub record IsBegun (s : Shard) : Type 0 where
   pub case : IsCase s.case
   pub worker : s.worker < s.workers
-  pub timelines : s.timelines ≡ map (opening_timeline s.case s.keeps) (routers s)
-  pub pending : s.pending ≡ insert_all event_before (filter (λ e. owner s.workers e.dst == s.worker) (opening_events s.case.scenes)) []
+  pub known : (k r : ℕ) → Stands s.routers k r → r < s.case.net.nodes
+  pub apart : AreApart s.routers
+  pub timelines : s.timelines ≡ map (opening_timeline s.case s.keeps) s.routers
+  pub pending : s.pending ≡ insert_all event_before (filter (λ e. owns s e.dst) (opening_events s.case.scenes)) []
   pub kept : s.kept ≡ []
   pub outgoing : s.outgoing ≡ []
   pub held : s.held ≡ []
   pub bound : s.bound ≡ 0
-
-pub begun : (s : Shard) → IsCase s.case → s.worker < s.workers
-    → s.timelines ≡ map (opening_timeline s.case s.keeps) (routers s)
-    → s.pending ≡ insert_all event_before (filter (λ e. owner s.workers e.dst == s.worker) (opening_events s.case.scenes)) []
-    → s.kept ≡ [] → s.outgoing ≡ [] → s.held ≡ [] → s.bound ≡ 0 → IsBegun s
-begun s case worker timelines pending kept outgoing held bound = record {
-  case = case;
-  worker = worker;
-  timelines = timelines;
-  pending = pending;
-  kept = kept;
-  outgoing = outgoing;
-  held = held;
-  bound = bound;
-}
 
 module _ (s : Shard) (is : IsBegun s) where
   -- there is a place for each of its routers, with that router as it begins
   there : (r : ℕ) → owns s r ≡ true → (place s r < length s.timelines) × (timeline s r ≡ opening_timeline s.case s.keeps r)
   there r mine =
       subst (λ ts. (place s r < length ts) × (get_or ts (place s r) no_timeline ≡ opening_timeline s.case s.keeps r)) (sym is.timelines)
-      (read_there (opening_timeline s.case s.keeps) (routers s) (place s r) r no_timeline (listed s is.worker r mine))
+      (read_there (opening_timeline s.case s.keeps) (routers s) (place s r) r no_timeline (listed s r mine))
 
   -- each of them is as it begins
   pub opened : (r : ℕ) → owns s r ≡ true → timeline s r ≡ opening_timeline s.case s.keeps r
@@ -97,7 +96,10 @@ module _ (s : Shard) (is : IsBegun s) where
   whole_begun = record {
     case = is.case;
     worker = is.worker;
+    apart = is.apart;
+    long = ap (λ ts. length ts) is.timelines ∙ length-map s.routers (opening_timeline s.case s.keeps);
     routers = λ r mine. record {
+      known = is.known (place s r) r (stands s.routers r mine);
       within = (there r mine).0;
       net = ap (λ t. t.net) (opened r mine);
       node = ap (λ t. t.node) (opened r mine);
@@ -107,22 +109,34 @@ module _ (s : Shard) (is : IsBegun s) where
     };
     pending =
         let P = λ (e : Event). suits s.case.net e.dst e ≡ true in
-        let own = λ (e : Event). owner s.workers e.dst == s.worker in
+        let own = λ (e : Event). owns s e.dst in
         subst (AllByRecursion P) (sym is.pending)
         (all_inserted P (filter own (opening_events s.case.scenes)) [] (all-filter event_before event_same P own (opening_events s.case.scenes) (opening_suits s.case is.case)) tt);
     held = subst (IsRising event_before event_same) (sym is.held) tt;
   }
 
+  -- the routers are the worker's
+  own_by : (who : ℕ → ℕ) → s.routers ≡ filter (λ r. who r == s.worker) (range_with_len 0 s.case.net.nodes)
+      → (r : ℕ) → owns s r ≡ (nat_lt r s.case.net.nodes && (who r == s.worker))
+  own_by who order r = ap (λ rs. has rs r) order ∙ has_own (λ r. who r == s.worker) s.case.net.nodes r
+
   -- as a machine of its own routers it begins
-  pub core_begun : (stop : ℕ) → core stop s ≡ opening_core s.case s.worker s.workers s.cancel stop
-  core_begun stop =
+  core_begun : (who : ℕ → ℕ) → s.routers ≡ filter (λ r. who r == s.worker) (range_with_len 0 s.case.net.nodes)
+      → (stop : ℕ) → core stop s ≡ opening_core_by s.case who s.worker s.cancel stop
+  core_begun who order stop =
       let histories = read_opened history [] (λ r. refl) in
       let dones = read_opened (λ (t : Timeline). t.done) 0 (λ r. refl) in
       let pasts = read_opened (λ (t : Timeline). length t.past) 0 (λ r. refl) in
       let rooms = read_opened (λ (t : Timeline). t.room) OPENING_ROOM (λ r. refl) in
+      let own = same_filter (λ r. owns s r) (λ r. who r == s.worker) (opening_events s.case.scenes)
+      (all_map (λ e. suits s.case.net e.dst e ≡ true) (λ e. owns s e.dst ≡ (who e.dst == s.worker))
+      (λ e h. let within = suits_within s.case.net e.dst e is.case.net h in
+      own_by who order e.dst ∙ ap (λ b. b && (who e.dst == s.worker)) (lt-ltb e.dst s.case.net.nodes within))
+      (opening_events s.case.scenes) (opening_suits s.case is.case)) in
+      let waits = is.pending ∙ ap (λ es. insert_all event_before es []) own in
       λ i. record {
         history = histories i;
-        pending = is.pending i;
+        pending = waits i;
         kept = is.kept i;
         flight = is.outgoing i;
         held = is.held i;
@@ -133,3 +147,16 @@ module _ (s : Shard) (is : IsBegun s) where
         stop = stop;
         cancel = s.cancel;
       }
+
+  pub opening : (who : ℕ → ℕ) → s.routers ≡ filter (λ r. who r == s.worker) (range_with_len 0 s.case.net.nodes)
+      → IsOpeningBy s.case who s.worker s.workers s.keeps s.cancel s
+  opening who order = record {
+    core_is = core_begun who order;
+    owns_are = own_by who order;
+    order = order;
+    routers = opened;
+    case_is = refl;
+    worker = refl;
+    count = refl;
+    keeps_are = refl;
+  }

@@ -22,10 +22,13 @@ sent_shard a b is same routers rising = subst IsShard (sym same) (record {
   whole = record {
     case = is.whole.case;
     worker = is.whole.worker;
-    routers = λ r own. let at = is.whole.routers r own in record { within = at.within; net = at.net; node = at.node; done = at.done; case = at.case; keeps = at.keeps };
+    apart = is.whole.apart;
+    long = is.whole.long;
+    routers = λ r own. let at = is.whole.routers r own in record { known = at.known; within = at.within; net = at.net; node = at.node; done = at.done; case = at.case; keeps = at.keeps };
     pending = is.whole.pending;
     held = rising;
   };
+  roster = is.roster;
   pending = is.pending;
   kept = is.kept;
   held = routers ∙ is.held;

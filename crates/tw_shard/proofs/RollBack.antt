@@ -70,7 +70,7 @@ pub record IsRolling (reach : Reach) (e : Event) (s t : Shard) : Type 0 where
 pub rolling_none : (reach : Reach) (e : Event) (s : Shard) → owns s e.dst ≡ true → IsRolling reach e s s
 rolling_none reach e s own = record {
   own = own;
-  share = record { case = refl; worker = refl; workers = refl; keeps = refl; cancel = refl };
+  share = record { case = refl; worker = refl; workers = refl; routers = refl; keeps = refl; cancel = refl };
   kept = refl;
   bound = refl;
   undone = λ stop. (0, refl);
@@ -96,7 +96,7 @@ rolling_more reach e s t u whole far must h =
     ap history (timeline_here t r (record (timeline t r) { ahead = older }) (undone_at t r x older).pending (undone_at t r x older).outgoing (undone_at t r x older).held whole far.own) in
     subst (IsRolling reach e s) (sym h.4) (record {
       own = far.own;
-      share = record { case = far.share.case; worker = far.share.worker; workers = far.share.workers; keeps = far.share.keeps; cancel = far.share.cancel };
+      share = record { case = far.share.case; worker = far.share.worker; workers = far.share.workers; routers = far.share.routers; keeps = far.share.keeps; cancel = far.share.cancel };
       kept = far.kept;
       bound = far.bound;
       undone = λ stop. (suc (far.undone stop).0, (core stop t, (far.undone stop).1, (x, older ++ past, here stop, rolled_late t.case whole.case reach e x goes, one stop)));

@@ -1,10 +1,9 @@
 -- What a change at one router of a shard leaves.
-use Rattle.std.proofs.Common.{◌≡◌, ℕ, ◌<◌, ◌≤◌, ◌==◌, ◌&&◌, true, List, [], ◌∷◌, Some, set, slice_get, refl, ap, sym, ◌∙◌, subst, inl, inr, arith, nat_lt, length-set, if◌then◌else◌}
+use Rattle.std.proofs.Common.{◌≡◌, ℕ, ◌≤◌, true, List, [], ◌∷◌, Some, set, slice_get, refl, ap, sym, ◌∙◌, subst, inl, inr, arith, length-set, if◌then◌else◌}
 use Rattle.std.specs.List.{AllByRecursion}
 use Rattle.std.proofs.Math.Path.{fun_ext}
-use Rattle.std.proofs.lemmas.Bool.{and_parts, cases_Bool, cases_eq, eq-eqb, eqb-true, lt-ltb, ltb-true, ne_eqb}
+use Rattle.std.proofs.lemmas.Bool.{cases_Bool, cases_eq, eq-eqb, ne_eqb}
 use Rattle.std.proofs.lemmas.List.{get_or-set_other, get_or-set_same}
-use Rattle.tw_core.proofs.Sums.{all_map}
 use Rattle.tw_core.specs.Steps.{put}
 use Rattle.tw_event.specs.declared.event.Event.{Event}
 use Rattle.tw_event.specs.Order.{event_before, event_same}
@@ -12,10 +11,9 @@ use Rattle.tw_model.specs.Case.{Case, simulation}
 use Rattle.tw_model.specs.Effect.{effect, suits}
 use Rattle.tw_model.specs.State.{State}
 use Rattle.tw_shard.specs.Shard.{IsWhole, Shard, core, no_timeline, owns, place, routers, timeline}
+use Rattle.tw_shard.proofs.Rosters.{all_standing, has_at, listed_at, same_place}
 use Rattle.tw_shard.specs.Timeline.{Timeline, history, known, last_change_at, router_of}
 use Rattle.tw_sim.specs.declared.machine.Signed.{Signed}
-use Rattle.tw_sim.proofs.Dealing.{all_own as all_members, stands_there}
-use Rattle.tw_sim.specs.Owners.{own_routers, owner}
 use Rattle.tw_sim.specs.Rising.{IsRising}
 use Rattle.tw_sim.specs.Simulation.{state}
 
@@ -24,32 +22,13 @@ pub known_state : (case : Case) (v : ℕ) (h : List Event) → known case.net v 
 known_state case v [] = refl
 known_state case v (e ∷ older) = ap (λ (s : State). (effect case.net e.dst s e).state) (known_state case v older)
 
--- one of the shard's routers is one of the case's, and the worker's
-pub owns_parts : (s : Shard) (r : ℕ) → owns s r ≡ true → (r < s.case.net.nodes) × (owner s.workers r ≡ s.worker)
-owns_parts s r h =
-    let p = and_parts (nat_lt r s.case.net.nodes) (owner s.workers r == s.worker) h in
-    (ltb-true r s.case.net.nodes p.0, eqb-true (owner s.workers r) s.worker p.1)
-
--- each of them is listed at its place
-pub listed : (s : Shard) → s.worker < s.workers → (r : ℕ) → owns s r ≡ true → slice_get (routers s) (place s r) ≡ Some r
-listed s some r mine =
-    let own = owns_parts s r mine in
-    subst (λ w. slice_get (own_routers s.workers w s.case.net.nodes) (place s r) ≡ Some r) own.1 (stands_there s.workers r s.case.net.nodes (omega arith) own.0)
+-- each of the shard's routers is listed at its place
+pub listed : (s : Shard) (r : ℕ) → owns s r ≡ true → slice_get (routers s) (place s r) ≡ Some r
+listed s r mine = listed_at s.routers r mine
 
 -- and no other router is
 pub all_own : (s : Shard) → AllByRecursion (λ r. owns s r ≡ true) (routers s)
-all_own s =
-    all_map (λ r. (r < s.case.net.nodes) × (owner s.workers r ≡ s.worker)) (λ r. owns s r ≡ true)
-    (λ r h. ap (λ b. b && (owner s.workers r == s.worker)) (lt-ltb r s.case.net.nodes h.0) ∙ eq-eqb (owner s.workers r) s.worker h.1)
-    (routers s) (all_members s.workers s.worker s.case.net.nodes)
-
--- so each has its own place
-own_place : (s : Shard) → s.worker < s.workers → (q r : ℕ) → owns s q ≡ true → owns s r ≡ true → place s q ≡ place s r → q ≡ r
-own_place s some q r mine ours same =
-    let one = listed s some q mine in
-    let two = listed s some r ours in
-    let both : Some q ≡ Some r = sym one ∙ (ap (slice_get (routers s)) same ∙ two) in
-    cc both
+all_own s = all_standing (λ r. owns s r ≡ true) s.routers (has_at s.routers)
 
 -- the shard with another timeline of router r, and other lists
 abbrev pub changed : Shard → ℕ → Timeline → List Event → List (Signed Event) → List Event → Shard
@@ -63,7 +42,7 @@ module _ (s : Shard) (r : ℕ) (t : Timeline) (pending : List Event) (outgoing :
   timeline_here = get_or-set_same s.timelines (place s r) t no_timeline (whole.routers r mine).within
 
   pub timeline_other : (q : ℕ) → owns s q ≡ true → (q ≡ r → ⊥) → timeline after q ≡ timeline s q
-  timeline_other q ours apart = get_or-set_other s.timelines (place s r) (place s q) t no_timeline (λ same. apart (own_place s whole.worker q r ours mine same))
+  timeline_other q ours apart = get_or-set_other s.timelines (place s r) (place s q) t no_timeline (λ same. apart (same_place s.routers q r ours mine same))
 
   -- a fact of router r's new timeline and of the others' is one of each
   pub each_timeline : (P : ℕ → Timeline → Type 0) → P r t → ((q : ℕ) → owns s q ≡ true → P q (timeline s q)) → (q : ℕ) → owns s q ≡ true → P q (timeline after q)
@@ -92,7 +71,10 @@ module _ (s : Shard) (r : ℕ) (t : Timeline) (pending : List Event) (outgoing :
   whole_after net node done case keeps suit rising = record {
     case = whole.case;
     worker = whole.worker;
+    apart = whole.apart;
+    long = length-set s.timelines (place s r) t ∙ whole.long;
     routers = λ q ours. record {
+      known = (whole.routers q ours).known;
       within = let k = (whole.routers q ours).within in let l = length-set s.timelines (place s r) t in omega arith;
       net = each_timeline (λ p t. t.net ≡ s.case.net) net (λ p h. (whole.routers p h).net) q ours;
       node = each_timeline (λ p t. t.node ≡ p) node (λ p h. (whole.routers p h).node) q ours;

@@ -9,6 +9,7 @@ shard_of a = record {
   case = a.case.now;
   worker = a.worker;
   workers = a.workers;
+  routers = a.roster.routers;
   timelines = a.timelines.items;
   pending = a.pending.events;
   kept = a.kept.events;
@@ -19,9 +20,10 @@ shard_of a = record {
   cancel = a.cancel;
 }
 
--- it is whole, and what waits is for routers of the case
+-- it is whole, and its routers, and those for which something waits, are of the case
 pub record IsShard (a : Inside) : Type 0 where
   pub whole : IsWhole (shard_of a)
+  pub roster : a.roster.count ≡ a.case.now.net.nodes
   pub pending : a.pending.routers ≡ a.case.now.net.nodes
   pub kept : a.kept.routers ≡ a.case.now.net.nodes
   pub held : a.held.routers ≡ a.case.now.net.nodes

@@ -1,6 +1,6 @@
 -- One worker's routers, seen as a machine of their own (after Jefferson, Virtual Time, 1985).
 use Rattle.std.specs.Prelude.{ℕ, ◌≡◌, ◌*◌, ◌<◌, ◌≤◌, ◌==◌, Bool, true, false, ◌&&◌, List, [], ◌∷◌, ◌++◌, filter, length, map, nat_lt, slice_index_or, slice_set, Some, Result, Err, Ok, if◌then◌else◌}
-use Rattle.std.specs.List.{AllByRecursion}
+use Rattle.std.specs.List.{AllByRecursion, range_with_len}
 use Rattle.tw_core.specs.declared.limits.TheConstants.{OPENING_ROOM}
 use Rattle.tw_core.specs.declared.refusal.Refusal.{Refusal}
 use Rattle.tw_core.specs.declared.refusal.Refusal.TheVariants.{NotMine, Double, AheadFull}
@@ -12,13 +12,14 @@ use Rattle.tw_model.specs.Case.{Case, IsCase, no_case, opening_events, simulatio
 use Rattle.tw_model.specs.Effect.{suits}
 use Rattle.tw_model.specs.Net.{no_net}
 use Rattle.tw_shard.specs.Past.{own_run}
+use Rattle.tw_shard.specs.Roster.{AreApart, has, place_in}
 use Rattle.tw_shard.specs.Timeline.{Timeline, history, opening_timeline, sends_after, signed}
 use Rattle.tw_sim.specs.declared.machine.Cancel.{Cancel}
 use Rattle.tw_sim.specs.declared.machine.Cancel.TheVariants.{Aggressive}
 use Rattle.tw_sim.specs.declared.machine.Signed.{Signed}
 use Rattle.tw_sim.specs.Ordered.{insert, insert_all, take_out}
 use Rattle.tw_sim.specs.Rising.{IsRising}
-use Rattle.tw_sim.specs.Owners.{own_place, own_routers, owner}
+use Rattle.tw_sim.specs.Owners.{owner}
 use Rattle.tw_sim.specs.Simulation.{IsFalling, below}
 
 -- the routers of one of so many workers, with what waits for them and what they have sent
@@ -26,7 +27,8 @@ pub record Shard : Type 0 where
   pub case : Case
   pub worker : ℕ
   pub workers : ℕ
-  -- its routers, by rising number
+  -- its routers, and the timeline of each
+  pub routers : List ℕ
   pub timelines : List Timeline
   pub pending : List Event
   -- the antimessages that came before their message
@@ -43,15 +45,15 @@ pub record Shard : Type 0 where
 
 -- whether r is one of its routers
 abbrev pub owns : Shard → ℕ → Bool
-owns s r = nat_lt r s.case.net.nodes && (owner s.workers r == s.worker)
+owns s r = has s.routers r
 
--- its routers, in rising order
+-- its routers, in the order of their timelines
 abbrev pub routers : Shard → List ℕ
-routers s = own_routers s.workers s.worker s.case.net.nodes
+routers s = s.routers
 
 -- where the timeline of router r stands
 abbrev pub place : Shard → ℕ → ℕ
-place s r = own_place s.workers r
+place s r = place_in s.routers r
 
 -- what stands where there is no router
 abbrev pub no_timeline : Timeline
@@ -72,6 +74,7 @@ no_shard = record {
   case = no_case;
   worker = 0;
   workers = 0;
+  routers = [];
   timelines = [];
   pending = [];
   kept = [];
@@ -102,11 +105,11 @@ core stop s = record {
   cancel = s.cancel;
 }
 
--- a machine of the routers of this worker of so many, which has handled nothing: the opening events for them are pending
-abbrev pub opening_core : Case → ℕ → ℕ → Cancel → ℕ → Core Event
-opening_core case worker workers cancel stop = record {
+-- a machine of the routers of worker k, by the worker of each router, which has handled nothing: the opening events for them are pending
+abbrev pub opening_core_by : Case → (ℕ → ℕ) → ℕ → Cancel → ℕ → Core Event
+opening_core_by case who k cancel stop = record {
   history = λ r. [];
-  pending = insert_all event_before (filter (λ e. owner workers e.dst == worker) (opening_events case.scenes)) [];
+  pending = insert_all event_before (filter (λ e. who e.dst == k) (opening_events case.scenes)) [];
   kept = [];
   flight = [];
   held = [];
@@ -118,17 +121,28 @@ opening_core case worker workers cancel stop = record {
   cancel = cancel;
 }
 
--- worker k's shard, of so many, as it begins; its routers keep their committed events, or let them go, and it takes back what undone
--- events have sent as this says
-pub record IsOpeningShard (case : Case) (k workers : ℕ) (keeps : Bool) (cancel : Cancel) (s : Shard) : Type 0 where
+-- and where routers are dealt out in turn to so many workers
+abbrev pub opening_core : Case → ℕ → ℕ → Cancel → ℕ → Core Event
+opening_core case worker workers cancel stop = opening_core_by case (owner workers) worker cancel stop
+
+-- worker k's shard, of so many, as it begins, by the worker of each router; its routers keep their committed events, or let them go, and
+-- it takes back what undone events have sent as this says
+pub record IsOpeningBy (case : Case) (who : ℕ → ℕ) (k workers : ℕ) (keeps : Bool) (cancel : Cancel) (s : Shard) : Type 0 where
   -- it is that machine
-  pub core_is : (stop : ℕ) → core stop s ≡ opening_core case k workers cancel stop
-  -- and its routers have handled nothing
+  pub core_is : (stop : ℕ) → core stop s ≡ opening_core_by case who k cancel stop
+  -- it has the worker's routers of the case, in rising order
+  pub owns_are : (r : ℕ) → owns s r ≡ (nat_lt r case.net.nodes && (who r == k))
+  pub order : s.routers ≡ filter (λ r. who r == k) (range_with_len 0 case.net.nodes)
+  -- and they have handled nothing
   pub routers : (r : ℕ) → owns s r ≡ true → timeline s r ≡ opening_timeline case keeps r
   pub case_is : s.case ≡ case
   pub worker : s.worker ≡ k
   pub count : s.workers ≡ workers
   pub keeps_are : s.keeps ≡ keeps
+
+-- and where routers are dealt out in turn
+abbrev pub IsOpeningShard : Case → ℕ → ℕ → Bool → Cancel → Shard → Type 0
+IsOpeningShard case k workers keeps cancel s = IsOpeningBy case (owner workers) k workers keeps cancel s
 
 -- a step at router r, refused where r is not one of its own
 abbrev pub at_own : Shard → ℕ → Result (Core Event) Refusal → Result (Core Event) Refusal
@@ -150,11 +164,12 @@ releasing stop s r = at_own s r (Ok (with_release (simulation s.case) (core stop
 abbrev pub widening : ℕ → Shard → ℕ → Result (Core Event) Refusal
 widening stop s r = at_own s r (Ok (with_room (simulation s.case) (core stop s) r))
 
--- the later shard has the same case, is the same worker's, keeps as much, and takes back what undone events have sent at the same time
+-- the later shard has the same case and the same routers, is the same worker's, keeps as much, and takes back what undone events have sent at the same time
 pub record IsSameShare (s t : Shard) : Type 0 where
   pub case : t.case ≡ s.case
   pub worker : t.worker ≡ s.worker
   pub workers : t.workers ≡ s.workers
+  pub routers : t.routers ≡ s.routers
   pub keeps : t.keeps ≡ s.keeps
   pub cancel : t.cancel ≡ s.cancel
 
@@ -219,8 +234,9 @@ pub record IsNext (stop : ℕ) (s : Shard) (r : ℕ) (e : Event) : Type 0 where
 abbrev pub IsUndone : ℕ → Shard → Shard → Type 0
 IsUndone r s t = (e : Event) × (older : List Event) × ((timeline s r).ahead ≡ e ∷ older) × (e.dst ≡ r) × (t ≡ undone_at s r e older)
 
--- a router of the shard's: there is a timeline for it, whose latest commit was not beyond the bound
+-- a router of the shard's is one of the case's, and there is a timeline for it, whose latest commit was not beyond the bound
 pub record HasTimeline (s : Shard) (r : ℕ) : Type 0 where
+  pub known : r < s.case.net.nodes
   pub within : place s r < length s.timelines
   pub net : (timeline s r).net ≡ s.case.net
   pub node : (timeline s r).node ≡ r
@@ -233,10 +249,12 @@ pub record HasRun (s : Shard) (r : ℕ) : Type 0 where
   pub falling : IsFalling (simulation s.case) ((core 0 s).history r)
   pub run : below (simulation s.case) s.bound ((core 0 s).history r) ≡ own_run s.case r s.bound
 
--- each of its routers is there, what is pending suits its receiver, and what is held is in order
+-- each of its routers is there once, what is pending suits its receiver, and what is held is in order
 pub record IsWhole (s : Shard) : Type 0 where
   pub case : IsCase s.case
   pub worker : s.worker < s.workers
+  pub apart : AreApart s.routers
+  pub long : length s.timelines ≡ length s.routers
   pub routers : (r : ℕ) → owns s r ≡ true → HasTimeline s r
   pub pending : AllByRecursion (λ e. suits s.case.net e.dst e ≡ true) s.pending
   pub held : IsRising event_before event_same s.held

@@ -13,6 +13,7 @@ pub mod laws;
 mod past;
 mod receive;
 mod rejection;
+mod roster;
 mod shard;
 pub mod shards;
 mod timeline;

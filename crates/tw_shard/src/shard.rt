@@ -1,6 +1,6 @@
 //! A shard: one worker's routers.
 
-ghost use Rattle.std.specs.Prelude.{◌≡◌, ◌≤◌, ◌<◌, [], length, max, min, slice_get, slice_index_or, slice_set, true, false, ℕ, IfOk, IfNone, IfSome, IsErrOf, IsTrue, OnErr, OnOk, ◌↔◌, Err, Ok, ◌++◌, ◌∷◌, map, List};
+ghost use Rattle.std.specs.Prelude.{◌≡◌, ◌≤◌, ◌<◌, [], length, max, min, Some, slice_get, slice_index_or, slice_set, true, false, ℕ, IfOk, IfNone, IfSome, IsErrOf, IsTrue, OnErr, OnOk, ◌↔◌, Err, Ok, ◌++◌, ◌∷◌, map, List};
 ghost use Rattle.tw_core.specs.declared.refusal.Refusal.{Refusal as ARefusal};
 ghost use Rattle.std.specs.List.{reduce};
 ghost use Rattle.std.specs.Option.{option_copied};
@@ -20,10 +20,12 @@ ghost use Rattle.tw_shard.specs.Shard.{IsSameShare, IsUndone, IsWhole, IsNext, c
 ghost use Rattle.tw_shard.specs.Timeline.{history, router_of, sends_after, signed};
 
 mod commit;
+mod moving;
 mod open;
 mod release;
 mod widen;
 
+use crate::roster::Roster;
 use crate::timeline::Timeline;
 use smallvec::SmallVec;
 use std::alloc::{AllocError, Global};
@@ -36,7 +38,7 @@ use tw_instance::{Case, Instance};
 use tw_model::OrMemory;
 use tw_queue::{HeldSends, Pending};
 use tw_router::Router;
-use tw_sim::{Cancel, Routers, Signed, own_place, owner};
+use tw_sim::{Cancel, Signed};
 
 /// One worker's routers, which run ahead of the others and are rolled back.
 #[derive(Drop)]
@@ -44,6 +46,7 @@ pub struct Shard<'a> {
     case: &'a Case,
     worker: u32,
     workers: u32,
+    roster: Roster,
     timelines: Vec<Timeline<'a>>,
     pending: Pending,
     kept: Pending,
@@ -85,30 +88,41 @@ impl<'a> Shard<'a> {
     }
 
     /// Whether this router is one of the shard's.
+    #[inline(always)]
     pub fn owns(&self, router: u32) -> bool
         ensures value { result ≡ owns self.now router }
         ensures whole { IsWhole self.now }
     {
-        router < self.case.instance().nodes()
-            && owner(router, self.workers as usize) == self.worker as usize
+        self.roster.has(router)
     }
 
-    /// Its routers, in rising order.
-    pub fn routers(&self) -> Routers
-        ensures value { result ≡ routers self.now }
+    /// How many routers it has.
+    pub fn router_count(&self) -> usize
+        ensures value { result ≡ length (routers self.now) }
         ensures whole { IsWhole self.now }
     {
-        Routers::new(self.worker, self.workers, self.case.instance().nodes())
+        self.roster.routers().len()
+    }
+
+    /// Router number `k`, from 0, of those that it has.
+    pub fn router_at(&self, k: usize) -> u32
+        requires { k < length (routers self.now) }
+        ensures value { slice_get (routers self.now) k ≡ Some result }
+        ensures own { owns self.now result ≡ true }
+        ensures whole { IsWhole self.now }
+    {
+        self.roster.routers()[k]
     }
 
     /// Where the timeline of one of its routers stands.
+    #[inline(always)]
     fn place(&self, router: u32) -> usize
         requires { owns self.now router ≡ true }
         ensures value { result ≡ place self.now router }
         ensures within { result < length self.now.timelines }
         ensures whole { IsWhole self.now }
     {
-        own_place(router, self.workers as usize)
+        self.roster.place(router)
     }
 
     /// The timeline of one of its routers.

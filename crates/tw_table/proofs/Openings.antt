@@ -1,5 +1,5 @@
 -- New shares keep the rule with a new exchange.
-use Rattle.std.proofs.Common.{◌≡◌, ℕ, zero, suc, ◌+◌, ◌<◌, ◌==◌, ◌&&◌, cond, List, [], ◌∷◌, Option, Some, filter, flat_map, length, map, replicate, refl, ap, sym, ◌∙◌, subst, inl, inr, arith, nat_lt}
+use Rattle.std.proofs.Common.{◌≡◌, ℕ, zero, suc, ◌+◌, ◌<◌, ◌==◌, ◌&&◌, cond, List, [], ◌∷◌, Option, Some, filter, flat_map, length, map, replicate, refl, ap, sym, ◌∙◌, subst, inl, inr, arith}
 use Rattle.std.proofs.lemmas.Bool.{cases_Bool, lt-ltb}
 use Rattle.std.specs.List.{AllByRecursion, range_with_len}
 use Rattle.tw_core.specs.Machine.{Core}
@@ -46,10 +46,7 @@ module _ (case : Case) (is : IsCase case) (n : ℕ) where
 
   -- it has the routers of its worker
   has_own : (k : ℕ) (s : Share) (r : ℕ) → IsNew case k n s → r < case.net.nodes → owns s.shard r ≡ (owner n r == k)
-  has_own k s r new below =
-      ap (λ (c : Case). nat_lt r c.net.nodes && (owner s.shard.workers r == s.shard.worker)) new.case_is
-      ∙ (ap (λ b. b && (owner s.shard.workers r == s.shard.worker)) (lt-ltb r case.net.nodes below)
-      ∙ (ap (λ j. owner j r == s.shard.worker) new.count ∙ ap (λ w. owner n r == w) new.worker))
+  has_own k s r new below = new.owns_are r ∙ ap (λ b. b && (owner n r == k)) (lt-ltb r case.net.nodes below)
 
   new_place : (k : ℕ) (s : Share) → IsNew case k n s → IsOpeningPlace (simulation case) (owner n) k (place_of s)
   new_place k s new = record {

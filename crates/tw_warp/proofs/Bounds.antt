@@ -1,5 +1,5 @@
 -- The least time of all that is loose.
-use Rattle.std.proofs.Common.{◌≡◌, ℕ, ◌+◌, ◌<◌, ◌≤◌, List, [], ◌∷◌, ◌++◌, flat_map, fold, length, map, min, drop, get_or, Ok, refl, ap, sym, ◌∙◌, subst, inl, inr, arith}
+use Rattle.std.proofs.Common.{◌≡◌, ℕ, ◌+◌, ◌<◌, ◌≤◌, List, [], ◌∷◌, ◌++◌, flat_map, fold, length, map, min, nat_lt, drop, get_or, ◌==◌, ◌&&◌, Ok, refl, ap, sym, ◌∙◌, subst, inl, inr, arith}
 use Rattle.std.specs.List.{reduce}
 use Rattle.std.specs.Option.{option_map_or}
 use Rattle.std.proofs.Math.Path.{fun_ext}
@@ -191,7 +191,7 @@ module _ (w : Warp) (is : IsWarp w) (bound : ℕ) where
             subst (IsShare (at_bound w bound) k) (sym at) (record {
               case = old.case;
               worker = old.worker;
-              workers = old.workers ∙ sym same;
+              routers = λ r. old.routers r ∙ (λ i. nat_lt r w.case.net.nodes && (owner (sym same i) r == k));
               bound = omega arith;
               keeps = old.keeps;
               cancel = old.cancel;

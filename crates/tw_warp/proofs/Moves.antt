@@ -1,6 +1,6 @@
 -- What a call at one worker's shard leaves of the machine.
 use Rattle.std.proofs.Common.{◌≡◌, ℕ, suc, ◌<◌, ◌≤◌, ◌==◌, ◌&&◌, Bool, true, false, List, [], ◌++◌, length, set, get_or, remove, nat_lt, slice_get, Some, Result, Ok, Err, length-set, if◌then◌else◌, refl, ap, sym, ◌∙◌, subst, inl, inr, arith}
-use Rattle.std.proofs.lemmas.Bool.{cases_Bool, cases_eq, eq-eqb, le-ltb, lt-ltb}
+use Rattle.std.proofs.lemmas.Bool.{cases_eq, eq-eqb, le-ltb, lt-ltb}
 use Rattle.std.proofs.lemmas.List.{append-nil, get_or-set_other, get_or-set_same}
 use Rattle.std.proofs.lemmas.List.Edits.{remove-append_left}
 use Rattle.std.proofs.lemmas.Option.{slice_get_within}
@@ -21,6 +21,7 @@ use Rattle.tw_shard.specs.Commit.{committing}
 use Rattle.tw_shard.specs.declared.rejection.Rejection.{Rejection}
 use Rattle.tw_shard.specs.declared.rejection.Rejection.TheVariants as rejection
 use Rattle.tw_shard.specs.declared.rejection.Rejection.TheVariants.{Foreign, Late}
+use Rattle.tw_shard.specs.Roster.{has}
 use Rattle.tw_shard.specs.Shard.{IsSameShare, Shard, handling, owns, releasing, undoing, widening}
 use Rattle.tw_shard.specs.Shard as share
 use Rattle.tw_sim.specs.Owners.{owner}
@@ -41,6 +42,14 @@ welcome : (bound : ℕ) (own soon suit : Bool) → own ≡ true → soon ≡ fal
     → ◌≡◌ {A = Result (Unit {0}) Rejection} (if own then (if soon then Err (Late bound) else (if suit then Ok tt else Err Foreign)) else Err rejection.NotMine) (Ok tt)
 welcome bound own soon suit a b c = rw (a, b, c) refl
 
+and_true : (b : Bool) → (b && true) ≡ b
+and_true true = refl
+and_true false = refl
+
+and_false : (b : Bool) → (b && false) ≡ false
+and_false true = refl
+and_false false = refl
+
 module _ (w : Warp) (is : IsWarp w) where
   pub law : IsLawful (simulation w.case)
   law = lawful w.case is.case
@@ -60,22 +69,13 @@ module _ (w : Warp) (is : IsWarp w) where
     -- the lent shard owns the routers of its worker that are there
     pub lent_owns : (r : ℕ) → worker_of w r ≡ k → owns (lent w k) r ≡ nat_lt r w.case.net.nodes
     lent_owns r mine =
-        let own = is.shares k within in
-        let at : (owner (shard_at w k).workers r == (shard_at w k).worker) ≡ true = (λ i. owner (own.workers i) r == own.worker i) ∙ eq-eqb (worker_of w r) k mine in
-        (λ i. nat_lt r (own.case i).net.nodes && at i) ∙ elim (cases_Bool (nat_lt r w.case.net.nodes)) [
-          | inl there ↦ rw there refl
-          | inr none ↦ rw none refl
-        ]
+        (is.shares k within).routers r ∙ (ap (λ b. nat_lt r w.case.net.nodes && b) (eq-eqb (worker_of w r) k mine) ∙ and_true (nat_lt r w.case.net.nodes))
 
     -- a router of another worker has handled nothing there
     bare : (r : ℕ) → (worker_of w r == k) ≡ false → (share.core w.stop (lent w k)).history r ≡ []
     bare r other =
-        let own = is.shares k within in
-        let at : (owner (shard_at w k).workers r == (shard_at w k).worker) ≡ false = (λ i. owner (own.workers i) r == own.worker i) ∙ other in
-        let none : owns (lent w k) r ≡ false = elim (cases_Bool (nat_lt r (shard_at w k).case.net.nodes)) [
-          | inl there ↦ rw (there, at) refl
-          | inr absent ↦ rw absent refl
-        ] in
+        let none : owns (lent w k) r ≡ false =
+        (is.shares k within).routers r ∙ (ap (λ b. nat_lt r w.case.net.nodes && b) other ∙ and_false (nat_lt r w.case.net.nodes)) in
         rw none refl
 
     -- its part of a good state
@@ -212,7 +212,8 @@ next_is w is k s flight within same bound held own good =
             subst (IsShare (with_shard w k next flight) j) (sym at) (record {
               case = same.case ∙ (is.shares k within).case;
               worker = same.worker ∙ ((is.shares k within).worker ∙ sym here);
-              workers = same.workers ∙ ((is.shares k within).workers ∙ sym count);
+              routers = λ r.
+                  ap (λ rs. has rs r) same.routers ∙ ((is.shares k within).routers r ∙ (λ i. nat_lt r w.case.net.nodes && (owner (sym count i) r == sym here i)));
               bound = bound;
               keeps = same.keeps ∙ (is.shares k within).keeps;
               cancel = same.cancel ∙ (is.shares k within).cancel;
@@ -227,7 +228,7 @@ next_is w is k s flight within same bound held own good =
             subst (IsShare (with_shard w k next flight) j) (sym at) (record {
               case = old.case;
               worker = old.worker;
-              workers = old.workers ∙ sym count;
+              routers = λ r. old.routers r ∙ (λ i. nat_lt r w.case.net.nodes && (owner (sym count i) r == j));
               bound = old.bound;
               keeps = old.keeps;
               cancel = old.cancel;

@@ -134,7 +134,7 @@ module _ (w : Warp) (is : IsCase w.case) (some : 0 < length w.shards) (each : (k
             record {
               case = at.case_is;
               worker = at.worker;
-              workers = at.count;
+              routers = at.owns_are;
               bound = ap (λ (C : Core Event). C.bound) (at.core_is 0) ∙ sym bound;
               keeps = at.keeps_are;
               cancel = ap (λ (C : Core Event). C.cancel) (at.core_is 0);

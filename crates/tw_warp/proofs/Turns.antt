@@ -206,7 +206,7 @@ module _ (w : Warp) (is : IsWarp w) (k : ℕ) (within : k < length w.shards) whe
     none = back.outgoing ∙ (is.shares k within).outgoing
 
     here : IsSameShare (shard_at w k) s → IsSameShare (shard_at w k) (behind s flight)
-    here same = record { case = same.case; worker = same.worker; workers = same.workers; keeps = same.keeps; cancel = same.cancel }
+    here same = record { case = same.case; worker = same.worker; workers = same.workers; routers = same.routers; keeps = same.keeps; cancel = same.cancel }
 
     did : IsSameShare (shard_at w k) s → call (lent w k) ≡ Ok (share.core w.stop (behind s flight)) → make (core w) ≡ Ok (core (given_back w k (behind s flight)))
     did same ok =
@@ -269,7 +269,7 @@ later_stop w stop is rises most = record {
   shares = λ k within. (let old = is.shares k within in record {
     case = old.case;
     worker = old.worker;
-    workers = old.workers;
+    routers = old.routers;
     bound = old.bound;
     keeps = old.keeps;
     cancel = old.cancel;

@@ -1,5 +1,5 @@
 -- All routers of a case, dealt out to workers, as one machine (after Jefferson, Virtual Time, 1985).
-use Rattle.std.specs.Prelude.{ℕ, zero, suc, ◌≡◌, ◌<◌, ◌≤◌, ◌==◌, true, List, [], length, slice_get, slice_index_or, Option, Some, None}
+use Rattle.std.specs.Prelude.{ℕ, zero, suc, ◌≡◌, ◌<◌, ◌≤◌, ◌==◌, ◌&&◌, true, List, [], length, nat_lt, slice_get, slice_index_or, Option, Some, None}
 use Rattle.std.specs.List.{flat_map}
 use Rattle.tw_core.specs.Good.{IsGood}
 use Rattle.tw_core.specs.Machine.{Core}
@@ -58,10 +58,11 @@ core w = record {
 
 -- a shard as this worker's of the machine
 pub record IsShare (w : Warp) (k : ℕ) (s : Shard) : Type 0 where
-  -- of the same case, worker k of as many as there are shards
+  -- of the same case, and worker k's
   pub case : s.case ≡ w.case
   pub worker : s.worker ≡ k
-  pub workers : s.workers ≡ length w.shards
+  -- it has the routers of the case that are this worker's
+  pub routers : (r : ℕ) → share.owns s r ≡ (nat_lt r w.case.net.nodes && (worker_of w r == k))
   -- with the bound of all
   pub bound : s.bound ≡ w.bound
   -- its routers keep their committed events

@@ -11,19 +11,19 @@ use Rattle.tw_event.specs.declared.event.Event.{Event}
 use Rattle.tw_model.specs.Case.{Case, simulation}
 use Rattle.tw_rule.proofs.Least.{events_told}
 use Rattle.tw_shard.proofs.Shares.{listed}
+use Rattle.tw_shard.specs.Roster.{has}
 use Rattle.tw_shard.specs.Shard.{IsSameShare, Shard, core, owns, place, releasing, routers}
 use Rattle.tw_sim.proofs.Counts.{in_filter, one_self, times-filter-yes}
 use Rattle.tw_sim.specs.Simulation.{IsLawful, Simulation, times}
 use Rattle.tw_table.specs.Shares.{Share}
-use Rattle.tw_workers.proofs.Commits.{same_owns}
 use Rattle.tw_workers.specs.Work.{AreAwaited, AreAwaitedFrom, IsAtWork, IsAwaited}
 
 -- for the routers that are not left, what is held may be sent again
 abbrev pub AreReleased : List ℕ → ℕ → Shard → Type 0
 AreReleased left stop s = (r : ℕ) → owns s r ≡ true → AreAwaitedFrom r stop s ⊎ ((k : ℕ) × (slice_get left k ≡ Some r))
 
-pub all_to_release : (stop : ℕ) (s : Shard) (left : List ℕ) → s.worker < s.workers → left ≡ routers s → AreReleased left stop s
-all_to_release stop s left some all r mine = inr (place s r, ap (λ rs. slice_get rs (place s r)) all ∙ listed s some r mine)
+pub all_to_release : (stop : ℕ) (s : Shard) → AreReleased (routers s) stop s
+all_to_release stop s r mine = inr (place s r, listed s r mine)
 
 -- none is left
 pub all_released : (stop : ℕ) (s : Share) (left : List ℕ) → left ≡ [] → IsAtWork stop s → AreReleased left stop s.shard → AreAwaited stop s.shard
@@ -107,18 +107,20 @@ module _ (n stop : ℕ) (s t : Shard) (law : IsLawful (simulation s.case)) (same
   }
 
   -- nothing is held for it
-  its_own : AreAwaitedFrom n stop t
+  pub its_own : AreAwaitedFrom n stop t
   its_own e held sender =
       let other = (held_before e held).0 in
       let here : not (e.src == n) ≡ false = ap (λ b. not b) (eq-eqb e.src n sender) in
       absurd (cc (here, other))
 
   -- for the others all is as before
-  from_still : (r : ℕ) → AreAwaitedFrom r stop s → AreAwaitedFrom r stop t
+  pub from_still : (r : ℕ) → AreAwaitedFrom r stop s → AreAwaitedFrom r stop t
   from_still r was e held sender = awaited_still e (was e (held_before e held).1 sender)
 
-  pub released_more : (left rest : List ℕ) → left ≡ n ∷ rest → AreReleased left stop s → AreReleased rest stop t
-  released_more left rest is old =
-      awaited_more n stop left rest t is
-      (λ r mine. elim (old r (sym (same_owns s t same r) ∙ mine)) [ inl was ↦ inl (from_still r was) | inr at ↦ inr at ])
-      its_own
+-- one of those that are left has been seen to, and its shard has the routers that it had
+pub released_more : (n stop : ℕ) (left rest : List ℕ) (s t : Shard) → routers t ≡ routers s → left ≡ n ∷ rest → AreReleased left stop s
+    → AreAwaitedFrom n stop t → ((r : ℕ) → AreAwaitedFrom r stop s → AreAwaitedFrom r stop t) → AreReleased rest stop t
+released_more n stop left rest s t same is old now others =
+    awaited_more n stop left rest t is
+    (λ r mine. elim (old r (ap (λ rs. has rs r) (sym same) ∙ mine)) [ inl was ↦ inl (others r was) | inr at ↦ inr at ])
+    now

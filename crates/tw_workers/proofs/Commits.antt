@@ -1,5 +1,5 @@
 -- What a commit keeps of a worker's share.
-use Rattle.std.proofs.Common.{◌≡◌, ◌⊎◌, ℕ, zero, suc, ◌<◌, ◌==◌, List, [], ◌∷◌, cond, true, slice_get, Option, Some, None, Ok, Err, refl, ap, sym, ◌∙◌, subst, inl, inr, arith, if◌then◌else◌}
+use Rattle.std.proofs.Common.{◌+◌, drop, ◌≡◌, ◌⊎◌, ℕ, zero, suc, ◌<◌, ◌==◌, List, [], ◌∷◌, cond, true, slice_get, Option, Some, None, Ok, Err, refl, ap, sym, ◌∙◌, subst, inl, inr, arith, if◌then◌else◌}
 use Rattle.std.proofs.lemmas.Bool.{cases_Bool, cases_eq, eq-eqb, ne_eqb}
 use Rattle.std.specs.List.{AllByRecursion}
 use Rattle.tw_core.proofs.Sums.{all_map}
@@ -10,7 +10,7 @@ use Rattle.tw_model.specs.Case.{simulation}
 use Rattle.tw_rule.specs.Place as place
 use Rattle.tw_rule.specs.Place.{IsPlace, Keeps, Place, with_core}
 use Rattle.tw_shard.specs.Commit.{committing}
-use Rattle.tw_shard.proofs.Shares.{listed, owns_parts}
+use Rattle.tw_shard.proofs.Shares.{listed}
 use Rattle.tw_shard.specs.Shard.{HasRun, IsSameShare, Shard, core, owns, place, routers}
 use Rattle.tw_sim.specs.Simulation.{Simulation}
 use Rattle.tw_table.specs.Shares.{Share, place_of}
@@ -55,18 +55,24 @@ kept_committed stop r s t work same own =
     let m = simulation s.shard.case in
     let made : with_core (with_commit m (core stop s.shard) r) (place_of s) ≡ place_of (record s { shard = t })
     = (λ i. with_core (sym own i) (place_of s)) ∙ sym (place_after stop s (record s { shard = t }) same refl refl) in
-    record { case = same.case; workers = same.workers; keeping = same.keeps; cancel = same.cancel; place = subst (Keeps m stop (place_of s)) made (keeps_commit m stop r (place_of s) work.place) }
+    record { case = same.case; workers = same.workers; routers = same.routers; keeping = same.keeps; cancel = same.cancel; place = subst (Keeps m stop (place_of s)) made (keeps_commit m stop r (place_of s) work.place) }
 
 -- what one of its routers has handled before the bound is the run
-pub has_run : (stop : ℕ) (s : Share) → IsAtWork stop s → (r : ℕ) → owns s.shard r ≡ true → HasRun s.shard r
-has_run stop s work r mine = record { falling = work.place.good.falling r; run = work.run r (owns_parts s.shard r mine).0 mine }
+pub has_run : (stop : ℕ) (s : Share) → IsAtWork stop s → (r : ℕ) → owns s.shard r ≡ true → r < s.shard.case.net.nodes → HasRun s.shard r
+has_run stop s work r mine known = record { falling = work.place.good.falling r; run = work.run r known mine }
 
 -- the routers that are not left have committed
 abbrev pub AreDone : List ℕ → Shard → Type 0
 AreDone left s = (r : ℕ) → owns s r ≡ true → ((core 0 s).done r ≡ s.bound) ⊎ ((k : ℕ) × (slice_get left k ≡ Some r))
 
-pub all_to_do : (s : Shard) (left : List ℕ) → s.worker < s.workers → left ≡ routers s → AreDone left s
-all_to_do s left some all r mine = inr (place s r, ap (λ rs. slice_get rs (place s r)) all ∙ listed s some r mine)
+pub all_to_do : (s : Shard) → AreDone (routers s) s
+all_to_do s r mine = inr (place s r, listed s r mine)
+
+-- one of those that are left comes next
+pub next_left : (rs : List ℕ) (k r : ℕ) → slice_get rs k ≡ Some r → drop k rs ≡ r ∷ drop (k + 1) rs
+next_left [] k r got = absurd (cc got)
+next_left (q ∷ rs) zero r got = let same : q ≡ r = cc got in ap (λ p. p ∷ rs) same
+next_left (q ∷ rs) (suc k) r got = let more : suc k + 1 ≡ suc (k + 1) = omega arith in next_left rs k r got ∙ ap (λ n. r ∷ drop n (q ∷ rs)) (sym more)
 
 pub all_done : (s : Shard) (left : List ℕ) → left ≡ [] → AreDone left s → (r : ℕ) → owns s r ≡ true → (core 0 s).done r ≡ s.bound
 all_done s left none done r mine =

@@ -116,6 +116,7 @@ kept_sorted stop s work =
     record {
       case = refl;
       workers = refl;
+      routers = refl;
       keeping = refl;
       cancel = refl;
       place = keeps_moved m law stop (place_of s) (s.mail ++ own) (s.unsent ++ rest) [] work.place
@@ -145,6 +146,7 @@ kept_sent stop s work =
     record {
       case = refl;
       workers = refl;
+      routers = refl;
       keeping = refl;
       cancel = refl;
       place = keeps_moved m (lawful s.shard.case work.case) stop (place_of s) s.mail (s.unsent ++ s.shard.outgoing) [] work.place

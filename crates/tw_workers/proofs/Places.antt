@@ -15,6 +15,7 @@ use Rattle.tw_rule.proofs.Calls.{hand_is_loose, hand_is_own, keeps_handle, keeps
 use Rattle.tw_rule.specs.Place.{IsFrom, IsPlace, IsRunBefore, Keeps, with_core}
 use Rattle.std.specs.Result.{result_and}
 use Rattle.tw_shard.specs.Arrival.{receiving, refusing}
+use Rattle.tw_shard.specs.Roster.{has}
 use Rattle.tw_shard.specs.Shard.{IsSameShare, Shard, core, handling, owns, releasing, widening}
 use Rattle.tw_sim.specs.declared.machine.Signed.{Signed}
 use Rattle.tw_sim.specs.Owners.{owner}
@@ -27,7 +28,7 @@ use Rattle.tw_workers.specs.Work.{IsAtWork, Kept}
 pub place_after : (stop : ℕ) (s t : Share) → IsSameShare s.shard t.shard → t.mail ≡ s.mail → t.unsent ≡ s.unsent → place_of t ≡ with_core (core stop t.shard) (place_of s)
 place_after stop s t same mail unsent = λ i. record {
   worker = same.worker i;
-  owns = λ r. nat_lt r (same.case i).net.nodes && (owner (same.workers i) r == same.worker i);
+  owns = λ r. has (same.routers i) r;
   history = (core 0 t.shard).history;
   pending = t.shard.pending;
   kept = t.shard.kept;
@@ -55,7 +56,7 @@ keeps_same stop s work = record {
 }
 
 pub kept_same : (stop : ℕ) (s : Share) → IsAtWork stop s → Kept stop s s
-kept_same stop s work = record { case = refl; workers = refl; keeping = refl; cancel = refl; place = keeps_same stop s work }
+kept_same stop s work = record { case = refl; workers = refl; routers = refl; keeping = refl; cancel = refl; place = keeps_same stop s work }
 
 pub kept_both : (stop : ℕ) (s t u : Share) → Kept stop s t → Kept stop t u → Kept stop s u
 kept_both stop s t u one two =
@@ -65,6 +66,7 @@ kept_both stop s t u one two =
     record {
       case = two.case ∙ one.case;
       workers = two.workers ∙ one.workers;
+      routers = two.routers ∙ one.routers;
       keeping = two.keeping ∙ one.keeping;
       cancel = two.cancel ∙ one.cancel;
       place = record {
@@ -150,7 +152,7 @@ kept_received stop s t x rest work first same came mail unsent =
     let arrived : with_core (after_arrival m (core stop s.shard) x) (record (place_of s) { mail = remove s.mail 0 }) ≡ with_core (core stop t.shard) (place_of mid)
     = λ i. with_core (came i) (record (place_of s) { mail = left i }) in
     let made = arrived ∙ sym (place_after stop mid t same mail unsent) in
-    record { case = same.case; workers = same.workers; keeping = same.keeps; cancel = same.cancel; place = subst (Keeps m stop (place_of s)) made keeps }
+    record { case = same.case; workers = same.workers; routers = same.routers; keeping = same.keeps; cancel = same.cancel; place = subst (Keeps m stop (place_of s)) made keeps }
 
 -- some of what it undoes is undone, and it is in the hand still
 pub kept_rolled_back : (stop : ℕ) (s t : Share) (x : Signed Event) (rest : List (Signed Event)) → IsAtWork stop s → s.mail ≡ x ∷ rest → IsSameShare s.shard t.shard
@@ -159,7 +161,7 @@ kept_rolled_back stop s t x rest work first same back mail unsent =
     let m = simulation s.shard.case in
     let there : slice_get s.mail 0 ≡ Some x = ap (λ l. slice_get l 0) first in
     let keeps = keeps_roll_back m (lawful s.shard.case work.case) stop 0 (place_of s) x (core stop t.shard) work.place there back in
-    record { case = same.case; workers = same.workers; keeping = same.keeps; cancel = same.cancel; place = subst (Keeps m stop (place_of s)) (sym (place_after stop s t same mail unsent)) keeps }
+    record { case = same.case; workers = same.workers; routers = same.routers; keeping = same.keeps; cancel = same.cancel; place = subst (Keeps m stop (place_of s)) (sym (place_after stop s t same mail unsent)) keeps }
 
 -- ---- a router handles
 
@@ -182,7 +184,7 @@ kept_handled stop r s t work same done mail unsent =
     let own = own_of stop r s.shard t.shard done in
     let at_own : next ≡ Ok (core stop t.shard) = sym (ap (λ b. if b then next else Err NotMine) own) ∙ done in
     let keeps = keeps_handle m (lawful s.shard.case work.case) stop r (place_of s) (core stop t.shard) work.place at_own in
-    record { case = same.case; workers = same.workers; keeping = same.keeps; cancel = same.cancel; place = subst (Keeps m stop (place_of s)) (sym (place_after stop s t same mail unsent)) keeps }
+    record { case = same.case; workers = same.workers; routers = same.routers; keeping = same.keeps; cancel = same.cancel; place = subst (Keeps m stop (place_of s)) (sym (place_after stop s t same mail unsent)) keeps }
 
 -- a router that has no room is one of its own
 pub own_full : (stop r : ℕ) (s : Shard) → handling stop s r ≡ Err AheadFull → owns s r ≡ true
@@ -208,6 +210,7 @@ kept_widened stop r s t work same own done =
     record {
       case = same.case;
       workers = same.workers;
+      routers = same.routers;
       keeping = same.keeps;
       cancel = same.cancel;
       place = subst (Keeps m stop (place_of s)) made (keeps_widen m (lawful s.shard.case work.case) stop r (place_of s) work.place);
@@ -226,6 +229,7 @@ kept_released stop r s t work same own done =
     record {
       case = same.case;
       workers = same.workers;
+      routers = same.routers;
       keeping = same.keeps;
       cancel = same.cancel;
       place = subst (Keeps m stop (place_of s)) made (keeps_release m (lawful s.shard.case work.case) stop r (place_of s) work.place);

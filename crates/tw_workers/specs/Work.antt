@@ -29,6 +29,8 @@ pub record Kept (stop : ℕ) (s t : Share) : Type 0 where
   pub case : t.shard.case ≡ s.shard.case
   -- there are as many workers
   pub workers : t.shard.workers ≡ s.shard.workers
+  -- it has the same routers, in the same order
+  pub routers : t.shard.routers ≡ s.shard.routers
   -- its routers keep their committed events, or let them go, as before
   pub keeping : t.shard.keeps ≡ s.shard.keeps
   -- and it takes back what undone events have sent as before

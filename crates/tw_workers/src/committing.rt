@@ -1,5 +1,5 @@
 //! What a worker has handled before the bound is let go.
-ghost use Rattle.std.specs.Prelude.{ℕ, ◌≡◌, false, true, OnErr, OnOk};
+ghost use Rattle.std.specs.Prelude.{ℕ, ◌≡◌, ◌<◌, false, true, OnErr, OnOk};
 ghost use Rattle.tw_core.specs.Steps.{with_commit};
 ghost use Rattle.tw_model.specs.Case.{simulation};
 ghost use Rattle.tw_shard.specs.Shard.{HasRun, IsSameShare, core, owns};
@@ -25,7 +25,8 @@ impl<'a> Worker<'a> {
         ensures outgoing { self.new.share.shard.outgoing ≡ self.old.share.shard.outgoing }
         ensures stop { self.new.stop ≡ self.old.stop }
     {
-        for router in self.shard.routers() {
+        for place in 0..self.shard.router_count() {
+            let router = self.shard.router_at(place);
             commit_at(&mut self.shard, router)?;
         }
         Ok(())
@@ -35,7 +36,7 @@ impl<'a> Worker<'a> {
 /// One of a shard's routers commits its events before the bound, which are the one-thread run.
 pub(crate) fn commit_at(shard: &mut Shard<'_>, router: u32) -> Result<(), AllocError>
     requires own { owns shard.old router ≡ true }
-    requires run { HasRun shard.old router }
+    requires run { router < shard.old.case.net.nodes → HasRun shard.old router }
     ensures ok { (stop : ℕ) → OnOk result (core stop shard.new ≡ with_commit (simulation shard.old.case) (core stop shard.old) router) }
     ensures err { OnErr result (shard.new ≡ shard.old) }
     ensures same { IsSameShare shard.old shard.new }

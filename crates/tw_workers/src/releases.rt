@@ -1,6 +1,6 @@
 //! What is held of what undone events had sent is taken back.
 ghost use Rattle.std.specs.Prelude.{ℕ, ◌≡◌, Ok, OnErr, OnOk, false, true};
-ghost use Rattle.tw_shard.specs.Shard.{IsSameShare, core, owns, releasing};
+ghost use Rattle.tw_shard.specs.Shard.{IsSameShare, core, owns, releasing, routers};
 ghost use Rattle.tw_workers.specs.Work.{AreAwaited, AreAwaitedFrom, IsAtWork, StillKeeps};
 
 use crate::worker::Worker;
@@ -23,10 +23,27 @@ impl<'a> Worker<'a> {
         if self.shard.held_len() == 0 {
             return Ok(());
         }
-        for router in self.shard.routers() {
-            if self.is_release_due(router) {
-                self.release_router(router)?;
-            }
+        for place in 0..self.shard.router_count() {
+            let router = self.shard.router_at(place);
+            self.release_if_due(router)?;
+        }
+        Ok(())
+    }
+
+    /// One of its routers takes back what is held for it, unless its next events may send that again.
+    fn release_if_due(&mut self, router: u32) -> Result<(), AllocError>
+        requires own { owns self.old.share.shard router ≡ true }
+        requires work { IsAtWork self.old.stop self.old.share }
+        ensures kept { StillKeeps self.old self.new }
+        ensures mail { self.new.share.mail ≡ self.old.share.mail }
+        ensures stop { self.new.stop ≡ self.old.stop }
+        ensures work { IsAtWork self.new.stop self.new.share }
+        ensures routers { routers self.new.share.shard ≡ routers self.old.share.shard }
+        ensures awaited { OnOk result (AreAwaitedFrom router self.new.stop self.new.share.shard) }
+        ensures others { OnOk result ((r : ℕ) → AreAwaitedFrom r self.old.stop self.old.share.shard → AreAwaitedFrom r self.new.stop self.new.share.shard) }
+    {
+        if self.is_release_due(router) {
+            self.release_router(router)?;
         }
         Ok(())
     }

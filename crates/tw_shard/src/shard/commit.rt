@@ -30,7 +30,7 @@ impl<'a> Shard<'a> {
     /// It is refused as `NotMine` where the router is none of the shard's. After a refusal and for want
     /// of memory nothing has changed. Where no event becomes committed, it takes no memory.
     pub fn commit(&mut self, router: u32) -> Result<(), OrMemory<Refusal>>
-        requires run { self.old.keeps ≡ false → owns self.old router ≡ true → HasRun self.old router }
+        requires run { self.old.keeps ≡ false → owns self.old router ≡ true → router < self.old.case.net.nodes → HasRun self.old router }
         ensures ok { (stop : ℕ) → OnOk result (committing stop self.old router ≡ Ok (core stop self.new)) }
         ensures events { OnOk result (self.new ≡ committed_at self.old router) }
         ensures past { let h = (core 0 self.old).history router in OnOk result (IsFalling (simulation self.old.case) h

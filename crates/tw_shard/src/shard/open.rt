@@ -1,23 +1,25 @@
 //! A shard as it begins.
 
-ghost use Rattle.std.specs.Prelude.{◌≡◌, ◌==◌, ◌<◌, [], ℕ, filter, map, true, IfOk, OnOk};
+ghost use Rattle.std.specs.Prelude.{◌≡◌, ◌==◌, ◌<◌, [], ℕ, filter, if◌then◌else◌, length, map, slice_index_or, IfOk, OnOk};
+ghost use Rattle.std.specs.List.{AllByRecursion, range_with_len};
 ghost use Rattle.tw_event.specs.Order.{event_before};
 ghost use Rattle.tw_model.specs.Case.{opening_events};
 ghost use Rattle.tw_queue.specs.Queue.{AreFor};
-ghost use Rattle.tw_shard.specs.Shard.{IsOpeningShard};
+ghost use Rattle.tw_shard.specs.Roster.{has};
+ghost use Rattle.tw_shard.specs.Shard.{IsOpeningBy, IsOpeningShard};
 ghost use Rattle.tw_shard.specs.Timeline.{opening_timeline};
 ghost use Rattle.tw_sim.specs.declared.machine.Cancel.TheVariants.{Aggressive};
-ghost use Rattle.tw_sim.specs.Ordered.{insert_all};
-ghost use Rattle.tw_sim.specs.Owners.{own_routers, owner};
+ghost use Rattle.tw_sim.specs.Ordered.{insert, insert_all};
 
 use super::Shard;
+use crate::roster::Roster;
 use crate::timeline::Timeline;
 use smallvec::SmallVec;
 use std::alloc::{AllocError, Global};
 use tw_event::Event;
 use tw_instance::Case;
 use tw_queue::{HeldSends, Pending};
-use tw_sim::{Cancel, Routers, owner};
+use tw_sim::Cancel;
 
 impl<'a> Shard<'a> {
     /// What one worker of so many has of a case, as [`Shard::open_with`] gives it; what an undone event has sent
@@ -50,14 +52,55 @@ impl<'a> Shard<'a> {
         requires { worker < workers }
         ensures { IfOk result (λ shard. IsOpeningShard case.now worker workers keeps cancel shard) }
     {
+        let count = case.instance().nodes();
+        let roster = Roster::in_turn(alloc, count, worker, workers)?;
+        Shard::with_roster(alloc, case, worker, workers, roster, keeps, cancel)
+    }
+
+    /// What one worker of so many has of a case, as [`Shard::open_with`] gives it, where its routers are those for
+    /// which `owners`, a list of the worker of each router, names it.
+    pub fn open_owned(
+        alloc: Global,
+        case: &'a Case,
+        worker: u32,
+        workers: u32,
+        owners: &[u32],
+        keeps: bool,
+        cancel: Cancel,
+    ) -> Result<Shard<'a>, AllocError>
+        requires worker { worker < workers }
+        requires owners { length owners.now ≡ case.now.net.nodes }
+        ensures { IfOk result (λ shard. IsOpeningBy case.now (λ r. slice_index_or owners.now r workers) worker workers keeps cancel shard) }
+    {
+        let count = case.instance().nodes();
+        let roster = Roster::owned(alloc, count, worker, owners)?;
+        Shard::with_roster(alloc, case, worker, workers, roster, keeps, cancel)
+    }
+
+    /// A worker's shard with these routers of the case.
+    fn with_roster(
+        alloc: Global,
+        case: &'a Case,
+        worker: u32,
+        workers: u32,
+        roster: Roster,
+        keeps: bool,
+        cancel: Cancel,
+    ) -> Result<Shard<'a>, AllocError>
+        requires worker { worker < workers }
+        requires count { roster.count ≡ case.now.net.nodes }
+        ensures { (who : ℕ → ℕ) → roster.routers ≡ filter (λ r. who r == worker) (range_with_len 0 case.now.net.nodes)
+            → IfOk result (λ shard. IsOpeningBy case.now who worker workers keeps cancel shard) }
+    {
         let instance = case.instance();
-        let timelines = opening_timelines(alloc, case, worker, workers, keeps)?;
-        let pending = opening_queue(alloc, case, worker, workers)?;
+        let timelines = opening_timelines(alloc, case, roster.routers(), keeps)?;
+        let pending = opening_queue(alloc, case, &roster)?;
         let kept = Pending::new(alloc, instance.nodes())?;
         Ok(Shard {
             case,
             worker,
             workers,
+            roster,
             timelines,
             pending,
             kept,
@@ -71,59 +114,55 @@ impl<'a> Shard<'a> {
     }
 }
 
-/// The timelines of a worker's routers as they begin, in the order of these.
+/// The timelines of routers as they begin, in the order of these.
 fn opening_timelines<'a>(
     alloc: Global,
     case: &'a Case,
-    worker: u32,
-    workers: u32,
+    routers: &[u32],
     keeps: bool,
 ) -> Result<Vec<Timeline<'a>>, AllocError>
-    requires { worker < workers }
-    ensures { IfOk result (λ timelines. timelines.items
-        ≡ map (opening_timeline case.now keeps) (own_routers workers worker case.now.net.nodes)) }
+    requires { AllByRecursion (λ r. r < case.now.net.nodes) routers.now }
+    ensures { IfOk result (λ timelines. timelines.items ≡ map (opening_timeline case.now keeps) routers.now) }
 {
     let mut timelines = Vec::new(alloc);
-    for router in Routers::new(worker, workers, case.instance().nodes()) {
-        timelines.push(Timeline::open(alloc, case, router, keeps)?)?;
+    for router in routers {
+        timelines.push(Timeline::open(alloc, case, *router, keeps)?)?;
     }
     Ok(timelines)
 }
 
-/// The opening events for a worker's routers.
-fn opening_queue(
-    alloc: Global,
-    case: &Case,
-    worker: u32,
-    workers: u32,
-) -> Result<Pending, AllocError>
-    requires { 0 < workers }
+/// The opening events for these routers.
+fn opening_queue(alloc: Global, case: &Case, roster: &Roster) -> Result<Pending, AllocError>
     ensures events { IfOk result (λ pending. pending.events
-        ≡ insert_all event_before (filter (λ e. owner workers e.dst == worker) (opening_events case.now.scenes)) []) }
+        ≡ insert_all event_before (filter (λ e. has roster.now.routers e.dst) (opening_events case.now.scenes)) []) }
     ensures routers { IfOk result (λ pending. pending.routers ≡ case.now.net.nodes) }
 {
     let mut pending = Pending::new(alloc, case.instance().nodes())?;
-    insert_own(&mut pending, case.openings(), worker, workers)?;
+    insert_own(&mut pending, case.openings(), roster)?;
     Ok(pending)
 }
 
-/// Adds the events that are for a worker's routers, each in its place.
-fn insert_own(
-    pending: &mut Pending,
-    events: &[Event],
-    worker: u32,
-    workers: u32,
-) -> Result<(), AllocError>
-    requires some { 0 < workers }
-    requires homes { AreFor pending.old.routers events.now }
+/// Adds the events that are for these routers, each in its place.
+fn insert_own(pending: &mut Pending, events: &[Event], roster: &Roster) -> Result<(), AllocError>
+    requires { AreFor pending.old.routers events.now }
     ensures events { OnOk result
-        (pending.new.events ≡ insert_all event_before (filter (λ e. owner workers e.dst == worker) events.now) pending.old.events) }
+        (pending.new.events ≡ insert_all event_before (filter (λ e. has roster.now.routers e.dst) events.now) pending.old.events) }
     ensures routers { pending.new.routers ≡ pending.old.routers }
 {
     for event in events {
-        if owner(event.dst, workers as usize) == worker as usize {
-            pending.insert(*event)?;
-        }
+        insert_where(pending, roster.has(event.dst), event)?;
+    }
+    Ok(())
+}
+
+/// Adds an event in its place, where this says so.
+fn insert_where(pending: &mut Pending, own: bool, event: &Event) -> Result<(), AllocError>
+    requires { event.now.dst < pending.old.routers }
+    ensures events { OnOk result (pending.new.events ≡ (if own then insert event_before event.now pending.old.events else pending.old.events)) }
+    ensures routers { pending.new.routers ≡ pending.old.routers }
+{
+    if own {
+        pending.insert(*event)?;
     }
     Ok(())
 }

@@ -1,7 +1,7 @@
-use Rattle.std.proofs.Common.{◌≡◌, Ok, ap, sym, ◌∙◌, subst}
+use Rattle.std.proofs.Common.{◌≡◌, ◌<◌, true, false, Ok, ap, sym, ◌∙◌, subst}
 use Rattle.tw_model.specs.Case.{simulation}
 use Rattle.tw_shard.specs.Commit.{not_before}
-use Rattle.tw_shard.specs.Shard.{Shard, core, timeline}
+use Rattle.tw_shard.specs.Shard.{HasRun, Shard, core, owns, timeline}
 use Rattle.tw_sim.specs.Simulation.{IsFalling, below}
 use Rattle.tw_shard.proofs.Commits.{ahead_committed, goes, past_committed}
 use Rattle.tw_shard.proofs.shard.Shard.commit.Goals as goal
@@ -28,3 +28,10 @@ returns-clause-ahead c =
     subst (λ (t : Shard). IsFalling (simulation s.case) ((core 0 s).history r) → (timeline t r).ahead ≡ not_before s.bound ((core 0 s).history r))
     (sym c.in_ok-commit_own.ensures.ok)
     (ahead_committed s r c.owns.ensures.whole mine c.in_ok-commit_own.ensures.ahead)
+
+pub commit_own-requires-clause-run : goal.commit_own-requires-clause-run
+commit_own-requires-clause-run c =
+    let mine = sym c.owns.ensures.value ∙ c.if-not-owns.false in
+    let s = c.args.self.now in
+    let run : s.keeps ≡ false → owns s c.args.router ≡ true → c.args.router < s.case.net.nodes → HasRun s c.args.router = c.requires.run in
+    λ lets. run lets mine (c.owns.ensures.whole.routers c.args.router mine).known

@@ -27,6 +27,7 @@ invariant_of-self-2 c =
       case = refl;
       worker = refl;
       workers = refl;
+      roster = refl;
       timelines =
           other_items a.timelines.len c.handle_at.new.timelines _ (c.handle_at.auto.timelines ∙ c.deref_mut.ensures.len)
           ∙ (c.in_ok-handle_at.ensures.ok ∙ λ i. set (c.deref_mut.ensures.value i) (at i) (record (there i) { ahead = e ∷ (there i).ahead }));
@@ -65,6 +66,7 @@ returns-clause-ok c =
       case = a.case.now;
       worker = a.worker;
       workers = a.workers;
+      routers = a.roster.routers;
       timelines = timelines i;
       pending = c.remove_one.ensures.events i;
       kept = a.kept.events;

@@ -1,68 +1,57 @@
-use Rattle.std.proofs.Common.{◌≡◌, true, refl, sym, ◌∙◌, subst}
-use Rattle.std.specs.List.{AllByRecursion}
-use Rattle.tw_model.proofs.Lawful.{lawful}
-use Rattle.tw_shard.proofs.Shares.{all_own}
-use Rattle.tw_shard.specs.Shard.{owns}
-use Rattle.tw_workers.proofs.Awaited.{AreReleased, all_released, all_to_release, awaited_more, released_more}
-use Rattle.tw_workers.proofs.Commits.{own_still}
-use Rattle.tw_workers.specs.Work.{IsAtWork, Worker}
+use Rattle.std.proofs.Common.{◌≡◌, true, ◌+◌, ◌≤◌, ℕ, Some, drop, length, slice_get, refl, ap, sym, ◌∙◌, subst}
+use Rattle.std.proofs.Math.ListN.{drop_of_length-le}
+use Rattle.tw_shard.specs.Shard.{Shard, owns, routers}
+use Rattle.tw_workers.proofs.Awaited.{AreReleased, all_released, all_to_release, released_more}
+use Rattle.tw_workers.proofs.Commits.{next_left}
+use Rattle.tw_workers.specs.Work.{AreAwaitedFrom, IsAtWork, Worker}
 use Rattle.tw_workers.proofs.worker.Worker.release_where_due.Goals as goal
 
-pub loop-router-init : goal.loop-router-init
-loop-router-init c =
-    let shard = c.self.inside.shard in
-    let left = c.into_iter-router-iterator.result in
-    let all = c.into_iter-router-iterator.ensures.into_iter_gives ∙ c.routers-router-items.ensures.value in
-    record {
-      own = subst (λ (w : Worker). AllByRecursion (λ r. owns w.share.shard r ≡ true) left) c.self.view_is
-          (subst (AllByRecursion (λ r. owns shard r ≡ true)) (sym all) (all_own shard));
-      work = subst (λ (w : Worker). IsAtWork w.stop w.share) c.self.view_is c.self.invariant.work;
-      awaited = subst (λ (w : Worker). AreReleased left w.stop w.share.shard) c.self.view_is
-          (all_to_release c.self.inside.stop shard left c.held_len.ensures.whole.worker all);
-      kept = λ s kept. kept;
-      mail = refl;
-      stop = refl;
-    }
+pub loop-place-init : goal.loop-place-init
+loop-place-init c = record {
+  same = refl;
+  work = subst (λ (w : Worker). IsAtWork w.stop w.share) c.self.view_is c.self.invariant.work;
+  awaited = all_to_release c.args.self.now.stop c.args.self.now.share.shard;
+  kept = λ s kept. kept;
+  mail = refl;
+  stop = refl;
+}
 
-pub release_router-requires : goal.release_router-requires
-release_router-requires c =
-    record { own = (subst (AllByRecursion (λ r. owns c.loop-router.self.share.shard r ≡ true)) c.in-Some.ensures.steps c.loop-router.invariant.own).0 }
+pub release_if_due-requires : goal.release_if_due-requires
+release_if_due-requires c = record { own = subst (λ (w : Worker). owns w.share.shard c.router_at-router.result ≡ true) c.self-in-loop-place.view_is c.router_at-router.ensures.own; work = c.loop-place.invariant.work }
 
-pub loop-router-preserved : goal.loop-router-preserved
-loop-router-preserved c =
-    let is = c.loop-router.invariant in
+pub loop-place-preserved : goal.loop-place-preserved
+loop-place-preserved c =
+    let is = c.loop-place.invariant in
+    let done = c.release_if_due.ensures in
+    let told = c.in_ok-release_if_due.ensures in
+    let stop = c.loop-place.self.stop in
+    let s = c.loop-place.self.share.shard in
+    let t = c.release_if_due.new.self.share.shard in
+    let r = c.router_at-router.result in
+    let k = c.loop-place.place in
+    let next_at = subst (λ (w : Worker). slice_get (routers w.share.shard) k ≡ Some r) c.self-in-loop-place.view_is c.router_at-router.ensures.value in
     record {
-      own = (subst (AllByRecursion (λ r. owns c.loop-router.self.share.shard r ≡ true)) c.in-Some.ensures.steps is.own).1;
-      work = is.work;
-      awaited = awaited_more c.in-Some.router c.loop-router.self.stop c.loop-router.router-iterator c.next.new.self c.loop-router.self.share.shard
-          c.in-Some.ensures.steps is.awaited (c.is_release_due.ensures c.if-is_release_due.false);
-      kept = is.kept;
-      mail = is.mail;
-      stop = is.stop;
-    }
-
-pub loop-router-preserved-in-Continue-1 : goal.loop-router-preserved-in-Continue-1
-loop-router-preserved-in-Continue-1 c =
-    let is = c.loop-router.invariant in
-    let done = c.release_router.ensures in
-    let s = c.loop-router.self.share.shard in
-    let t = c.release_router.new.self.share.shard in
-    let own = (subst (AllByRecursion (λ r. owns s r ≡ true)) c.in-Some.ensures.steps is.own).0 in
-    record {
-      own = own_still s t done.same c.next.new.self (subst (AllByRecursion (λ r. owns s r ≡ true)) c.in-Some.ensures.steps is.own).1;
+      same = done.routers ∙ is.same;
       work = done.work;
-      awaited = subst (λ stop. AreReleased c.next.new.self stop t) (sym done.stop)
-          (released_more c.in-Some.router c.loop-router.self.stop s t (lawful s.case is.work.case) done.same own c.in_ok-release_router.ensures.released
-          c.loop-router.router-iterator c.next.new.self c.in-Some.ensures.steps is.awaited);
+      awaited = subst (λ rs. AreReleased (drop (k + 1) rs) c.release_if_due.new.self.stop t) (sym done.routers)
+          (subst (λ until. AreReleased (drop (k + 1) (routers s)) until t) (sym done.stop)
+          (released_more r stop (drop k (routers s)) (drop (k + 1) (routers s)) s t done.routers
+          (next_left (routers s) k r next_at) is.awaited
+          (subst (λ until. AreAwaitedFrom r until t) done.stop told.awaited)
+          (λ q was. subst (λ until. AreAwaitedFrom q until t) done.stop (told.others q was))));
       kept = λ s kept. done.kept s (is.kept s kept);
       mail = done.mail ∙ is.mail;
       stop = done.stop ∙ is.stop;
     }
 
+pub returns-in_err-release_if_due-clause-kept : goal.returns-in_err-release_if_due-clause-kept
+returns-in_err-release_if_due-clause-kept c = λ s kept. c.release_if_due.ensures.kept s (c.loop-place.invariant.kept s kept)
+
 pub returns-clause-awaited : goal.returns-clause-awaited
 returns-clause-awaited c =
-    let is = c.loop-router.invariant in
-    all_released c.loop-router.self.stop c.loop-router.self.share c.loop-router.router-iterator c.in-None.ensures.steps.0 is.work is.awaited
-
-pub returns-in_err-release_router-clause-kept : goal.returns-in_err-release_router-clause-kept
-returns-in_err-release_router-clause-kept c = λ s kept. c.release_router.ensures.kept s (c.loop-router.invariant.kept s kept)
+    let is = c.loop-place.invariant in
+    let s = c.loop-place.self.share.shard in
+    let all : c.router_count-place-end.result ≡ length (routers s) =
+    c.router_count-place-end.ensures.value ∙ (ap (λ (w : Worker). length (routers w.share.shard)) c.self.view_is ∙ ap (λ rs. length rs) (sym is.same)) in
+    all_released c.loop-place.self.stop c.loop-place.self.share (drop c.loop-place.place (routers s))
+    (drop_of_length-le (routers s) (subst (λ n. n ≤ c.loop-place.place) all c.loop-place-test.false)) is.work is.awaited

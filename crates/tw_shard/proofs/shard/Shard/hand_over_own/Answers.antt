@@ -1,0 +1,141 @@
+use Rattle.std.proofs.Common.{◌≡◌, ◌++◌, ◌∷◌, [], true, false, ap, sym, subst, ◌∙◌}
+use Rattle.tw_shard.specs.Inside.{shard_of}
+use Rattle.tw_shard.specs.Moving.{HasCome, HasLeft}
+use Rattle.tw_shard.specs.Shard.{IsWhole, Shard, owns}
+use Rattle.tw_shard.proofs.HandingOver.{after_coming, after_leaving, has_come, has_left, whole_come, whole_left}
+use Rattle.tw_shard.proofs.shard.Shard.hand_over_own.Goals as goal
+
+mine : (c : goal.After-to-1) → owns (shard_of c.self.inside) c.args.router ≡ true
+mine c = ap (λ s. owns s c.args.router) c.self.view_is ∙ c.requires.own
+
+new : (c : goal.After-to-1) → owns (shard_of c.to.inside) c.args.router ≡ false
+new c = ap (λ s. owns s c.args.router) c.to.view_is ∙ c.requires.new
+
+same_case : (c : goal.After-to-1) → (shard_of c.to.inside).case ≡ (shard_of c.self.inside).case
+same_case c = ap (λ s. s.case) c.to.view_is ∙ (c.requires.case ∙ ap (λ s. s.case) (sym c.self.view_is))
+
+same_keeps : (c : goal.After-to-1) → (shard_of c.to.inside).keeps ≡ (shard_of c.self.inside).keeps
+same_keeps c = ap (λ s. s.keeps) c.to.view_is ∙ (c.requires.keeps ∙ ap (λ s. s.keeps) (sym c.self.view_is))
+
+abbrev left : goal.After-to-1 → Shard
+left c =
+    after_leaving (shard_of c.self.inside) c.args.router c.self.invariant.whole (mine c) c.take_out-timeline.new.roster.routers c.take_out-timeline.new.timelines.items
+    c.take_out-timeline.ensures.routers c.take_out-timeline.ensures.timelines
+
+abbrev come : goal.After-to-1 → Shard
+come c =
+    after_coming (shard_of c.self.inside) (shard_of c.to.inside) c.args.router c.self.invariant.whole (mine c) c.to.invariant.whole (new c) (same_case c) (same_keeps c)
+
+abbrev self_now : goal.After-to-1 → Shard
+self_now c = record {
+  case = c.self.inside.case.now;
+  worker = c.self.inside.worker;
+  workers = c.self.inside.workers;
+  routers = c.take_out-timeline.new.roster.routers;
+  timelines = c.take_out-timeline.new.timelines.items;
+  pending = c.hand_over_waiting.new.pending.events;
+  kept = c.hand_over_waiting.new.kept.events;
+  outgoing = c.self.inside.outgoing.items;
+  held = c.hand_over_waiting.new.held.events;
+  bound = c.self.inside.bound;
+  keeps = c.self.inside.keeps;
+  cancel = c.self.inside.cancel;
+}
+
+abbrev to_now : goal.After-to-1 → Shard
+to_now c = record {
+  case = c.to.inside.case.now;
+  worker = c.to.inside.worker;
+  workers = c.to.inside.workers;
+  routers = c.add.new.self.routers;
+  timelines = c.push_reserved.new.self.items;
+  pending = c.hand_over_waiting.new.to_pending.events;
+  kept = c.hand_over_waiting.new.to_kept.events;
+  outgoing = c.to.inside.outgoing.items;
+  held = c.hand_over_waiting.new.to_held.events;
+  bound = c.max-to-inside.result;
+  keeps = c.to.inside.keeps;
+  cancel = c.to.inside.cancel;
+}
+
+left_is : (c : goal.After-to-1) → left c ≡ self_now c
+left_is c =
+    let s = shard_of c.self.inside in
+    let given = c.in_ok-hand_over_waiting.ensures in
+    λ i. record {
+      case = s.case;
+      worker = s.worker;
+      workers = s.workers;
+      routers = c.take_out-timeline.new.roster.routers;
+      timelines = c.take_out-timeline.new.timelines.items;
+      pending = sym given.pending i;
+      kept = sym given.kept i;
+      outgoing = s.outgoing;
+      held = sym given.held i;
+      bound = s.bound;
+      keeps = s.keeps;
+      cancel = s.cancel;
+    }
+
+come_is : (c : goal.After-to-1) → come c ≡ to_now c
+come_is c =
+    let s = shard_of c.self.inside in
+    let t = shard_of c.to.inside in
+    let r = c.args.router in
+    let given = c.in_ok-hand_over_waiting.ensures in
+    let routers = c.add.ensures.routers ∙ ap (λ rs. rs ++ r ∷ []) c.reserve_one.ensures.routers in
+    let lines =
+    c.push_reserved.ensures.items
+    ∙ (λ i. c.reserve.ensures.items i ++ c.take_out-timeline.ensures.timeline i ∷ []) in
+    λ i. record {
+      case = t.case;
+      worker = t.worker;
+      workers = t.workers;
+      routers = sym routers i;
+      timelines = sym lines i;
+      pending = sym given.to_pending i;
+      kept = sym given.to_kept i;
+      outgoing = t.outgoing;
+      held = sym given.to_held i;
+      bound = sym c.max-to-inside.ensures i;
+      keeps = t.keeps;
+      cancel = t.cancel;
+    }
+
+pub invariant_of-self-2 : goal.invariant_of-self-2
+invariant_of-self-2 c =
+    let a = c.self.inside in
+    let given = c.hand_over_waiting.ensures in
+    record {
+      whole = subst IsWhole (left_is c) (whole_left (shard_of a) c.args.router c.self.invariant.whole (mine c) c.take_out-timeline.new.roster.routers c.take_out-timeline.new.timelines.items
+          c.take_out-timeline.ensures.routers c.take_out-timeline.ensures.timelines);
+      roster = c.take_out-timeline.ensures.count ∙ c.self.invariant.roster;
+      pending = given.routers ∙ c.self.invariant.pending;
+      kept = given.kept_routers ∙ c.self.invariant.kept;
+      held = given.held_routers ∙ c.self.invariant.held;
+    }
+
+pub invariant_of-to-2 : goal.invariant_of-to-2
+invariant_of-to-2 c =
+    let given = c.hand_over_waiting.ensures in
+    record {
+      whole = subst IsWhole (come_is c) (whole_come (shard_of c.self.inside) (shard_of c.to.inside) c.args.router c.self.invariant.whole (mine c) c.to.invariant.whole (new c) (same_case c) (same_keeps c));
+      roster = c.add.ensures.count ∙ (c.reserve_one.ensures.count ∙ c.to.invariant.roster);
+      pending = given.to_routers ∙ c.to.invariant.pending;
+      kept = given.to_kept_routers ∙ c.to.invariant.kept;
+      held = given.to_held_routers ∙ c.to.invariant.held;
+    }
+
+pub returns-clause-left : goal.returns-clause-left
+returns-clause-left c =
+    subst (λ s. HasLeft c.args.router s (self_now c)) c.self.view_is
+    (subst (HasLeft c.args.router (shard_of c.self.inside)) (left_is c)
+    (has_left (shard_of c.self.inside) c.args.router c.self.invariant.whole (mine c) c.take_out-timeline.new.roster.routers c.take_out-timeline.new.timelines.items
+    c.take_out-timeline.ensures.routers c.take_out-timeline.ensures.timelines))
+
+pub returns-clause-came : goal.returns-clause-came
+returns-clause-came c =
+    subst (λ s. HasCome c.args.router s c.args.to.now (to_now c)) c.self.view_is
+    (subst (λ t. HasCome c.args.router (shard_of c.self.inside) t (to_now c)) c.to.view_is
+    (subst (HasCome c.args.router (shard_of c.self.inside) (shard_of c.to.inside)) (come_is c)
+    (has_come (shard_of c.self.inside) (shard_of c.to.inside) c.args.router c.self.invariant.whole (mine c) c.to.invariant.whole (new c) (same_case c) (same_keeps c))))

@@ -1,0 +1,132 @@
+//! A router goes from one shard to another.
+
+ghost use Rattle.std.specs.Prelude.{◌≡◌, ◌≤◌, ◌<◌, ◌+◌, ◌++◌, ◌∷◌, ◌↔◌, ℕ, [], false, true, length, slice_index_or, vec_capacity, vec_len, IsErrOf, OnErr, OnOk};
+ghost use Rattle.tw_core.specs.declared.refusal.Refusal.{Refusal as ARefusal};
+ghost use Rattle.tw_core.specs.declared.refusal.Refusal.TheVariants.{NotMine};
+ghost use Rattle.tw_event.specs.Order.{event_before};
+ghost use Rattle.tw_model.specs.declared.memory.OrMemory.TheVariants as or_memory;
+ghost use Rattle.tw_queue.specs.Held.{sent_by, sent_by_others};
+ghost use Rattle.tw_queue.specs.Queue.{for_others, for_router};
+ghost use Rattle.tw_shard.specs.Moving.{HasCome, HasLeft};
+ghost use Rattle.tw_shard.specs.Roster.{IsWithout, has, place_in};
+ghost use Rattle.tw_shard.specs.Shard.{no_timeline, owns};
+ghost use Rattle.tw_shard.specs.Timeline.{Timeline as ATimeline};
+ghost use Rattle.tw_sim.specs.Ordered.{insert_all};
+
+use super::Shard;
+use crate::roster::Roster;
+use crate::timeline::Timeline;
+use std::alloc::AllocError;
+use tw_core::Refusal;
+use tw_model::OrMemory;
+use tw_queue::{HeldSends, Pending};
+
+impl<'a> Shard<'a> {
+    /// One of its routers goes to another shard, with all that is its own: its state, its history with the records,
+    /// its room, the events that wait for it, the antimessages for it that came before their message, and what is
+    /// held for it. What it has sent and what is not taken out yet stays. The bound of `to` becomes the greater of
+    /// the two shards' bounds.
+    ///
+    /// It is refused as `NotMine` where the router is none of the shard's. After a refusal and for want of memory
+    /// nothing has changed in either shard.
+    pub fn hand_over(&mut self, router: u32, to: &mut Shard<'a>) -> Result<(), OrMemory<Refusal>>
+        requires case { to.old.case ≡ self.old.case }
+        requires keeps { to.old.keeps ≡ self.old.keeps }
+        requires cancel { to.old.cancel ≡ self.old.cancel }
+        requires new { owns to.old router ≡ false }
+        ensures left { OnOk result (HasLeft router self.old self.new) }
+        ensures came { OnOk result (HasCome router self.old to.old to.new) }
+        ensures refused { (f : ARefusal) → IsErrOf result (or_memory.Fault f) ↔ ((owns self.old router ≡ false) × (f ≡ NotMine)) }
+        ensures err { OnErr result (self.new ≡ self.old) }
+        ensures none_came { OnErr result (to.new ≡ to.old) }
+    {
+        if !self.owns(router) {
+            return Err(OrMemory::Fault(Refusal::NotMine));
+        }
+        self.hand_over_own(router, to)?;
+        Ok(())
+    }
+
+    /// One of its routers goes to another shard.
+    fn hand_over_own(&mut self, router: u32, to: &mut Shard<'a>) -> Result<(), AllocError>
+        requires own { owns self.old router ≡ true }
+        requires case { to.old.case ≡ self.old.case }
+        requires keeps { to.old.keeps ≡ self.old.keeps }
+        requires new { owns to.old router ≡ false }
+        ensures left { OnOk result (HasLeft router self.old self.new) }
+        ensures came { OnOk result (HasCome router self.old to.old to.new) }
+        ensures err { OnErr result (self.new ≡ self.old) }
+        ensures none_came { OnErr result (to.new ≡ to.old) }
+    {
+        to.roster.reserve_one()?;
+        to.timelines.reserve(1)?;
+        hand_over_waiting(
+            router,
+            &mut self.pending,
+            &mut to.pending,
+            &mut self.kept,
+            &mut to.kept,
+            &mut self.held,
+            &mut to.held,
+        )?;
+        let timeline = take_out(router, &mut self.roster, &mut self.timelines);
+        to.roster.add(router);
+        to.timelines.push_reserved(timeline);
+        to.bound = to.bound.max(self.bound);
+        Ok(())
+    }
+}
+
+/// What waits for a router goes from one of each pair to the other.
+fn hand_over_waiting(
+    router: u32,
+    pending: &mut Pending,
+    to_pending: &mut Pending,
+    kept: &mut Pending,
+    to_kept: &mut Pending,
+    held: &mut HeldSends,
+    to_held: &mut HeldSends,
+) -> Result<(), AllocError>
+    requires pending { pending.old.routers ≤ to_pending.old.routers }
+    requires kept { kept.old.routers ≤ to_kept.old.routers }
+    requires held { held.old.routers ≤ to_held.old.routers }
+    ensures pending { OnOk result (pending.new.events ≡ for_others router pending.old.events) }
+    ensures to_pending { OnOk result (to_pending.new.events ≡ insert_all event_before (for_router router pending.old.events) to_pending.old.events) }
+    ensures kept { OnOk result (kept.new.events ≡ for_others router kept.old.events) }
+    ensures to_kept { OnOk result (to_kept.new.events ≡ insert_all event_before (for_router router kept.old.events) to_kept.old.events) }
+    ensures held { OnOk result (held.new.events ≡ sent_by_others router held.old.events) }
+    ensures to_held { OnOk result (to_held.new.events ≡ insert_all event_before (sent_by router held.old.events) to_held.old.events) }
+    ensures err_pending { OnErr result (pending.new.events ≡ pending.old.events) }
+    ensures err_to_pending { OnErr result (to_pending.new.events ≡ to_pending.old.events) }
+    ensures err_kept { OnErr result (kept.new.events ≡ kept.old.events) }
+    ensures err_to_kept { OnErr result (to_kept.new.events ≡ to_kept.old.events) }
+    ensures err_held { OnErr result (held.new.events ≡ held.old.events) }
+    ensures err_to_held { OnErr result (to_held.new.events ≡ to_held.old.events) }
+    ensures routers { pending.new.routers ≡ pending.old.routers }
+    ensures to_routers { to_pending.new.routers ≡ to_pending.old.routers }
+    ensures kept_routers { kept.new.routers ≡ kept.old.routers }
+    ensures to_kept_routers { to_kept.new.routers ≡ to_kept.old.routers }
+    ensures held_routers { held.new.routers ≡ held.old.routers }
+    ensures to_held_routers { to_held.new.routers ≡ to_held.old.routers }
+{
+    to_pending.reserve(pending.len())?;
+    to_kept.reserve(kept.len())?;
+    to_held.reserve(held.count_of_sender(router))?;
+    pending.hand_over(router, to_pending).unwrap();
+    kept.hand_over(router, to_kept).unwrap();
+    held.hand_over(router, to_held).unwrap();
+    Ok(())
+}
+
+/// Takes out a router with its timeline.
+fn take_out<'a>(router: u32, roster: &mut Roster, timelines: &mut Vec<Timeline<'a>>) -> Timeline<'a>
+    requires own { has roster.old.routers router ≡ true }
+    requires long { length timelines.old.items ≡ length roster.old.routers }
+    ensures timeline { result ≡ slice_index_or timelines.old.items (place_in roster.old.routers router) no_timeline }
+    ensures timelines { IsWithout ATimeline no_timeline (place_in roster.old.routers router) timelines.old.items timelines.new.items }
+    ensures routers { IsWithout ℕ 0 (place_in roster.old.routers router) roster.old.routers roster.new.routers }
+    ensures count { roster.new.count ≡ roster.old.count }
+{
+    let place = roster.remove(router);
+    timelines.swap_remove(place)
+}
