@@ -11,7 +11,7 @@ use std::alloc::{AllocError, Global};
 use tw_event::Event;
 use tw_instance::Case;
 use tw_model::RouterEnd;
-use tw_sim::{Cancel, owner};
+use tw_sim::Cancel;
 
 /// The shards of so many workers, by rising worker, as they begin. Routers keep their committed events, or
 /// let them go; what an undone event has sent is taken back at once, or as late as may be.
@@ -32,12 +32,15 @@ pub fn open_all<'a>(
     Ok(shards)
 }
 
-/// The shard that has this router.
+/// The shard that has this router, and the first one where none has it.
 pub fn shard_for<'s, 'a>(shards: &'s [Shard<'a>], router: u32) -> &'s Shard<'a>
     requires { 0 < length shards.now }
     ensures { result.now ≡ shard_for shards.now router }
 {
-    &shards[owner(router, shards.len())]
+    match shards.iter().find(|shard| shard.owns(router)) {
+        Some(shard) => shard,
+        None => &shards[0],
+    }
 }
 
 /// The committed events of all routers of the case, in their order.

@@ -6,3 +6,4 @@ pub mod Joins
 pub mod Deals
 pub mod Visiting
 pub mod Openings
+pub mod Moving

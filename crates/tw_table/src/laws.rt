@@ -1,14 +1,17 @@
 //! Laws of the table, over its definitions alone. Each function does nothing; its contract is the law.
 
-ghost use Rattle.std.specs.Prelude.{ℕ, ◌≡◌, ◌<◌, ◌≤◌, false, List, Option, Some, length, map, slice_get};
+ghost use Rattle.std.specs.Prelude.{ℕ, ◌≡◌, ◌<◌, ◌≤◌, false, List, Option, Some, length, map, slice_get, slice_set};
 ghost use Rattle.std.specs.List.{range_with_len};
 ghost use Rattle.tw_event.specs.declared.event.Event.{Event};
-ghost use Rattle.tw_exchange.specs.Board.{Board, IsBoard, handed, is_early, opening, visited, workers};
+ghost use Rattle.tw_core.specs.Machine.{IsSameMachine};
+ghost use Rattle.tw_exchange.specs.Board.{Board, IsBoard, IsListed, handed, is_early, opening, visited, who, workers};
 ghost use Rattle.tw_sim.specs.Owners.{owner};
 ghost use Rattle.tw_model.specs.Case.{Case, IsCase, simulation};
 ghost use Rattle.tw_rule.specs.Board.{IsVisit};
 ghost use Rattle.tw_rule.specs.Place.{IsRunBefore};
+ghost use Rattle.tw_rule.specs.Rule.{assembled};
 ghost use Rattle.tw_sim.specs.declared.machine.Signed.{Signed};
+ghost use Rattle.tw_table.specs.Moving.{HasMoved, moved_board};
 ghost use Rattle.tw_table.specs.Openings.{AreNew};
 ghost use Rattle.tw_table.specs.Shares.{IsRuled, Share, board_of, place_of};
 
@@ -32,4 +35,17 @@ pub fn visits_are_exact()
 pub fn shares_are_the_run()
     ensures { (case : Case) (x : Board) (shares : List Share) (i t : ℕ) (s : Share) → IsRuled case x shares → slice_get shares i ≡ Some s → t ≤ x.bound
         → IsRunBefore (simulation s.shard.case) t (place_of s) }
+{}
+
+/// A router goes from one worker's share to another's with all that is its own, its messages in the hand and
+/// in the mail included, and is that worker's from then on. Then the rule holds as before, and the machine of
+/// all routers is the same but for the order of its lists.
+pub fn routers_may_move()
+    ensures ruled { (case : Case) (x : Board) (shares : List Share) (r i j : ℕ) (s t s2 t2 : Share) → IsRuled case x shares → slice_get shares i ≡ Some s → slice_get shares j ≡ Some t
+        → (s.shard.worker ≡ t.shard.worker → ⊥) → IsListed r x → r < case.net.nodes → who x r ≡ s.shard.worker → HasMoved r x s t s2 t2
+        → IsRuled case (moved_board r t.shard.worker x) (slice_set (slice_set shares i s2) j t2) }
+    ensures same { (case : Case) (x : Board) (shares : List Share) (r i j : ℕ) (s t s2 t2 : Share) → IsRuled case x shares → slice_get shares i ≡ Some s → slice_get shares j ≡ Some t
+        → (s.shard.worker ≡ t.shard.worker → ⊥) → IsListed r x → r < case.net.nodes → who x r ≡ s.shard.worker → HasMoved r x s t s2 t2
+        → IsSameMachine (simulation case) (assembled (board_of x) (map place_of shares))
+        (assembled (board_of (moved_board r t.shard.worker x)) (map place_of (slice_set (slice_set shares i s2) j t2))) }
 {}

@@ -1,0 +1,177 @@
+//! Routers move between the workers of a parallel run.
+ghost use Rattle.std.specs.Prelude.{◌≡◌, ◌↔◌, ◌<◌, ◌≤◌, ◌+◌, ℕ, false, true, Err, IfOk, IsErrOf, OnErr, OnOk, Some, length, slice_get, slice_index_or, slice_set, vec_capacity, vec_len};
+ghost use Rattle.std.specs.List.{list_all};
+ghost use Rattle.tw_core.specs.Machine.{IsSameMachine};
+ghost use Rattle.tw_exchange.specs.Board.{IsListed, all_mail, is_to, mail_of, who, workers};
+ghost use Rattle.tw_model.specs.Case.{simulation};
+ghost use Rattle.tw_model.specs.declared.memory.OrMemory.TheVariants as or_memory;
+ghost use Rattle.tw_parallel.specs.Moving.{AreApart, HasMovedBetween, IsRearranged, are_owners};
+ghost use Rattle.tw_parallel.specs.Sim.{GoesOn, IsSim, machine};
+ghost use Rattle.tw_shard.specs.Moving.{HasCome, HasLeft};
+ghost use Rattle.tw_shard.specs.Shard.{no_shard, owns};
+ghost use Rattle.tw_table.specs.Moving.{moved_board, waiting};
+ghost use Rattle.tw_table.specs.Shares.{shares_of};
+
+use crate::sim::Sim;
+use std::alloc::AllocError;
+use thiserror::Error;
+use tw_exchange::Exchange;
+use tw_model::OrMemory;
+use tw_shard::Shard;
+use tw_table::Hand;
+
+/// A list of owners that does not fit a run: it has not one for each router, or names a worker that there is
+/// not.
+#[derive(Clone, Copy, PartialEq, Eq, Debug, Error)]
+#[error("the owners are not one of the workers for each router")]
+pub struct UnfitOwners;
+
+impl<'a> Sim<'a> {
+    /// Each router goes to the worker that the list names for it, from router 0 on, with all that is its own:
+    /// its state, its history with the records, its room, what waits for it and what is held that it has sent,
+    /// and the messages for it in hands and in the exchange.
+    ///
+    /// It is refused where the list has not one of the workers for each router; then nothing has changed. For
+    /// want of memory some routers stand moved, each whole. After every answer the machine of all routers is
+    /// the same but for the order of its lists.
+    pub fn move_to(&mut self, owners: &[u32]) -> Result<(), OrMemory<UnfitOwners>>
+        ensures owners { OnOk result ((r : ℕ) → r < self.old.case.net.nodes → slice_get owners.now r ≡ Some (who self.new.board r)) }
+        ensures refused { IsErrOf result (or_memory.Fault UnfitOwners) ↔ (are_owners self.old owners.now ≡ false) }
+        ensures unchanged { IsErrOf result (or_memory.Fault UnfitOwners) → self.new ≡ self.old }
+        ensures same { IsSameMachine (simulation self.old.case) (machine self.old) (machine self.new) }
+        ensures goes_on { GoesOn self.old self.new }
+        ensures stop { self.new.board.stop ≡ self.old.board.stop }
+        ensures sim { IsSim self.new }
+    {
+        if !self.are_owners(owners) {
+            return Err(OrMemory::Fault(UnfitOwners));
+        }
+        self.exchange.list_owners(self.case.instance().nodes())?;
+        self.move_each(owners)?;
+        Ok(())
+    }
+
+    /// Whether a list has one of the workers for each router.
+    fn are_owners(&self, owners: &[u32]) -> bool
+        ensures { result ≡ are_owners self.now owners.now }
+    {
+        let workers = self.exchange.workers();
+        owners.len() == self.case.instance().nodes() as usize
+            && owners.iter().all(|worker| *worker < workers)
+    }
+
+    /// Each router goes to its worker of the list, from router 0 on.
+    fn move_each(&mut self, owners: &[u32]) -> Result<(), AllocError>
+        requires fit { are_owners self.old owners.now ≡ true }
+        requires listed { AreListed self.old }
+        ensures owners { OnOk result ((r : ℕ) → r < self.old.case.net.nodes → slice_get owners.now r ≡ Some (who self.new.board r)) }
+        ensures rearranged { IsRearranged self.old self.new }
+    {
+        for (router, worker) in owners.iter().enumerate() {
+            self.move_router(router as u32, *worker)?;
+        }
+        Ok(())
+    }
+
+    /// A router goes to a worker, if it is not that worker's.
+    fn move_router(&mut self, router: u32, worker: u32) -> Result<(), AllocError>
+        requires known { router < self.old.case.net.nodes }
+        requires there { worker < workers self.old.board }
+        requires listed { AreListed self.old }
+        ensures moved { OnOk result (who self.new.board router ≡ worker) }
+        ensures others { (r : ℕ) → (r ≡ router → ⊥) → who self.new.board r ≡ who self.old.board r }
+        ensures listed { AreListed self.new }
+        ensures rearranged { IsRearranged self.old self.new }
+    {
+        match self.exchange.owner(router) {
+            Some(from) if from != worker => hand_over(
+                &mut self.exchange,
+                &mut self.shards,
+                &mut self.hands,
+                router,
+                from as usize,
+                worker as usize,
+            ),
+            _ => Ok(()),
+        }
+    }
+}
+
+/// A router goes from one worker to another, with its messages in the hand and in the exchange. For want of
+/// memory it stays where it is.
+fn hand_over<'a>(
+    exchange: &mut Exchange,
+    shards: &mut [Shard<'a>],
+    hands: &mut [Hand],
+    router: u32,
+    from: usize,
+    to: usize,
+) -> Result<(), AllocError>
+    requires count { length hands.old ≡ length shards.old }
+    requires workers { length shards.old ≡ workers exchange.old }
+    requires from { from < length shards.old }
+    requires to { to < length shards.old }
+    requires apart { (from ≡ to) → ⊥ }
+    requires listed { IsListed router exchange.old }
+    requires owner { who exchange.old router ≡ from }
+    requires alike { IsAlike shards.old }
+    requires own { owns (slice_index_or shards.old from no_shard) router ≡ true }
+    requires new { owns (slice_index_or shards.old to no_shard) router ≡ false }
+    ensures board { OnOk result (exchange.new ≡ moved_board router to exchange.old) }
+    ensures moved { OnOk result (HasMovedBetween router from to exchange.old (shares_of shards.old hands.old) (shares_of shards.new hands.new)) }
+    ensures err_board { OnErr result (exchange.new ≡ exchange.old) }
+    ensures err_shares { OnErr result (shares_of shards.new hands.new ≡ shares_of shards.old hands.old) }
+    ensures shards { length shards.new ≡ length shards.old }
+    ensures hands { length hands.new ≡ length hands.old }
+{
+    let waiting = exchange.mail(from as u32).len() + hands[from].mail.len();
+    hands[to].mail.reserve(waiting)?;
+    hand_over_router(shards, router, from, to)?;
+    hand_over_mail(hands, router, from, to);
+    exchange.take_for(router, &mut hands[to].mail).unwrap();
+    exchange.set_owner(router, to as u32);
+    Ok(())
+}
+
+/// A router goes from the shard at one place to that at another.
+fn hand_over_router<'a>(shards: &mut [Shard<'a>], router: u32, from: usize, to: usize) -> Result<(), AllocError>
+    requires from { from < length shards.old }
+    requires to { to < length shards.old }
+    requires apart { (from ≡ to) → ⊥ }
+    requires alike { IsAlike shards.old }
+    requires own { owns (slice_index_or shards.old from no_shard) router ≡ true }
+    requires new { owns (slice_index_or shards.old to no_shard) router ≡ false }
+    ensures left { OnOk result (HasLeft router (slice_index_or shards.old from no_shard) (slice_index_or shards.new from no_shard)) }
+    ensures came { OnOk result (HasCome router (slice_index_or shards.old from no_shard) (slice_index_or shards.old to no_shard) (slice_index_or shards.new to no_shard)) }
+    ensures rest { shards.new ≡ slice_set (slice_set shards.old from (slice_index_or shards.new from no_shard)) to (slice_index_or shards.new to no_shard) }
+    ensures err { OnErr result (shards.new ≡ shards.old) }
+{
+    let handed = if from < to {
+        let (front, back) = shards.split_at_mut(to);
+        front[from].hand_over(router, &mut back[0])
+    } else {
+        let (front, back) = shards.split_at_mut(from);
+        back[0].hand_over(router, &mut front[to])
+    };
+    match handed {
+        Ok(()) => Ok(()),
+        Err(OrMemory::Memory(error)) => Err(error),
+        Err(OrMemory::Fault(_)) => unreachable!(),
+    }
+}
+
+/// The mail for a router that is not delivered goes from one hand to another, which has room for it.
+fn hand_over_mail(hands: &mut [Hand], router: u32, from: usize, to: usize)
+    requires from { from < length hands.old }
+    requires to { to < length hands.old }
+    requires apart { (from ≡ to) → ⊥ }
+    requires room { vec_len (slice_index_or hands.old to no_hand).mail + vec_len (slice_index_or hands.old from no_hand).mail ≤ vec_capacity (slice_index_or hands.old to no_hand).mail }
+{
+    if from < to {
+        let (front, back) = hands.split_at_mut(to);
+        front[from].hand_over(router, &mut back[0]).unwrap();
+    } else {
+        let (front, back) = hands.split_at_mut(from);
+        back[0].hand_over(router, &mut front[to]).unwrap();
+    }
+}
