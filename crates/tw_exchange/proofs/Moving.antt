@@ -1,13 +1,13 @@
 -- A router goes from one worker to another.
-use Rattle.std.proofs.Common.{arith, ℕ, zero, suc, ◌≡◌, ◌+◌, ◌<◌, ◌≤◌, ◌==◌, Bool, true, false, true≢false, cond, List, [], ◌∷◌, ◌++◌, Option, None, Some, filter, flat_map, length, map, not, set, get_or, refl, ap, sym, ◌∙◌, append-nil}
-use Rattle.std.proofs.lemmas.Bool.{eq-eqb, eqb-true, ne_eqb}
+use Rattle.std.proofs.Common.{arith, ℕ, zero, suc, ◌≡◌, ◌+◌, ◌<◌, ◌≤◌, ◌==◌, Bool, true, false, true≢false, cond, List, [], ◌∷◌, ◌++◌, Option, None, Some, filter, flat_map, length, map, not, set, get_or, refl, ap, sym, ◌∙◌, subst, inl, inr, append-nil}
+use Rattle.std.proofs.lemmas.Bool.{cases_Bool, eq-eqb, eqb-true, ne_eqb}
 use Rattle.std.proofs.lemmas.List.{get_or-set_other, length-map, length-set}
 use Rattle.std.specs.List.{AllByRecursion, range_with_len}
 use Rattle.std.specs.Option.{option_map}
 use Rattle.tw_event.specs.declared.event.Event.{Event}
 use Rattle.tw_exchange.specs.Board.{Board, IsBoard, all_mail, given, is_for, is_to, is_to_another, listed, mail_of, who, without_mail, worker_for, workers}
 use Rattle.tw_exchange.proofs.Boards.{kept, reports_rise}
-use Rattle.tw_exchange.proofs.Least.{mail_each}
+use Rattle.tw_exchange.proofs.Least.{all_both, mail_each}
 use Rattle.tw_sim.specs.declared.machine.Signed.{Signed}
 
 -- what follows from two facts of each
@@ -120,6 +120,23 @@ module _ (r : ℕ) where
   none_left x h past =
       let long = h.mails in
       ap (λ mail. record x { mail = mail }) (left_is x h ∙ (no_row x.mail (who x r) (filter (is_to_another r) (mail_of (who x r) x)) (omega arith)).1)
+
+  -- nothing that is left is for the router
+  none_stays : (ms : List (Signed Event)) → AllByRecursion (λ m. is_to r m ≡ false) (filter (is_to_another r) ms)
+  none_stays [] = tt
+  none_stays (m ∷ ms) =
+      elim (cases_Bool (is_to r m)) [
+        | inl mine ↦ subst (λ b. AllByRecursion (λ m. is_to r m ≡ false) (cond (not b) (m ∷ filter (is_to_another r) ms) (filter (is_to_another r) ms))) (sym mine) (none_stays ms)
+        | inr other ↦ subst (λ b. AllByRecursion (λ m. is_to r m ≡ false) (cond (not b) (m ∷ filter (is_to_another r) ms) (filter (is_to_another r) ms))) (sym other) (other, none_stays ms)
+      ]
+
+  none_remains : (mail : List (List (Signed Event))) → AllByRecursion (λ m. is_to r m ≡ false) (flat_map (λ m. m) (map (filter (is_to_another r)) mail))
+  none_remains [] = tt
+  none_remains (m ∷ ms) =
+      all_both (λ m. is_to r m ≡ false) (filter (is_to_another r) m) (flat_map (λ m. m) (map (filter (is_to_another r)) ms)) (none_stays m) (none_remains ms)
+
+  pub none_after : (x y : Board) → y ≡ without_mail r x → AllByRecursion (λ m. is_to r m ≡ false) (all_mail y)
+  none_after x y is = subst (λ z. AllByRecursion (λ m. is_to r m ≡ false) (all_mail z)) (sym is) (none_remains x.mail)
 
   -- what holds of all mail holds of what is left
   row_left : (P : Signed Event → Type 0) (mail : List (List (Signed Event))) (k : ℕ) → AllByRecursion P (get_or mail k []) → AllByRecursion P (get_or (map (filter (is_to_another r)) mail) k [])

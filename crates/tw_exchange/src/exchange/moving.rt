@@ -37,6 +37,7 @@ impl Exchange {
         to: &mut Vec<Signed<Event>>,
     ) -> Result<(), AllocError>
         ensures mail { OnOk result (self.new ≡ without_mail router self.old) }
+        ensures none { OnOk result (AllByRecursion (λ m. is_to router m ≡ false) (all_mail self.new)) }
         ensures taken { OnOk result (to.new.items ≡ to.old.items ++ filter (is_to router) (all_mail self.old)) }
         ensures err { OnErr result (self.new ≡ self.old) }
         ensures kept { OnErr result (to.new.items ≡ to.old.items) }
@@ -59,6 +60,7 @@ impl Exchange {
         requires whose { who self.old router ≡ worker }
         requires within { worker < workers self.old }
         ensures mail { OnOk result (self.new ≡ without_mail router self.old) }
+        ensures none { OnOk result (AllByRecursion (λ m. is_to router m ≡ false) (all_mail self.new)) }
         ensures taken { OnOk result (to.new.items ≡ to.old.items ++ filter (is_to router) (all_mail self.old)) }
         ensures err { OnErr result (self.new ≡ self.old) }
         ensures kept { OnErr result (to.new.items ≡ to.old.items) }
