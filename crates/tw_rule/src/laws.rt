@@ -93,7 +93,8 @@ pub fn calls_may_be_given<S, E>()
 {}
 
 /// What a worker may report is the least time of all that waits at its place: it tells of all of this.
-/// Neither it nor what is unsent is ever before the board's bound, so that no visit is refused as early.
+/// Neither it nor what is unsent is ever before the board's bound, so that no visit is refused as early. And
+/// what is unsent suits its receiver.
 pub fn visits_are_welcome<S, E>()
     ensures tells { (m : Simulation S E) → IsLawful m → (p : Place E) → Tells m (report_time m p) p }
     ensures empty { (m : Simulation S E) (p : Place E) → p.mail ≡ [] → report_time m p ≡ reduce min (map (λ e. m.time e) (p.pending ++ p.kept ++ p.held)) }
@@ -101,6 +102,7 @@ pub fn visits_are_welcome<S, E>()
         → IfSome (report_time m q) (λ time. x.bound ≤ time) }
     ensures unsent { (m : Simulation S E) → IsLawful m → (who : ℕ → ℕ) (x : Board E) (p q : Place E) (e : E) → IsBoard m x → Stands m who x p → Keeps m x.stop p q
         → 0 < times_among m e q.unsent → x.bound ≤ m.time e }
+    ensures suited { (m : Simulation S E) → IsLawful m → (stop : ℕ) (p q : Place E) (e : E) → Keeps m stop p q → 0 < times_among m e q.unsent → m.suits e ≡ true }
 {}
 
 /// A message in a worker's hand is never before the bound that its place knows, is for one of its routers,

@@ -4,7 +4,7 @@ ghost use Rattle.std.specs.List.{flat_map, range_with_len};
 ghost use Rattle.tw_core.specs.Machine.{committed};
 ghost use Rattle.tw_model.specs.Case.{IsCase, simulation};
 ghost use Rattle.tw_shard.specs.Shard.{IsOpeningShard, core, no_shard, owns};
-ghost use Rattle.tw_shard.specs.Shards.{HaveAll, KeepAll, committed_of_all, ahead_of_all, ends_of_all, change_of_all, oldest_in, pending_of_all, shard_for};
+ghost use Rattle.tw_shard.specs.Shards.{HaveAll, KeepAll, committed_of_all, ahead_of_all, ends_of_all, change_of_all, oldest_in, pending_of_all, place_for, shard_for};
 
 use crate::shard::Shard;
 use std::alloc::{AllocError, Global};
@@ -37,10 +37,14 @@ pub fn shard_for<'s, 'a>(shards: &'s [Shard<'a>], router: u32) -> &'s Shard<'a>
     requires { 0 < length shards.now }
     ensures { result.now ≡ shard_for shards.now router }
 {
-    match shards.iter().find(|shard| shard.owns(router)) {
-        Some(shard) => shard,
-        None => &shards[0],
-    }
+    &shards[place_for(shards, router).unwrap_or(0)]
+}
+
+/// Where the first shard stands that has this router.
+fn place_for(shards: &[Shard<'_>], router: u32) -> Option<usize>
+    ensures { result ≡ place_for shards.now router }
+{
+    shards.iter().position(|shard| shard.owns(router))
 }
 
 /// The committed events of all routers of the case, in their order.
