@@ -15,8 +15,6 @@ use Rattle.tw_exchange.specs.Board.{Board, IsListed, all_mail, is_to, is_to_anot
 use Rattle.tw_model.proofs.Lawful.{lawful}
 use Rattle.tw_model.specs.Case.{Case, IsCase, simulation}
 use Rattle.tw_model.specs.State.{State}
-use Rattle.tw_queue.specs.Held.{sent_by, sent_by_others}
-use Rattle.tw_queue.specs.Queue.{for_others, for_router}
 use Rattle.tw_rule.proofs.Moved.{get_beside, rule_moves}
 use Rattle.tw_rule.proofs.Same.{machine_moves}
 use Rattle.tw_rule.specs.Board as rule
@@ -54,45 +52,45 @@ module _ (case : Case) (is : IsCase case) (p : ℕ → Bool) (e : Event) where
   none_minus false n h = h
 
   pub plus_yes : p e.dst ≡ true → (xs : List (Signed Event)) → messages m e (filter (λ s. p s.event.dst) xs) ≡ messages m e xs
-  plus_yes yes [] = refl
-  plus_yes yes (x ∷ xs) =
-      let more = plus_yes yes xs in
+  plus_yes h [] = refl
+  plus_yes h (x ∷ xs) =
+      let more = plus_yes h xs in
       elim (cases_Bool (p x.event.dst)) [
         | inl b ↦ rw b (omega arith)
         | inr b ↦ (
-            let none = none_plus x.plus (one m e x.event) (one_other x.event (λ same. both_ways (p e.dst) yes (sym same ∙ b))) in
+            let none = none_plus x.plus (one m e x.event) (one_other x.event (λ same. both_ways (p e.dst) (sym same ∙ b) h)) in
             rw b (omega arith))
       ]
 
   pub plus_no : p e.dst ≡ false → (xs : List (Signed Event)) → messages m e (filter (λ s. p s.event.dst) xs) ≡ 0
-  plus_no no [] = refl
-  plus_no no (x ∷ xs) =
-      let more = plus_no no xs in
+  plus_no h [] = refl
+  plus_no h (x ∷ xs) =
+      let more = plus_no h xs in
       elim (cases_Bool (p x.event.dst)) [
         | inl b ↦ (
-            let none = none_plus x.plus (one m e x.event) (one_other x.event (λ same. both_ways (p e.dst) (sym same ∙ b) no)) in
+            let none = none_plus x.plus (one m e x.event) (one_other x.event (λ same. both_ways (p e.dst) h (sym same ∙ b))) in
             rw b (omega arith))
         | inr b ↦ rw b more
       ]
 
   pub minus_yes : p e.dst ≡ true → (xs : List (Signed Event)) → antimessages m e (filter (λ s. p s.event.dst) xs) ≡ antimessages m e xs
-  minus_yes yes [] = refl
-  minus_yes yes (x ∷ xs) =
-      let more = minus_yes yes xs in
+  minus_yes h [] = refl
+  minus_yes h (x ∷ xs) =
+      let more = minus_yes h xs in
       elim (cases_Bool (p x.event.dst)) [
         | inl b ↦ rw b (omega arith)
         | inr b ↦ (
-            let none = none_minus x.plus (one m e x.event) (one_other x.event (λ same. both_ways (p e.dst) yes (sym same ∙ b))) in
+            let none = none_minus x.plus (one m e x.event) (one_other x.event (λ same. both_ways (p e.dst) (sym same ∙ b) h)) in
             rw b (omega arith))
       ]
 
   pub minus_no : p e.dst ≡ false → (xs : List (Signed Event)) → antimessages m e (filter (λ s. p s.event.dst) xs) ≡ 0
-  minus_no no [] = refl
-  minus_no no (x ∷ xs) =
-      let more = minus_no no xs in
+  minus_no h [] = refl
+  minus_no h (x ∷ xs) =
+      let more = minus_no h xs in
       elim (cases_Bool (p x.event.dst)) [
         | inl b ↦ (
-            let none = none_minus x.plus (one m e x.event) (one_other x.event (λ same. both_ways (p e.dst) (sym same ∙ b) no)) in
+            let none = none_minus x.plus (one m e x.event) (one_other x.event (λ same. both_ways (p e.dst) h (sym same ∙ b))) in
             rw b (omega arith))
         | inr b ↦ rw b more
       ]
@@ -115,7 +113,7 @@ module _ {X : Type 0} (read : Timeline → X) (nothing : X) where
   at s k = if owns s k then read (timeline s k) else nothing
 
   pub none_left : (r : ℕ) (s s2 : Shard) → owns s2 r ≡ false → at s2 r ≡ nothing
-  none_left r s s2 no = rw no refl
+  none_left r s s2 other = rw other refl
 
   pub stays_left : (r k : ℕ) (s s2 : Shard) → HasLeft r s s2 → owns s2 k ≡ owns s k → at s2 k ≡ at s k
   stays_left r k s s2 left same = elim (cases_Bool (owns s k)) [
@@ -192,12 +190,13 @@ module _ (case : Case) (is : IsCase case) (r : ℕ) (x : Board) (s t s2 t2 : Sha
       → HaveGone whose r (λ e. times (simulation case) e from) (λ e. times (simulation case) e to) (λ e. times (simulation case) e from2) (λ e. times (simulation case) e to2)
   have_gone whose from to from2 to2 left came =
       let m = simulation case in
-      let sum = λ e. (ap (times m e) came ∙ times-insert_all m e (filter (λ z. whose z == r) from) to) in
+      let sum : (e : Event) → times m e to2 ≡ times m e (filter (λ z. whose z == r) from) + times m e to
+      = λ e. ap (times m e) came ∙ times-insert_all m e (filter (λ z. whose z == r) from) to in
       record {
         gone = λ e of_r. (
-            let yes : (whose e == r) ≡ true = eq-eqb (whose e) r of_r in
-            let none = ap (times m e) left ∙ times-filter-no m law (λ z. not (whose z == r)) e from (ap not yes) in
-            let all = times-filter-yes m law (λ z. whose z == r) e from yes in
+            let is_r : (whose e == r) ≡ true = eq-eqb (whose e) r of_r in
+            let none = ap (times m e) left ∙ times-filter-no m law (λ z. not (whose z == r)) e from (ap not is_r) in
+            let all = times-filter-yes m law (λ z. whose z == r) e from is_r in
             let now = sum e in
             (none, (omega arith)));
         stays_from = λ e ne. ap (times m e) left ∙ times-filter-yes m law (λ z. not (whose z == r)) e from (ap not (ne_eqb (whose e) r ne));
@@ -257,12 +256,12 @@ module _ (case : Case) (is : IsCase case) (r : ℕ) (x : Board) (s t s2 t2 : Sha
     | inl same ↦ (
         let stays : (place_of t2).done k ≡ (place_of s).done r = ap (place_of t2).done same ∙ (follows (λ l. l.done) 0).came in
         let old = stands_s.place.done r in
-        let bound = bound_came.1.0 in
+        let bound = bound_came.1 in
         omega arith)
     | inr ne ↦ (
         let stays : (place_of t2).done k ≡ (place_of t).done k = (follows (λ l. l.done) 0).stays_to k ne in
         let old = stands_t.place.done k in
-        let bound = bound_came.1.1 in
+        let bound = bound_came.2 in
         omega arith)
   ]
 
@@ -287,12 +286,12 @@ module _ (case : Case) (is : IsCase case) (r : ℕ) (x : Board) (s t s2 t2 : Sha
         kept = have_gone (λ e. e.dst) s.shard.kept t.shard.kept s2.shard.kept t2.shard.kept moved.left.kept moved.came.kept;
         held = have_gone (λ e. e.src) s.shard.held t.shard.held s2.shard.held t2.shard.held moved.left.held moved.came.held;
         plus = λ e of_r. (
-            let yes : (e.dst == r) ≡ true = eq-eqb e.dst r of_r in
-            let a = ap (messages m e) moved.mail_left ∙ plus_no case is for_another e (ap not yes) s.mail in
-            let b = ap (messages m e) mail_left ∙ plus_no case is for_another e (ap not yes) (all_mail x) in
+            let is_r : (e.dst == r) ≡ true = eq-eqb e.dst r of_r in
+            let a = ap (messages m e) moved.mail_left ∙ plus_no case is for_another e (ap not is_r) s.mail in
+            let b = ap (messages m e) mail_left ∙ plus_no case is for_another e (ap not is_r) (all_mail x) in
             let c = plus_came e in
-            let d = plus_yes case is for_it e yes s.mail in
-            let f = plus_yes case is for_it e yes (all_mail x) in
+            let d = plus_yes case is for_it e is_r s.mail in
+            let f = plus_yes case is for_it e is_r (all_mail x) in
             ((omega arith), (omega arith)));
         plus_from = λ e ne. ap (messages m e) moved.mail_left ∙ plus_yes case is for_another e (ap not (ne_eqb e.dst r ne)) s.mail;
         plus_to = λ e ne. (
@@ -302,12 +301,12 @@ module _ (case : Case) (is : IsCase case) (r : ℕ) (x : Board) (s t s2 t2 : Sha
             omega arith);
         plus_left = λ e ne. ap (messages m e) mail_left ∙ plus_yes case is for_another e (ap not (ne_eqb e.dst r ne)) (all_mail x);
         minus = λ e of_r. (
-            let yes : (e.dst == r) ≡ true = eq-eqb e.dst r of_r in
-            let a = ap (antimessages m e) moved.mail_left ∙ minus_no case is for_another e (ap not yes) s.mail in
-            let b = ap (antimessages m e) mail_left ∙ minus_no case is for_another e (ap not yes) (all_mail x) in
+            let is_r : (e.dst == r) ≡ true = eq-eqb e.dst r of_r in
+            let a = ap (antimessages m e) moved.mail_left ∙ minus_no case is for_another e (ap not is_r) s.mail in
+            let b = ap (antimessages m e) mail_left ∙ minus_no case is for_another e (ap not is_r) (all_mail x) in
             let c = minus_came e in
-            let d = minus_yes case is for_it e yes s.mail in
-            let f = minus_yes case is for_it e yes (all_mail x) in
+            let d = minus_yes case is for_it e is_r s.mail in
+            let f = minus_yes case is for_it e is_r (all_mail x) in
             ((omega arith), (omega arith)));
         minus_from = λ e ne. ap (antimessages m e) moved.mail_left ∙ minus_yes case is for_another e (ap not (ne_eqb e.dst r ne)) s.mail;
         minus_to = λ e ne. (
