@@ -49,7 +49,7 @@ impl Hand {
         to.drop_delivered();
         self.drop_delivered();
         push_for(router, &self.mail, &mut to.mail);
-        self.mail.retain(|message| message.event.dst != router);
+        drop_for(router, &mut self.mail);
         Ok(())
     }
 
@@ -66,15 +66,23 @@ impl Hand {
     }
 }
 
-/// Puts those of the messages that are for one router behind the mail of a hand, which has room for all of them.
+/// Puts those of the messages that are for one router behind others, where there is room for all of them.
 fn push_for(router: u32, messages: &[Signed<Event>], to: &mut Vec<Signed<Event>>)
     requires room { vec_len to.old + length messages.now ≤ vec_capacity to.old }
     ensures items { to.new.items ≡ to.old.items ++ filter (is_to router) messages.now }
     ensures capacity { vec_capacity to.new ≡ vec_capacity to.old }
+    ensures fits { vec_len to.new ≤ vec_len to.old + length messages.now }
 {
     for message in messages {
         if message.event.dst == router {
             to.push_reserved(*message);
         }
     }
+}
+
+/// Drops those of the messages that are for one router.
+fn drop_for(router: u32, messages: &mut Vec<Signed<Event>>)
+    ensures { messages.new.items ≡ filter (is_to_another router) messages.old.items }
+{
+    messages.retain(|message| message.event.dst != router);
 }
