@@ -1,11 +1,11 @@
 -- A router goes from one worker to another.
-use Rattle.std.proofs.Common.{arith, ℕ, zero, suc, ◌≡◌, ◌≤◌, ◌==◌, Bool, true, false, true≢false, cond, List, [], ◌∷◌, ◌++◌, Option, None, Some, filter, flat_map, length, map, not, set, get_or, refl, ap, sym, ◌∙◌, subst, inl, inr, append-nil}
+use Rattle.std.proofs.Common.{arith, ℕ, zero, suc, ◌≡◌, ◌+◌, ◌<◌, ◌≤◌, ◌==◌, Bool, true, false, true≢false, cond, List, [], ◌∷◌, ◌++◌, Option, None, Some, filter, flat_map, length, map, not, set, get_or, refl, ap, sym, ◌∙◌, subst, inl, inr, append-nil}
 use Rattle.std.proofs.lemmas.Bool.{cases_Bool, eq-eqb, eqb-true, ne_eqb}
 use Rattle.std.proofs.lemmas.List.{get_or-set_other, length-map, length-set}
-use Rattle.std.specs.List.{AllByRecursion}
+use Rattle.std.specs.List.{AllByRecursion, range_with_len}
 use Rattle.std.specs.Option.{option_map}
 use Rattle.tw_event.specs.declared.event.Event.{Event}
-use Rattle.tw_exchange.specs.Board.{Board, IsBoard, all_mail, given, is_for, is_to, is_to_another, mail_of, who, without_mail, worker_for, workers}
+use Rattle.tw_exchange.specs.Board.{Board, IsBoard, all_mail, given, is_for, is_to, is_to_another, listed, mail_of, who, without_mail, worker_for, workers}
 use Rattle.tw_exchange.proofs.Boards.{kept, reports_rise}
 use Rattle.tw_exchange.proofs.Least.{all_both, mail_each}
 use Rattle.tw_sim.specs.declared.machine.Signed.{Signed}
@@ -161,3 +161,24 @@ module _ (r : ℕ) where
 
   pub taken_out : (w : ℕ) (x : Board) → IsBoard x → who x r ≡ w → filter (is_to r) (mail_of w x) ≡ filter (is_to r) (all_mail x)
   taken_out w x h whose = ap (λ k. filter (is_to r) (mail_of k x)) (sym whose) ∙ sym (taken_is x h)
+
+-- ---- a list of the workers that routers have
+
+of_range : (f : ℕ → ℕ) (a k r d : ℕ) → r < k → get_or (map f (range_with_len a k)) r d ≡ f (a + r)
+of_range f a zero r d within = absurd (omega arith)
+of_range f a (suc k) zero d within = ap f (let same : a ≡ a + 0 = omega arith in same)
+of_range f a (suc k) (suc r) d within = of_range f (a + 1) k r d (omega arith) ∙ ap f (let same : a + 1 + r ≡ a + suc r = omega arith in same)
+
+-- of each of them it is the same
+pub same_listed : (x : Board) (n r : ℕ) → r < n → who (listed n x) r ≡ who x r
+same_listed x n r within = of_range (who x) 0 n r (workers x) within ∙ ap (who x) (let same : 0 + r ≡ r = omega arith in same)
+
+pub listed_board : (n : ℕ) (x : Board) → IsBoard x → AllByRecursion (λ m. m.event.dst < n) (all_mail x) → IsBoard (listed n x)
+listed_board n x h within = record {
+  mails = h.mails;
+  home = λ k. joined (λ m. is_for (who x) k m ≡ true) (λ m. m.event.dst < n) (λ m. is_for (who (listed n x)) k m ≡ true)
+      (λ m here l. ap (λ v. v == k) (same_listed x n m.event.dst l) ∙ here) (mail_of k x) (h.home k) (mail_each (λ m. m.event.dst < n) x.mail within k);
+  late = h.late;
+  reported = h.reported;
+  stop = h.stop;
+}

@@ -2,7 +2,7 @@
 -- 1985: global virtual time is the least time of all that waits or is on its way).
 use Rattle.std.specs.Prelude.{ℕ, suc, ◌≡◌, ◌<◌, ◌≤◌, ◌==◌, ◌||◌, Bool, true, false}
 use Rattle.std.specs.Prelude.{IfSome, List, [], ◌∷◌, ◌++◌, Option, None, Some, fold, length, map, min, nat_lt, not, replicate, slice_index_or, slice_set}
-use Rattle.std.specs.List.{AllByRecursion, filter, flat_map, list_any, reduce}
+use Rattle.std.specs.List.{AllByRecursion, filter, flat_map, list_any, range_with_len, reduce}
 use Rattle.std.specs.Option.{IsSomeAnd, option_map, option_map_or, option_to_list}
 use Rattle.tw_event.specs.declared.event.Event.{Event}
 use Rattle.tw_sim.specs.declared.machine.Signed.{Signed}
@@ -112,6 +112,10 @@ without_mail r x = record x { mail = map (filter (is_to_another r)) x.mail }
 -- whether a list says the worker of router r
 abbrev pub IsListed : ℕ → Board → Type 0
 IsListed r x = IsSomeAnd x.owners (λ list. r < length list)
+
+-- once a list says the worker that each of so many routers has
+abbrev pub listed : ℕ → Board → Board
+listed routers x = record x { owners = Some (map (who x) (range_with_len 0 routers)) }
 
 -- once worker w has router r, and reports the bound, since it may have anything of that router
 abbrev pub given : ℕ → ℕ → Board → Board

@@ -1,6 +1,6 @@
 //! Mail by worker: whose a message is, and moving messages.
 
-ghost use Rattle.std.specs.Prelude.{ℕ, ◌≡◌, ◌<◌, ◌+◌, ◌++◌, OnErr, OnOk, [], count_by, false, filter, length, map, slice_index, slice_index_or, slice_set};
+ghost use Rattle.std.specs.Prelude.{ℕ, ◌≡◌, ◌<◌, ◌≤◌, ◌+◌, ◌++◌, IsOk, OnErr, OnOk, [], count_by, false, filter, length, map, slice_index, slice_index_or, slice_set, vec_capacity, vec_len};
 ghost use Rattle.tw_exchange.specs.Board.{any_homeless, followed, is_to, is_to_another, sent_to, worker_for};
 ghost use Rattle.tw_exchange.specs.Owners.{list_of};
 ghost use Rattle.tw_exchange.specs.Rows.{HasRoom, items, soonest_of};
@@ -118,6 +118,7 @@ pub fn take_out(
     ensures err { OnErr result (items mail.new ≡ items mail.old) }
     ensures kept { OnErr result (to.new.items ≡ to.old.items) }
     ensures soonest { soonest_times.new ≡ map soonest_of (items mail.new) }
+    ensures succeeds { vec_len to.old + length (slice_index_or (items mail.old) worker []) ≤ vec_capacity to.old → IsOk result }
 {
     copy_out(&mail[worker], router, to)?;
     drop_for(&mut mail[worker], router);
@@ -133,6 +134,7 @@ fn copy_out(
 ) -> Result<(), AllocError>
     ensures ok { OnOk result (to.new.items ≡ to.old.items ++ filter (is_to router) messages.now) }
     ensures err { OnErr result (to.new.items ≡ to.old.items) }
+    ensures succeeds { vec_len to.old + length messages.now ≤ vec_capacity to.old → IsOk result }
 {
     to.reserve(count_for(messages, router))?;
     for message in messages {
