@@ -5,3 +5,5 @@ pub mod Openings
 pub mod Ends
 pub mod Crews
 pub mod Rounds
+pub mod Moved
+pub mod Handing

@@ -108,6 +108,15 @@ module _ (case : Case) (is : IsCase case) (n : ℕ) (keeps : Bool) (cancel : Can
     all_known (k + 1) ss hs (later k s ss each) (omega arith),
   )
 
+  all_alike : (k : ℕ) (ss : List Shard) (hs : List Hand) → Begin k ss → length hs ≡ length ss
+      → AllByRecursion (λ (t : Share). (t.shard.keeps ≡ keeps) × (t.shard.cancel ≡ cancel)) (shares_of ss hs)
+  all_alike k [] hs each same = tt
+  all_alike k (s ∷ ss) [] each same = absurd (omega arith)
+  all_alike k (s ∷ ss) (h ∷ hs) each same = (
+    ((first k s ss each).keeps_are, ap (λ (C : Core Event). C.cancel) ((first k s ss each).core_is 0)),
+    all_alike (k + 1) ss hs (later k s ss each) (omega arith),
+  )
+
 module _ {S E : Type 0} (m : Simulation S E) (who : ℕ → ℕ) (stop : ℕ) where
   -- what places that begin are as parts of the machine
   no_history : (r k : ℕ) (ps : List (Place E)) → AreOpeningPlaces m who k ps → at_owner (λ (C : Core E). C.history r) [] (map (part_of stop) ps) r ≡ []
@@ -197,6 +206,7 @@ module _ (case : Case) (is : IsCase case) (n : ℕ) (keeps : Bool) (cancel : Can
           rule = subst (λ k. Rule (simulation case) (owner k) (board_of (opening n 0 0)) (map place_of (shares_of ss hs))) (sym many) new_rule;
         };
         known = all_known case is n keeps cancel 0 ss hs from_zero same;
+        alike = record { keeps = keeps; cancel = cancel; each = all_alike case is n keeps cancel 0 ss hs from_zero same };
         stop = omega arith;
       }
 

@@ -1,11 +1,12 @@
 -- A run after its workers have left a table.
-use Rattle.std.proofs.Common.{◌≡◌, ℕ, suc, ◌<◌, ◌≤◌, true, List, [], ◌∷◌, length, map, refl, ap, sym, ◌∙◌, subst, arith}
+use Rattle.std.proofs.Common.{◌≡◌, ℕ, suc, ◌<◌, ◌≤◌, Bool, true, List, [], ◌∷◌, length, map, refl, ap, sym, ◌∙◌, subst, arith}
 use Rattle.std.specs.List.{AllByRecursion, range_with_len}
 use Rattle.tw_exchange.specs.Board.{Board, workers}
 use Rattle.tw_model.specs.Case.{Case}
 use Rattle.tw_parallel.specs.Sim.{AreOf, GoesOn, IsSim, Sim}
 use Rattle.tw_shard.specs.Roster.{has}
 use Rattle.tw_shard.specs.Shard.{IsSameShare, Shard}
+use Rattle.tw_sim.specs.declared.machine.Cancel.{Cancel}
 use Rattle.tw_table.specs.Seats.{bound_at, share_at, stop_at}
 use Rattle.tw_table.specs.Shares.{IsRuled, IsWhole, Share, shares_of}
 use Rattle.tw_table.specs.declared.hand.Hand.{Hand}
@@ -48,6 +49,14 @@ still_known c [] (y ∷ ys) same h = absurd same
 still_known c (x ∷ xs) [] same h = tt
 still_known c (x ∷ xs) (y ∷ ys) same h = (λ r own. h.0 r (ap (λ rs. has rs r) (sym same.0.routers) ∙ own), still_known c xs ys same.1 h.1)
 
+-- and keep their events and take back alike
+still_alike : (keeps : Bool) (cancel : Cancel) (xs ys : List Share) → AreSameShares xs ys → AllByRecursion (λ (t : Share). (t.shard.keeps ≡ keeps) × (t.shard.cancel ≡ cancel)) xs
+    → AllByRecursion (λ (t : Share). (t.shard.keeps ≡ keeps) × (t.shard.cancel ≡ cancel)) ys
+still_alike keeps cancel [] [] same h = tt
+still_alike keeps cancel [] (y ∷ ys) same h = absurd same
+still_alike keeps cancel (x ∷ xs) [] same h = tt
+still_alike keeps cancel (x ∷ xs) (y ∷ ys) same h = ((same.0.keeps ∙ h.0.0, same.0.cancel ∙ h.0.1), still_alike keeps cancel xs ys same.1 h.1)
+
 -- ---- so the run goes on
 
 same_workers : (s : Sim) (y : Board) (shares : List Share) → IsSim s → IsWhole y shares → AreSameShares s.shares shares → workers y ≡ workers s.board
@@ -64,6 +73,11 @@ still_sim s y shares is whole same stop =
       order = same_map (λ t. t.worker) (λ t u is. is.worker) s.shares shares same ∙ (is.order ∙ ap (range_with_len 0) (sym long));
       ruled = subst (λ c. IsRuled c y shares) case whole.ruled;
       known = still_known s.case s.shares shares same is.known;
+      alike = record {
+        keeps = is.alike.keeps;
+        cancel = is.alike.cancel;
+        each = still_alike is.alike.keeps is.alike.cancel s.shares shares same is.alike.each;
+      };
       stop = (let n = is.stop in omega (arith, n, stop));
     }
 

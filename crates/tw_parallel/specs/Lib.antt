@@ -3,3 +3,4 @@ pub mod Sim
 pub mod Inside
 pub mod Settled
 pub mod Crew
+pub mod Moving

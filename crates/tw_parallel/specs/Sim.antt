@@ -1,5 +1,5 @@
 -- A parallel run between two runs of its workers: what they share, and what each of them has (own).
-use Rattle.std.specs.Prelude.{ℕ, ◌≡◌, ◌<◌, ◌≤◌, true, false, List, [], map}
+use Rattle.std.specs.Prelude.{ℕ, ◌≡◌, ◌<◌, ◌≤◌, Bool, true, false, List, [], map}
 use Rattle.std.specs.List.{AllByRecursion, flat_map, range_with_len}
 use Rattle.tw_core.specs.Machine.{Core, committed}
 use Rattle.tw_event.specs.declared.event.Event.{Event}
@@ -28,6 +28,12 @@ machine s = assembled (board_of s.board) (map place_of s.shares)
 abbrev pub AreOf : Case → Share → Type 0
 AreOf case t = (r : ℕ) → owns t.shard r ≡ true → r < case.net.nodes
 
+-- the routers of all shares keep their events or none does, and what undone events have sent is taken back at the same time
+pub record AreAlike (shares : List Share) : Type 0 where
+  pub keeps : Bool
+  pub cancel : Cancel
+  pub each : AllByRecursion (λ t. (t.shard.keeps ≡ keeps) × (t.shard.cancel ≡ cancel)) shares
+
 -- it keeps the rule
 pub record IsSim (s : Sim) : Type 0 where
   -- there are workers
@@ -37,6 +43,8 @@ pub record IsSim (s : Sim) : Type 0 where
   pub ruled : IsRuled s.case s.board s.shares
   -- of routers of the case alone
   pub known : AllByRecursion (AreOf s.case) s.shares
+  -- whose routers keep their events alike, and take back at the same time what undone events have sent
+  pub alike : AreAlike s.shares
   -- the stop is one that a case may have
   pub stop : s.board.stop ≤ LATEST
 

@@ -1,14 +1,15 @@
 //! Routers move between the workers of a parallel run.
-ghost use Rattle.std.specs.Prelude.{◌≡◌, ◌↔◌, ◌<◌, ◌≤◌, ◌+◌, ℕ, false, true, Err, IfOk, IsErrOf, OnErr, OnOk, Some, length, slice_get, slice_index_or, slice_set, vec_capacity, vec_len};
-ghost use Rattle.std.specs.List.{list_all};
+ghost use Rattle.std.specs.Prelude.{◌≡◌, ◌↔◌, ◌<◌, ◌≤◌, ◌+◌, ◌++◌, ℕ, false, true, IsErrOf, OnErr, OnOk, Some, filter, length, slice_get, slice_index_or, slice_set, vec_capacity, vec_len};
 ghost use Rattle.tw_core.specs.Machine.{IsSameMachine};
-ghost use Rattle.tw_exchange.specs.Board.{IsListed, all_mail, is_to, mail_of, who, workers};
+ghost use Rattle.tw_exchange.specs.Board.{IsListed, is_to, is_to_another, who, workers};
 ghost use Rattle.tw_model.specs.Case.{simulation};
 ghost use Rattle.tw_model.specs.declared.memory.OrMemory.TheVariants as or_memory;
-ghost use Rattle.tw_parallel.specs.Moving.{AreApart, HasMovedBetween, IsRearranged, are_owners};
+ghost use Rattle.tw_parallel.specs.declared.moving.UnfitOwners.{UnfitOwners as Unfit};
+ghost use Rattle.tw_parallel.specs.Moving.{AreEnds, AreLike, AreListed, HasMovedBetween, IsRearranged, are_owners};
 ghost use Rattle.tw_parallel.specs.Sim.{GoesOn, IsSim, machine};
 ghost use Rattle.tw_shard.specs.Moving.{HasCome, HasLeft};
 ghost use Rattle.tw_shard.specs.Shard.{no_shard, owns};
+ghost use Rattle.tw_table.specs.declared.hand.Hand.{Hand as AHand};
 ghost use Rattle.tw_table.specs.Moving.{moved_board, waiting};
 ghost use Rattle.tw_table.specs.Shares.{shares_of};
 
@@ -89,8 +90,8 @@ impl<'a> Sim<'a> {
                 &mut self.shards,
                 &mut self.hands,
                 router,
-                from as usize,
-                worker as usize,
+                from,
+                worker,
             ),
             _ => Ok(()),
         }
@@ -104,17 +105,15 @@ fn hand_over<'a>(
     shards: &mut [Shard<'a>],
     hands: &mut [Hand],
     router: u32,
-    from: usize,
-    to: usize,
+    from: u32,
+    to: u32,
 ) -> Result<(), AllocError>
-    requires count { length hands.old ≡ length shards.old }
+    requires hands { length hands.old ≡ length shards.old }
     requires workers { length shards.old ≡ workers exchange.old }
-    requires from { from < length shards.old }
-    requires to { to < length shards.old }
-    requires apart { (from ≡ to) → ⊥ }
+    requires ends { AreEnds from to (length shards.old) }
     requires listed { IsListed router exchange.old }
     requires owner { who exchange.old router ≡ from }
-    requires alike { IsAlike shards.old }
+    requires like { AreLike (slice_index_or shards.old from no_shard) (slice_index_or shards.old to no_shard) }
     requires own { owns (slice_index_or shards.old from no_shard) router ≡ true }
     requires new { owns (slice_index_or shards.old to no_shard) router ≡ false }
     ensures board { OnOk result (exchange.new ≡ moved_board router to exchange.old) }
@@ -124,21 +123,44 @@ fn hand_over<'a>(
     ensures shards { length shards.new ≡ length shards.old }
     ensures hands { length hands.new ≡ length hands.old }
 {
-    let waiting = exchange.mail(from as u32).len() + hands[from].mail.len();
-    hands[to].mail.reserve(waiting)?;
-    hand_over_router(shards, router, from, to)?;
-    hand_over_mail(hands, router, from, to);
-    exchange.take_for(router, &mut hands[to].mail).unwrap();
-    exchange.set_owner(router, to as u32);
+    let source = from as usize;
+    let target = to as usize;
+    let waiting = exchange.mail(from).len();
+    reserve_mail(hands, source, target, waiting)?;
+    hand_over_router(shards, router, source, target)?;
+    hand_over_mail(hands, router, source, target);
+    exchange
+        .take_for(router, &mut hands[target].mail)
+        .unwrap();
+    exchange.set_owner(router, to);
     Ok(())
 }
 
+/// Makes room in one hand for all mail of another, and for so many messages more.
+fn reserve_mail(hands: &mut [Hand], from: usize, to: usize, more: usize) -> Result<(), AllocError>
+    requires ends { AreEnds from to (length hands.old) }
+    ensures room { (d : AHand) → OnOk result (vec_len (slice_index_or hands.new to d).mail + vec_len (slice_index_or hands.new from d).mail + more
+        ≤ vec_capacity (slice_index_or hands.new to d).mail) }
+    ensures mail { (k : ℕ) (d : AHand) → (slice_index_or hands.new k d).mail.items ≡ (slice_index_or hands.old k d).mail.items }
+    ensures next { (k : ℕ) (d : AHand) → (slice_index_or hands.new k d).next ≡ (slice_index_or hands.old k d).next }
+    ensures out { (k : ℕ) (d : AHand) → (slice_index_or hands.new k d).out ≡ (slice_index_or hands.old k d).out }
+    ensures count { length hands.new ≡ length hands.old }
+{
+    let Some(messages) = hands[from].mail.len().checked_add(more) else {
+        return Err(AllocError);
+    };
+    hands[to].mail.reserve(messages)
+}
+
 /// A router goes from the shard at one place to that at another.
-fn hand_over_router<'a>(shards: &mut [Shard<'a>], router: u32, from: usize, to: usize) -> Result<(), AllocError>
-    requires from { from < length shards.old }
-    requires to { to < length shards.old }
-    requires apart { (from ≡ to) → ⊥ }
-    requires alike { IsAlike shards.old }
+fn hand_over_router<'a>(
+    shards: &mut [Shard<'a>],
+    router: u32,
+    from: usize,
+    to: usize,
+) -> Result<(), AllocError>
+    requires ends { AreEnds from to (length shards.old) }
+    requires like { AreLike (slice_index_or shards.old from no_shard) (slice_index_or shards.old to no_shard) }
     requires own { owns (slice_index_or shards.old from no_shard) router ≡ true }
     requires new { owns (slice_index_or shards.old to no_shard) router ≡ false }
     ensures left { OnOk result (HasLeft router (slice_index_or shards.old from no_shard) (slice_index_or shards.new from no_shard)) }
@@ -155,17 +177,23 @@ fn hand_over_router<'a>(shards: &mut [Shard<'a>], router: u32, from: usize, to: 
     };
     match handed {
         Ok(()) => Ok(()),
-        Err(OrMemory::Memory(error)) => Err(error),
+        Err(OrMemory::Memory) => Err(AllocError),
         Err(OrMemory::Fault(_)) => unreachable!(),
     }
 }
 
 /// The mail for a router that is not delivered goes from one hand to another, which has room for it.
 fn hand_over_mail(hands: &mut [Hand], router: u32, from: usize, to: usize)
-    requires from { from < length hands.old }
-    requires to { to < length hands.old }
-    requires apart { (from ≡ to) → ⊥ }
-    requires room { vec_len (slice_index_or hands.old to no_hand).mail + vec_len (slice_index_or hands.old from no_hand).mail ≤ vec_capacity (slice_index_or hands.old to no_hand).mail }
+    requires ends { AreEnds from to (length hands.old) }
+    requires room { (d : AHand) → vec_len (slice_index_or hands.old to d).mail + vec_len (slice_index_or hands.old from d).mail ≤ vec_capacity (slice_index_or hands.old to d).mail }
+    ensures left { (d : AHand) → waiting (slice_index_or hands.new from d) ≡ filter (is_to_another router) (waiting (slice_index_or hands.old from d)) }
+    ensures came { (d : AHand) → waiting (slice_index_or hands.new to d) ≡ waiting (slice_index_or hands.old to d) ++ filter (is_to router) (waiting (slice_index_or hands.old from d)) }
+    ensures out { (d : AHand) → (slice_index_or hands.new from d).out ≡ (slice_index_or hands.old from d).out }
+    ensures to_out { (d : AHand) → (slice_index_or hands.new to d).out ≡ (slice_index_or hands.old to d).out }
+    ensures next { (d : AHand) → (slice_index_or hands.new to d).next ≡ 0 }
+    ensures room { (d : AHand) → vec_capacity (slice_index_or hands.old to d).mail ≤ vec_capacity (slice_index_or hands.new to d).mail }
+    ensures fits { (d : AHand) → vec_len (slice_index_or hands.new to d).mail ≤ vec_len (slice_index_or hands.old to d).mail + vec_len (slice_index_or hands.old from d).mail }
+    ensures rest { (d : AHand) → hands.new ≡ slice_set (slice_set hands.old from (slice_index_or hands.new from d)) to (slice_index_or hands.new to d) }
 {
     if from < to {
         let (front, back) = hands.split_at_mut(to);
