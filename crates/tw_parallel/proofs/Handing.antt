@@ -1,10 +1,9 @@
 -- A router goes from the shard and hand of one worker to those of another.
-use Rattle.std.proofs.Common.{◌≡◌, ℕ, zero, suc, ◌+◌, ◌<◌, List, [], ◌∷◌, ◌++◌, Some, drop, filter, get_or, length, set, slice_get, refl, ap, sym, ◌∙◌, subst, arith, Vec, Global}
-use Rattle.std.proofs.lemmas.List.{get_or-set_other, get_or-set_same, length-set}
+use Rattle.std.proofs.Common.{◌≡◌, ℕ, zero, suc, ◌+◌, ◌<◌, List, [], ◌∷◌, ◌++◌, Some, drop, filter, get_or, length, set, slice_get, refl, ap, sym, ◌∙◌, subst, arith}
+use Rattle.std.proofs.lemmas.List.{length-set}
 use Rattle.tw_event.specs.declared.event.Event.{Event}
 use Rattle.tw_exchange.specs.Board.{Board, all_mail, is_to, is_to_another}
-use Rattle.tw_parallel.specs.Moving.{AreEnds, HasMovedBetween}
-use Rattle.tw_shard.specs.Moving.{HasCome, HasLeft}
+use Rattle.tw_parallel.specs.Moving.{AreEnds, HasHanded, HasMovedBetween, HasPassed}
 use Rattle.tw_shard.specs.Shard.{Shard, no_shard}
 use Rattle.tw_sim.specs.declared.machine.Signed.{Signed}
 use Rattle.tw_table.specs.declared.hand.Hand.{Hand}
@@ -46,19 +45,8 @@ set_set [] k x y = refl
 set_set (z ∷ xs) zero x y = refl
 set_set (z ∷ xs) (suc k) x y = ap (λ l. z ∷ l) (set_set xs k x y)
 
--- what the hands of two workers tell once the mail for a router has gone from one to the other
-pub record HasHanded (r from to : ℕ) (hs ks : List Hand) (d : Hand) : Type 0 where
-  pub left : waiting (get_or ks from d) ≡ filter (is_to_another r) (waiting (get_or hs from d))
-  pub came : waiting (get_or ks to d) ≡ waiting (get_or hs to d) ++ filter (is_to r) (waiting (get_or hs from d))
-  pub out : (get_or ks from d).out ≡ (get_or hs from d).out
-  pub to_out : (get_or ks to d).out ≡ (get_or hs to d).out
-  pub next : (get_or ks to d).next ≡ 0
-  pub rest : ks ≡ set (set hs from (get_or ks from d)) to (get_or ks to d)
-
 module _ (r from to : ℕ) (x : Board) (ss ss2 : List Shard) (hs hs1 hs2 : List Hand) (d last : Hand) (same : length hs ≡ length ss) (ends : AreEnds from to (length ss)) (long : length hs1 ≡ length hs)
-    (kept : (k : ℕ) (d : Hand) → HoldsSame (get_or hs k d) (get_or hs1 k d)) (left : HasLeft r (get_or ss from no_shard) (get_or ss2 from no_shard))
-    (came : HasCome r (get_or ss from no_shard) (get_or ss to no_shard) (get_or ss2 to no_shard))
-    (shards : ss2 ≡ set (set ss from (get_or ss2 from no_shard)) to (get_or ss2 to no_shard)) (handed : HasHanded r from to hs1 hs2 d)
+    (kept : (k : ℕ) (d : Hand) → HoldsSame (get_or hs k d) (get_or hs1 k d)) (passed : HasPassed r from to ss ss2) (handed : HasHanded r from to hs1 hs2 d)
     (mail : last.mail.items ≡ (get_or hs2 to d).mail.items ++ filter (is_to r) (all_mail x)) (next : last.next ≡ (get_or hs2 to d).next) (out : last.out ≡ (get_or hs2 to d).out) where
   abbrev hs3 : List Hand
   hs3 = set hs2 to last
@@ -74,7 +62,7 @@ module _ (r from to : ℕ) (x : Board) (ss ss2 : List Shard) (hs hs1 hs2 : List 
       let h2 = get_or hs2 from d in
       let as_long : length hs1 ≡ length ss = long ∙ same in
       let inner : length (set hs1 from h2) ≡ length (set ss from s2) = length-set hs1 from h2 ∙ (as_long ∙ sym (length-set ss from s2)) in
-      (λ i. shares_of (shards i) (hands i))
+      (λ i. shares_of (passed.rest i) (hands i))
       ∙ (shares_set (set ss from s2) (set hs1 from h2) to t2 last inner
       ∙ ap (λ l. set l to (share t2 last)) (shares_set ss hs1 from s2 h2 as_long ∙ ap (λ l. set l from (share s2 h2)) (same_shares ss hs hs1 long kept)))
 
@@ -84,10 +72,10 @@ module _ (r from to : ℕ) (x : Board) (ss ss2 : List Shard) (hs hs1 hs2 : List 
 
   last_waits : waiting last ≡ (waiting (get_or hs to d) ++ filter (is_to r) (waiting (get_or hs from d))) ++ filter (is_to r) (all_mail x)
   last_waits =
-      let none : last.next ≡ 0 = next ∙ handed.next in
-      let all : waiting (get_or hs2 to d) ≡ (get_or hs2 to d).mail.items = ap (λ n. drop n (get_or hs2 to d).mail.items) handed.next in
+      let none : last.next ≡ 0 = next ∙ handed.handed.next in
+      let all : waiting (get_or hs2 to d) ≡ (get_or hs2 to d).mail.items = ap (λ n. drop n (get_or hs2 to d).mail.items) handed.handed.next in
       ap (λ n. drop n last.mail.items) none
-      ∙ (mail ∙ ap (λ l. l ++ filter (is_to r) (all_mail x)) (sym all ∙ (handed.came ∙ (λ i. waits to i ++ filter (is_to r) (waits from i)))))
+      ∙ (mail ∙ ap (λ l. l ++ filter (is_to r) (all_mail x)) (sym all ∙ (handed.handed.came ∙ (λ i. waits to i ++ filter (is_to r) (waits from i)))))
 
   pub moved_between : HasMovedBetween r from to x (shares_of ss hs) (shares_of ss2 hs3)
   moved_between = record {
@@ -98,12 +86,12 @@ module _ (r from to : ℕ) (x : Board) (ss ss2 : List Shard) (hs hs1 hs2 : List 
     there = share_is ss hs from d same ends.from_within;
     other_there = share_is ss hs to d same ends.to_within;
     moved = record {
-      left = left;
-      came = came;
-      mail_left = handed.left ∙ ap (filter (is_to_another r)) (waits from);
+      left = passed.left;
+      came = passed.came;
+      mail_left = handed.handed.left ∙ ap (filter (is_to_another r)) (waits from);
       mail_came = last_waits;
-      unsent_left = ap (λ v. v.items) (handed.out ∙ (kept from d).out);
-      unsent_came = ap (λ v. v.items) (out ∙ (handed.to_out ∙ (kept to d).out));
+      unsent_left = ap (λ v. v.items) (handed.handed.out ∙ (kept from d).out);
+      unsent_came = ap (λ v. v.items) (out ∙ (handed.handed.to_out ∙ (kept to d).out));
     };
     later_is = later;
   }

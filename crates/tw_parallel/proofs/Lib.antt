@@ -7,3 +7,4 @@ pub mod Crews
 pub mod Rounds
 pub mod Moved
 pub mod Handing
+pub mod PutBack

@@ -1,16 +1,16 @@
 //! Routers move between the workers of a parallel run.
-ghost use Rattle.std.specs.Prelude.{◌≡◌, ◌↔◌, ◌<◌, ◌≤◌, ◌+◌, ◌++◌, ℕ, false, true, IsErrOf, OnErr, OnOk, Some, filter, length, slice_get, slice_index_or, slice_set, vec_capacity, vec_len};
+ghost use Rattle.std.specs.Prelude.{◌≡◌, ◌↔◌, ◌<◌, ◌≤◌, ◌+◌, ℕ, false, true, IsErrOf, OnErr, OnOk, Some, length, slice_get, slice_index_or, if◌then◌else◌, ◌==◌, vec_capacity, vec_len};
 ghost use Rattle.tw_core.specs.Machine.{IsSameMachine};
-ghost use Rattle.tw_exchange.specs.Board.{IsListed, is_to, is_to_another, who, workers};
+ghost use Rattle.tw_exchange.specs.Board.{IsListed, who, workers};
 ghost use Rattle.tw_model.specs.Case.{simulation};
 ghost use Rattle.tw_model.specs.declared.memory.OrMemory.TheVariants as or_memory;
 ghost use Rattle.tw_parallel.specs.declared.moving.UnfitOwners.{UnfitOwners as Unfit};
-ghost use Rattle.tw_parallel.specs.Moving.{AreEnds, AreLike, AreListed, HasMovedBetween, IsRearranged, are_owners};
+ghost use Rattle.tw_parallel.specs.Moving.{AreEnds, AreLike, AreListed, HasHanded, HasMovedBetween, HasPassed, HasRoomFor, IsHanded, IsRearranged, MayPass, are_owners};
 ghost use Rattle.tw_parallel.specs.Sim.{GoesOn, IsSim, machine};
 ghost use Rattle.tw_shard.specs.Moving.{HasCome, HasLeft};
-ghost use Rattle.tw_shard.specs.Shard.{no_shard, owns};
+ghost use Rattle.tw_shard.specs.Shard.{owns};
 ghost use Rattle.tw_table.specs.declared.hand.Hand.{Hand as AHand};
-ghost use Rattle.tw_table.specs.Moving.{moved_board, waiting};
+ghost use Rattle.tw_table.specs.Moving.{moved_board};
 ghost use Rattle.tw_table.specs.Shares.{shares_of};
 
 use crate::sim::Sim;
@@ -102,25 +102,23 @@ impl<'a> Sim<'a> {
 /// memory it stays where it is.
 fn hand_over<'a>(
     exchange: &mut Exchange,
-    shards: &mut [Shard<'a>],
+    shards: &mut Vec<Shard<'a>>,
     hands: &mut [Hand],
     router: u32,
     from: u32,
     to: u32,
 ) -> Result<(), AllocError>
-    requires hands { length hands.old ≡ length shards.old }
-    requires workers { length shards.old ≡ workers exchange.old }
-    requires ends { AreEnds from to (length shards.old) }
+    requires hands { length hands.old ≡ vec_len shards.old }
+    requires workers { vec_len shards.old ≡ workers exchange.old }
+    requires ends { AreEnds from to (vec_len shards.old) }
     requires listed { IsListed router exchange.old }
     requires owner { who exchange.old router ≡ from }
-    requires like { AreLike (slice_index_or shards.old from no_shard) (slice_index_or shards.old to no_shard) }
-    requires own { owns (slice_index_or shards.old from no_shard) router ≡ true }
-    requires new { owns (slice_index_or shards.old to no_shard) router ≡ false }
+    requires fit { MayPass router from to shards.old.items }
     ensures board { OnOk result (exchange.new ≡ moved_board router to exchange.old) }
-    ensures moved { OnOk result (HasMovedBetween router from to exchange.old (shares_of shards.old hands.old) (shares_of shards.new hands.new)) }
+    ensures moved { OnOk result (HasMovedBetween router from to exchange.old (shares_of shards.old.items hands.old) (shares_of shards.new.items hands.new)) }
     ensures err_board { OnErr result (exchange.new ≡ exchange.old) }
-    ensures err_shares { OnErr result (shares_of shards.new hands.new ≡ shares_of shards.old hands.old) }
-    ensures shards { length shards.new ≡ length shards.old }
+    ensures err_shares { OnErr result (shares_of shards.new.items hands.new ≡ shares_of shards.old.items hands.old) }
+    ensures shards { vec_len shards.new ≡ vec_len shards.old }
     ensures hands { length hands.new ≡ length hands.old }
 {
     let source = from as usize;
@@ -154,28 +152,45 @@ fn reserve_mail(hands: &mut [Hand], from: usize, to: usize, more: usize) -> Resu
 
 /// A router goes from the shard at one place to that at another.
 fn hand_over_router<'a>(
-    shards: &mut [Shard<'a>],
+    shards: &mut Vec<Shard<'a>>,
     router: u32,
     from: usize,
     to: usize,
 ) -> Result<(), AllocError>
-    requires ends { AreEnds from to (length shards.old) }
-    requires like { AreLike (slice_index_or shards.old from no_shard) (slice_index_or shards.old to no_shard) }
-    requires own { owns (slice_index_or shards.old from no_shard) router ≡ true }
-    requires new { owns (slice_index_or shards.old to no_shard) router ≡ false }
-    ensures left { OnOk result (HasLeft router (slice_index_or shards.old from no_shard) (slice_index_or shards.new from no_shard)) }
-    ensures came { OnOk result (HasCome router (slice_index_or shards.old from no_shard) (slice_index_or shards.old to no_shard) (slice_index_or shards.new to no_shard)) }
-    ensures rest { shards.new ≡ slice_set (slice_set shards.old from (slice_index_or shards.new from no_shard)) to (slice_index_or shards.new to no_shard) }
-    ensures err { OnErr result (shards.new ≡ shards.old) }
+    requires ends { AreEnds from to (vec_len shards.old) }
+    requires fit { MayPass router from to shards.old.items }
+    ensures passed { OnOk result (HasPassed router from to shards.old.items shards.new.items) }
+    ensures err { OnErr result (shards.new.items ≡ shards.old.items) }
+    ensures count { vec_len shards.new ≡ vec_len shards.old }
 {
-    let handed = if from < to {
-        let (front, back) = shards.split_at_mut(to);
-        front[from].hand_over(router, &mut back[0])
-    } else {
-        let (front, back) = shards.split_at_mut(from);
-        back[0].hand_over(router, &mut front[to])
-    };
-    match handed {
+    // The shard stands outside the list for as long as it hands over, and the last one at its place.
+    let last = shards.len() - 1;
+    let mut source = shards.swap_remove(from);
+    let target = place_without(from, to, last);
+    let handed = pass(&mut source, &mut shards[target], router);
+    shards.push_reserved(source);
+    shards.swap(from, last);
+    handed
+}
+
+/// Where an item stands once another one is taken out, at whose place the last one then stands.
+fn place_without(out: usize, place: usize, last: usize) -> usize
+    ensures { result ≡ (if place == last then out else place) }
+{
+    if place == last { out } else { place }
+}
+
+/// A router that one shard has, and another does not have, goes to it.
+fn pass<'a>(from: &mut Shard<'a>, to: &mut Shard<'a>, router: u32) -> Result<(), AllocError>
+    requires like { AreLike from.old to.old }
+    requires own { owns from.old router ≡ true }
+    requires new { owns to.old router ≡ false }
+    ensures left { OnOk result (HasLeft router from.old from.new) }
+    ensures came { OnOk result (HasCome router from.old to.old to.new) }
+    ensures err { OnErr result (from.new ≡ from.old) }
+    ensures none_came { OnErr result (to.new ≡ to.old) }
+{
+    match from.hand_over(router, to) {
         Ok(()) => Ok(()),
         Err(OrMemory::Memory) => Err(AllocError),
         Err(OrMemory::Fault(_)) => unreachable!(),
@@ -185,21 +200,22 @@ fn hand_over_router<'a>(
 /// The mail for a router that is not delivered goes from one hand to another, which has room for it.
 fn hand_over_mail(hands: &mut [Hand], router: u32, from: usize, to: usize)
     requires ends { AreEnds from to (length hands.old) }
-    requires room { (d : AHand) → vec_len (slice_index_or hands.old to d).mail + vec_len (slice_index_or hands.old from d).mail ≤ vec_capacity (slice_index_or hands.old to d).mail }
-    ensures left { (d : AHand) → waiting (slice_index_or hands.new from d) ≡ filter (is_to_another router) (waiting (slice_index_or hands.old from d)) }
-    ensures came { (d : AHand) → waiting (slice_index_or hands.new to d) ≡ waiting (slice_index_or hands.old to d) ++ filter (is_to router) (waiting (slice_index_or hands.old from d)) }
-    ensures out { (d : AHand) → (slice_index_or hands.new from d).out ≡ (slice_index_or hands.old from d).out }
-    ensures to_out { (d : AHand) → (slice_index_or hands.new to d).out ≡ (slice_index_or hands.old to d).out }
-    ensures next { (d : AHand) → (slice_index_or hands.new to d).next ≡ 0 }
-    ensures room { (d : AHand) → vec_capacity (slice_index_or hands.old to d).mail ≤ vec_capacity (slice_index_or hands.new to d).mail }
-    ensures fits { (d : AHand) → vec_len (slice_index_or hands.new to d).mail ≤ vec_len (slice_index_or hands.old to d).mail + vec_len (slice_index_or hands.old from d).mail }
-    ensures rest { (d : AHand) → hands.new ≡ slice_set (slice_set hands.old from (slice_index_or hands.new from d)) to (slice_index_or hands.new to d) }
+    requires room { (d : AHand) → HasRoomFor (slice_index_or hands.old from d) (slice_index_or hands.old to d) }
+    ensures { (d : AHand) → HasHanded router from to hands.old hands.new d }
 {
     if from < to {
         let (front, back) = hands.split_at_mut(to);
-        front[from].hand_over(router, &mut back[0]).unwrap();
+        pass_mail(&mut front[from], &mut back[0], router);
     } else {
         let (front, back) = hands.split_at_mut(from);
-        back[0].hand_over(router, &mut front[to]).unwrap();
+        pass_mail(&mut back[0], &mut front[to], router);
     }
+}
+
+/// The mail for a router goes to a hand that has room for it.
+fn pass_mail(from: &mut Hand, to: &mut Hand, router: u32)
+    requires room { HasRoomFor from.old to.old }
+    ensures { IsHanded router from.old to.old from.new to.new }
+{
+    from.hand_over(router, to).unwrap();
 }
