@@ -11,6 +11,10 @@ pub both_ok : {T E : Type 0} (r : Result T E) (P Q R : Type 0) → OnOk r P → 
 both_ok (Ok x) P Q R p q f = f p q
 both_ok (Err e) P Q R p q f = tt
 
+pub on_err : {T E : Type 0} (r : Result T E) (P : Type 0) → P → OnErr r P
+on_err (Ok x) P p = tt
+on_err (Err e) P p = p
+
 pub both_err : {T E : Type 0} (r : Result T E) (P Q R : Type 0) → OnErr r P → OnErr r Q → (P → Q → R) → OnErr r R
 both_err (Ok x) P Q R p q f = tt
 both_err (Err e) P Q R p q f = f p q
@@ -25,6 +29,19 @@ module _ {X : Type 0} where
   set_itself [] k d = refl
   set_itself (x ∷ xs) zero d = refl
   set_itself (x ∷ xs) (suc k) d = ap (λ l. x ∷ l) (set_itself xs k d)
+
+  set_set : (xs : List X) (k : ℕ) (x y : X) → set (set xs k x) k y ≡ set xs k y
+  set_set [] k x y = refl
+  set_set (z ∷ xs) zero x y = refl
+  set_set (z ∷ xs) (suc k) x y = ap (λ l. z ∷ l) (set_set xs k x y)
+
+  -- an item put back where another one was put meanwhile
+  pub set_again : (xs : List X) (i j : ℕ) (x y z : X) → (i ≡ j → ⊥) → set (set (set xs i x) j y) i z ≡ set (set xs i z) j y
+  set_again [] i j x y z apart = refl
+  set_again (w ∷ xs) zero zero x y z apart = absurd (apart refl)
+  set_again (w ∷ xs) zero (suc j) x y z apart = refl
+  set_again (w ∷ xs) (suc i) zero x y z apart = ap (λ l. y ∷ l) (set_set xs i x z)
+  set_again (w ∷ xs) (suc i) (suc j) x y z apart = ap (λ l. w ∷ l) (set_again xs i j x y z (λ same. apart (ap suc same)))
 
   -- lists of which each item is the same
   same_lists : (xs ys : List X) → length xs ≡ length ys → ((k : ℕ) (d : X) → k < length xs → get_or xs k d ≡ get_or ys k d) → xs ≡ ys

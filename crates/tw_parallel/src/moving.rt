@@ -15,6 +15,7 @@ ghost use Rattle.tw_table.specs.Shares.{shares_of};
 
 use crate::sim::Sim;
 use std::alloc::AllocError;
+use std::mem;
 use thiserror::Error;
 use tw_exchange::Exchange;
 use tw_model::OrMemory;
@@ -203,18 +204,15 @@ fn hand_over_mail(hands: &mut [Hand], router: u32, from: usize, to: usize)
     requires room { (d : AHand) → HasRoomFor (slice_index_or hands.old from d) (slice_index_or hands.old to d) }
     ensures { (d : AHand) → HasHanded router from to hands.old hands.new d }
 {
-    if from < to {
-        let (front, back) = hands.split_at_mut(to);
-        pass_mail(&mut front[from], &mut back[0], router);
-    } else {
-        let (front, back) = hands.split_at_mut(from);
-        pass_mail(&mut back[0], &mut front[to], router);
-    }
+    let none = Hand::new(*hands[from].mail.allocator());
+    let mut hand = mem::replace(&mut hands[from], none);
+    pass_mail(&mut hand, &mut hands[to], router);
+    hands[from] = hand;
 }
 
 /// The mail for a router goes to a hand that has room for it.
 fn pass_mail(from: &mut Hand, to: &mut Hand, router: u32)
-    requires room { HasRoomFor from.old to.old }
+    requires { HasRoomFor from.old to.old }
     ensures { IsHanded router from.old to.old from.new to.new }
 {
     from.hand_over(router, to).unwrap();
