@@ -1,20 +1,35 @@
 -- A run in which a router goes from one worker to another is one still, and its machine stays.
-use Rattle.std.proofs.Common.{◌≡◌, ℕ, zero, suc, ◌+◌, ◌<◌, ◌≤◌, ◌==◌, ◌||◌, not, true, List, [], ◌∷◌, Some, length, map, set, slice_get, refl, ap, sym, ◌∙◌, subst, inl, inr, arith}
-use Rattle.std.proofs.lemmas.Bool.{and_parts, cases_Bool, eqb-true}
-use Rattle.std.proofs.lemmas.List.{length-set}
+use Rattle.std.proofs.Common.{◌≡◌, ℕ, zero, suc, ◌+◌, ◌<◌, ◌≤◌, ◌==◌, ◌||◌, not, true, cond, Err, List, [], ◌∷◌, None, Ok, Option, Some, get_or, length, map, set, slice_get, take, ◌++◌, refl, ap, sym, ◌∙◌, subst, inl, inr, arith}
+use Rattle.std.proofs.lemmas.Bool.{and_parts, cases_Bool, eqb-true, ne_eqb}
+use Rattle.std.proofs.lemmas.List.{get_or-set_same, length-map, length-set}
+use Rattle.std.proofs.lemmas.List.FromFn.{length-range_with_len}
 use Rattle.std.specs.List.{AllByRecursion, range_with_len}
+use Rattle.std.specs.Option.{IsSomeAnd, option_map}
+use Rattle.std.specs.Prelude.{OnErr, OnOk, Result, vec_len}
+use Rattle.tw_core.proofs.Sums.{all_map}
 use Rattle.tw_core.specs.Machine.{Core, IsSameMachine}
 use Rattle.tw_event.specs.declared.event.Event.{Event}
-use Rattle.tw_exchange.specs.Board.{Board, IsListed, who, workers}
+use Rattle.tw_exchange.specs.Board.{Board, IsListed, all_mail, listed, who, worker_for, workers}
+use Rattle.tw_exchange.proofs.Moving.{same_listed}
+use Rattle.tw_model.proofs.Within.{suits_within}
 use Rattle.tw_model.specs.Case.{Case, simulation}
-use Rattle.tw_parallel.proofs.Shares.{worker_there}
-use Rattle.tw_parallel.specs.Moving.{HasMovedBetween, IsRearranged}
+use Rattle.tw_parallel.proofs.Owners.{all_shards, law, own_there}
+use Rattle.tw_parallel.proofs.Shares.{share_there, worker_there}
+use Rattle.tw_parallel.specs.declared.sim.Sim.TheInside.{Inside}
+use Rattle.tw_parallel.specs.Inside.{IsInside, sim_of}
+use Rattle.tw_parallel.specs.Moving.{AreEnds, HasMovedBetween, IsRearranged, MayPass}
 use Rattle.tw_parallel.specs.Sim.{AreOf, GoesOn, IsSim, KeepsEvents, Sim, machine}
-use Rattle.tw_rule.proofs.Places.{all_at}
+use Rattle.tw_rule.proofs.Places.{all_at, get_map}
+use Rattle.tw_rule.specs.Board as rule
+use Rattle.tw_rule.specs.Place.{Place}
+use Rattle.tw_rule.specs.Rule.{Rule, Stands}
+use Rattle.tw_sim.specs.declared.machine.Signed.{Signed}
+use Rattle.tw_sim.specs.Simulation.{Simulation, one}
 use Rattle.tw_table.proofs.Moving.{machine_stays, ruled_moves}
 use Rattle.tw_table.specs.Moving.{HasMoved, moved_board}
-use Rattle.tw_shard.specs.Shard.{owns}
-use Rattle.tw_table.specs.Shares.{IsRuled, Share}
+use Rattle.tw_shard.specs.Shard.{Shard, no_shard, owns}
+use Rattle.tw_table.specs.declared.hand.Hand.{Hand}
+use Rattle.tw_table.specs.Shares.{IsRuled, Share, board_of, place_of, share, shares_of}
 
 -- ---- machines that are the same but for the order of their lists
 
@@ -91,10 +106,10 @@ module _ (s : Sim) (is : IsSim s) (r from to : ℕ) (apart : from ≡ to → ⊥
   t = record { case = s.case; board = moved_board r to s.board; shares = later }
 
   worker_from : between.share.shard.worker ≡ from
-  worker_from = worker_there 0 (workers s.board) from s.shares between.share is.order between.there
+  worker_from = let there = worker_there 0 (workers s.board) from s.shares between.share is.order between.there in omega arith
 
   worker_to : between.other.shard.worker ≡ to
-  worker_to = worker_there 0 (workers s.board) to s.shares between.other is.order between.other_there
+  worker_to = let there = worker_there 0 (workers s.board) to s.shares between.other is.order between.other_there in omega arith
 
   -- what holds of each share, and of the two as they are later, holds of each later
   each_later : (P : Share → Type 0) → AllByRecursion P s.shares → (P between.share → P between.share_later) → (P between.other → P between.share → P between.other_later) → AllByRecursion P later
@@ -160,3 +175,156 @@ module _ (s : Sim) (is : IsSim s) (r from to : ℕ) (apart : from ≡ to → ⊥
     };
     stop = refl;
   }
+
+-- ---- whether it went over or memory was refused
+
+-- what two facts of a success and two of a failure both lead to
+pub by_result : {T E : Type 0} (r : Result T E) (A B C D P : Type 0) → OnOk r A → OnOk r B → OnErr r C → OnErr r D → (A → B → P) → (C → D → P) → P
+by_result (Ok x) A B C D P a b c d good bad = good a b
+by_result (Err e) A B C D P a b c d good bad = bad c d
+
+pub all_taken : {X : Type 0} (xs ys : List X) (n : ℕ) → length xs ≡ n → take n (xs ++ ys) ≡ xs
+all_taken xs ys n long = ap (λ k. take k (xs ++ ys)) (sym long) ∙ take_whole xs ys where
+  take_whole : {X : Type 0} (xs ys : List X) → take (length xs) (xs ++ ys) ≡ xs
+  take_whole [] ys = refl
+  take_whole (x ∷ xs) ys = ap (λ l. x ∷ l) (take_whole xs ys)
+
+pub on_ok : {T E : Type 0} (r : Result T E) (P Q : Type 0) → OnOk r P → (P → Q) → OnOk r Q
+on_ok (Ok x) P Q p f = f p
+on_ok (Err e) P Q p f = tt
+
+-- the worker of the router from then on
+pub later_is : (owners : Option (List ℕ)) (n r w : ℕ) → IsSomeAnd owners (λ list. r < length list) → worker_for (option_map (λ list. set list r w) owners) n r ≡ w
+later_is None n r w listed = absurd listed
+later_is (Some list) n r w listed = get_or-set_same list r w n listed
+
+module _ (s : Sim) (is : IsSim s) (r from to : ℕ) (apart : from ≡ to → ⊥) (listed : IsListed r s.board) (known : r < s.case.net.nodes) (was : who s.board r ≡ from) (x : Board) (later : List Share) where
+  abbrev u : Sim
+  u = record { case = s.case; board = x; shares = later }
+
+  pub sim_later : x ≡ moved_board r to s.board → HasMovedBetween r from to s.board s.shares later → IsSim u × IsRearranged s u
+  sim_later same between = subst (λ b. IsSim (record { case = s.case; board = b; shares = later }) × IsRearranged s (record { case = s.case; board = b; shares = later })) (sym same)
+      (moved_sim s is r from to apart listed known was later between, moved_rearranged s is r from to apart listed known was later between)
+
+  pub sim_kept : x ≡ s.board → later ≡ s.shares → IsSim u × IsRearranged s u
+  sim_kept board shares =
+      let back = sym board in
+      let again = sym shares in
+      let same : s ≡ u = λ i. record { case = s.case; board = back i; shares = again i } in
+      subst (λ (t : Sim). IsSim t × IsRearranged s t) same (is, rearranged_self s)
+
+-- a router may go from its worker's shard to any other
+module _ (a : Inside) (is : IsInside a) (r from to : ℕ) (known : r < a.case.now.net.nodes) (within : to < workers a.exchange) (from_is : from ≡ who a.exchange r) (ne : from ≡ to → ⊥) where
+  apart : who a.exchange r ≡ to → ⊥
+  apart same = ne (from_is ∙ same)
+
+  abbrev v : Sim
+  v = sim_of a
+
+  abbrev ss : List Shard
+  ss = a.shards.items
+
+  many : length ss ≡ workers a.exchange
+  many = all_shards a is
+
+  pub as_many : vec_len a.shards ≡ workers a.exchange
+  as_many = a.shards.ok.0 ∙ many
+
+  pub are_ends : AreEnds from to (vec_len a.shards)
+  are_ends = record {
+    from_within = (let w = (own_there a is r known).0 in let l = a.shards.ok.0 in let same = from_is in omega arith);
+    to_within = (let l = as_many in omega arith);
+    apart = ne;
+  }
+
+  target_share : (h : Hand) × (slice_get v.shares to ≡ Some (share (get_or ss to no_shard) h))
+  target_share = (let m = many in share_there ss a.hands.items to no_shard is.hands (omega arith))
+
+  source_share : (h : Hand) × (slice_get v.shares (who a.exchange r) ≡ Some (share (get_or ss (who a.exchange r) no_shard) h))
+  source_share = share_there ss a.hands.items (who a.exchange r) no_shard is.hands (own_there a is r known).0
+
+  -- what all shares have alike
+  alike : (k : ℕ) (h : Hand) → slice_get v.shares k ≡ Some (share (get_or ss k no_shard) h)
+      → ((get_or ss k no_shard).case ≡ v.case) × ((get_or ss k no_shard).keeps ≡ is.sim.alike.keeps) × ((get_or ss k no_shard).cancel ≡ is.sim.alike.cancel)
+  alike k h there =
+      let t = share (get_or ss k no_shard) h in
+      let terms = all_at (λ (u : Share). (u.shard.keeps ≡ is.sim.alike.keeps) × (u.shard.cancel ≡ is.sim.alike.cancel)) v.shares k t there is.sim.alike.each in
+      (all_at (λ (u : Share). u.shard.case ≡ v.case) v.shares k t there is.sim.ruled.cases, terms.0, terms.1)
+
+  passes : MayPass r (who a.exchange r) to ss
+  passes =
+      let one = alike (who a.exchange r) source_share.0 source_share.1 in
+      let two = alike to target_share.0 target_share.1 in
+      let t = share (get_or ss to no_shard) target_share.0 in
+      let place = get_map place_of v.shares to t target_share.1 in
+      let stands = all_at (Stands (simulation v.case) (who v.board) (board_of v.board)) (map place_of v.shares) to (place_of t) place is.sim.ruled.rule.each in
+      let worker : t.shard.worker ≡ 0 + to = worker_there 0 (workers v.board) to v.shares t is.sim.order target_share.1 in
+      record {
+        like = record { case = two.0 ∙ sym one.0; keeps = two.1 ∙ sym one.1; cancel = two.2 ∙ sym one.2 };
+        own = (own_there a is r known).1;
+        new = stands.owns r known ∙ ne_eqb (who a.exchange r) t.shard.worker (λ same. apart (same ∙ (let is_to : t.shard.worker ≡ to = omega arith in is_to)));
+      }
+
+  pub may_pass : MayPass r from to ss
+  may_pass = subst (λ f. MayPass r f to ss) (sym from_is) passes
+
+-- ---- a list that says what is so is no change
+
+module _ {S E : Type 0} (m : Simulation S E) (who one : ℕ → ℕ) (same : (r : ℕ) → r < m.routers → one r ≡ who r) where
+  stands_renamed : (x : rule.Board E) (p : Place E) → Stands m who x p → Stands m one x p
+  stands_renamed x p h = record {
+    worker = h.worker;
+    owns = λ r l. h.owns r l ∙ ap (λ w. w == p.worker) (sym (same r l));
+    place = h.place;
+    reported = h.reported;
+    bound = h.bound;
+  }
+
+  rule_renamed : (x : rule.Board E) (ps : List (Place E)) → Rule m who x ps → Rule m one x ps
+  rule_renamed x ps h = record {
+    board = h.board;
+    each = all_map (Stands m who x) (Stands m one x) (stands_renamed x) ps h.each;
+    places = h.places;
+    routers = λ r l. subst (λ w. w < rule.workers x) (sym (same r l)) (h.routers r l);
+    balance = h.balance;
+  }
+
+module _ (s : Sim) (is : IsSim s) (n : ℕ) (count : n ≡ s.case.net.nodes) where
+  pub listed_sim : IsSim (record s { board = listed n s.board })
+  listed_sim = record {
+    some = is.some;
+    order = is.order;
+    ruled = record {
+      is_case = is.ruled.is_case;
+      cases = is.ruled.cases;
+      count = is.ruled.count;
+      rule = rule_renamed (simulation s.case) (who s.board) (who (listed n s.board)) (λ r l. same_listed s.board n r (subst (λ k. r < k) (sym count) l)) (board_of s.board) (map place_of s.shares)
+          is.ruled.rule;
+    };
+    known = is.known;
+    alike = is.alike;
+    stop = is.stop;
+  }
+
+  -- each router has a worker, and all mail is for routers
+  pub all_owned : (r : ℕ) → r < n → who s.board r < workers s.board
+  all_owned r l = is.ruled.rule.routers r (subst (λ k. r < k) count l)
+
+  mail_below : (xs : List (Signed Event)) → ((e : Event) → 0 < rule.times_among (simulation s.case) e xs → (simulation s.case).suits e ≡ true) → AllByRecursion (λ m. m.event.dst < n) xs
+  mail_below [] h = tt
+  mail_below (x ∷ xs) h = (
+    subst (λ k. x.event.dst < k) (sym count) (suits_within s.case.net x.event.dst x.event is.ruled.is_case.net (h x.event (among_first x xs))),
+    mail_below xs (λ e some. h e (let a = among_more e x xs in omega arith)),
+  ) where
+    one_self : (e : Event) → one (simulation s.case) e e ≡ 1
+    one_self e = ap (λ b. cond b (suc zero) zero) ((law s is).same_self e)
+    among_first : (x : Signed Event) (xs : List (Signed Event)) → 0 < rule.times_among (simulation s.case) x.event (x ∷ xs)
+    among_first x xs = (let one = one_self x.event in elim (cases_Bool x.plus) [ inl b ↦ rw b (omega arith) | inr b ↦ rw b (omega arith) ])
+    among_more : (e : Event) (x : Signed Event) (xs : List (Signed Event)) → rule.times_among (simulation s.case) e xs ≤ rule.times_among (simulation s.case) e (x ∷ xs)
+    among_more e x xs = omega arith
+
+  pub mail_known : AllByRecursion (λ m. m.event.dst < n) (all_mail s.board)
+  mail_known = mail_below (all_mail s.board) is.ruled.rule.board.suit
+
+  pub all_listed : (r : ℕ) → r < n → IsListed r (listed n s.board)
+  all_listed r l = (let many = length-map (range_with_len 0 n) (who s.board) in let long = length-range_with_len 0 n in omega arith)

@@ -100,11 +100,11 @@ module _ (a : Inside) (is : IsInside a) where
   m = simulation s.case
 
   -- there are as many shards as workers
-  all_shards : length ss ≡ workers s.board
+  pub all_shards : length ss ≡ workers s.board
   all_shards = let many : length (shares_of ss a.hands.items) ≡ workers s.board = long s is.sim in let count = long_shares ss a.hands.items is.hands in omega arith
 
   -- the shard of a router's worker has it
-  own_there : (r : ℕ) → r < s.case.net.nodes → (who s.board r < length ss) × (owns (get_or ss (who s.board r) no_shard) r ≡ true)
+  pub own_there : (r : ℕ) → r < s.case.net.nodes → (who s.board r < length ss) × (owns (get_or ss (who s.board r) no_shard) r ≡ true)
   own_there r known =
       let home : who s.board r < workers s.board = is.sim.ruled.rule.routers r known in
       let all = all_shards in

@@ -4,6 +4,7 @@ use Rattle.std.specs.List.{list_all}
 use Rattle.tw_core.specs.Machine.{IsSameMachine}
 use Rattle.tw_exchange.specs.Board.{Board, IsListed, is_to, is_to_another, workers}
 use Rattle.tw_model.specs.Case.{simulation}
+use Rattle.tw_parallel.specs.declared.moving.UnfitOwners.{UnfitOwners}
 use Rattle.tw_parallel.specs.Sim.{GoesOn, Sim, machine}
 use Rattle.tw_shard.specs.Moving.{HasCome, HasLeft}
 use Rattle.tw_shard.specs.Shard.{Shard, no_shard, owns}
@@ -14,6 +15,10 @@ use Rattle.tw_table.specs.Shares.{Share}
 -- whether a list has one of the workers for each router
 abbrev pub are_owners : Sim → List ℕ → Bool
 are_owners s owners = length owners == s.case.net.nodes && list_all (λ w. nat_lt w (workers s.board)) owners
+
+-- the refusal of a list that has not one of the workers for each router
+abbrev pub unfit_owners : UnfitOwners
+unfit_owners = record {}
 
 -- a list says the worker of each router
 abbrev pub AreListed : Sim → Type 0

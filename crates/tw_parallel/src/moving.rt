@@ -1,11 +1,11 @@
 //! Routers move between the workers of a parallel run.
-ghost use Rattle.std.specs.Prelude.{◌≡◌, ◌↔◌, ◌<◌, ◌≤◌, ◌+◌, ℕ, false, true, IsErrOf, OnErr, OnOk, Some, length, slice_get, slice_index_or, if◌then◌else◌, ◌==◌, vec_capacity, vec_len};
+ghost use Rattle.std.specs.Prelude.{◌≡◌, ◌↔◌, ◌<◌, ◌≤◌, ◌+◌, ℕ, false, true, IsErrOf, OnErr, OnOk, Some, length, nat_lt, slice_get, slice_index_or, if◌then◌else◌, ◌==◌, vec_capacity, vec_len};
+ghost use Rattle.std.specs.List.{list_all};
 ghost use Rattle.tw_core.specs.Machine.{IsSameMachine};
 ghost use Rattle.tw_exchange.specs.Board.{IsListed, who, workers};
 ghost use Rattle.tw_model.specs.Case.{simulation};
 ghost use Rattle.tw_model.specs.declared.memory.OrMemory.TheVariants as or_memory;
-ghost use Rattle.tw_parallel.specs.declared.moving.UnfitOwners.{UnfitOwners as Unfit};
-ghost use Rattle.tw_parallel.specs.Moving.{AreEnds, AreLike, AreListed, HasHanded, HasMovedBetween, HasPassed, HasRoomFor, IsHanded, IsRearranged, MayPass, are_owners};
+ghost use Rattle.tw_parallel.specs.Moving.{AreEnds, AreLike, AreListed, HasHanded, HasMovedBetween, HasPassed, HasRoomFor, IsHanded, IsRearranged, MayPass, are_owners, unfit_owners};
 ghost use Rattle.tw_parallel.specs.Sim.{GoesOn, IsSim, machine};
 ghost use Rattle.tw_shard.specs.Moving.{HasCome, HasLeft};
 ghost use Rattle.tw_shard.specs.Shard.{owns};
@@ -38,8 +38,8 @@ impl<'a> Sim<'a> {
     /// the same but for the order of its lists.
     pub fn move_to(&mut self, owners: &[u32]) -> Result<(), OrMemory<UnfitOwners>>
         ensures owners { OnOk result ((r : ℕ) → r < self.old.case.net.nodes → slice_get owners.now r ≡ Some (who self.new.board r)) }
-        ensures refused { IsErrOf result (or_memory.Fault UnfitOwners) ↔ (are_owners self.old owners.now ≡ false) }
-        ensures unchanged { IsErrOf result (or_memory.Fault UnfitOwners) → self.new ≡ self.old }
+        ensures refused { IsErrOf result (or_memory.Fault unfit_owners) ↔ (are_owners self.old owners.now ≡ false) }
+        ensures unchanged { IsErrOf result (or_memory.Fault unfit_owners) → self.new ≡ self.old }
         ensures same { IsSameMachine (simulation self.old.case) (machine self.old) (machine self.new) }
         ensures goes_on { GoesOn self.old self.new }
         ensures stop { self.new.board.stop ≡ self.old.board.stop }
@@ -58,8 +58,7 @@ impl<'a> Sim<'a> {
         ensures { result ≡ are_owners self.now owners.now }
     {
         let workers = self.exchange.workers();
-        owners.len() == self.case.instance().nodes() as usize
-            && owners.iter().all(|worker| *worker < workers)
+        owners.len() == self.case.instance().nodes() as usize && are_below(owners, workers)
     }
 
     /// Each router goes to its worker of the list, from router 0 on.
@@ -68,9 +67,10 @@ impl<'a> Sim<'a> {
         requires listed { AreListed self.old }
         ensures owners { OnOk result ((r : ℕ) → r < self.old.case.net.nodes → slice_get owners.now r ≡ Some (who self.new.board r)) }
         ensures rearranged { IsRearranged self.old self.new }
+        ensures sim { IsSim self.new }
     {
-        for (router, worker) in owners.iter().enumerate() {
-            self.move_router(router as u32, *worker)?;
+        for router in 0..self.case.instance().nodes() {
+            self.move_router(router, owners[router as usize])?;
         }
         Ok(())
     }
@@ -84,6 +84,7 @@ impl<'a> Sim<'a> {
         ensures others { (r : ℕ) → (r ≡ router → ⊥) → who self.new.board r ≡ who self.old.board r }
         ensures listed { AreListed self.new }
         ensures rearranged { IsRearranged self.old self.new }
+        ensures sim { IsSim self.new }
     {
         match self.exchange.owner(router) {
             Some(from) if from != worker => hand_over(
@@ -97,6 +98,13 @@ impl<'a> Sim<'a> {
             _ => Ok(()),
         }
     }
+}
+
+/// Whether all of these numbers are below one.
+fn are_below(numbers: &[u32], end: u32) -> bool
+    ensures { result ≡ list_all (λ n. nat_lt n end) numbers.now }
+{
+    numbers.iter().all(|number| *number < end)
 }
 
 /// A router goes from one worker to another, with its messages in the hand and in the exchange. For want of
