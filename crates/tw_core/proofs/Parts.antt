@@ -14,15 +14,15 @@ use Rattle.tw_sim.specs.declared.machine.Signed.{Signed}
 use Rattle.tw_sim.specs.Simulation.{Simulation, IsFalling, IsLawful, sent, times}
 
 module _ {S E : Type 0} (m : Simulation S E) where
-  times-flat_map : (e : E) (g : Part E → List E) (parts : List (Part E)) → times m e (flat_map g parts) ≡ total (λ p. times m e (g p)) parts
+  pub times-flat_map : (e : E) (g : Part E → List E) (parts : List (Part E)) → times m e (flat_map g parts) ≡ total (λ p. times m e (g p)) parts
   times-flat_map e g [] = refl
   times-flat_map e g (p ∷ parts) = times-append m e (g p) (flat_map g parts) ∙ ap (λ n. times m e (g p) + n) (times-flat_map e g parts)
 
-  messages-flat_map : (e : E) (g : Part E → List (Signed E)) (parts : List (Part E)) → messages m e (flat_map g parts) ≡ total (λ p. messages m e (g p)) parts
+  pub messages-flat_map : (e : E) (g : Part E → List (Signed E)) (parts : List (Part E)) → messages m e (flat_map g parts) ≡ total (λ p. messages m e (g p)) parts
   messages-flat_map e g [] = refl
   messages-flat_map e g (p ∷ parts) = messages-append m e (g p) (flat_map g parts) ∙ ap (λ n. messages m e (g p) + n) (messages-flat_map e g parts)
 
-  antimessages-flat_map : (e : E) (g : Part E → List (Signed E)) (parts : List (Part E)) → antimessages m e (flat_map g parts) ≡ total (λ p. antimessages m e (g p)) parts
+  pub antimessages-flat_map : (e : E) (g : Part E → List (Signed E)) (parts : List (Part E)) → antimessages m e (flat_map g parts) ≡ total (λ p. antimessages m e (g p)) parts
   antimessages-flat_map e g [] = refl
   antimessages-flat_map e g (p ∷ parts) = antimessages-append m e (g p) (flat_map g parts) ∙ ap (λ n. antimessages m e (g p) + n) (antimessages-flat_map e g parts)
 

@@ -1,6 +1,6 @@
 -- The state of the machine whose routers run ahead and are rolled back, and how often an event stands in it (after Jefferson,
 -- Virtual Time, 1985).
-use Rattle.std.specs.Prelude.{ℕ, ◌+◌, ◌-◌, ◌≡◌, cond, List, [], ◌∷◌, length}
+use Rattle.std.specs.Prelude.{ℕ, ◌+◌, ◌-◌, ◌≡◌, ◌<◌, cond, List, [], ◌∷◌, length}
 use Rattle.tw_core.specs.declared.limits.TheConstants.{OPENING_ROOM}
 use Rattle.tw_sim.specs.declared.machine.Cancel.{Cancel}
 use Rattle.tw_sim.specs.declared.machine.Signed.{Signed}
@@ -74,3 +74,18 @@ module _ {S E : Type 0} (m : Simulation S E) where
     pub bound : C.bound ≡ 0
     -- and each router has the same room
     pub room : (r : ℕ) → C.room r ≡ OPENING_ROOM
+
+  -- two machines are the same but for the order of their lists: each router has handled and committed the same and has the same room, each
+  -- event waits, is kept, is on its way with either sign and is held as often, and bound and stop are the same
+  pub record IsSameMachine (C D : Core E) : Type 0 where
+    pub history : (r : ℕ) → r < m.routers → D.history r ≡ C.history r
+    pub done : (r : ℕ) → r < m.routers → D.done r ≡ C.done r
+    pub past : (r : ℕ) → r < m.routers → D.past r ≡ C.past r
+    pub room : (r : ℕ) → r < m.routers → D.room r ≡ C.room r
+    pub pending : (e : E) → times m e D.pending ≡ times m e C.pending
+    pub kept : (e : E) → times m e D.kept ≡ times m e C.kept
+    pub plus : (e : E) → messages e D.flight ≡ messages e C.flight
+    pub minus : (e : E) → antimessages e D.flight ≡ antimessages e C.flight
+    pub held : (e : E) → times m e D.held ≡ times m e C.held
+    pub bound : D.bound ≡ C.bound
+    pub stop : D.stop ≡ C.stop

@@ -1,15 +1,16 @@
 -- What holds of a board when it is opened and after a visit.
-use Rattle.std.proofs.Common.{arith, ℕ, zero, suc, ◌≡◌, ◌<◌, ◌≤◌, ◌||◌, Bool, true, false, cond, List, [], ◌∷◌, Option}
+use Rattle.std.proofs.Common.{arith, ℕ, zero, suc, ◌≡◌, ◌<◌, ◌≤◌, Bool, true, false, cond, List, [], ◌∷◌, Option}
 use Rattle.std.proofs.Common.{None, Some, IfSome, length, map, nat_lt, replicate, set, get_or, refl, ap, sym, ◌∙◌, subst, inl, inr}
 use Rattle.std.proofs.lemmas.Bool.{cases_Bool, cases_eq, ltb-false, ltb-true}
 use Rattle.std.proofs.lemmas.List.{get_or-set_other, get_or-set_same, get_or_past, length-replicate, length-set}
 use Rattle.std.specs.List.{AllByRecursion, filter, list_any}
 use Rattle.std.specs.Option.{option_map_or}
 use Rattle.tw_event.specs.declared.event.Event.{Event}
-use Rattle.tw_exchange.specs.Board.{Board, IsBoard, deposited, handed, is_early, is_for, least_report, mail_of, opening, sent_to, visited, workers}
+use Rattle.tw_exchange.specs.Board.{Board, IsBoard, deposited, handed, is_early, is_for, least_report, mail_of, opening, sent_to, visited, who, worker_for, workers}
 use Rattle.tw_exchange.specs.Rows.{soonest_of}
 use Rattle.tw_exchange.specs.declared.mail.TheConstants.{NEVER}
 use Rattle.tw_exchange.proofs.Followed.{followed_of, length_followed}
+use Rattle.tw_exchange.proofs.Homes.{neither}
 use Rattle.tw_exchange.proofs.Least.{all_both, bound_mail, bound_reports, bound_rises, bound_stop, report_below, report_rises}
 use Rattle.tw_sim.specs.declared.machine.Signed.{Signed}
 
@@ -25,14 +26,14 @@ first_reports zero b w = tt
 first_reports (suc n) b zero = omega arith
 first_reports (suc n) b (suc w) = first_reports n b w
 
-pub opening_board : (n b stop : ℕ) → b ≤ stop → IsBoard (opening n b stop)
-opening_board n b stop h =
+pub opening_board : (owners : Option (List ℕ)) (n b stop : ℕ) → b ≤ stop → IsBoard (record (opening n b stop) { owners = owners })
+opening_board owners n b stop h =
     let none : List (Signed Event) = [] in
     let long = length-replicate n none in
     let told = length-replicate n (Some b) in
     record {
       mails = long ∙ sym told;
-      home = λ w. subst (AllByRecursion (λ m. is_for (workers (opening n b stop)) w m ≡ true)) (sym (no_mail n w)) tt;
+      home = λ w. subst (AllByRecursion (λ m. is_for (who (record (opening n b stop) { owners = owners })) w m ≡ true)) (sym (no_mail n w)) tt;
       late = λ w. subst (AllByRecursion (λ m. b ≤ m.event.time)) (sym (no_mail n w)) tt;
       reported = first_reports n b;
       stop = h;
@@ -52,15 +53,15 @@ passing p (x ∷ xs) =
       | inr fail ↦ subst (λ b. AllByRecursion (λ x. p x ≡ true) (cond b (x ∷ filter p xs) (filter p xs))) (sym fail) (passing p xs)
     ]
 
-kept : {X : Type 0} (P : X → Type 0) (p : X → Bool) (xs : List X) → AllByRecursion P xs → AllByRecursion P (filter p xs)
+pub kept : {X : Type 0} (P : X → Type 0) (p : X → Bool) (xs : List X) → AllByRecursion P xs → AllByRecursion P (filter p xs)
 kept P p [] h = tt
 kept P p (x ∷ xs) h = elim (p x) as (λ b. AllByRecursion P (cond b (x ∷ filter p xs) (filter p xs))) [ true ↦ (h.0, kept P p xs h.1) | false ↦ kept P p xs h.1 ]
 
 -- what holds of all mail before, and of all that is deposited, holds of the mail that is left
 left_all : (P : Signed Event → Type 0) (w : ℕ) (out : List (Signed Event)) (x : Board) → length x.mail ≡ workers x → (k : ℕ) → AllByRecursion P (mail_of k x)
-    → AllByRecursion P (sent_to (workers x) k out) → AllByRecursion P (get_or (set (deposited out x) w []) k [])
+    → AllByRecursion P (sent_to (who x) k out) → AllByRecursion P (get_or (set (deposited out x) w []) k [])
 left_all P w out x long k h new =
-    let n = workers x in
+    let n = who x in
     let mail = deposited out x in
     let same = length_followed n 0 out x.mail in
     elim (cases_eq k w) [
@@ -80,20 +81,15 @@ visited_board w out report x h =
     let told = least_report report (handed w out x) in
     let reports = set x.reports w told in
     let as_many : length reports ≡ workers x = length-set x.reports w told in
-    let same = length_followed (workers x) 0 out x.mail in
+    let same = length_followed (who x) 0 out x.mail in
     record {
       mails = length-set (deposited out x) w [] ∙ (same ∙ (h.mails ∙ sym as_many));
-      home = λ k. subst (λ n. AllByRecursion (λ m. is_for n k m ≡ true) (get_or mail k [])) (sym as_many)
-          (left_all (λ m. is_for (workers x) k m ≡ true) w out x h.mails k (h.home k) (passing (is_for (workers x) k) out));
+      home = λ k. subst (λ n. AllByRecursion (λ m. is_for (worker_for x.owners n) k m ≡ true) (get_or mail k [])) (sym as_many)
+          (left_all (λ m. is_for (who x) k m ≡ true) w out x h.mails k (h.home k) (passing (is_for (who x) k) out));
       late = bound_mail reports mail x.stop;
       reported = bound_reports reports mail x.stop;
       stop = bound_stop reports mail x.stop;
     }
-
--- neither of two tests passes
-neither : (a b : Bool) → (a || b) ≡ false → (a ≡ false) × (b ≡ false)
-neither true b h = absurd (cc h)
-neither false b h = (refl, h)
 
 none_before : (b : ℕ) (out : List (Signed Event)) → list_any (λ m. nat_lt m.event.time b) out ≡ false → AllByRecursion (λ m. b ≤ m.event.time) out
 none_before b [] h = tt
@@ -106,7 +102,7 @@ report_late b None h = tt
 report_late b (Some a) h = ltb-false a b h
 
 -- another report that is not before b
-reports_rise : (b : ℕ) (rs : List (Option ℕ)) (w : ℕ) (r : Option ℕ) → IfSome r (λ time. b ≤ time) → ((k : ℕ) → IfSome (get_or rs k None) (λ time. b ≤ time))
+pub reports_rise : (b : ℕ) (rs : List (Option ℕ)) (w : ℕ) (r : Option ℕ) → IfSome r (λ time. b ≤ time) → ((k : ℕ) → IfSome (get_or rs k None) (λ time. b ≤ time))
     → (k : ℕ) → IfSome (get_or (set rs w r) k None) (λ time. b ≤ time)
 reports_rise b [] w r h k j = k j
 reports_rise b (x ∷ xs) zero r h k zero = h
@@ -118,7 +114,7 @@ reports_rise b (x ∷ xs) (suc w) r h k (suc j) = reports_rise b xs w r h (λ i.
 pub visited_rises : (w : ℕ) (out : List (Signed Event)) (report : Option ℕ) (x : Board) → IsBoard x → is_early out report x ≡ false → x.bound ≤ (visited w out report x).bound
 visited_rises w out report x h late =
     let b = x.bound in
-    let n = workers x in
+    let n = who x in
     let both = neither (option_map_or (λ time. nat_lt time b) report false) (list_any (λ m. nat_lt m.event.time b) out) late in
     let P : Signed Event → Type 0 = λ m. b ≤ m.event.time in
     let all = none_before b out both.1 in
@@ -130,8 +126,8 @@ visited_rises w out report x h late =
 
 -- ---- what is handed out
 
-pub handed_home : (x : Board) (w : ℕ) (out : List (Signed Event)) → IsBoard x → AllByRecursion (λ m. is_for (workers x) w m ≡ true) (handed w out x)
-handed_home x w out h = all_both (λ m. is_for (workers x) w m ≡ true) (mail_of w x) (sent_to (workers x) w out) (h.home w) (passing (is_for (workers x) w) out)
+pub handed_home : (x : Board) (w : ℕ) (out : List (Signed Event)) → IsBoard x → AllByRecursion (λ m. is_for (who x) w m ≡ true) (handed w out x)
+handed_home x w out h = all_both (λ m. is_for (who x) w m ≡ true) (mail_of w x) (sent_to (who x) w out) (h.home w) (passing (is_for (who x) w) out)
 
 pub handed_late : (x : Board) (w : ℕ) (out : List (Signed Event)) (report : Option ℕ) → w < workers x → AllByRecursion (λ m. (visited w out report x).bound ≤ m.event.time) (handed w out x)
 handed_late x w out report below =

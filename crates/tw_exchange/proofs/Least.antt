@@ -113,12 +113,12 @@ times_all : (P : ℕ → Type 0) (ms : List (Signed Event)) → AllByRecursion P
 times_all P [] h = tt
 times_all P (m ∷ ms) h = (h.0, times_all P ms h.1)
 
-mail_each : {X : Type 0} (P : X → Type 0) (mail : List (List X)) → AllByRecursion P (flat_map (λ m. m) mail) → (w : ℕ) → AllByRecursion P (get_or mail w [])
+pub mail_each : {X : Type 0} (P : X → Type 0) (mail : List (List X)) → AllByRecursion P (flat_map (λ m. m) mail) → (w : ℕ) → AllByRecursion P (get_or mail w [])
 mail_each P [] h w = tt
 mail_each P (m ∷ ms) h zero = all_left P m (flat_map (λ m. m) ms) h
 mail_each P (m ∷ ms) h (suc w) = mail_each P ms (all_right P m (flat_map (λ m. m) ms) h) w
 
-mail_all : {X : Type 0} (P : X → Type 0) (mail : List (List X)) → ((w : ℕ) → AllByRecursion P (get_or mail w [])) → AllByRecursion P (flat_map (λ m. m) mail)
+pub mail_all : {X : Type 0} (P : X → Type 0) (mail : List (List X)) → ((w : ℕ) → AllByRecursion P (get_or mail w [])) → AllByRecursion P (flat_map (λ m. m) mail)
 mail_all P [] h = tt
 mail_all P (m ∷ ms) h = all_both P m (flat_map (λ m. m) ms) (h zero) (mail_all P ms (λ w. h (suc w)))
 

@@ -1,6 +1,9 @@
 pub mod Least
 pub mod Rooms
 pub mod Followed
+pub mod Homes
 pub mod Boards
+pub mod Moving
+pub mod Moves
 pub mod Visits
 pub mod Weights

@@ -1,14 +1,16 @@
 -- What workers leave for one another and report to one another, and the bound that follows (own, after Jefferson, Virtual Time,
 -- 1985: global virtual time is the least time of all that waits or is on its way).
-use Rattle.std.specs.Prelude.{ℕ, suc, ◌≡◌, ◌≤◌, ◌==◌, ◌||◌, Bool, true, false}
-use Rattle.std.specs.Prelude.{IfSome, List, [], ◌∷◌, ◌++◌, Option, None, Some, fold, length, map, min, nat_lt, replicate, slice_index_or, slice_set}
-use Rattle.std.specs.List.{AllByRecursion, filter, flat_map, list_any, reduce}
-use Rattle.std.specs.Option.{option_map_or, option_to_list}
+use Rattle.std.specs.Prelude.{ℕ, suc, ◌≡◌, ◌<◌, ◌≤◌, ◌==◌, ◌||◌, Bool, true, false}
+use Rattle.std.specs.Prelude.{IfSome, List, [], ◌∷◌, ◌++◌, Option, None, Some, fold, length, map, min, nat_lt, not, replicate, slice_index_or, slice_set}
+use Rattle.std.specs.List.{AllByRecursion, filter, flat_map, list_any, range_with_len, reduce}
+use Rattle.std.specs.Option.{IsSomeAnd, option_map, option_map_or, option_to_list}
 use Rattle.tw_event.specs.declared.event.Event.{Event}
 use Rattle.tw_sim.specs.declared.machine.Signed.{Signed}
 use Rattle.tw_sim.specs.Owners.{owner}
 
 pub record Board : Type 0 where
+  -- the worker of each router; without it routers are dealt out in turn
+  pub owners : Option (List ℕ)
   -- what waits for each worker, in the order deposited
   pub mail : List (List (Signed Event))
   -- the least time of what each worker told that it has, if it has anything
@@ -24,6 +26,15 @@ pub record Board : Type 0 where
 abbrev pub workers : Board → ℕ
 workers x = length x.reports
 
+-- the worker of router r, of n: by a list that has one for each router, or else in turn. A router past the list has n, which is no worker
+abbrev pub worker_for : Option (List ℕ) → ℕ → ℕ → ℕ
+worker_for None n r = owner n r
+worker_for (Some list) n r = slice_index_or list r n
+
+-- the worker of a router
+abbrev pub who : Board → ℕ → ℕ
+who x = worker_for x.owners (workers x)
+
 -- what waits for worker w
 abbrev pub mail_of : ℕ → Board → List (Signed Event)
 mail_of w x = slice_index_or x.mail w []
@@ -36,26 +47,26 @@ report_of w x = slice_index_or x.reports w None
 abbrev pub all_mail : Board → List (Signed Event)
 all_mail x = flat_map (λ mail. mail) x.mail
 
--- whether a message is for worker w of so many
-abbrev pub is_for : ℕ → ℕ → Signed Event → Bool
-is_for workers w message = owner workers message.event.dst == w
+-- whether a message is for worker w, by the worker of each router
+abbrev pub is_for : (ℕ → ℕ) → ℕ → Signed Event → Bool
+is_for who w message = who message.event.dst == w
 
--- those of the messages that are for worker w of so many, in their order
-abbrev pub sent_to : ℕ → ℕ → List (Signed Event) → List (Signed Event)
-sent_to workers w out = filter (is_for workers w) out
+-- those of the messages that are for worker w, in their order
+abbrev pub sent_to : (ℕ → ℕ) → ℕ → List (Signed Event) → List (Signed Event)
+sent_to who w out = filter (is_for who w) out
 
 -- the mail of the workers from w on, each followed by what is deposited for it
-abbrev pub followed : ℕ → ℕ → List (Signed Event) → List (List (Signed Event)) → List (List (Signed Event))
-followed workers w out [] = []
-followed workers w out (mail ∷ others) = (mail ++ sent_to workers w out) ∷ followed workers (suc w) out others
+abbrev pub followed : (ℕ → ℕ) → ℕ → List (Signed Event) → List (List (Signed Event)) → List (List (Signed Event))
+followed who w out [] = []
+followed who w out (mail ∷ others) = (mail ++ sent_to who w out) ∷ followed who (suc w) out others
 
 -- the mail of all workers after a deposit
 abbrev pub deposited : List (Signed Event) → Board → List (List (Signed Event))
-deposited out x = followed (workers x) 0 out x.mail
+deposited out x = followed (who x) 0 out x.mail
 
 -- what worker w is handed at a visit: all that waits for it, in the order deposited, what it deposits itself included
 abbrev pub handed : ℕ → List (Signed Event) → Board → List (Signed Event)
-handed w out x = mail_of w x ++ sent_to (workers x) w out
+handed w out x = mail_of w x ++ sent_to (who x) w out
 
 -- the times of messages
 abbrev pub times : List (Signed Event) → List ℕ
@@ -80,16 +91,50 @@ visited w out report x =
 abbrev pub is_early : List (Signed Event) → Option ℕ → Board → Bool
 is_early out report x = option_map_or (λ time. nat_lt time x.bound) report false || list_any (λ m. nat_lt m.event.time x.bound) out
 
+-- whether a message to be deposited is for a router that none of n workers has, and that no worker has
+abbrev pub any_homeless : Option (List ℕ) → ℕ → List (Signed Event) → Bool
+any_homeless owners n out = list_any (λ m. not (nat_lt (worker_for owners n m.event.dst) n)) out
+
+abbrev pub is_homeless : List (Signed Event) → Board → Bool
+is_homeless out x = any_homeless x.owners (workers x) out
+
+-- whether a message is for router r, and whether it is for another
+abbrev pub is_to : ℕ → Signed Event → Bool
+is_to r message = message.event.dst == r
+
+abbrev pub is_to_another : ℕ → Signed Event → Bool
+is_to_another r message = not (is_to r message)
+
+-- once all mail for router r is taken out
+abbrev pub without_mail : ℕ → Board → Board
+without_mail r x = record x { mail = map (filter (is_to_another r)) x.mail }
+
+-- whether a list says the worker of router r
+abbrev pub IsListed : ℕ → Board → Type 0
+IsListed r x = IsSomeAnd x.owners (λ list. r < length list)
+
+-- once a list says the worker that each of so many routers has
+abbrev pub listed : ℕ → Board → Board
+listed routers x = record x { owners = Some (map (who x) (range_with_len 0 routers)) }
+
+-- once worker w has router r, and reports the bound, since it may have anything of that router
+abbrev pub given : ℕ → ℕ → Board → Board
+given r w x = record x { owners = option_map (λ list. slice_set list r w) x.owners; reports = slice_set x.reports w (Some x.bound) }
+
 -- for so many workers, each of which has what is not before the bound
 abbrev pub opening : ℕ → ℕ → ℕ → Board
-opening workers bound stop = record { mail = replicate workers []; reports = replicate workers (Some bound); bound = bound; stop = stop; halted = false }
+opening workers bound stop = record { owners = None; mail = replicate workers []; reports = replicate workers (Some bound); bound = bound; stop = stop; halted = false }
+
+-- and with a list of the worker of each router
+abbrev pub opening_owned : List ℕ → ℕ → ℕ → ℕ → Board
+opening_owned owners workers bound stop = record (opening workers bound stop) { owners = Some owners }
 
 -- nothing on it is before the bound, and each message waits for the worker that it is for
 pub record IsBoard (x : Board) : Type 0 where
   -- there is mail for the workers alone
   pub mails : length x.mail ≡ workers x
   -- each message that waits for a worker is for it
-  pub home : (w : ℕ) → AllByRecursion (λ m. is_for (workers x) w m ≡ true) (mail_of w x)
+  pub home : (w : ℕ) → AllByRecursion (λ m. is_for (who x) w m ≡ true) (mail_of w x)
   -- none is before the bound
   pub late : (w : ℕ) → AllByRecursion (λ m. x.bound ≤ m.event.time) (mail_of w x)
   -- nor is a report

@@ -2,11 +2,12 @@
 use Rattle.std.specs.Prelude.{◌≡◌, length, map}
 use Rattle.tw_exchange.specs.Board.{Board, IsBoard}
 use Rattle.tw_exchange.specs.declared.exchange.Exchange.TheInside.{Inside}
+use Rattle.tw_exchange.specs.Owners.{list_of}
 use Rattle.tw_exchange.specs.Rows.{items, soonest_of}
 
 -- the board that the fields stand for
 abbrev pub board_of : Inside → Board
-board_of a = record { mail = items a.mail.items; reports = a.reports.items; bound = a.bound; stop = a.stop; halted = a.halted }
+board_of a = record { owners = list_of a.owners; mail = items a.mail.items; reports = a.reports.items; bound = a.bound; stop = a.stop; halted = a.halted }
 
 -- it is a board, and each row has a place for each worker
 pub record IsExchange (a : Inside) : Type 0 where

@@ -1,3 +1,4 @@
 pub mod Board
+pub mod Owners
 pub mod Rows
 pub mod Inside

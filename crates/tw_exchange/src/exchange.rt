@@ -2,12 +2,16 @@
 
 ghost use Rattle.std.specs.Prelude.{◌≡◌, ◌↔◌, ◌<◌, ◌≤◌, [], IfErr, IfOk, IsTrue, OnErr, OnOk, false, true, length, replicate, Err};
 ghost use Rattle.std.specs.Result.{IsErrAnd};
-ghost use Rattle.tw_exchange.specs.Board.{IsBoard, handed, is_early, mail_of, opening, report_of, visited, workers};
+ghost use Rattle.tw_exchange.specs.Board.{IsBoard, handed, is_early, is_homeless, mail_of, opening, opening_owned, report_of, visited, workers};
+ghost use Rattle.tw_exchange.specs.Owners.{list_of};
 ghost use Rattle.tw_exchange.specs.Rows.{items};
-ghost use Rattle.tw_exchange.specs.declared.visit.VisitFault.TheVariants.{Early, NoWorker};
+ghost use Rattle.tw_exchange.specs.declared.visit.VisitFault.TheVariants.{Early, NoRouter, NoWorker};
 ghost use Rattle.tw_model.specs.declared.memory.OrMemory.TheVariants as or_memory;
 
+mod moving;
+
 use crate::mail::{NEVER, deposit, hand_out};
+use crate::owners::Owners;
 use crate::times::{is_early, least_of, least_report};
 use crate::visit::{Back, Visit, VisitFault};
 use std::alloc::{AllocError, Global};
@@ -21,6 +25,7 @@ use tw_sim::Signed;
 pub struct Exchange {
     alloc: Global,
     workers: u32,
+    owners: Owners,
     // By worker, as the rows below: what waits for it, in the order deposited.
     mail: Vec<Vec<Signed<Event>>>,
     // The least time of its mail, so that a visit need not look through what waits for others.
@@ -46,14 +51,44 @@ impl Model for Exchange {
 
 impl Exchange {
     /// No mail for any of so many workers, each of which has reported the bound. The bound is not beyond the
-    /// stop; both are in ticks.
+    /// stop; both are in ticks. Routers are dealt out to workers in turn: router r is worker r mod `workers`'s.
     pub fn new(alloc: Global, workers: u32, bound: u64, stop: u64) -> Result<Exchange, AllocError>
         requires { bound ≤ stop }
         ensures { IfOk result (λ x. x ≡ opening workers bound stop) }
     {
+        Exchange::open(alloc, workers, bound, stop, Owners::InTurn)
+    }
+
+    /// As [`Exchange::new`], with the worker of each router by a list, from router 0 on. A router past its end,
+    /// or whose worker is not below `workers`, has none. It takes memory for the workers' rows alone.
+    pub fn with_owners(
+        alloc: Global,
+        workers: u32,
+        bound: u64,
+        stop: u64,
+        owners: Vec<u32>,
+    ) -> Result<Exchange, AllocError>
+        requires { bound ≤ stop }
+        ensures { IfOk result (λ x. x ≡ opening_owned owners.items workers bound stop) }
+    {
+        Exchange::open(alloc, workers, bound, stop, Owners::Listed(owners))
+    }
+
+    /// No mail for any of so many workers, by what says the worker of each router.
+    fn open(
+        alloc: Global,
+        workers: u32,
+        bound: u64,
+        stop: u64,
+        owners: Owners,
+    ) -> Result<Exchange, AllocError>
+        requires { bound ≤ stop }
+        ensures { IfOk result (λ x. x ≡ record (opening workers bound stop) { owners = list_of owners }) }
+    {
         Ok(Exchange {
             alloc,
             workers,
+            owners,
             mail: no_mail(alloc, workers)?,
             soonest: row(alloc, workers, NEVER)?,
             counts: row(alloc, workers, 0)?,
@@ -119,14 +154,14 @@ impl Exchange {
     }
 
     /// A worker deposits what it has sent, reports the least time of what it still has, if it has anything,
-    /// and takes its mail. Each message of `out` goes to the mail of the worker that has its receiver: router r
-    /// is worker r mod `workers`'s. The worker is handed all of its own mail in the order deposited, this
+    /// and takes its mail. Each message of `out` goes to the mail of the worker that has its receiver, as
+    /// [`Exchange::owner`] says. The worker is handed all of its own mail in the order deposited, this
     /// deposit's included. Its report becomes the least of `report` and of the times of what it is handed, and
     /// the bound the least of all reports, of all mail that is left, and of the stop. Times are in ticks.
     ///
     /// It is refused as `NoWorker` where there is no such worker, and as `Early` where `report` or the time of
-    /// a message of `out` lies before the bound. After a refusal and for want of memory `out` comes back, and
-    /// nothing has changed. With nothing to deposit it takes no memory.
+    /// a message of `out` lies before the bound, and else as `NoRouter` where a message of `out` is for a router
+    /// that no worker has. After a refusal and for want of memory `out` comes back, and nothing has changed. With nothing to deposit it takes no memory.
     pub fn visit(
         &mut self,
         worker: u32,
@@ -140,6 +175,8 @@ impl Exchange {
         ensures no_worker { IsErrAnd result (λ back. back.why ≡ or_memory.Fault NoWorker) ↔ (workers self.old ≤ worker) }
         ensures early { IsErrAnd result (λ back. back.why ≡ or_memory.Fault Early)
             ↔ ((worker < workers self.old) × IsTrue (is_early out.items report self.old)) }
+        ensures no_router { IsErrAnd result (λ back. back.why ≡ or_memory.Fault NoRouter)
+            ↔ ((worker < workers self.old) × (is_early out.items report self.old ≡ false) × IsTrue (is_homeless out.items self.old)) }
         ensures memory { IsErrAnd result (λ back. back.why ≡ or_memory.Memory) → 0 < length out.items }
         ensures back { IfErr result (λ back. back.out ≡ out) }
         ensures err { OnErr result (self.new ≡ self.old) }
@@ -174,12 +211,16 @@ impl Exchange {
     ) -> Result<(), VisitFault>
         ensures no_worker { result ≡ Err NoWorker ↔ (workers self.now ≤ worker) }
         ensures early { result ≡ Err Early ↔ ((worker < workers self.now) × IsTrue (is_early out.now report self.now)) }
+        ensures no_router { result ≡ Err NoRouter
+            ↔ ((worker < workers self.now) × (is_early out.now report self.now ≡ false) × IsTrue (is_homeless out.now self.now)) }
         ensures board { IsBoard self.now }
     {
         if worker >= self.workers {
             Err(VisitFault::NoWorker)
         } else if is_early(out, report, self.bound) {
             Err(VisitFault::Early)
+        } else if self.owners.is_any_homeless(out, self.workers as usize) {
+            Err(VisitFault::NoRouter)
         } else {
             Ok(())
         }
@@ -194,6 +235,7 @@ impl Exchange {
     ) -> Result<Vec<Signed<Event>>, AllocError>
         requires within { worker < workers self.old }
         requires late { is_early out.now report self.old ≡ false }
+        requires home { is_homeless out.now self.old ≡ false }
         ensures board { OnOk result (self.new ≡ visited worker out.now report self.old) }
         ensures mail { IfOk result (λ mail. mail.items ≡ handed worker out.now self.old) }
         ensures err { OnErr result (self.new ≡ self.old) }
@@ -201,7 +243,13 @@ impl Exchange {
         ensures rising { self.old.bound ≤ self.new.bound }
     {
         let place = worker as usize;
-        deposit(&mut self.mail, &mut self.soonest, &mut self.counts, out)?;
+        deposit(
+            &mut self.mail,
+            &mut self.soonest,
+            &mut self.counts,
+            out,
+            &self.owners,
+        )?;
         let mail = hand_out(&mut self.mail, &mut self.soonest, place, self.alloc);
         self.reports[place] = least_report(report, &mail);
         self.bound = least_of(&self.reports, &self.soonest, self.stop);

@@ -3,14 +3,16 @@
 //! called global virtual time).
 //!
 //! Contracts see an `Exchange` as the `Board` of `specs/Board`: the mail of each worker in the order
-//! deposited, each worker's report, the bound, the stop and whether the workers shall halt. A worker
-//! calls `visit`, which deposits what it has sent, hands out its mail, and computes the new bound.
-//! Nothing here waits or knows of threads.
+//! deposited, each worker's report, the bound, the stop and whether the workers shall halt; and the worker
+//! of each router where a list says it, without which routers are dealt out in turn. A worker calls `visit`,
+//! which deposits what it has sent, hands out its mail, and computes the new bound. Between visits a router
+//! may go to another worker, by `take_for` and `set_owner`. Nothing here waits or knows of threads.
 #![tactic(auto)]
 
 mod exchange;
 pub mod laws;
 mod mail;
+mod owners;
 mod times;
 mod visit;
 

@@ -4,8 +4,9 @@ ghost use Rattle.std.specs.Prelude.{◌≡◌, ◌||◌, false, fold, min, nat_l
 ghost use Rattle.std.specs.List.{flat_map, list_any};
 ghost use Rattle.std.specs.Option.{option_map_or, option_to_list};
 ghost use Rattle.tw_exchange.specs.Board.{least_report};
-ghost use Rattle.tw_exchange.specs.Rows.{lesser_time};
+ghost use Rattle.tw_exchange.specs.Rows.{lesser_time, soonest_of};
 
+use crate::mail::NEVER;
 use tw_event::Event;
 use tw_lanes::least_time;
 use tw_sim::Signed;
@@ -33,6 +34,15 @@ pub fn least_report(report: Option<u64>, messages: &[Signed<Event>]) -> Option<u
         least = Some(lesser(message.event.time, least));
     }
     least
+}
+
+/// The least time of messages, and the end of time where there are none.
+pub fn soonest(messages: &[Signed<Event>]) -> u64
+    ensures { result ≡ soonest_of messages.now }
+{
+    messages
+        .iter()
+        .fold(NEVER, |least, message| least.min(message.event.time))
 }
 
 /// The least of the stop, of a row of times, and of the reports.

@@ -31,4 +31,6 @@ pub enum VisitFault {
     NoWorker,
     /// The time of a message or the report lies before the bound.
     Early,
+    /// A message is for a router that no worker has.
+    NoRouter,
 }

@@ -17,7 +17,7 @@ use Rattle.tw_sim.proofs.Counts.{in_head}
 use Rattle.tw_sim.specs.Simulation.{Simulation, IsFalling, IsLawful, sent, times}
 
 -- a place of a list stays where another is replaced
-get_beside : {X : Type 0} (xs : List X) (i j : ℕ) (x y : X) → (i ≡ j → ⊥) → slice_get xs j ≡ Some x → slice_get (set xs i y) j ≡ Some x
+pub get_beside : {X : Type 0} (xs : List X) (i j : ℕ) (x y : X) → (i ≡ j → ⊥) → slice_get xs j ≡ Some x → slice_get (set xs i y) j ≡ Some x
 get_beside [] i j x y other h = cc
 get_beside (z ∷ xs) zero zero x y other h = absurd (other refl)
 get_beside (z ∷ xs) zero (suc j) x y other h = h
@@ -51,10 +51,10 @@ module _ {S E : Type 0} (m : Simulation S E) (law : IsLawful m) where
   no_events (x ∷ xs) h = (let k = h x in let l = in_head m law x xs in absurd (omega arith))
 
   -- the messages of a hand, by its three lists
-  hand_plus : (z : Place E) (e : E) → messages m e (in_hand z) ≡ messages m e z.mail + messages m e z.unsent + messages m e z.outgoing
+  pub hand_plus : (z : Place E) (e : E) → messages m e (in_hand z) ≡ messages m e z.mail + messages m e z.unsent + messages m e z.outgoing
   hand_plus z e = (let a = messages-append m e (z.mail ++ z.unsent) z.outgoing in let b = messages-append m e z.mail z.unsent in omega arith)
 
-  hand_minus : (z : Place E) (e : E) → antimessages m e (in_hand z) ≡ antimessages m e z.mail + antimessages m e z.unsent + antimessages m e z.outgoing
+  pub hand_minus : (z : Place E) (e : E) → antimessages m e (in_hand z) ≡ antimessages m e z.mail + antimessages m e z.unsent + antimessages m e z.outgoing
   hand_minus z e = (let a = antimessages-append m e (z.mail ++ z.unsent) z.outgoing in let b = antimessages-append m e z.mail z.unsent in omega arith)
 
   module _ (who later : ℕ → ℕ) (r : ℕ) (x y : Board E) (p q p2 q2 : Place E) (board : IsBoard m x) (in_range : r < m.routers) (other : p.worker ≡ q.worker → ⊥)
@@ -73,13 +73,13 @@ module _ {S E : Type 0} (m : Simulation S E) (law : IsLawful m) where
       | inr ne ↦ (let k = moved.minus_from e ne in omega arith)
     ]
 
-    plus_both : (e : E) → messages m e p2.mail + messages m e q2.mail + messages m e y.mail ≡ messages m e p.mail + messages m e q.mail + messages m e x.mail
+    pub plus_both : (e : E) → messages m e p2.mail + messages m e q2.mail + messages m e y.mail ≡ messages m e p.mail + messages m e q.mail + messages m e x.mail
     plus_both e = elim (cases_eq (m.dst e) r) [
       | inl is ↦ (let k = (moved.plus e is).0 in let l = (moved.plus e is).1 in omega arith)
       | inr ne ↦ (let a = moved.plus_from e ne in let b = moved.plus_to e ne in let c = moved.plus_left e ne in omega arith)
     ]
 
-    minus_both : (e : E) → antimessages m e p2.mail + antimessages m e q2.mail + antimessages m e y.mail ≡ antimessages m e p.mail + antimessages m e q.mail + antimessages m e x.mail
+    pub minus_both : (e : E) → antimessages m e p2.mail + antimessages m e q2.mail + antimessages m e y.mail ≡ antimessages m e p.mail + antimessages m e q.mail + antimessages m e x.mail
     minus_both e = elim (cases_eq (m.dst e) r) [
       | inl is ↦ (let k = (moved.minus e is).0 in let l = (moved.minus e is).1 in omega arith)
       | inr ne ↦ (let a = moved.minus_from e ne in let b = moved.minus_to e ne in let c = moved.minus_left e ne in omega arith)

@@ -8,7 +8,8 @@ use Rattle.tw_core.proofs.Owners.{owner_is}
 use Rattle.tw_core.proofs.Parts.{good_assembled}
 use Rattle.tw_core.proofs.Sums.{all_map}
 use Rattle.tw_core.specs.Good.{IsGood, times_there}
-use Rattle.tw_core.specs.Parts.{AddUp, IsPart, Part, owner, times_wanted, total}
+use Rattle.tw_core.specs.Machine.{Core}
+use Rattle.tw_core.specs.Parts.{AddUp, IsPart, Part, at_owner, owner, times_wanted, total}
 use Rattle.tw_core.specs.Run.{IsAtEnd, IsSeq, IsSettled}
 use Rattle.tw_rule.proofs.Calls.{part_from}
 use Rattle.tw_rule.proofs.Places.{all_at, all_in_map, get_map, total_map}
@@ -74,13 +75,17 @@ module _ {S E : Type 0} (m : Simulation S E) (law : IsLawful m) (who : ℕ → �
       let one = (adds_up x ps rule).once r l in
       all_at (λ (z : Part E). z.owns r ≡ true → owner r (parts x ps) ≡ Some z) (parts x ps) i (part_of x.stop p) (get_map (part_of x.stop) ps i p place) (owner_is r (parts x ps) one) mine
 
+  pub read_of : {X : Type 0} (read : Core E → X) (nothing : X) (x : Board E) (ps : List (Place E)) (i r : ℕ) (p : Place E) → Rule m who x ps → slice_get ps i ≡ Some p → r < m.routers
+      → p.owns r ≡ true → at_owner read nothing (parts x ps) r ≡ read (whole x.stop p)
+  read_of read nothing x ps i r p rule place l mine = ap (λ o. option_map_or (λ (z : Part E). read z.core) o nothing) (owner_of x ps i r p rule place l mine)
+
   pub history_of : (x : Board E) (ps : List (Place E)) (i r : ℕ) (p : Place E) → Rule m who x ps → slice_get ps i ≡ Some p → r < m.routers → p.owns r ≡ true
       → (assembled x ps).history r ≡ p.history r
-  history_of x ps i r p rule place l mine = ap (λ o. option_map_or (λ (z : Part E). z.core.history r) o []) (owner_of x ps i r p rule place l mine)
+  history_of x ps i r p rule place l mine = read_of (λ C. C.history r) [] x ps i r p rule place l mine
 
   pub done_of : (x : Board E) (ps : List (Place E)) (i r : ℕ) (p : Place E) → Rule m who x ps → slice_get ps i ≡ Some p → r < m.routers → p.owns r ≡ true
       → (assembled x ps).done r ≡ p.done r
-  done_of x ps i r p rule place l mine = ap (λ o. option_map_or (λ (z : Part E). z.core.done r) o 0) (owner_of x ps i r p rule place l mine)
+  done_of x ps i r p rule place l mine = read_of (λ C. C.done r) 0 x ps i r p rule place l mine
 
   -- ---- and that machine is the one-thread run
 

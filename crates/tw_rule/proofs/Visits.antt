@@ -88,6 +88,10 @@ module _ {S E : Type 0} (m : Simulation S E) (law : IsLawful m) (who : ℕ → �
   pub unsent_late : (x : Board E) (p q : Place E) (e : E) → IsBoard m x → Stands m who x p → Keeps m x.stop p q → 0 < times_among m e q.unsent → x.bound ≤ m.time e
   unsent_late x p q e board stands keeps h = keeps.late x.bound (stands_from x p board stands) e (in_hand_loose m q e (omega arith))
 
+  -- and it suits its receiver
+  pub unsent_suits : (stop : ℕ) (p q : Place E) (e : E) → Keeps m stop p q → 0 < times_among m e q.unsent → m.suits e ≡ true
+  unsent_suits stop p q e keeps h = let loose = in_hand_loose m q e (omega arith) in keeps.place.good.suit e (omega arith)
+
   -- ---- with a visit
 
   module _ (x y : Board E) (p q : Place E) (report : Option ℕ) (mail : List (Signed E)) (board : IsBoard m x) (stands : Stands m who x p) (keeps : Keeps m x.stop p q)

@@ -20,6 +20,12 @@ module _ {E : Type 0} (whose : E → ℕ) (r : ℕ) where
     pub stays_from : HasStayed from from2
     pub stays_to : HasStayed to to2
 
+-- of what is read of each router at two places before and after, router r's has gone from the first to the second, and that of all others has stayed
+pub record HasFollowed {X : Type 0} (r : ℕ) (from to from2 to2 : ℕ → X) : Type 0 where
+  pub came : to2 r ≡ from r
+  pub stays_from : (k : ℕ) → (k ≡ r → ⊥) → from2 k ≡ from k
+  pub stays_to : (k : ℕ) → (k ≡ r → ⊥) → to2 k ≡ to k
+
 module _ {S E : Type 0} (m : Simulation S E) where
   -- what a place and the mail hold of messages
   abbrev pub messages_near : Board E → Place E → E → ℕ
@@ -44,6 +50,10 @@ module _ {S E : Type 0} (m : Simulation S E) where
     pub history_came : q2.history r ≡ p.history r
     pub history_from : (k : ℕ) → (k ≡ r → ⊥) → p2.history k ≡ p.history k
     pub history_to : (k : ℕ) → (k ≡ r → ⊥) → q2.history k ≡ q.history k
+    -- what they have committed, and their room
+    pub done : HasFollowed r p.done q.done p2.done q2.done
+    pub past : HasFollowed r p.past q.past p2.past q2.past
+    pub room : HasFollowed r p.room q.room p2.room q2.room
     -- with what waits for r, and with what is held that r has sent
     pub pending : HaveGone m.dst r (λ e. times m e p.pending) (λ e. times m e q.pending) (λ e. times m e p2.pending) (λ e. times m e q2.pending)
     pub kept : HaveGone m.dst r (λ e. times m e p.kept) (λ e. times m e q.kept) (λ e. times m e p2.kept) (λ e. times m e q2.kept)

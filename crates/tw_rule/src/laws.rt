@@ -4,7 +4,7 @@
 ghost use Rattle.std.specs.Prelude.{ℕ, ◌≡◌, ◌<◌, ◌≤◌, ◌+◌, true, IfSome, List, [], ◌++◌, Option, Ok, Some, length, map, min, remove, slice_get, slice_set};
 ghost use Rattle.std.specs.List.{AllByRecursion, reduce};
 ghost use Rattle.tw_core.specs.Good.{IsGood};
-ghost use Rattle.tw_core.specs.Machine.{Core, antimessages, messages};
+ghost use Rattle.tw_core.specs.Machine.{Core, IsSameMachine, antimessages, messages};
 ghost use Rattle.tw_core.specs.Parts.{total};
 ghost use Rattle.tw_core.specs.Run.{IsAtEnd, IsSeq};
 ghost use Rattle.tw_core.specs.Steps.{IsRolledBack, after_arrival, first_pending, handle, with_commit, with_release, with_room};
@@ -93,7 +93,8 @@ pub fn calls_may_be_given<S, E>()
 {}
 
 /// What a worker may report is the least time of all that waits at its place: it tells of all of this.
-/// Neither it nor what is unsent is ever before the board's bound, so that no visit is refused as early.
+/// Neither it nor what is unsent is ever before the board's bound, so that no visit is refused as early. And
+/// what is unsent suits its receiver.
 pub fn visits_are_welcome<S, E>()
     ensures tells { (m : Simulation S E) → IsLawful m → (p : Place E) → Tells m (report_time m p) p }
     ensures empty { (m : Simulation S E) (p : Place E) → p.mail ≡ [] → report_time m p ≡ reduce min (map (λ e. m.time e) (p.pending ++ p.kept ++ p.held)) }
@@ -101,6 +102,7 @@ pub fn visits_are_welcome<S, E>()
         → IfSome (report_time m q) (λ time. x.bound ≤ time) }
     ensures unsent { (m : Simulation S E) → IsLawful m → (who : ℕ → ℕ) (x : Board E) (p q : Place E) (e : E) → IsBoard m x → Stands m who x p → Keeps m x.stop p q
         → 0 < times_among m e q.unsent → x.bound ≤ m.time e }
+    ensures suited { (m : Simulation S E) → IsLawful m → (stop : ℕ) (p q : Place E) (e : E) → Keeps m stop p q → 0 < times_among m e q.unsent → m.suits e ≡ true }
 {}
 
 /// A message in a worker's hand is never before the bound that its place knows, is for one of its routers,
@@ -113,9 +115,14 @@ pub fn mail_is_welcome<S, E>()
 
 /// A router goes from one worker's place to another's with all that is its own: what it has handled, what
 /// waits for it, what is held that it has sent, and its messages in the first one's hand and in the mail.
-/// Then the rule holds of the new board and places, where that worker is named for the router.
+/// Then the rule holds of the new board and places, where that worker is named for the router, and the
+/// machine of all routers is the same but for the order of its lists.
 pub fn routers_may_move<S, E>()
-    ensures { (m : Simulation S E) → IsLawful m → (who later : ℕ → ℕ) (r i j : ℕ) (x y : Board E) (ps : List (Place E)) (p q p2 q2 : Place E) → Rule m who x ps
+    ensures rule { (m : Simulation S E) → IsLawful m → (who later : ℕ → ℕ) (r i j : ℕ) (x y : Board E) (ps : List (Place E)) (p q p2 q2 : Place E) → Rule m who x ps
         → r < m.routers → slice_get ps i ≡ Some p → slice_get ps j ≡ Some q → (p.worker ≡ q.worker → ⊥) → who r ≡ p.worker → later r ≡ q.worker
         → ((k : ℕ) → (k ≡ r → ⊥) → later k ≡ who k) → IsMoved m r x p q y p2 q2 → Rule m later y (slice_set (slice_set ps i p2) j q2) }
+    ensures same { (m : Simulation S E) → IsLawful m → (who later : ℕ → ℕ) (r i j : ℕ) (x y : Board E) (ps : List (Place E)) (p q p2 q2 : Place E) → Rule m who x ps
+        → r < m.routers → slice_get ps i ≡ Some p → slice_get ps j ≡ Some q → (p.worker ≡ q.worker → ⊥) → who r ≡ p.worker → later r ≡ q.worker
+        → ((k : ℕ) → (k ≡ r → ⊥) → later k ≡ who k) → IsMoved m r x p q y p2 q2
+        → IsSameMachine m (assembled x ps) (assembled y (slice_set (slice_set ps i p2) j q2)) }
 {}

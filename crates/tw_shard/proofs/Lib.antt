@@ -18,3 +18,4 @@ pub mod Rosters
 pub mod Shares
 pub mod Steps
 pub mod Walks
+pub mod Found

@@ -1,6 +1,7 @@
 -- All shards of a case, by rising worker, and what is read of its routers, each at the shard that has it (own).
-use Rattle.std.specs.Prelude.{ℕ, ◌≡◌, ◌<◌, ◌-◌, true, List, [], ◌∷◌, length, map, max, reverse, slice_index_or, take}
-use Rattle.std.specs.List.{flat_map, range_with_len}
+use Rattle.std.specs.Prelude.{ℕ, ◌≡◌, ◌<◌, ◌-◌, true, List, [], ◌∷◌, length, map, max, Option, reverse, slice_index_or, take}
+use Rattle.std.specs.List.{flat_map, position, range_with_len}
+use Rattle.std.specs.Option.{unwrap_or}
 use Rattle.tw_core.specs.Machine.{committed}
 use Rattle.tw_core.specs.Parts.{total}
 use Rattle.tw_event.specs.declared.event.Event.{Event}
@@ -11,12 +12,15 @@ use Rattle.tw_model.specs.Summary.{end_of}
 use Rattle.tw_shard.specs.Shard.{Shard, core, no_shard, owns}
 use Rattle.tw_shard.specs.Timeline.{last_change_at}
 use Rattle.tw_sim.specs.Ordered.{insert_all}
-use Rattle.tw_sim.specs.Owners.{owner}
 use Rattle.tw_sim.specs.Simulation.{IsFalling, state}
 
--- the shard of the worker that has router r
+-- where the first shard stands that has router r
+abbrev pub place_for : List Shard → ℕ → Option ℕ
+place_for ss r = position (λ s. owns s r) ss
+
+-- the shard that has router r, and the first one where none has it
 abbrev pub shard_for : List Shard → ℕ → Shard
-shard_for ss r = slice_index_or ss (owner (length ss) r) no_shard
+shard_for ss r = slice_index_or ss (unwrap_or (place_for ss r) 0) no_shard
 
 -- what router r has handled and not undone, the newest event first
 abbrev pub history_in : List Shard → ℕ → List Event
@@ -26,7 +30,7 @@ history_in ss r = (core 0 (shard_for ss r)).history r
 abbrev pub committed_in : Case → List Shard → ℕ → List Event
 committed_in case ss r = committed (simulation case) (core 0 (shard_for ss r)) r
 
--- each router of the case is at the shard of its worker
+-- each router of the case is at a shard of it
 pub record HaveAll (case : Case) (ss : List Shard) : Type 0 where
   pub some : 0 < length ss
   pub cases : (r : ℕ) → r < case.net.nodes → (shard_for ss r).case ≡ case

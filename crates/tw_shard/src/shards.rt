@@ -4,14 +4,14 @@ ghost use Rattle.std.specs.List.{flat_map, range_with_len};
 ghost use Rattle.tw_core.specs.Machine.{committed};
 ghost use Rattle.tw_model.specs.Case.{IsCase, simulation};
 ghost use Rattle.tw_shard.specs.Shard.{IsOpeningShard, core, no_shard, owns};
-ghost use Rattle.tw_shard.specs.Shards.{HaveAll, KeepAll, committed_of_all, ahead_of_all, ends_of_all, change_of_all, oldest_in, pending_of_all, shard_for};
+ghost use Rattle.tw_shard.specs.Shards.{HaveAll, KeepAll, committed_of_all, ahead_of_all, ends_of_all, change_of_all, oldest_in, pending_of_all, place_for, shard_for};
 
 use crate::shard::Shard;
 use std::alloc::{AllocError, Global};
 use tw_event::Event;
 use tw_instance::Case;
 use tw_model::RouterEnd;
-use tw_sim::{Cancel, owner};
+use tw_sim::Cancel;
 
 /// The shards of so many workers, by rising worker, as they begin. Routers keep their committed events, or
 /// let them go; what an undone event has sent is taken back at once, or as late as may be.
@@ -32,12 +32,19 @@ pub fn open_all<'a>(
     Ok(shards)
 }
 
-/// The shard that has this router.
+/// The shard that has this router, and the first one where none has it.
 pub fn shard_for<'s, 'a>(shards: &'s [Shard<'a>], router: u32) -> &'s Shard<'a>
     requires { 0 < length shards.now }
     ensures { result.now ≡ shard_for shards.now router }
 {
-    &shards[owner(router, shards.len())]
+    &shards[place_for(shards, router).unwrap_or(0)]
+}
+
+/// Where the first shard stands that has this router.
+fn place_for(shards: &[Shard<'_>], router: u32) -> Option<usize>
+    ensures { result ≡ place_for shards.now router }
+{
+    shards.iter().position(|shard| shard.owns(router))
 }
 
 /// The committed events of all routers of the case, in their order.

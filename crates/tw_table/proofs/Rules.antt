@@ -6,8 +6,7 @@ use Rattle.std.specs.List.{AllByRecursion}
 use Rattle.tw_core.specs.Good.{times_there}
 use Rattle.tw_core.specs.Parts.{times_wanted, total}
 use Rattle.tw_event.specs.declared.event.Event.{Event}
-use Rattle.tw_exchange.specs.Board.{Board, IsBoard, all_mail, workers}
-use Rattle.tw_sim.specs.Owners.{owner}
+use Rattle.tw_exchange.specs.Board.{Board, IsBoard, all_mail, who, worker_for, workers}
 use Rattle.tw_model.proofs.Lawful.{lawful, numbered}
 use Rattle.tw_model.specs.Case.{Case, IsCase, simulation}
 use Rattle.tw_rule.proofs.Gives.{rule_gives}
@@ -52,7 +51,6 @@ sums_of ss ts same f = total_map place_of f ts ∙ (same.sums (λ s. f (place_of
 pub any_order : (case : Case) (x : Board) (ss ts : List Share) → AreSame ss ts → IsRuled case x ss → IsRuled case x ts
 any_order case x ss ts same ruled =
     let m = simulation case in
-    let who = owner (workers x) in
     let old = ruled.rule in
     record {
       is_case = ruled.is_case;
@@ -60,7 +58,7 @@ any_order case x ss ts same ruled =
       count = sym (counted ts) ∙ (same.sums (λ s. 1) ∙ (counted ss ∙ ruled.count));
       rule = record {
         board = old.board;
-        each = mapped place_of (Stands m who (board_of x)) ts (same.each (λ s. Stands m who (board_of x) (place_of s)) (unmapped place_of (Stands m who (board_of x)) ss old.each));
+        each = mapped place_of (Stands m (who x) (board_of x)) ts (same.each (λ s. Stands m (who x) (board_of x) (place_of s)) (unmapped place_of (Stands m (who x) (board_of x)) ss old.each));
         places = λ w h. sums_of ss ts same (is_at w) ∙ old.places w h;
         routers = old.routers;
         balance = λ e.
@@ -76,17 +74,19 @@ any_order case x ss ts same ruled =
 -- both, as the rule has them
 pub record IsGiven (x : Board) (s : Share) (y : Board) (t : Share) : Type 0 where
   pub case : t.shard.case ≡ s.shard.case
-  pub give : MayGive (simulation s.shard.case) (owner (workers x)) (board_of x) (place_of s) (board_of y) (place_of t)
+  pub owners : y.owners ≡ x.owners
+  pub give : MayGive (simulation s.shard.case) (who x) (board_of x) (place_of s) (board_of y) (place_of t)
 
 -- its own part
-pub own_part : (x y : Board) (s t : Share) → IsGiven x s y t → MayBeGiven x s y t
-own_part x y s t is = record {
-  case = is.case;
-  worker = is.give.worker;
-  stands = is.give.stands;
-  moved = is.give.moved;
-  suit = λ e more. is.give.steps.board.suit e (omega arith);
-  done = is.give.done;
+pub own_part : (x y : Board) (s t : Share) → t.shard.case ≡ s.shard.case → MayGive (simulation s.shard.case) (who x) (board_of x) (place_of s) (board_of y) (place_of t)
+    → MayBeGiven x s y t
+own_part x y s t same give = record {
+  case = same;
+  worker = give.worker;
+  stands = give.stands;
+  moved = give.moved;
+  suit = λ e more. give.steps.board.suit e (omega arith);
+  done = give.done;
 }
 
 -- what holds of the mail of each worker holds of all mail
@@ -109,6 +109,7 @@ pub with_visits : (x y : Board) (s t : Share) → IsCase s.shard.case → rule.I
     → MayBeGiven x s y t → IsGiven x s y t
 with_visits x y s t is board whole visited may = record {
   case = may.case;
+  owners = visited.owners;
   give = record {
     worker = may.worker;
     steps = record {
@@ -136,14 +137,14 @@ with_visits x y s t is board whole visited may = record {
 pub given_one : (case : Case) (x y : Board) (s t : Share) (others : List Share) → IsRuled case x (s ∷ others) → IsGiven x s y t → IsRuled case y (t ∷ others)
 given_one case x y s t others ruled may =
     let m = simulation case in
-    let give : MayGive m (owner (workers x)) (board_of x) (place_of s) (board_of y) (place_of t)
-    = subst (λ (c : Case). MayGive (simulation c) (owner (workers x)) (board_of x) (place_of s) (board_of y) (place_of t)) ruled.cases.0 may.give in
+    let give : MayGive m (who x) (board_of x) (place_of s) (board_of y) (place_of t)
+    = subst (λ (c : Case). MayGive (simulation c) (who x) (board_of x) (place_of s) (board_of y) (place_of t)) ruled.cases.0 may.give in
     record {
       is_case = ruled.is_case;
       cases = (may.case ∙ ruled.cases.0, ruled.cases.1);
       count = ruled.count ∙ sym give.steps.workers;
-      rule = subst (λ (n : ℕ). Rule m (owner n) (board_of y) (map place_of (t ∷ others))) (sym give.steps.workers)
-          (rule_gives m (owner (workers x)) (board_of x) (board_of y) (map place_of (s ∷ others)) 0 (place_of s) (place_of t) ruled.rule refl give);
+      rule = subst (λ (f : ℕ → ℕ). Rule m f (board_of y) (map place_of (t ∷ others))) (sym (λ i. worker_for (may.owners i) (give.steps.workers i)))
+          (rule_gives m (who x) (board_of x) (board_of y) (map place_of (s ∷ others)) 0 (place_of s) (place_of t) ruled.rule refl give);
     }
 
 -- the workers' shares with the exchange are a good state
@@ -151,8 +152,8 @@ pub whole_of : (case : Case) (x : Board) (shares : List Share) → IsRuled case 
 whole_of case x shares ruled = record {
   case = case;
   ruled = ruled;
-  good = good_of_rule (simulation case) (lawful case ruled.is_case) (owner (workers x)) (board_of x) (map place_of shares) ruled.rule;
-  seq = seq_of_rule (simulation case) (lawful case ruled.is_case) (owner (workers x)) (numbered case ruled.is_case) (board_of x) (map place_of shares) ruled.rule;
+  good = good_of_rule (simulation case) (lawful case ruled.is_case) (who x) (board_of x) (map place_of shares) ruled.rule;
+  seq = seq_of_rule (simulation case) (lawful case ruled.is_case) (who x) (numbered case ruled.is_case) (board_of x) (map place_of shares) ruled.rule;
 }
 
 -- before the bound of the exchange, and each earlier time, what a worker's routers have handled is the one-thread run
@@ -161,5 +162,5 @@ pub run_before : (case : Case) (x : Board) (shares : List Share) (i t : ℕ) (s 
 run_before case x shares i t s ruled there le =
     let same : s.shard.case ≡ case = all_at (λ (z : Share). z.shard.case ≡ case) shares i s there ruled.cases in
     subst (λ (c : Case). IsRunBefore (simulation c) t (place_of s)) (sym same)
-    (before_of (simulation case) (lawful case ruled.is_case) (owner (workers x)) (numbered case ruled.is_case) (board_of x) (map place_of shares) i t (place_of s) ruled.rule
+    (before_of (simulation case) (lawful case ruled.is_case) (who x) (numbered case ruled.is_case) (board_of x) (map place_of shares) i t (place_of s) ruled.rule
     (get_map place_of shares i s there) le)

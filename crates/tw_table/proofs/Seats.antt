@@ -44,7 +44,7 @@ holding worker bound v w x waits is knows =
 -- and nothing is done to it yet
 pub not_visited : (worker : ℕ) (v w : View) (x : Board) → w ≡ took v x → IsVisitedBy worker (taken w) x
 not_visited worker v w x is =
-    subst (λ (u : View). IsVisitedBy worker (taken u) x) (sym is) (record { others = λ k other. refl; workers = refl; bound = omega arith; stop = refl })
+    subst (λ (u : View). IsVisitedBy worker (taken u) x) (sym is) (record { owners = refl; others = λ k other. refl; workers = refl; bound = omega arith; stop = refl })
 
 -- a further visit leaves what visits leave
 pub visited_again : {A B : Type 0} (worker : ℕ) (x y z : Board) (out : List (Signed Event)) (report : Option ℕ) (r : Result A B) → IsVisitedBy worker x y
@@ -52,6 +52,7 @@ pub visited_again : {A B : Type 0} (worker : ℕ) (x y z : Board) (out : List (S
 visited_again worker x y z out report (Ok a) before ok err rises =
     let told = least_report report (handed worker out y) in
     record {
+      owners = ap (λ (b : Board). b.owners) ok ∙ before.owners;
       others = λ w other. ap (λ b. report_of w b) ok ∙ (get_or-set_other y.reports worker w told None other ∙ before.others w other);
       workers = ap (λ b. workers b) ok ∙ (length-set y.reports worker told ∙ before.workers);
       bound = (let old = before.bound in omega arith);
@@ -62,4 +63,4 @@ visited_again worker x y z out report (Err b) before ok err rises = subst (IsVis
 -- and so does the mark that halts all
 pub visited_halted : (worker : ℕ) (x y z : Board) → IsVisitedBy worker x y → z ≡ record y { halted = true } → IsVisitedBy worker x z
 visited_halted worker x y z before is =
-    subst (IsVisitedBy worker x) (sym is) (record { others = before.others; workers = before.workers; bound = before.bound; stop = before.stop })
+    subst (IsVisitedBy worker x) (sym is) (record { owners = before.owners; others = before.others; workers = before.workers; bound = before.bound; stop = before.stop })

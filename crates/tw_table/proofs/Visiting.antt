@@ -8,8 +8,7 @@ use Rattle.tw_core.specs.Machine.{antimessages, messages}
 use Rattle.tw_event.specs.declared.event.Event.{Event}
 use Rattle.tw_exchange.proofs.Boards.{handed_home}
 use Rattle.tw_exchange.proofs.Weights.{nothing_lost}
-use Rattle.tw_exchange.specs.Board.{Board, IsBoard, all_mail, handed, is_early, is_for, visited, workers}
-use Rattle.tw_sim.specs.Owners.{owner}
+use Rattle.tw_exchange.specs.Board.{Board, IsBoard, all_mail, handed, is_early, is_for, is_homeless, visited, who, workers}
 use Rattle.tw_model.proofs.Lawful.{lawful}
 use Rattle.tw_model.specs.Case.{Case, IsCase, simulation}
 use Rattle.tw_rule.specs.Board.{IsVisit, times_among}
@@ -44,13 +43,13 @@ module _ (case : Case) (is : IsCase case) (e : Event) where
       ]
 
   -- an event among messages that are all for one worker is for it
-  is_home : (n w : ℕ) (xs : List (Signed Event)) → AllByRecursion (λ s. is_for n w s ≡ true) xs → 0 < times_among (simulation case) e xs → owner n e.dst ≡ w
-  is_home n w [] h some = absurd (omega arith)
-  is_home n w (x ∷ xs) h some =
+  is_home : (who : ℕ → ℕ) (w : ℕ) (xs : List (Signed Event)) → AllByRecursion (λ s. is_for who w s ≡ true) xs → 0 < times_among (simulation case) e xs → who e.dst ≡ w
+  is_home who w [] h some = absurd (omega arith)
+  is_home who w (x ∷ xs) h some =
       let m = simulation case in
       elim (cases_Bool (m.same e x.event)) [
-        | inl same ↦ ap (λ (y : Event). owner n y.dst) ((lawful case is).same_is e x.event same) ∙ eqb-true (owner n x.event.dst) w h.0
-        | inr other ↦ is_home n w xs h.1 (among_rest x xs other some)
+        | inl same ↦ ap (λ (y : Event). who y.dst) ((lawful case is).same_is e x.event same) ∙ eqb-true (who x.event.dst) w h.0
+        | inr other ↦ is_home who w xs h.1 (among_rest x xs other some)
       ]
 
 -- what is not early is reported no earlier than the bound
@@ -62,14 +61,14 @@ reported_late (Some time) out x h =
       | inr late ↦ ltb-false time x.bound late
     ]
 
-pub is_visit : (case : Case) (x : Board) (w : ℕ) (out : List (Signed Event)) (report : Option ℕ) → IsCase case → IsBoard x → w < workers x → is_early out report x ≡ false
-    → IsVisit (simulation case) (owner (workers x)) w out report (handed w out x) (board_of x) (board_of (visited w out report x))
-is_visit case x w out report is board within late =
+pub is_visit : (case : Case) (x : Board) (w : ℕ) (out : List (Signed Event)) (report : Option ℕ) → IsCase case → IsBoard x → w < workers x → is_early out report x ≡ false → is_homeless out x ≡ false
+    → IsVisit (simulation case) (who x) w out report (handed w out x) (board_of x) (board_of (visited w out report x))
+is_visit case x w out report is board within late home =
     let y = visited w out report x in
     record {
       messages = λ e.
           let weight : Signed Event → ℕ = λ s. cond s.plus (one (simulation case) e s.event) 0 in
-          let all = nothing_lost weight x w out report board within in
+          let all = nothing_lost weight x w out report board within home in
           let a = messages_sum case is e (all_mail y) in
           let b = messages_sum case is e (handed w out x) in
           let c = messages_sum case is e (all_mail x) in
@@ -77,13 +76,13 @@ is_visit case x w out report is board within late =
           omega arith;
       antimessages = λ e.
           let weight : Signed Event → ℕ = λ s. cond s.plus 0 (one (simulation case) e s.event) in
-          let all = nothing_lost weight x w out report board within in
+          let all = nothing_lost weight x w out report board within home in
           let a = antimessages_sum case is e (all_mail y) in
           let b = antimessages_sum case is e (handed w out x) in
           let c = antimessages_sum case is e (all_mail x) in
           let d = antimessages_sum case is e out in
           omega arith;
-      home = λ e some. is_home case is e (workers x) w (handed w out x) (handed_home x w out board) some;
+      home = λ e some. is_home case is e (who x) w (handed w out x) (handed_home x w out board) some;
       late = reported_late report out x late;
       reports = refl;
       bound = refl;

@@ -6,8 +6,7 @@ use Rattle.tw_core.specs.Machine.{antimessages, messages}
 use Rattle.tw_core.specs.Parts.{times_wanted}
 use Rattle.tw_core.specs.Run.{IsSeq}
 use Rattle.tw_event.specs.declared.event.Event.{Event}
-use Rattle.tw_exchange.specs.Board.{Board, all_mail, workers}
-use Rattle.tw_sim.specs.Owners.{owner}
+use Rattle.tw_exchange.specs.Board.{Board, all_mail, who, workers}
 use Rattle.tw_model.specs.Case.{Case, IsCase, simulation}
 use Rattle.tw_rule.specs.Board as rule
 use Rattle.tw_rule.specs.Place.{Place, whole}
@@ -66,7 +65,7 @@ pub record IsRuled (case : Case) (x : Board) (shares : List Share) : Type 0 wher
   pub cases : AllByRecursion (λ s. s.shard.case ≡ case) shares
   -- there are as many shares as workers
   pub count : length shares ≡ workers x
-  pub rule : Rule (simulation case) (owner (workers x)) (board_of x) (map place_of shares)
+  pub rule : Rule (simulation case) (who x) (board_of x) (map place_of shares)
 
 module _ (case : Case) (e : Event) where
   -- how often an event is in the mail, as a message and as an antimessage
@@ -89,7 +88,7 @@ pub record MayBeGiven (x : Board) (s : Share) (y : Board) (t : Share) : Type 0 w
   pub case : t.shard.case ≡ s.shard.case
   pub worker : t.shard.worker ≡ s.shard.worker
   -- its place stands as it reported
-  pub stands : Stands (simulation s.shard.case) (owner (workers x)) (board_of y) (place_of t)
+  pub stands : Stands (simulation s.shard.case) (who x) (board_of y) (place_of t)
   -- what it has less went to the mail, and what it has more came from there
   pub moved : (e : Event) → wanted s.shard.case e t + there s.shard.case e s + (mailed_back s.shard.case e y + mailed s.shard.case e x)
       ≡ wanted s.shard.case e s + there s.shard.case e t + (mailed s.shard.case e y + mailed_back s.shard.case e x)

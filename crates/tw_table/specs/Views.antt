@@ -93,9 +93,10 @@ pub record Taken (v : View) (x : Board) (w : View) : Type 0 where
 abbrev pub taken : View → Board
 taken v = slice_index_or v.held 0 (opening 0 0 0)
 
--- what one worker has done to the exchange x so far, whose reports but its own, number of workers and stop are as they were, and whose
--- bound has not fallen
+-- what one worker has done to the exchange x so far, whose owners, reports but its own, number of workers and stop are as they were, and
+-- whose bound has not fallen
 pub record IsVisitedBy (worker : ℕ) (x y : Board) : Type 0 where
+  pub owners : y.owners ≡ x.owners
   pub others : (w : ℕ) → (w ≡ worker → ⊥) → report_of w y ≡ report_of w x
   pub workers : workers y ≡ workers x
   pub bound : x.bound ≤ y.bound

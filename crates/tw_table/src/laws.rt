@@ -3,8 +3,7 @@
 ghost use Rattle.std.specs.Prelude.{ℕ, ◌≡◌, ◌<◌, ◌≤◌, false, List, Option, Some, length, map, slice_get};
 ghost use Rattle.std.specs.List.{range_with_len};
 ghost use Rattle.tw_event.specs.declared.event.Event.{Event};
-ghost use Rattle.tw_exchange.specs.Board.{Board, IsBoard, handed, is_early, opening, visited, workers};
-ghost use Rattle.tw_sim.specs.Owners.{owner};
+ghost use Rattle.tw_exchange.specs.Board.{Board, IsBoard, handed, is_early, is_homeless, opening, visited, who, workers};
 ghost use Rattle.tw_model.specs.Case.{Case, IsCase, simulation};
 ghost use Rattle.tw_rule.specs.Board.{IsVisit};
 ghost use Rattle.tw_rule.specs.Place.{IsRunBefore};
@@ -20,11 +19,12 @@ pub fn new_is_ruled()
     ensures order { (case : Case) (shares : List Share) → AreNew case 0 (length shares) shares → map (λ s. s.shard.worker) shares ≡ range_with_len 0 (length shares) }
 {}
 
-/// What `visit` does to an exchange is a visit as the rule has it. So what a worker may give back after
+/// What `visit` does to an exchange, where each message deposited is for a router that has a worker, is a
+/// visit as the rule has it. So what a worker may give back after
 /// one follows from `tw_rule::laws::calls_may_be_given`.
 pub fn visits_are_exact()
     ensures { (case : Case) (x : Board) (w : ℕ) (out : List (Signed Event)) (report : Option ℕ) → IsCase case → IsBoard x → w < workers x → is_early out report x ≡ false
-        → IsVisit (simulation case) (owner (workers x)) w out report (handed w out x) (board_of x) (board_of (visited w out report x)) }
+        → is_homeless out x ≡ false → IsVisit (simulation case) (who x) w out report (handed w out x) (board_of x) (board_of (visited w out report x)) }
 {}
 
 /// Where the exchange and the shares of all workers keep the rule, each worker's routers have handled what

@@ -1,8 +1,8 @@
 //! What a worker reads of its seat, and does with the exchange.
-ghost use Rattle.std.specs.Prelude.{◌≡◌, ◌↔◌, ◌<◌, ◌≤◌, true, IfErr, IfOk, IsTrue, OnErr, OnOk, length};
+ghost use Rattle.std.specs.Prelude.{◌≡◌, ◌↔◌, ◌<◌, ◌≤◌, false, true, IfErr, IfOk, IsTrue, OnErr, OnOk, length};
 ghost use Rattle.std.specs.Result.{IsErrAnd};
-ghost use Rattle.tw_exchange.specs.Board.{IsBoard, handed, is_early, visited};
-ghost use Rattle.tw_exchange.specs.declared.visit.VisitFault.TheVariants.{Early, NoWorker};
+ghost use Rattle.tw_exchange.specs.Board.{IsBoard, handed, is_early, is_homeless, visited};
+ghost use Rattle.tw_exchange.specs.declared.visit.VisitFault.TheVariants.{Early, NoRouter, NoWorker};
 ghost use Rattle.tw_model.specs.declared.memory.OrMemory.TheVariants as or_memory;
 ghost use Rattle.tw_table.specs.Seats.{IsSameSeat, bound_at, exchange_of, halted_at, share_at, share_of};
 
@@ -39,8 +39,9 @@ impl Held {
     /// The seat's worker deposits what it has sent, reports the least time of what it still has, if it has
     /// anything, and is handed its mail, as at `Exchange::visit`.
     ///
-    /// It is refused as `Early` where `report` or the time of a message of `out` lies before the bound. After
-    /// a refusal and for want of memory `out` comes back, and nothing has changed.
+    /// It is refused as `Early` where `report` or the time of a message of `out` lies before the bound, and else
+    /// as `NoRouter` where a message of `out` is for a router that no worker has. After a refusal and for want of
+    /// memory `out` comes back, and nothing has changed.
     pub fn visit(&mut self, out: Vec<Signed<Event>>, report: Option<u64>) -> Result<Visit, Back>
         ensures board { OnOk result (exchange_of self.new ≡ visited (share_of self.old).shard.worker out.items report (exchange_of self.old)) }
         ensures mail { IfOk result (λ visit. visit.mail.items ≡ handed (share_of self.old).shard.worker out.items (exchange_of self.old)) }
@@ -48,6 +49,8 @@ impl Held {
         ensures halted { IfOk result (λ visit. visit.halted ≡ (exchange_of self.old).halted) }
         ensures there { IsErrAnd result (λ back. back.why ≡ or_memory.Fault NoWorker) → ⊥ }
         ensures early { IsErrAnd result (λ back. back.why ≡ or_memory.Fault Early) ↔ IsTrue (is_early out.items report (exchange_of self.old)) }
+        ensures no_router { IsErrAnd result (λ back. back.why ≡ or_memory.Fault NoRouter)
+            ↔ ((is_early out.items report (exchange_of self.old) ≡ false) × IsTrue (is_homeless out.items (exchange_of self.old))) }
         ensures memory { IsErrAnd result (λ back. back.why ≡ or_memory.Memory) → 0 < length out.items }
         ensures back { IfErr result (λ back. back.out ≡ out) }
         ensures err { OnErr result (exchange_of self.new ≡ exchange_of self.old) }

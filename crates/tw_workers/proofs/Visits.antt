@@ -1,20 +1,20 @@
 -- What a worker may give back to the table: after a visit, and without one.
-use Rattle.std.proofs.Common.{◌≡◌, ℕ, ◌<◌, ◌≤◌, max, min, nat_lt, false, List, [], ◌∷◌, ◌++◌, Option, None, Some, IfSome, map, slice_get, refl, ap, sym, ◌∙◌, subst, arith}
-use Rattle.std.proofs.lemmas.Bool.{or_from}
+use Rattle.std.proofs.Common.{◌≡◌, ℕ, ◌<◌, ◌≤◌, max, min, nat_lt, not, false, List, [], ◌∷◌, ◌++◌, Option, None, Some, IfSome, map, slice_get, refl, ap, sym, ◌∙◌, subst, arith}
+use Rattle.std.proofs.lemmas.Bool.{lt-ltb, or_from}
 use Rattle.std.specs.List.{list_any, reduce}
 use Rattle.std.specs.Option.{option_map_or}
 use Rattle.tw_event.specs.declared.event.Event.{Event}
 use Rattle.tw_exchange.specs.declared.visit.VisitFault.{VisitFault}
-use Rattle.tw_exchange.specs.declared.visit.VisitFault.TheVariants.{Early, NoWorker}
-use Rattle.tw_exchange.specs.Board.{Board, IsBoard, handed, is_early, visited, workers}
-use Rattle.tw_sim.specs.Owners.{owner}
+use Rattle.tw_exchange.specs.declared.visit.VisitFault.TheVariants.{Early, NoRouter, NoWorker}
+use Rattle.tw_exchange.specs.Board.{Board, IsBoard, any_homeless, handed, is_early, is_homeless, visited, who, worker_for, workers}
 use Rattle.tw_model.proofs.Lawful.{lawful}
+use Rattle.tw_model.proofs.Within.{suits_within}
 use Rattle.tw_model.specs.declared.memory.OrMemory.{OrMemory}
 use Rattle.tw_model.specs.declared.memory.OrMemory.TheVariants.{Fault, Memory}
 use Rattle.tw_model.specs.Case.{Case, IsCase, simulation}
 use Rattle.tw_rule.proofs.Least.{none_told}
 use Rattle.tw_rule.proofs.Places.{all_at, get_map}
-use Rattle.tw_rule.proofs.Visits.{may_stay, may_visit, report_late, stands_from, tells_all, unsent_late}
+use Rattle.tw_rule.proofs.Visits.{may_stay, may_visit, report_late, stands_from, tells_all, unsent_late, unsent_suits}
 use Rattle.tw_rule.specs.Board as rule
 use Rattle.tw_rule.specs.Board.{IsVisit, least_report, times_among}
 use Rattle.tw_rule.specs.Place.{IsFrom, Keeps, Place, Tells, after_visit, report_time}
@@ -38,18 +38,21 @@ use Rattle.tw_workers.specs.Work.{IsAtWork, Kept}
 record IsHere (x : Board) (s : Share) : Type 0 where
   pub is_case : IsCase s.shard.case
   pub board : rule.IsBoard (simulation s.shard.case) (board_of x)
-  pub stands : Stands (simulation s.shard.case) (owner (workers x)) (board_of x) (place_of s)
+  pub stands : Stands (simulation s.shard.case) (who x) (board_of x) (place_of s)
+  -- and each router has a worker
+  pub routers : (r : ℕ) → r < s.shard.case.net.nodes → who x r < workers x
 
 here_at : (case : Case) (x : Board) (s : Share) → s.shard.case ≡ case → IsCase case → rule.IsBoard (simulation case) (board_of x)
-    → Stands (simulation case) (owner (workers x)) (board_of x) (place_of s) → IsHere x s
-here_at case x s same is_case board stands = record {
+    → Stands (simulation case) (who x) (board_of x) (place_of s) → ((r : ℕ) → r < case.net.nodes → who x r < workers x) → IsHere x s
+here_at case x s same is_case board stands routers = record {
   is_case = subst IsCase (sym same) is_case;
   board = subst (λ (c : Case). rule.IsBoard (simulation c) (board_of x)) (sym same) board;
-  stands = subst (λ (c : Case). Stands (simulation c) (owner (workers x)) (board_of x) (place_of s)) (sym same) stands;
+  stands = subst (λ (c : Case). Stands (simulation c) (who x) (board_of x) (place_of s)) (sym same) stands;
+  routers = subst (λ (c : Case). (r : ℕ) → r < c.net.nodes → who x r < workers x) (sym same) routers;
 }
 
 here : (x : Board) (s : Share) → IsMet (s ∷ []) x → IsHere x s
-here x s met = here_at met.case x s met.ruled.cases.0 met.ruled.is_case met.ruled.rule.board met.ruled.rule.each.0
+here x s met = here_at met.case x s met.ruled.cases.0 met.ruled.is_case met.ruled.rule.board met.ruled.rule.each.0 met.ruled.rule.routers
 
 -- what was kept to a worker's stop was kept to the board's
 keeps_here : (x : Board) (stop : ℕ) (s q : Share) → x.stop ≡ stop → Kept stop s q → Keeps (simulation s.shard.case) (board_of x).stop (place_of s) (place_of q)
@@ -61,9 +64,8 @@ pub stayed_given : (x y : Board) (stop : ℕ) (s q : Share) → IsMet (s ∷ [])
 stayed_given x y stop s q met same kept as_before =
     let at = here x s met in
     let m = simulation s.shard.case in
-    let who = owner (workers x) in
-    let may = may_stay m (lawful s.shard.case at.is_case) who (board_of x) (place_of s) (place_of q) at.board at.stands (keeps_here x stop s q same kept) in
-    own_part x y s q (record { case = kept.case; give = subst (λ b. MayGive m who (board_of x) (place_of s) b (place_of q)) (sym as_before) may })
+    let may = may_stay m (lawful s.shard.case at.is_case) (who x) (board_of x) (place_of s) (place_of q) at.board at.stands (keeps_here x stop s q same kept) in
+    own_part x y s q kept.case (subst (λ b. MayGive m (who x) (board_of x) (place_of s) b (place_of q)) (sym as_before) may)
 
 -- ---- with a visit
 
@@ -76,6 +78,15 @@ module _ {S : Type 0} (m : Simulation S Event) (law : IsLawful m) where
       let count = of_one_sign m law x.event x xs in
       or_from (nat_lt x.event.time b) (list_any (λ y. nat_lt y.event.time b) xs) (before_no x.event.time b (late x.event (omega arith)))
       (none_early b xs (λ e h. late e (let more = of_one_sign m law e x xs in omega arith)))
+
+  -- each of the messages has a worker
+  none_homeless : (owners : Option (List ℕ)) (n : ℕ) (xs : List (Signed Event)) → ((e : Event) → 0 < times_among m e xs → worker_for owners n e.dst < n) → any_homeless owners n xs ≡ false
+  none_homeless owners n [] home = refl
+  none_homeless owners n (x ∷ xs) home =
+      let self = one_self m law x.event in
+      let count = of_one_sign m law x.event x xs in
+      or_from (not (nat_lt (worker_for owners n x.event.dst) n)) (any_homeless owners n xs) (ap not (lt-ltb (worker_for owners n x.event.dst) n (home x.event (omega arith))))
+      (none_homeless owners n xs (λ e h. home e (let more = of_one_sign m law e x xs in omega arith)))
 
 report_not_early : (b : ℕ) (report : Option ℕ) → IfSome report (λ time. b ≤ time) → option_map_or (λ time. nat_lt time b) report false ≡ false
 report_not_early b None h = refl
@@ -94,7 +105,7 @@ told_late : (x : Board) (stop : ℕ) (s q : Share) → IsMet (s ∷ []) x → x.
 told_late x stop s q met same kept none =
     let at = here x s met in
     subst (λ o. IfSome o (λ time. x.bound ≤ time)) (told_is s.shard.case q none)
-    (report_late (simulation s.shard.case) (lawful s.shard.case at.is_case) (owner (workers x)) (board_of x) (place_of s) (place_of q) at.board at.stands (keeps_here x stop s q same kept))
+    (report_late (simulation s.shard.case) (lawful s.shard.case at.is_case) (who x) (board_of x) (place_of s) (place_of q) at.board at.stands (keeps_here x stop s q same kept))
 
 pub not_early : (x : Board) (stop : ℕ) (s q : Share) → IsMet (s ∷ []) x → x.stop ≡ stop → Kept stop s q → q.mail ≡ [] → is_early q.unsent (told_of q) x ≡ false
 not_early x stop s q met same kept none =
@@ -104,7 +115,17 @@ not_early x stop s q met same kept none =
     or_from (option_map_or (λ time. nat_lt time x.bound) (told_of q) false) (list_any (λ y. nat_lt y.event.time x.bound) q.unsent)
     (report_not_early x.bound (told_of q) (told_late x stop s q met same kept none))
     (none_early m law x.bound q.unsent
-    (λ e h. unsent_late m law (owner (workers x)) (board_of x) (place_of s) (place_of q) e at.board at.stands (keeps_here x stop s q same kept) h))
+    (λ e h. unsent_late m law (who x) (board_of x) (place_of s) (place_of q) e at.board at.stands (keeps_here x stop s q same kept) h))
+
+-- and what is unsent has workers
+pub not_homeless : (x : Board) (stop : ℕ) (s q : Share) → IsMet (s ∷ []) x → x.stop ≡ stop → Kept stop s q → is_homeless q.unsent x ≡ false
+not_homeless x stop s q met same kept =
+    let at = here x s met in
+    let case = s.shard.case in
+    let m = simulation case in
+    let law = lawful case at.is_case in
+    none_homeless m law x.owners (workers x) q.unsent
+    (λ e h. at.routers e.dst (suits_within case.net e.dst e at.is_case.net (unsent_suits m law (who x) (board_of x).stop (place_of s) (place_of q) e (keeps_here x stop s q same kept) h)))
 
 -- what was asked of a visit, and what it left
 pub record IsVisited (x y : Board) (s q t : Share) : Type 0 where
@@ -127,28 +148,30 @@ visited_whole x y stop s q t met board same kept none sorted rises is =
     let at = here x s met in
     let m = simulation s.shard.case in
     let law = lawful s.shard.case at.is_case in
-    let who = owner (workers x) in
     let w = s.shard.worker in
     let keeps = keeps_here x stop s q same kept in
     let mail = handed w q.unsent x in
     let b = max q.shard.bound y.bound in
     let z = visited w q.unsent (told_of q) x in
-    let visit : IsVisit m who w q.unsent (told_of q) mail (board_of x) (board_of y)
-    = subst (λ (v : Board). IsVisit m who w q.unsent (told_of q) mail (board_of x) (board_of v)) (sym is.board)
-    (is_visit s.shard.case x w q.unsent (told_of q) at.is_case board at.stands.worker (not_early x stop s q met same kept none)) in
+    let visit : IsVisit m (who x) w q.unsent (told_of q) mail (board_of x) (board_of y)
+    = subst (λ (v : Board). IsVisit m (who x) w q.unsent (told_of q) mail (board_of x) (board_of v)) (sym is.board)
+    (is_visit s.shard.case x w q.unsent (told_of q) at.is_case board at.stands.worker (not_early x stop s q met same kept none) (not_homeless x stop s q met same kept)) in
     let tells : Tells m (told_of q) (place_of q) = subst (λ o. Tells m o (place_of q)) (told_is s.shard.case q none) (tells_all m law (place_of q)) in
     let known : q.shard.bound ≤ y.bound = (let k = keeps.bound in let l = at.stands.bound in omega arith) in
     let least : q.shard.bound ≤ b = omega arith in
     let most : b ≤ y.bound = omega arith in
-    let may = may_visit m law who (board_of x) (board_of y) (place_of s) (place_of q) (told_of q) mail at.board at.stands keeps visit sorted tells b least most in
+    let may = may_visit m law (who x) (board_of x) (board_of y) (place_of s) (place_of q) (told_of q) mail at.board at.stands keeps visit sorted tells b least most in
     record {
       case = ap (λ c. c.case) is.shard ∙ kept.case;
-      give = subst (MayGive m who (board_of x) (place_of s) (board_of y)) (place_told x y s q t is none) may;
+      owners = ap (λ (b : Board). b.owners) is.board;
+      give = subst (MayGive m (who x) (board_of x) (place_of s) (board_of y)) (place_told x y s q t is none) may;
     }
 
 pub visited_given : (x y : Board) (stop : ℕ) (s q t : Share) → IsMet (s ∷ []) x → IsBoard x → x.stop ≡ stop → Kept stop s q → q.mail ≡ [] → q.shard.outgoing ≡ [] → x.bound ≤ y.bound
     → IsVisited x y s q t → MayBeGiven x s y t
-visited_given x y stop s q t met board same kept none sorted rises is = own_part x y s t (visited_whole x y stop s q t met board same kept none sorted rises is)
+visited_given x y stop s q t met board same kept none sorted rises is =
+    let whole = visited_whole x y stop s q t met board same kept none sorted rises is in
+    own_part x y s t whole.case whole.give
 
 sooner : {S : Type 0} (m : Simulation S Event) (a b : ℕ) (p : Place Event) → b ≤ a → IsFrom m a p → IsFrom m b p
 sooner m a b p le from e h = let old = from e h in omega arith
@@ -157,15 +180,14 @@ sooner m a b p le from e h = let old = from e h in omega arith
 
 pub at_work : (case : Case) (x : Board) (shares : List Share) (i : ℕ) (s : Share) → IsRuled case x shares → slice_get shares i ≡ Some s → IsAtWork x.stop s
 at_work case x shares i s ruled place =
-    let who = owner (workers x) in
     let same = all_at (λ (t : Share). t.shard.case ≡ case) shares i s place ruled.cases in
-    let stands = all_at (Stands (simulation case) who (board_of x)) (map place_of shares) i (place_of s) (get_map place_of shares i s place) ruled.rule.each in
-    let at = here_at case x s same ruled.is_case ruled.rule.board stands in
+    let stands = all_at (Stands (simulation case) (who x) (board_of x)) (map place_of shares) i (place_of s) (get_map place_of shares i s place) ruled.rule.each in
+    let at = here_at case x s same ruled.is_case ruled.rule.board stands ruled.rule.routers in
     let m = simulation s.shard.case in
     record {
       case = at.is_case;
       place = at.stands.place;
-      late = sooner m x.bound s.shard.bound (place_of s) at.stands.bound (stands_from m (lawful s.shard.case at.is_case) who (board_of x) (place_of s) at.board at.stands);
+      late = sooner m x.bound s.shard.bound (place_of s) at.stands.bound (stands_from m (lawful s.shard.case at.is_case) (who x) (board_of x) (place_of s) at.board at.stands);
       run = run_before case x shares i s.shard.bound s ruled place at.stands.bound;
     }
 
@@ -176,10 +198,11 @@ work_given x y stop s t met same may =
 
 -- ---- why a visit is refused
 
-pub for_memory : (why : OrMemory VisitFault) (n : ℕ) → (why ≡ Fault NoWorker → ⊥) → (why ≡ Fault Early → ⊥) → (why ≡ Memory → 0 < n) → 0 < n
-for_memory (Fault NoWorker) n there soon enough = absurd (there refl)
-for_memory (Fault Early) n there soon enough = absurd (soon refl)
-for_memory Memory n there soon enough = enough refl
+pub for_memory : (why : OrMemory VisitFault) (n : ℕ) → (why ≡ Fault NoWorker → ⊥) → (why ≡ Fault Early → ⊥) → (why ≡ Fault NoRouter → ⊥) → (why ≡ Memory → 0 < n) → 0 < n
+for_memory (Fault NoWorker) n there soon home enough = absurd (there refl)
+for_memory (Fault Early) n there soon home enough = absurd (soon refl)
+for_memory (Fault NoRouter) n there soon home enough = absurd (home refl)
+for_memory Memory n there soon home enough = enough refl
 
 pub same_seat : (h k l : Held) → IsSameSeat h k → IsSameSeat k l → IsSameSeat h l
 same_seat h k l one two = record {

@@ -1,11 +1,12 @@
 use Rattle.std.proofs.Common.{◌≡◌, drop, length, map}
-use Rattle.tw_exchange.specs.Board.{followed, sent_to}
+use Rattle.tw_exchange.specs.Board.{followed, sent_to, worker_for}
+use Rattle.tw_exchange.specs.Owners.{list_of}
 use Rattle.tw_exchange.specs.Rows.{HasRoom, items, soonest_of}
 use Rattle.tw_exchange.proofs.mail.push_all.Given as goal
 
 abbrev pub invariant-loop-message : goal.invariant-loop-message
-invariant-loop-message l = let workers = length l.fn.mail in record {
-  mail : followed workers 0 (drop l.message-index l.out) (items l.mail) ≡ followed workers 0 l.out (items l.initial.mail);
+invariant-loop-message l = let whose = worker_for (list_of l.fn.owners) (length l.fn.mail) in record {
+  mail : followed whose 0 (drop l.message-index l.out) (items l.mail) ≡ followed whose 0 l.out (items l.initial.mail);
   soonest : l.soonest ≡ map soonest_of (items l.mail);
-  room : HasRoom l.mail (λ w. length (sent_to workers w (drop l.message-index l.out)));
+  room : HasRoom l.mail (λ w. length (sent_to whose w (drop l.message-index l.out)));
 }

@@ -1,7 +1,7 @@
 use Rattle.std.proofs.Common.{map, min, ◌++◌, ap, ◌∙◌}
 use Rattle.std.specs.List.{reduce}
 use Rattle.tw_rule.proofs.Least.{none_told}
-use Rattle.tw_rule.proofs.Visits.{report_late, tells_all, unsent_late}
+use Rattle.tw_rule.proofs.Visits.{report_late, tells_all, unsent_late, unsent_suits}
 use Rattle.tw_rule.specs.Board.{least_report}
 use Rattle.tw_rule.proofs.laws.visits_are_welcome.Goals as goal
 
@@ -18,3 +18,6 @@ returns-clause-report c = λ start m law who x p q board stands keeps. report_la
 
 pub returns-clause-unsent : goal.returns-clause-unsent
 returns-clause-unsent c = λ start m law who x p q e board stands keeps h. unsent_late m law who x p q e board stands keeps h
+
+pub returns-clause-suited : goal.returns-clause-suited
+returns-clause-suited c = λ start m law stop p q e keeps h. unsent_suits m law (λ r. 0) stop p q e keeps h

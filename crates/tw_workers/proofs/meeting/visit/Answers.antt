@@ -1,10 +1,10 @@
 use Rattle.std.proofs.Common.{◌≡◌, ◌≤◌, ◌<◌, false, length, max, ap, sym, ◌∙◌, subst}
-use Rattle.tw_exchange.specs.Board.{handed, is_early, visited}
+use Rattle.tw_exchange.specs.Board.{handed, is_early, is_homeless, visited}
 use Rattle.tw_table.proofs.Rules.{IsGiven, own_part}
 use Rattle.tw_table.specs.Seats.{exchange_of, share_of, taken_by}
 use Rattle.tw_table.specs.Shares.{MayBeGiven, board_of, share}
 use Rattle.tw_workers.proofs.Places.{drop_none}
-use Rattle.tw_workers.proofs.Visits.{IsVisited, for_memory, not_early, same_seat, stayed_given, visited_whole, work_given}
+use Rattle.tw_workers.proofs.Visits.{IsVisited, for_memory, not_early, not_homeless, same_seat, stayed_given, visited_whole, work_given}
 use Rattle.tw_workers.proofs.meeting.visit.Goals.{After-told}
 use Rattle.tw_workers.proofs.meeting.visit.Goals as goal
 
@@ -34,7 +34,7 @@ visit_given c =
 pub returns-in-Ok-clause-given : goal.returns-in-Ok-clause-given
 returns-in-Ok-clause-given c =
     own_part (taken_by c.args.held.now) (exchange_of c.visit.new.self) (share_of c.args.held.now)
-    (share c.raise_bound.new.self (record { mail = c.in-Ok.visit.mail; next = 0; out = c.replace-out.new.dest })) (visit_given c)
+    (share c.raise_bound.new.self (record { mail = c.in-Ok.visit.mail; next = 0; out = c.replace-out.new.dest })) (visit_given c).case (visit_given c).give
 
 pub returns-in-Ok-clause-work : goal.returns-in-Ok-clause-work
 returns-in-Ok-clause-work c =
@@ -64,5 +64,7 @@ returns-in-Err-clause-refused c = λ is.
     let out = c.replace-out.ensures.value in
     let soon : is_early c.replace-out.result.items c.report_time.result (exchange_of c.args.held.now) ≡ false =
     (λ i. is_early (out i).items (c.report_time.ensures i) (c.requires.fresh i)) ∙ not_early x c.args.stop s q c.requires.met c.requires.stop c.requires.kept c.requires.delivered in
-    for_memory c.in-Err.back.why _ c.in-Err.ensures.there (λ why. cc (soon, c.in-Err.ensures.early.0 why))
+    let home : is_homeless c.replace-out.result.items (exchange_of c.args.held.now) ≡ false =
+    (λ i. is_homeless (out i).items (c.requires.fresh i)) ∙ not_homeless x c.args.stop s q c.requires.met c.requires.stop c.requires.kept in
+    for_memory c.in-Err.back.why _ c.in-Err.ensures.there (λ why. cc (soon, c.in-Err.ensures.early.0 why)) (λ why. cc (home, (c.in-Err.ensures.no_router.0 why).1))
     (λ why. subst (λ v. 0 < length v.items) out (c.in-Err.ensures.memory why))

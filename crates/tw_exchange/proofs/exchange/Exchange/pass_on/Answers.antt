@@ -3,8 +3,9 @@ use Rattle.std.proofs.lemmas.List.{with_items_is}
 use Rattle.std.specs.List.{flat_map, fold}
 use Rattle.std.specs.Option.{option_to_list}
 use Rattle.std.specs.Vec.{with_item, with_items}
-use Rattle.tw_exchange.specs.Board.{followed, handed, is_early, least_report, visited}
+use Rattle.tw_exchange.specs.Board.{followed, handed, is_early, least_report, visited, worker_for}
 use Rattle.tw_exchange.specs.Inside.{board_of}
+use Rattle.tw_exchange.specs.Owners.{list_of}
 use Rattle.tw_exchange.specs.Rows.{items, soonest_of}
 use Rattle.tw_exchange.specs.declared.exchange.Exchange.TheInside.{Inside}
 use Rattle.tw_exchange.proofs.Boards.{visited_rises}
@@ -19,6 +20,7 @@ after c =
     record {
       alloc = a.alloc;
       workers = a.workers;
+      owners = a.owners;
       mail = with_items (with_items a.mail c.deposit.new.mail) c.hand_out-mail.new.mail;
       soonest = with_items (with_items a.soonest c.deposit.new.soonest) c.hand_out-mail.new.soonest;
       counts = with_items a.counts c.deposit.new.counts;
@@ -39,10 +41,10 @@ soonest_after : (c : After-self-7-1) → (after c).soonest.items ≡ c.hand_out-
 soonest_after c = with_items_is (with_items c.self.inside.soonest c.deposit.new.soonest) c.hand_out-mail.new.soonest (c.hand_out-mail.auto.soonest ∙ c.deref_mut-5.ensures.len)
 
 -- all mail after the deposit
-all_mail : (c : After-self-7-1) → items c.deref_mut-4.result.now ≡ followed (length c.self.inside.mail.items) 0 c.args.out.now (items c.self.inside.mail.items)
+all_mail : (c : After-self-7-1) → items c.deref_mut-4.result.now ≡ followed (worker_for (list_of c.self.inside.owners) (length c.self.inside.mail.items)) 0 c.args.out.now (items c.self.inside.mail.items)
 all_mail c =
     ap items (c.deref_mut-4.ensures.value ∙ mail_between c)
-    ∙ (c.in_ok-deposit.ensures.ok ∙ λ i. followed (length (c.deref_mut.ensures.value i)) 0 c.args.out.now (items (c.deref_mut.ensures.value i)))
+    ∙ (c.in_ok-deposit.ensures.ok ∙ λ i. followed (worker_for (list_of c.self.inside.owners) (length (c.deref_mut.ensures.value i))) 0 c.args.out.now (items (c.deref_mut.ensures.value i)))
 
 handed_is : (c : After-self-7-1) → c.hand_out-mail.result.items ≡ handed c.args.worker c.args.out.now (board_of c.self.inside)
 handed_is c =
@@ -56,6 +58,7 @@ passed_on c =
     let a = c.self.inside in
     let w = c.args.worker in
     record {
+      owners = refl;
       mail = ap items (mail_after c) ∙ (c.hand_out-mail.ensures.rest ∙ ap (λ mail. set mail w []) (all_mail c));
       soonest = soonest_after c ∙ (c.hand_out-mail.ensures.soonest ∙ ap (λ mail. map soonest_of (items mail)) (sym (mail_after c)));
       reports = ap (λ r. set a.reports.items w r) (c.least_report.ensures ∙ ap (least_report c.args.report) (c.deref.ensures.value ∙ handed_is c));

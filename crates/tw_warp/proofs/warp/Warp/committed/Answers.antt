@@ -1,6 +1,6 @@
 use Rattle.std.proofs.Common.{ap, sym, ◌∙◌, subst}
 use Rattle.tw_shard.specs.Shards.{HaveAll, KeepAll, committed_of_all}
-use Rattle.tw_warp.proofs.AllShards.{have_all, keep_all}
+use Rattle.tw_warp.proofs.AllShards.{have_all, keep_all, same_committed}
 use Rattle.tw_warp.proofs.Together.{are_run}
 use Rattle.tw_warp.specs.Committed.{committed_events}
 use Rattle.tw_warp.specs.Inside.{warp_of}
@@ -18,7 +18,7 @@ committed_events-requires c =
 pub returns-clause-value : goal.returns-clause-value
 returns-clause-value c =
     let w = warp_of c.self.inside in
-    c.in_ok-events.ensures ∙ (ap (committed_of_all w.case) c.deref.ensures.value ∙ ap committed_events c.self.view_is)
+    c.in_ok-events.ensures ∙ (ap (committed_of_all w.case) c.deref.ensures.value ∙ (same_committed w c.self.invariant ∙ ap committed_events c.self.view_is))
 
 pub returns-clause-run : goal.returns-clause-run
 returns-clause-run c = λ all.

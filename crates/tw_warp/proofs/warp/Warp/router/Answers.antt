@@ -1,10 +1,11 @@
-use Rattle.std.proofs.Common.{◌<◌, List, length, ap, sym, ◌∙◌, subst}
+use Rattle.std.proofs.Common.{ℕ, ◌<◌, List, length, ap, sym, ◌∙◌, subst}
+use Rattle.tw_event.specs.declared.event.Event.{Event}
 use Rattle.tw_shard.proofs.CommittedEvents.{own_there, router_there, told}
 use Rattle.tw_shard.specs.Shard.{Shard}
 use Rattle.tw_shard.specs.Shards.{HaveAll, history_in}
-use Rattle.tw_warp.proofs.AllShards.{have_all}
+use Rattle.tw_warp.proofs.AllShards.{have_all, histories}
 use Rattle.tw_warp.specs.Inside.{warp_of}
-use Rattle.tw_warp.specs.Warp.{Warp}
+use Rattle.tw_warp.specs.Warp.{Warp, core}
 use Rattle.tw_warp.proofs.warp.Warp.router.Goals as goal
 
 pub shard_for-requires : goal.shard_for-requires
@@ -23,4 +24,5 @@ returns c =
     ∙ (router_there w.case c.deref.result.now (subst (HaveAll w.case) (sym c.deref.ensures.value) (have_all w c.self.invariant)) c.args.router
     (subst (λ (v : Warp). c.args.router < v.case.net.nodes) (sym c.self.view_is) c.requires) c.shard_for.result.now c.shard_for.ensures
     ∙ (ap (λ (ss : List Shard). told w.case c.args.router (history_in ss c.args.router)) c.deref.ensures.value
-    ∙ ap (λ (v : Warp). told v.case c.args.router (history_in v.shards c.args.router)) c.self.view_is))
+    ∙ (ap (λ (h : ℕ → List Event). told w.case c.args.router (h c.args.router)) (histories w c.self.invariant)
+    ∙ ap (λ (v : Warp). told v.case c.args.router ((core v).history c.args.router)) c.self.view_is)))

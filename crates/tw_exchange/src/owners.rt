@@ -1,0 +1,68 @@
+//! Which worker has a router: a list says it, or routers are dealt out in turn.
+
+ghost use Rattle.std.specs.Prelude.{◌≡◌, ◌<◌, length, nat_lt, slice_set};
+ghost use Rattle.std.specs.Option.{IsSomeAnd, option_map};
+ghost use Rattle.tw_exchange.specs.Board.{any_homeless, worker_for};
+ghost use Rattle.tw_exchange.specs.Owners.{list_of};
+
+use tw_event::Event;
+use tw_sim::{Signed, owner};
+
+/// What says the worker of a router.
+#[derive(Drop)]
+pub enum Owners {
+    /// Routers are dealt out in turn: router r is worker r mod their number's.
+    InTurn,
+    /// The worker of each router, from router 0 on. A number that no worker has, and the list's end, stand
+    /// for none.
+    Listed(Vec<u32>),
+}
+
+impl Owners {
+    /// The worker of a router, of so many: a number that none of them has where it has no worker.
+    #[inline(always)]
+    pub fn worker_for(&self, router: u32, workers: usize) -> usize
+        requires { 0 < workers }
+        ensures { result ≡ worker_for (list_of self.now) workers router }
+    {
+        match self {
+            Owners::InTurn => owner(router, workers),
+            Owners::Listed(list) => match list.get(router as usize) {
+                Some(worker) => *worker as usize,
+                None => workers,
+            },
+        }
+    }
+
+    /// Whether one of so many workers has a router.
+    #[inline(always)]
+    fn has_worker(&self, router: u32, workers: usize) -> bool
+        requires { 0 < workers }
+        ensures { result ≡ nat_lt (worker_for (list_of self.now) workers router) workers }
+    {
+        self.worker_for(router, workers) < workers
+    }
+
+    /// Whether a message is for a router that none of so many workers has.
+    pub fn is_any_homeless(&self, out: &[Signed<Event>], workers: usize) -> bool
+        requires { 0 < workers }
+        ensures { result ≡ any_homeless (list_of self.now) workers out.now }
+    {
+        match self {
+            Owners::InTurn => false,
+            Owners::Listed(_) => out
+                .iter()
+                .any(|message| !self.has_worker(message.event.dst, workers)),
+        }
+    }
+
+    /// Writes another worker of a router, where a list says it.
+    pub fn set(&mut self, router: u32, worker: u32)
+        requires { IsSomeAnd (list_of self.old) (λ list. router < length list) }
+        ensures { list_of self.new ≡ option_map (λ list. slice_set list router worker) (list_of self.old) }
+    {
+        if let Owners::Listed(list) = self {
+            list[router as usize] = worker;
+        }
+    }
+}
