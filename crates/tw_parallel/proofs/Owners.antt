@@ -1,5 +1,5 @@
 -- What the rule tells of a run: it is the one-thread run, and its shards have of each router what the whole machine has.
-use Rattle.std.proofs.Common.{◌≡◌, ℕ, ◌+◌, ◌-◌, ◌<◌, ◌≤◌, true, false, List, [], ◌∷◌, ◌++◌, flat_map, length, map, nat_lt, slice_get, Some, refl, ap, sym, ◌∙◌, subst, inl, inr, arith}
+use Rattle.std.proofs.Common.{◌≡◌, ℕ, ◌+◌, ◌-◌, ◌<◌, ◌≤◌, true, false, List, [], ◌∷◌, ◌++◌, flat_map, get_or, length, map, nat_lt, slice_get, Some, refl, ap, sym, ◌∙◌, subst, inl, inr, arith}
 use Rattle.std.proofs.Math.Path.{fun_ext}
 use Rattle.std.proofs.lemmas.Bool.{cases_Bool, eq-eqb, ltb-false, ltb-true}
 use Rattle.std.proofs.lemmas.Simd.{map-map}
@@ -12,9 +12,8 @@ use Rattle.tw_core.specs.Parts.{Part, at_owner, total}
 use Rattle.tw_core.specs.Run.{IsSeq}
 use Rattle.tw_event.specs.declared.event.Event.{Event}
 use Rattle.tw_event.specs.Order.{event_before}
-use Rattle.tw_exchange.specs.Board.{workers}
+use Rattle.tw_exchange.specs.Board.{who, workers}
 use Rattle.tw_sim.specs.Ordered.{insert_all}
-use Rattle.tw_sim.specs.Owners.{owner}
 use Rattle.tw_model.proofs.Lawful.{lawful, numbered}
 use Rattle.tw_model.specs.Case.{simulation}
 use Rattle.tw_model.specs.declared.limits.TheConstants.{LATEST}
@@ -31,6 +30,7 @@ use Rattle.tw_rule.proofs.Ruled.{done_of, good_of_rule, history_of, seq_of_rule}
 use Rattle.tw_rule.specs.Place.{Place, part_of, whole}
 use Rattle.tw_rule.specs.Rule.{Stands}
 use Rattle.tw_shard.proofs.CommittedEvents.{told}
+use Rattle.tw_shard.proofs.Found.{found_at, one_of_all}
 use Rattle.tw_shard.specs.Shard.{Shard, core, no_shard, owns}
 use Rattle.tw_shard.specs.Shards.{HaveAll, KeepAll, ahead_of_all, change_of_all, committed_of_all, ends_of_all, greatest, history_in, shard_for}
 use Rattle.tw_shard.specs.Timeline.{last_change_at}
@@ -51,31 +51,36 @@ module _ (s : Sim) (is : IsSim s) where
   law = lawful s.case is.ruled.is_case
 
   pub good_of : IsGood (simulation s.case) (machine s)
-  good_of = good_of_rule (simulation s.case) law (owner (workers s.board)) (board_of s.board) (map place_of s.shares) is.ruled.rule
+  good_of = good_of_rule (simulation s.case) law (who s.board) (board_of s.board) (map place_of s.shares) is.ruled.rule
 
   pub seq_of : IsSeq (simulation s.case) (machine s)
-  seq_of = seq_of_rule (simulation s.case) law (owner (workers s.board)) (numbered s.case is.ruled.is_case) (board_of s.board) (map place_of s.shares) is.ruled.rule
+  seq_of = seq_of_rule (simulation s.case) law (who s.board) (numbered s.case is.ruled.is_case) (board_of s.board) (map place_of s.shares) is.ruled.rule
 
   pub long : length s.shares ≡ workers s.board
   long = is.ruled.count
 
-  -- the share at the place of a router's worker
-  has_at : (r : ℕ) → r < s.case.net.nodes → (t : Share) → slice_get s.shares (owner (workers s.board) r) ≡ Some t → Has s r t.shard
-  has_at r l t there =
-      let n = workers s.board in
+  -- a share that has a router
+  has_at : (r : ℕ) → r < s.case.net.nodes → (k : ℕ) (t : Share) → slice_get s.shares k ≡ Some t → owns t.shard r ≡ true → Has s r t.shard
+  has_at r l k t there own =
       let ps = map place_of s.shares in
       let x = board_of s.board in
-      let place = get_map place_of s.shares (owner n r) t there in
-      let stands = all_at (Stands (simulation s.case) (owner n) x) ps (owner n r) (place_of t) place is.ruled.rule.each in
-      let worker : t.shard.worker ≡ 0 + owner n r = worker_there 0 n (owner n r) s.shares t is.order there in
-      let own : owns t.shard r ≡ true = stands.owns r l ∙ eq-eqb (owner n r) t.shard.worker (omega arith) in
+      let place = get_map place_of s.shares k t there in
       record {
-        case = all_at (λ (t : Share). t.shard.case ≡ s.case) s.shares (owner n r) t there is.ruled.cases;
+        case = all_at (λ (t : Share). t.shard.case ≡ s.case) s.shares k t there is.ruled.cases;
         own = own;
-        history = sym (history_of (simulation s.case) law (owner n) x ps (owner n r) r (place_of t) is.ruled.rule place l own);
-        done = sym (done_of (simulation s.case) law (owner n) x ps (owner n r) r (place_of t) is.ruled.rule place l own);
-        keeps = λ all. all_at (λ (t : Share). t.shard.keeps ≡ true) s.shares (owner n r) t there all;
+        history = sym (history_of (simulation s.case) law (who s.board) x ps k r (place_of t) is.ruled.rule place l own);
+        done = sym (done_of (simulation s.case) law (who s.board) x ps k r (place_of t) is.ruled.rule place l own);
+        keeps = λ all. all_at (λ (t : Share). t.shard.keeps ≡ true) s.shares k t there all;
       }
+
+  -- the share at the place of a router's worker has it
+  own_at : (r : ℕ) → r < s.case.net.nodes → (t : Share) → slice_get s.shares (who s.board r) ≡ Some t → owns t.shard r ≡ true
+  own_at r l t there =
+      let k = who s.board r in
+      let place = get_map place_of s.shares k t there in
+      let stands = all_at (Stands (simulation s.case) (who s.board) (board_of s.board)) (map place_of s.shares) k (place_of t) place is.ruled.rule.each in
+      let worker : t.shard.worker ≡ 0 + k = worker_there 0 (workers s.board) k s.shares t is.order there in
+      stands.owns r l ∙ eq-eqb k t.shard.worker (omega arith)
 
 -- what waits at all workers
 pub pending_of : (stop : ℕ) (ss : List Shard) (hs : List Hand) → length hs ≡ length ss
@@ -94,22 +99,33 @@ module _ (a : Inside) (is : IsInside a) where
   abbrev m : Simulation State Event
   m = simulation s.case
 
-  -- the share of the worker that has router r
-  placed : (r : ℕ) → (h : Hand) × (slice_get s.shares (owner (workers s.board) r) ≡ Some (share (shard_for ss r) h))
-  placed r =
-      let many : length (shares_of ss a.hands.items) ≡ workers s.board = long s is.sim in
-      let count = long_shares ss a.hands.items is.hands in
-      let all : length ss ≡ workers s.board = omega arith in
-      let some = is.sim.some in
-      let within : owner (length ss) r < length ss = omega arith in
-      let found = share_there ss a.hands.items (owner (length ss) r) no_shard is.hands within in
-      (found.0, ap (λ n. slice_get s.shares (owner n r)) (sym all) ∙ found.1)
+  -- there are as many shards as workers
+  all_shards : length ss ≡ workers s.board
+  all_shards = let many : length (shares_of ss a.hands.items) ≡ workers s.board = long s is.sim in let count = long_shares ss a.hands.items is.hands in omega arith
+
+  -- the shard of a router's worker has it
+  own_there : (r : ℕ) → r < s.case.net.nodes → (who s.board r < length ss) × (owns (get_or ss (who s.board r) no_shard) r ≡ true)
+  own_there r known =
+      let home : who s.board r < workers s.board = is.sim.ruled.rule.routers r known in
+      let all = all_shards in
+      let within : who s.board r < length ss = omega arith in
+      let found = share_there ss a.hands.items (who s.board r) no_shard is.hands within in
+      (within, own_at s is.sim r known (share (get_or ss (who s.board r) no_shard) found.0) found.1)
 
   has_there : (r : ℕ) → r < s.case.net.nodes → Has s r (shard_for ss r)
-  has_there r known = let found = placed r in has_at s is.sim r known (share (shard_for ss r) found.0) found.1
+  has_there r known =
+      let home = own_there r known in
+      let at = found_at ss r (who s.board r) home.0 home.1 in
+      let found = share_there ss a.hands.items at.0 no_shard is.hands at.1 in
+      subst (Has s r) (sym at.2) (has_at s is.sim r known at.0 (share (get_or ss at.0 no_shard) found.0) found.1 at.3)
 
   known_there : (r : ℕ) → owns (shard_for ss r) r ≡ true → r < s.case.net.nodes
-  known_there r = let found = placed r in all_at (AreOf s.case) s.shares (owner (workers s.board) r) (share (shard_for ss r) found.0) found.1 is.sim.known r
+  known_there r own =
+      let all = all_shards in
+      let some = is.sim.some in
+      let at = one_of_all ss r (omega arith) in
+      let found = share_there ss a.hands.items at.0 no_shard is.hands at.1 in
+      all_at (AreOf s.case) s.shares at.0 (share (get_or ss at.0 no_shard) found.0) found.1 is.sim.known r (ap (λ x. owns x r) (sym at.2) ∙ own)
 
   -- the shards are all of the case
   pub have_all : HaveAll s.case ss
@@ -198,7 +214,7 @@ reopens s is stop least most = record {
     is_case = is.ruled.is_case;
     cases = is.ruled.cases;
     count = is.ruled.count;
-    rule = rule_reopens (simulation s.case) (owner (workers s.board)) (board_of s.board) (map place_of s.shares) stop least is.ruled.rule;
+    rule = rule_reopens (simulation s.case) (who s.board) (board_of s.board) (map place_of s.shares) stop least is.ruled.rule;
   };
   known = is.known;
   stop = most;
