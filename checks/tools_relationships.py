@@ -7,7 +7,7 @@ from collections import Counter
 from pathlib import Path
 
 import tools_common
-from tools_common import INPUTS, Done, ToolTest, read, tool
+from tools_common import INPUTS, TOP, Done, ToolTest, read, tool
 
 BAD_RELATIONSHIPS = [
     ("10|20\n", 1, "2 fields"),
@@ -20,6 +20,33 @@ BAD_RELATIONSHIPS = [
     ("10|10|0\n", 1, "AS 10 is its own neighbour"),
     ("10|20|-1\n\n20|10|0\n", 3, "AS 20 and AS 10 stand together on line 1 already"),
 ]
+
+
+def by_ases(case: str, numbers: str) -> list[tuple[str, list[int], list[int]]]:
+    """The lines of a case by AS numbers, in an order that routers' numbers do not decide.
+
+    Of each its word, the ASes, of a path in their order, and its other number, if it has one.
+    """
+    ases = [int(line.split()[1]) for line in numbers.splitlines()]
+    lines = []
+    for line in case.splitlines():
+        word, *fields = line.split()
+        given = [int(field) for field in fields]
+        if word == "link":
+            lines.append((word, sorted(ases[end] for end in given[:2]), given[2:]))
+        elif word in ("fail", "restore"):
+            lines.append((word, sorted(ases[end] for end in given[1:]), given[:1]))
+        elif word == "path":
+            lines.append((word, [ases[node] for node in given[1:]], []))
+        else:
+            lines.append((word, [], given))
+    # The sort is stable, so a router's paths stay in their order.
+    return sorted(lines, key=lambda line: line if line[0] != "path" else (line[0], line[1][:1], []))
+
+
+def distance(case: str) -> int:
+    """How far apart the ends of links are in number, summed over all links."""
+    return sum(abs(int(a) - int(b)) for a, b in re.findall(r"^link (\d+) (\d+)", case, re.M))
 
 
 class Relationships(ToolTest):
@@ -102,6 +129,21 @@ class Relationships(ToolTest):
         )
         self.assertEqual((len(failed), failed.keys()), (4, repaired.keys()))
         self.assertTrue(all(1 <= failed[link] < repaired[link] <= 50 for link in failed))
+
+    def test_an_order_in_which_neighbours_are_near(self) -> None:
+        cases, numbers = {}, {}
+        with tempfile.TemporaryDirectory() as folder:
+            for order in ("taken", "near"):
+                file = Path(folder) / order
+                cases[order] = self.make(
+                    "--order", order, "--destination", 2603, "--failures", 5, "--map", file,
+                    TOP / "tools" / "examples" / "research-networks.txt",
+                ).out
+                numbers[order] = file.read_text()
+        self.assertEqual(*(by_ases(cases[order], numbers[order]) for order in cases))
+        self.assertTrue(numbers["near"].startswith("0 2603\n"), numbers["near"])
+        self.assertLess(distance(cases["near"]), distance(cases["taken"]))
+        self.assert_done(tool("draw", stdin=cases["near"]))
 
     def test_a_bad_line_is_named(self) -> None:
         for text, line, why in BAD_RELATIONSHIPS:

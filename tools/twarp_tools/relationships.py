@@ -20,6 +20,7 @@ from twarp_tools.case import (
     LinkScene,
 )
 from twarp_tools.command import Parser, Refused, number_between, range_between, tell, write_output
+from twarp_tools.ordering import near_order
 from twarp_tools.packed import read_stream
 from twarp_tools.policy import Permitted
 from twarp_tools.topology import GREATEST_AS, Growth, Neighbours, Role, Topology, read_relationships
@@ -29,7 +30,8 @@ Makes a case of AS relationships, on standard output.
 
 The input has lines as provider|customer|-1 and peer|peer|0, as CAIDA publishes them (serial-1, and serial-2, whose
 fourth field is let pass), and lines that begin with #. It may be packed by gzip or bzip2. The destination becomes
-router 0, and the ASes nearest to it the routers 1, 2, ..
+router 0, and the ASes nearest to it the routers 1, 2, .., or, with --order near, in an order in which neighbours are
+near in number.
 
 A path is permitted where it has no valley: it goes up to providers, then by at most one link between peers, then down
 to customers. Paths by way of customers are better than those by way of peers, and these better than those by way of
@@ -73,6 +75,12 @@ def command_line(words: Sequence[str] | None = None) -> argparse.Namespace:
     )
     taken.add_argument(
         "--keep-connected", metavar="N", type=most, help="take at most N ASes by lot, each with a path of such ASes"
+    )
+    parser.add_argument(
+        "--order",
+        choices=["taken", "near"],
+        default="taken",
+        help="number routers as they are taken, or such that neighbours are near in number (default %(default)s)",
     )
     option("paths", "N", number_between(1, MOST_PATHS), 20, "permit at most N paths at a router")
     option("delays", "LOW-HIGH", range_between(1, GREATEST_DELAY), "1-10", "draw the delays of links from this range")
@@ -175,6 +183,8 @@ def read(line: argparse.Namespace) -> Neighbours:
 def make(neighbours: Neighbours, line: argparse.Namespace) -> tuple[Growth, Permitted, Case]:
     """What the line takes of the relationships, and the case of it."""
     growth = growth_of(neighbours, line)
+    if line.order == "near":
+        growth.renumber(near_order(growth.topology.roles))
     permitted = Permitted(growth.topology, line.paths)
     return growth, permitted, case_of(growth.topology, permitted, line)
 

@@ -6,7 +6,7 @@ import heapq
 import re
 from array import array
 from collections import defaultdict
-from collections.abc import Callable, Iterable
+from collections.abc import Callable, Iterable, Sequence
 from dataclasses import dataclass, field
 
 from twarp_tools.case import MOST_LINKS, MOST_NODES
@@ -85,6 +85,12 @@ class Topology:
     def links(self) -> list[tuple[int, int]]:
         return [(a, b) for a, row in enumerate(self.roles) for b in sorted(row) if a < b]
 
+    def in_order(self, order: Sequence[int]) -> Topology:
+        """The same, with the routers numbered as they stand in the order."""
+        routers = {router: number for number, router in enumerate(order)}
+        rows = ({routers[peer]: role for peer, role in self.roles[router].items()} for router in order)
+        return Topology([self.numbers[router] for router in order], [*rows])
+
 
 # At which place a path is looked at, by its hops and its last link's two ASes: the least comes first.
 Place = Callable[[int, int, int], float]
@@ -150,6 +156,11 @@ class Growth:
             if role is Role.CUSTOMER or not is_restricted:
                 place = self.place(hops + 1, number, peer)
                 heapq.heappush(self.found, (place, hops + 1, peer, role is not Role.PROVIDER, number))
+
+    def renumber(self, order: Sequence[int]) -> None:
+        """Numbers the routers as they stand in the order. Nothing is taken after that."""
+        self.topology = self.topology.in_order(order)
+        self.routers = {number: router for router, number in enumerate(self.topology.numbers)}
 
     def left_out_links(self) -> int:
         """How many links between the ASes taken found no room."""

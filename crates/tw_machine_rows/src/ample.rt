@@ -1,6 +1,7 @@
 //! Calls that may answer want of memory, each with memory enough: none of them does, at its first try.
 
 use crate::messages::offers_of_origin;
+use crate::moving::{hand_over, shard};
 use crate::table::sit_down;
 use std::alloc::Global;
 use tw_exchange::Exchange;
@@ -57,6 +58,25 @@ fn a_shard_handles_undoes_and_commits(rt: HostRuntime) {
         panic!(rt; "refused")
     };
     assert!(rt; opens_and_commits(rt.alloc(), &case));
+}
+
+/// Whether the origin goes from one of two workers to the other as a case begins.
+fn goes_over(alloc: Global, case: &Case) -> bool {
+    let (Some(mut from), Some(mut to)) = (
+        shard(alloc, case, 0, Cancel::Lazy),
+        shard(alloc, case, 1, Cancel::Lazy),
+    ) else {
+        return false;
+    };
+    hand_over(&mut from, 0, &mut to) == Some(Ok(()))
+}
+
+#[test]
+fn a_router_goes_to_another_shard(rt: HostRuntime) {
+    let Ok(case) = case(rt.alloc(), DISAGREE) else {
+        panic!(rt; "refused")
+    };
+    assert!(rt; goes_over(rt.alloc(), &case));
 }
 
 /// How many events wait at two workers as they begin.

@@ -14,6 +14,8 @@ mod machine;
 #[cfg(test)]
 mod messages;
 #[cfg(test)]
+mod moving;
+#[cfg(test)]
 mod rooms;
 #[cfg(test)]
 mod shards;

@@ -24,7 +24,9 @@ fn shard<'a>(alloc: Global, case: &'a Case, worker: u32) -> Result<Shard<'a>, Al
 }
 
 /// Handles the first event of a router to stop 20, once more where memory was refused.
-fn handle(shard: &mut Shard<'_>, router: u32) -> Result<(), OrMemory<Refusal>> {
+pub(crate) fn handle(shard: &mut Shard<'_>, router: u32) -> Result<(), OrMemory<Refusal>>
+    ensures { shard.new.case ≡ shard.old.case }
+{
     match shard.handle_next(router, 20) {
         Err(OrMemory::Memory) => shard.handle_next(router, 20),
         answer => answer,
@@ -32,7 +34,9 @@ fn handle(shard: &mut Shard<'_>, router: u32) -> Result<(), OrMemory<Refusal>> {
 }
 
 /// Undoes the last event of a router, once more where memory was refused.
-fn undo(shard: &mut Shard<'_>, router: u32) -> Result<(), OrMemory<Refusal>> {
+pub(crate) fn undo(shard: &mut Shard<'_>, router: u32) -> Result<(), OrMemory<Refusal>>
+    ensures { shard.new.case ≡ shard.old.case }
+{
     match shard.undo_last(router) {
         Err(OrMemory::Memory) => shard.undo_last(router),
         answer => answer,
@@ -40,7 +44,9 @@ fn undo(shard: &mut Shard<'_>, router: u32) -> Result<(), OrMemory<Refusal>> {
 }
 
 /// A message comes, once more where memory was refused.
-fn receive(shard: &mut Shard<'_>, message: Signed<Event>) -> Result<(), Returned> {
+pub(crate) fn receive(shard: &mut Shard<'_>, message: Signed<Event>) -> Result<(), Returned>
+    ensures { shard.new.case ≡ shard.old.case }
+{
     match shard.receive(message) {
         Err(
             Returned {

@@ -23,7 +23,12 @@ fn ends_well(alloc: Global, asked: Asked, text: &str) -> bool {
 
 #[test]
 fn each_program_ends_well(rt: HostRuntime) {
-    for asked in [Asked::Check, Asked::Seq { stop: 20 }, Asked::Trail] {
+    for asked in [
+        Asked::Check,
+        Asked::Seq { stop: 20 },
+        Asked::Trail,
+        Asked::Upgrade,
+    ] {
         assert!(rt; ends_well(rt.alloc(), asked, DISAGREE), "{asked:?}");
     }
     assert!(rt; ends_well(rt.alloc(), Asked::Replay, ALONE_STEPS));

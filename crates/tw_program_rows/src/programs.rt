@@ -3,9 +3,9 @@
 ghost use Rattle.std.specs.Prelude.{◌≡◌, false};
 
 use crate::devices::{AMPLE, Endless, ShortPage, Tape};
-use crate::texts::{ALONE_LOG, ALONE_REPLAY, DISAGREE_LOG, DISAGREE_TRAIL};
+use crate::texts::{ALONE_LOG, ALONE_REPLAY, DISAGREE_LOG, DISAGREE_TRAIL, DISAGREE_UPGRADED};
 use std::alloc::Global;
-use tw_commands::{Cause, Status, check_io, replay_io, seq_io, trail_io};
+use tw_commands::{Cause, Status, check_io, replay_io, seq_io, trail_io, upgrade_io};
 use tw_rows::texts::{ALONE, DISAGREE};
 use tw_sim::Cancel;
 
@@ -19,6 +19,7 @@ pub(crate) enum Asked {
     Trail,
     /// To stop 20, by one worker.
     Replay,
+    Upgrade,
 }
 
 pub(crate) fn run(
@@ -35,6 +36,7 @@ pub(crate) fn run(
         Asked::Seq { stop } => seq_io(alloc, tape, page, u64::from(stop), None, true),
         Asked::Trail => trail_io(alloc, tape, page, 1, 20, 0),
         Asked::Replay => replay_io(alloc, tape, page, 20, 1, Cancel::Aggressive),
+        Asked::Upgrade => upgrade_io(alloc, tape, page),
     }
 }
 
@@ -94,6 +96,8 @@ fn each_program_writes_to_the_byte(rt: HostRuntime) {
         (DISAGREE, Asked::Trail, DISAGREE_TRAIL),
         (DISAGREE, Asked::Check, ACCEPTED),
         (ALONE_STEPS, Asked::Replay, ALONE_REPLAY),
+        (DISAGREE, Asked::Upgrade, DISAGREE_UPGRADED),
+        (DISAGREE_UPGRADED, Asked::Upgrade, DISAGREE_UPGRADED),
     ];
     for (text, asked, written) in rows {
         assert!(rt;
@@ -110,6 +114,7 @@ fn a_text_that_is_broken_off_is_refused(rt: HostRuntime) {
         Asked::Seq { stop: 10 },
         Asked::Trail,
         Asked::Replay,
+        Asked::Upgrade,
     ] {
         let line = "refused line 3 X6 End\n";
         assert!(rt;
@@ -136,7 +141,11 @@ fn fails_with_a_prefix(alloc: Global, asked: Asked, whole: &[u8], most: usize) -
 #[test]
 fn a_sink_that_fails_has_a_prefix(rt: HostRuntime) {
     let asked = Asked::Seq { stop: 20 };
-    let rows = [(asked, DISAGREE_LOG), (Asked::Check, ACCEPTED)];
+    let rows = [
+        (asked, DISAGREE_LOG),
+        (Asked::Check, ACCEPTED),
+        (Asked::Upgrade, DISAGREE_UPGRADED),
+    ];
     for (asked, text) in rows {
         for most in [AMPLE, 1] {
             assert!(rt;
@@ -172,7 +181,11 @@ fn writes_byte_by_byte(alloc: Global, asked: Asked, text: &str) -> bool {
 #[test]
 fn a_sink_may_take_a_byte_at_a_time(rt: HostRuntime) {
     let asked = Asked::Seq { stop: 20 };
-    for (asked, text) in [(asked, DISAGREE_LOG), (Asked::Check, ACCEPTED)] {
+    for (asked, text) in [
+        (asked, DISAGREE_LOG),
+        (Asked::Check, ACCEPTED),
+        (Asked::Upgrade, DISAGREE_UPGRADED),
+    ] {
         assert!(rt; writes_byte_by_byte(rt.alloc(), asked, text));
     }
 }
@@ -186,7 +199,7 @@ fn writes_nothing(alloc: Global, asked: Asked, left: usize) -> bool {
 #[test]
 fn a_source_that_fails_leaves_nothing_written(rt: HostRuntime) {
     let seq = Asked::Seq { stop: 20 };
-    for asked in [Asked::Check, seq] {
+    for asked in [Asked::Check, Asked::Upgrade, seq] {
         for left in [0, 1, 20] {
             assert!(rt; writes_nothing(rt.alloc(), asked, left));
         }

@@ -50,3 +50,17 @@ flight 0 pending 0 kept 0 ahead 0
 event 0 0 start
 router 0 sent 0 handled 1 dropped 0 changed 1 rib (0)
 ";
+
+/// DISAGREE in version 2.
+pub(crate) const DISAGREE_UPGRADED: &str = "\
+spp 2
+nodes 3
+link 0 1 1 1
+link 0 2 5 5
+link 1 2 1 1
+path 1 1 2 0
+path 1 1 0
+path 2 2 1 0
+path 2 2 0
+end
+";

@@ -370,7 +370,7 @@ impl<'a> Shard<'a> {
     }
 
     /// The instance whose routers these are.
-    pub(crate) fn instance(&self) -> &Instance
+    pub fn instance(&self) -> &Instance
         ensures { result.now ≡ self.now.case.net }
     {
         self.case.instance()

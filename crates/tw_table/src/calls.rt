@@ -11,6 +11,7 @@ ghost use Rattle.tw_table.specs.Shares.{IsRuled, IsWhole, MayBeGiven, Share as A
 ghost use Rattle.tw_table.specs.Views.{Holds, IsMet, Knows, first_view, given, opened, took};
 
 use crate::hand::Hand;
+use crate::hints::Hints;
 use crate::rule::{Deals, Joins, Queue, Takes, Ticket, View};
 use crate::seat::{Held, Seat};
 use crate::table::{Missing, Table};
@@ -63,6 +64,7 @@ impl Table {
         let table = Table {
             queue,
             workers,
+            hints: Hints::new(),
             stop,
         };
         Ok((table, seats))
@@ -118,6 +120,7 @@ impl Table {
         } = held;
         let bound = exchange.bound();
         let halted = exchange.is_halted();
+        self.hints.tell(&exchange);
         push::<Brand, R>(rt, &self.queue, &mut pass, exchange, shard, hand);
         Seat {
             worker,
@@ -125,6 +128,12 @@ impl Table {
             halted,
             pass,
         }
+    }
+
+    /// Whether the exchange may have something for a worker that knows this bound, in ticks: mail, or a bound that has
+    /// risen. It is told beside the exchange, and no promise rests on it.
+    pub fn is_news_for(&self, worker: u32, bound: u64) -> bool {
+        self.hints.is_news_for(worker, bound)
     }
 
     /// Takes the exchange off the table for good, where all its seats are handed in: it and what the

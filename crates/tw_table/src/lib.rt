@@ -10,6 +10,7 @@
 
 mod calls;
 mod hand;
+mod hints;
 pub mod laws;
 mod rule;
 mod seat;

@@ -2,6 +2,7 @@
 ghost use Rattle.std.specs.Prelude.{◌≡◌, ◌<◌};
 ghost use Rattle.crossbeam_queue.specs.Passes.{ruled_capacity};
 
+use crate::hints::Hints;
 use crate::rule::Queue;
 use crate::seat::Seat;
 
@@ -10,6 +11,7 @@ use crate::seat::Seat;
 pub struct Table {
     pub(crate) queue: Queue,
     pub(crate) workers: u32,
+    pub(crate) hints: Hints,
     pub(crate) stop: u64,
     pub(crate) ghost one: { ruled_capacity queue ≡ 1 },
     pub(crate) ghost some: { 0 < workers },

@@ -70,13 +70,40 @@ impl<'a> Worker<'a> {
             → (r : ℕ) × (handling self.new.stop self.new.share.shard r ≡ Err refusal.CounterFull) }
         ensures stop { self.new.stop ≡ self.old.stop }
     {
+        let mut latest = None;
         for _ in 0..self.pace.batch() {
-            let least = self.receive_where_due()?;
-            if !self.handle_before(least, limit)? {
+            let next = self.next(latest)?;
+            if !self.handle_before(next, limit)? {
                 return Ok(true);
             }
+            latest = next;
         }
         Ok(false)
+    }
+
+    /// The least pending event of all, where `latest` was the least before it was handled. Most often it is of the same
+    /// router and tick, since events are in order of time and then of router; then it need not be looked for.
+    fn next(&mut self, latest: Option<Event>) -> Result<Option<Event>, AllocError>
+        requires { self.old.share.mail ≡ [] }
+        ensures kept { StillKeeps self.old self.new }
+        ensures empty { OnOk result (self.new.share.mail ≡ []) }
+        ensures stop { self.new.stop ≡ self.old.stop }
+    {
+        match self.next_beside(latest) {
+            Some(event) => Ok(Some(event)),
+            None => self.receive_where_due(),
+        }
+    }
+
+    /// The next pending event of the router of an event, if it is of the same tick.
+    fn next_beside(&self, latest: Option<Event>) -> Option<Event> {
+        let latest = latest?;
+        let next = self.shard.pending().least_at(latest.dst)?;
+        if next.time == latest.time {
+            Some(next)
+        } else {
+            None
+        }
     }
 
     /// The least pending event of all, once its routers have received what they sent one another before

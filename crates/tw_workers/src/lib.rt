@@ -17,6 +17,7 @@ pub mod laws;
 mod meeting;
 mod policy;
 mod releases;
+mod resting;
 mod rooms;
 mod worker;
 mod working;

@@ -5,26 +5,45 @@ ghost use Rattle.std.specs.Prelude.{◌≡◌, true};
 
 use std::cmp;
 use tw_event::Event;
+use tw_instance::Instance;
 use tw_model::limits::LONGEST_DELAY;
 use tw_sim::Signed;
-
-/// A window of one tick is safe: messages take a tick at least, so events of the least tick stay.
-const FIRST_WINDOW: u64 = 1;
 
 /// A window wider than the longest delay of a link lets routers run ahead of messages not yet sent.
 const WIDEST_WINDOW: u64 = LONGEST_DELAY;
 
-/// The window grows while at most one event is undone for so many handled, and falls above that: a wrong
-/// window costs more than handling a few events twice.
+/// So many turns in which something was handled are judged together: of fewer, chance decides.
+const TURNS_OF_A_SPAN: u64 = 16;
+
+/// Of so many events handled one may be undone: it is handled once more, and so are those that it sent for.
 const HANDLED_FOR_EACH_UNDONE: u64 = 20;
 
-/// A commit looks at each of the worker's routers: once in so many events that costs next to nothing, and what
-/// undoing these would need stays in a processor's cache.
-const HANDLED_FOR_EACH_COMMIT: u64 = 8_192;
+/// A turn counts like so many events handled, since a meeting costs more than undoning two events: where ticks have
+/// few events, a wide window that undoes many of them meets less often.
+const HANDLED_FOR_EACH_TURN: u64 = 40;
 
-/// Where the window has fallen it stays for so many turns that end at it before it grows again: where no
-/// wider one serves, few turns try one.
-const TURNS_BEFORE_GROWTH: u64 = 8;
+/// After its first fall the window stays for so many spans before it grows again, and after each further
+/// one for twice as many: where no wider one serves, few spans try one.
+const FIRST_WAIT: u64 = 2;
+
+/// It stays for so many at most, so that it still follows a run that changes.
+const LONGEST_WAIT: u64 = 64;
+
+/// A commit looks at each of the worker's routers: once in so many events that costs next to nothing, and what
+/// undoing these would need stays small enough for the nearest caches.
+const HANDLED_FOR_EACH_COMMIT: u64 = 2_048;
+
+/// How often an idle worker looks at what is told beside the table before it sleeps: some 40 microseconds, in
+/// which most of what it waits for comes where each worker has a processor. A worker that sleeps comes back late,
+/// and the others should still look then.
+pub(crate) const LOOKS: u32 = 8_192;
+
+/// How long it sleeps between two looks from then on, in microseconds: where other work takes the processors, one
+/// that sleeps gets its own back much sooner than one that spins or yields.
+pub(crate) const NAP_MICROS: u64 = 20;
+
+/// After so many it takes a turn, whatever is told: another worker may have told all to halt.
+pub(crate) const NAPS: u32 = 32;
 
 /// How many events were handled, and how many undone.
 #[derive(Clone, Copy, Debug)]
@@ -39,8 +58,53 @@ impl Work {
         undone: 0,
     };
 
-    fn has_much_undone(self) -> bool {
-        self.undone.saturating_mul(HANDLED_FOR_EACH_UNDONE) > self.handled
+    fn and(self, more: Work) -> Work {
+        Work {
+            handled: self.handled.saturating_add(more.handled),
+            undone: self.undone.saturating_add(more.undone),
+        }
+    }
+}
+
+/// What was done in some turns.
+#[derive(Clone, Copy, Debug)]
+struct Span {
+    work: Work,
+    // In which something was handled.
+    turns: u64,
+    // And which ended at the window.
+    at_window: u64,
+}
+
+impl Span {
+    const NONE: Span = Span {
+        work: Work::NONE,
+        turns: 0,
+        at_window: 0,
+    };
+
+    fn add(&mut self, turn: Work, at_window: bool) {
+        self.work = self.work.and(turn);
+        if turn.handled > 0 {
+            self.turns = self.turns.saturating_add(1);
+            if at_window {
+                self.at_window = self.at_window.saturating_add(1);
+            }
+        }
+    }
+
+    fn is_over(&self) -> bool {
+        self.turns >= TURNS_OF_A_SPAN
+    }
+
+    fn has_much_undone(&self) -> bool {
+        let turns = self.turns.saturating_mul(HANDLED_FOR_EACH_TURN);
+        let free = self.work.handled.saturating_add(turns);
+        self.work.undone.saturating_mul(HANDLED_FOR_EACH_UNDONE) > free
+    }
+
+    fn ends_at_window(&self) -> bool {
+        self.at_window > self.turns / 2
     }
 }
 
@@ -49,27 +113,36 @@ impl Work {
 pub(crate) struct Pace {
     batch: u32,
     window: u64,
+    // Within it no event is undone, since no message is quicker.
+    least_window: u64,
     // The time of the event handled last.
     tick: u64,
     // Since the latest meeting.
     turn: Work,
-    // That ended at the window since it fell.
-    turns: u64,
+    // Since the window was judged.
+    span: Span,
+    // How many spans the window still stays before it may grow.
+    wait: u64,
+    // And how many after its next fall.
+    next_wait: u64,
     // Handled since the latest commit.
     uncommitted: u64,
 }
 
 impl Pace {
-    /// At most so many events between two meetings.
-    pub(crate) fn new(batch: u32) -> Pace
+    /// At most so many events between two meetings, where no message takes less than `least_delay` ticks.
+    pub(crate) fn new(batch: u32, least_delay: u64) -> Pace
         ensures { result.batch ≡ batch }
     {
         Pace {
             batch,
-            window: FIRST_WINDOW,
+            window: least_delay,
+            least_window: least_delay,
             tick: 0,
             turn: Work::NONE,
-            turns: TURNS_BEFORE_GROWTH,
+            span: Span::NONE,
+            wait: 0,
+            next_wait: FIRST_WAIT,
             uncommitted: 0,
         }
     }
@@ -125,20 +198,36 @@ impl Pace {
         self.turn.undone = self.turn.undone.saturating_add(events as u64);
     }
 
-    /// A batch is over: whether it ended at the window. The window falls where much was undone, and grows
-    /// where it kept the worker from handling more.
+    /// A batch is over: whether it ended at the window. After a span of turns the window is judged.
     pub(crate) fn adapt(&mut self, at_window: bool) {
-        if self.turn.has_much_undone() {
-            self.window = cmp::max(FIRST_WINDOW, self.window / 2);
-            self.turns = 0;
-        } else if at_window && self.turn.handled > 0 {
-            self.turns = self.turns.saturating_add(1);
-            if self.turns > TURNS_BEFORE_GROWTH {
-                let wider = self.window.saturating_add(self.window / 4 + 1);
-                self.window = cmp::min(WIDEST_WINDOW, wider);
-            }
+        self.span.add(self.turn, at_window);
+        if self.span.is_over() {
+            self.judge();
+            self.span = Span::NONE;
         }
     }
+
+    /// The window falls where much was undone in a span, and grows where it kept the worker from handling more.
+    fn judge(&mut self) {
+        if self.span.has_much_undone() {
+            self.window = cmp::max(self.least_window, self.window - self.window / 4);
+            self.wait = self.next_wait;
+            self.next_wait = cmp::min(LONGEST_WAIT, self.next_wait.saturating_mul(2));
+        } else if self.wait > 0 {
+            self.wait -= 1;
+        } else if self.span.ends_at_window() {
+            let wider = self.window.saturating_add(self.window / 4 + 1);
+            self.window = cmp::min(WIDEST_WINDOW, wider);
+        }
+    }
+}
+
+/// The least delay of a link, in ticks, in either direction.
+pub(crate) fn least_delay(instance: &Instance) -> u64 {
+    instance.links().iter().fold(
+        WIDEST_WINDOW,
+        |least, link| least.min(link.delay).min(link.back),
+    )
 }
 
 /// How many events were undone for messages: so many more are pending than before than they account for.

@@ -11,7 +11,6 @@ ghost use Rattle.tw_workers.specs.Work.{HasCommitted, IsAtWork, StillKeeps};
 use crate::gate::Gate;
 use crate::meeting::Meeting;
 use crate::worker::Worker;
-use crossbeam_utils::Backoff;
 use std::sync::Wait;
 use tw_model::OrMemory;
 use tw_table::{Seat, Table};
@@ -59,28 +58,18 @@ impl<'a> Worker<'a> {
         }
         let mut seat = seat;
         let mut turn: u64 = 0;
-        let idle = Backoff::new();
         for _ in rt.forever() {
             turn = turn.saturating_add(1);
+            let known = self.shard.bound();
             let (next, leaving) = self.take_turn(rt, table, gate, seat, turn);
             if let Some(leaving) = leaving {
                 return (next, leaving);
             }
             seat = next;
-            self.rest(&idle);
+            self.rest(rt, table, known);
             self.pace.begin_turn();
         }
         unreachable!()
-    }
-
-    /// Where the latest turn had nothing to do, it waits, a little longer each time in a row: the others get on
-    /// sooner where the exchange and the processor are left to them.
-    fn rest(&self, idle: &Backoff) {
-        if self.pace.turn().handled > 0 || !self.hand.mail.is_empty() {
-            idle.reset();
-        } else {
-            idle.snooze();
-        }
     }
 
     /// The worker, who was not told to take no further turn, takes one, and is told whether it leaves.

@@ -1,0 +1,250 @@
+//! Routers that go from one shard to another, by calls: as DISAGREE begins, routers 0 and 1 are worker 0's, and
+//! router 2 is worker 1's.
+
+ghost use Rattle.std.specs.Prelude.{◌≡◌, ◌<◌, IfSome};
+
+use crate::messages::{
+    antimessage, early_offers_of_2, offers_of_1, offers_of_2, offers_of_origin,
+};
+use crate::shards::{handle, receive, undo};
+use std::alloc::Global;
+use tw_event::PathNo;
+use tw_instance::Case;
+use tw_rows::cases::case;
+use tw_rows::texts::DISAGREE;
+use tw_shard::{OrMemory, Refusal, Shard};
+use tw_sim::Cancel;
+
+/// Which worker has each router.
+const OWNERS: [u32; 3] = [0, 0, 1];
+
+/// What one of two workers has of a case of three routers, by the list of their owners.
+pub(crate) fn shard<'a>(
+    alloc: Global,
+    case: &'a Case,
+    worker: u32,
+    cancel: Cancel,
+) -> Option<Shard<'a>>
+    requires { worker < 2 }
+    ensures { IfSome result (λ s. s.case ≡ case.now) }
+{
+    if case.instance().nodes() != 3 {
+        return None;
+    }
+    match Shard::open_owned(alloc, case, worker, 2, &OWNERS, true, cancel) {
+        Ok(made) => Some(made),
+        Err(_) => None,
+    }
+}
+
+/// The same, made once more where memory was refused.
+fn shard_at_last<'a>(
+    alloc: Global,
+    case: &'a Case,
+    worker: u32,
+    cancel: Cancel,
+) -> Option<Shard<'a>>
+    requires { worker < 2 }
+    ensures { IfSome result (λ s. s.case ≡ case.now) }
+{
+    match shard(alloc, case, worker, cancel) {
+        None => shard(alloc, case, worker, cancel),
+        made => made,
+    }
+}
+
+/// Hands a router over; `None` where that may not be asked for.
+pub(crate) fn hand_over<'a>(
+    from: &mut Shard<'a>,
+    router: u32,
+    to: &mut Shard<'a>,
+) -> Option<Result<(), OrMemory<Refusal>>>
+    requires { to.old.case ≡ from.old.case }
+    ensures from { from.new.case ≡ from.old.case }
+    ensures to { to.new.case ≡ to.old.case }
+{
+    if to.owns(router) || from.keeps() != to.keeps() || from.cancel() != to.cancel() {
+        return None;
+    }
+    Some(from.hand_over(router, to))
+}
+
+/// How many routers a shard has, what waits for them, what is held for them and what they have sent, and its bound.
+#[derive(Clone, Copy, PartialEq, Eq, Debug)]
+struct Amounts {
+    routers: usize,
+    pending: usize,
+    kept: usize,
+    held: usize,
+    outgoing: usize,
+    bound: u64,
+}
+
+fn amounts_in(shard: &Shard<'_>) -> Amounts {
+    Amounts {
+        routers: shard.router_count(),
+        pending: shard.pending().len(),
+        kept: shard.kept().len(),
+        held: shard.held_len(),
+        outgoing: shard.outgoing().len(),
+        bound: shard.bound(),
+    }
+}
+
+/// Whether a router goes over, once more where memory was refused, after which nothing has changed.
+fn goes_over<'a>(from: &mut Shard<'a>, router: u32, to: &mut Shard<'a>) -> bool
+    requires { to.old.case ≡ from.old.case }
+{
+    let (here, there) = (amounts_in(from), amounts_in(to));
+    match hand_over(from, router, to) {
+        Some(Err(OrMemory::Memory)) => {
+            amounts_in(from) == here
+                && amounts_in(to) == there
+                && hand_over(from, router, to) == Some(Ok(()))
+        }
+        answer => answer == Some(Ok(())),
+    }
+}
+
+/// Whether the routers are dealt out by the list, and the origin's start is pending where the origin is.
+fn are_dealt_out(from: &Shard<'_>, to: &Shard<'_>) -> bool {
+    from.router_count() == 2
+        && from.router_at(0) == 0
+        && from.router_at(1) == 1
+        && from.pending().len() == 1
+        && to.router_count() == 1
+        && to.router_at(0) == 2
+        && to.pending().is_empty()
+}
+
+/// Whether a router that neither has is refused.
+fn is_refused<'a>(from: &mut Shard<'a>, to: &mut Shard<'a>) -> bool
+    requires { to.old.case ≡ from.old.case }
+{
+    let (here, there) = (amounts_in(from), amounts_in(to));
+    hand_over(from, 3, to) == Some(Err(OrMemory::Fault(Refusal::NotMine)))
+        && amounts_in(from) == here
+        && amounts_in(to) == there
+}
+
+/// The origin offers its path to router 1, which handles that; for router 1 a later offer waits, and an
+/// antimessage whose message has not come.
+fn goes_ahead(shard: &mut Shard<'_>) -> bool
+    ensures { shard.new.case ≡ shard.old.case }
+{
+    let ([first, _], [_, later], [_, kept]) = (offers_of_origin(), offers_of_2(), early_offers_of_2());
+    shard.raise_bound(1);
+    receive(shard, first).is_ok()
+        && handle(shard, 1) == Ok(())
+        && receive(shard, later).is_ok()
+        && receive(shard, antimessage(kept)).is_ok()
+}
+
+/// Router 1 has the path that it had chosen, undoes and handles that event again, and its antimessage meets its message.
+fn goes_on(shard: &mut Shard<'_>) -> bool {
+    let ([to_0, to_2], [_, message]) = (offers_of_1(), early_offers_of_2());
+    shard.owns(1)
+        && shard.router(1).rib() == PathNo(3)
+        && undo(shard, 1) == Ok(())
+        && handle(shard, 1) == Ok(())
+        && shard.outgoing() == &[antimessage(to_0), antimessage(to_2), to_0, to_2][..]
+        && receive(shard, message).is_ok()
+        && shard.kept().is_empty()
+        && shard.pending().len() == 1
+}
+
+/// Whether router 1 goes over with its history and all that waits for it.
+fn comes_with_what_waits<'a>(from: &mut Shard<'a>, to: &mut Shard<'a>) -> bool
+    requires { to.old.case ≡ from.old.case }
+{
+    goes_ahead(from)
+        && goes_over(from, 1, to)
+        && amounts_in(from)
+            == Amounts {
+                routers: 1,
+                pending: 1,
+                kept: 0,
+                held: 0,
+                outgoing: 2,
+                bound: 1,
+            }
+        && amounts_in(to)
+            == Amounts {
+                routers: 2,
+                pending: 1,
+                kept: 1,
+                held: 0,
+                outgoing: 0,
+                bound: 1,
+            }
+        && goes_on(to)
+}
+
+/// Whether the origin goes over with what its undone start had sent, which it sends again there.
+fn comes_with_what_is_held<'a>(from: &mut Shard<'a>, to: &mut Shard<'a>) -> bool
+    requires { to.old.case ≡ from.old.case }
+{
+    handle(from, 0) == Ok(())
+        && undo(from, 0) == Ok(())
+        && goes_over(from, 0, to)
+        && from.held_time(0).is_none()
+        && to.held_time(0) == Some(1)
+        && handle(to, 0) == Ok(())
+        && amounts_in(to)
+            == Amounts {
+                routers: 2,
+                pending: 0,
+                kept: 0,
+                held: 0,
+                outgoing: 0,
+                bound: 0,
+            }
+}
+
+/// What a test shows of two shards.
+#[derive(Clone, Copy)]
+enum Row {
+    DealtOut,
+    Refused,
+    Waiting,
+    Held,
+}
+
+/// Whether a row holds of the two shards as DISAGREE begins.
+fn holds(alloc: Global, cancel: Cancel, row: Row) -> bool {
+    let Ok(case) = case(alloc, DISAGREE) else {
+        return false;
+    };
+    let (Some(mut from), Some(mut to)) = (
+        shard_at_last(alloc, &case, 0, cancel),
+        shard_at_last(alloc, &case, 1, cancel),
+    ) else {
+        return false;
+    };
+    match row {
+        Row::DealtOut => are_dealt_out(&from, &to),
+        Row::Refused => is_refused(&mut from, &mut to),
+        Row::Waiting => comes_with_what_waits(&mut from, &mut to),
+        Row::Held => comes_with_what_is_held(&mut from, &mut to),
+    }
+}
+
+#[test]
+fn routers_are_dealt_out_by_a_list_of_owners(rt: HostRuntime) {
+    assert!(rt; holds(rt.alloc(), Cancel::Aggressive, Row::DealtOut));
+}
+
+#[test]
+fn a_router_of_no_shard_is_not_handed_over(rt: HostRuntime) {
+    assert!(rt; holds(rt.alloc(), Cancel::Aggressive, Row::Refused));
+}
+
+#[test]
+fn a_router_goes_over_with_what_waits_for_it(rt: HostRuntime) {
+    assert!(rt; holds(rt.alloc(), Cancel::Aggressive, Row::Waiting));
+}
+
+#[test]
+fn a_router_goes_over_with_what_is_held_for_it(rt: HostRuntime) {
+    assert!(rt; holds(rt.alloc(), Cancel::Lazy, Row::Held));
+}
