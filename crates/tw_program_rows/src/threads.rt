@@ -14,7 +14,7 @@ use tw_instance::Case;
 use tw_parallel::{EndCause, Ended, Gate, OpenGate, Options, Sim, run_until};
 use tw_rows::cases::case;
 use tw_rows::texts::DISAGREE;
-use tw_run::run_io;
+use tw_run::{Dealing, run_io};
 use tw_sim::Cancel;
 use tw_table::Seat;
 
@@ -41,6 +41,10 @@ fn answer<X: Threads + Wait + Sync>(
             2,
             64,
             Cancel::Aggressive,
+            Dealing {
+                blocks: false,
+                rotate: false,
+            },
         ) {
             Err(Cause::Memory | Cause::NoThread) if page.bytes().is_empty() => {}
             ended => return Some((ended, page)),
