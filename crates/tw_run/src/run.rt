@@ -154,7 +154,15 @@ fn run_by_workers<X: Threads + Wait + Sync>(
     ensures device { IsErrOf result cause.Device → ⊥ }
 {
     let sim = Sim::open_with(alloc, case, asked.workers, asked.log, asked.cancel)?;
-    let (sim, found) = run_through(rt, alloc, sim, asked.stop, asked.every, asked.batch)?;
+    let (sim, found) = run_through(
+        rt,
+        alloc,
+        sim,
+        asked.dealing,
+        asked.stop,
+        asked.every,
+        asked.batch,
+    )?;
     Ok((outcome_of(&sim, asked.log)?, found))
 }
 
