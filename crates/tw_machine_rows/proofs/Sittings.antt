@@ -1,13 +1,14 @@
 -- What keeps a worker ready to take the exchange, and what lets it give the exchange back.
-use Rattle.std.proofs.Common.{◌≡◌, ℕ, ◌<◌, ◌≤◌, List, [], ◌∷◌, ◌++◌, drop, length, map, max, Ok, Some, refl, ap, sym, ◌∙◌, subst, arith, slice_get, slice_index_or}
+use Rattle.std.proofs.Common.{◌≡◌, ℕ, ◌<◌, ◌≤◌, ◌==◌, ◌&&◌, nat_lt, List, [], ◌∷◌, ◌++◌, drop, length, map, max, Ok, Some, refl, ap, sym, ◌∙◌, subst, arith, slice_get, slice_index_or}
 use Rattle.std.specs.List.{AllByRecursion}
 use Rattle.tw_core.specs.Machine.{Core}
 use Rattle.tw_event.specs.declared.event.Event.{Event}
 use Rattle.tw_exchange.specs.Board.{Board, IsBoard, handed, opening, visited}
 use Rattle.tw_machine_rows.specs.Sitting.{IsBeginning, IsReady}
 use Rattle.tw_model.specs.Case.{Case, IsCase}
-use Rattle.tw_shard.specs.Shard.{IsSameShare, Shard, core, handling, opening_core}
+use Rattle.tw_shard.specs.Shard.{IsSameShare, Shard, core, handling, opening_core, owns}
 use Rattle.tw_sim.specs.declared.machine.Cancel.{Cancel}
+use Rattle.tw_sim.specs.Owners.{owner}
 use Rattle.tw_table.specs.declared.hand.Hand.{Hand}
 use Rattle.tw_table.specs.declared.seat.Held.{Held}
 use Rattle.tw_table.specs.declared.seat.Seat.{Seat}
@@ -64,11 +65,11 @@ may_give t s h k q v is own fresh met board stop same rising now shard mail unse
     subst (λ b. MayBeGiven b (share_of k) y v) (sym same.taken) (subst (λ u. MayBeGiven x u y v) (sym (same.share ∙ own)) may)
 
 -- a shard that begins, with an empty hand
-pub new_share : (case : Case) (k : ℕ) (cancel : Cancel) (s : Shard) (h : Hand) → ((stop : ℕ) → core stop s ≡ opening_core case k 2 cancel stop) → s.case ≡ case → s.worker ≡ k → s.workers ≡ 2
-    → h.mail.items ≡ [] → h.next ≡ 0 → h.out.items ≡ [] → IsNew case k 2 (share s h)
-new_share case k cancel s h is same own many mail next out =
+pub new_share : (case : Case) (k : ℕ) (cancel : Cancel) (s : Shard) (h : Hand) → ((stop : ℕ) → core stop s ≡ opening_core case k 2 cancel stop) → s.case ≡ case → s.worker ≡ k
+    → ((r : ℕ) → owns s r ≡ (nat_lt r case.net.nodes && (owner 2 r == k))) → s.workers ≡ 2 → h.mail.items ≡ [] → h.next ≡ 0 → h.out.items ≡ [] → IsNew case k 2 (share s h)
+new_share case k cancel s h is same own routers many mail next out =
     let told : s.cancel ≡ cancel = ap (λ (C : Core Event). C.cancel) (is 0) in
-    record { core_is = λ stop. is stop ∙ ap (λ c. opening_core case k 2 c stop) (sym told); case_is = same; worker = own; count = many; mail = λ i. drop (next i) (mail i); unsent = out }
+    record { core_is = λ stop. is stop ∙ ap (λ c. opening_core case k 2 c stop) (sym told); case_is = same; worker = own; owns_are = routers; count = many; mail = λ i. drop (next i) (mail i); unsent = out }
 
 -- both workers begin
 pub begun : (case : Case) (x : Board) (shards : List Shard) (hands : List Hand) (s u : Shard) (g h : Hand) → IsCase case → x ≡ opening 2 0 20

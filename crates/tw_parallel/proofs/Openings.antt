@@ -1,6 +1,6 @@
 -- A run that begins keeps the rule, and is a machine that begins.
 use Rattle.std.proofs.Common.{◌≡◌, ℕ, zero, suc, ◌+◌, ◌<◌, ◌==◌, ◌&&◌, Bool, List, [], ◌∷◌, ◌++◌, drop, flat_map, get_or, length, map, nat_lt, refl, ap, sym, ◌∙◌, subst, inl, inr, arith}
-use Rattle.std.proofs.lemmas.Bool.{cases_Bool, lt-ltb}
+use Rattle.std.proofs.lemmas.Bool.{and_parts, cases_Bool, lt-ltb, ltb-true}
 use Rattle.std.specs.List.{AllByRecursion, range_with_len}
 use Rattle.std.specs.Prelude.{Some, replicate}
 use Rattle.tw_core.specs.declared.limits.TheConstants.{OPENING_ROOM}
@@ -14,7 +14,7 @@ use Rattle.tw_model.specs.Case.{Case, IsCase, simulation}
 use Rattle.tw_parallel.proofs.Owners.{pending_of}
 use Rattle.tw_parallel.proofs.Shares.{long_shares}
 use Rattle.tw_parallel.specs.Hands.{IsEmptyHand}
-use Rattle.tw_parallel.specs.Sim.{IsSim, Sim, machine}
+use Rattle.tw_parallel.specs.Sim.{AreOf, IsSim, Sim, machine}
 use Rattle.tw_rule.proofs.Opens.{rule_opens}
 use Rattle.tw_rule.specs.Place.{Place, part_of}
 use Rattle.tw_rule.specs.Rule.{AreOpeningPlaces, IsOpeningPlace, Rule}
@@ -41,9 +41,7 @@ module _ (case : Case) (is : IsCase case) (n : ℕ) (keeps : Bool) (cancel : Can
   place_opens : (k : ℕ) (s : Shard) (h : Hand) → IsOpeningShard case k n keeps cancel s → IsEmptyHand h → IsOpeningPlace (simulation case) (owner n) k (place_of (share s h))
   place_opens k s h at empty = record {
     worker = at.worker;
-    owns = λ r l.
-        (λ i. nat_lt r (at.case_is i).net.nodes && (owner (at.count i) r == at.worker i))
-        ∙ ap (λ b. b && (owner n r == k)) (lt-ltb r case.net.nodes l);
+    owns = λ r l. at.owns_are r ∙ ap (λ b. b && (owner n r == k)) (lt-ltb r case.net.nodes l);
     history = λ r. ap (λ (C : Core Event). C.history r) (at.core_is 0);
     pending = λ e. waits case is n keeps cancel k s e at;
     kept = ap (λ (C : Core Event). C.kept) (at.core_is 0);
@@ -101,6 +99,14 @@ module _ (case : Case) (is : IsCase case) (n : ℕ) (keeps : Bool) (cancel : Can
   all_of_case k [] hs each same = tt
   all_of_case k (s ∷ ss) [] each same = absurd (omega arith)
   all_of_case k (s ∷ ss) (h ∷ hs) each same = ((first k s ss each).case_is, all_of_case (k + 1) ss hs (later k s ss each) (omega arith))
+
+  all_known : (k : ℕ) (ss : List Shard) (hs : List Hand) → Begin k ss → length hs ≡ length ss → AllByRecursion (AreOf case) (shares_of ss hs)
+  all_known k [] hs each same = tt
+  all_known k (s ∷ ss) [] each same = absurd (omega arith)
+  all_known k (s ∷ ss) (h ∷ hs) each same = (
+    λ r own. ltb-true r case.net.nodes (and_parts (nat_lt r case.net.nodes) (owner n r == k) (sym ((first k s ss each).owns_are r) ∙ own)).0,
+    all_known (k + 1) ss hs (later k s ss each) (omega arith),
+  )
 
 module _ {S E : Type 0} (m : Simulation S E) (who : ℕ → ℕ) (stop : ℕ) where
   -- what places that begin are as parts of the machine
@@ -190,6 +196,7 @@ module _ (case : Case) (is : IsCase case) (n : ℕ) (keeps : Bool) (cancel : Can
           count = omega arith;
           rule = subst (λ k. Rule (simulation case) (owner k) (board_of (opening n 0 0)) (map place_of (shares_of ss hs))) (sym many) new_rule;
         };
+        known = all_known case is n keeps cancel 0 ss hs from_zero same;
         stop = omega arith;
       }
 

@@ -1,7 +1,7 @@
 -- What the rule tells of a run: it is the one-thread run, and its shards have of each router what the whole machine has.
-use Rattle.std.proofs.Common.{◌≡◌, ℕ, ◌+◌, ◌-◌, ◌<◌, ◌≤◌, ◌==◌, ◌&&◌, true, false, List, [], ◌∷◌, ◌++◌, flat_map, length, map, nat_lt, slice_get, Some, refl, ap, sym, ◌∙◌, subst, inl, inr, arith}
+use Rattle.std.proofs.Common.{◌≡◌, ℕ, ◌+◌, ◌-◌, ◌<◌, ◌≤◌, true, false, List, [], ◌∷◌, ◌++◌, flat_map, length, map, nat_lt, slice_get, Some, refl, ap, sym, ◌∙◌, subst, inl, inr, arith}
 use Rattle.std.proofs.Math.Path.{fun_ext}
-use Rattle.std.proofs.lemmas.Bool.{cases_Bool, eq-eqb, le-ltb, ltb-false, ltb-true}
+use Rattle.std.proofs.lemmas.Bool.{cases_Bool, eq-eqb, ltb-false, ltb-true}
 use Rattle.std.proofs.lemmas.Simd.{map-map}
 use Rattle.std.specs.List.{range_with_len}
 use Rattle.tw_core.proofs.Owners.{from_owner}
@@ -24,7 +24,7 @@ use Rattle.tw_parallel.proofs.Shares.{long_shares, share_there, worker_there}
 use Rattle.tw_parallel.specs.declared.sim.Sim.TheInside.{Inside}
 use Rattle.tw_parallel.specs.Settled.{ahead_of, change_of, states_of}
 use Rattle.tw_parallel.specs.Inside.{IsInside, sim_of}
-use Rattle.tw_parallel.specs.Sim.{IsSim, KeepsEvents, Sim, committed_events, machine, reopened}
+use Rattle.tw_parallel.specs.Sim.{AreOf, IsSim, KeepsEvents, Sim, committed_events, machine, reopened}
 use Rattle.tw_rule.proofs.Gives.{rule_reopens}
 use Rattle.tw_rule.proofs.Places.{all_at, all_in_map, get_map}
 use Rattle.tw_rule.proofs.Ruled.{done_of, good_of_rule, history_of, seq_of_rule}
@@ -108,8 +108,8 @@ module _ (a : Inside) (is : IsInside a) where
   has_there : (r : ℕ) → r < s.case.net.nodes → Has s r (shard_for ss r)
   has_there r known = let found = placed r in has_at s is.sim r known (share (shard_for ss r) found.0) found.1
 
-  case_there : (r : ℕ) → (shard_for ss r).case ≡ s.case
-  case_there r = let found = placed r in all_at (λ (t : Share). t.shard.case ≡ s.case) s.shares (owner (workers s.board) r) (share (shard_for ss r) found.0) found.1 is.sim.ruled.cases
+  known_there : (r : ℕ) → owns (shard_for ss r) r ≡ true → r < s.case.net.nodes
+  known_there r = let found = placed r in all_at (AreOf s.case) s.shares (owner (workers s.board) r) (share (shard_for ss r) found.0) found.1 is.sim.known r
 
   -- the shards are all of the case
   pub have_all : HaveAll s.case ss
@@ -120,18 +120,20 @@ module _ (a : Inside) (is : IsInside a) where
   }
 
   -- of what is no router nothing is there
-  none_owned : (r : ℕ) (x : Shard) → s.case.net.nodes ≤ r → x.case ≡ s.case → owns x r ≡ false
-  none_owned r x past case =
-      let here : (nat_lt r s.case.net.nodes && (owner x.workers r == x.worker)) ≡ false = rw (le-ltb r s.case.net.nodes past) refl in
-      (λ i. nat_lt r (case i).net.nodes && (owner x.workers r == x.worker)) ∙ here
+  none_owned : (r : ℕ) (x : Shard) → s.case.net.nodes ≤ r → (owns x r ≡ true → r < s.case.net.nodes) → owns x r ≡ false
+  none_owned r x past known =
+      elim (cases_Bool (owns x r)) [
+        | inl own ↦ absurd (let within = known own in omega (arith, within, past))
+        | inr other ↦ other
+      ]
 
-  beyond : {X : Type 0} (read : Core Event → X) (nothing : X) (r : ℕ) → ((t : Share) → t.shard.case ≡ s.case → read (whole s.board.stop (place_of t)) ≡ nothing)
+  beyond : {X : Type 0} (read : Core Event → X) (nothing : X) (r : ℕ) → ((t : Share) → AreOf s.case t → read (whole s.board.stop (place_of t)) ≡ nothing)
       → at_owner read nothing (map (part_of s.board.stop) (map place_of s.shares)) r ≡ nothing
   beyond read nothing r none =
       from_owner r read nothing (λ x. x ≡ nothing) refl (map (part_of s.board.stop) (map place_of s.shares))
       (all_in_map (λ (p : Part Event). read p.core ≡ nothing) (part_of s.board.stop) (map place_of s.shares)
       (all_in_map (λ (p : Place Event). read (whole s.board.stop p) ≡ nothing) place_of s.shares
-      (all_map (λ (t : Share). t.shard.case ≡ s.case) (λ (t : Share). read (whole s.board.stop (place_of t)) ≡ nothing) none s.shares is.sim.ruled.cases)))
+      (all_map (AreOf s.case) (λ (t : Share). read (whole s.board.stop (place_of t)) ≡ nothing) none s.shares is.sim.known)))
 
   -- histories and commits are those of the whole machine
   history_there : (r : ℕ) → history_in ss r ≡ (machine s).history r
@@ -140,8 +142,8 @@ module _ (a : Inside) (is : IsInside a) where
         | inl known ↦ (has_there r (ltb-true r s.case.net.nodes known)).history
         | inr past ↦ (
             let far = ltb-false r s.case.net.nodes past in
-            let here : history_in ss r ≡ [] = rw (none_owned r (shard_for ss r) far (case_there r)) refl in
-            here ∙ sym (beyond (λ (C : Core Event). C.history r) [] r (λ t case. rw (none_owned r t.shard far case) refl)))
+            let here : history_in ss r ≡ [] = rw (none_owned r (shard_for ss r) far (known_there r)) refl in
+            here ∙ sym (beyond (λ (C : Core Event). C.history r) [] r (λ t known. rw (none_owned r t.shard far (known r)) refl)))
       ]
 
   done_there : (r : ℕ) → (core 0 (shard_for ss r)).done r ≡ (machine s).done r
@@ -150,8 +152,8 @@ module _ (a : Inside) (is : IsInside a) where
         | inl known ↦ (has_there r (ltb-true r s.case.net.nodes known)).done
         | inr past ↦ (
             let far = ltb-false r s.case.net.nodes past in
-            let here : (core 0 (shard_for ss r)).done r ≡ 0 = rw (none_owned r (shard_for ss r) far (case_there r)) refl in
-            here ∙ sym (beyond (λ (C : Core Event). C.done r) 0 r (λ t case. rw (none_owned r t.shard far case) refl)))
+            let here : (core 0 (shard_for ss r)).done r ≡ 0 = rw (none_owned r (shard_for ss r) far (known_there r)) refl in
+            here ∙ sym (beyond (λ (C : Core Event). C.done r) 0 r (λ t known. rw (none_owned r t.shard far (known r)) refl)))
       ]
 
   histories : (λ r. history_in ss r) ≡ (machine s).history
@@ -198,5 +200,6 @@ reopens s is stop least most = record {
     count = is.ruled.count;
     rule = rule_reopens (simulation s.case) (owner (workers s.board)) (board_of s.board) (map place_of s.shares) stop least is.ruled.rule;
   };
+  known = is.known;
   stop = most;
 }

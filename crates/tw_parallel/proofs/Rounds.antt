@@ -3,7 +3,8 @@ use Rattle.std.proofs.Common.{◌≡◌, ℕ, suc, ◌<◌, ◌≤◌, true, Lis
 use Rattle.std.specs.List.{AllByRecursion, range_with_len}
 use Rattle.tw_exchange.specs.Board.{Board, workers}
 use Rattle.tw_model.specs.Case.{Case}
-use Rattle.tw_parallel.specs.Sim.{GoesOn, IsSim, Sim}
+use Rattle.tw_parallel.specs.Sim.{AreOf, GoesOn, IsSim, Sim}
+use Rattle.tw_shard.specs.Roster.{has}
 use Rattle.tw_shard.specs.Shard.{IsSameShare, Shard}
 use Rattle.tw_table.specs.Seats.{bound_at, share_at, stop_at}
 use Rattle.tw_table.specs.Shares.{IsRuled, IsWhole, Share, shares_of}
@@ -40,6 +41,13 @@ still_keep [] (y ∷ ys) same h = absurd same
 still_keep (x ∷ xs) [] same h = tt
 still_keep (x ∷ xs) (y ∷ ys) same h = (same.0.keeps ∙ h.0, still_keep xs ys same.1 h.1)
 
+-- the routers that they have are of the case as before
+still_known : (c : Case) (xs ys : List Share) → AreSameShares xs ys → AllByRecursion (AreOf c) xs → AllByRecursion (AreOf c) ys
+still_known c [] [] same h = tt
+still_known c [] (y ∷ ys) same h = absurd same
+still_known c (x ∷ xs) [] same h = tt
+still_known c (x ∷ xs) (y ∷ ys) same h = (λ r own. h.0 r (ap (λ rs. has rs r) (sym same.0.routers) ∙ own), still_known c xs ys same.1 h.1)
+
 -- ---- so the run goes on
 
 same_workers : (s : Sim) (y : Board) (shares : List Share) → IsSim s → IsWhole y shares → AreSameShares s.shares shares → workers y ≡ workers s.board
@@ -55,6 +63,7 @@ still_sim s y shares is whole same stop =
       some = (let n = is.some in omega (arith, n, long));
       order = same_map (λ t. t.worker) (λ t u is. is.worker) s.shares shares same ∙ (is.order ∙ ap (range_with_len 0) (sym long));
       ruled = subst (λ c. IsRuled c y shares) case whole.ruled;
+      known = still_known s.case s.shares shares same is.known;
       stop = (let n = is.stop in omega (arith, n, stop));
     }
 

@@ -8,6 +8,7 @@ use Rattle.tw_exchange.specs.Board.{Board, workers}
 use Rattle.tw_model.specs.Case.{Case, simulation}
 use Rattle.tw_model.specs.declared.limits.TheConstants.{LATEST}
 use Rattle.tw_rule.specs.Rule.{assembled}
+use Rattle.tw_shard.specs.Shard.{owns}
 use Rattle.tw_sim.specs.declared.machine.Cancel.{Cancel}
 use Rattle.tw_sim.specs.Ordered.{insert_all}
 use Rattle.tw_table.specs.Shares.{IsRuled, Share, board_of, place_of}
@@ -23,6 +24,10 @@ pub record Sim : Type 0 where
 abbrev pub machine : Sim → Core Event
 machine s = assembled (board_of s.board) (map place_of s.shares)
 
+-- the routers of a worker are routers of the case
+abbrev pub AreOf : Case → Share → Type 0
+AreOf case t = (r : ℕ) → owns t.shard r ≡ true → r < case.net.nodes
+
 -- it keeps the rule
 pub record IsSim (s : Sim) : Type 0 where
   -- there are workers
@@ -30,6 +35,8 @@ pub record IsSim (s : Sim) : Type 0 where
   -- each has its share, by rising worker
   pub order : map (λ t. t.shard.worker) s.shares ≡ range_with_len 0 (workers s.board)
   pub ruled : IsRuled s.case s.board s.shares
+  -- of routers of the case alone
+  pub known : AllByRecursion (AreOf s.case) s.shares
   -- the stop is one that a case may have
   pub stop : s.board.stop ≤ LATEST
 

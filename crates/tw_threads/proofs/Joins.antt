@@ -119,7 +119,7 @@ module _ {W : Type 0} (share : W → Share) where
 
   stay : (t : Table) (seats : List Seat) → AllByRecursion (IsSeatOf t) seats → AllZip (HasLeft t) seats seats
   stay t [] h = tt
-  stay t (s ∷ seats) h = (record { seat = h.0; stop = refl; bound = omega arith; same = record { case = refl; worker = refl; workers = refl; keeps = refl; cancel = refl } }, stay t seats h.1)
+  stay t (s ∷ seats) h = (record { seat = h.0; stop = refl; bound = omega arith; same = record { case = refl; worker = refl; workers = refl; routers = refl; keeps = refl; cancel = refl } }, stay t seats h.1)
 
   -- workers that took no turn have left as they were
   pub have_stayed : (t : Table) (before after : List Seat) (were are : List W) (why : Option EndCause) → after ≡ before → are ≡ were → why ≡ Some cause.Memory
