@@ -12,10 +12,12 @@ mod counts;
 mod crew;
 mod events;
 mod hands;
+mod moving;
 mod outcome;
 mod run;
 mod sim;
 
+pub use moving::UnfitOwners;
 pub use outcome::NotSettled;
 pub use run::{Ended, Options, run_until};
 pub use sim::{Parts, Sim};
