@@ -4,7 +4,8 @@
     parallel.py                          after rt ci, or rt run in crates/twarp
 
 What both write has to be the same, where what undone events have sent is taken back at once and
-where it is taken back as late as may be. Each run is ended after some seconds, and counts as failed:
+where it is taken back as late as may be, and however routers are dealt out to workers and go on
+from one to the next. Each run is ended after some seconds, and counts as failed:
 workers that wait for one another without end are found by that. A proof can say nothing of it.
 """
 from __future__ import annotations
@@ -12,6 +13,7 @@ from __future__ import annotations
 import tempfile
 from collections import Counter
 from collections.abc import Callable, Sequence
+from itertools import product
 from pathlib import Path
 from random import Random
 from typing import NamedTuple
@@ -36,6 +38,9 @@ BATCHES = (1, 64, 4096)
 
 # What undone events have sent is taken back at once, or as late as may be.
 KINDS: tuple[list[str], ...] = ([], ["--lazy"])
+
+# How routers are dealt out, and whether they go on to the next worker at each checkpoint.
+DEALINGS: tuple[list[str], ...] = ([], ["--blocks"], ["--rotate"], ["--blocks", "--rotate"])
 
 # Runs in a row of the smallest case and of a made one, each with every number of workers and each
 # kind in turn.
@@ -97,30 +102,31 @@ class Answer(NamedTuple):
 
 
 class Runs(NamedTuple):
-    """Runs with these words, by each number of workers here and with each batch."""
+    """Runs with these words, by each number of workers here, with each batch and each dealing."""
 
     words: Sequence[str]
     workers: Sequence[int]
     batches: Sequence[int]
+    dealings: Sequence[list[str]] = DEALINGS[:1]
 
 
 def compare(tally: Tally, case: Path, runs: Runs) -> None:
     """Runs beside `seq`, which runs once."""
     wanted = Answer.of(["seq", *runs.words], case)
-    for workers in runs.workers:
-        for batch in runs.batches:
-            sizes = ["--workers", str(workers), "--batch", str(batch)]
-            for kind in KINDS:
-                words = ["run", *runs.words, *sizes, *kind]
-                wrong = Answer.of(words, case).differs(wanted)
-                tally.add(f"{name_of(words)} of {case.name}", wrong)
+    for workers, batch, dealing, kind in product(
+        runs.workers, runs.batches, runs.dealings, KINDS
+    ):
+        sizes = ["--workers", str(workers), "--batch", str(batch)]
+        words = ["run", *runs.words, *sizes, *dealing, *kind]
+        wrong = Answer.of(words, case).differs(wanted)
+        tally.add(f"{name_of(words)} of {case.name}", wrong)
 
 
 def compare_stored(tally: Tally) -> None:
     """Each stored case, with checkpoints and without."""
     for case in sorted(CASES.glob("*.spp")):
-        for more in ["--log"], ["--every", "1"], ["--every", "7"]:
-            compare(tally, case, Runs(["--stop", "40", *more], (1, 2, 5), (3,)))
+        for more in ["--log"], ["--every", "1"], ["--every", "7"], ["--every", "3", "--log"]:
+            compare(tally, case, Runs(["--stop", "40", *more], (1, 2, 5), (3,), DEALINGS))
 
 
 def compare_made(tally: Tally, folder: Path) -> None:
@@ -130,9 +136,11 @@ def compare_made(tally: Tally, folder: Path) -> None:
         case.write_text(str(make(Random(1))))
         early = ["--stop", str(stop // 4)]
         every = str(max(1, stop // 40))
-        compare(tally, case, Runs(["--stop", str(stop)], WORKERS, (64,)))
+        compare(tally, case, Runs(["--stop", str(stop)], WORKERS, (64,), DEALINGS[:2]))
         compare(tally, case, Runs([*early, "--log"], (2, 4), BATCHES))
-        compare(tally, case, Runs([*early, "--every", every], (4,), (64,)))
+        compare(tally, case, Runs([*early, "--every", every], (2, 4, 64), (64,), DEALINGS))
+        logged = [*early, "--every", every, "--log"]
+        compare(tally, case, Runs(logged, (3,), (1, 4096), DEALINGS[2:]))
 
 
 def repeat(tally: Tally, case: Path, words: Sequence[str], wanted: Answer, times: int) -> None:

@@ -43,6 +43,8 @@ HELP = {
         "      --workers <COUNT>",
         "      --batch <COUNT>",
         "      --lazy",
+        "      --blocks",
+        "      --rotate",
         "Exit status:",
     ],
     "trail": [

@@ -70,6 +70,7 @@ LINES = (
     ["seq", "--stop", "20", "--every", "1"],
     ["run", "--stop", "20", "--every", "1", "--workers", "2"],
     ["run", "--stop", "20", "--log", "--workers", "2"],
+    ["run", "--stop", "20", "--every", "1", "--workers", "2", "--blocks", "--rotate"],
     ["--help"],
     ["seq", "--stop", "0"],
 )

@@ -15,7 +15,7 @@ from tools_common import CASES, TOP, Done, ToolTest, run, tool
 OPTIONS = {
     "check": set(),
     "seq": {"--stop", "--every", "--log"},
-    "run": {"--stop", "--every", "--log", "--workers", "--batch", "--lazy"},
+    "run": {"--stop", "--every", "--log", "--workers", "--batch", "--lazy", "--blocks", "--rotate"},
     "trail": {"--router", "--stop", "--keep"},
     "replay": {"--stop", "--workers", "--lazy"},
     "upgrade": set(),

@@ -36,6 +36,14 @@ log_rule = flag_rule (codes "log")
 abbrev pub lazy_rule : Rule
 lazy_rule = flag_rule (codes "lazy")
 
+-- `--blocks`: the routers of a worker are a block of routers in a row
+abbrev pub blocks_rule : Rule
+blocks_rule = flag_rule (codes "blocks")
+
+-- `--rotate`: at each checkpoint the routers go to the next worker
+abbrev pub rotate_rule : Rule
+rotate_rule = flag_rule (codes "rotate")
+
 -- `--router R`: the router whose last events are undone
 abbrev pub router_rule : Rule
 router_rule = number_rule (codes "router") true 0 (MOST_ROUTERS - 1)
@@ -64,9 +72,13 @@ seq_app = with_rule (with_rule (with_rule (new_app (codes "seq")) stop_rule) eve
 abbrev pub run_app_alone : App
 run_app_alone = with_rule (with_rule (with_rule (new_app (codes "run")) stop_rule) every_rule) log_rule
 
--- `twarp run --stop N [--every T] [--log] [--workers W] [--batch B] [--lazy]`
+-- `twarp run` with the options that say how workers go on
+abbrev pub run_app_by_workers : App
+run_app_by_workers = with_rule (with_rule (with_rule run_app_alone workers_rule) batch_rule) lazy_rule
+
+-- `twarp run --stop N [--every T] [--log] [--workers W] [--batch B] [--lazy] [--blocks] [--rotate]`
 abbrev pub run_app : App
-run_app = with_rule (with_rule (with_rule run_app_alone workers_rule) batch_rule) lazy_rule
+run_app = with_rule (with_rule run_app_by_workers blocks_rule) rotate_rule
 
 -- `twarp trail --router R --stop S --keep K`
 abbrev pub trail_app : App

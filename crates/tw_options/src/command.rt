@@ -3,7 +3,7 @@
 ghost use Rattle.std.specs.Prelude.{IfOk, ◌≡◌, false};
 ghost use Rattle.clap.specs.Words.{app_of, rule_of};
 ghost use Rattle.clap.specs.declared.builder.command.Command.TheViews.{out-Command as fields_of};
-ghost use Rattle.tw_options.specs.App.{check_app, lazy_rule, log_rule, replay_app, report_app, run_app, run_app_alone, seq_app, top_app, trail_app, twarp_app, upgrade_app};
+ghost use Rattle.tw_options.specs.App.{check_app, blocks_rule, lazy_rule, log_rule, replay_app, report_app, rotate_rule, run_app, run_app_alone, run_app_by_workers, seq_app, top_app, trail_app, twarp_app, upgrade_app};
 
 use crate::help;
 use crate::number::{BATCH, EVERY, KEEP, ROUTER, STOP, THREADS, WORKERS};
@@ -70,6 +70,16 @@ fn run<'a>(alloc: Global) -> Result<Command<'a>, AllocError>
     ensures app { IfOk result (λ command. app_of command ≡ run_app) }
     ensures local { IfOk result (λ command. (fields_of command).has_globals ≡ false) }
 {
+    run_by_workers(alloc)?
+        .arg(blocks(alloc))?
+        .arg(rotate(alloc))
+}
+
+/// `run` with the options that say how workers go on.
+fn run_by_workers<'a>(alloc: Global) -> Result<Command<'a>, AllocError>
+    ensures app { IfOk result (λ command. app_of command ≡ run_app_by_workers) }
+    ensures local { IfOk result (λ command. (fields_of command).has_globals ≡ false) }
+{
     run_alone(alloc)?
         .arg(THREADS.arg(alloc))?
         .arg(BATCH.arg(alloc))?
@@ -109,6 +119,26 @@ fn lazy<'a>(alloc: Global) -> Arg<'a>
         .long("lazy")
         .action(ArgAction::SetTrue)
         .help("Take back what an undone event has sent as late as may be")
+}
+
+fn blocks<'a>(alloc: Global) -> Arg<'a>
+    ensures rule { rule_of result ≡ blocks_rule }
+    ensures local { result.global ≡ false }
+{
+    Arg::new(alloc, "blocks")
+        .long("blocks")
+        .action(ArgAction::SetTrue)
+        .help("Give each worker a block of routers in a row, and do not deal them out in turn")
+}
+
+fn rotate<'a>(alloc: Global) -> Arg<'a>
+    ensures rule { rule_of result ≡ rotate_rule }
+    ensures local { result.global ≡ false }
+{
+    Arg::new(alloc, "rotate")
+        .long("rotate")
+        .action(ArgAction::SetTrue)
+        .help("Hand every router on to the next worker at each checkpoint of --every")
 }
 
 fn trail<'a>(alloc: Global) -> Result<Command<'a>, AllocError>

@@ -37,6 +37,10 @@ pub enum CommandLine {
         batch: u32,
         /// Whether what an undone event has sent is taken back as late as may be.
         lazy: bool,
+        /// Whether the routers of a worker are a block of routers in a row, and not dealt out in turn.
+        blocks: bool,
+        /// Whether the routers go to the next worker at each checkpoint.
+        rotate: bool,
     },
     /// One router's events of the run of a case below `stop`, the last ones undone.
     Trail {
@@ -100,6 +104,8 @@ fn run_of(given: &ArgMatches<'_>) -> CommandLine
         workers: THREADS.read_or(given, 4) as u32,
         batch: BATCH.read_or(given, 64) as u32,
         lazy: is_set(given, "lazy"),
+        blocks: is_set(given, "blocks"),
+        rotate: is_set(given, "rotate"),
     }
 }
 

@@ -71,6 +71,12 @@ Where a message comes late, its router rolls back. The report is that of seq, by
 whatever the number of workers and the batch: each router's counters and path at the end of the
 run, and a verdict. `twarp seq --help` says what the verdicts mean.
 
+Routers are dealt out in turn: router R goes to worker R mod W of W workers. With --blocks it goes
+to worker R * W div N of a case of N routers, so that routers whose numbers are near share a
+worker: fewer messages go from worker to worker where these are neighbours. With --rotate every
+router goes from worker V to worker V + 1 mod W at each checkpoint of --every at which the workers
+come together before --stop. Neither changes the report.
+
 What an event has sent is taken back where the event is undone: at once, or, with --lazy, only
 once the router has come past it without sending the same again (lazy cancellation). The report
 is the same.

@@ -9,7 +9,7 @@ use tw_device::read_all;
 use tw_parallel::{OpenGate, Options, Sim, run_until};
 use tw_rows::cases::case;
 use tw_rows::texts::DISAGREE;
-use tw_run::run_io;
+use tw_run::{Dealing, run_io};
 use tw_sim::Cancel;
 
 /// Whether a program ends well on a text.
@@ -52,6 +52,10 @@ fn a_program_with_threads_ends_well(rt: HostRuntime) {
         2,
         64,
         Cancel::Lazy,
+        Dealing {
+            blocks: true,
+            rotate: true,
+        },
     );
     assert!(rt; ended == Ok(Status::Done));
 }

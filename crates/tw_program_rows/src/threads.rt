@@ -16,7 +16,7 @@ use tw_parallel::{
 };
 use tw_rows::cases::case;
 use tw_rows::texts::DISAGREE;
-use tw_run::run_io;
+use tw_run::{Dealing, run_io};
 use tw_sim::Cancel;
 use tw_table::Seat;
 
@@ -43,6 +43,10 @@ fn answer<X: Threads + Wait + Sync>(
             2,
             64,
             Cancel::Aggressive,
+            Dealing {
+                blocks: false,
+                rotate: false,
+            },
         ) {
             Err(Cause::Memory | Cause::NoThread) if page.bytes().is_empty() => {}
             ended => return Some((ended, page)),

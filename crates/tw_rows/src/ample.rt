@@ -102,14 +102,15 @@ fn events_are_handled_and_undone(rt: HostRuntime) {
     assert!(rt; goes_and_comes_back(rt.alloc(), case.instance()));
 }
 
-/// Whether an event waits by its router, and is listed.
+/// Whether an event waits by its router, is handed over, and is listed there.
 fn waits_by_router(alloc: Global) -> bool {
-    let Ok(mut pending) = Pending::new(alloc, 1) else {
+    let (Ok(mut pending), Ok(mut to)) = (Pending::new(alloc, 1), Pending::new(alloc, 1)) else {
         return false;
     };
     pending.reserve(1).is_ok()
         && pending.insert(Event::default()).is_ok()
-        && pending
+        && pending.hand_over(0, &mut to).is_ok()
+        && to
             .list()
             .is_ok_and(|events| events.as_slice() == &[Event::default()][..])
 }
@@ -136,12 +137,13 @@ fn events_wait_by_time(rt: HostRuntime) {
     assert!(rt; waits_by_time(rt.alloc()));
 }
 
-/// Whether an event is held by its sender, and is listed.
+/// Whether an event is held by its sender, is handed over, and is listed there.
 fn is_held_by_sender(alloc: Global) -> bool {
-    let mut held = HeldSends::new(alloc, 1);
+    let (mut held, mut to) = (HeldSends::new(alloc, 1), HeldSends::new(alloc, 1));
     held.reserve(1).is_ok()
         && held.insert(Event::default()).is_ok()
-        && held
+        && held.hand_over(0, &mut to).is_ok()
+        && to
             .list()
             .is_ok_and(|events| events.as_slice() == &[Event::default()][..])
 }

@@ -131,8 +131,8 @@ fn a_replay_has_one_worker_where_no_number_is_given(rt: HostRuntime) {
     }
 }
 
-/// Whether a run to a stop has four workers and a batch of sixty-four, and neither log nor checkpoints, and takes back at
-/// once.
+/// Whether a run to a stop has four workers and a batch of sixty-four, and neither log nor checkpoints, takes back at
+/// once, and deals its routers out in turn, for good.
 fn runs_by_four_workers(alloc: Global) -> bool {
     let line = CommandLine::Run {
         stop: 20,
@@ -141,6 +141,8 @@ fn runs_by_four_workers(alloc: Global) -> bool {
         workers: 4,
         batch: 64,
         lazy: false,
+        blocks: false,
+        rotate: false,
     };
     asks_for(alloc, &["twarp", "run", "--stop", "20"], line)
 }
@@ -152,6 +154,8 @@ fn runs_by_sixteen_workers(alloc: Global) -> bool {
         "run",
         "--log",
         "--lazy",
+        "--blocks",
+        "--rotate",
         "--batch",
         "4096",
         "--workers",
@@ -168,6 +172,8 @@ fn runs_by_sixteen_workers(alloc: Global) -> bool {
         workers: 64,
         batch: 4096,
         lazy: true,
+        blocks: true,
+        rotate: true,
     };
     asks_for(alloc, &words, line)
 }

@@ -1,6 +1,6 @@
 //! Held sends by calls.
 
-ghost use Rattle.std.specs.Prelude.{◌≡◌, ◌<◌};
+ghost use Rattle.std.specs.Prelude.{◌≡◌, ◌<◌, ◌≤◌, IfOk};
 
 use std::alloc::{AllocError, Global};
 use tw_event::{Body, Event, PathNo};
@@ -62,7 +62,9 @@ fn holds(held: &HeldSends, events: &[Event]) -> bool {
 }
 
 /// What routers 1 and 2 have sent: router 2 twice at time 6, and at time 10, router 1 at time 8.
-fn some_held(alloc: Global) -> Result<HeldSends, AllocError> {
+fn some_held(alloc: Global) -> Result<HeldSends, AllocError>
+    ensures { IfOk result (λ held. held.routers ≡ 3) }
+{
     let mut held = HeldSends::new(alloc, 3);
     insert(&mut held, sent(10, 2, 1))?;
     insert(&mut held, sent(8, 1, 0))?;
@@ -156,4 +158,43 @@ fn is_held_where_there_is_room(alloc: Global) -> bool {
 #[test]
 fn what_there_is_room_for_is_held(rt: HostRuntime) {
     assert!(rt; is_held_where_there_is_room(rt.alloc()));
+}
+
+/// Hands over what a router has sent, once more where memory was refused.
+fn hand_over(held: &mut HeldSends, router: u32, to: &mut HeldSends) -> Result<(), AllocError>
+    requires { held.old.routers ≤ to.old.routers }
+{
+    match held.hand_over(router, to) {
+        Err(_) => held.hand_over(router, to),
+        done => done,
+    }
+}
+
+/// Whether what the router has sent goes to held sends with one of router 2 at time 7, and leaves the others.
+fn goes_to_another(alloc: Global, router: u32, left: &[Event], given: &[Event]) -> bool {
+    let Ok(mut held) = some_held(alloc) else {
+        return false;
+    };
+    let mut to = HeldSends::new(alloc, 3);
+    insert(&mut to, sent(7, 2, 4)).is_ok()
+        && hand_over(&mut held, router, &mut to).is_ok()
+        && holds(&held, left)
+        && holds(&to, given)
+}
+
+#[test]
+fn what_a_router_has_sent_goes_to_other_held_sends(rt: HostRuntime) {
+    let (own, once) = (sent(7, 2, 4), sent(8, 1, 0));
+    let (twice, last) = (sent(6, 2, 0), sent(10, 2, 1));
+    let rows = [
+        (0, &[twice, twice, once, last][..], &[own][..]),
+        (1, &[twice, twice, last][..], &[own, once][..]),
+        (2, &[once][..], &[twice, twice, own, last][..]),
+    ];
+    for (router, left, given) in rows {
+        assert!(rt;
+            goes_to_another(rt.alloc(), router, left, given),
+            "router {router}"
+        );
+    }
 }

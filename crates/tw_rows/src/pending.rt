@@ -1,6 +1,6 @@
 //! Pending events by calls.
 
-ghost use Rattle.std.specs.Prelude.{◌≡◌, ◌<◌, IfOk};
+ghost use Rattle.std.specs.Prelude.{◌≡◌, ◌<◌, ◌≤◌, IfOk};
 
 use std::alloc::{AllocError, Global};
 use tw_event::{Body, Event, PathNo};
@@ -182,4 +182,78 @@ fn takes_others(pending: &mut Pending, events: &[Event]) -> bool {
 #[test]
 fn many_events_come_out_as_from_a_list(rt: HostRuntime) {
     assert!(rt; comes_as_from_a_list(rt.alloc()));
+}
+
+/// Whether these events are pending, listed once more where memory was refused.
+fn lists(pending: &Pending, events: &[Event]) -> bool {
+    let list = match pending.list() {
+        Err(_) => pending.list(),
+        done => done,
+    };
+    pending.len() == events.len() && list.is_ok_and(|list| list.as_slice() == events)
+}
+
+/// Hands over what is pending for a router, once more where memory was refused.
+fn hand_over(pending: &mut Pending, router: u32, to: &mut Pending) -> Result<(), AllocError>
+    requires { pending.old.routers ≤ to.old.routers }
+{
+    match pending.hand_over(router, to) {
+        Err(_) => pending.hand_over(router, to),
+        done => done,
+    }
+}
+
+/// One event of router 1 twice, and one of router 2.
+fn two_and_one(alloc: Global) -> Result<Pending, AllocError>
+    ensures { IfOk result (λ pending. pending.routers ≡ 3) }
+{
+    let mut pending = nothing_pending(alloc)?;
+    insert(&mut pending, offer(5, 2, 1))?;
+    insert(&mut pending, offer(1, 1, 0))?;
+    insert(&mut pending, offer(1, 1, 0))?;
+    Ok(pending)
+}
+
+/// Whether what is pending for the router goes to a list with a later event of its own, and leaves the others.
+fn goes_to_another(alloc: Global, router: u32, left: &[Event], given: &[Event]) -> bool {
+    let (Ok(mut pending), Ok(mut to)) = (two_and_one(alloc), nothing_pending(alloc)) else {
+        return false;
+    };
+    insert(&mut to, offer(3, 1, 2)).is_ok()
+        && hand_over(&mut pending, router, &mut to).is_ok()
+        && lists(&pending, left)
+        && lists(&to, given)
+}
+
+#[test]
+fn what_is_pending_for_a_router_goes_to_another_list(rt: HostRuntime) {
+    let (first, own, second) = (offer(1, 1, 0), offer(3, 1, 2), offer(5, 2, 1));
+    let rows = [
+        (0, &[first, first, second][..], &[own][..]),
+        (1, &[second][..], &[first, first, own][..]),
+        (2, &[first, first][..], &[own, second][..]),
+    ];
+    for (router, left, given) in rows {
+        assert!(rt;
+            goes_to_another(rt.alloc(), router, left, given),
+            "router {router}"
+        );
+    }
+}
+
+/// Whether many events of a router, which stand in buckets, go to another list and come out there in order.
+fn many_go_to_another(alloc: Global) -> bool {
+    let (Ok(mut pending), Ok(mut to)) = (nothing_pending(alloc), nothing_pending(alloc)) else {
+        return false;
+    };
+    insert_many(&mut pending).is_ok()
+        && hand_over(&mut pending, 1, &mut to).is_ok()
+        && pending.is_empty()
+        && takes_many(&mut to)
+        && to.is_empty()
+}
+
+#[test]
+fn many_events_of_a_router_go_to_another_list(rt: HostRuntime) {
+    assert!(rt; many_go_to_another(rt.alloc()));
 }

@@ -1,3 +1,4 @@
+pub mod Dealt
 pub mod Endings
 pub mod Watching
 pub mod Stops

@@ -3,15 +3,18 @@
 //!
 //! It stands in a crate of its own, since it starts threads and may wait, and the other programs never do.
 //! Proved, for sources and sinks that tell their bytes: what is written is exactly the answer that `seq`
-//! gives to the text that was read, for every number of workers and every batch; or nothing where memory or
-//! a thread was refused or the one-thread run gets stuck at a full counter, or a prefix where the sink failed.
+//! gives to the text that was read, for every number of workers and every batch, and however routers are
+//! dealt out; or nothing where memory or a thread was refused or the one-thread run gets stuck at a full
+//! counter, or a prefix where the sink failed.
 //! Not proved: that threads run side by side, that the run ends, and that neither memory nor a thread is refused.
 #![tactic(auto)]
 
 mod cause;
+mod dealing;
 mod outcome;
 mod run;
 mod segments;
 
+pub use dealing::Dealing;
 pub use run::run_io;
 pub use tw_commands::{Cause, Status};

@@ -10,6 +10,7 @@ ghost use Rattle.tw_run.specs.Threaded.{AnswersThreaded, LeavesThreaded};
 ghost use Rattle.tw_seq.specs.Outcome.{outcome_of as outcome_of_run};
 ghost use Rattle.tw_seq.specs.Run.{GetsStuck, complete_run};
 
+use crate::dealing::Dealing;
 use crate::outcome::outcome_of;
 use crate::segments::run_through;
 use std::alloc::Global;
@@ -35,6 +36,7 @@ struct Asked {
     workers: u32,
     batch: u32,
     cancel: Cancel,
+    dealing: Dealing,
 }
 
 /// Reads a case, deals its routers out to so many workers, one at least, runs it by a thread for each of them to
@@ -42,8 +44,8 @@ struct Asked {
 /// the text is refused.
 ///
 /// A worker handles at most `batch` events between two meetings with the others, and what an undone event has
-/// sent is taken back at once, or as late as may be. Neither the two numbers nor this shows in what is
-/// written. With `every` the workers come together at checkpoints.
+/// sent is taken back at once, or as late as may be. Neither the two numbers nor this, nor which worker has
+/// which router, shows in what is written. With `every` the workers come together at checkpoints.
 pub fn run_io<X: Threads + Wait + Sync, R: Source, W: Sink>(
     rt: &X,
     alloc: Global,
@@ -55,6 +57,7 @@ pub fn run_io<X: Threads + Wait + Sync, R: Source, W: Sink>(
     workers: u32,
     batch: u32,
     cancel: Cancel,
+    dealing: Dealing,
 ) -> Result<Status, Cause>
     requires source { R.failed source.old ≡ false }
     requires sink { W.failed sink.old ≡ false }
@@ -74,6 +77,7 @@ pub fn run_io<X: Threads + Wait + Sync, R: Source, W: Sink>(
         workers,
         batch,
         cancel,
+        dealing,
     };
     answer_text(rt, alloc, &text, asked, sink)
 }
@@ -150,7 +154,15 @@ fn run_by_workers<X: Threads + Wait + Sync>(
     ensures device { IsErrOf result cause.Device → ⊥ }
 {
     let sim = Sim::open_with(alloc, case, asked.workers, asked.log, asked.cancel)?;
-    let (sim, found) = run_through(rt, alloc, sim, asked.stop, asked.every, asked.batch)?;
+    let (sim, found) = run_through(
+        rt,
+        alloc,
+        sim,
+        asked.dealing,
+        asked.stop,
+        asked.every,
+        asked.batch,
+    )?;
     Ok((outcome_of(&sim, asked.log)?, found))
 }
 

@@ -1,5 +1,6 @@
 //! A run goes on to its stop at once, or from checkpoint to checkpoint.
 ghost use Rattle.std.specs.Prelude.{◌≡◌, ◌≤◌, ◌<◌, ◌/◌, IfOk, IfSome, IsErrOf};
+ghost use Rattle.tw_exchange.specs.Board.{workers};
 ghost use Rattle.tw_commands.specs.declared.cause.Cause.TheVariants as cause;
 ghost use Rattle.tw_commands.specs.Seq.{found_to};
 ghost use Rattle.tw_model.specs.declared.limits.TheConstants.{LATEST};
@@ -9,20 +10,52 @@ ghost use Rattle.tw_shape.specs.Shape.{shape as shape_at};
 ghost use Rattle.tw_shape.specs.Verdict.{finding};
 
 use crate::cause::cause_of;
+use crate::dealing::{Dealing, owners};
 use std::alloc::{AllocError, Global};
 use std::sync::Wait;
 use std::thread::Threads;
 use tw_commands::Cause;
-use tw_parallel::{NotSettled, OpenGate, Options, OrMemory, Sim, run_until};
+use tw_parallel::{NotSettled, OpenGate, Options, OrMemory, UnfitOwners, Sim, run_until};
 use tw_shape::{Finding, Shape, Watch};
 
-/// Runs on to a stop, in ticks, which is not before that of the run.
+/// Deals the routers out as they are to be after so many checkpoints. Those of a run that is to stay as it was
+/// opened are left where they are.
+fn deal(
+    alloc: Global,
+    sim: &mut Sim<'_>,
+    dealing: Dealing,
+    checkpoints: u64,
+) -> Result<(), AllocError>
+    requires some { 0 < workers sim.old.board }
+    requires checkpoints { checkpoints ≤ LATEST }
+    ensures goes_on { GoesOn sim.old sim.new }
+    ensures stop { sim.new.board.stop ≡ sim.old.board.stop }
+{
+    if !dealing.blocks && !dealing.rotate {
+        return Ok(());
+    }
+    let routers = sim.case().instance().nodes();
+    let owners = owners(alloc, dealing, sim.workers(), routers, checkpoints)?;
+    match sim.move_to(&owners) {
+        Ok(()) => Ok(()),
+        Err(OrMemory::Memory) => Err(AllocError),
+        Err(OrMemory::Fault(UnfitOwners)) => unreachable!(),
+    }
+}
+
+/// Runs on to a stop, in ticks, which is not before that of the run. Where the run is not there yet, its routers
+/// are dealt out before as they are to be after so many checkpoints.
 fn run_to<'a, X: Threads + Wait + Sync>(
     rt: &X,
+    alloc: Global,
     sim: Sim<'a>,
+    dealing: Dealing,
+    checkpoints: u64,
     stop: u64,
     batch: u32,
 ) -> Result<Sim<'a>, Cause>
+    requires some { 0 < workers sim.board }
+    requires checkpoints { checkpoints ≤ LATEST }
     requires stop { sim.board.stop ≤ stop }
     requires latest { stop ≤ LATEST }
     ensures settled { IfOk result (λ s. IsSettled s) }
@@ -31,6 +64,10 @@ fn run_to<'a, X: Threads + Wait + Sync>(
     ensures stop { IfOk result (λ s. s.board.stop ≡ stop) }
     ensures device { IsErrOf result cause.Device → ⊥ }
 {
+    let mut sim = sim;
+    if sim.stop() < stop {
+        deal(alloc, &mut sim, dealing, checkpoints)?;
+    }
     match run_until(rt, sim, stop, Options { batch }, &OpenGate) {
         Ok(sim) => Ok(sim),
         Err(ended) => Err(cause_of(ended.cause)),
@@ -43,10 +80,12 @@ pub(crate) fn run_through<'a, X: Threads + Wait + Sync>(
     rt: &X,
     alloc: Global,
     sim: Sim<'a>,
+    dealing: Dealing,
     stop: u64,
     every: Option<u64>,
     batch: u32,
 ) -> Result<(Sim<'a>, Option<Finding>), Cause>
+    requires some { 0 < workers sim.board }
     requires opening { sim.board.stop ≡ 0 }
     requires stop { stop ≤ LATEST }
     requires every { IfSome every (λ n. (0 < n) × (n ≤ LATEST)) }
@@ -57,8 +96,8 @@ pub(crate) fn run_through<'a, X: Threads + Wait + Sync>(
     ensures found { IfOk result (λ left. left.1 ≡ found_to sim.entry.case stop every) }
 {
     match every {
-        Some(every) => run_watched(rt, alloc, sim, stop, every, batch),
-        None => Ok((run_to(rt, sim, stop, batch)?, None)),
+        Some(every) => run_watched(rt, alloc, sim, dealing, stop, every, batch),
+        None => Ok((run_to(rt, alloc, sim, dealing, 0, stop, batch)?, None)),
     }
 }
 
@@ -66,15 +105,18 @@ pub(crate) fn run_through<'a, X: Threads + Wait + Sync>(
 /// beginning.
 ///
 /// Workers come together at a checkpoint only where something was handled since the one before it, and at none
-/// once something is found, since the first finding decides.
+/// once something is found, since the first finding decides. Going on from there each router has the worker
+/// that is due after all the checkpoints so far.
 fn run_watched<'a, X: Threads + Wait + Sync>(
     rt: &X,
     alloc: Global,
     sim: Sim<'a>,
+    dealing: Dealing,
     stop: u64,
     every: u64,
     batch: u32,
 ) -> Result<(Sim<'a>, Option<Finding>), Cause>
+    requires workers { 0 < workers sim.board }
     requires opening { sim.board.stop ≡ 0 }
     requires stop { stop ≤ LATEST }
     requires some { 0 < every }
@@ -91,11 +133,11 @@ fn run_watched<'a, X: Threads + Wait + Sync>(
     let mut seen = 0;
     while seen < last && watch.finding().is_none() {
         let time = (seen + 1) * every;
-        run = run_to(rt, run, time, batch)?;
+        run = run_to(rt, alloc, run, dealing, seen, time, batch)?;
         let shape = shape_of(&run)?;
         seen += watch.push(time, shape, last - seen);
     }
-    let run = run_to(rt, run, stop, batch)?;
+    let run = run_to(rt, alloc, run, dealing, seen, stop, batch)?;
     Ok((run, watch.finding()))
 }
 

@@ -20,7 +20,7 @@ pub runnable : (found : Option (Text × List Row)) (line : CommandLine) → Says
 runnable None line h = absurd h
 runnable (Some f) Check h = tt
 runnable (Some f) (Seq stop every log) h = (h.1.high, every_in _ f.1 every h.2)
-runnable (Some f) (Run stop every log workers batch lazy) h = (h.1.high, every_in _ f.1 every h.2, some_in _ _ _ f.1 workers (omega arith) h.4)
+runnable (Some f) (Run stop every log workers batch lazy blocks rotate) h = (h.1.high, every_in _ f.1 every h.2, some_in _ _ _ f.1 workers (omega arith) h.4)
 runnable (Some f) (Trail router stop keep) h = h.2.high
 runnable (Some f) (Replay stop workers lazy) h = (h.1.high, some_in _ _ _ f.1 workers (omega arith) h.2)
 runnable (Some f) Upgrade h = tt

@@ -20,7 +20,7 @@ use Rattle.tw_sim.specs.declared.machine.Cancel.TheVariants.{Aggressive, Lazy}
 abbrev pub IsRunnable : CommandLine → Type 0
 IsRunnable Check = Unit {0}
 IsRunnable (Seq stop every log) = (stop ≤ LATEST) × IfSome every (λ n. (0 < n) × (n ≤ LATEST))
-IsRunnable (Run stop every log workers batch lazy) = (stop ≤ LATEST) × IfSome every (λ n. (0 < n) × (n ≤ LATEST)) × (0 < workers)
+IsRunnable (Run stop every log workers batch lazy blocks rotate) = (stop ≤ LATEST) × IfSome every (λ n. (0 < n) × (n ≤ LATEST)) × (0 < workers)
 IsRunnable (Trail router stop keep) = stop ≤ LATEST
 IsRunnable (Replay stop workers lazy) = (stop ≤ LATEST) × (0 < workers)
 IsRunnable Upgrade = Unit {0}
@@ -33,7 +33,7 @@ cancel_of lazy = if lazy then Lazy else Aggressive
 abbrev pub due : CommandLine → List ℕ → Output
 due Check = check_output
 due (Seq stop every log) = seq_output stop every log
-due (Run stop every log workers batch lazy) = seq_output stop every log
+due (Run stop every log workers batch lazy blocks rotate) = seq_output stop every log
 due (Trail router stop keep) = trail_output router stop keep
 due (Replay stop workers lazy) = replay_output stop (cancel_of lazy)
 due Upgrade = upgrade_output
@@ -48,7 +48,7 @@ status_number (Err cause) = 2
 abbrev pub StopsFull : CommandLine → List ℕ → Type 0
 StopsFull Check input = ⊥
 StopsFull (Seq stop every log) input = GetsStuckFor stop input
-StopsFull (Run stop every log workers batch lazy) input = GetsStuckFor stop input
+StopsFull (Run stop every log workers batch lazy blocks rotate) input = GetsStuckFor stop input
 StopsFull (Trail router stop keep) input = TrailGetsStuck router stop input
 StopsFull (Replay stop workers lazy) input = ⊥
 StopsFull Upgrade input = ⊥
@@ -57,7 +57,7 @@ StopsFull Upgrade input = ⊥
 abbrev pub StartsThreads : CommandLine → Type 0
 StartsThreads Check = ⊥
 StartsThreads (Seq stop every log) = ⊥
-StartsThreads (Run stop every log workers batch lazy) = Unit {0}
+StartsThreads (Run stop every log workers batch lazy blocks rotate) = Unit {0}
 StartsThreads (Trail router stop keep) = ⊥
 StartsThreads (Replay stop workers lazy) = ⊥
 StartsThreads Upgrade = ⊥

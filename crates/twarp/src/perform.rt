@@ -10,7 +10,7 @@ use std::thread::Threads;
 use tw_commands::{Cause, Status, check_io, replay_io, seq_io, trail_io, upgrade_io};
 use tw_device::{Sink, Source};
 use tw_options::CommandLine;
-use tw_run::run_io;
+use tw_run::{Dealing, run_io};
 use tw_sim::Cancel;
 
 /// Does what a command line asks: reads its input from the source and writes the answer that is due
@@ -40,10 +40,13 @@ pub(crate) fn perform<X: Threads + Wait + Sync, R: Source, W: Sink>(
             workers,
             batch,
             lazy,
+            blocks,
+            rotate,
         } => {
             let cancel = cancel_of(lazy);
+            let dealing = Dealing { blocks, rotate };
             run_io(
-                rt, alloc, source, sink, stop, every, log, workers, batch, cancel,
+                rt, alloc, source, sink, stop, every, log, workers, batch, cancel, dealing,
             )
         }
         CommandLine::Trail { router, stop, keep } => {

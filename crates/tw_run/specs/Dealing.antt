@@ -1,0 +1,18 @@
+-- Which worker has which router, as the options of `run` say (own).
+use Rattle.std.specs.Prelude.{ℕ, ◌+◌, ◌*◌, ◌/◌, ◌%◌, List, map, if◌then◌else◌}
+use Rattle.std.specs.List.{range_with_len}
+use Rattle.tw_run.specs.declared.dealing.Dealing.{Dealing as ADealing}
+use Rattle.tw_sim.specs.Owners.{owner}
+
+-- the worker that has a router at the beginning: in blocks of routers in a row, or in turn
+abbrev pub first_owner : ADealing → ℕ → ℕ → ℕ → ℕ
+first_owner dealing workers routers r = if dealing.blocks then r * workers / routers else owner workers r
+
+-- and after so many checkpoints, at each of which routers may go to the next worker
+abbrev pub owner_after : ADealing → ℕ → ℕ → ℕ → ℕ → ℕ
+owner_after dealing workers routers checkpoints r =
+    if dealing.rotate then (first_owner dealing workers routers r + checkpoints) % workers else first_owner dealing workers routers r
+
+-- that of each router, by rising router
+abbrev pub owners_after : ADealing → ℕ → ℕ → ℕ → List ℕ
+owners_after dealing workers routers checkpoints = map (owner_after dealing workers routers checkpoints) (range_with_len 0 routers)

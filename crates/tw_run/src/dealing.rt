@@ -1,0 +1,64 @@
+//! Which worker has which router, as the options of `run` say.
+ghost use Rattle.std.specs.Prelude.{◌≡◌, ◌<◌, ◌≤◌, IfOk};
+ghost use Rattle.tw_model.specs.declared.limits.TheConstants.{LATEST};
+ghost use Rattle.tw_run.specs.Dealing.{first_owner, owner_after, owners_after};
+
+use std::alloc::{AllocError, Global};
+use tw_sim::owner;
+
+/// How routers are dealt out to workers.
+#[derive(Clone, Copy, Debug)]
+pub struct Dealing {
+    /// Whether a worker's routers are a block of routers in a row, and not dealt out in turn: of so many routers,
+    /// router r goes to worker r * workers div routers, and not to r mod workers.
+    pub blocks: bool,
+    /// Whether the routers go to the next worker at each checkpoint.
+    pub rotate: bool,
+}
+
+/// The worker that has each of so many routers after so many checkpoints, by rising router.
+pub(crate) fn owners(
+    alloc: Global,
+    dealing: Dealing,
+    workers: u32,
+    routers: u32,
+    checkpoints: u64,
+) -> Result<Vec<u32>, AllocError>
+    requires some { 0 < workers }
+    requires checkpoints { checkpoints ≤ LATEST }
+    ensures { IfOk result (λ owners. owners.items ≡ owners_after dealing workers routers checkpoints) }
+{
+    let mut owners = Vec::with_capacity(alloc, routers as usize)?;
+    for router in 0..routers {
+        owners.push(owner_of(router, dealing, workers, routers, checkpoints))?;
+    }
+    Ok(owners)
+}
+
+/// The worker that has a router then.
+fn owner_of(router: u32, dealing: Dealing, workers: u32, routers: u32, checkpoints: u64) -> u32
+    requires some { 0 < workers }
+    requires router { router < routers }
+    requires checkpoints { checkpoints ≤ LATEST }
+    ensures { result ≡ owner_after dealing workers routers checkpoints router }
+{
+    let first = first_owner_of(router, dealing, workers, routers);
+    if dealing.rotate {
+        ((u64::from(first) + checkpoints) % u64::from(workers)) as u32
+    } else {
+        first
+    }
+}
+
+/// The worker that has a router at the beginning.
+fn first_owner_of(router: u32, dealing: Dealing, workers: u32, routers: u32) -> u32
+    requires some { 0 < workers }
+    requires router { router < routers }
+    ensures { result ≡ first_owner dealing workers routers router }
+{
+    if dealing.blocks {
+        (u64::from(router) * u64::from(workers) / u64::from(routers)) as u32
+    } else {
+        owner(router, workers as usize) as u32
+    }
+}
