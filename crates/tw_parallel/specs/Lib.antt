@@ -4,4 +4,3 @@ pub mod Inside
 pub mod Moving
 pub mod Settled
 pub mod Crew
-pub mod Moving
