@@ -3,9 +3,7 @@
 
 ghost use Rattle.std.specs.Prelude.{◌≡◌, ◌<◌, IfSome};
 
-use crate::messages::{
-    antimessage, early_offers_of_2, offers_of_1, offers_of_2, offers_of_origin,
-};
+use crate::messages::{antimessage, early_offers_of_2, offers_of_1, offers_of_2, offers_of_origin};
 use crate::shards::{handle, receive, undo};
 use std::alloc::Global;
 use tw_event::PathNo;
@@ -132,7 +130,11 @@ fn is_refused<'a>(from: &mut Shard<'a>, to: &mut Shard<'a>) -> bool
 fn goes_ahead(shard: &mut Shard<'_>) -> bool
     ensures { shard.new.case ≡ shard.old.case }
 {
-    let ([first, _], [_, later], [_, kept]) = (offers_of_origin(), offers_of_2(), early_offers_of_2());
+    let ([first, _], [_, later], [_, kept]) = (
+        offers_of_origin(),
+        offers_of_2(),
+        early_offers_of_2(),
+    );
     shard.raise_bound(1);
     receive(shard, first).is_ok()
         && handle(shard, 1) == Ok(())

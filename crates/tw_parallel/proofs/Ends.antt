@@ -33,7 +33,7 @@ use Rattle.tw_sim.specs.Seq.{insert_all, log}
 use Rattle.tw_sim.specs.Simulation.{IsFalling, times}
 use Rattle.tw_sim.specs.declared.machine.Signed.{Signed}
 use Rattle.tw_table.specs.declared.hand.Hand.{Hand}
-use Rattle.tw_table.specs.Shares.{Share, place_of, shares_of}
+use Rattle.tw_table.specs.Shares.{place_of, shares_of}
 use Rattle.tw_warp.proofs.Dealt.{all_there, together}
 
 pub empty_of : {X : Type 0} (xs : List X) → length xs ≡ 0 → xs ≡ []

@@ -10,7 +10,7 @@ use Rattle.tw_core.specs.Machine.{Core}
 use Rattle.tw_core.specs.Parts.{IsOwn}
 use Rattle.tw_core.specs.Steps.{after_antimessage, after_arrival, after_message, after_undoing, after_undoing_while, deliver, next, sent_back, step, undo}
 use Rattle.tw_core.proofs.Own.{own_arrival, own_undoing}
-use Rattle.tw_core.proofs.Steps.{deliver_keeps, next_keeps, step_keeps}
+use Rattle.tw_core.proofs.Steps.{next_keeps, step_keeps}
 use Rattle.tw_core.proofs.Steps as core_steps
 use Rattle.tw_core.proofs.Wording.{arrival-front}
 use Rattle.tw_event.specs.declared.event.Event.{Event}

@@ -7,7 +7,7 @@ use Rattle.tw_event.specs.declared.event.Event.{Event}
 use Rattle.tw_event.specs.Order.{event_same}
 use Rattle.tw_model.specs.Case.{Case, IsCase, simulation}
 use Rattle.tw_model.proofs.Lawful.{lawful}
-use Rattle.tw_shard.specs.Shard.{IsSameShare, Shard, owns}
+use Rattle.tw_shard.specs.Shard.{Shard}
 use Rattle.tw_shard.specs.Shard as share
 use Rattle.tw_sim.specs.declared.machine.Signed.{Signed}
 use Rattle.tw_sim.specs.Owners.{owner}

@@ -1,5 +1,5 @@
 -- What calls at a shard and at a hand keep of a worker's share.
-use Rattle.std.proofs.Common.{◌≡◌, ℕ, zero, suc, ◌+◌, ◌<◌, ◌≤◌, ◌==◌, ◌&&◌, nat_lt, true, false, List, [], ◌∷◌, drop, length, get_or, Result, Ok, Err, Some, remove, slice_get, refl, ap, sym, ◌∙◌, subst, inl, inr, arith, if◌then◌else◌}
+use Rattle.std.proofs.Common.{◌≡◌, ℕ, zero, suc, ◌+◌, ◌<◌, ◌≤◌, nat_lt, true, false, List, [], ◌∷◌, drop, length, get_or, Result, Ok, Err, Some, remove, slice_get, refl, ap, sym, ◌∙◌, subst, inl, inr, arith, if◌then◌else◌}
 use Rattle.std.proofs.lemmas.Bool.{cases_Bool, ltb-true}
 use Rattle.std.proofs.lemmas.List.{at_drop_more}
 use Rattle.tw_core.specs.declared.refusal.Refusal.TheVariants.{AheadFull, NotMine}
@@ -18,7 +18,6 @@ use Rattle.tw_shard.specs.Arrival.{receiving, refusing}
 use Rattle.tw_shard.specs.Roster.{has}
 use Rattle.tw_shard.specs.Shard.{IsSameShare, Shard, core, handling, owns, releasing, widening}
 use Rattle.tw_sim.specs.declared.machine.Signed.{Signed}
-use Rattle.tw_sim.specs.Owners.{owner}
 use Rattle.tw_table.specs.Shares.{Share, place_of}
 use Rattle.tw_workers.specs.Work.{IsAtWork, Kept}
 

@@ -1,4 +1,4 @@
-use Rattle.std.proofs.Common.{[], flat_map, ap, ◌∙◌, subst}
+use Rattle.std.proofs.Common.{[], ap, ◌∙◌, subst}
 use Rattle.tw_core.specs.Run.{IsSeq}
 use Rattle.tw_event.specs.Order.{event_before}
 use Rattle.tw_model.specs.Case.{simulation}

@@ -1,4 +1,4 @@
-use Rattle.std.proofs.Common.{ℕ, ◌<◌, List, ap, sym, ◌∙◌, subst}
+use Rattle.std.proofs.Common.{◌<◌, List, ap, sym, ◌∙◌, subst}
 use Rattle.tw_core.specs.Run.{IsSeq}
 use Rattle.tw_model.specs.Case.{simulation}
 use Rattle.tw_parallel.proofs.Owners.{have_all, same_router, seq_of}

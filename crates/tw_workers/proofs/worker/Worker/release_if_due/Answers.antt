@@ -1,9 +1,9 @@
-use Rattle.std.proofs.Common.{◌≡◌, true, sym, ◌∙◌, subst}
+use Rattle.std.proofs.Common.{sym, subst}
 use Rattle.tw_model.proofs.Lawful.{lawful}
 use Rattle.tw_model.specs.Case.{simulation}
 use Rattle.tw_sim.specs.Simulation.{IsLawful}
 use Rattle.tw_workers.proofs.Awaited.{from_still, its_own}
-use Rattle.tw_workers.specs.Work.{AreAwaitedFrom, IsAtWork, Worker}
+use Rattle.tw_workers.specs.Work.{AreAwaitedFrom}
 use Rattle.tw_workers.proofs.worker.Worker.release_if_due.Goals as goal
 
 pub returns-in_ok-release_router-clause-awaited : goal.returns-in_ok-release_router-clause-awaited

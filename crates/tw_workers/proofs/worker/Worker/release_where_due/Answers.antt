@@ -1,6 +1,6 @@
-use Rattle.std.proofs.Common.{◌≡◌, true, ◌+◌, ◌≤◌, ℕ, Some, drop, length, slice_get, refl, ap, sym, ◌∙◌, subst}
+use Rattle.std.proofs.Common.{◌≡◌, true, ◌+◌, ◌≤◌, Some, drop, length, slice_get, refl, ap, sym, ◌∙◌, subst}
 use Rattle.std.proofs.Math.ListN.{drop_of_length-le}
-use Rattle.tw_shard.specs.Shard.{Shard, owns, routers}
+use Rattle.tw_shard.specs.Shard.{owns, routers}
 use Rattle.tw_workers.proofs.Awaited.{AreReleased, all_released, all_to_release, released_more}
 use Rattle.tw_workers.proofs.Commits.{next_left}
 use Rattle.tw_workers.specs.Work.{AreAwaitedFrom, IsAtWork, Worker}
