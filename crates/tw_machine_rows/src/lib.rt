@@ -14,6 +14,8 @@ mod machine;
 #[cfg(test)]
 mod messages;
 #[cfg(test)]
+mod owners;
+#[cfg(test)]
 mod rooms;
 #[cfg(test)]
 mod shards;
