@@ -56,9 +56,9 @@ module _ (r : ℕ) where
       joined (λ m. is_for (who x) k m ≡ true) (λ m. Unit {0}) (λ m. is_to r m ≡ false)
       (λ m here _. ne_eqb m.event.dst r (λ e. ne (ap (who x) (sym e) ∙ eqb-true (who x m.event.dst) k here)))
       (mail_of k x) (h.home k) (units (mail_of k x)) where
-    units : (ms : List (Signed Event)) → AllByRecursion (λ m. Unit {0}) ms
-    units [] = tt
-    units (m ∷ ms) = (tt, units ms)
+        units : (ms : List (Signed Event)) → AllByRecursion (λ m. Unit {0}) ms
+        units [] = tt
+        units (m ∷ ms) = (tt, units ms)
 
   filter_both : (p : Signed Event → Bool) (xs ys : List (Signed Event)) → filter p (xs ++ ys) ≡ filter p xs ++ filter p ys
   filter_both p [] ys = refl

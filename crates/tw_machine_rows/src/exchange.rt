@@ -15,7 +15,7 @@ fn exchange(alloc: Global) -> Result<Exchange, AllocError> {
 }
 
 /// A visit, once more where memory was refused.
-fn visit(
+pub(crate) fn visit(
     exchange: &mut Exchange,
     worker: u32,
     out: Vec<Signed<Event>>,
@@ -49,7 +49,11 @@ fn is_told_to_halt(answer: &Result<Visit, Back>) -> bool {
 }
 
 /// Whether a visit was refused for this reason, and this came back.
-fn is_back(answer: &Result<Visit, Back>, out: &[Signed<Event>], fault: VisitFault) -> bool {
+pub(crate) fn is_back(
+    answer: &Result<Visit, Back>,
+    out: &[Signed<Event>],
+    fault: VisitFault,
+) -> bool {
     match answer {
         Ok(_) => false,
         Err(back) => back.out.as_slice() == out && back.why == OrMemory::Fault(fault),
@@ -58,7 +62,7 @@ fn is_back(answer: &Result<Visit, Back>, out: &[Signed<Event>], fault: VisitFaul
 
 /// Whether a visit of a worker that deposits these messages is told of this mail and this bound, and leaves this
 /// report.
-fn hands_out(
+pub(crate) fn hands_out(
     exchange: &mut Exchange,
     worker: u32,
     deposit: Vec<Signed<Event>>,

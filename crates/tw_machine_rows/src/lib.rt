@@ -15,6 +15,7 @@ mod machine;
 mod messages;
 #[cfg(test)]
 mod moving;
+mod owners;
 #[cfg(test)]
 mod rooms;
 #[cfg(test)]

@@ -31,11 +31,7 @@ impl Exchange {
 
     /// Takes out all mail for one router, and puts it behind `to` in its order. Where memory is refused,
     /// nothing has changed. It cannot fail where `to` has room for all mail of the router's worker.
-    pub fn take_for(
-        &mut self,
-        router: u32,
-        to: &mut Vec<Signed<Event>>,
-    ) -> Result<(), AllocError>
+    pub fn take_for(&mut self, router: u32, to: &mut Vec<Signed<Event>>) -> Result<(), AllocError>
         ensures mail { OnOk result (self.new ≡ without_mail router self.old) }
         ensures none { OnOk result (AllByRecursion (λ m. is_to router m ≡ false) (all_mail self.new)) }
         ensures taken { OnOk result (to.new.items ≡ to.old.items ++ filter (is_to router) (all_mail self.old)) }
