@@ -15,6 +15,7 @@ mod machine;
 mod messages;
 #[cfg(test)]
 mod moving;
+#[cfg(test)]
 mod owners;
 #[cfg(test)]
 mod rooms;
