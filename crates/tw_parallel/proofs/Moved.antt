@@ -36,7 +36,17 @@ use Rattle.tw_table.specs.Shares.{IsRuled, Share, board_of, place_of, share, sha
 module _ (case : Case) where
   pub same_self : (C : Core Event) → IsSameMachine (simulation case) C C
   same_self C = record {
-    history = λ r l. refl; done = λ r l. refl; past = λ r l. refl; room = λ r l. refl; pending = λ e. refl; kept = λ e. refl; plus = λ e. refl; minus = λ e. refl; held = λ e. refl; bound = refl; stop = refl;
+    history = λ r l. refl;
+    done = λ r l. refl;
+    past = λ r l. refl;
+    room = λ r l. refl;
+    pending = λ e. refl;
+    kept = λ e. refl;
+    plus = λ e. refl;
+    minus = λ e. refl;
+    held = λ e. refl;
+    bound = refl;
+    stop = refl;
   }
 
   pub same_both : (C D E : Core Event) → IsSameMachine (simulation case) C D → IsSameMachine (simulation case) D E → IsSameMachine (simulation case) C E
@@ -318,8 +328,10 @@ module _ (s : Sim) (is : IsSim s) (n : ℕ) (count : n ≡ s.case.net.nodes) whe
   ) where
     one_self : (e : Event) → one (simulation s.case) e e ≡ 1
     one_self e = ap (λ b. cond b (suc zero) zero) ((law s is).same_self e)
+
     among_first : (x : Signed Event) (xs : List (Signed Event)) → 0 < rule.times_among (simulation s.case) x.event (x ∷ xs)
     among_first x xs = (let one = one_self x.event in elim (cases_Bool x.plus) [ inl b ↦ rw b (omega arith) | inr b ↦ rw b (omega arith) ])
+
     among_more : (e : Event) (x : Signed Event) (xs : List (Signed Event)) → rule.times_among (simulation s.case) e xs ≤ rule.times_among (simulation s.case) e (x ∷ xs)
     among_more e x xs = omega arith
 

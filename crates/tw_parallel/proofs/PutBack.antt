@@ -67,6 +67,7 @@ module _ {X : Type 0} where
     ] where
       below : (k : ℕ) → k < last + 1 → (k ≡ last → ⊥) → k + 1 < last + 1
       below k within ne = elim (cases_eq k last) [ inl is ↦ absurd (ne is) | inr other ↦ omega arith ]
+
       omega_before : to ≡ last → from + 1 < last + 1
       omega_before is = below from from_in (λ same. apart (same ∙ sym is))
 
@@ -98,8 +99,10 @@ module _ {X : Type 0} where
             let c = length-set xs from s in
             let d = held in
             omega arith
+
         wide : length (set xs from s) ≡ last + 1
         wide = length-set xs from s ∙ long
+
         each : (k : ℕ) (d : X) → k < length ws → get_or ws k d ≡ get_or (set (set xs from s) to t) k d
         each k d within =
             let a = length_more (set ys p t) s in

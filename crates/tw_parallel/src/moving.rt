@@ -136,9 +136,7 @@ fn hand_over<'a>(
     reserve_mail(hands, source, target, waiting)?;
     hand_over_router(shards, router, source, target)?;
     hand_over_mail(hands, router, source, target);
-    exchange
-        .take_for(router, &mut hands[target].mail)
-        .unwrap();
+    exchange.take_for(router, &mut hands[target].mail).unwrap();
     exchange.set_owner(router, to);
     Ok(())
 }

@@ -132,8 +132,8 @@ module _ {S E : Type 0} (m : Simulation S E) (law : IsLawful m) (who later : ℕ
   plus_stays : (e : E) → messages m e (assembled y ps2).flight ≡ messages m e (assembled x ps).flight
   plus_stays e =
       let sum = λ (b : Board E) (zs : List (Place E)). (messages-append m e b.mail (flat_map (λ (z : Part E). z.core.flight) (flights b.stop zs))
-          ∙ ap (λ n. messages m e b.mail + n) (messages-flat_map m e (λ (z : Part E). z.core.flight) (flights b.stop zs)
-          ∙ total_map (λ (z : Part E). messages m e z.core.flight) (part_of b.stop) zs)) in
+      ∙ ap (λ n. messages m e b.mail + n) (messages-flat_map m e (λ (z : Part E). z.core.flight) (flights b.stop zs)
+      ∙ total_map (λ (z : Part E). messages m e z.core.flight) (part_of b.stop) zs)) in
       let after = sum y ps2 in
       let before = sum x ps in
       let a = total_set (λ (z : Place E). messages m e (in_hand z)) ps i p p2 first in
@@ -152,8 +152,8 @@ module _ {S E : Type 0} (m : Simulation S E) (law : IsLawful m) (who later : ℕ
   minus_stays : (e : E) → antimessages m e (assembled y ps2).flight ≡ antimessages m e (assembled x ps).flight
   minus_stays e =
       let sum = λ (b : Board E) (zs : List (Place E)). (antimessages-append m e b.mail (flat_map (λ (z : Part E). z.core.flight) (flights b.stop zs))
-          ∙ ap (λ n. antimessages m e b.mail + n) (antimessages-flat_map m e (λ (z : Part E). z.core.flight) (flights b.stop zs)
-          ∙ total_map (λ (z : Part E). antimessages m e z.core.flight) (part_of b.stop) zs)) in
+      ∙ ap (λ n. antimessages m e b.mail + n) (antimessages-flat_map m e (λ (z : Part E). z.core.flight) (flights b.stop zs)
+      ∙ total_map (λ (z : Part E). antimessages m e z.core.flight) (part_of b.stop) zs)) in
       let after = sum y ps2 in
       let before = sum x ps in
       let a = total_set (λ (z : Place E). antimessages m e (in_hand z)) ps i p p2 first in

@@ -34,6 +34,7 @@ owner_within d workers routers checkpoints r some there = go d.rotate
   where
     first : ℕ
     first = first_owner d workers routers r
+
     go : (b : Bool) → (if b then (first + checkpoints) % workers else first) < workers
     go true = mod-lt (first + checkpoints) some
     go false = first_within d workers routers r some there

@@ -15,7 +15,7 @@ use std::alloc::{AllocError, Global};
 use std::sync::Wait;
 use std::thread::Threads;
 use tw_commands::Cause;
-use tw_parallel::{NotSettled, OpenGate, Options, OrMemory, UnfitOwners, Sim, run_until};
+use tw_parallel::{NotSettled, OpenGate, Options, OrMemory, Sim, UnfitOwners, run_until};
 use tw_shape::{Finding, Shape, Watch};
 
 /// Deals the routers out as they are to be after so many checkpoints. Those of a run that is to stay as it was
