@@ -1,7 +1,7 @@
 -- Owners as `run` deals them out fit its run.
 use Rattle.std.proofs.Common.{◌≡◌, ℕ, ◌+◌, ◌*◌, ◌/◌, ◌%◌, ◌<◌, ◌==◌, zero, suc, Bool, true, false, List, [], ◌∷◌, ◌++◌, ap₂, length, map, refl, subst, sym, ◌∙◌, arith}
 use Rattle.std.proofs.Math.Nat.{div-lt_iff_lt-mul, mod-lt, mul-lt-mul_of_pos_right, mul_comm}
-use Rattle.std.proofs.lemmas.Bool.{lt-ltb}
+use Rattle.std.proofs.lemmas.Bool.{eq-eqb, lt-ltb}
 use Rattle.std.proofs.lemmas.List.FromFn.{length-map-range_with_len, map-range_with_len_more}
 use Rattle.std.specs.List.{list_all, range_with_len}
 use Rattle.std.specs.Prelude.{if◌then◌else◌, nat_lt}
@@ -10,10 +10,6 @@ use Rattle.tw_parallel.specs.Moving.{are_owners}
 use Rattle.tw_parallel.specs.Sim.{GoesOn, Sim}
 use Rattle.tw_run.specs.Dealing.{first_owner, owner_after, owners_after}
 use Rattle.tw_run.specs.declared.dealing.Dealing.{Dealing as ADealing}
-
-eqb_same : (n : ℕ) → (n == n) ≡ true
-eqb_same zero = refl
-eqb_same (suc n) = eqb_same n
 
 -- r * workers div routers is a worker
 pub in_blocks : (workers routers r : ℕ) → 0 < workers → r < routers → r * workers / routers < workers
@@ -43,10 +39,10 @@ owner_within d workers routers checkpoints r some there = go d.rotate
 pub one_more : (f : ℕ → ℕ) (n : ℕ) (xs ys : List ℕ) (x : ℕ) → ys ≡ xs ++ x ∷ [] → xs ≡ map f (range_with_len 0 n) → x ≡ f n → ys ≡ map f (range_with_len 0 (n + 1))
 one_more f n xs ys x pushed old new = pushed ∙ (ap₂ (λ l y. l ++ y ∷ []) old new ∙ sym (map-range_with_len_more f 0 n n (omega arith)))
 
-all_in_range : (f : ℕ → ℕ) (workers a n : ℕ) → ((r : ℕ) → r < a + n → f r < workers) → list_all (λ w. nat_lt w workers) (map f (range_with_len a n)) ≡ true
-all_in_range f workers a zero within = refl
-all_in_range f workers a (suc n) within =
-    rw (lt-ltb (f a) workers (within a (omega arith))) (all_in_range f workers (suc a) n (λ r there. within r (omega (arith, there))))
+all_in_range : (f : ℕ → ℕ) (most a n : ℕ) → ((r : ℕ) → r < a + n → f r < most) → list_all (λ w. nat_lt w most) (map f (range_with_len a n)) ≡ true
+all_in_range f most a zero within = refl
+all_in_range f most a (suc n) within =
+    rw (lt-ltb (f a) most (within a (omega arith))) (all_in_range f most (a + 1) n (λ r there. within r (omega (arith, there))))
 
 -- they are one of the workers for each router
 pub fits : (s : Sim) (d : ADealing) (checkpoints : ℕ) → 0 < workers s.board
@@ -54,7 +50,7 @@ pub fits : (s : Sim) (d : ADealing) (checkpoints : ℕ) → 0 < workers s.board
 fits s d checkpoints some =
     let nodes = s.case.net.nodes in
     let f = owner_after d (workers s.board) nodes checkpoints in
-    rw (length-map-range_with_len f 0 nodes, eqb_same nodes) (all_in_range f (workers s.board) 0 nodes (λ r there. owner_within d (workers s.board) nodes checkpoints r some there))
+    rw (length-map-range_with_len f 0 nodes, eq-eqb nodes nodes refl) (all_in_range f (workers s.board) 0 nodes (λ r there. owner_within d (workers s.board) nodes checkpoints r some (omega (arith, there))))
 
 -- nothing has changed
 pub goes_on_same : (s : Sim) → GoesOn s s
