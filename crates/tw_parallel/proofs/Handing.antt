@@ -3,6 +3,7 @@ use Rattle.std.proofs.Common.{◌≡◌, ℕ, zero, suc, ◌+◌, ◌<◌, List,
 use Rattle.std.proofs.lemmas.List.{length-set}
 use Rattle.tw_event.specs.declared.event.Event.{Event}
 use Rattle.tw_exchange.specs.Board.{Board, all_mail, is_to, is_to_another}
+use Rattle.tw_parallel.proofs.PutBack.{set_set}
 use Rattle.tw_parallel.specs.Moving.{AreEnds, HasHanded, HasMovedBetween, HasPassed}
 use Rattle.tw_shard.specs.Shard.{Shard, no_shard}
 use Rattle.tw_sim.specs.declared.machine.Signed.{Signed}
@@ -39,11 +40,6 @@ same_shares (s ∷ ss) (h ∷ hs) [] long each = absurd (omega arith)
 same_shares (s ∷ ss) (h ∷ hs) (k ∷ ks) long each =
     let first = each 0 h in
     λ i. record { shard = s; mail = drop (first.next i) (first.mail i); unsent = (first.out i).items } ∷ same_shares ss hs ks (omega arith) (λ k d. each (suc k) d) i
-
-set_set : {X : Type 0} (xs : List X) (k : ℕ) (x y : X) → set (set xs k x) k y ≡ set xs k y
-set_set [] k x y = refl
-set_set (z ∷ xs) zero x y = refl
-set_set (z ∷ xs) (suc k) x y = ap (λ l. z ∷ l) (set_set xs k x y)
 
 module _ (r from to : ℕ) (x : Board) (ss ss2 : List Shard) (hs hs1 hs2 : List Hand) (d last : Hand) (same : length hs ≡ length ss) (ends : AreEnds from to (length ss)) (long : length hs1 ≡ length hs)
     (kept : (k : ℕ) (d : Hand) → HoldsSame (get_or hs k d) (get_or hs1 k d)) (passed : HasPassed r from to ss ss2) (handed : HasHanded r from to hs1 hs2 d)

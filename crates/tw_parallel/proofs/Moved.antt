@@ -19,7 +19,9 @@ use Rattle.tw_parallel.specs.declared.sim.Sim.TheInside.{Inside}
 use Rattle.tw_parallel.specs.Inside.{IsInside, sim_of}
 use Rattle.tw_parallel.specs.Moving.{AreEnds, HasMovedBetween, IsRearranged, MayPass}
 use Rattle.tw_parallel.specs.Sim.{AreOf, GoesOn, IsSim, KeepsEvents, Sim, machine}
+use Rattle.tw_rule.proofs.Moved.{get_beside}
 use Rattle.tw_rule.proofs.Places.{all_at, get_map}
+use Rattle.tw_table.proofs.Lists.{all_set}
 use Rattle.tw_rule.specs.Board as rule
 use Rattle.tw_rule.specs.Place.{Place}
 use Rattle.tw_rule.specs.Rule.{Rule, Stands}
@@ -89,23 +91,11 @@ rearranged_both s t u one two =
 -- ---- shares two of which are others
 
 module _ {X : Type 0} where
-  all_set : (P : X → Type 0) (xs : List X) (i : ℕ) (x : X) → AllByRecursion P xs → P x → AllByRecursion P (set xs i x)
-  all_set P [] i x all new = tt
-  all_set P (z ∷ xs) zero x all new = (new, all.1)
-  all_set P (z ∷ xs) (suc i) x all new = (all.0, all_set P xs i x all.1 new)
-
   -- what is read of each is the same where it is so of the one that is another
   map_set_same : {Y : Type 0} (f : X → Y) (xs : List X) (i : ℕ) (x y : X) → slice_get xs i ≡ Some x → f y ≡ f x → map f (set xs i y) ≡ map f xs
   map_set_same f [] i x y there same = cc
   map_set_same f (z ∷ xs) zero x y there same = (let is : z ≡ x = cc in λ i. (same ∙ ap f (sym is)) i ∷ map f xs)
   map_set_same f (z ∷ xs) (suc i) x y there same = ap (λ l. f z ∷ l) (map_set_same f xs i x y there same)
-
-  get_beside : (xs : List X) (i j : ℕ) (x y : X) → (i ≡ j → ⊥) → slice_get xs j ≡ Some x → slice_get (set xs i y) j ≡ Some x
-  get_beside [] i j x y other h = cc
-  get_beside (z ∷ xs) zero zero x y other h = absurd (other refl)
-  get_beside (z ∷ xs) zero (suc j) x y other h = h
-  get_beside (z ∷ xs) (suc i) zero x y other h = h
-  get_beside (z ∷ xs) (suc i) (suc j) x y other h = get_beside xs i j x y (λ is. other (ap suc is)) h
 
 module _ (s : Sim) (is : IsSim s) (r from to : ℕ) (apart : from ≡ to → ⊥) (listed : IsListed r s.board) (known : r < s.case.net.nodes) (was : who s.board r ≡ from) (later : List Share)
     (between : HasMovedBetween r from to s.board s.shares later) where

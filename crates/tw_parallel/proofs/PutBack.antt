@@ -30,7 +30,7 @@ module _ {X : Type 0} where
   set_itself (x ∷ xs) zero d = refl
   set_itself (x ∷ xs) (suc k) d = ap (λ l. x ∷ l) (set_itself xs k d)
 
-  set_set : (xs : List X) (k : ℕ) (x y : X) → set (set xs k x) k y ≡ set xs k y
+  pub set_set : (xs : List X) (k : ℕ) (x y : X) → set (set xs k x) k y ≡ set xs k y
   set_set [] k x y = refl
   set_set (z ∷ xs) zero x y = refl
   set_set (z ∷ xs) (suc k) x y = ap (λ l. z ∷ l) (set_set xs k x y)

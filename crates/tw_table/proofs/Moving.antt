@@ -29,6 +29,7 @@ use Rattle.tw_sim.specs.declared.machine.Signed.{Signed}
 use Rattle.tw_sim.specs.Ordered.{insert_all}
 use Rattle.tw_sim.specs.Simulation.{Simulation, IsLawful, one, times}
 use Rattle.tw_rule.proofs.Places.{all_at, get_map}
+use Rattle.tw_table.proofs.Lists.{all_set}
 use Rattle.tw_table.specs.Moving.{HasMoved, moved_board}
 use Rattle.tw_table.specs.Shares.{IsRuled, Share, board_of, place_of}
 
@@ -336,11 +337,6 @@ map_set : {X Y : Type 0} (f : X → Y) (xs : List X) (i : ℕ) (x : X) → map f
 map_set f [] i x = refl
 map_set f (z ∷ xs) zero x = refl
 map_set f (z ∷ xs) (suc i) x = ap (λ l. f z ∷ l) (map_set f xs i x)
-
-all_set : {X : Type 0} (P : X → Type 0) (xs : List X) (i : ℕ) (x : X) → AllByRecursion P xs → P x → AllByRecursion P (set xs i x)
-all_set P [] i x all new = tt
-all_set P (z ∷ xs) zero x all new = (new, all.1)
-all_set P (z ∷ xs) (suc i) x all new = (all.0, all_set P xs i x all.1 new)
 
 module _ (case : Case) (x : Board) (shares : List Share) (ruled : IsRuled case x shares) (r i j : ℕ) (s t s2 t2 : Share) (first : slice_get shares i ≡ Some s) (second : slice_get shares j ≡ Some t)
     (other : s.shard.worker ≡ t.shard.worker → ⊥) (listed : IsListed r x) (in_range : r < case.net.nodes) (was : who x r ≡ s.shard.worker) (moved : HasMoved r x s t s2 t2) where
