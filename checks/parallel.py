@@ -5,14 +5,18 @@
 
 What both write has to be the same, where what undone events have sent is taken back at once and
 where it is taken back as late as may be, and however routers are dealt out to workers and go on
-from one to the next. Each run is ended after some seconds, and counts as failed:
-workers that wait for one another without end are found by that. A proof can say nothing of it.
+from one to the next. Some run beside processes that keep the processors busy. Each run is ended
+after a minute, and counts as failed: workers that wait for one another without end are found by
+that. A proof can say nothing of it.
 """
 from __future__ import annotations
 
+import contextlib
+import subprocess
+import sys
 import tempfile
 from collections import Counter
-from collections.abc import Callable, Sequence
+from collections.abc import Callable, Iterator, Sequence
 from itertools import product
 from pathlib import Path
 from random import Random
@@ -46,6 +50,10 @@ DEALINGS: tuple[list[str], ...] = ([], ["--blocks"], ["--rotate"], ["--blocks", 
 # kind in turn.
 SMALL_RUNS = 1000
 LARGE_RUNS = 100
+
+# So many processes keep the processors busy beside some runs.
+BUSY = 4
+BUSY_WORDS = [sys.executable, "-c", "while True: pass"]
 
 
 def barred(draw: Random) -> Case:
@@ -143,6 +151,22 @@ def compare_made(tally: Tally, folder: Path) -> None:
         compare(tally, case, Runs(logged, (3,), (1, 4096), DEALINGS[2:]))
 
 
+@contextlib.contextmanager
+def busy_processors() -> Iterator[None]:
+    """Other processes keep the processors busy."""
+    with contextlib.ExitStack() as started:
+        for _ in range(BUSY):
+            started.callback(started.enter_context(subprocess.Popen(BUSY_WORDS)).kill)
+        yield
+
+
+def compare_beside_others(tally: Tally, folder: Path) -> None:
+    """The cases that are made, where workers have to share the processors with other work."""
+    with busy_processors():
+        for name, (_, stop) in MADE.items():
+            compare(tally, folder / f"{name}.spp", Runs(["--stop", str(stop)], (4,), (64,)))
+
+
 def repeat(tally: Tally, case: Path, words: Sequence[str], wanted: Answer, times: int) -> None:
     """So many runs in a row."""
     for number in range(times):
@@ -164,6 +188,7 @@ def main() -> None:
         folder = Path(room)
         compare_stored(tally)
         compare_made(tally, folder)
+        compare_beside_others(tally, folder)
         words, wanted = ["--stop", "20", "--log"], Answer(0, REPORT.read_bytes())
         repeat(tally, DISAGREE, words, wanted, SMALL_RUNS)
         made, words = folder / "gadgets.spp", ["--stop", "10"]
