@@ -1,5 +1,5 @@
 -- Owners as `run` deals them out fit its run.
-use Rattle.std.proofs.Common.{◌≡◌, ℕ, ◌+◌, ◌*◌, ◌/◌, ◌%◌, ◌<◌, ◌==◌, zero, suc, Bool, true, false, List, [], ◌∷◌, ◌++◌, ap₂, length, map, refl, subst, sym, ◌∙◌, arith}
+use Rattle.std.proofs.Common.{◌≡◌, ℕ, ◌+◌, ◌*◌, ◌/◌, ◌%◌, ◌<◌, ◌≤◌, ◌==◌, zero, suc, Bool, true, false, List, [], ◌∷◌, ◌++◌, ap₂, length, map, refl, subst, sym, ◌∙◌, arith}
 use Rattle.std.proofs.Math.Nat.{div-lt_iff_lt-mul, mod-lt, mul-lt-mul_of_pos_right, mul_comm}
 use Rattle.std.proofs.lemmas.Bool.{eq-eqb, lt-ltb}
 use Rattle.std.proofs.lemmas.List.FromFn.{length-map-range_with_len, map-range_with_len_more}
@@ -44,13 +44,14 @@ all_in_range f most a zero within = refl
 all_in_range f most a (suc n) within =
     rw (lt-ltb (f a) most (within a (omega arith))) (all_in_range f most (a + 1) n (λ r there. within r (omega (arith, there))))
 
--- they are one of the workers for each router
-pub fits : (s : Sim) (d : ADealing) (checkpoints : ℕ) → 0 < workers s.board
-    → are_owners s (owners_after d (workers s.board) s.case.net.nodes checkpoints) ≡ true
-fits s d checkpoints some =
+-- dealt out to some of the workers, they are one of the workers for each router
+pub fits : (s : Sim) (d : ADealing) (crew checkpoints : ℕ) → 0 < crew → crew ≤ workers s.board
+    → are_owners s (owners_after d crew s.case.net.nodes checkpoints) ≡ true
+fits s d crew checkpoints some few =
     let nodes = s.case.net.nodes in
-    let f = owner_after d (workers s.board) nodes checkpoints in
-    rw (length-map-range_with_len f 0 nodes, eq-eqb nodes nodes refl) (all_in_range f (workers s.board) 0 nodes (λ r there. owner_within d (workers s.board) nodes checkpoints r some (omega (arith, there))))
+    let f = owner_after d crew nodes checkpoints in
+    rw (length-map-range_with_len f 0 nodes, eq-eqb nodes nodes refl) (all_in_range f (workers s.board) 0 nodes (λ r there.
+        let its = owner_within d crew nodes checkpoints r some (omega (arith, there)) in omega (its, few)))
 
 -- nothing has changed
 pub goes_on_same : (s : Sim) → GoesOn s s

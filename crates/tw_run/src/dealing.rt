@@ -1,9 +1,12 @@
 //! Which worker has which router, as the options of `run` say.
 ghost use Rattle.std.specs.Prelude.{◌≡◌, ◌<◌, ◌≤◌, IfOk};
+ghost use Rattle.tw_exchange.specs.Board.{workers};
 ghost use Rattle.tw_model.specs.declared.limits.TheConstants.{LATEST};
+ghost use Rattle.tw_parallel.specs.Sim.{GoesOn};
 ghost use Rattle.tw_run.specs.Dealing.{first_owner, owner_after, owners_after};
 
 use std::alloc::{AllocError, Global};
+use tw_parallel::{OrMemory, Sim, UnfitOwners};
 use tw_sim::owner;
 
 /// How routers are dealt out to workers.
@@ -14,6 +17,36 @@ pub struct Dealing {
     pub blocks: bool,
     /// Whether the routers go to the next worker at each checkpoint.
     pub rotate: bool,
+}
+
+impl Dealing {
+    /// Whether the routers are not to stay with the workers that they have as a run opens.
+    pub(crate) fn is_told(self) -> bool {
+        self.blocks || self.rotate
+    }
+}
+
+/// Deals the routers of a run out to the first of its workers, so many, as they are to be after so many checkpoints.
+pub(crate) fn deal(
+    alloc: Global,
+    sim: &mut Sim<'_>,
+    dealing: Dealing,
+    crew: u32,
+    checkpoints: u64,
+) -> Result<(), AllocError>
+    requires some { 0 < crew }
+    requires within { crew ≤ workers sim.old.board }
+    requires checkpoints { checkpoints ≤ LATEST }
+    ensures goes_on { GoesOn sim.old sim.new }
+    ensures stop { sim.new.board.stop ≡ sim.old.board.stop }
+{
+    let routers = sim.case().instance().nodes();
+    let owners = owners(alloc, dealing, crew, routers, checkpoints)?;
+    match sim.move_to(&owners) {
+        Ok(()) => Ok(()),
+        Err(OrMemory::Memory) => Err(AllocError),
+        Err(OrMemory::Fault(UnfitOwners)) => unreachable!(),
+    }
 }
 
 /// The worker that has each of so many routers after so many checkpoints, by rising router.

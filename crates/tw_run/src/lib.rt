@@ -12,8 +12,10 @@
 mod cause;
 mod dealing;
 mod outcome;
+mod policy;
 mod run;
 mod segments;
+mod stretches;
 
 pub use dealing::Dealing;
 pub use run::run_io;

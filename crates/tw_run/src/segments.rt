@@ -9,39 +9,14 @@ ghost use Rattle.tw_parallel.specs.Sim.{GoesOn, IsSim};
 ghost use Rattle.tw_shape.specs.Shape.{shape as shape_at};
 ghost use Rattle.tw_shape.specs.Verdict.{finding};
 
-use crate::cause::cause_of;
-use crate::dealing::{Dealing, owners};
+use crate::dealing::{Dealing, deal};
+use crate::stretches::{run_in_stretches, run_on};
 use std::alloc::{AllocError, Global};
 use std::sync::Wait;
 use std::thread::Threads;
 use tw_commands::Cause;
-use tw_parallel::{NotSettled, OpenGate, Options, OrMemory, Sim, UnfitOwners, run_until};
+use tw_parallel::{NotSettled, OrMemory, Sim};
 use tw_shape::{Finding, Shape, Watch};
-
-/// Deals the routers out as they are to be after so many checkpoints. Those of a run that is to stay as it was
-/// opened are left where they are.
-fn deal(
-    alloc: Global,
-    sim: &mut Sim<'_>,
-    dealing: Dealing,
-    checkpoints: u64,
-) -> Result<(), AllocError>
-    requires some { 0 < workers sim.old.board }
-    requires checkpoints { checkpoints ≤ LATEST }
-    ensures goes_on { GoesOn sim.old sim.new }
-    ensures stop { sim.new.board.stop ≡ sim.old.board.stop }
-{
-    if !dealing.blocks && !dealing.rotate {
-        return Ok(());
-    }
-    let routers = sim.case().instance().nodes();
-    let owners = owners(alloc, dealing, sim.workers(), routers, checkpoints)?;
-    match sim.move_to(&owners) {
-        Ok(()) => Ok(()),
-        Err(OrMemory::Memory) => Err(AllocError),
-        Err(OrMemory::Fault(UnfitOwners)) => unreachable!(),
-    }
-}
 
 /// Runs on to a stop, in ticks, which is not before that of the run. Where the run is not there yet, its routers
 /// are dealt out before as they are to be after so many checkpoints.
@@ -65,13 +40,11 @@ fn run_to<'a, X: Threads + Wait + Sync>(
     ensures device { IsErrOf result cause.Device → ⊥ }
 {
     let mut sim = sim;
-    if sim.stop() < stop {
-        deal(alloc, &mut sim, dealing, checkpoints)?;
+    if sim.stop() < stop && dealing.is_told() {
+        let all = sim.workers();
+        deal(alloc, &mut sim, dealing, all, checkpoints)?;
     }
-    match run_until(rt, sim, stop, Options { batch }, &OpenGate) {
-        Ok(sim) => Ok(sim),
-        Err(ended) => Err(cause_of(ended.cause)),
-    }
+    run_on(rt, sim, stop, batch)
 }
 
 /// Runs to a stop, in ticks, and answers what was found at the checkpoints, the multiples of `every`. The
@@ -97,8 +70,34 @@ pub(crate) fn run_through<'a, X: Threads + Wait + Sync>(
 {
     match every {
         Some(every) => run_watched(rt, alloc, sim, dealing, stop, every, batch),
-        None => Ok((run_to(rt, alloc, sim, dealing, 0, stop, batch)?, None)),
+        None => Ok((run_straight(rt, alloc, sim, dealing, stop, batch)?, None)),
     }
+}
+
+/// Runs to a stop, in ticks. The run is at its beginning.
+fn run_straight<'a, X: Threads + Wait + Sync>(
+    rt: &X,
+    alloc: Global,
+    sim: Sim<'a>,
+    dealing: Dealing,
+    stop: u64,
+    batch: u32,
+) -> Result<Sim<'a>, Cause>
+    requires some { 0 < workers sim.board }
+    requires stop { sim.board.stop ≤ stop }
+    requires latest { stop ≤ LATEST }
+    ensures settled { IfOk result (λ s. IsSettled s) }
+    ensures goes_on { IfOk result (λ s. GoesOn sim.entry s) }
+    ensures stop { IfOk result (λ s. s.board.stop ≡ stop) }
+    ensures device { IsErrOf result cause.Device → ⊥ }
+{
+    let mut sim = sim;
+    if dealing.blocks {
+        let all = sim.workers();
+        deal(alloc, &mut sim, dealing, all, 0)?;
+    }
+    let sim = run_in_stretches(rt, alloc, sim, dealing, stop, batch)?;
+    run_on(rt, sim, stop, batch)
 }
 
 /// Runs to a stop, and shows a watch the shapes at the multiples of `every` up to it. The run is at its
