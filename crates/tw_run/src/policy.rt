@@ -14,7 +14,7 @@ pub(crate) const STRETCHES: u32 = 12;
 
 /// Fewer events in a tick are handled sooner by one worker: several meet after each few of them, and a meeting costs as
 /// much as some dozen events.
-const FEW_IN_A_TICK: u64 = 12;
+const FEW_IN_A_TICK: u64 = 3;
 
 /// How long a stretch is, in ticks, of this number from 0.
 pub(crate) fn length_of(stretch: u32) -> u64 {

@@ -157,11 +157,6 @@ impl Pace {
         cmp::min(stop, bound.saturating_add(self.window))
     }
 
-    /// The greatest bound at which an event of this time, in ticks, is not within the window.
-    pub(crate) fn bound_before(&self, time: u64) -> u64 {
-        time.saturating_sub(self.window)
-    }
-
     /// Whether an event is one of the tick that is handled.
     pub(crate) fn is_of_tick(&self, event: Option<Event>) -> bool {
         event.is_some_and(|event| event.time == self.tick)
