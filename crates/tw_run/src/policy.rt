@@ -2,8 +2,10 @@
 
 ghost use Rattle.std.specs.Prelude.{◌≤◌, ◌<◌};
 
-/// The first stretch, in ticks, after which it is judged how much there is to do. Going on from there costs as much
-/// as some hundred events.
+use tw_instance::Instance;
+
+/// The first stretch, in ticks, behind which it is judged how much there is to do. To go on from there costs as much as
+/// some hundred events.
 const FIRST_STRETCH: u64 = 256;
 
 /// Each stretch is so many times as long as the one before: a long run is judged a few times, and early.
@@ -12,25 +14,35 @@ const GROWTH: u64 = 4;
 /// So many stretches, the last of which is longer than any run.
 pub(crate) const STRETCHES: u32 = 12;
 
-/// Fewer events in a tick are handled sooner by one worker: several meet after each few of them, and a meeting costs as
-/// much as some dozen events.
-const FEW_IN_A_TICK: u64 = 3;
+/// Fewer events in the time that a message takes are handled sooner by one worker: several would meet after each few of
+/// them, and a meeting costs as much as some dozen events. Measured with 2 and 4 workers on sparse cases.
+const FEW_IN_A_DELAY: u64 = 16;
 
 /// How long a stretch is, in ticks, of this number from 0.
 pub(crate) fn length_of(stretch: u32) -> u64 {
     FIRST_STRETCH.saturating_mul(GROWTH.saturating_pow(stretch))
 }
 
-/// To how many of so many workers routers are dealt out after a stretch of so many ticks in which so many events were
-/// handled.
-pub(crate) fn crew(events: u64, ticks: u64, workers: u32) -> u32
+/// To how many of so many workers routers are dealt out behind a stretch of so many ticks in which so many events were
+/// handled, where a message takes so many ticks.
+pub(crate) fn crew(events: u64, ticks: u64, delay: u64, workers: u32) -> u32
     requires { 0 < workers }
     ensures some { 0 < result }
     ensures within { result ≤ workers }
 {
-    if events < ticks.saturating_mul(FEW_IN_A_TICK) {
+    if events.saturating_mul(delay) < ticks.saturating_mul(FEW_IN_A_DELAY) {
         1
     } else {
         workers
     }
+}
+
+/// How many ticks a message takes between two routers that are linked, in the mean: 1 at least.
+pub(crate) fn mean_delay(instance: &Instance) -> u64 {
+    let links = instance.links();
+    let ticks = links.iter().fold(0, |ticks: u64, link| {
+        ticks.saturating_add(link.delay).saturating_add(link.back)
+    });
+    let ways = (links.len() as u64).saturating_mul(2);
+    (ticks / ways.max(1)).max(1)
 }

@@ -8,7 +8,7 @@ ghost use Rattle.tw_parallel.specs.Sim.{GoesOn, IsSim};
 
 use crate::cause::cause_of;
 use crate::dealing::{Dealing, deal};
-use crate::policy::{STRETCHES, crew, length_of};
+use crate::policy::{STRETCHES, crew, length_of, mean_delay};
 use std::alloc::Global;
 use std::sync::Wait;
 use std::thread::Threads;
@@ -71,7 +71,8 @@ fn run_stretch<'a, X: Threads + Wait + Sync>(
     let handled = handled_by(&sim);
     let mut run = run_on(rt, sim, end, batch)?;
     let events = handled_by(&run).saturating_sub(handled);
-    let workers = crew(events, ticks, run.workers());
+    let delay = mean_delay(run.case().instance());
+    let workers = crew(events, ticks, delay, run.workers());
     deal(alloc, &mut run, dealing, workers, 0)?;
     Ok(run)
 }
