@@ -4,6 +4,7 @@
 ghost use Rattle.std.specs.Prelude.{◌≡◌, ◌≤◌, true};
 
 use std::cmp;
+use tw_event::Event;
 use tw_instance::Instance;
 use tw_model::limits::LONGEST_DELAY;
 use tw_shard::Shard;
