@@ -2,6 +2,7 @@
 
 use crate::messages::offers_of_origin;
 use crate::moving::{hand_over, shard};
+use crate::shards::welcomes;
 use crate::table::sit_down;
 use std::alloc::Global;
 use tw_exchange::Exchange;
@@ -36,6 +37,28 @@ fn goes_and_comes_back(shard: &mut Shard<'_>) -> bool {
         && shard.undo_last(0) == Ok(())
         && shard.handle_next(0, 20) == Ok(())
         && shard.receive(offer) == Ok(())
+}
+
+/// Whether the start is handled as the least of all events, and router 1 is offered a path.
+fn handles_the_least(shard: &mut Shard<'_>) -> bool {
+    let [offer, _] = offers_of_origin();
+    shard.order_by_time() == Ok(()) && shard.handle_least(20) == Ok(0) && welcomes(shard, &offer)
+}
+
+/// Whether the only worker, as a case begins, handles its least event.
+fn opens_and_handles_the_least(alloc: Global, case: &Case) -> bool {
+    match Shard::open(alloc, case, 0, 1, true) {
+        Ok(mut shard) => handles_the_least(&mut shard),
+        Err(_) => false,
+    }
+}
+
+#[test]
+fn a_shard_handles_its_least_event(rt: HostRuntime) {
+    let Ok(case) = case(rt.alloc(), DISAGREE) else {
+        panic!(rt; "refused")
+    };
+    assert!(rt; opens_and_handles_the_least(rt.alloc(), &case));
 }
 
 /// Whether router 0 commits its start.

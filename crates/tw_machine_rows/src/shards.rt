@@ -1,12 +1,14 @@
 //! A shard by calls: the routers of DISAGREE, each the only one of its worker.
 
-ghost use Rattle.std.specs.Prelude.{◌≡◌, ◌<◌, true};
+ghost use Rattle.std.specs.Prelude.{◌≡◌, ◌<◌, ◌≤◌, true};
+ghost use Rattle.tw_model.specs.declared.limits.TheConstants.{LATEST};
 
 use crate::messages::{
     antimessage, early_offers_of_2, list, offers_of_1, offers_of_2, offers_of_origin,
 };
 use std::alloc::{AllocError, Global};
 use tw_event::{Event, PathNo};
+use tw_handlers::does_suit;
 use tw_instance::Case;
 use tw_rows::cases::case;
 use tw_rows::texts::DISAGREE;
@@ -31,6 +33,35 @@ pub(crate) fn handle(shard: &mut Shard<'_>, router: u32) -> Result<(), OrMemory<
         Err(OrMemory::Memory) => shard.handle_next(router, 20),
         answer => answer,
     }
+}
+
+/// Handles the least of all events before a time, once more where memory was refused.
+fn handle_least(shard: &mut Shard<'_>, limit: u64) -> Result<u64, OrMemory<Refusal>>
+    requires { limit ≤ LATEST }
+{
+    match shard.handle_least(limit) {
+        Err(OrMemory::Memory) => shard.handle_least(limit),
+        answer => answer,
+    }
+}
+
+/// Keeps pending events by time, once more where memory was refused.
+fn order_by_time(shard: &mut Shard<'_>) -> bool {
+    shard.order_by_time().is_ok() || shard.order_by_time().is_ok()
+}
+
+/// Whether a message is welcome and comes.
+pub(crate) fn welcomes(shard: &mut Shard<'_>, message: &Signed<Event>) -> bool {
+    let event = &message.event;
+    shard.owns(event.dst)
+        && shard.bound() <= event.time
+        && does_suit(shard.instance(), event.dst, event)
+        && shard.receive_welcome(message).is_ok()
+}
+
+/// Whether a message is welcome and comes, once more where memory was refused.
+fn receive_welcome(shard: &mut Shard<'_>, message: &Signed<Event>) -> bool {
+    welcomes(shard, message) || welcomes(shard, message)
 }
 
 /// Undoes the last event of a router, once more where memory was refused.
@@ -117,6 +148,25 @@ fn a_late_message_is_returned(shard: &mut Shard<'_>) -> bool {
         })
 }
 
+/// The offer of the origin is handled as the least of all events, but not before its time.
+fn the_least_is_handled(shard: &mut Shard<'_>) -> bool {
+    let [_, offer] = offers_of_origin();
+    receive_welcome(shard, &offer)
+        && handle_least(shard, 5) == Err(OrMemory::Fault(Refusal::Nothing))
+        && handle_least(shard, 6) == Ok(5)
+        && shard.take_out().as_slice() == &early_offers_of_2()[..]
+}
+
+/// The earlier offer of router 1 rolls the router back, and is then the least.
+fn the_least_comes_late(shard: &mut Shard<'_>) -> bool {
+    let [_, early] = offers_of_1();
+    let ([to_0, to_1], [then_0, then_1]) = (early_offers_of_2(), offers_of_2());
+    receive_welcome(shard, &early)
+        && handle_least(shard, 20) == Ok(2)
+        && shard.report_time() == Some(5)
+        && shard.outgoing() == &[antimessage(to_0), antimessage(to_1), then_0, then_1][..]
+}
+
 /// What a test shows of a shard.
 #[derive(Clone, Copy)]
 enum Row {
@@ -127,6 +177,7 @@ enum Row {
     SentTwice,
     AntimessageFirst,
     Lent,
+    LeastFirst,
 }
 
 /// Whether a row holds of what a worker has as DISAGREE begins.
@@ -151,6 +202,7 @@ fn holds_of(alloc: Global, shard: &mut Shard<'_>, row: Row) -> bool {
         Row::SentTwice => handles_once(shard),
         Row::AntimessageFirst => keeps_an_antimessage(shard),
         Row::Lent => sends_behind_what_is_lent(alloc, shard),
+        Row::LeastFirst => handles_the_least_first(shard),
     }
 }
 
@@ -235,6 +287,10 @@ fn keeps_an_antimessage(shard: &mut Shard<'_>) -> bool {
         && shard.pending().is_empty()
 }
 
+fn handles_the_least_first(shard: &mut Shard<'_>) -> bool {
+    order_by_time(shard) && the_least_is_handled(shard) && the_least_comes_late(shard)
+}
+
 fn sends_behind_what_is_lent(alloc: Global, shard: &mut Shard<'_>) -> bool {
     let Ok(mut messages) = list(alloc, &offers_of_1()) else {
         return false;
@@ -281,4 +337,9 @@ fn an_antimessage_waits_for_its_message(rt: HostRuntime) {
 #[test]
 fn messages_are_lent_to_a_shard_that_sends_behind_them(rt: HostRuntime) {
     assert!(rt; holds(rt.alloc(), 0, Row::Lent));
+}
+
+#[test]
+fn the_least_of_all_events_is_handled_first(rt: HostRuntime) {
+    assert!(rt; holds(rt.alloc(), 2, Row::LeastFirst));
 }

@@ -15,6 +15,7 @@ mod hands;
 mod moving;
 mod outcome;
 mod run;
+mod shards;
 mod sim;
 
 pub use moving::UnfitOwners;

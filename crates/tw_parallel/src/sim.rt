@@ -12,6 +12,7 @@ ghost use Rattle.tw_sim.specs.declared.machine.Cancel.TheVariants.{Aggressive};
 ghost use Rattle.tw_sim.specs.Simulation.{state};
 
 use crate::hands::open_hands;
+use crate::shards::open_shards;
 use std::alloc::{AllocError, Global};
 use std::marker::Model;
 use tw_exchange::Exchange;
@@ -19,7 +20,7 @@ use tw_instance::Case;
 use tw_model::limits::LATEST;
 use tw_router::Router;
 use tw_shard::Shard;
-use tw_shard::shards::{open_all, shard_for};
+use tw_shard::shards::shard_for;
 use tw_sim::Cancel;
 use tw_table::Hand;
 use tw_warp::StopLower;
@@ -94,7 +95,7 @@ impl<'a> Sim<'a> {
         ensures cancels { IfOk result (λ sim. cancels_of sim ≡ replicate workers cancel) }
     {
         let exchange = Exchange::new(alloc, workers, 0, 0)?;
-        let shards = open_all(alloc, case, workers, keeps, cancel)?;
+        let shards = open_shards(alloc, case, workers, keeps, cancel)?;
         let hands = open_hands(alloc, workers)?;
         // What a case keeps is told by a read of it.
         let _ = case.instance();

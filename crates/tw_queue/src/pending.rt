@@ -1,8 +1,10 @@
 //! The events that wait at a shard (docs/DECISIONS.md, 'One thread': by router, not by time).
 
 ghost use Rattle.std.specs.Prelude.{◌≡◌, ◌↔◌, ◌+◌, ◌-◌, ◌<◌, ◌≤◌, ◌==◌, IfNone, IfOk, IfSome, IsOk, IsTrue, OnErr, OnOk};
-ghost use Rattle.std.specs.Prelude.{[], if◌then◌else◌, drop, filter, length, option_map, slice_get, vec_capacity, vec_len};
+ghost use Rattle.std.specs.Prelude.{[], Some, if◌then◌else◌, drop, filter, length, option_map, slice_get, vec_capacity, vec_len};
 ghost use Rattle.std.specs.Option.{option_copied};
+ghost use Rattle.std.specs.Bool.{OnFalse, OnTrue};
+ghost use Rattle.tw_event.specs.declared.event.Event.{Event as AnEvent};
 ghost use Rattle.tw_event.specs.Order.{event_before, event_same};
 ghost use Rattle.tw_queue.specs.InOrder.{least_with};
 ghost use Rattle.tw_queue.specs.Queue.{AreFor, IsInOrder, IsQueue, for_others, for_router};
@@ -131,6 +133,42 @@ impl Pending {
         let event = self.least()?;
         self.remove_one(&event);
         Some(event)
+    }
+
+    /// Its events are kept by time from now on: they are the same.
+    pub fn keep_by_time(&mut self) -> Result<(), AllocError>
+        ensures { self.new ≡ self.old }
+    {
+        Ok(())
+    }
+
+    /// Copies the least event where it is before a limit, in ticks, and tells whether it did; else `event` stays as it
+    /// was.
+    pub fn copy_least_before(&mut self, limit: u64, event: &mut Event) -> bool
+        ensures some { OnTrue result (Some event.new ≡ slice_get self.old.events 0) }
+        ensures before { OnTrue result (event.new.time < limit) }
+        ensures home { OnTrue result (event.new.dst < self.old.routers) }
+        ensures none { OnFalse result ((e : AnEvent) → slice_get self.old.events 0 ≡ Some e → limit ≤ e.time) }
+        ensures unchanged { OnFalse result (event.new ≡ event.old) }
+        ensures same { self.new ≡ self.old }
+        ensures queue { IsQueue self.old }
+    {
+        match self.least() {
+            Some(least) if least.time < limit => {
+                *event = least;
+                true
+            }
+            _ => false,
+        }
+    }
+
+    /// Takes out the least event, where there is one.
+    pub fn skip_least(&mut self)
+        ensures events { self.new.events ≡ drop 1 self.old.events }
+        ensures routers { self.new.routers ≡ self.old.routers }
+        ensures room { self.old.room ≤ self.new.room }
+    {
+        let _ = self.take_least();
     }
 
     /// How often this event is pending.

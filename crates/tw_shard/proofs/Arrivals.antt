@@ -32,6 +32,7 @@ pending_shard a q is routers suit = record {
   pending = routers ∙ is.pending;
   kept = is.kept;
   held = is.held;
+  latest = is.latest;
 }
 
 -- ---- what a timeline has handled

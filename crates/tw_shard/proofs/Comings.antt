@@ -1,29 +1,51 @@
 -- What a message that comes leaves, once its router is rolled back.
-use Rattle.std.proofs.Common.{◌≡◌, ℕ, ◌<◌, ◌≤◌, true, false, List, [], ◌∷◌, ◌++◌, nat_lt, if◌then◌else◌, refl, ap, sym, ◌∙◌, subst, inl, inr, arith}
+use Rattle.std.proofs.Common.{◌≡◌, ℕ, ◌<◌, ◌≤◌, Bool, true, false, List, [], ◌∷◌, ◌++◌, Result, Ok, Err, nat_lt, if◌then◌else◌, refl, ap, sym, ◌∙◌, subst, inl, inr, arith}
 use Rattle.std.specs.List.{AllByRecursion}
-use Rattle.std.proofs.lemmas.Bool.{cases_Bool, lt-ltb, ltb-true, false_from_ne_true}
-use Rattle.tw_core.specs.Steps.{after_antimessage, after_message, after_undoing_while, with_pending, without_from, without_later, without_pending}
+use Rattle.std.specs.Result.{result_and}
+use Rattle.std.proofs.lemmas.Bool.{cases_Bool, lt-ltb, ltb-false, ltb-true, false_from_ne_true}
+use Rattle.tw_core.specs.Machine.{Core}
+use Rattle.tw_core.specs.Steps.{after_antimessage, after_arrival, after_message, after_undoing_while, with_pending, without_from, without_later, without_pending}
 use Rattle.tw_event.specs.declared.event.Event.{Event}
 use Rattle.tw_event.specs.Order.{event_before, event_same}
 use Rattle.tw_model.specs.Case.{Case, IsCase, simulation}
+use Rattle.tw_model.specs.Effect.{suits}
 use Rattle.tw_model.proofs.Lawful.{lawful}
-use Rattle.tw_shard.specs.Arrival.{rolls}
-use Rattle.tw_shard.specs.declared.rejection.Reach.TheVariants.{From, Later}
+use Rattle.tw_shard.specs.Arrival.{receiving, refusing, rolls}
+use Rattle.tw_shard.specs.declared.rejection.Reach.TheVariants as reach
+use Rattle.tw_shard.specs.declared.rejection.Rejection.{Rejection}
+use Rattle.tw_shard.specs.declared.rejection.Rejection.TheVariants.{NotMine, Late, Foreign}
 use Rattle.tw_shard.specs.Shard.{IsWhole, Shard, core, owns, timeline}
+use Rattle.tw_shard.specs.Timeline.{history}
 use Rattle.tw_shard.proofs.Arrivals.{times_two}
+use Rattle.tw_shard.proofs.RollBack.{done_here}
+use Rattle.tw_sim.specs.declared.machine.Signed.{Signed}
 use Rattle.tw_sim.specs.Ordered.{insert, take_out, times}
 
 -- a test that finds nothing, and one that finds something
 none_found : (n : ℕ) → (0 < n → ⊥) → nat_lt 0 n ≡ false
 none_found n none = false_from_ne_true (nat_lt 0 n) (λ found. none (ltb-true 0 n found))
 
+-- a message where no antimessage is kept, for a router that has handled nothing as late
+pub message_last : (o u : Shard) (e : Event) → IsCase o.case → owns o e.dst ≡ true → o.kept ≡ [] → AllByRecursion (λ (p : Event). p.time < e.time) (history (timeline o e.dst))
+    → u ≡ record o { pending = insert event_before e o.pending } → (stop : ℕ) → core stop u ≡ after_message (simulation o.case) (core stop o) e
+message_last o u e is mine unkept early put stop =
+    let m = simulation o.case in
+    let C = core stop o in
+    let here : C.history e.dst ≡ history (timeline o e.dst) = rw mine refl in
+    let stays : without_later m C e ≡ C =
+    ap (λ h. after_undoing_while m (rolls reach.Later e) e.dst h C) here ∙ done_here o.case is reach.Later e [] (history (timeline o e.dst)) C refl early in
+    let none : times event_same e o.kept ≡ 0 = ap (times event_same e) unkept in
+    ap (core stop) put
+    ∙ (ap (λ D. with_pending m D e) (sym stays)
+    ∙ ap (λ b. if b then record C { kept = take_out event_same e o.kept } else with_pending m (without_later m C e) e) (sym (none_found (times event_same e o.kept) (λ some. omega arith))))
+
 -- a message whose antimessage is not kept
 pub message_came : (o s t u : Shard) (e : Event) → s ≡ o → (0 < times event_same e o.kept → ⊥)
-    → ((stop : ℕ) → core stop t ≡ after_undoing_while (simulation s.case) (rolls Later e) e.dst ((core stop s).history e.dst) (core stop s))
+    → ((stop : ℕ) → core stop t ≡ after_undoing_while (simulation s.case) (rolls reach.Later e) e.dst ((core stop s).history e.dst) (core stop s))
     → u ≡ record t { pending = insert event_before e t.pending } → (stop : ℕ) → core stop u ≡ after_message (simulation o.case) (core stop o) e
 message_came o s t u e is unkept back put stop =
     let m = simulation o.case in
-    let rolled = subst (λ s. core stop t ≡ after_undoing_while (simulation s.case) (rolls Later e) e.dst ((core stop s).history e.dst) (core stop s)) is (back stop) in
+    let rolled = subst (λ s. core stop t ≡ after_undoing_while (simulation s.case) (rolls reach.Later e) e.dst ((core stop s).history e.dst) (core stop s)) is (back stop) in
     ap (core stop) put
     ∙ (ap (λ C. with_pending m C e) rolled
     ∙ ap (λ b. if b then record (core stop o) { kept = take_out event_same e o.kept } else with_pending m (without_later m (core stop o) e) e) (sym (none_found (times event_same e o.kept) unkept)))
@@ -43,12 +65,12 @@ apart o e stop none =
 
 -- an antimessage whose event is handled
 pub antimessage_came : (o s t u : Shard) (e : Event) → s ≡ o → owns o e.dst ≡ true → (0 < times event_same e o.pending → ⊥) → 0 < times event_same e (timeline o e.dst).ahead
-    → ((stop : ℕ) → core stop t ≡ after_undoing_while (simulation s.case) (rolls From e) e.dst ((core stop s).history e.dst) (core stop s))
+    → ((stop : ℕ) → core stop t ≡ after_undoing_while (simulation s.case) (rolls reach.From e) e.dst ((core stop s).history e.dst) (core stop s))
     → u ≡ record t { pending = take_out event_same e t.pending } → (stop : ℕ) → core stop u ≡ after_antimessage (simulation o.case) (core stop o) e
 antimessage_came o s t u e is mine none some back taken stop =
     let m = simulation o.case in
     let C = core stop o in
-    let rolled = subst (λ s. core stop t ≡ after_undoing_while (simulation s.case) (rolls From e) e.dst ((core stop s).history e.dst) (core stop s)) is (back stop) in
+    let rolled = subst (λ s. core stop t ≡ after_undoing_while (simulation s.case) (rolls reach.From e) e.dst ((core stop s).history e.dst) (core stop s)) is (back stop) in
     let line = timeline o e.dst in
     let here : C.history e.dst ≡ line.ahead ++ line.past = rw mine refl in
     let count = times_two e line.ahead line.past in
@@ -86,3 +108,27 @@ antimessage_early o s u e is whole own late none unhandled past put stop =
     ap (core stop) (subst (λ s. u ≡ record s { kept = insert event_before e s.kept }) is put)
     ∙ (ap (λ b. if b then without_pending m (without_from m C e) e else record C { kept = insert event_before e o.kept }) (sym absent)
     ∙ sym (apart o e stop none))
+
+-- ---- what may come
+
+-- what the three tests lead to
+abbrev tested : Bool → Bool → Bool → ℕ → Result (Unit {0}) Rejection
+tested own late suit bound = if own then (if late then Err (Late bound) else (if suit then Ok tt else Err Foreign)) else Err NotMine
+
+all_tests : (own late suit : Bool) (bound : ℕ) → tested own late suit bound ≡ Ok tt → (own ≡ true) × (late ≡ false) × (suit ≡ true)
+all_tests true false true bound h = (refl, refl, refl)
+all_tests true false false bound h = absurd (cc h)
+all_tests true true suit bound h = absurd (cc h)
+all_tests false late suit bound h = absurd (cc h)
+
+-- what may come is for one of its routers, not before the bound, and suits its receiver
+pub welcome : (s : Shard) (e : Event) → refusing s e ≡ Ok tt → (owns s e.dst ≡ true) × (s.bound ≤ e.time) × (suits s.case.net e.dst e ≡ true)
+welcome s e may =
+    let all = all_tests (owns s e.dst) (nat_lt e.time s.bound) (suits s.case.net e.dst e) s.bound may in
+    (all.0, ltb-false e.time s.bound all.1, all.2)
+
+-- and comes
+pub received : (stop : ℕ) (s : Shard) (x : Signed Event) (C : Core Event) → refusing s x.event ≡ Ok tt → C ≡ after_arrival (simulation s.case) (core stop s) x
+    → receiving stop s x ≡ Ok C
+received stop s x C may came =
+    ap (λ o. result_and o (Ok (after_arrival (simulation s.case) (core stop s) x))) may ∙ ap (λ D. Ok D) (sym came)

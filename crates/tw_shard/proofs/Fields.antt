@@ -8,10 +8,11 @@ use Rattle.tw_model.specs.declared.limits.TheConstants.{LATEST}
 use Rattle.tw_model.specs.Effect.{body_suits, fits, suits}
 use Rattle.tw_model.specs.Net.{Net}
 use Rattle.tw_shard.specs.declared.shard.Shard.TheInside.{Inside}
-use Rattle.tw_shard.specs.Inside.{IsShard, shard_of}
+use Rattle.tw_shard.specs.Inside.{HasHandledTo, IsShard, shard_of}
 use Rattle.tw_shard.specs.Shard.{IsWhole, owns, place}
-use Rattle.tw_shard.specs.Timeline.{Timeline}
-use Rattle.tw_shard.proofs.Shares.{whole_after}
+use Rattle.tw_shard.specs.Timeline.{Timeline, history}
+use Rattle.tw_shard.proofs.Latest.{latest_changed}
+use Rattle.tw_shard.proofs.Shares.{changed, whole_after}
 use Rattle.tw_sim.specs.Rising.{IsRising}
 
 take_front : {A : Type 0} (ws ys : List A) → take (length ws) (ws ++ ys) ≡ ws
@@ -46,28 +47,33 @@ pub record IsChanged (a b : Inside) (r : ℕ) (t : Timeline) : Type 0 where
   pub kept_routers : b.kept.routers ≡ a.kept.routers
   pub held_routers : b.held.routers ≡ a.held.routers
 
+changed_is : (a b : Inside) (r : ℕ) (t : Timeline) → IsChanged a b r t → changed (shard_of a) r t b.pending.events b.outgoing.items b.held.events ≡ shard_of b
+changed_is a b r t h = λ i. record {
+  case = sym h.case i;
+  worker = sym h.worker i;
+  workers = sym h.workers i;
+  routers = (sym h.roster i).routers;
+  timelines = sym h.timelines i;
+  pending = b.pending.events;
+  kept = sym h.kept i;
+  outgoing = b.outgoing.items;
+  held = b.held.events;
+  bound = sym h.bound i;
+  keeps = sym h.keeps i;
+  cancel = sym h.cancel i;
+}
+
 pub changed_shard : (a b : Inside) (r : ℕ) (t : Timeline) → IsShard a → owns (shard_of a) r ≡ true → IsChanged a b r t
     → t.net ≡ (shard_of a).case.net → t.node ≡ r → t.done ≤ a.bound → t.case ≡ (shard_of a).case → t.keeps ≡ (shard_of a).keeps
     → AllByRecursion (λ e. suits (shard_of a).case.net e.dst e ≡ true) b.pending.events
-    → IsRising event_before event_same b.held.events → IsShard b
-changed_shard a b r t is mine h net node done case keeps suit rising = record {
-  whole =
-      subst IsWhole (λ i. record {
-        case = sym h.case i;
-        worker = sym h.worker i;
-        workers = sym h.workers i;
-        routers = (sym h.roster i).routers;
-        timelines = sym h.timelines i;
-        pending = b.pending.events;
-        kept = sym h.kept i;
-        outgoing = b.outgoing.items;
-        held = b.held.events;
-        bound = sym h.bound i;
-        keeps = sym h.keeps i;
-        cancel = sym h.cancel i;
-      }) (whole_after (shard_of a) r t b.pending.events b.outgoing.items b.held.events is.whole mine net node done case keeps suit rising);
+    → IsRising event_before event_same b.held.events → a.latest ≤ b.latest → AllByRecursion (λ (e : Event). e.time ≤ b.latest) (history t) → IsShard b
+changed_shard a b r t is mine h net node done case keeps suit rising later until = record {
+  whole = subst IsWhole (changed_is a b r t h) (whole_after (shard_of a) r t b.pending.events b.outgoing.items b.held.events is.whole mine net node done case keeps suit rising);
   roster = ap (λ x. x.count) h.roster ∙ (is.roster ∙ ap (λ c. c.net.nodes) (sym h.case));
   pending = h.pending_routers ∙ (is.pending ∙ ap (λ c. c.net.nodes) (sym h.case));
   kept = h.kept_routers ∙ (is.kept ∙ ap (λ c. c.net.nodes) (sym h.case));
   held = h.held_routers ∙ (is.held ∙ ap (λ c. c.net.nodes) (sym h.case));
+  latest =
+      subst (HasHandledTo b.latest) (changed_is a b r t h)
+      (latest_changed (shard_of a) r t b.pending.events b.outgoing.items b.held.events is.whole mine a.latest b.latest later is.latest until);
 }

@@ -4,6 +4,7 @@ use Rattle.std.specs.List.{AllByRecursion}
 use Rattle.std.proofs.Math.Seq.{get_or-append_seam}
 use Rattle.std.proofs.lemmas.Bool.{cases_Bool, cases_eq, cases_lt, eq-eqb, false≢true, ne_eqb}
 use Rattle.std.proofs.lemmas.List.{get_or_append_left, length-append}
+use Rattle.tw_event.specs.declared.event.Event.{Event}
 use Rattle.tw_event.specs.Order.{event_before, event_same}
 use Rattle.tw_model.specs.Effect.{suits}
 use Rattle.tw_queue.specs.Held.{sent_by, sent_by_others}
@@ -12,10 +13,12 @@ use Rattle.tw_queue.proofs.Events.{event_law}
 use Rattle.tw_queue.proofs.Ordered.{all-filter}
 use Rattle.tw_sim.proofs.Ordered.{rising-insert_all}
 use Rattle.tw_sim.specs.Ordered.{insert_all}
+use Rattle.tw_shard.specs.Inside.{HasHandledTo}
 use Rattle.tw_shard.specs.Moving.{HasCome, HasLeft}
 use Rattle.tw_shard.specs.Roster.{AreApart, IsWithout, Stands, has, place_in}
 use Rattle.tw_shard.specs.Shard.{HasTimeline, IsWhole, Shard, no_timeline, owns, place, timeline}
-use Rattle.tw_shard.specs.Timeline.{Timeline}
+use Rattle.tw_shard.specs.Timeline.{Timeline, history}
+use Rattle.tw_shard.proofs.Latest.{until_later}
 use Rattle.tw_shard.proofs.Openings.{all_inserted}
 use Rattle.tw_shard.proofs.Releasing.{rising_part}
 use Rattle.tw_shard.proofs.Rosters.{apart_without, beside, has_at, has_without, place_is, stands, stands_not}
@@ -146,6 +149,10 @@ module _ (s : Shard) (r : ℕ) (whole : IsWhole s) (mine : owns s r ≡ true) (r
     held = rising_part s.case whole.case (λ e. not (e.src == r)) s.held whole.held;
   }
 
+  pub latest_left : (time : ℕ) → HasHandledTo time s → HasHandledTo time after_leaving
+  latest_left time all q ours =
+      subst (λ (t : Timeline). AllByRecursion (λ (e : Event). e.time ≤ time) (history t)) (sym (same_line q ours).1) (all q (owned_before q ours))
+
 -- ---- the shard to which it comes
 
 module _ (s t : Shard) (r : ℕ) (giver : IsWhole s) (mine : owns s r ≡ true) (whole : IsWhole t) (new : owns t r ≡ false) (case : t.case ≡ s.case) (keeps : t.keeps ≡ s.keeps) where
@@ -215,6 +222,23 @@ module _ (s t : Shard) (r : ℕ) (giver : IsWhole s) (mine : owns s r ≡ true) 
         case = ap (λ t. t.case) line.1 ∙ at.case;
         keeps = ap (λ t. t.keeps) line.1 ∙ at.keeps;
       }
+
+  -- its routers are those that it had, and the new one
+  each_owned : (P : ℕ → Timeline → Type 0) → ((q : ℕ) → owns t q ≡ true → P q (timeline t q)) → P r (timeline s r)
+      → (q : ℕ) → owns after_coming q ≡ true → P q (timeline after_coming q)
+  each_owned P old here q ours =
+      elim (cases_Bool (owns t q)) [
+        | inl there ↦ subst (P q) (sym (line_of_other q there).1) (old q there)
+        | inr none ↦ elim (cases_eq q r) [
+          | inl same ↦ subst (λ p. P p (timeline after_coming p)) (sym same) (subst (P r) (sym line_of_new.1) here)
+          | inr apart ↦ absurd (false≢true (sym (has_added t.routers r whole.apart new q ∙ (ap (λ b. b || (q == r)) none ∙ ne_eqb q r apart)) ∙ ours))
+        ]
+      ]
+
+  pub latest_come : (a b time : ℕ) → a ≤ time → b ≤ time → HasHandledTo a s → HasHandledTo b t → HasHandledTo time after_coming
+  latest_come a b time first second giving having =
+      each_owned (λ q line. AllByRecursion (λ (e : Event). e.time ≤ time) (history line)) (λ q own. until_later b time (history (timeline t q)) second (having q own))
+      (until_later a time (history (timeline s r)) first (giving r mine))
 
   pub whole_come : IsWhole after_coming
   whole_come = record {

@@ -7,6 +7,8 @@ pub mod Fields
 pub mod HandingOver
 pub mod Histories
 pub mod Holding
+pub mod Latest
+pub mod Leasts
 pub mod LettingGo
 pub mod Openings
 pub mod Widening

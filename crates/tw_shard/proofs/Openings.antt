@@ -1,5 +1,5 @@
 -- A shard as it begins.
-use Rattle.std.proofs.Common.{◌≡◌, ℕ, zero, suc, ◌<◌, ◌==◌, ◌&&◌, Bool, true, false, nat_lt, List, [], ◌∷◌, ap, sym, ◌∙◌, refl, subst, inl, inr, arith, if◌then◌else◌}
+use Rattle.std.proofs.Common.{◌≡◌, ℕ, zero, suc, ◌<◌, ◌≤◌, ◌==◌, ◌&&◌, Bool, true, false, nat_lt, List, [], ◌∷◌, ap, sym, ◌∙◌, refl, subst, inl, inr, arith, if◌then◌else◌}
 use Rattle.std.proofs.Common.{Some, filter, get_or, length, map, slice_get}
 use Rattle.std.specs.List.{AllByRecursion, range_with_len}
 use Rattle.std.proofs.Math.Path.{fun_ext}
@@ -14,6 +14,7 @@ use Rattle.tw_model.specs.Effect.{suits}
 use Rattle.tw_model.proofs.Lawful.{lawful}
 use Rattle.tw_model.proofs.Within.{suits_within}
 use Rattle.tw_queue.proofs.Ordered.{all-filter}
+use Rattle.tw_shard.specs.Inside.{HasHandledTo}
 use Rattle.tw_shard.specs.Roster.{AreApart, Stands, has}
 use Rattle.tw_shard.specs.Shard.{IsOpeningBy, IsWhole, Shard, core, no_timeline, opening_core_by, owns, place, routers, timeline}
 use Rattle.tw_shard.proofs.Rosters.{has_own, stands}
@@ -114,6 +115,10 @@ module _ (s : Shard) (is : IsBegun s) where
         (all_inserted P (filter own (opening_events s.case.scenes)) [] (all-filter event_before event_same P own (opening_events s.case.scenes) (opening_suits s.case is.case)) tt);
     held = subst (IsRising event_before event_same) (sym is.held) tt;
   }
+
+  -- and none has handled anything
+  pub latest_begun : HasHandledTo 0 s
+  latest_begun r mine = subst (λ (t : Timeline). AllByRecursion (λ (e : Event). e.time ≤ 0) (history t)) (sym (opened r mine)) tt
 
   -- the routers are the worker's
   own_by : (who : ℕ → ℕ) → s.routers ≡ filter (λ r. who r == s.worker) (range_with_len 0 s.case.net.nodes)

@@ -32,6 +32,7 @@ sent_shard a b is same routers rising = subst IsShard (sym same) (record {
   pending = is.pending;
   kept = is.kept;
   held = routers ∙ is.held;
+  latest = is.latest;
 })
 
 -- of events in order, those that pass a test are in order

@@ -107,7 +107,7 @@ rolling_more reach e s t u whole far must h =
     })
 
 -- nothing more is to be undone: committed events are before what comes
-done_here : (case : Case) → IsCase case → (reach : Reach) (e : Event) (ahead past : List Event) (C : Core Event)
+pub done_here : (case : Case) → IsCase case → (reach : Reach) (e : Event) (ahead past : List Event) (C : Core Event)
     → option_map_or (λ newest. rolls reach e newest) (slice_get ahead 0) false ≡ false → AllByRecursion (λ p. p.time < e.time) past
     → after_undoing_while (simulation case) (rolls reach e) e.dst (ahead ++ past) C ≡ C
 done_here case is reach e (x ∷ older) past C stops early = rw stops refl

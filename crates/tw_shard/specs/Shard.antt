@@ -1,9 +1,10 @@
 -- One worker's routers, seen as a machine of their own (after Jefferson, Virtual Time, 1985).
 use Rattle.std.specs.Prelude.{ℕ, ◌≡◌, ◌*◌, ◌<◌, ◌≤◌, ◌==◌, Bool, true, false, ◌&&◌, List, [], ◌∷◌, ◌++◌, filter, length, map, nat_lt, slice_index_or, slice_set, Some, Result, Err, Ok, if◌then◌else◌}
 use Rattle.std.specs.List.{AllByRecursion, range_with_len}
+use Rattle.std.specs.Option.{option_map_or}
 use Rattle.tw_core.specs.declared.limits.TheConstants.{OPENING_ROOM}
 use Rattle.tw_core.specs.declared.refusal.Refusal.{Refusal}
-use Rattle.tw_core.specs.declared.refusal.Refusal.TheVariants.{NotMine, Double, AheadFull}
+use Rattle.tw_core.specs.declared.refusal.Refusal.TheVariants.{NotMine, Nothing, Double, AheadFull}
 use Rattle.tw_core.specs.Machine.{Core}
 use Rattle.tw_core.specs.Steps.{first_pending, from, from_others, handle, held_back, is_newest, sent_back, still_held, to_send, undo, with_release, with_room}
 use Rattle.tw_event.specs.declared.event.Event.{Event}
@@ -17,7 +18,7 @@ use Rattle.tw_shard.specs.Timeline.{Timeline, history, opening_timeline, sends_a
 use Rattle.tw_sim.specs.declared.machine.Cancel.{Cancel}
 use Rattle.tw_sim.specs.declared.machine.Cancel.TheVariants.{Aggressive}
 use Rattle.tw_sim.specs.declared.machine.Signed.{Signed}
-use Rattle.tw_sim.specs.Ordered.{insert, insert_all, take_out}
+use Rattle.tw_sim.specs.Ordered.{insert, insert_all, least, take_out}
 use Rattle.tw_sim.specs.Rising.{IsRising}
 use Rattle.tw_sim.specs.Owners.{owner}
 use Rattle.tw_sim.specs.Simulation.{IsFalling, below}
@@ -151,6 +152,11 @@ at_own s r outcome = if owns s r then outcome else Err NotMine
 -- router r handles its first pending event
 abbrev pub handling : ℕ → Shard → ℕ → Result (Core Event) Refusal
 handling stop s r = let m = simulation s.case in at_own s r (handle m (core stop s) r (first_pending m (core stop s) r))
+
+-- the router of the least of all pending events handles it, where that one is before the stop
+abbrev pub handling_least : ℕ → Shard → Result (Core Event) Refusal
+handling_least stop s =
+    option_map_or (λ e. if nat_lt e.time stop then handling stop s e.dst else Err Nothing) (least event_before s.pending) (Err Nothing)
 
 -- router r undoes the newest event of its history
 abbrev pub undoing : ℕ → Shard → ℕ → Result (Core Event) Refusal

@@ -1,5 +1,5 @@
 //! A message comes to a shard: a router that has run past it is rolled back.
-ghost use Rattle.std.specs.Prelude.{◌≡◌, ◌≤◌, ◌<◌, ◌↔◌, not, true, false, ℕ, IfErr, IsErrOf, IsTrue, OnErr, OnOk, slice_get};
+ghost use Rattle.std.specs.Prelude.{◌≡◌, ◌≤◌, ◌<◌, ◌↔◌, not, true, false, ℕ, IfErr, IsErrOf, IsTrue, OnErr, OnOk, Ok, Err, slice_get};
 ghost use Rattle.std.specs.List.{AllByRecursion};
 ghost use Rattle.std.specs.Option.{option_map_or};
 ghost use Rattle.tw_event.specs.Order.{event_before, event_same};
@@ -58,6 +58,19 @@ impl<'a> Shard<'a> {
         Ok(())
     }
 
+    /// A message, or an antimessage, that may come comes to one of its routers, as [`Shard::receive`] has it, without
+    /// a test of whether it may. It fails for want of memory alone; then some of the events that are to be undone
+    /// may be undone, and nothing else has changed.
+    pub fn receive_welcome(&mut self, message: &Signed<Event>) -> Result<(), AllocError>
+        requires { refusing self.old message.now.event ≡ Ok tt }
+        ensures ok { (stop : ℕ) → OnOk result (receiving stop self.old message.now ≡ Ok (core stop self.new)) }
+        ensures memory { OnErr result ((stop : ℕ) → IsRolledBack (simulation self.old.case) message.now.event (core stop self.old) (core stop self.new)) }
+        ensures same { IsSameShare self.old self.new }
+    {
+        self.take_in(message)?;
+        Ok(())
+    }
+
     /// Whether an event, or what takes it back, may come.
     fn may_receive(&self, event: &Event) -> Result<(), Rejection>
         ensures value { result ≡ refusing self.now event.now }
@@ -105,6 +118,11 @@ impl<'a> Shard<'a> {
         ensures err { OnErr result ((stop : ℕ) → IsRolledBack (simulation self.old.case) event.now (core stop self.old) (core stop self.new)) }
         ensures same { IsSameShare self.old self.new }
     {
+        // Of most messages this is all.
+        if self.comes_last(event) {
+            self.add_pending(event)?;
+            return Ok(());
+        }
         if self.take_kept(event) {
             return Ok(());
         }

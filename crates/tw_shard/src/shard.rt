@@ -2,8 +2,8 @@
 
 ghost use Rattle.std.specs.Prelude.{◌≡◌, ◌≤◌, ◌<◌, [], length, max, min, Some, slice_get, slice_index_or, slice_set, true, false, ℕ, IfOk, IfNone, IfSome, IsErrOf, IsTrue, OnErr, OnOk, ◌↔◌, Err, Ok, ◌++◌, ◌∷◌, map, List};
 ghost use Rattle.tw_core.specs.declared.refusal.Refusal.{Refusal as ARefusal};
-ghost use Rattle.std.specs.List.{reduce};
-ghost use Rattle.std.specs.Option.{option_copied};
+ghost use Rattle.std.specs.Bool.{OnTrue};
+ghost use Rattle.std.specs.List.{AllByRecursion, reduce};
 ghost use Rattle.std.specs.Result.{result_and};
 ghost use Rattle.tw_core.specs.Steps.{first_pending, from, held_back, sent_back, still_held, to_send, with_commit};
 ghost use Rattle.tw_handlers.specs.Calls.{counter_full, is_full_at};
@@ -20,6 +20,7 @@ ghost use Rattle.tw_shard.specs.Shard.{IsSameShare, IsUndone, IsWhole, IsNext, c
 ghost use Rattle.tw_shard.specs.Timeline.{history, router_of, sends_after, signed};
 
 mod commit;
+mod least;
 mod moving;
 mod open;
 mod release;
@@ -53,6 +54,8 @@ pub struct Shard<'a> {
     outgoing: Vec<Signed<Event>>,
     held: HeldSends,
     sends: SmallVec<Event, 8>,
+    // No event that its routers have handled and not undone is after this time.
+    latest: u64,
     bound: u64,
     keeps: bool,
     cancel: Cancel,
@@ -277,7 +280,7 @@ impl<'a> Shard<'a> {
         ensures same { IsSameShare self.old self.new }
     {
         let event = match self.next(router, stop) {
-            Ok(event) => *event,
+            Ok(event) => event,
             Err(refusal) => return Err(OrMemory::Fault(refusal)),
         };
         match self.step_on(router, &event) {
@@ -288,9 +291,9 @@ impl<'a> Shard<'a> {
     }
 
     /// The event that a router is to handle next, unless a counter is full.
-    fn next(&self, router: u32, stop: u64) -> Result<&Event, Refusal>
+    fn next(&self, router: u32, stop: u64) -> Result<Event, Refusal>
         ensures err { (f : ARefusal) → IsErrOf result f → handling stop self.now router ≡ Err f }
-        ensures ok { IfOk result (λ e. IsNext stop self.now router e.now) }
+        ensures ok { IfOk result (λ e. IsNext stop self.now router e) }
         ensures whole { IsWhole self.now }
     {
         if !self.owns(router) {
@@ -298,7 +301,7 @@ impl<'a> Shard<'a> {
         }
         match self.first_pending(router) {
             Some(event) if event.time < stop => {
-                self.may_handle(router, event)?;
+                self.may_handle(router, &event)?;
                 Ok(event)
             }
             _ => Err(Refusal::Nothing),
@@ -322,12 +325,12 @@ impl<'a> Shard<'a> {
     }
 
     /// The first pending event of a router.
-    fn first_pending(&self, router: u32) -> Option<&Event>
-        ensures value { option_copied result ≡ first_pending (simulation self.now.case) (core 0 self.now) router }
-        ensures suits { IfSome result (λ e. IsTrue (suits self.now.case.net router e.now)) }
+    fn first_pending(&self, router: u32) -> Option<Event>
+        ensures value { result ≡ first_pending (simulation self.now.case) (core 0 self.now) router }
+        ensures suits { IfSome result (λ e. IsTrue (suits self.now.case.net router e)) }
         ensures whole { IsWhole self.now }
     {
-        self.pending.first_at(router)
+        self.pending.least_at(router)
     }
 
     /// An event becomes pending.
@@ -369,6 +372,17 @@ impl<'a> Shard<'a> {
         self.kept.remove_one(event)
     }
 
+    /// Whether a message can only become pending: no antimessage is kept, and what its router has handled is before
+    /// it.
+    pub(crate) fn comes_last(&self, event: &Event) -> bool
+        requires { owns self.now event.now.dst ≡ true }
+        ensures kept { OnTrue result (self.now.kept ≡ []) }
+        ensures last { OnTrue result (AllByRecursion (λ e. e.time < event.now.time) (history (timeline self.now event.now.dst))) }
+        ensures whole { IsWhole self.now }
+    {
+        self.latest < event.time && self.kept.is_empty()
+    }
+
     /// The instance whose routers these are.
     pub fn instance(&self) -> &Instance
         ensures { result.now ≡ self.now.case.net }
@@ -395,6 +409,7 @@ impl<'a> Shard<'a> {
             &mut self.outgoing,
         )?;
         self.pending.remove_one(event);
+        self.latest = self.latest.max(event.time);
         Ok(())
     }
 

@@ -2,22 +2,26 @@
 use Rattle.std.proofs.Common.{◌≡◌, ℕ, zero, suc, ◌+◌, ◌<◌, ◌≤◌, nat_lt, true, false, List, [], ◌∷◌, drop, length, get_or, Result, Ok, Err, Some, remove, slice_get, refl, ap, sym, ◌∙◌, subst, inl, inr, arith, if◌then◌else◌}
 use Rattle.std.proofs.lemmas.Bool.{cases_Bool, ltb-true}
 use Rattle.std.proofs.lemmas.List.{at_drop_more}
-use Rattle.tw_core.specs.declared.refusal.Refusal.TheVariants.{AheadFull, NotMine}
+use Rattle.tw_core.specs.declared.refusal.Refusal.TheVariants.{AheadFull, NotMine, Nothing}
 use Rattle.tw_core.specs.declared.refusal.Refusal.{Refusal}
 use Rattle.tw_core.specs.Machine.{Core}
 use Rattle.tw_core.specs.Steps.{IsRolledBack, after_arrival, first_pending, handle, with_release, with_room}
 use Rattle.tw_event.specs.declared.event.Event.{Event}
+use Rattle.tw_event.specs.Order.{event_before}
 use Rattle.tw_model.proofs.Lawful.{lawful}
 use Rattle.tw_model.specs.Case.{Case, IsCase, simulation}
 use Rattle.tw_model.specs.Effect.{suits}
 use Rattle.tw_rule.proofs.Before.{kept_before}
 use Rattle.tw_rule.proofs.Calls.{hand_is_loose, hand_is_own, keeps_handle, keeps_receive, keeps_release, keeps_roll_back, keeps_widen}
 use Rattle.tw_rule.specs.Place.{IsFrom, IsPlace, IsRunBefore, Keeps, with_core}
+use Rattle.std.specs.Option.{option_map_or}
 use Rattle.std.specs.Result.{result_and}
 use Rattle.tw_shard.specs.Arrival.{receiving, refusing}
+use Rattle.tw_shard.specs.declared.rejection.Rejection.{Rejection}
 use Rattle.tw_shard.specs.Roster.{has}
-use Rattle.tw_shard.specs.Shard.{IsSameShare, Shard, core, handling, owns, releasing, widening}
+use Rattle.tw_shard.specs.Shard.{IsSameShare, Shard, core, handling, handling_least, owns, releasing, widening}
 use Rattle.tw_sim.specs.declared.machine.Signed.{Signed}
+use Rattle.tw_sim.specs.Ordered.{least}
 use Rattle.tw_table.specs.Shares.{Share, place_of}
 use Rattle.tw_workers.specs.Work.{IsAtWork, Kept}
 
@@ -137,8 +141,14 @@ welcome stop s x rest work first =
     rw own (rw not_late (rw suit refl))
 
 -- and so it is received
-pub may_come : (s : Shard) (x : Signed Event) (stop : ℕ) → refusing s x.event ≡ Ok tt → receiving stop s x ≡ Ok (after_arrival (simulation s.case) (core stop s) x)
+may_come : (s : Shard) (x : Signed Event) (stop : ℕ) → refusing s x.event ≡ Ok tt → receiving stop s x ≡ Ok (after_arrival (simulation s.case) (core stop s) x)
 may_come s x stop may = ap (λ o. result_and o (Ok (after_arrival (simulation s.case) (core stop s) x))) may
+
+pub arrived : (s t : Shard) (x : Signed Event) (stop : ℕ) → refusing s x.event ≡ Ok tt → receiving stop s x ≡ Ok (core stop t)
+    → after_arrival (simulation s.case) (core stop s) x ≡ core stop t
+arrived s t x stop may came =
+    let same : ◌≡◌ {A = Result (Core Event) Rejection} (Ok (after_arrival (simulation s.case) (core stop s) x)) (Ok (core stop t)) = sym (may_come s x stop may) ∙ came in
+    cc same
 
 pub kept_received : (stop : ℕ) (s t : Share) (x : Signed Event) (rest : List (Signed Event)) → IsAtWork stop s → s.mail ≡ x ∷ rest → IsSameShare s.shard t.shard
     → after_arrival (simulation s.shard.case) (core stop s.shard) x ≡ core stop t.shard → t.mail ≡ rest → t.unsent ≡ s.unsent → Kept stop s t
@@ -194,6 +204,15 @@ own_full stop r s full =
           let m = simulation s.case in
           let refused : handling stop s r ≡ Err NotMine = ap (λ b. if b then handle m (core stop s) r (first_pending m (core stop s) r) else Err NotMine) other in
           absurd (cc (refused, full))
+    ]
+
+-- and so is that of the least pending event
+pub own_least : (time : ℕ) (s : Shard) (e : Event) → least event_before s.pending ≡ Some e → handling_least time s ≡ Err AheadFull → owns s e.dst ≡ true
+own_least time s e first full =
+    let told = sym (ap (λ o. option_map_or (λ (e : Event). if nat_lt e.time time then handling time s e.dst else Err Nothing) o (Err Nothing)) first) ∙ full in
+    elim (cases_Bool (nat_lt e.time time)) [
+      | inl soon ↦ own_full time e.dst s (sym (ap (λ b. if b then handling time s e.dst else Err Nothing) soon) ∙ told)
+      | inr late ↦ absurd (cc (sym (ap (λ b. if b then handling time s e.dst else Err Nothing) late) ∙ told))
     ]
 
 -- a router of its own has more room

@@ -1,19 +1,12 @@
 //! What is in a worker's hand comes to its routers.
-ghost use Rattle.std.specs.Prelude.{◌≡◌, ◌<◌, ◌+◌, [], ℕ, Ok, OnErr, OnOk, length};
-ghost use Rattle.tw_core.specs.Steps.{after_arrival, IsRolledBack};
-ghost use Rattle.tw_model.specs.Case.{simulation};
-ghost use Rattle.tw_shard.specs.Arrival.{refusing};
-ghost use Rattle.tw_shard.specs.Shard.{IsSameShare, core};
+ghost use Rattle.std.specs.Prelude.{◌≡◌, ◌<◌, ◌+◌, [], ℕ, OnErr, OnOk, length};
 ghost use Rattle.tw_table.specs.Shares.{share};
 ghost use Rattle.tw_workers.specs.Work.{IsAtWork, Kept, StillKeeps};
 
 use crate::policy::count_undone;
 use crate::worker::Worker;
 use std::alloc::AllocError;
-use tw_event::Event;
-use tw_model::OrMemory;
 use tw_shard::Shard;
-use tw_sim::Signed;
 use tw_table::Hand;
 
 impl<'a> Worker<'a> {
@@ -49,24 +42,7 @@ fn receive_next(shard: &mut Shard<'_>, hand: &mut Hand) -> Result<(), AllocError
     ensures next { OnOk result (hand.new.next ≡ hand.old.next + 1) }
     ensures err { OnErr result (hand.new.next ≡ hand.old.next) }
 {
-    let message = hand.mail[hand.next];
-    receive(shard, message)?;
+    shard.receive_welcome(&hand.mail[hand.next])?;
     hand.next += 1;
     Ok(())
-}
-
-/// A message that may come comes to a shard.
-fn receive(shard: &mut Shard<'_>, message: Signed<Event>) -> Result<(), AllocError>
-    requires { refusing shard.old message.event ≡ Ok tt }
-    ensures ok { (stop : ℕ) → OnOk result (after_arrival (simulation shard.old.case) (core stop shard.old) message ≡ core stop shard.new) }
-    ensures err { OnErr result ((stop : ℕ) → IsRolledBack (simulation shard.old.case) message.event (core stop shard.old) (core stop shard.new)) }
-    ensures same { IsSameShare shard.old shard.new }
-{
-    match shard.receive(message) {
-        Ok(()) => Ok(()),
-        Err(returned) => match returned.why {
-            OrMemory::Memory => Err(AllocError),
-            OrMemory::Fault(_) => unreachable!(),
-        },
-    }
 }

@@ -9,7 +9,6 @@ ghost use Rattle.tw_workers.specs.Work.{AreAwaited, StillKeeps};
 
 use crate::worker::Worker;
 use std::alloc::AllocError;
-use tw_event::Event;
 use tw_handlers::CounterFull;
 use tw_model::OrMemory;
 use tw_shard::{Refusal, Shard};
@@ -46,7 +45,8 @@ impl<'a> Worker<'a> {
     /// Its routers handle a batch of events that are before a time, and take back what is held and can't be sent
     /// again. It is answered whether the batch ended since none was left.
     fn handle_and_release(&mut self, limit: u64) -> Result<bool, OrMemory<CounterFull>>
-        requires { self.old.share.mail ≡ [] }
+        requires mail { self.old.share.mail ≡ [] }
+        requires limit { limit ≤ self.old.stop }
         ensures kept { StillKeeps self.old self.new }
         ensures empty { OnOk result (self.new.share.mail ≡ []) }
         ensures awaited { OnOk result (AreAwaited self.new.stop self.new.share.shard) }
@@ -63,63 +63,39 @@ impl<'a> Worker<'a> {
     /// ended since none was left. What they send to one another comes when the events of a tick are
     /// handled: messages take a tick at least.
     fn handle_until(&mut self, limit: u64) -> Result<bool, OrMemory<CounterFull>>
-        requires { self.old.share.mail ≡ [] }
+        requires mail { self.old.share.mail ≡ [] }
+        requires limit { limit ≤ self.old.stop }
         ensures kept { StillKeeps self.old self.new }
         ensures empty { OnOk result (self.new.share.mail ≡ []) }
         ensures full { IsErrOf result (or_memory.Fault counter_full)
             → (r : ℕ) × (handling self.new.stop self.new.share.shard r ≡ Err refusal.CounterFull) }
         ensures stop { self.new.stop ≡ self.old.stop }
     {
-        let mut latest = None;
         for _ in 0..self.pace.batch() {
-            let next = self.next(latest)?;
-            if !self.handle_before(next, limit)? {
+            self.receive_where_due()?;
+            if !self.handle_before(limit)? {
                 return Ok(true);
             }
-            latest = next;
         }
         Ok(false)
     }
 
-    /// The least pending event of all, where `latest` was the least before it was handled. Most often it is of the same
-    /// router and tick, since events are in order of time and then of router; then it need not be looked for.
-    fn next(&mut self, latest: Option<Event>) -> Result<Option<Event>, AllocError>
+    /// Its routers receive what they have sent one another, once no event of the tick is left.
+    fn receive_where_due(&mut self) -> Result<(), AllocError>
         requires { self.old.share.mail ≡ [] }
         ensures kept { StillKeeps self.old self.new }
         ensures empty { OnOk result (self.new.share.mail ≡ []) }
         ensures stop { self.new.stop ≡ self.old.stop }
     {
-        match self.next_beside(latest) {
-            Some(event) => Ok(Some(event)),
-            None => self.receive_where_due(),
+        if !self.is_own_mail_due() {
+            return Ok(());
         }
+        self.receive_own()
     }
 
-    /// The next pending event of the router of an event, if it is of the same tick.
-    fn next_beside(&self, latest: Option<Event>) -> Option<Event> {
-        let latest = latest?;
-        let next = self.shard.pending().least_at(latest.dst)?;
-        if next.time == latest.time {
-            Some(next)
-        } else {
-            None
-        }
-    }
-
-    /// The least pending event of all, once its routers have received what they sent one another before
-    /// its tick.
-    fn receive_where_due(&mut self) -> Result<Option<Event>, AllocError>
-        requires { self.old.share.mail ≡ [] }
-        ensures kept { StillKeeps self.old self.new }
-        ensures empty { OnOk result (self.new.share.mail ≡ []) }
-        ensures stop { self.new.stop ≡ self.old.stop }
-    {
-        let least = self.shard.pending().least();
-        if self.shard.outgoing().is_empty() || self.pace.is_of_tick(least) {
-            return Ok(least);
-        }
-        self.receive_own()?;
-        Ok(self.shard.pending().least())
+    /// Whether its routers have sent something, and no event of the tick is left.
+    fn is_own_mail_due(&self) -> bool {
+        !self.shard.outgoing().is_empty() && !self.pace.is_of_tick(self.shard.pending().least_time())
     }
 
     /// What its routers have sent is sorted: what is for them comes to them.
@@ -164,43 +140,26 @@ impl<'a> Worker<'a> {
         Ok(())
     }
 
-    /// Where an event is before a time, its router handles.
-    fn handle_before(
-        &mut self,
-        least: Option<Event>,
-        limit: u64,
-    ) -> Result<bool, OrMemory<CounterFull>>
+    /// The router of the least of all pending events handles it, where it is before a time, and is not the event that
+    /// its router handled last, which then waits for its antimessage. Where its router has no room for one more that
+    /// is not committed, room is made, or the event waits until the bound has risen. It is answered whether the
+    /// worker goes on.
+    fn handle_before(&mut self, limit: u64) -> Result<bool, OrMemory<CounterFull>>
+        requires { limit ≤ self.old.stop }
         ensures kept { StillKeeps self.old self.new }
         ensures full { IsErrOf result (or_memory.Fault counter_full)
             → (r : ℕ) × (handling self.new.stop self.new.share.shard r ≡ Err refusal.CounterFull) }
         ensures mail { self.new.share.mail ≡ self.old.share.mail }
         ensures stop { self.new.stop ≡ self.old.stop }
     {
-        match least {
-            Some(event) if event.time < limit => self.handle_at(event),
-            _ => Ok(false),
-        }
-    }
-
-    /// The router of an event handles its first pending event, if that is before the stop and is not the
-    /// event that it handled last, which then waits for its antimessage. Where it has no room for one more that is
-    /// not committed, room is made, or the event waits until the bound has risen.
-    fn handle_at(&mut self, event: Event) -> Result<bool, OrMemory<CounterFull>>
-        ensures kept { StillKeeps self.old self.new }
-        ensures full { IsErrOf result (or_memory.Fault counter_full)
-            → (r : ℕ) × (handling self.new.stop self.new.share.shard r ≡ Err refusal.CounterFull) }
-        ensures mail { self.new.share.mail ≡ self.old.share.mail }
-        ensures stop { self.new.stop ≡ self.old.stop }
-    {
-        let stop = self.stop;
-        match self.shard.handle_next(event.dst, stop) {
-            Ok(()) => {
-                self.pace.count_handled(event.time);
+        match self.shard.handle_least(limit) {
+            Ok(time) => {
+                self.pace.count_handled(time);
                 Ok(true)
             }
             Err(OrMemory::Memory) => Err(OrMemory::Memory),
             Err(OrMemory::Fault(Refusal::CounterFull)) => Err(OrMemory::Fault(CounterFull)),
-            Err(OrMemory::Fault(Refusal::AheadFull)) => Ok(self.make_room(&event)?),
+            Err(OrMemory::Fault(Refusal::AheadFull)) => Ok(self.make_room_for_least()?),
             Err(OrMemory::Fault(_)) => Ok(false),
         }
     }

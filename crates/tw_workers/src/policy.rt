@@ -1,12 +1,13 @@
 //! How far a worker runs ahead of the bound, and how much it does between two meetings. No promise rests
 //! on this.
 
-ghost use Rattle.std.specs.Prelude.{◌≡◌, true};
+ghost use Rattle.std.specs.Prelude.{◌≡◌, ◌≤◌, true};
 
 use std::cmp;
 use tw_event::Event;
 use tw_instance::Instance;
 use tw_model::limits::LONGEST_DELAY;
+use tw_shard::Shard;
 use tw_sim::Signed;
 
 /// A window wider than the longest delay of a link lets routers run ahead of messages not yet sent.
@@ -113,7 +114,7 @@ impl Span {
 pub(crate) struct Pace {
     batch: u32,
     window: u64,
-    // Within it no event is undone, since no message is quicker.
+    // Within it no event is undone.
     least_window: u64,
     // The time of the event handled last.
     tick: u64,
@@ -130,14 +131,14 @@ pub(crate) struct Pace {
 }
 
 impl Pace {
-    /// At most so many events between two meetings, where no message takes less than `least_delay` ticks.
-    pub(crate) fn new(batch: u32, least_delay: u64) -> Pace
+    /// At most so many events between two meetings, where nothing is undone within a window of `least_window` ticks.
+    pub(crate) fn new(batch: u32, least_window: u64) -> Pace
         ensures { result.batch ≡ batch }
     {
         Pace {
             batch,
-            window: least_delay,
-            least_window: least_delay,
+            window: least_window,
+            least_window,
             tick: 0,
             turn: Work::NONE,
             span: Span::NONE,
@@ -152,14 +153,16 @@ impl Pace {
         self.batch
     }
 
-    /// The time at which a worker stops that knows this bound.
-    pub(crate) fn limit(&self, bound: u64, stop: u64) -> u64 {
+    /// The time at which a worker stops that knows this bound: the stop, or before it.
+    pub(crate) fn limit(&self, bound: u64, stop: u64) -> u64
+        ensures { result ≤ stop }
+    {
         cmp::min(stop, bound.saturating_add(self.window))
     }
 
-    /// Whether an event is one of the tick that is handled.
-    pub(crate) fn is_of_tick(&self, event: Option<Event>) -> bool {
-        event.is_some_and(|event| event.time == self.tick)
+    /// Whether a time is that of the tick that is handled.
+    pub(crate) fn is_of_tick(&self, time: Option<u64>) -> bool {
+        time == Some(self.tick)
     }
 
     /// What was done since the latest meeting.
@@ -217,13 +220,24 @@ impl Pace {
             self.wait -= 1;
         } else if self.span.ends_at_window() {
             let wider = self.window.saturating_add(self.window / 4 + 1);
-            self.window = cmp::min(WIDEST_WINDOW, wider);
+            self.window = cmp::max(self.least_window, cmp::min(WIDEST_WINDOW, wider));
         }
     }
 }
 
+/// The window, in ticks, within which no event of a shard is undone: no message of others is quicker than the least
+/// delay; and where it has all routers, there are no others.
+pub(crate) fn least_window(shard: &Shard<'_>) -> u64 {
+    let instance = shard.instance();
+    if shard.router_count() == instance.nodes() as usize {
+        u64::MAX
+    } else {
+        least_delay(instance)
+    }
+}
+
 /// The least delay of a link, in ticks, in either direction.
-pub(crate) fn least_delay(instance: &Instance) -> u64 {
+fn least_delay(instance: &Instance) -> u64 {
     instance.links().iter().fold(
         WIDEST_WINDOW,
         |least, link| least.min(link.delay).min(link.back),

@@ -69,7 +69,7 @@ impl<'a> Worker<'a> {
         let Some(held) = self.shard.held_time(router) else {
             return false;
         };
-        match self.shard.pending().first_at(router) {
+        match self.shard.pending().least_at(router) {
             Some(event) if event.time < self.stop => held <= event.time,
             _ => true,
         }

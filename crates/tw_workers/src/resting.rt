@@ -32,8 +32,8 @@ impl<'a> Worker<'a> {
 
     /// Whether the least pending event is before a time.
     fn has_event_before(&self, time: u64) -> bool {
-        let least = self.shard.pending().least();
-        least.is_some_and(|event| event.time < time)
+        let least = self.shard.pending().least_time();
+        least.is_some_and(|least| least < time)
     }
 }
 

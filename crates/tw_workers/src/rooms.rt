@@ -1,6 +1,7 @@
 //! Room for events that are handled and not committed.
-ghost use Rattle.std.specs.Prelude.{ℕ, ◌≡◌, Ok, OnErr, OnOk, true};
-ghost use Rattle.tw_shard.specs.Shard.{IsSameShare, core, owns, widening};
+ghost use Rattle.std.specs.Prelude.{ℕ, ◌≡◌, Ok, Err, OnErr, OnOk, true};
+ghost use Rattle.tw_core.specs.declared.refusal.Refusal.TheVariants.{AheadFull};
+ghost use Rattle.tw_shard.specs.Shard.{IsSameShare, core, handling_least, owns, widening};
 ghost use Rattle.tw_workers.specs.Work.{StillKeeps};
 
 use crate::committing::commit_at;
@@ -11,10 +12,24 @@ use tw_model::OrMemory;
 use tw_shard::Shard;
 
 impl<'a> Worker<'a> {
+    /// The router of the least of all pending events has no room for it: room is made, or the event waits. It is
+    /// answered whether the router has room then.
+    pub(crate) fn make_room_for_least(&mut self) -> Result<bool, AllocError>
+        requires { (time : ℕ) × (handling_least time self.old.share.shard ≡ Err AheadFull) }
+        ensures kept { StillKeeps self.old self.new }
+        ensures mail { self.new.share.mail ≡ self.old.share.mail }
+        ensures stop { self.new.stop ≡ self.old.stop }
+    {
+        match self.shard.pending().least() {
+            Some(event) => self.make_room(&event),
+            None => Ok(false),
+        }
+    }
+
     /// The router of an event, which is its first pending one and for which it has no room, commits what is
     /// before the bound. Where that makes no room and the event is at the bound, no later commit can, and it is
     /// given more. It is answered whether it has room then.
-    pub(crate) fn make_room(&mut self, event: &Event) -> Result<bool, AllocError>
+    fn make_room(&mut self, event: &Event) -> Result<bool, AllocError>
         requires own { owns self.old.share.shard event.now.dst ≡ true }
         ensures kept { StillKeeps self.old self.new }
         ensures mail { self.new.share.mail ≡ self.old.share.mail }

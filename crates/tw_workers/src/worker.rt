@@ -4,7 +4,7 @@ ghost use Rattle.tw_model.specs.declared.limits.TheConstants.{LATEST};
 ghost use Rattle.tw_table.specs.Shares.{share};
 ghost use Rattle.tw_workers.specs.Work.{IsAtWork};
 
-use crate::policy::{Pace, least_delay};
+use crate::policy::{Pace, least_window};
 use std::marker::Model;
 use tw_event::Event;
 use tw_shard::Shard;
@@ -44,7 +44,7 @@ impl<'a> Worker<'a> {
         ensures batch { result.batch ≡ batch }
     {
         let alloc = *hand.mail.allocator();
-        let pace = Pace::new(batch, least_delay(shard.instance()));
+        let pace = Pace::new(batch, least_window(&shard));
         Worker {
             shard,
             hand,

@@ -108,17 +108,12 @@ impl<'a> Shard<'a> {
     pub fn report_time(&self) -> Option<u64>
         ensures { result ≡ reduce min (map (λ e. e.time) (self.now.pending ++ self.now.kept ++ self.now.held)) }
     {
-        let pending = time_of(self.pending.least());
-        let kept = time_of(self.kept.least());
-        earlier(earlier(pending, kept), self.held.least_time())
+        // That these are in order is told by reads of them.
+        let _ = self.pending.len();
+        let _ = self.kept.len();
+        let waiting = earlier(self.pending.least_time(), self.kept.least_time());
+        earlier(waiting, self.held.least_time())
     }
-}
-
-/// The time of an event, where there is one.
-fn time_of(event: Option<Event>) -> Option<u64>
-    ensures { result ≡ option_map (λ e. e.time) event }
-{
-    event.map(|event| event.time)
 }
 
 /// The lesser of two times, where there are two; else the one that there is.

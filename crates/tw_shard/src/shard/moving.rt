@@ -72,6 +72,7 @@ impl<'a> Shard<'a> {
         let timeline = take_out(router, &mut self.roster, &mut self.timelines);
         to.roster.add(router);
         to.timelines.push_reserved(timeline);
+        to.latest = to.latest.max(self.latest);
         to.bound = to.bound.max(self.bound);
         Ok(())
     }

@@ -107,6 +107,7 @@ impl<'a> Shard<'a> {
             outgoing: Vec::new(alloc),
             held: HeldSends::new(alloc, instance.nodes()),
             sends: SmallVec::new(alloc),
+            latest: 0,
             bound: 0,
             keeps,
             cancel,

@@ -1,8 +1,6 @@
-use Rattle.std.proofs.Common.{IfSome, ◌≡◌, Bor, None, Option, Some, ap, sym, ◌∙◌, subst, true, ℕ}
-use Rattle.std.specs.Option.{option_copied}
+use Rattle.std.proofs.Common.{IfSome, ◌≡◌, ap, sym, ◌∙◌, subst, true}
 use Rattle.tw_event.specs.declared.event.Event.{Event}
 use Rattle.tw_model.specs.Effect.{suits}
-use Rattle.tw_model.specs.Net.{Net}
 use Rattle.tw_core.specs.Steps.{first_pending}
 use Rattle.tw_model.specs.Case.{simulation}
 use Rattle.tw_shard.specs.Shard.{Shard, core}
@@ -12,18 +10,13 @@ use Rattle.tw_shard.proofs.shard.Shard.first_pending.Goals as goal
 pub returns-clause-value : goal.returns-clause-value
 returns-clause-value c =
     let a = c.self.inside in
-    c.first_at.ensures.first
-    ∙ (first_of a.case.now c.self.invariant.whole.case c.args.router a.pending.events c.first_at.ensures.queue.rising
+    c.least_at.ensures.first
+    ∙ (first_of a.case.now c.self.invariant.whole.case c.args.router a.pending.events c.least_at.ensures.queue.rising
     ∙ ap (λ (s : Shard). first_pending (simulation s.case) (core 0 s) c.args.router) c.self.view_is)
-
-copied_suits : (net : Net) (r : ℕ) (o : Option (Bor Event)) → IfSome (option_copied o) (λ e. suits net r e ≡ true) → IfSome o (λ e. suits net r e.now ≡ true)
-copied_suits net r None h = tt
-copied_suits net r (Some e) h = h
 
 pub returns-clause-suits : goal.returns-clause-suits
 returns-clause-suits c =
     let a = c.self.inside in
-    subst (λ (s : Shard). IfSome c.first_at.result (λ e. suits s.case.net c.args.router e.now ≡ true)) c.self.view_is
-    (copied_suits a.case.now.net c.args.router c.first_at.result
-    (subst (λ o. IfSome o (λ e. suits a.case.now.net c.args.router e ≡ true)) (sym c.first_at.ensures.first)
-    (first_suits a.case.now.net c.args.router a.pending.events c.self.invariant.whole.pending)))
+    subst (λ (s : Shard). IfSome c.least_at.result (λ e. suits s.case.net c.args.router e ≡ true)) c.self.view_is
+    (subst (λ o. IfSome o (λ e. suits a.case.now.net c.args.router e ≡ true)) (sym c.least_at.ensures.first)
+    (first_suits a.case.now.net c.args.router a.pending.events c.self.invariant.whole.pending))

@@ -1,8 +1,8 @@
-use Rattle.std.proofs.Common.{◌≡◌, ◌++◌, ◌∷◌, [], true, false, ap, sym, subst, ◌∙◌}
-use Rattle.tw_shard.specs.Inside.{shard_of}
+use Rattle.std.proofs.Common.{◌≡◌, ◌++◌, ◌∷◌, [], true, false, ap, sym, subst, ◌∙◌, arith}
+use Rattle.tw_shard.specs.Inside.{HasHandledTo, shard_of}
 use Rattle.tw_shard.specs.Moving.{HasCome, HasLeft}
 use Rattle.tw_shard.specs.Shard.{IsWhole, Shard, owns}
-use Rattle.tw_shard.proofs.HandingOver.{after_coming, after_leaving, has_come, has_left, whole_come, whole_left}
+use Rattle.tw_shard.proofs.HandingOver.{after_coming, after_leaving, has_come, has_left, latest_come, latest_left, whole_come, whole_left}
 use Rattle.tw_shard.proofs.shard.Shard.hand_over_own.Goals as goal
 
 mine : (c : goal.After-to-1) → owns (shard_of c.self.inside) c.args.router ≡ true
@@ -53,7 +53,7 @@ to_now c = record {
   kept = c.hand_over_waiting.new.to_kept.events;
   outgoing = c.to.inside.outgoing.items;
   held = c.hand_over_waiting.new.to_held.events;
-  bound = c.max-to-inside.result;
+  bound = c.max-to-inside-2.result;
   keeps = c.to.inside.keeps;
   cancel = c.to.inside.cancel;
 }
@@ -97,7 +97,7 @@ come_is c =
       kept = sym given.to_kept i;
       outgoing = t.outgoing;
       held = sym given.to_held i;
-      bound = sym c.max-to-inside.ensures i;
+      bound = sym c.max-to-inside-2.ensures i;
       keeps = t.keeps;
       cancel = t.cancel;
     }
@@ -113,6 +113,8 @@ invariant_of-self-2 c =
       pending = given.routers ∙ c.self.invariant.pending;
       kept = given.kept_routers ∙ c.self.invariant.kept;
       held = given.held_routers ∙ c.self.invariant.held;
+      latest = subst (HasHandledTo a.latest) (left_is c) (latest_left (shard_of a) c.args.router c.self.invariant.whole (mine c) c.take_out-timeline.new.roster.routers c.take_out-timeline.new.timelines.items
+          c.take_out-timeline.ensures.routers c.take_out-timeline.ensures.timelines a.latest c.self.invariant.latest);
     }
 
 pub invariant_of-to-2 : goal.invariant_of-to-2
@@ -124,6 +126,8 @@ invariant_of-to-2 c =
       pending = given.to_routers ∙ c.to.invariant.pending;
       kept = given.to_kept_routers ∙ c.to.invariant.kept;
       held = given.to_held_routers ∙ c.to.invariant.held;
+      latest = subst (HasHandledTo c.max-to-inside.result) (come_is c) (latest_come (shard_of c.self.inside) (shard_of c.to.inside) c.args.router c.self.invariant.whole (mine c) c.to.invariant.whole (new c) (same_case c) (same_keeps c)
+          c.self.inside.latest c.to.inside.latest c.max-to-inside.result (let later = c.max-to-inside.ensures in omega arith) (let later = c.max-to-inside.ensures in omega arith) c.self.invariant.latest c.to.invariant.latest);
     }
 
 pub returns-clause-left : goal.returns-clause-left

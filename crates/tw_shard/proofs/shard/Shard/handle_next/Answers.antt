@@ -6,11 +6,11 @@ use Rattle.tw_shard.proofs.Steps.{goes_on, is_stuck}
 use Rattle.tw_shard.proofs.shard.Shard.handle_next.Goals as goal
 use Rattle.tw_shard.proofs.shard.Shard.handle_next.Goals.{In-Ok-step_on}
 
-room : (c : In-Ok-step_on) → is_full_at (router_of (timeline c.args.self.now c.args.router)) c.in-Ok.event.now ≡ true → ⊥
+room : (c : In-Ok-step_on) → is_full_at (router_of (timeline c.args.self.now c.args.router)) c.in-Ok.event ≡ true → ⊥
 room c full = cc (c.in-Ok-step_on.ensures.full.1 full)
 
-done : (c : In-Ok-step_on) → handling c.args.stop c.args.self.now c.args.router ≡ Ok (core c.args.stop (handled_at c.args.self.now c.args.router c.in-Ok.event.now))
-done c = goes_on c.args.self.now c.args.router c.next.ensures.whole c.in-Ok.ensures.ok.own c.args.stop c.in-Ok.event.now c.in-Ok.ensures.ok (room c)
+done : (c : In-Ok-step_on) → handling c.args.stop c.args.self.now c.args.router ≡ Ok (core c.args.stop (handled_at c.args.self.now c.args.router c.in-Ok.event))
+done c = goes_on c.args.self.now c.args.router c.next.ensures.whole c.in-Ok.ensures.ok.own c.args.stop c.in-Ok.event c.in-Ok.ensures.ok (room c)
 
 pub returns-in-Ok-step_on-clause-ok : goal.returns-in-Ok-step_on-clause-ok
 returns-in-Ok-step_on-clause-ok c =
@@ -22,12 +22,12 @@ returns-in-Ok-step_on-clause-refused c = λ f. ((λ h. absurd (cc h)), (λ h. ab
 pub returns-in-Err-Fault-clause-refused : goal.returns-in-Err-Fault-clause-refused
 returns-in-Err-Fault-clause-refused c =
     let full = c.in-Err-Fault.ensures.full.0 (ap (λ x. Err x) c.in-Err-Fault.field-0-is) in
-    let stuck = is_stuck c.args.self.now c.args.router c.next.ensures.whole c.in-Ok.ensures.ok.own c.args.stop c.in-Ok.event.now c.in-Ok.ensures.ok full in
+    let stuck = is_stuck c.args.self.now c.args.router c.next.ensures.whole c.in-Ok.ensures.ok.own c.args.stop c.in-Ok.event c.in-Ok.ensures.ok full in
     λ f. ((λ h. stuck ∙ cc h), (λ h. cc (stuck, h)))
 
 pub returns-in-Err-Memory-clause-refused : goal.returns-in-Err-Memory-clause-refused
 returns-in-Err-Memory-clause-refused c =
     let going =
-    goes_on c.args.self.now c.args.router c.next.ensures.whole c.in-Ok.ensures.ok.own c.args.stop c.in-Ok.event.now c.in-Ok.ensures.ok
+    goes_on c.args.self.now c.args.router c.next.ensures.whole c.in-Ok.ensures.ok.own c.args.stop c.in-Ok.event c.in-Ok.ensures.ok
     (λ full. cc (c.in-Err-Memory.ensures.full.1 full, c.in-Err-Memory.field-0-is)) in
     λ f. ((λ h. absurd (cc h)), (λ h. absurd (cc (going, h))))

@@ -1,4 +1,4 @@
-use Rattle.std.proofs.Common.{◌≡◌, refl, ap, sym, ◌∙◌, subst, true, set, get_or, ◌++◌}
+use Rattle.std.proofs.Common.{◌≡◌, ◌≤◌, arith, refl, ap, sym, ◌∙◌, subst, true, set, get_or, ◌++◌}
 use Rattle.std.specs.Vec.{with_items}
 use Rattle.std.specs.List.{AllByRecursion}
 use Rattle.tw_core.specs.Steps.{held_back, sent_back}
@@ -51,6 +51,8 @@ invariant_of-self-3 c =
     (subst (IsRising event_before event_same) (sym undone.4)
     (let t = get_or c.deref_mut.result.now c.place-place.result no_timeline in
     rising-held_back t.case a.cancel (sends_after t (undone.0 ++ t.past) e) a.held.events c.self.invariant.whole.held))
+    (omega arith)
+    (subst (λ events. AllByRecursion (λ x. x.time ≤ a.latest) (events ++ (timeline s r).past)) (ap (λ t. t.ahead) (sym there) ∙ undone.1) (c.self.invariant.latest r mine)).1
 
 pub returns-clause-ok : goal.returns-clause-ok
 returns-clause-ok c =

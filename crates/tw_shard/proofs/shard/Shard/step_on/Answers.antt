@@ -1,4 +1,4 @@
-use Rattle.std.proofs.Common.{◌≡◌, refl, ap, sym, ◌∙◌, ◌∷◌, ◌++◌, map, subst, true, set, get_or}
+use Rattle.std.proofs.Common.{◌≡◌, refl, ap, sym, ◌∙◌, ◌∷◌, ◌++◌, map, subst, true, set, get_or, arith}
 use Rattle.std.specs.List.{AllByRecursion}
 use Rattle.tw_core.specs.Steps.{still_held, to_send}
 use Rattle.tw_event.specs.Order.{event_before, event_same}
@@ -9,6 +9,7 @@ use Rattle.tw_shard.specs.Shard.{handled_at, no_timeline, owns, place, timeline}
 use Rattle.tw_shard.proofs.Fields.{changed_shard, other_items}
 use Rattle.tw_shard.specs.Timeline.{Timeline, history, sends_after, signed}
 use Rattle.tw_shard.proofs.Holding.{rising-still_held}
+use Rattle.tw_shard.proofs.Latest.{until_later}
 use Rattle.tw_shard.proofs.Queues.{suit_without}
 use Rattle.tw_sim.specs.Rising.{IsRising}
 use Rattle.tw_shard.proofs.shard.Shard.step_on.Goals as goal
@@ -44,6 +45,8 @@ invariant_of-self-2 c =
     (subst (IsRising event_before event_same) (sym c.in_ok-handle_at.ensures.held)
     (let t = get_or c.deref_mut.result.now c.place-place.result no_timeline in
     rising-still_held t.case (sends_after t (history t) e) a.held.events c.self.invariant.whole.held))
+    (let later = c.max-self.ensures in omega arith)
+    ((let later = c.max-self.ensures in omega arith), until_later a.latest c.max-self.result (history (timeline s r)) (let later = c.max-self.ensures in omega arith) (c.self.invariant.latest r mine))
 
 pub returns-clause-ok : goal.returns-clause-ok
 returns-clause-ok c =

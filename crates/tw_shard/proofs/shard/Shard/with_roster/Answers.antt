@@ -2,7 +2,7 @@ use Rattle.std.proofs.Common.{◌<◌, map, refl, subst, ap, ◌∙◌}
 use Rattle.tw_shard.specs.Roster.{Stands}
 use Rattle.tw_shard.specs.Shard.{Shard}
 use Rattle.tw_shard.specs.Timeline.{opening_timeline}
-use Rattle.tw_shard.proofs.Openings.{IsBegun, opening, whole_begun}
+use Rattle.tw_shard.proofs.Openings.{IsBegun, latest_begun, opening, whole_begun}
 use Rattle.tw_shard.proofs.Rosters.{all_standing}
 use Rattle.tw_shard.proofs.shard.Shard.with_roster.Goals as goal
 
@@ -49,6 +49,7 @@ invariant_of-result c = record {
   pending = c.in_ok-pending.ensures.routers;
   kept = c.in_ok-kept.ensures.routers ∙ (c.nodes.ensures.value ∙ ap (λ net. net.nodes) c.instance-instance.ensures.value);
   held = c.new-3.ensures.routers ∙ (c.nodes-2.ensures.value ∙ ap (λ net. net.nodes) c.instance-instance.ensures.value);
+  latest = latest_begun (shard_of c) (is_begun c);
 }
 
 pub returns : goal.returns

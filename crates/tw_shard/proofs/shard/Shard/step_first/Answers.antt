@@ -1,0 +1,90 @@
+use Rattle.std.proofs.Common.{◌≡◌, refl, ap, sym, ◌∙◌, ◌∷◌, ◌++◌, map, subst, true, set, get_or, slice_get, arith}
+use Rattle.std.specs.List.{AllByRecursion}
+use Rattle.tw_core.specs.Steps.{still_held, to_send}
+use Rattle.tw_event.specs.Order.{event_before, event_same}
+use Rattle.tw_model.specs.Case.{Case, simulation}
+use Rattle.tw_model.specs.Effect.{suits}
+use Rattle.tw_shard.specs.Inside.{shard_of}
+use Rattle.tw_shard.specs.Shard.{handled_at, no_timeline, owns, place, timeline}
+use Rattle.tw_shard.proofs.Fields.{changed_shard, other_items}
+use Rattle.tw_shard.specs.Timeline.{Timeline, history, sends_after, signed}
+use Rattle.tw_shard.proofs.Holding.{rising-still_held}
+use Rattle.tw_shard.proofs.Latest.{until_later}
+use Rattle.tw_shard.proofs.Queues.{head_out, suit_without}
+use Rattle.tw_sim.specs.Ordered.{take_out}
+use Rattle.tw_sim.specs.Rising.{IsRising}
+use Rattle.tw_shard.proofs.shard.Shard.step_first.Goals as goal
+
+-- what is pending is without the event
+without : (c : goal.After-skip_least) → c.skip_least.new.self.events ≡ take_out event_same c.args.event.now c.self.inside.pending.events
+without c =
+    let a = c.self.inside in
+    let e = c.args.event.now in
+    c.skip_least.ensures.events ∙ head_out e a.pending.events (ap (λ s. slice_get s.pending 0) c.self.view_is ∙ c.requires.first)
+
+pub invariant_of-self-2 : goal.invariant_of-self-2
+invariant_of-self-2 c =
+    let a = c.self.inside in
+    let s = shard_of a in
+    let r = c.args.event.now.dst in
+    let e = c.args.event.now in
+    let mine : owns s r ≡ true = subst (λ s. owns s r ≡ true) (sym c.self.view_is) c.requires.own in
+    let own = c.self.invariant.whole.routers r mine in
+    let at : c.place-place.result ≡ place s r = c.place-place.ensures.value ∙ ap (λ s. place s r) (sym c.self.view_is) in
+    let there : get_or c.deref_mut.result.now c.place-place.result no_timeline ≡ timeline s r = λ i. get_or (c.deref_mut.ensures.value i) (at i) no_timeline in
+    changed_shard a _ r (record (timeline s r) { ahead = e ∷ (timeline s r).ahead }) c.self.invariant mine (record {
+      case = refl;
+      worker = refl;
+      workers = refl;
+      roster = refl;
+      timelines =
+          other_items a.timelines.len c.handle_at.new.timelines _ (c.handle_at.auto.timelines ∙ c.deref_mut.ensures.len)
+          ∙ (c.in_ok-handle_at.ensures.ok ∙ λ i. set (c.deref_mut.ensures.value i) (at i) (record (there i) { ahead = e ∷ (there i).ahead }));
+      kept = refl;
+      bound = refl;
+      keeps = refl;
+      cancel = refl;
+      pending_routers = c.skip_least.ensures.routers;
+      kept_routers = refl;
+      held_routers = c.in_ok-handle_at.ensures.routers;
+    }) own.net own.node own.done own.case own.keeps
+    (subst (AllByRecursion (λ x. suits s.case.net x.dst x ≡ true)) (sym (without c))
+    (suit_without s.case.net e a.pending.events c.self.invariant.whole.pending))
+    (subst (IsRising event_before event_same) (sym c.in_ok-handle_at.ensures.held)
+    (let t = get_or c.deref_mut.result.now c.place-place.result no_timeline in
+    rising-still_held t.case (sends_after t (history t) e) a.held.events c.self.invariant.whole.held))
+    (let later = c.max-self.ensures in omega arith)
+    ((let later = c.max-self.ensures in omega arith), until_later a.latest c.max-self.result (history (timeline s r)) (let later = c.max-self.ensures in omega arith) (c.self.invariant.latest r mine))
+
+pub returns-clause-ok : goal.returns-clause-ok
+returns-clause-ok c =
+    let a = c.self.inside in
+    let s = shard_of a in
+    let r = c.args.event.now.dst in
+    let e = c.args.event.now in
+    let mine : owns s r ≡ true = subst (λ s. owns s r ≡ true) (sym c.self.view_is) c.requires.own in
+    let same : (timeline s r).case ≡ s.case = (c.self.invariant.whole.routers r mine).case in
+    let at : c.place-place.result ≡ place s r = c.place-place.ensures.value ∙ ap (λ s. place s r) (sym c.self.view_is) in
+    let there : get_or c.deref_mut.result.now c.place-place.result no_timeline ≡ timeline s r = λ i. get_or (c.deref_mut.ensures.value i) (at i) no_timeline in
+    let timelines =
+    other_items a.timelines.len c.handle_at.new.timelines _ (c.handle_at.auto.timelines ∙ c.deref_mut.ensures.len)
+    ∙ (c.in_ok-handle_at.ensures.ok ∙ λ i. set (c.deref_mut.ensures.value i) (at i) (record (there i) { ahead = e ∷ (there i).ahead })) in
+    let sent = λ (case : Case) (t : Timeline). a.outgoing.items ++ map (signed true) (to_send (simulation case) (sends_after t (history t) e) a.held.events) in
+    let outgoing = c.in_ok-handle_at.ensures.sends ∙ ((λ i. sent (there i).case (there i)) ∙ ap (λ case. sent case (timeline s r)) same) in
+    let left = λ (case : Case) (t : Timeline). still_held (simulation case) (sends_after t (history t) e) a.held.events in
+    let held = c.in_ok-handle_at.ensures.held ∙ ((λ i. left (there i).case (there i)) ∙ ap (λ case. left case (timeline s r)) same) in
+    (λ i. record {
+      case = a.case.now;
+      worker = a.worker;
+      workers = a.workers;
+      routers = a.roster.routers;
+      timelines = timelines i;
+      pending = without c i;
+      kept = a.kept.events;
+      outgoing = outgoing i;
+      held = held i;
+      bound = a.bound;
+      keeps = a.keeps;
+      cancel = a.cancel;
+    })
+    ∙ ap (λ s. handled_at s r e) c.self.view_is

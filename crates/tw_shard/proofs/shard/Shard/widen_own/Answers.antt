@@ -1,0 +1,32 @@
+use Rattle.std.proofs.Common.{◌≡◌, ◌≤◌, ◌*◌, refl, ap, sym, ◌∙◌, subst, true, set, get_or, arith}
+use Rattle.std.specs.List.{AllByRecursion}
+use Rattle.tw_shard.specs.Inside.{shard_of}
+use Rattle.tw_shard.specs.Shard.{no_timeline, owns, place, timeline}
+use Rattle.tw_shard.proofs.Fields.{changed_shard, other_items}
+use Rattle.tw_shard.proofs.shard.Shard.widen_own.Goals as goal
+
+pub invariant_of-self-2 : goal.invariant_of-self-2
+invariant_of-self-2 c =
+    let a = c.self.inside in
+    let s = shard_of a in
+    let r = c.args.router in
+    let mine : owns s r ≡ true = subst (λ s. owns s r ≡ true) (sym c.self.view_is) c.requires in
+    let own = c.self.invariant.whole.routers r mine in
+    let at : c.place-place.result ≡ place s r = c.place-place.ensures.value ∙ ap (λ s. place s r) (sym c.self.view_is) in
+    let there : get_or c.deref_mut.result.now c.place-place.result no_timeline ≡ timeline s r = λ i. get_or (c.deref_mut.ensures.value i) (at i) no_timeline in
+    changed_shard a _ r (record (timeline s r) { room = 2 * (timeline s r).room }) c.self.invariant mine (record {
+      case = refl;
+      worker = refl;
+      workers = refl;
+      roster = refl;
+      timelines =
+          other_items a.timelines.len c.widen_at.new.timelines _ (c.widen_at.auto.timelines ∙ c.deref_mut.ensures.len)
+          ∙ (c.in_ok-widen_at.ensures.ok ∙ λ i. set (c.deref_mut.ensures.value i) (at i) (record (there i) { room = 2 * (there i).room }));
+      kept = refl;
+      bound = refl;
+      keeps = refl;
+      cancel = refl;
+      pending_routers = refl;
+      kept_routers = refl;
+      held_routers = refl;
+    }) own.net own.node own.done own.case own.keeps c.self.invariant.whole.pending c.self.invariant.whole.held (omega arith) (c.self.invariant.latest r mine)

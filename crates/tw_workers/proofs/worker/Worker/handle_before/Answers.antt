@@ -1,0 +1,66 @@
+use Rattle.std.proofs.Common.{rules, ◌≡◌, ◌≤◌, ◌×◌, ℕ, Ok, Err, arith, ap, sym, subst}
+use Rattle.tw_core.specs.declared.refusal.Refusal.TheVariants as refusal
+use Rattle.tw_model.specs.declared.memory.OrMemory.TheVariants as or_memory
+use Rattle.tw_shard.proofs.Leasts.{one_told, refused_later}
+use Rattle.tw_shard.specs.Shard.{core, handling, handling_least}
+use Rattle.tw_table.specs.Shares.{share}
+use Rattle.tw_workers.proofs.Places.{kept_both, kept_handled, work_kept}
+use Rattle.tw_workers.specs.Work.{Kept, Worker}
+use Rattle.tw_workers.proofs.worker.Worker.handle_before.Goals as goal
+use Rattle.tw_workers.proofs.worker.Worker.handle_before.Goals.{In-Ok}
+
+until : (c : goal.After-handle_least) → c.args.limit ≤ c.self.inside.stop
+until c = let same = ap (λ (w : Worker). w.stop) c.self.view_is in let most = c.requires in omega arith
+
+-- what is kept where an event was handled
+kept : (c : In-Ok) → Kept c.self.inside.stop (share c.self.inside.shard c.self.inside.hand) (share c.handle_least.new.self c.self.inside.hand)
+kept c =
+    let inside = c.self.inside in
+    let s = share inside.shard inside.hand in
+    let t = share c.handle_least.new.self inside.hand in
+    let told = one_told inside.stop inside.shard (Ok (core inside.stop c.handle_least.new.self)) (c.in-Ok.ensures.ok inside.stop (until c.After-handle_least)) (λ none. cc none) in
+    kept_handled inside.stop told.0 s t c.self.invariant.work c.in-Ok.ensures.same told.1 refl refl
+
+pub invariant_of-self : goal.invariant_of-self
+invariant_of-self c =
+    let inside = c.self.inside in
+    record {
+      work = work_kept inside.stop (share inside.shard inside.hand) (share c.handle_least.new.self inside.hand) c.self.invariant.work (kept (goal.at.invariant_of-self c).In-Ok);
+      stop = c.self.invariant.stop;
+      none = c.self.invariant.none;
+    }
+
+pub returns-in-Ok-clause-kept : goal.returns-in-Ok-clause-kept
+returns-in-Ok-clause-kept c = λ since before.
+    let inside = c.self.inside in
+    kept_both inside.stop since (share inside.shard inside.hand) (share c.handle_least.new.self inside.hand)
+    (subst (λ (w : Worker). Kept w.stop since w.share) (sym c.self.view_is) before) (kept (goal.at.returns-in-Ok-clause-kept c).In-Ok)
+
+pub returns-in-Err-Fault-CounterFull-clause-full : goal.returns-in-Err-Fault-CounterFull-clause-full
+returns-in-Err-Fault-CounterFull-clause-full c = λ is.
+    let arm = c.in-Err-Fault-CounterFull in
+    let inside = c.self.inside in
+    let told : c.handle_least.result ≡ Err (or_memory.Fault refusal.CounterFull) = search rules in
+    let at = one_told c.args.limit inside.shard (Err refusal.CounterFull) ((c.handle_least.ensures.refused refusal.CounterFull).0 told) (λ none. cc none) in
+    let full = refused_later c.args.limit inside.stop inside.shard at.0 refusal.CounterFull (until (goal.at.returns-in-Err-Fault-CounterFull-clause-full c).After-handle_least) (λ none. cc none) at.1 in
+    (at.0, subst (λ s. handling inside.stop s at.0 ≡ Err refusal.CounterFull) (sym arm.ensures.err) full)
+
+-- where its router has no room
+pub make_room_for_least-requires : goal.make_room_for_least-requires
+make_room_for_least-requires c =
+    let told : c.handle_least.result ≡ Err (or_memory.Fault refusal.AheadFull) = search rules in
+    (c.args.limit, subst (λ s. handling_least c.args.limit s ≡ Err refusal.AheadFull) (sym c.in-Err-Fault-AheadFull.ensures.err) ((c.handle_least.ensures.refused refusal.AheadFull).0 told))
+
+pub returns-in_err-make_room_for_least-in-Err-Fault-AheadFull-clause-kept : goal.returns-in_err-make_room_for_least-in-Err-Fault-AheadFull-clause-kept
+returns-in_err-make_room_for_least-in-Err-Fault-AheadFull-clause-kept c = λ since before.
+    let inside = c.self.inside in
+    c.make_room_for_least.ensures.kept since
+    (subst (λ s. Kept inside.stop since (share s inside.hand)) (sym c.in-Err-Fault-AheadFull.ensures.err)
+    (subst (λ (w : Worker). Kept w.stop since w.share) (sym c.self.view_is) before))
+
+pub returns-in_ok-make_room_for_least-in-Err-Fault-AheadFull-clause-kept : goal.returns-in_ok-make_room_for_least-in-Err-Fault-AheadFull-clause-kept
+returns-in_ok-make_room_for_least-in-Err-Fault-AheadFull-clause-kept c = λ since before.
+    let inside = c.self.inside in
+    c.make_room_for_least.ensures.kept since
+    (subst (λ s. Kept inside.stop since (share s inside.hand)) (sym c.in-Err-Fault-AheadFull.ensures.err)
+    (subst (λ (w : Worker). Kept w.stop since w.share) (sym c.self.view_is) before))
