@@ -160,6 +160,11 @@ impl Pace {
         cmp::min(stop, bound.saturating_add(self.window))
     }
 
+    /// The greatest bound at which an event of this time, in ticks, is not within the window.
+    pub(crate) fn bound_before(&self, time: u64) -> u64 {
+        time.saturating_sub(self.window)
+    }
+
     /// Whether a time is that of the tick that is handled.
     pub(crate) fn is_of_tick(&self, time: Option<u64>) -> bool {
         time == Some(self.tick)

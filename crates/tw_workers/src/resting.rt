@@ -13,32 +13,44 @@ impl<'a> Worker<'a> {
     /// for a while: the others get on sooner where the exchange and the processor are left to them.
     pub(crate) fn rest<R: Wait>(&self, rt: &R, table: &Table, known: u64) {
         if !self.has_work(known) {
-            wait_for_news(rt, table, self.shard.worker(), self.shard.bound());
+            wait_for_news(rt, table, self.shard.worker(), self.idle_bound());
         }
     }
 
     /// Whether a turn may do something: there is mail, or the end is reached, or a router may handle its next
-    /// event. That may have to wait, for room or for an antimessage, so it counts only where something was
-    /// handled or the bound has risen.
+    /// event.
     fn has_work(&self, known: u64) -> bool {
         let bound = self.shard.bound();
-        if !self.hand.mail.is_empty() || bound == self.stop {
-            return true;
-        }
-        let limit = self.pace.limit(bound, self.stop);
-        let goes_on = self.pace.turn().handled > 0 || bound > known;
-        goes_on && self.has_event_before(limit)
+        !self.hand.mail.is_empty() || bound == self.stop || self.may_go_on(known)
     }
 
-    /// Whether the least pending event is before a time.
-    fn has_event_before(&self, time: u64) -> bool {
-        let least = self.shard.pending().least_time();
-        least.is_some_and(|least| least < time)
+    /// Whether the next event is before its window's end. That event may have to wait, for room or for an
+    /// antimessage, so it counts only where something was handled or the bound has risen.
+    fn may_go_on(&self, known: u64) -> bool {
+        let bound = self.shard.bound();
+        let has_moved = self.pace.turn().handled > 0 || bound > known;
+        has_moved && self.least_time() < self.pace.limit(bound, self.stop)
+    }
+
+    /// Without mail, a turn can do nothing while the bound is not past this time, in ticks.
+    fn idle_bound(&self) -> u64 {
+        let bound = self.shard.bound();
+        let least = self.least_time();
+        if least < self.pace.limit(bound, self.stop) {
+            return bound;
+        }
+        let before_window = self.pace.bound_before(least);
+        before_window.min(self.stop.saturating_sub(1)).max(bound)
+    }
+
+    /// The time of the least pending event, and the end of time where none is pending.
+    fn least_time(&self) -> u64 {
+        self.shard.pending().least_time().unwrap_or(u64::MAX)
     }
 }
 
-/// Waits until something is told that concerns a worker that knows this bound, or for a while: it looks
-/// again and again at first, and then sleeps in between.
+/// Waits until mail for a worker is told, or a bound past this one, or for a while: it looks again and again at
+/// first, and then sleeps in between.
 fn wait_for_news<R: Wait>(rt: &R, table: &Table, worker: u32, bound: u64) {
     if is_told_soon(table, worker, bound) {
         return;
@@ -51,7 +63,7 @@ fn wait_for_news<R: Wait>(rt: &R, table: &Table, worker: u32, bound: u64) {
     }
 }
 
-/// Whether something is told that concerns a worker that knows this bound, at one of so many looks.
+/// Whether mail for a worker is told, or a bound past this one, at one of so many looks.
 fn is_told_soon(table: &Table, worker: u32, bound: u64) -> bool {
     for _ in 0..LOOKS {
         if table.is_news_for(worker, bound) {
