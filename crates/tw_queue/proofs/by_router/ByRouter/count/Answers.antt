@@ -3,7 +3,7 @@ use Rattle.tw_event.specs.Order.{event_same}
 use Rattle.tw_sim.specs.Ordered.{times}
 use Rattle.tw_queue.proofs.Places.{count_times, equals}
 use Rattle.tw_queue.proofs.Spares.{times_whole}
-use Rattle.tw_queue.proofs.pending.Pending.count.Goals as goal
+use Rattle.tw_queue.proofs.by_router.ByRouter.count.Goals as goal
 
 pub returns : goal.returns
 returns c =

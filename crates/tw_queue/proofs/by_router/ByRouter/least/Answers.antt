@@ -1,9 +1,9 @@
 use Rattle.std.proofs.Common.{◌<◌, IfSome, slice_get, ap, sym, subst, ◌∙◌}
 use Rattle.tw_queue.specs.InOrder.{least_with}
-use Rattle.tw_queue.specs.Pending.{room_of}
+use Rattle.tw_queue.specs.ByRouter.{room_of}
 use Rattle.tw_queue.specs.Queue.{IsQueue}
 use Rattle.tw_queue.proofs.Spares.{first_home, least_whole, whole_queue}
-use Rattle.tw_queue.proofs.pending.Pending.least.Goals as goal
+use Rattle.tw_queue.proofs.by_router.ByRouter.least.Goals as goal
 
 pub returns-clause-first : goal.returns-clause-first
 returns-clause-first c =
