@@ -28,6 +28,13 @@ use Rattle.tw_queue.proofs.Tables.{in_order_rising, nothing}
 pub length-both : (xs ys : List Event) → length (in_order event_before (xs ++ ys)) ≡ length xs + length ys
 length-both xs ys = length-in_order event_before event_same (xs ++ ys) ∙ length-append xs ys
 
+-- none is there
+pub none_pending : (xs ys now : List Event) → in_order event_before (xs ++ ys) ≡ now → length xs + length ys ≡ 0 → now ≡ []
+none_pending xs ys now h z =
+    let l = length-both xs ys in
+    let n = ap (λ zs. length zs) h in
+    nil_of now (omega arith)
+
 -- the first is there
 pub first_there : (e : Event) (xs : List Event) → slice_get xs 0 ≡ Some e → 0 < times event_same e xs
 first_there e [] h = absurd (none-some e h)

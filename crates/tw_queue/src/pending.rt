@@ -201,6 +201,9 @@ impl Pending {
     pub fn count(&self, event: &Event) -> usize
         ensures { result ≡ times event_same event.now self.now.events }
     {
+        if self.len == 0 {
+            return 0;
+        }
         self.ring.count(event) + self.rest.count(event)
     }
 

@@ -1,6 +1,6 @@
 //! The events of one tick, put in order once.
 
-ghost use Rattle.std.specs.Prelude.{ℕ, ◌≡◌, ◌==◌, ◌+◌, ◌++◌, ◌<◌, ◌≤◌, ◌↔◌, ◌⊎◌, [], ◌∷◌, None, IfSome, IsTrue, OnOk, Some, drop, filter, length, position, slice_get};
+ghost use Rattle.std.specs.Prelude.{ℕ, ◌≡◌, ◌==◌, ◌+◌, ◌++◌, ◌<◌, ◌≤◌, ◌↔◌, ◌⊎◌, [], ◌∷◌, None, IfSome, IsTrue, OnOk, Some, count_by, drop, filter, length, position, slice_get};
 ghost use Rattle.std.specs.Bool.{OnFalse, OnTrue};
 ghost use Rattle.tw_event.specs.declared.event.Event.{Event as AnEvent};
 ghost use Rattle.tw_event.specs.Order.{event_before, event_same};
@@ -281,7 +281,7 @@ pub(crate) fn least_of_all(ticks: &[Tick], router: u32, first: Option<Event>) ->
 
 // The first place of an event among updates of a time, in ticks.
 fn place_of(time: u64, updates: &[Update], event: &Event) -> Option<usize>
-    ensures { result ≡ position (λ e. ⟦<Event as PartialEq>⟧.eq event.now e) (events_at time updates.now) }
+    ensures { result ≡ position (λ update. ⟦<Event as PartialEq>⟧.eq event.now (event_at time update)) updates.now }
 {
     updates
         .iter()
@@ -290,7 +290,7 @@ fn place_of(time: u64, updates: &[Update], event: &Event) -> Option<usize>
 
 // How often an event stands among updates of a time, in ticks.
 fn count_of(time: u64, updates: &[Update], event: &Event) -> usize
-    ensures { result ≡ times event_same event.now (events_at time updates.now) }
+    ensures { result ≡ count_by (λ update. ⟦<Event as PartialEq>⟧.eq event.now (event_at time update)) updates.now }
 {
     updates
         .iter()

@@ -1,15 +1,12 @@
-use Rattle.std.proofs.Common.{length, option_map, slice_get, ap, sym, ◌∙◌, arith}
-use Rattle.tw_queue.proofs.Halves.{least_told, length-both}
-use Rattle.tw_queue.proofs.Merged.{nil_of}
+use Rattle.std.proofs.Common.{option_map, slice_get, ap, sym, ◌∙◌, arith}
+use Rattle.tw_queue.proofs.Halves.{least_told, none_pending}
 use Rattle.tw_queue.proofs.pending.Pending.least_time.Goals as goal
 
-pub returns-then-self-len : goal.returns-then-self-len
-returns-then-self-len c =
+pub returns-then-self-eq0 : goal.returns-then-self-eq0
+returns-then-self-eq0 c =
     let a = c.self.inside in
     let n = c.self.invariant.len in
-    let l = length-both a.ring a.rest.events in
-    let q = ap (λ q. length q.events) c.self.view_is in
-    ap (λ xs. option_map (λ e. e.time) (slice_get xs 0)) (sym (nil_of c.args.self.now.events (omega (arith, c.if-self-len.true))))
+    ap (λ xs. option_map (λ e. e.time) (slice_get xs 0)) (sym (none_pending a.ring a.rest.events c.args.self.now.events (ap (λ q. q.events) c.self.view_is) (omega (arith, c.if-self-eq0.true))))
 
 pub returns : goal.returns
 returns c =
@@ -19,5 +16,5 @@ returns c =
     let m = c.min.ensures in
     let n = v.len in
     let r = v.rest_time in
-    least_told a.ring a.rest.events c.taken.ensures c.len.ensures.queue.rising c.min.result (omega arith) (omega (arith, c.least_time.type_inv)) (omega arith) (omega (arith, c.if-self-len.false))
+    least_told a.ring a.rest.events c.taken.ensures c.len.ensures.queue.rising c.min.result (omega arith) (omega (arith, c.least_time.type_inv)) (omega arith) (omega (arith, c.if-self-eq0.false))
     ∙ ap (λ q. option_map (λ e. e.time) (slice_get q.events 0)) c.self.view_is

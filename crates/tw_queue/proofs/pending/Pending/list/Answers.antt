@@ -10,17 +10,17 @@ use Rattle.tw_queue.proofs.pending.Pending.list.Goals as goal
 pub returns-in_err-events-clause-queue : goal.returns-in_err-events-clause-queue
 returns-in_err-events-clause-queue c =
     let a = c.self.inside in
-    subst IsQueue c.self.view_is (queue_of_both a.rest.routers (room_of a) a.ring a.rest.events c.self.invariant.homes c.list-events.ensures.queue.homes)
+    subst IsQueue c.self.view_is (queue_of_both a.rest.routers (room_of a) a.ring a.rest.events c.self.invariant.homes c.list.ensures.queue.homes)
 
 pub returns-in_err-append_to-clause-queue : goal.returns-in_err-append_to-clause-queue
 returns-in_err-append_to-clause-queue c =
     let a = c.self.inside in
-    subst IsQueue c.self.view_is (queue_of_both a.rest.routers (room_of a) a.ring a.rest.events c.self.invariant.homes c.list-events.ensures.queue.homes)
+    subst IsQueue c.self.view_is (queue_of_both a.rest.routers (room_of a) a.ring a.rest.events c.self.invariant.homes c.list.ensures.queue.homes)
 
 pub returns-clause-queue : goal.returns-clause-queue
 returns-clause-queue c =
     let a = c.self.inside in
-    subst IsQueue c.self.view_is (queue_of_both a.rest.routers (room_of a) a.ring a.rest.events c.self.invariant.homes c.list-events.ensures.queue.homes)
+    subst IsQueue c.self.view_is (queue_of_both a.rest.routers (room_of a) a.ring a.rest.events c.self.invariant.homes c.list.ensures.queue.homes)
 
 pub returns-clause-events : goal.returns-clause-events
 returns-clause-events c =

@@ -1,17 +1,14 @@
 use Rattle.std.proofs.Common.{drop, length, ap, sym, ◌∙◌, arith}
 use Rattle.std.proofs.lemmas.List.{length-drop}
 use Rattle.tw_queue.specs.Pending.{together_with}
-use Rattle.tw_queue.proofs.Halves.{empty_skipped, homes_skipped, length-both}
-use Rattle.tw_queue.proofs.Merged.{nil_of}
+use Rattle.tw_queue.proofs.Halves.{empty_skipped, homes_skipped, length-both, none_pending}
 use Rattle.tw_queue.proofs.pending.Pending.skip_least.Goals as goal
 
-pub returns-then-self-len-clause-events : goal.returns-then-self-len-clause-events
-returns-then-self-len-clause-events c =
+pub returns-then-self-eq0-clause-events : goal.returns-then-self-eq0-clause-events
+returns-then-self-eq0-clause-events c =
     let a = c.self.inside in
     let n = c.self.invariant.len in
-    let l = length-both a.ring a.rest.events in
-    let q = ap (λ q. length q.events) c.self.view_is in
-    let z = nil_of c.args.self.now.events (omega (arith, c.if-self-len.true)) in
+    let z = none_pending a.ring a.rest.events c.args.self.now.events (ap (λ q. q.events) c.self.view_is) (omega (arith, c.if-self-eq0.true)) in
     z ∙ ap (drop 1) (sym z)
 
 pub invariant_of-self : goal.invariant_of-self

@@ -15,5 +15,5 @@ returns c =
     let a = c.self.inside in
     let e = c.args.event.now in
     let b = c.index-self-slot_of in
-    c.count-2.ensures ∙ ap (times event_same e) b.is ∙ bucket_count a c.self.invariant e (omega (arith, c.if-event-self.false)) c.slot_of.result c.slot_of.ensures b.result b.is
+    c.count-2.ensures ∙ bucket_count a c.self.invariant e (omega (arith, c.if-event-self.false)) c.slot_of.result c.slot_of.ensures b.result b.is
     ∙ ap (times event_same e) c.self.view_is

@@ -6,6 +6,7 @@ use Rattle.tw_queue.proofs.Removed.{bucket_count, bucket_order, found_by, hand_c
 use Rattle.tw_queue.proofs.Turns.{turn_taken}
 use Rattle.tw_queue.proofs.Widths.{marked_more, marked_none}
 use Rattle.tw_queue.proofs.ring.Ring.remove.Goals as goal
+use Rattle.tw_queue.proofs.ring.Ring.remove.Goals.{After-remove-found}
 
 pub invariant_of-self : goal.invariant_of-self
 invariant_of-self c =
@@ -39,7 +40,7 @@ invariant_of-self-2 c =
           (λ z. marked_none c.len-has_more.result (c.len-has_more.ensures ∙ ap length z) m.ensures.clear) m.ensures.others;
     }
 
-late : (c : goal.After-remove-found) → c.self.inside.tick < c.args.event.now.time
+late : (c : After-remove-found) → c.self.inside.tick < c.args.event.now.time
 late c = omega (arith, c.if-event-self.false)
 
 pub returns-clause-found : goal.returns-clause-found
