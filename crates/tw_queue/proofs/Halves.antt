@@ -1,9 +1,8 @@
 -- The events of a ring and of the rest together.
-use Rattle.std.proofs.Common.{◌≡◌, ◌≤◌, ◌<◌, ◌+◌, ◌-◌, ◌++◌, ◌⊎◌, ◌↔◌, IsTrue, IfSome, ℕ, Bool, true, false, cond, min, Option, Some, None, List, [], ◌∷◌}
+use Rattle.std.proofs.Common.{◌≡◌, ◌≤◌, ◌<◌, ◌+◌, ◌++◌, ◌⊎◌, ℕ, Bool, min, Option, Some, None, List, [], ◌∷◌}
 use Rattle.std.proofs.Common.{length, drop, filter, option_map, slice_get, refl, ap, sym, ◌∙◌, subst, inl, inr, arith}
-use Rattle.std.specs.List.{AllByRecursion}
 use Rattle.std.specs.List.Sorted.{IsPermutation, IsSorted}
-use Rattle.std.proofs.lemmas.Bool.{cases_Bool, false≢true}
+use Rattle.std.proofs.lemmas.Bool.{cases_Bool}
 use Rattle.std.proofs.lemmas.List.{length-append}
 use Rattle.std.proofs.lemmas.List.Elements.{filter-append}
 use Rattle.std.proofs.lemmas.Option.{none-some}
@@ -13,17 +12,16 @@ use Rattle.tw_event.proofs.Order.{before_time}
 use Rattle.tw_event.specs.contracts.event.EventOrd.TheImpl as event_ord
 use Rattle.tw_sim.specs.Ordered.{insert, one, take_out, times}
 use Rattle.tw_sim.specs.Rising.{IsRising}
-use Rattle.tw_sim.proofs.Ordered.{all-insert, length-insert, one_cases, one_self, times-insert}
+use Rattle.tw_sim.proofs.Ordered.{all-insert, one_self, times-insert}
 use Rattle.tw_queue.specs.InOrder.{earlier_of, in_order}
-use Rattle.tw_queue.specs.Queue.{AreFor, IsQueue, Queue}
-use Rattle.tw_queue.specs.Pending.{together_with}
+use Rattle.tw_queue.specs.Queue.{AreFor, IsQueue}
 use Rattle.tw_queue.specs.Table.{first_time, never}
-use Rattle.tw_queue.proofs.Ordered.{all-take_out, cases_zero, in_order-taken, in_order-times, in_order_removed, length-in_order, length-take_out, rising-in_order, take_out_none, times-in_order, times-take_out}
-use Rattle.tw_queue.proofs.Events.{event_law, filter-in_order, least_is, none_first, not_earlier, same_some, sorted_list}
+use Rattle.tw_queue.proofs.Ordered.{all-take_out, cases_zero, in_order-taken, in_order-times, in_order_removed, length-in_order, take_out_none, times-take_out}
+use Rattle.tw_queue.proofs.Events.{event_law, filter-in_order, least_is, not_earlier, same_some, sorted_list}
 use Rattle.tw_queue.proofs.Lists.{times-append}
-use Rattle.tw_queue.proofs.Merged.{all_both, all_rest, first_time_low, least_of_rising, nil_of, none_of, queue_of_events, sooner_ring}
+use Rattle.tw_queue.proofs.Merged.{all_both, all_rest, first_time_low, nil_of, none_of, queue_of_events}
 use Rattle.tw_queue.proofs.Stacked.{both_least, counted, order_less, order_more}
-use Rattle.tw_queue.proofs.Tables.{in_order_rising, nothing}
+use Rattle.tw_queue.proofs.Tables.{in_order_rising}
 
 pub length-both : (xs ys : List Event) → length (in_order event_before (xs ++ ys)) ≡ length xs + length ys
 length-both xs ys = length-in_order event_before event_same (xs ++ ys) ∙ length-append xs ys

@@ -1,6 +1,5 @@
 -- An event sought in a ring, and taken out of it: at hand, or in its bucket.
-use Rattle.std.proofs.Common.{◌≡◌, ◌≢◌, ◌≤◌, ◌<◌, ◌%◌, ◌++◌, ◌==◌, ◌↔◌, IsTrue, ℕ, Bool, None, Option, List, [], length, drop, filter, get_or, set, slice_get, refl, ap, sym, ◌∙◌, subst, arith}
-use Rattle.std.specs.Int.{bit_at}
+use Rattle.std.proofs.Common.{◌≡◌, ◌≤◌, ◌<◌, ◌%◌, ◌++◌, ◌↔◌, IsTrue, ℕ, Bool, None, List, length, filter, get_or, set, slice_get, refl, ap, sym, ◌∙◌, subst, arith}
 use Rattle.std.proofs.lemmas.List.Elements.{filter-append}
 use Rattle.tw_event.specs.declared.event.Event.{Event}
 use Rattle.tw_event.specs.Order.{event_before, event_same}
@@ -15,7 +14,7 @@ use Rattle.tw_queue.proofs.Lists.{times-append, times-take_out-le}
 use Rattle.tw_queue.proofs.Ordered.{in_order-taken, times-in_order}
 use Rattle.tw_queue.proofs.Rows.{rising-take_out}
 use Rattle.tw_queue.proofs.Sought.{least_behind}
-use Rattle.tw_queue.proofs.Turns.{cut_counts, placed_count, turn_taken}
+use Rattle.tw_queue.proofs.Turns.{cut_counts, placed_count}
 
 module _ (a : Inside) (v : IsRing a) (e : Event) where
   all_counts : (d : Event) → times event_same d (ring_events a) ≡ times event_same d (hand_of a ++ together a.buckets)

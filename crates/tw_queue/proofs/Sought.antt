@@ -1,8 +1,7 @@
 -- An event sought among updates of a time, from a place on.
-use Rattle.std.proofs.Common.{◌≡◌, ◌≤◌, ◌<◌, ◌+◌, ◌-◌, ◌==◌, ◌++◌, ◌↔◌, IsTrue, ℕ, suc, zero, Bool, false, cond, not, None, Option, Some, List, [], ◌∷◌}
-use Rattle.std.proofs.Common.{count_by, drop, get_or, filter, length, map, position, take, refl, ap, sym, ◌∙◌, subst, inl, inr, arith}
+use Rattle.std.proofs.Common.{◌≡◌, ◌≤◌, ◌<◌, ◌+◌, ◌-◌, ◌++◌, ℕ, suc, zero, Bool, cond, not, Option, Some, List, [], ◌∷◌}
+use Rattle.std.proofs.Common.{count_by, drop, get_or, filter, length, map, position, take, refl, ap, sym, ◌∙◌, inl, inr, arith}
 use Rattle.std.specs.List.{position_or_len, remove}
-use Rattle.std.proofs.lemmas.Bool.{false≢true}
 use Rattle.std.proofs.lemmas.List.{drop-map, length-drop, length-map}
 use Rattle.std.proofs.lemmas.List.Edits.{length-remove}
 use Rattle.std.proofs.lemmas.List.Elements.{filter-append}
@@ -19,8 +18,7 @@ use Rattle.tw_queue.specs.Update.{event_at, events_at}
 use Rattle.tw_queue.specs.declared.update.Update.{Update}
 use Rattle.tw_queue.proofs.Events.{event_law}
 use Rattle.tw_queue.proofs.Lists.{together_from}
-use Rattle.tw_queue.proofs.Ordered.{take_out_none}
-use Rattle.tw_queue.proofs.Places.{equals, map-remove, nowhere, taken_at, there}
+use Rattle.tw_queue.proofs.Places.{equals, map-remove, taken_at}
 use Rattle.tw_queue.proofs.Updates.{take_rest}
 
 -- a search through what a function makes
@@ -41,6 +39,13 @@ count_through e time (u ∷ us) =
 -- a slice from a place to the end, as events
 pub rest_events : (time : ℕ) (us : List Update) (i : ℕ) → events_at time (take (length us - i) (drop i us)) ≡ drop i (events_at time us)
 rest_events time us i = ap (events_at time) (take_rest i us) ∙ sym (drop-map (event_at time) i us)
+
+-- what is sought in a slice from a place to the end is sought in the events from that place on
+pub sought_in : (e : Event) (time : ℕ) (us vs : List Update) (start : ℕ) (now : List Event) (r : Option ℕ) → vs ≡ us → events_at time us ≡ now
+    → r ≡ position (λ u. equals e (event_at time u)) (take (length vs - start) (drop start vs)) → r ≡ position (equals e) (drop start now)
+sought_in e time us vs start now r same view h =
+    h ∙ ap (λ ws. position (λ u. equals e (event_at time u)) (take (length ws - start) (drop start ws))) same
+    ∙ sym (position_through (equals e) (event_at time) (take (length us - start) (drop start us))) ∙ ap (position (equals e)) (rest_events time us start ∙ ap (drop start) view)
 
 -- an event of another time is not there
 none_at : (e : Event) (time : ℕ) (us : List Update) → (e.time ≡ time → ⊥) → times event_same e (events_at time us) ≡ 0

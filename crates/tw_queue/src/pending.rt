@@ -217,12 +217,7 @@ impl Pending {
         if self.len == 0 {
             return false;
         }
-        let removed = take_from(
-            &mut self.ring,
-            &mut self.rest,
-            &mut self.rest_time,
-            event,
-        );
+        let removed = take_from(&mut self.ring, &mut self.rest, &mut self.rest_time, event);
         if removed {
             self.len -= 1;
         }

@@ -145,12 +145,7 @@ impl Tick {
 
     /// The least of an event, if there is one, and of those of its events that are for a router, but for the
     /// first `start`.
-    pub(crate) fn least_at(
-        &self,
-        start: usize,
-        router: u32,
-        least: Option<Event>,
-    ) -> Option<Event>
+    pub(crate) fn least_at(&self, start: usize, router: u32, least: Option<Event>) -> Option<Event>
         requires { start ≤ length self.now }
         ensures { result ≡ least_with least (filter (λ e. e.dst == router) (drop start self.now)) }
     {
@@ -283,9 +278,7 @@ pub(crate) fn least_of_all(ticks: &[Tick], router: u32, first: Option<Event>) ->
 fn place_of(time: u64, updates: &[Update], event: &Event) -> Option<usize>
     ensures { result ≡ position (λ update. ⟦<Event as PartialEq>⟧.eq event.now (event_at time update)) updates.now }
 {
-    updates
-        .iter()
-        .position(|update| *event == update.at(time))
+    updates.iter().position(|update| *event == update.at(time))
 }
 
 // How often an event stands among updates of a time, in ticks.
@@ -299,12 +292,7 @@ fn count_of(time: u64, updates: &[Update], event: &Event) -> usize
 }
 
 // The least of an event, if there is one, and of those updates of a time, in ticks, that are for a router.
-fn least_for(
-    time: u64,
-    updates: &[Update],
-    router: u32,
-    first: Option<Event>,
-) -> Option<Event>
+fn least_for(time: u64, updates: &[Update], router: u32, first: Option<Event>) -> Option<Event>
     ensures { result ≡ least_with first (filter (λ e. e.dst == router) (events_at time updates.now)) }
 {
     let mut least = first;

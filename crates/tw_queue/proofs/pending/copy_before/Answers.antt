@@ -1,8 +1,7 @@
-use Rattle.std.proofs.Common.{◌≡◌, ◌<◌, ◌++◌, slice_get, sym, ◌∙◌, arith}
+use Rattle.std.proofs.Common.{◌≡◌, ◌++◌, slice_get, sym, ◌∙◌, arith}
 use Rattle.tw_event.specs.Order.{event_before}
 use Rattle.tw_queue.specs.InOrder.{in_order}
-use Rattle.tw_queue.specs.Table.{first_time}
-use Rattle.tw_queue.proofs.Merged.{first_time_low, first_time_of, sooner_ring}
+use Rattle.tw_queue.proofs.Merged.{first_time_low, sooner_ring}
 use Rattle.tw_queue.proofs.pending.copy_before.Goals as goal
 
 -- the first at hand is the first of all

@@ -1,12 +1,10 @@
-use Rattle.std.proofs.Common.{◌≡◌, ◌<◌, ◌≤◌, ◌%◌, get_or, length, ap, ◌∙◌, subst, refl, arith}
+use Rattle.std.proofs.Common.{◌<◌, length, ap, ◌∙◌, refl, arith}
 use Rattle.tw_event.specs.Order.{event_same}
 use Rattle.tw_sim.specs.Ordered.{take_out, times}
-use Rattle.tw_queue.specs.Ring.{hand_of, ring_events}
 use Rattle.tw_queue.proofs.Removed.{bucket_count, bucket_order, found_by, hand_count, hand_less, hand_order}
 use Rattle.tw_queue.proofs.Turns.{turn_taken}
 use Rattle.tw_queue.proofs.Widths.{marked_more, marked_none}
 use Rattle.tw_queue.proofs.ring.Ring.remove.Goals as goal
-use Rattle.tw_queue.proofs.ring.Ring.remove.Goals.{After-remove-found}
 
 pub invariant_of-self : goal.invariant_of-self
 invariant_of-self c =
@@ -40,7 +38,7 @@ invariant_of-self-2 c =
           (λ z. marked_none c.len-has_more.result (c.len-has_more.ensures ∙ ap length z) m.ensures.clear) m.ensures.others;
     }
 
-late : (c : After-remove-found) → c.self.inside.tick < c.args.event.now.time
+late : (c : goal.After-self-1) → c.self.inside.tick < c.args.event.now.time
 late c = omega (arith, c.if-event-self.false)
 
 pub returns-clause-found : goal.returns-clause-found
