@@ -196,6 +196,14 @@ impl<'a> Sim<'a> {
         do_all_keep(&self.shards)
     }
 
+    /// In how many ticks its workers have handled something, all together, each counted as a worker first came to
+    /// it. Policies go by it, and no promise rests on it.
+    pub fn tick_count(&self) -> u64 {
+        self.shards.iter().fold(0, |ticks: u64, shard| {
+            ticks.saturating_add(shard.tick_count())
+        })
+    }
+
     /// A router, as the events that it has handled and not undone leave it.
     pub fn router(&self, router: u32) -> &Router<'a>
         requires { router < self.now.case.net.nodes }

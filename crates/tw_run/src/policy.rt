@@ -14,23 +14,45 @@ const GROWTH: u64 = 4;
 /// So many stretches, the last of which is longer than any run.
 pub(crate) const STRETCHES: u32 = 12;
 
-/// Fewer events in the time that a message takes are handled sooner by one worker: several would meet after each few of
-/// them, and a meeting costs as much as some dozen events. Measured with 2 and 4 workers on sparse cases.
-const FEW_IN_A_DELAY: u64 = 16;
+/// Where a worker has fewer events at hand than so many in the time that a message takes, one worker handles all sooner
+/// than several: these would meet after each few of them, and a meeting costs as much as some dozen events. Measured with
+/// 2 and 4 workers on sparse cases.
+const FEW_AT_HAND: u64 = 20;
+
+/// What the workers of a run have handled, all together.
+#[derive(Clone, Copy, Debug)]
+pub(crate) struct Handled {
+    pub(crate) events: u64,
+    // In so many ticks, counted for each worker.
+    pub(crate) ticks: u64,
+}
+
+impl Handled {
+    /// What was handled since the other was.
+    pub(crate) fn since(self, other: Handled) -> Handled {
+        Handled {
+            events: self.events.saturating_sub(other.events),
+            ticks: self.ticks.saturating_sub(other.ticks),
+        }
+    }
+}
 
 /// How long a stretch is, in ticks, of this number from 0.
 pub(crate) fn length_of(stretch: u32) -> u64 {
     FIRST_STRETCH.saturating_mul(GROWTH.saturating_pow(stretch))
 }
 
-/// To how many of so many workers routers are dealt out behind a stretch of so many ticks in which so many events were
-/// handled, where a message takes so many ticks.
-pub(crate) fn crew(events: u64, ticks: u64, delay: u64, workers: u32) -> u32
+/// To how many of so many workers routers are dealt out behind a stretch in which `crew` of them had some and
+/// handled this much, where a message takes `delay` ticks.
+pub(crate) fn next_crew(handled: Handled, crew: u32, delay: u64, workers: u32) -> u32
     requires { 0 < workers }
     ensures some { 0 < result }
     ensures within { result ≤ workers }
 {
-    if events.saturating_mul(delay) < ticks.saturating_mul(FEW_IN_A_DELAY) {
+    // In a tick in which one of all workers has something to handle, it has one event at least.
+    let ticks = handled.ticks.saturating_mul(u64::from(workers));
+    let events = handled.events.saturating_mul(u64::from(crew)).max(ticks);
+    if events.saturating_mul(delay) < ticks.saturating_mul(FEW_AT_HAND) {
         1
     } else {
         workers

@@ -1,5 +1,5 @@
 //! A run goes on in stretches, between which its routers go to one worker or to all.
-ghost use Rattle.std.specs.Prelude.{◌≤◌, ◌<◌, IfOk, IfSome, IsErrOf};
+ghost use Rattle.std.specs.Prelude.{◌≡◌, ◌≤◌, ◌<◌, IfOk, IfSome, IsErrOf};
 ghost use Rattle.tw_exchange.specs.Board.{workers};
 ghost use Rattle.tw_commands.specs.declared.cause.Cause.TheVariants as cause;
 ghost use Rattle.tw_model.specs.declared.limits.TheConstants.{LATEST};
@@ -8,7 +8,7 @@ ghost use Rattle.tw_parallel.specs.Sim.{GoesOn, IsSim};
 
 use crate::cause::cause_of;
 use crate::dealing::{Dealing, deal};
-use crate::policy::{STRETCHES, crew, length_of, mean_delay};
+use crate::policy::{Handled, STRETCHES, length_of, mean_delay, next_crew};
 use std::alloc::Global;
 use std::sync::Wait;
 use std::thread::Threads;
@@ -34,11 +34,15 @@ pub(crate) fn run_in_stretches<'a, X: Threads + Wait + Sync>(
     ensures device { IsErrOf result cause.Device → ⊥ }
 {
     let mut run = sim;
+    let mut crew = run.workers();
     for stretch in 0..STRETCHES {
         let Some(end) = end_of(stretch, run.stop(), stop) else {
             return Ok(run);
         };
-        run = run_stretch(rt, alloc, run, dealing, end, batch)?;
+        let before = handled_by(&run);
+        run = run_on(rt, run, end, batch)?;
+        crew = crew_for(&run, handled_by(&run).since(before), crew);
+        deal(alloc, &mut run, dealing, crew, 0)?;
     }
     Ok(run)
 }
@@ -51,30 +55,14 @@ fn end_of(stretch: u32, begin: u64, stop: u64) -> Option<u64>
     if end < stop { Some(end) } else { None }
 }
 
-/// Runs one stretch, to its end in ticks, and deals the routers out for the next one.
-fn run_stretch<'a, X: Threads + Wait + Sync>(
-    rt: &X,
-    alloc: Global,
-    sim: Sim<'a>,
-    dealing: Dealing,
-    end: u64,
-    batch: u32,
-) -> Result<Sim<'a>, Cause>
-    requires some { 0 < workers sim.board }
-    requires stop { sim.board.stop ≤ end }
-    requires latest { end ≤ LATEST }
-    ensures goes_on { IfOk result (λ s. GoesOn sim.entry s) }
-    ensures stop { IfOk result (λ s. s.board.stop ≡ end) }
-    ensures device { IsErrOf result cause.Device → ⊥ }
+/// To how many workers the routers of a run are dealt out where `crew` of them had some and handled this much.
+fn crew_for(sim: &Sim<'_>, handled: Handled, crew: u32) -> u32
+    requires { 0 < workers sim.now.board }
+    ensures some { 0 < result }
+    ensures within { result ≤ workers sim.now.board }
 {
-    let ticks = end.saturating_sub(sim.stop());
-    let handled = handled_by(&sim);
-    let mut run = run_on(rt, sim, end, batch)?;
-    let events = handled_by(&run).saturating_sub(handled);
-    let delay = mean_delay(run.case().instance());
-    let workers = crew(events, ticks, delay, run.workers());
-    deal(alloc, &mut run, dealing, workers, 0)?;
-    Ok(run)
+    let delay = mean_delay(sim.case().instance());
+    next_crew(handled, crew, delay, sim.workers())
 }
 
 /// Runs on to a stop, in ticks, which is not before that of the run.
@@ -98,11 +86,14 @@ pub(crate) fn run_on<'a, X: Threads + Wait + Sync>(
     }
 }
 
-/// How many events the routers of a run have handled.
-fn handled_by(sim: &Sim<'_>) -> u64 {
+/// What the workers of a run have handled.
+fn handled_by(sim: &Sim<'_>) -> Handled {
     let mut events: u64 = 0;
     for router in 0..sim.case().instance().nodes() {
         events = events.saturating_add(sim.router(router).counters().handled);
     }
-    events
+    Handled {
+        events,
+        ticks: sim.tick_count(),
+    }
 }

@@ -56,6 +56,8 @@ pub struct Shard<'a> {
     sends: SmallVec<Event, 8>,
     // No event that its routers have handled and not undone is after this time.
     latest: u64,
+    // How often the least event was after all that were handled before.
+    ticks: u64,
     bound: u64,
     keeps: bool,
     cancel: Cancel,

@@ -32,6 +32,12 @@ impl<'a> Shard<'a> {
         Ok(())
     }
 
+    /// In how many ticks it has handled a least event, each counted as it first came to it. Policies go by it, and no
+    /// promise rests on it.
+    pub fn tick_count(&self) -> u64 {
+        self.ticks
+    }
+
     /// The router of the least of all pending events handles it, where it is before the limit, in ticks, at most
     /// 1,000,000,000: what it sends goes out, as at [`Shard::handle_next`]. The event's time is answered.
     ///
@@ -124,7 +130,10 @@ impl<'a> Shard<'a> {
             &mut self.outgoing,
         )?;
         self.pending.skip_least();
-        self.latest = self.latest.max(event.time);
+        if self.latest < event.time {
+            self.latest = event.time;
+            self.ticks = self.ticks.saturating_add(1);
+        }
         Ok(())
     }
 }

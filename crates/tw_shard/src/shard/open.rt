@@ -108,6 +108,7 @@ impl<'a> Shard<'a> {
             held: HeldSends::new(alloc, instance.nodes()),
             sends: SmallVec::new(alloc),
             latest: 0,
+            ticks: 0,
             bound: 0,
             keeps,
             cancel,
