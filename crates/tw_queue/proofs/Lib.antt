@@ -11,6 +11,10 @@ pub mod Rings
 pub mod Merged
 pub mod Turns
 pub mod Stacked
+pub mod Sought
+pub mod Removed
+pub mod Stepped
+pub mod Halves
 pub mod Widths
 pub mod Rotated
 pub mod Keyed

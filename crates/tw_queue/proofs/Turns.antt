@@ -3,10 +3,11 @@ use Rattle.std.proofs.Common.{◌≡◌, ◌≢◌, ◌≤◌, ◌<◌, ◌+◌,
 use Rattle.std.proofs.Common.{length, get_or, set, slice_get, refl, ap, sym, ◌∙◌, subst, inl, inr, arith, get_or-set_same, get_or-set_other, length-set}
 use Rattle.std.specs.Int.{bit_at}
 use Rattle.std.proofs.lemmas.Bool.{cases_Bool, cases_eq, cases_lt}
+use Rattle.std.proofs.lemmas.List.{get_or_read}
 use Rattle.std.proofs.lemmas.Nat.Bits.{bit_at-zero}
 use Rattle.tw_event.specs.declared.event.Event.{Event}
 use Rattle.tw_event.specs.Order.{event_before, event_same}
-use Rattle.tw_sim.specs.Ordered.{insert, one, times}
+use Rattle.tw_sim.specs.Ordered.{insert, one, take_out, times}
 use Rattle.tw_sim.proofs.Counts.{none}
 use Rattle.tw_sim.proofs.Ordered.{one_cases, one_self}
 use Rattle.tw_queue.specs.Buckets.{together}
@@ -14,7 +15,7 @@ use Rattle.tw_queue.specs.InOrder.{in_order, least_with}
 use Rattle.tw_queue.specs.Turn.{IsFirstMark, IsTurn}
 use Rattle.tw_queue.proofs.Ordered.{cases_zero, in_order-times}
 use Rattle.tw_queue.proofs.Events.{event_law, first_of_least, least_first, least_is, none_first}
-use Rattle.tw_queue.proofs.Lists.{none_placed, placed-set, times-append, times-placed, times-push, times-set, together_none}
+use Rattle.tw_queue.proofs.Lists.{none_placed, placed-set, times-append, times-placed, times-push, times-set, times-take_out-le, together_none}
 use Rattle.tw_queue.proofs.Tables.{nothing}
 
 pub some_of : (e : Event) (xs : List Event) → 0 < times event_same e xs → 0 < length xs
@@ -199,6 +200,37 @@ module _ (key : Event → ℕ) (base marks : ℕ) (lists : List (List Event)) (t
   module _ (p : ℕ) (within : p < 64) (new : ℕ) (unmark : bit_at new p ≡ 0) (others : (i : ℕ) → i < 64 → i ≢ p → bit_at new i ≡ bit_at marks i) where
     pub turn_emptied : IsTurn key base new (set lists p [])
     turn_emptied = turn_set p within [] new (λ e h. absurd (omega arith)) (λ l. absurd (omega arith)) (λ z. unmark) others
+
+  -- an event is taken out of its bucket
+  module _ (e : Event) (p : ℕ) (p_is : p ≡ key e % 64) (bucket : List Event) (is : bucket ≡ get_or lists p bucket) (less : List Event) (less_is : less ≡ take_out event_same e (get_or lists p bucket)) where
+    pub own_bucket : get_or lists p bucket ≡ get_or lists p []
+    own_bucket =
+        let n = t.number in
+        sym is ∙ get_or_read lists p bucket (omega arith) is []
+
+    pub taken_is : less ≡ take_out event_same e (get_or lists p [])
+    taken_is = less_is ∙ ap (take_out event_same e) own_bucket
+
+    pub placed_count : times event_same e (together lists) ≡ times event_same e (get_or lists p bucket)
+    placed_count =
+        times-placed (λ d. key d % 64) lists t.placed e ∙ ap (λ i. times event_same e (get_or lists i [])) (sym p_is) ∙ ap (times event_same e) (sym own_bucket)
+
+    pub cut_counts : (d : Event) → times event_same d (together (set lists p less)) + times event_same d (get_or lists p bucket) ≡ times event_same d (together lists) + times event_same d less
+    cut_counts d =
+        let n = t.number in
+        let s = times-set p less lists (omega arith) d in
+        let o = ap (times event_same d) own_bucket in
+        omega arith
+
+    pub turn_taken : (new : ℕ) → (0 < length less → bit_at new p ≡ 1) → (less ≡ [] → bit_at new p ≡ 0) → ((i : ℕ) → i < 64 → i ≢ p → bit_at new i ≡ bit_at marks i)
+        → IsTurn key base new (set lists p less)
+    turn_taken new mark unmark others =
+        turn_set p (omega arith) less new (λ d h.
+        let c = ap (times event_same d) taken_is in
+        let l = times-take_out-le d e (get_or lists p []) in
+        let old : 0 < times event_same d (get_or lists p []) = omega arith in
+        let out = out_slot p d old in
+        (t.placed p d old, t.after d out, t.near d out)) mark unmark others
 
 -- no events
 pub no_turn : (key : Event → ℕ) (base : ℕ) (lists : List (List Event)) → length lists ≡ 64 → ((i : ℕ) → i < length lists → get_or lists i [] ≡ []) → IsTurn key base 0 lists

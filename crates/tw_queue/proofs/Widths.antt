@@ -1,8 +1,7 @@
 -- One level of the wheels: its buckets, and what they have of time.
-use Rattle.std.proofs.Common.{◌≡◌, ◌≢◌, ◌≤◌, ◌<◌, ◌+◌, ◌*◌, ◌/◌, ◌%◌, ◌^◌, ◌↔◌, ◌++◌, ℕ, true, false, Bool, IsTrue, nat_lt, Some, None, List, [], ◌∷◌}
+use Rattle.std.proofs.Common.{◌≡◌, ◌≤◌, ◌<◌, ◌+◌, ◌*◌, ◌/◌, ◌%◌, ◌^◌, ◌↔◌, ◌++◌, ℕ, true, false, Bool, IsTrue, nat_lt, Some, None, List, [], ◌∷◌}
 use Rattle.std.proofs.Common.{length, get_or, set, option_map, slice_get, refl, ap, sym, ◌∙◌, subst, inl, inr, arith}
 use Rattle.std.specs.Bool.{OnFalse, OnTrue}
-use Rattle.std.specs.Int.{bit_at}
 use Rattle.std.proofs.Math.Nat.{mod-le, mul-le-mul_right}
 use Rattle.std.proofs.Math.Pow.{shr_mono}
 use Rattle.std.proofs.lemmas.Bool.{false≢true, lt-ltb}
@@ -21,8 +20,8 @@ use Rattle.tw_queue.specs.Level.{width_of}
 use Rattle.tw_queue.specs.Turn.{IsFirstMark, IsTurn}
 use Rattle.tw_queue.proofs.Ordered.{in_order-taken, take_out_none, times-in_order}
 use Rattle.tw_queue.proofs.Events.{event_law, same_some}
-use Rattle.tw_queue.proofs.Lists.{times-placed, times-push, times-set, times-take_out-le}
-use Rattle.tw_queue.proofs.Turns.{first_least, least_all, none_marked, out_slot, turn_set}
+use Rattle.tw_queue.proofs.Lists.{times-push, times-set, times-take_out-le}
+use Rattle.tw_queue.proofs.Turns.{cut_counts, first_least, least_all, none_marked, placed_count, taken_is}
 
 no_first : (xs : List Event) → None ≡ option_map (λ e. e.time) (slice_get xs 0) → xs ≡ []
 no_first [] h = refl
@@ -121,43 +120,22 @@ module _ (shift base marks : ℕ) (lists : List (List Event)) (t : IsTurn (width
 
   -- one event is taken out of its bucket
   module _ (e : Event) (p : ℕ) (p_is : p ≡ width_of shift e % 64) (bucket : List Event) (is : bucket ≡ get_or lists p bucket) (less : List Event) (less_is : less ≡ take_out event_same e (get_or lists p bucket)) where
-    own : get_or lists p bucket ≡ get_or lists p []
-    own =
-        let n = t.number in
-        sym is ∙ get_or_read lists p bucket (omega arith) is []
-
-    taken_is : less ≡ take_out event_same e (get_or lists p [])
-    taken_is = less_is ∙ ap (take_out event_same e) own
-
-    placed_count : times event_same e (together lists) ≡ times event_same e (get_or lists p [])
-    placed_count = times-placed (λ d. width_of shift d % 64) lists t.placed e ∙ ap (λ i. times event_same e (get_or lists i [])) (sym p_is)
-
     pub found_there : (found : Bool) → IsTrue found ↔ (0 < times event_same e (get_or lists p bucket)) → IsTrue found ↔ (0 < times event_same e (in_order event_before (together lists)))
     found_there found h =
         let q : times event_same e (get_or lists p bucket) ≡ times event_same e (in_order event_before (together lists)) =
-        ap (times event_same e) own ∙ sym placed_count ∙ sym (times-in_order event_before event_same event_law e (together lists)) in
+        sym (placed_count (width_of shift) base marks lists t e p p_is bucket is less less_is) ∙ sym (times-in_order event_before event_same event_law e (together lists)) in
         subst (λ n. IsTrue found ↔ (0 < n)) q h
 
     pub order_taken : in_order event_before (together (set lists p less)) ≡ take_out event_same e (in_order event_before (together lists))
     order_taken =
-        let n = t.number in
-        in_order-taken event_before event_same event_law (together lists) (together (set lists p less)) (get_or lists p []) less (times-set p less lists (omega arith)) e placed_count taken_is
-
-    pub turn_taken : (new : ℕ) → (0 < length less → bit_at new p ≡ 1) → (less ≡ [] → bit_at new p ≡ 0) → ((i : ℕ) → i < 64 → i ≢ p → bit_at new i ≡ bit_at marks i)
-        → IsTurn (width_of shift) base new (set lists p less)
-    turn_taken new mark unmark others =
-        turn_set (width_of shift) base marks lists t p (omega arith) less new (λ d h.
-        let c = ap (times event_same d) taken_is in
-        let l = times-take_out-le d e (get_or lists p []) in
-        let old : 0 < times event_same d (get_or lists p []) = omega arith in
-        let out = out_slot (width_of shift) base marks lists t p d old in
-        (t.placed p d old, t.after d out, t.near d out)) mark unmark others
+        in_order-taken event_before event_same event_law (together lists) (together (set lists p less)) (get_or lists p bucket) less
+        (cut_counts (width_of shift) base marks lists t e p p_is bucket is less less_is) e (placed_count (width_of shift) base marks lists t e p p_is bucket is less less_is) less_is
 
     pub start_taken : (start : ℕ) → ((d : Event) → 0 < times event_same d (together lists) → start ≤ d.time) → (d : Event) → 0 < times event_same d (together (set lists p less)) → start ≤ d.time
     start_taken start before =
         let n = t.number in
         start_less start p lists (omega arith) less (λ d.
-        let c = ap (times event_same d) taken_is in
+        let c = ap (times event_same d) (taken_is (width_of shift) base marks lists t e p p_is bucket is less less_is) in
         let l = times-take_out-le d e (get_or lists p []) in
         omega arith) before
 

@@ -4,6 +4,7 @@ pub mod Heap
 pub mod Buckets
 pub mod Table
 pub mod Least
+pub mod ByRouter
 pub mod Pending
 pub mod Ring
 pub mod Turn

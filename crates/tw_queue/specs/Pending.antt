@@ -1,15 +1,23 @@
 -- What the fields of the pending events say, and what holds of them (own).
-use Rattle.std.specs.Prelude.{◌≡◌, ◌+◌, ◌-◌, ◌^◌, ℕ, length, min, vec_capacity, vec_len}
-use Rattle.tw_queue.specs.Queue.{AreFor, IsInOrder}
+use Rattle.std.specs.Prelude.{◌≡◌, ◌+◌, ◌-◌, ◌^◌, ◌++◌, ℕ, false, List, [], length, min}
+use Rattle.tw_event.specs.declared.event.Event.{Event}
+use Rattle.tw_event.specs.Order.{event_before}
+use Rattle.tw_queue.specs.InOrder.{in_order}
+use Rattle.tw_queue.specs.Queue.{AreFor, Queue}
+use Rattle.tw_queue.specs.Table.{first_time}
 use Rattle.tw_queue.specs.declared.pending.Pending.TheInside.{Inside}
 
--- the free places of the spare list, as far as the number of events may grow
-abbrev pub room_of : Inside → ℕ
-room_of a = min (vec_capacity a.spare - vec_len a.spare) (2 ^ 64 - 1 - a.len)
+-- the events of a ring and of the rest, in order
+abbrev pub together_with : List Event → Queue → List Event
+together_with ring rest = in_order event_before (ring ++ rest.events)
 
--- all events are in order, for its routers and counted
+-- the room of the rest, as far as the number of events may grow
+abbrev pub room_of : Inside → ℕ
+room_of a = min a.rest.room (2 ^ 64 - 1 - a.len)
+
+-- the ring's events are for its routers, and there are some only where events are kept by time; all are counted, and the rest's least time is kept
 pub record IsPending (a : Inside) : Type 0 where
-  pub routers : a.table.routers ≡ a.routers
-  pub table : IsInOrder a.table
-  pub spare : AreFor a.routers a.spare.items
-  pub len : a.len ≡ length a.spare.items + length a.table.events
+  pub homes : AreFor a.rest.routers a.ring
+  pub by_router : a.by_time ≡ false → a.ring ≡ []
+  pub len : a.len ≡ length a.ring + length a.rest.events
+  pub rest_time : a.rest_time ≡ first_time a.rest.events

@@ -1,13 +1,14 @@
 //! The events that are pending, of which the least is always at hand; and those that are held.
 //!
-//! [`Pending`] keeps them by router, for a shard: its calls ask for the events of one router, and take an
-//! event out wherever it stands. [`EventList`] keeps them by time, for a run that takes the least of all
-//! again and again. [`HeldSends`] keeps by sender what undone events had sent, until it is sent again or
+//! [`Pending`] keeps them by router or by time, for a shard: its calls ask for the events of one router, and
+//! take an event out wherever it stands. [`EventList`] keeps them by time, for a run that takes the least of
+//! all again and again. [`HeldSends`] keeps by sender what undone events had sent, until it is sent again or
 //! taken back.
 #![tactic(auto)]
 
 mod bucket;
 mod bucket_queue;
+mod by_router;
 mod calendar;
 mod event_list;
 mod far;

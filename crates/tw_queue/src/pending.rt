@@ -1,62 +1,80 @@
-//! The events that wait at a shard (docs/DECISIONS.md, 'One thread': by router, not by time).
+//! The events that wait at a shard (docs/DECISIONS.md, 'One thread': by router, or by time).
 
-ghost use Rattle.std.specs.Prelude.{◌≡◌, ◌↔◌, ◌+◌, ◌-◌, ◌<◌, ◌≤◌, ◌==◌, IfNone, IfOk, IfSome, IsOk, IsTrue, OnErr, OnOk};
-ghost use Rattle.std.specs.Prelude.{[], Some, if◌then◌else◌, drop, filter, length, option_map, slice_get, vec_capacity, vec_len};
-ghost use Rattle.std.specs.Option.{option_copied};
+ghost use Rattle.std.specs.Prelude.{◌≡◌, ◌↔◌, ◌⊎◌, ◌+◌, ◌<◌, ◌≤◌, ◌==◌, IfNone, IfOk, IfSome, IsOk, IsTrue, None, OnErr, OnOk, Some};
+ghost use Rattle.std.specs.Prelude.{[], if◌then◌else◌, drop, filter, length, option_map, slice_get, true};
 ghost use Rattle.std.specs.Bool.{OnFalse, OnTrue};
 ghost use Rattle.tw_event.specs.declared.event.Event.{Event as AnEvent};
 ghost use Rattle.tw_event.specs.Order.{event_before, event_same};
-ghost use Rattle.tw_queue.specs.InOrder.{least_with};
-ghost use Rattle.tw_queue.specs.Queue.{AreFor, IsInOrder, IsQueue, for_others, for_router};
+ghost use Rattle.tw_queue.specs.Pending.{together_with};
+ghost use Rattle.tw_queue.specs.Queue.{AreFor, IsQueue, for_others, for_router};
+ghost use Rattle.tw_queue.specs.Table.{first_time};
 ghost use Rattle.tw_sim.specs.Ordered.{insert, insert_all, take_out, times};
 
-use crate::queue_table::QueueTable;
-use crate::search::{count_of, least_of, remove_from, sooner};
+use crate::by_router::ByRouter;
+use crate::ring::Ring;
+use crate::search::{comes_before, earlier_of};
 use std::alloc::{AllocError, Global};
 use std::marker::Model;
 use tw_event::Event;
 
-/// Events that wait to be handled, each as often as it was inserted, by router.
+/// Events that wait to be handled, each as often as it was inserted, by router or by time.
 ///
-/// The least event of all, that of one router, and the place of an event are found without going over all
-/// events.
+/// By router, as they are at first, the least event of all, that of one router, and the place of an event are
+/// found without going over all events. By time the least of all comes out fast: paths that arrive in the next
+/// 64 ticks stand in buckets of one tick, which is put in order when it is begun, and all others by router.
 #[derive(Drop)]
 pub struct Pending {
     alloc: Global,
-    routers: u32,
-    table: QueueTable,
-    // Where an event goes that its queue has no memory for: room is reserved here alone.
-    spare: Vec<Event>,
+    ring: Ring,
+    // Where an event goes that the ring does not take: room is reserved here alone.
+    rest: ByRouter,
+    // Whether the ring is used.
+    by_time: bool,
+    // The time of the rest's least event, in ticks, and `u64::MAX` where it has none.
+    rest_time: u64,
     len: usize,
 }
 
 impl Model for Pending {
-    ghost use Rattle.tw_event.specs.Order.{event_before};
-    ghost use Rattle.tw_sim.specs.Ordered.{insert_all};
     ghost use Rattle.tw_queue.specs.Queue.{Queue};
-    ghost use Rattle.tw_queue.specs.Pending.{IsPending, room_of};
+    ghost use Rattle.tw_queue.specs.Pending.{IsPending, room_of, together_with};
 
     ghost Value = { Queue };
 
-    ghost view = { λ a. record { routers = a.routers; events = insert_all event_before a.spare.items a.table.events; room = room_of a } };
+    ghost view = { λ a. record { routers = a.rest.routers; events = together_with a.ring a.rest; room = room_of a } };
 
     ghost invariant = { IsPending };
 }
 
 impl Pending {
-    /// No events, for routers below `routers`.
+    /// No events, for routers below `routers`, by router.
     pub fn new(alloc: Global, routers: u32) -> Result<Pending, AllocError>
         ensures routers { IfOk result (λ q. q.routers ≡ routers) }
         ensures empty { IfOk result (λ q. q.events ≡ []) }
     {
-        let table = QueueTable::new(alloc, routers)?;
+        let ring = Ring::new(alloc, 0)?;
+        let rest = ByRouter::new(alloc, routers)?;
         Ok(Pending {
             alloc,
-            routers,
-            table,
-            spare: Vec::new(alloc),
+            ring,
+            rest,
+            by_time: false,
+            rest_time: u64::MAX,
             len: 0,
         })
+    }
+
+    /// Keeps what waits by time from now on: then the least event of all is found fast, and that of one router
+    /// only by going over all events. Where memory is refused for that, they are kept by router as before.
+    pub fn keep_by_time(&mut self) -> Result<(), AllocError>
+        ensures { self.new ≡ self.old }
+    {
+        if self.by_time {
+            return Ok(());
+        }
+        self.ring = Ring::new(self.alloc, self.rest.routers())?;
+        self.by_time = true;
+        Ok(())
     }
 
     /// How many events are pending.
@@ -64,6 +82,7 @@ impl Pending {
         ensures len { result ≡ length self.now.events }
         ensures queue { IsQueue self.now }
     {
+        let _ = self.rest.len();
         self.len
     }
 
@@ -85,10 +104,11 @@ impl Pending {
         if usize::MAX - self.len < additional {
             return Err(AllocError);
         }
-        self.spare.reserve(additional)
+        self.rest.reserve(additional)
     }
 
     /// Adds an event, in its place in the order. It cannot fail where there is room.
+    #[inline(always)]
     pub fn insert(&mut self, event: Event) -> Result<(), AllocError>
         requires { event.dst < self.old.routers }
         ensures ok { OnOk result (self.new.events ≡ insert event_before event self.old.events) }
@@ -100,7 +120,12 @@ impl Pending {
         if self.len == usize::MAX {
             return Err(AllocError);
         }
-        place(&mut self.table, &mut self.spare, event)?;
+        if insert_by_time(&mut self.ring, self.by_time, &event) {
+            self.len += 1;
+            return Ok(());
+        }
+        self.rest.insert(event)?;
+        self.rest_time = self.rest_time.min(event.time);
         self.len += 1;
         Ok(())
     }
@@ -111,14 +136,51 @@ impl Pending {
         ensures home { IfSome result (λ e. e.dst < self.now.routers) }
         ensures queue { IsQueue self.now }
     {
-        least_of(self.table.least(), &self.spare)
+        let _ = self.rest.len();
+        least_of_both(&self.ring, &self.rest, self.rest_time)
     }
 
     /// The time of the least event, in ticks.
+    #[inline(always)]
     pub fn least_time(&self) -> Option<u64>
         ensures { result ≡ option_map (λ e. e.time) (slice_get self.now.events 0) }
     {
-        self.least().map(|event| event.time)
+        let _ = self.ring.taken();
+        let _ = self.rest.len();
+        if self.len == 0 {
+            return None;
+        }
+        Some(self.ring.least_time().min(self.rest_time))
+    }
+
+    /// Copies the least event where it is before a limit, in ticks, and tells whether it did; else `event` stays
+    /// as it was.
+    #[inline(always)]
+    pub fn copy_least_before(&mut self, limit: u64, event: &mut Event) -> bool
+        ensures some { OnTrue result (Some event.new ≡ slice_get self.old.events 0) }
+        ensures before { OnTrue result (event.new.time < limit) }
+        ensures home { OnTrue result (event.new.dst < self.old.routers) }
+        ensures none { OnFalse result ((e : AnEvent) → slice_get self.old.events 0 ≡ Some e → limit ≤ e.time) }
+        ensures unchanged { OnFalse result (event.new ≡ event.old) }
+        ensures same { self.new ≡ self.old }
+        ensures queue { IsQueue self.old }
+    {
+        let _ = self.rest.len();
+        copy_before(&mut self.ring, &self.rest, self.rest_time, limit, event)
+    }
+
+    /// Takes out the least event, where there is one.
+    #[inline(always)]
+    pub fn skip_least(&mut self)
+        ensures events { self.new.events ≡ drop 1 self.old.events }
+        ensures routers { self.new.routers ≡ self.old.routers }
+        ensures room { self.old.room ≤ self.new.room }
+    {
+        if self.len == 0 {
+            return;
+        }
+        skip_first(&mut self.ring, &mut self.rest, &mut self.rest_time);
+        self.len -= 1;
     }
 
     /// Takes out the least event.
@@ -131,51 +193,18 @@ impl Pending {
         ensures none { IfNone result (self.new ≡ self.old) }
     {
         let event = self.least()?;
-        self.remove_one(&event);
+        self.skip_least();
         Some(event)
-    }
-
-    /// Its events are kept by time from now on: they are the same.
-    pub fn keep_by_time(&mut self) -> Result<(), AllocError>
-        ensures { self.new ≡ self.old }
-    {
-        Ok(())
-    }
-
-    /// Copies the least event where it is before a limit, in ticks, and tells whether it did; else `event` stays as it
-    /// was.
-    pub fn copy_least_before(&mut self, limit: u64, event: &mut Event) -> bool
-        ensures some { OnTrue result (Some event.new ≡ slice_get self.old.events 0) }
-        ensures before { OnTrue result (event.new.time < limit) }
-        ensures home { OnTrue result (event.new.dst < self.old.routers) }
-        ensures none { OnFalse result ((e : AnEvent) → slice_get self.old.events 0 ≡ Some e → limit ≤ e.time) }
-        ensures unchanged { OnFalse result (event.new ≡ event.old) }
-        ensures same { self.new ≡ self.old }
-        ensures queue { IsQueue self.old }
-    {
-        match self.least() {
-            Some(least) if least.time < limit => {
-                *event = least;
-                true
-            }
-            _ => false,
-        }
-    }
-
-    /// Takes out the least event, where there is one.
-    pub fn skip_least(&mut self)
-        ensures events { self.new.events ≡ drop 1 self.old.events }
-        ensures routers { self.new.routers ≡ self.old.routers }
-        ensures room { self.old.room ≤ self.new.room }
-    {
-        let _ = self.take_least();
     }
 
     /// How often this event is pending.
     pub fn count(&self, event: &Event) -> usize
         ensures { result ≡ times event_same event.now self.now.events }
     {
-        count_of(&self.spare, event) + self.table.count(event)
+        if self.len == 0 {
+            return 0;
+        }
+        self.ring.count(event) + self.rest.count(event)
     }
 
     /// Takes out one event that equals `event`, and tells whether there was one. It takes no memory.
@@ -188,7 +217,7 @@ impl Pending {
         if self.len == 0 {
             return false;
         }
-        let removed = take_from(&mut self.table, &mut self.spare, event);
+        let removed = take_from(&mut self.ring, &mut self.rest, &mut self.rest_time, event);
         if removed {
             self.len -= 1;
         }
@@ -201,16 +230,8 @@ impl Pending {
         ensures home { IfSome result (λ e. e.dst ≡ router) }
         ensures queue { IsQueue self.now }
     {
-        self.first_at(router).copied()
-    }
-
-    /// The least event for this router, where it stands: reading it copies nothing.
-    pub fn first_at(&self, router: u32) -> Option<&Event>
-        ensures first { option_copied result ≡ slice_get (filter (λ e. e.dst == router) self.now.events) 0 }
-        ensures home { IfSome result (λ e. e.now.dst ≡ router) }
-        ensures queue { IsQueue self.now }
-    {
-        least_for(router, self.table.first_at(router), &self.spare)
+        let _ = self.ring.taken();
+        earlier_of(self.ring.least_at(router), self.rest.least_at(router))
     }
 
     /// Moves the events for this router to `to`, each as often as it is pending. The others stay.
@@ -243,7 +264,7 @@ impl Pending {
         ensures routers { self.new.routers ≡ self.old.routers }
         ensures room { self.old.room ≤ self.new.room }
     {
-        let first = *self.first_at(router)?;
+        let first = self.least_at(router)?;
         self.remove_one(&first);
         Some(first)
     }
@@ -253,60 +274,241 @@ impl Pending {
         ensures events { IfOk result (λ v. v.items ≡ self.now.events) }
         ensures queue { IsQueue self.now }
     {
-        let mut events = Vec::from_slice(self.alloc, &self.spare)?;
-        self.table.append_to(&mut events)?;
+        let mut events = self.rest.list()?;
+        self.ring.append_to(&mut events)?;
         events.sort_unstable();
         Ok(events)
     }
 }
 
-// Puts an event into its router's queue, or else into the spare list.
-fn place(table: &mut QueueTable, spare: &mut Vec<Event>, event: Event) -> Result<(), AllocError>
-    requires home { event.dst < table.old.routers }
-    requires order { IsInOrder table.old }
-    ensures ok { OnOk result (insert_all event_before spare.new.items table.new.events ≡ insert event_before event (insert_all event_before spare.old.items table.old.events)) }
-    ensures err { OnErr result (insert_all event_before spare.new.items table.new.events ≡ insert_all event_before spare.old.items table.old.events) }
-    ensures len { OnOk result (length spare.new.items + length table.new.events ≡ 1 + (length spare.old.items + length table.old.events)) }
-    ensures len_stays { OnErr result (length spare.new.items + length table.new.events ≡ length spare.old.items + length table.old.events) }
-    ensures homes { AreFor table.old.routers spare.old.items → AreFor table.new.routers spare.new.items }
-    ensures routers { table.new.routers ≡ table.old.routers }
-    ensures order { IsInOrder table.new }
-    ensures room { vec_capacity spare.old - vec_len spare.old ≤ (vec_capacity spare.new - vec_len spare.new) + 1 }
-    ensures full { OnErr result (vec_capacity spare.old ≤ vec_len spare.old) }
+// Adds an event to the ring, where events are kept by time and it takes the event, and tells whether it did.
+#[inline(always)]
+fn insert_by_time(ring: &mut Ring, by_time: bool, event: &Event) -> bool
+    ensures added { OnTrue result (ring.new ≡ insert event_before event.now ring.old) }
+    ensures by_time { OnTrue result (by_time ≡ true) }
+    ensures same { OnFalse result (ring.new ≡ ring.old) }
 {
-    if table.insert(event) {
-        return Ok(());
-    }
-    spare.push(event)?;
-    Ok(())
+    by_time && (ring.insert(event) || insert_late(ring, event))
 }
 
-// Takes an event out of its router's queue, or else out of the spare list.
-fn take_from(table: &mut QueueTable, spare: &mut Vec<Event>, event: &Event) -> bool
-    requires order { IsInOrder table.old }
-    ensures found { IsTrue result ↔ (0 < times event_same event.now (insert_all event_before spare.old.items table.old.events)) }
-    ensures events { insert_all event_before spare.new.items table.new.events ≡ take_out event_same event.now (insert_all event_before spare.old.items table.old.events) }
-    ensures len { length spare.new.items + length table.new.events + (if result then 1 else 0) ≡ length spare.old.items + length table.old.events }
-    ensures homes { AreFor table.old.routers spare.old.items → AreFor table.new.routers spare.new.items }
-    ensures routers { table.new.routers ≡ table.old.routers }
-    ensures order { IsInOrder table.new }
-    ensures room { vec_capacity spare.old - vec_len spare.old ≤ vec_capacity spare.new - vec_len spare.new }
+// Adds an event that is not after the ring's tick at hand, where the ring can go back, and tells whether it did.
+#[inline(never)]
+fn insert_late(ring: &mut Ring, event: &Event) -> bool
+    ensures added { OnTrue result (ring.new ≡ insert event_before event.now ring.old) }
+    ensures same { OnFalse result (ring.new ≡ ring.old) }
 {
-    if table.remove(event) {
+    ring.step_back(event.time);
+    ring.insert(event)
+}
+
+// The least event of a ring and of the rest.
+fn least_of_both(ring: &Ring, rest: &ByRouter, rest_time: u64) -> Option<Event>
+    requires { rest_time ≡ first_time rest.now.events }
+    ensures { result ≡ slice_get (together_with ring.now rest.now) 0 }
+{
+    let mut event = Event::default();
+    if copy_first(ring, rest, rest_time, &mut event) {
+        Some(event)
+    } else {
+        None
+    }
+}
+
+// Copies the least event of a ring and of the rest where it is before a limit, in ticks, and tells whether it did.
+// For that the ring's next tick is put at hand where it is needed.
+#[inline(always)]
+fn copy_before(
+    ring: &mut Ring,
+    rest: &ByRouter,
+    rest_time: u64,
+    limit: u64,
+    event: &mut Event,
+) -> bool
+    requires { rest_time ≡ first_time rest.now.events }
+    ensures some { OnTrue result (Some event.new ≡ slice_get (together_with ring.old rest.now) 0) }
+    ensures before { OnTrue result (event.new.time < limit) }
+    ensures none { OnFalse result ((e : AnEvent) → slice_get (together_with ring.old rest.now) 0 ≡ Some e → limit ≤ e.time) }
+    ensures unchanged { OnFalse result (event.new ≡ event.old) }
+    ensures same { ring.new ≡ ring.old }
+{
+    let _ = ring.taken();
+    let _ = rest.len();
+    // Of most calls this is the answer, and costs little.
+    if ring.copy_hand(limit.min(rest_time), event) {
         return true;
     }
-    remove_from(spare, event)
+    begin_before(ring, limit.min(rest_time.saturating_add(1)));
+    copy_first_before(ring, rest, rest_time, limit, event)
 }
 
-// The least of an event, if there is one, and of those of these that are for the router.
-fn least_for<'a>(router: u32, first: Option<&'a Event>, events: &'a [Event]) -> Option<&'a Event>
-    ensures { option_copied result ≡ least_with (option_copied first.entry) (filter (λ e. e.dst == router) events.now) }
+// Puts a ring's next tick at hand, where it is before a limit, in ticks: before its time comes, more events may
+// come to it, and then it would be put in order in vain.
+#[inline(never)]
+fn begin_before(ring: &mut Ring, limit: u64)
+    ensures { ring.new ≡ ring.old }
 {
-    let mut least = first;
-    for event in events {
-        if event.dst == router {
-            least = Some(sooner(event, least));
+    if ring.least_time() < limit {
+        ring.begin_tick();
+    }
+}
+
+// Copies the least event of a ring and of the rest where it is before a limit, in ticks, and tells whether it did.
+#[inline(never)]
+fn copy_first_before(
+    ring: &Ring,
+    rest: &ByRouter,
+    rest_time: u64,
+    limit: u64,
+    event: &mut Event,
+) -> bool
+    requires { rest_time ≡ first_time rest.now.events }
+    ensures some { OnTrue result (Some event.new ≡ slice_get (together_with ring.now rest.now) 0) }
+    ensures before { OnTrue result (event.new.time < limit) }
+    ensures none { OnFalse result ((e : AnEvent) → slice_get (together_with ring.now rest.now) 0 ≡ Some e → limit ≤ e.time) }
+    ensures unchanged { OnFalse result (event.new ≡ event.old) }
+{
+    let _ = ring.taken();
+    let _ = rest.len();
+    if ring.least_time().min(rest_time) >= limit {
+        return false;
+    }
+    copy_first(ring, rest, rest_time, event)
+}
+
+// Copies the least event of a ring and of the rest, where there is one, and tells whether there is.
+fn copy_first(ring: &Ring, rest: &ByRouter, rest_time: u64, event: &mut Event) -> bool
+    requires { rest_time ≡ first_time rest.now.events }
+    ensures some { OnTrue result (Some event.new ≡ slice_get (together_with ring.now rest.now) 0) }
+    ensures beyond { OnFalse result (slice_get (together_with ring.now rest.now) 0 ≡ None) }
+    ensures unchanged { OnFalse result (event.new ≡ event.old) }
+{
+    match first_of_rest(ring, rest, rest_time) {
+        None => ring.copy_least(event),
+        Some(first) => {
+            *event = first;
+            true
         }
     }
-    least
+}
+
+// The least event of all, where it is in the rest and not in the ring.
+fn first_of_rest(ring: &Ring, rest: &ByRouter, rest_time: u64) -> Option<Event>
+    requires { rest_time ≡ first_time rest.now.events }
+    ensures rest { IfSome result (λ e. slice_get (together_with ring.now rest.now) 0 ≡ Some e) }
+    ensures there { IfSome result (λ e. slice_get rest.now.events 0 ≡ Some e) }
+    ensures ring { IfNone result (slice_get (together_with ring.now rest.now) 0 ≡ slice_get ring.now 0) }
+{
+    let _ = ring.taken();
+    let _ = rest.len();
+    if ring.least_time() < rest_time {
+        return None;
+    }
+    first_by_search(ring, rest)
+}
+
+// The least event of all, where it is in the rest and not in the ring, sought in both.
+#[inline(never)]
+fn first_by_search(ring: &Ring, rest: &ByRouter) -> Option<Event>
+    ensures rest { IfSome result (λ e. slice_get (together_with ring.now rest.now) 0 ≡ Some e) }
+    ensures there { IfSome result (λ e. slice_get rest.now.events 0 ≡ Some e) }
+    ensures ring { IfNone result (slice_get (together_with ring.now rest.now) 0 ≡ slice_get ring.now 0) }
+{
+    let _ = ring.taken();
+    let first = match rest.least() {
+        None => return None,
+        Some(first) => first,
+    };
+    let mut least = Event::default();
+    if !ring.copy_least(&mut least) {
+        return Some(first);
+    }
+    if comes_before(&first, &least) {
+        Some(first)
+    } else {
+        None
+    }
+}
+
+// Takes the least event of a ring and of the rest out, where there is one, and keeps the rest's least time.
+#[inline(always)]
+fn skip_first(ring: &mut Ring, rest: &mut ByRouter, rest_time: &mut u64)
+    requires { rest_time.old ≡ first_time rest.old.events }
+    ensures events { together_with ring.new rest.new ≡ drop 1 (together_with ring.old rest.old) }
+    ensures ring { (ring.new ≡ ring.old) ⊎ (ring.new ≡ drop 1 ring.old) }
+    ensures time { rest_time.new ≡ first_time rest.new.events }
+    ensures routers { rest.new.routers ≡ rest.old.routers }
+    ensures room { rest.old.room ≤ rest.new.room }
+{
+    let _ = ring.taken();
+    let _ = rest.len();
+    // Of most calls this is all, and costs little.
+    if ring.skip_hand(*rest_time) {
+        return;
+    }
+    skip_by_search(ring, rest, rest_time);
+}
+
+// Takes the least event of a ring and of the rest out, where there is one, sought in both.
+#[inline(never)]
+fn skip_by_search(ring: &mut Ring, rest: &mut ByRouter, rest_time: &mut u64)
+    requires { rest_time.old ≡ first_time rest.old.events }
+    ensures events { together_with ring.new rest.new ≡ drop 1 (together_with ring.old rest.old) }
+    ensures ring { (ring.new ≡ ring.old) ⊎ (ring.new ≡ drop 1 ring.old) }
+    ensures time { rest_time.new ≡ first_time rest.new.events }
+    ensures routers { rest.new.routers ≡ rest.old.routers }
+    ensures room { rest.old.room ≤ rest.new.room }
+{
+    match first_of_rest(ring, rest, *rest_time) {
+        None => ring.skip_least(),
+        Some(first) => {
+            remove_from(rest, rest_time, &first);
+            ring.go_to(first.time);
+        }
+    }
+}
+
+// Takes one event that equals `event` out of a ring or else out of the rest, tells whether there was one, and
+// keeps the rest's least time.
+fn take_from(ring: &mut Ring, rest: &mut ByRouter, rest_time: &mut u64, event: &Event) -> bool
+    requires { rest_time.old ≡ first_time rest.old.events }
+    ensures found { IsTrue result ↔ (0 < times event_same event.now (together_with ring.old rest.old)) }
+    ensures events { together_with ring.new rest.new ≡ take_out event_same event.now (together_with ring.old rest.old) }
+    ensures len { length ring.new + length rest.new.events + (if result then 1 else 0) ≡ length ring.old + length rest.old.events }
+    ensures homes { AreFor rest.old.routers ring.old → AreFor rest.new.routers ring.new }
+    ensures empty { ring.old ≡ [] → ring.new ≡ [] }
+    ensures time { rest_time.new ≡ first_time rest.new.events }
+    ensures routers { rest.new.routers ≡ rest.old.routers }
+    ensures room { rest.old.room ≤ rest.new.room }
+{
+    if ring.remove(event) {
+        return true;
+    }
+    remove_from(rest, rest_time, event)
+}
+
+// Takes one event that equals `event` out of the rest, tells whether there was one, and keeps the least time.
+fn remove_from(rest: &mut ByRouter, rest_time: &mut u64, event: &Event) -> bool
+    requires { rest_time.old ≡ first_time rest.old.events }
+    ensures found { IsTrue result ↔ (0 < times event_same event.now rest.old.events) }
+    ensures events { rest.new.events ≡ take_out event_same event.now rest.old.events }
+    ensures time { rest_time.new ≡ first_time rest.new.events }
+    ensures routers { rest.new.routers ≡ rest.old.routers }
+    ensures room { rest.old.room ≤ rest.new.room }
+{
+    let removed = rest.remove_one(event);
+    // Only where the least event goes, another may be the least.
+    if event.time == *rest_time {
+        *rest_time = time_of(rest);
+    }
+    removed
+}
+
+// The time of the least event, in ticks, and `u64::MAX` where there is none.
+fn time_of(rest: &ByRouter) -> u64
+    ensures { result ≡ first_time rest.now.events }
+{
+    match rest.least() {
+        Some(event) => event.time,
+        None => u64::MAX,
+    }
 }

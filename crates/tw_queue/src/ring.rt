@@ -1,16 +1,16 @@
 //! The tick at hand, and the ticks after it in a ring of buckets.
 
-ghost use Rattle.std.specs.Prelude.{ℕ, ◌≡◌, ◌<◌, ◌≤◌, ◌+◌, ◌++◌, None, Some, [], drop, slice_get, slice_index_or, IfOk, OnOk};
+ghost use Rattle.std.specs.Prelude.{ℕ, ◌≡◌, ◌<◌, ◌≤◌, ◌==◌, ◌+◌, ◌++◌, ◌↔◌, None, Some, [], drop, filter, slice_get, slice_index_or, IfOk, IsTrue, OnOk};
 ghost use Rattle.std.specs.Bool.{OnFalse, OnTrue};
 ghost use Rattle.tw_event.specs.declared.event.Event.{Event};
 ghost use Rattle.tw_event.specs.Order.{event_before, event_same};
 ghost use Rattle.tw_queue.specs.Buckets.{together};
 ghost use Rattle.tw_queue.specs.Table.{first_time};
-ghost use Rattle.tw_sim.specs.Ordered.{insert, times};
+ghost use Rattle.tw_sim.specs.Ordered.{insert, take_out, times};
 ghost use Rattle.tw_sim.specs.Rising.{IsRising};
 
-use crate::marks::{first_place, is_ahead, slot_of, with_mark, without_mark};
-use crate::tick::{Tick, append_all};
+use crate::marks::{BUCKETS, first_place, is_ahead, marked_as, slot_of, with_mark, without_mark};
+use crate::tick::{Tick, append_all, end_by, least_of_all};
 use crate::update::Update;
 use std::alloc::{AllocError, Global};
 use std::array;
@@ -159,6 +159,38 @@ impl Ring {
         }
     }
 
+    /// Goes back to just before a time, in ticks, up to that of the tick at hand, so that this time has a bucket
+    /// again: what is left at hand goes back into its bucket. That is done only where all events then have buckets
+    /// and memory is not refused.
+    #[inline(never)]
+    pub(crate) fn step_back(&mut self, time: u64)
+        ensures { self.new ≡ self.old }
+    {
+        if time == 0 || time > self.tick {
+            return;
+        }
+        let base = time - 1;
+        if !end_by(&self.buckets, base.saturating_add(BUCKETS)) {
+            return;
+        }
+        if self.taken >= self.hand.len() {
+            self.tick = base;
+            return;
+        }
+        let begun = self.hand.time();
+        if !is_ahead(begun, base) {
+            return;
+        }
+        let slot = slot_of(begun);
+        reuse_memory(&mut self.buckets, &mut self.spares, slot);
+        if !self.buckets[slot].refill(&self.hand, self.taken) {
+            return;
+        }
+        self.taken = self.hand.len();
+        self.marks = with_mark(self.marks, slot);
+        self.tick = base;
+    }
+
     /// Whether not all events of the tick at hand are taken out. No promise rests on it.
     #[inline(always)]
     pub(crate) fn has_tick_at_hand(&self) -> bool {
@@ -204,6 +236,40 @@ impl Ring {
         self.taken = 1;
         self.marks = without_mark(self.marks, place);
         self.spares = with_mark(self.spares, place);
+    }
+
+    /// Takes one event that equals `event` out, and tells whether there was one.
+    pub(crate) fn remove(&mut self, event: &Event) -> bool
+        ensures found { IsTrue result ↔ (0 < times event_same event.now self.old) }
+        ensures events { self.new ≡ take_out event_same event.now self.old }
+    {
+        if event.time <= self.tick {
+            return self.hand.remove(self.taken, event);
+        }
+        let slot = slot_of(event.time);
+        let bucket = &mut self.buckets[slot];
+        let found = bucket.remove(0, event);
+        let has_more = bucket.len() > 0;
+        self.marks = marked_as(self.marks, slot, has_more);
+        found
+    }
+
+    /// How often an event is there.
+    pub(crate) fn count(&self, event: &Event) -> usize
+        ensures { result ≡ times event_same event.now self.now }
+    {
+        if event.time <= self.tick {
+            return self.hand.count(self.taken, event);
+        }
+        self.buckets[slot_of(event.time)].count(0, event)
+    }
+
+    /// The least event for a router.
+    pub(crate) fn least_at(&self, router: u32) -> Option<Event>
+        ensures { result ≡ slice_get (filter (λ e. e.dst == router) self.now) 0 }
+    {
+        let least = self.hand.least_at(self.taken, router, None);
+        least_of_all(&self.buckets, router, least)
     }
 
     /// Puts its events at the end of a list.

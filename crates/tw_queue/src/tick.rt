@@ -1,6 +1,6 @@
 //! The events of one tick, put in order once.
 
-ghost use Rattle.std.specs.Prelude.{ℕ, ◌≡◌, ◌==◌, ◌+◌, ◌++◌, ◌<◌, ◌≤◌, ◌⊎◌, [], ◌∷◌, None, IfSome, OnOk, Some, drop, length, slice_get};
+ghost use Rattle.std.specs.Prelude.{ℕ, ◌≡◌, ◌==◌, ◌+◌, ◌++◌, ◌<◌, ◌≤◌, ◌↔◌, ◌⊎◌, [], ◌∷◌, None, IfSome, IsTrue, OnOk, Some, count_by, drop, filter, length, position, slice_get};
 ghost use Rattle.std.specs.Bool.{OnFalse, OnTrue};
 ghost use Rattle.tw_event.specs.declared.event.Event.{Event as AnEvent};
 ghost use Rattle.tw_event.specs.Order.{event_before, event_same};
@@ -8,9 +8,10 @@ ghost use Rattle.tw_queue.specs.Buckets.{together};
 ghost use Rattle.tw_queue.specs.InOrder.{in_order, least_with};
 ghost use Rattle.tw_queue.specs.Table.{first_time, never};
 ghost use Rattle.tw_queue.specs.Update.{event_at, events_at};
-ghost use Rattle.tw_sim.specs.Ordered.{times};
+ghost use Rattle.tw_sim.specs.Ordered.{take_out, times};
 
 use crate::policy::is_full;
+use crate::search::earlier;
 use crate::update::{Update, append_at, first_of};
 use std::alloc::{AllocError, Global};
 use std::marker::Model;
@@ -112,6 +113,57 @@ impl Tick {
             return false;
         };
         *event = update.at(self.time);
+        true
+    }
+
+    /// Takes one event that equals `event` out of its events but for the first `start`, and tells whether there
+    /// was one. The others keep their order.
+    #[inline(never)]
+    pub(crate) fn remove(&mut self, start: usize, event: &Event) -> bool
+        requires { start ≤ length self.old }
+        ensures found { IsTrue result ↔ (0 < times event_same event.now (drop start self.old)) }
+        ensures left { drop start self.new ≡ take_out event_same event.now (drop start self.old) }
+        ensures within { start ≤ length self.new }
+    {
+        if event.time != self.time {
+            return false;
+        }
+        let Some(place) = place_of(self.time, &self.updates[start..], event) else {
+            return false;
+        };
+        self.updates.remove(start + place);
+        true
+    }
+
+    /// How often an event stands among its events but for the first `start`.
+    pub(crate) fn count(&self, start: usize, event: &Event) -> usize
+        requires { start ≤ length self.now }
+        ensures { result ≡ times event_same event.now (drop start self.now) }
+    {
+        count_of(self.time, &self.updates[start..], event)
+    }
+
+    /// The least of an event, if there is one, and of those of its events that are for a router, but for the
+    /// first `start`.
+    pub(crate) fn least_at(&self, start: usize, router: u32, least: Option<Event>) -> Option<Event>
+        requires { start ≤ length self.now }
+        ensures { result ≡ least_with least (filter (λ e. e.dst == router) (drop start self.now)) }
+    {
+        least_for(self.time, &self.updates[start..], router, least)
+    }
+
+    /// Takes a copy of the events of another list, but for the first `start`, where it has none of its own and
+    /// memory is not refused, and tells whether it did.
+    pub(crate) fn refill(&mut self, other: &Tick, start: usize) -> bool
+        requires { start ≤ length other.now }
+        ensures filled { OnTrue result (self.new ≡ drop start other.now) }
+        ensures empty { OnTrue result (self.old ≡ []) }
+        ensures same { OnFalse result (self.new ≡ self.old) }
+    {
+        if !fill(&mut self.updates, &other.updates[start..]) {
+            return false;
+        }
+        self.time = other.time;
         true
     }
 
@@ -224,6 +276,68 @@ pub(crate) fn append_all(ticks: &[Tick], events: &mut Vec<Event>) -> Result<(), 
         tick.append_from(0, events)?;
     }
     Ok(())
+}
+
+/// Whether no event of ticks is after a time, in ticks.
+pub(crate) fn end_by(ticks: &[Tick], latest: u64) -> bool
+    ensures { OnTrue result ((e : AnEvent) → 0 < times event_same e (together ticks.now) → e.time ≤ latest) }
+{
+    for tick in ticks {
+        if tick.len() > 0 && tick.time() > latest {
+            return false;
+        }
+    }
+    true
+}
+
+/// The least of an event, if there is one, and of those events of ticks that are for a router.
+pub(crate) fn least_of_all(ticks: &[Tick], router: u32, first: Option<Event>) -> Option<Event>
+    ensures { result ≡ least_with first (filter (λ e. e.dst == router) (together ticks.now)) }
+{
+    let mut least = first;
+    for tick in ticks {
+        least = tick.least_at(0, router, least);
+    }
+    least
+}
+
+// Puts updates into a list that has none, where memory is not refused, and tells whether it did.
+fn fill(updates: &mut Vec<Update>, others: &[Update]) -> bool
+    ensures filled { OnTrue result (updates.new.items ≡ others.now) }
+    ensures empty { OnTrue result (updates.old.items ≡ []) }
+    ensures same { OnFalse result (updates.new.items ≡ updates.old.items) }
+{
+    updates.is_empty() && updates.extend_from_slice(others).is_ok()
+}
+
+// The first place of an event among updates of a time, in ticks.
+fn place_of(time: u64, updates: &[Update], event: &Event) -> Option<usize>
+    ensures { result ≡ position (λ update. ⟦<Event as PartialEq>⟧.eq event.now (event_at time update)) updates.now }
+{
+    updates.iter().position(|update| *event == update.at(time))
+}
+
+// How often an event stands among updates of a time, in ticks.
+fn count_of(time: u64, updates: &[Update], event: &Event) -> usize
+    ensures { result ≡ count_by (λ update. ⟦<Event as PartialEq>⟧.eq event.now (event_at time update)) updates.now }
+{
+    updates
+        .iter()
+        .filter(|update| *event == update.at(time))
+        .count()
+}
+
+// The least of an event, if there is one, and of those updates of a time, in ticks, that are for a router.
+fn least_for(time: u64, updates: &[Update], router: u32, first: Option<Event>) -> Option<Event>
+    ensures { result ≡ least_with first (filter (λ e. e.dst == router) (events_at time updates.now)) }
+{
+    let mut least = first;
+    for update in updates {
+        if update.dst == router {
+            least = Some(earlier(update.at(time), least));
+        }
+    }
+    least
 }
 
 // Puts the updates of ticks at the end of a list of updates of this time, and tells whether it did: not where

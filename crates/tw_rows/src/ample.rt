@@ -120,6 +120,23 @@ fn events_wait_by_router(rt: HostRuntime) {
     assert!(rt; waits_by_router(rt.alloc()));
 }
 
+/// Whether an event waits at a shard by its time, is copied, and is taken out.
+fn waits_at_a_shard(alloc: Global) -> bool {
+    let Ok(mut pending) = Pending::new(alloc, 1) else {
+        return false;
+    };
+    let mut event = Event::default();
+    pending.keep_by_time().is_ok()
+        && pending.insert(event).is_ok()
+        && pending.copy_least_before(1, &mut event)
+        && pending.take_least() == Some(event)
+}
+
+#[test]
+fn events_wait_at_a_shard_by_time(rt: HostRuntime) {
+    assert!(rt; waits_at_a_shard(rt.alloc()));
+}
+
 /// Whether an event waits by its time, and is listed.
 fn waits_by_time(alloc: Global) -> bool {
     let Ok(mut pending) = EventList::new(alloc, 1) else {

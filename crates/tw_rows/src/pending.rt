@@ -32,6 +32,25 @@ fn nothing_pending(alloc: Global) -> Result<Pending, AllocError>
     }
 }
 
+/// Keeps what is pending by time, asked for once more where memory was refused.
+fn keep_by_time(pending: &mut Pending) -> Result<(), AllocError>
+    ensures { pending.new ≡ pending.old }
+{
+    match pending.keep_by_time() {
+        Err(_) => pending.keep_by_time(),
+        done => done,
+    }
+}
+
+/// Pending events of three routers, none yet, which are kept by time.
+fn nothing_by_time(alloc: Global) -> Result<Pending, AllocError>
+    ensures { IfOk result (λ pending. pending.routers ≡ 3) }
+{
+    let mut pending = nothing_pending(alloc)?;
+    keep_by_time(&mut pending)?;
+    Ok(pending)
+}
+
 /// Inserts the event, once more where memory was refused.
 fn insert(pending: &mut Pending, event: Event) -> Result<(), AllocError>
     requires { event.dst < pending.old.routers }
@@ -75,6 +94,85 @@ fn holds_two_and_one(pending: &Pending, first: Event, second: Event) -> bool
 #[test]
 fn an_event_is_counted_as_often_as_it_was_inserted(rt: HostRuntime) {
     assert!(rt; counts_each(rt.alloc()));
+}
+
+/// Whether the event is the least and before the limit, and is taken out.
+fn comes_before(pending: &mut Pending, limit: u64, event: Event) -> bool
+    ensures { pending.new.routers ≡ pending.old.routers }
+{
+    let mut least = Event::default();
+    let copied = pending.copy_least_before(limit, &mut least);
+    pending.skip_least();
+    copied && least == event
+}
+
+/// Whether no event is pending before the limit.
+fn has_none_before(pending: &mut Pending, limit: u64) -> bool
+    ensures { pending.new.routers ≡ pending.old.routers }
+{
+    let mut least = Event::default();
+    !pending.copy_least_before(limit, &mut least) && least == Event::default()
+}
+
+/// Inserts events of near ticks and of a far one.
+fn insert_near_and_far(pending: &mut Pending) -> Result<(), AllocError>
+    requires { pending.old.routers ≡ 3 }
+    ensures { pending.new.routers ≡ 3 }
+{
+    insert(pending, offer(5, 1, 0))?;
+    insert(pending, offer(100, 1, 3))?;
+    insert(pending, offer(5, 2, 1))?;
+    insert(pending, offer(3, 1, 2))
+}
+
+/// Whether events by time come before their limits alone, a late one between two of the tick at hand.
+fn comes_by_time(alloc: Global) -> bool {
+    let Ok(mut pending) = nothing_by_time(alloc) else {
+        return false;
+    };
+    insert_near_and_far(&mut pending).is_ok()
+        && has_none_before(&mut pending, 3)
+        && comes_before(&mut pending, 4, offer(3, 1, 2))
+        && comes_before(&mut pending, 6, offer(5, 1, 0))
+        && insert(&mut pending, offer(4, 2, 4)).is_ok()
+        && comes_before(&mut pending, 6, offer(4, 2, 4))
+        && leaves_near_and_far(&mut pending)
+}
+
+/// Whether the second event of the tick at hand is removed and the far one comes.
+fn leaves_near_and_far(pending: &mut Pending) -> bool {
+    pending.least_at(2) == Some(offer(5, 2, 1))
+        && pending.remove_one(&offer(5, 2, 1))
+        && !pending.remove_one(&offer(5, 2, 1))
+        && has_none_before(pending, 100)
+        && pending.least_time() == Some(100)
+        && comes_before(pending, 101, offer(100, 1, 3))
+        && pending.is_empty()
+}
+
+#[test]
+fn events_by_time_come_before_their_limits(rt: HostRuntime) {
+    assert!(rt; comes_by_time(rt.alloc()));
+}
+
+/// Whether events of a bucket and of the tick at hand are removed, and one that was removed is there no more.
+fn goes_by_time(alloc: Global) -> bool {
+    let Ok(mut pending) = nothing_by_time(alloc) else {
+        return false;
+    };
+    insert_near_and_far(&mut pending).is_ok()
+        && pending.remove_one(&offer(5, 1, 0))
+        && !pending.remove_one(&offer(5, 1, 0))
+        && pending.count(&offer(5, 2, 1)) == 1
+        && pending.count(&offer(5, 1, 0)) == 0
+        && comes_before(&mut pending, 10, offer(3, 1, 2))
+        && has_none_before(&mut pending, 5)
+        && lists(&pending, &[offer(5, 2, 1), offer(100, 1, 3)])
+}
+
+#[test]
+fn events_by_time_are_removed(rt: HostRuntime) {
+    assert!(rt; goes_by_time(rt.alloc()));
 }
 
 /// How many events of one router make its queue take to buckets, and more.
@@ -145,10 +243,9 @@ fn scatter(pending: &mut Pending, events: &mut Vec<Event>) -> Result<(), AllocEr
 }
 
 /// Whether many events of a router come out as from one list in order, every third of them removed first.
-fn comes_as_from_a_list(alloc: Global) -> bool {
-    let Ok(mut pending) = nothing_pending(alloc) else {
-        return false;
-    };
+fn comes_as_from_a_list(alloc: Global, mut pending: Pending) -> bool
+    requires { pending.routers ≡ 3 }
+{
     let mut events = Vec::new(alloc);
     if scatter(&mut pending, &mut events).is_err() {
         return false;
@@ -181,7 +278,18 @@ fn takes_others(pending: &mut Pending, events: &[Event]) -> bool {
 
 #[test]
 fn many_events_come_out_as_from_a_list(rt: HostRuntime) {
-    assert!(rt; comes_as_from_a_list(rt.alloc()));
+    let Ok(pending) = nothing_pending(rt.alloc()) else {
+        panic!(rt; "refused")
+    };
+    assert!(rt; comes_as_from_a_list(rt.alloc(), pending));
+}
+
+#[test]
+fn many_events_by_time_come_out_as_from_a_list(rt: HostRuntime) {
+    let Ok(pending) = nothing_by_time(rt.alloc()) else {
+        panic!(rt; "refused")
+    };
+    assert!(rt; comes_as_from_a_list(rt.alloc(), pending));
 }
 
 /// Whether these events are pending, listed once more where memory was refused.
@@ -239,6 +347,22 @@ fn what_is_pending_for_a_router_goes_to_another_list(rt: HostRuntime) {
             "router {router}"
         );
     }
+}
+
+/// Whether what is pending by time for a router goes to another list, and the rest stays.
+fn goes_on_by_time(alloc: Global) -> bool {
+    let (Ok(mut pending), Ok(mut to)) = (nothing_by_time(alloc), nothing_by_time(alloc)) else {
+        return false;
+    };
+    insert_near_and_far(&mut pending).is_ok()
+        && hand_over(&mut pending, 1, &mut to).is_ok()
+        && lists(&pending, &[offer(5, 2, 1)])
+        && lists(&to, &[offer(3, 1, 2), offer(5, 1, 0), offer(100, 1, 3)])
+}
+
+#[test]
+fn what_is_pending_by_time_goes_to_another_list(rt: HostRuntime) {
+    assert!(rt; goes_on_by_time(rt.alloc()));
 }
 
 /// Whether many events of a router, which stand in buckets, go to another list and come out there in order.

@@ -1,7 +1,9 @@
 use Rattle.std.proofs.Common.{◌<◌, ◌↔◌, IsTrue, length, ap, ◌∙◌, subst, arith}
 use Rattle.tw_event.specs.Order.{event_same}
 use Rattle.tw_sim.specs.Ordered.{take_out, times}
-use Rattle.tw_queue.proofs.Widths.{found_there, in_all, marked_more, marked_none, not_found, order_taken, start_taken, turn_taken}
+use Rattle.tw_queue.specs.Level.{width_of}
+use Rattle.tw_queue.proofs.Turns.{turn_taken}
+use Rattle.tw_queue.proofs.Widths.{found_there, in_all, marked_more, marked_none, not_found, order_taken, start_taken}
 use Rattle.tw_queue.proofs.level.Level.remove.Goals as goal
 
 pub invariant_of-self : goal.invariant_of-self
@@ -12,7 +14,7 @@ invariant_of-self c =
     record {
       shift = v.shift;
       turn =
-          turn_taken a.shift a.base a.marks a.buckets v.turn c.args.event.now c.slot_of-slot.result c.slot_of-slot.ensures c.index-self-slot.result c.index-self-slot.is c.remove-found.new.self
+          turn_taken (width_of a.shift) a.base a.marks a.buckets v.turn c.args.event.now c.slot_of-slot.result c.slot_of-slot.ensures c.index-self-slot.result c.index-self-slot.is c.remove-found.new.self
           c.remove-found.ensures.events m.result (λ l. marked_more c.len-has_more.result (omega (arith, c.len-has_more.ensures, l)) m.ensures.marked)
           (λ z. marked_none c.len-has_more.result (c.len-has_more.ensures ∙ ap length z) m.ensures.clear) m.ensures.others;
       start =
@@ -28,7 +30,7 @@ invariant_of-self-2 c =
     record {
       shift = v.shift;
       turn =
-          turn_taken a.shift a.base a.marks a.buckets v.turn c.args.event.now c.slot_of-slot.result c.slot_of-slot.ensures c.index-self-slot.result c.index-self-slot.is c.remove-found.new.self
+          turn_taken (width_of a.shift) a.base a.marks a.buckets v.turn c.args.event.now c.slot_of-slot.result c.slot_of-slot.ensures c.index-self-slot.result c.index-self-slot.is c.remove-found.new.self
           c.remove-found.ensures.events m.result (λ l. marked_more c.len-has_more.result (omega (arith, c.len-has_more.ensures, l)) m.ensures.marked)
           (λ z. marked_none c.len-has_more.result (c.len-has_more.ensures ∙ ap length z) m.ensures.clear) m.ensures.others;
       start = λ e there. c.first_start-self-inside.ensures e (in_all e _ there);

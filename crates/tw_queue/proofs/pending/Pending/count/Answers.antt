@@ -1,14 +1,32 @@
-use Rattle.std.proofs.Common.{◌+◌, count_by, ap, sym, ◌∙◌}
+use Rattle.std.proofs.Common.{ap, sym, arith}
 use Rattle.tw_event.specs.Order.{event_same}
 use Rattle.tw_sim.specs.Ordered.{times}
-use Rattle.tw_queue.proofs.Places.{count_times, equals}
-use Rattle.tw_queue.proofs.Spares.{times_whole}
+use Rattle.tw_queue.proofs.Halves.{none_pending, times-length, times_both}
 use Rattle.tw_queue.proofs.pending.Pending.count.Goals as goal
+
+pub returns-then-self-eq0 : goal.returns-then-self-eq0
+returns-then-self-eq0 c =
+    let a = c.self.inside in
+    let n = c.self.invariant.len in
+    ap (times event_same c.args.event.now) (sym (none_pending a.ring a.rest.events c.args.self.now.events (ap (λ q. q.events) c.self.view_is) (omega (arith, c.if-self-eq0.true))))
+
+pub overflow_add-result : goal.overflow_add-result
+overflow_add-result c =
+    let a = c.self.inside in
+    let e = c.args.event.now in
+    let n = c.self.invariant.len in
+    let r = c.count.ensures in
+    let s = c.count-2.ensures in
+    let l = times-length e a.ring in
+    let m = times-length e a.rest.events in
+    omega arith
 
 pub returns : goal.returns
 returns c =
     let a = c.self.inside in
     let e = c.args.event.now in
-    let spare = c.count_of.ensures ∙ ap (count_by (equals e)) c.deref.ensures.value ∙ count_times e a.spare.items in
-    ap (λ n. n + c.count.result) spare ∙ ap (λ n. times event_same e a.spare.items + n) c.count.ensures.times ∙ sym (times_whole e a.spare.items a.table.events)
-    ∙ ap (λ q. times event_same e q.events) c.self.view_is
+    let n = times_both e a.ring a.rest.events a.ring a.rest.events in
+    let q = ap (λ q. times event_same e q.events) c.self.view_is in
+    let r = c.count.ensures in
+    let s = c.count-2.ensures in
+    omega arith

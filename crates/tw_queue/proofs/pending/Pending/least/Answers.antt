@@ -1,21 +1,17 @@
 use Rattle.std.proofs.Common.{◌<◌, IfSome, slice_get, ap, sym, subst, ◌∙◌}
-use Rattle.tw_queue.specs.InOrder.{least_with}
 use Rattle.tw_queue.specs.Pending.{room_of}
 use Rattle.tw_queue.specs.Queue.{IsQueue}
-use Rattle.tw_queue.proofs.Spares.{first_home, least_whole, whole_queue}
+use Rattle.tw_queue.proofs.Halves.{queue_of_both}
+use Rattle.tw_queue.proofs.Spares.{first_home}
 use Rattle.tw_queue.proofs.pending.Pending.least.Goals as goal
 
 pub returns-clause-first : goal.returns-clause-first
-returns-clause-first c =
-    let a = c.self.inside in
-    c.least_of.ensures ∙ ap (least_with c.least.result) c.deref.ensures.value ∙ ap (λ o. least_with o a.spare.items) c.least.ensures ∙ least_whole a.spare.items a.table.events
-    ∙ ap (λ q. slice_get q.events 0) c.self.view_is
+returns-clause-first c = c.least_of_both.ensures ∙ ap (λ q. slice_get q.events 0) c.self.view_is
 
 pub returns-clause-queue : goal.returns-clause-queue
 returns-clause-queue c =
     let a = c.self.inside in
-    let v = c.self.invariant in
-    subst IsQueue c.self.view_is (whole_queue a.routers (room_of a) a.table a.spare.items v.routers v.table v.spare)
+    subst IsQueue c.self.view_is (queue_of_both a.rest.routers (room_of a) a.ring a.rest.events c.self.invariant.homes c.len.ensures.queue.homes)
 
 pub returns-clause-home : goal.returns-clause-home
 returns-clause-home c =

@@ -1,23 +1,22 @@
 use Rattle.std.proofs.Common.{◌≡◌, ◌<◌, ◌==◌, Some, slice_get, ap, sym, ◌∙◌}
-use Rattle.std.specs.Option.{option_copied}
 use Rattle.tw_queue.specs.Queue.{for_others, for_router}
 use Rattle.tw_queue.proofs.Released.{all_first, first_out, others_stay}
 use Rattle.tw_queue.proofs.pending.Pending.take_first_at.Goals as goal
 
-first_is : (c : goal.After-remove_one) → slice_get (for_router c.args.router c.args.self.now.events) 0 ≡ Some c.in_ok-first.field-0.now
-first_is c = sym c.first_at.ensures.first ∙ ap option_copied c.in_ok-first.was
+first_is : (c : goal.After-remove_one) → slice_get (for_router c.args.router c.args.self.now.events) 0 ≡ Some c.in_ok-first.first
+first_is c = sym c.least_at.ensures.first ∙ c.in_ok-first.was
 
 pub returns-clause-own : goal.returns-clause-own
 returns-clause-own c =
     let r = c.args.router in
-    ap (for_router r) c.remove_one.ensures.events ∙ first_out (λ e. e.dst == r) c.in_ok-first.field-0.now c.args.self.now.events (first_is c)
+    ap (for_router r) c.remove_one.ensures.events ∙ first_out (λ e. e.dst == r) c.in_ok-first.first c.args.self.now.events (first_is c)
 
 pub returns-clause-others : goal.returns-clause-others
 returns-clause-others c =
     let r = c.args.router in
-    ap (for_others r) c.remove_one.ensures.events ∙ others_stay (λ e. e.dst == r) c.in_ok-first.field-0.now c.args.self.now.events (first_is c)
+    ap (for_others r) c.remove_one.ensures.events ∙ others_stay (λ e. e.dst == r) c.in_ok-first.first c.args.self.now.events (first_is c)
 
 pub returns-clause-home : goal.returns-clause-home
 returns-clause-home c =
     let q = c.args.self.now in
-    all_first (λ e. e.dst == c.args.router) (λ e. e.dst < q.routers) c.in_ok-first.field-0.now q.events c.first_at.ensures.queue.homes (first_is c)
+    all_first (λ e. e.dst == c.args.router) (λ e. e.dst < q.routers) c.in_ok-first.first q.events c.least_at.ensures.queue.homes (first_is c)

@@ -3,7 +3,7 @@ use Rattle.tw_event.specs.Order.{event_before}
 use Rattle.tw_sim.specs.Ordered.{insert_all}
 use Rattle.tw_sim.proofs.Ordered.{length-insert}
 use Rattle.tw_queue.proofs.Spares.{insert_all_in, insert_all_more}
-use Rattle.tw_queue.proofs.pending.place.Goals as goal
+use Rattle.tw_queue.proofs.by_router.place.Goals as goal
 
 pub returns-then-insert-clause-ok : goal.returns-then-insert-clause-ok
 returns-then-insert-clause-ok c =

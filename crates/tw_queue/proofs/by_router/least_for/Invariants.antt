@@ -1,7 +1,7 @@
 use Rattle.std.proofs.Common.{◌≡◌, ◌==◌, drop, filter}
 use Rattle.std.specs.Option.{option_copied}
 use Rattle.tw_queue.specs.InOrder.{least_with}
-use Rattle.tw_queue.proofs.pending.least_for.Given as goal
+use Rattle.tw_queue.proofs.by_router.least_for.Given as goal
 
 abbrev pub invariant-loop-event : goal.invariant-loop-event
 invariant-loop-event l =

@@ -2,11 +2,11 @@ use Rattle.std.proofs.Common.{◌≡◌, ◌==◌, Bor, IfSome, None, Option, So
 use Rattle.tw_event.specs.declared.event.Event.{Event}
 use Rattle.std.specs.Option.{option_copied}
 use Rattle.tw_queue.specs.InOrder.{least_with}
-use Rattle.tw_queue.specs.Pending.{room_of}
+use Rattle.tw_queue.specs.ByRouter.{room_of}
 use Rattle.tw_queue.specs.Queue.{IsQueue}
 use Rattle.tw_queue.proofs.Events.{home_of_first}
 use Rattle.tw_queue.proofs.Spares.{least_passing, whole_queue}
-use Rattle.tw_queue.proofs.pending.Pending.first_at.Goals as goal
+use Rattle.tw_queue.proofs.by_router.ByRouter.first_at.Goals as goal
 
 home_copied : (r : ℕ) (o : Option (Bor Event)) → IfSome (option_copied o) (λ e. e.dst ≡ r) → IfSome o (λ e. e.now.dst ≡ r)
 home_copied r None h = tt

@@ -1,0 +1,23 @@
+use Rattle.std.proofs.Common.{◌≡◌, ◌==◌, IfSome, filter, slice_get, ap, sym, subst, ◌∙◌}
+use Rattle.tw_queue.specs.Pending.{room_of}
+use Rattle.tw_queue.specs.Queue.{IsQueue}
+use Rattle.tw_queue.proofs.Events.{home_of_first}
+use Rattle.tw_queue.proofs.Halves.{both_passed, queue_of_both}
+use Rattle.tw_queue.proofs.pending.Pending.least_at.Goals as goal
+
+pub returns-clause-first : goal.returns-clause-first
+returns-clause-first c =
+    let a = c.self.inside in
+    let r = c.args.router in
+    c.earlier_of.ensures
+    ∙ both_passed a.ring a.rest.events c.taken.ensures c.least_at-2.ensures.queue.rising (λ e. e.dst == r) c.least_at.result c.least_at-2.result c.least_at.ensures c.least_at-2.ensures.first
+    ∙ ap (λ q. slice_get (filter (λ e. e.dst == r) q.events) 0) c.self.view_is
+
+pub returns-clause-queue : goal.returns-clause-queue
+returns-clause-queue c =
+    let a = c.self.inside in
+    subst IsQueue c.self.view_is (queue_of_both a.rest.routers (room_of a) a.ring a.rest.events c.self.invariant.homes c.least_at-2.ensures.queue.homes)
+
+pub returns-clause-home : goal.returns-clause-home
+returns-clause-home c =
+    subst (λ o. IfSome o (λ e. e.dst ≡ c.args.router)) (sym (returns-clause-first c)) (home_of_first c.args.router c.args.self.now.events)
