@@ -13,6 +13,7 @@ pub mod Turns
 pub mod Stacked
 pub mod Sought
 pub mod Removed
+pub mod Stepped
 pub mod Halves
 pub mod Widths
 pub mod Rotated

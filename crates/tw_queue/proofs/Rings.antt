@@ -33,7 +33,7 @@ rising_left zero xs h = h
 rising_left (suc i) [] h = tt
 rising_left (suc i) (x ∷ xs) h = rising_left i xs h.1
 
-times_left : (i : ℕ) (e : Event) (xs : List Event) → 0 < times event_same e (drop i xs) → 0 < times event_same e xs
+pub times_left : (i : ℕ) (e : Event) (xs : List Event) → 0 < times event_same e (drop i xs) → 0 < times event_same e xs
 times_left zero e xs h = h
 times_left (suc i) e [] h = h
 times_left (suc i) e (x ∷ xs) h =

@@ -288,7 +288,17 @@ fn insert_by_time(ring: &mut Ring, by_time: bool, event: &Event) -> bool
     ensures by_time { OnTrue result (by_time ≡ true) }
     ensures same { OnFalse result (ring.new ≡ ring.old) }
 {
-    by_time && ring.insert(event)
+    by_time && (ring.insert(event) || insert_late(ring, event))
+}
+
+// Adds an event that is not after the ring's tick at hand, where the ring can go back, and tells whether it did.
+#[inline(never)]
+fn insert_late(ring: &mut Ring, event: &Event) -> bool
+    ensures added { OnTrue result (ring.new ≡ insert event_before event.now ring.old) }
+    ensures same { OnFalse result (ring.new ≡ ring.old) }
+{
+    ring.step_back(event.time);
+    ring.insert(event)
 }
 
 // The least event of a ring and of the rest.

@@ -9,8 +9,8 @@ ghost use Rattle.tw_queue.specs.Table.{first_time};
 ghost use Rattle.tw_sim.specs.Ordered.{insert, take_out, times};
 ghost use Rattle.tw_sim.specs.Rising.{IsRising};
 
-use crate::marks::{first_place, is_ahead, marked_as, slot_of, with_mark, without_mark};
-use crate::tick::{Tick, append_all, least_of_all};
+use crate::marks::{BUCKETS, first_place, is_ahead, marked_as, slot_of, with_mark, without_mark};
+use crate::tick::{Tick, append_all, end_by, least_of_all};
 use crate::update::Update;
 use std::alloc::{AllocError, Global};
 use std::array;
@@ -157,6 +157,38 @@ impl Ring {
         if time < self.buckets[first_place(self.marks, self.tick)].first_time() {
             self.tick = time;
         }
+    }
+
+    /// Goes back to just before a time, in ticks, up to that of the tick at hand, so that this time has a bucket
+    /// again: what is left at hand goes back into its bucket. That is done only where all events then have buckets
+    /// and memory is not refused.
+    #[inline(never)]
+    pub(crate) fn step_back(&mut self, time: u64)
+        ensures { self.new ≡ self.old }
+    {
+        if time == 0 || time > self.tick {
+            return;
+        }
+        let base = time - 1;
+        if !end_by(&self.buckets, base.saturating_add(BUCKETS)) {
+            return;
+        }
+        if self.taken >= self.hand.len() {
+            self.tick = base;
+            return;
+        }
+        let begun = self.hand.time();
+        if !is_ahead(begun, base) {
+            return;
+        }
+        let slot = slot_of(begun);
+        reuse_memory(&mut self.buckets, &mut self.spares, slot);
+        if !self.buckets[slot].refill(&self.hand, self.taken) {
+            return;
+        }
+        self.taken = self.hand.len();
+        self.marks = with_mark(self.marks, slot);
+        self.tick = base;
     }
 
     /// Whether not all events of the tick at hand are taken out. No promise rests on it.

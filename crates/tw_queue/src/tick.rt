@@ -152,6 +152,21 @@ impl Tick {
         least_for(self.time, &self.updates[start..], router, least)
     }
 
+    /// Takes a copy of the events of another list, but for the first `start`, where it has none of its own and
+    /// memory is not refused, and tells whether it did.
+    pub(crate) fn refill(&mut self, other: &Tick, start: usize) -> bool
+        requires { start ≤ length other.now }
+        ensures filled { OnTrue result (self.new ≡ drop start other.now) }
+        ensures empty { OnTrue result (self.old ≡ []) }
+        ensures same { OnFalse result (self.new ≡ self.old) }
+    {
+        if !fill(&mut self.updates, &other.updates[start..]) {
+            return false;
+        }
+        self.time = other.time;
+        true
+    }
+
     /// Puts its events, but for the first `start`, at the end of a list.
     pub(crate) fn append_from(
         &self,
@@ -263,6 +278,18 @@ pub(crate) fn append_all(ticks: &[Tick], events: &mut Vec<Event>) -> Result<(), 
     Ok(())
 }
 
+/// Whether no event of ticks is after a time, in ticks.
+pub(crate) fn end_by(ticks: &[Tick], latest: u64) -> bool
+    ensures { OnTrue result ((e : AnEvent) → 0 < times event_same e (together ticks.now) → e.time ≤ latest) }
+{
+    for tick in ticks {
+        if tick.len() > 0 && tick.time() > latest {
+            return false;
+        }
+    }
+    true
+}
+
 /// The least of an event, if there is one, and of those events of ticks that are for a router.
 pub(crate) fn least_of_all(ticks: &[Tick], router: u32, first: Option<Event>) -> Option<Event>
     ensures { result ≡ least_with first (filter (λ e. e.dst == router) (together ticks.now)) }
@@ -272,6 +299,15 @@ pub(crate) fn least_of_all(ticks: &[Tick], router: u32, first: Option<Event>) ->
         least = tick.least_at(0, router, least);
     }
     least
+}
+
+// Puts updates into a list that has none, where memory is not refused, and tells whether it did.
+fn fill(updates: &mut Vec<Update>, others: &[Update]) -> bool
+    ensures filled { OnTrue result (updates.new.items ≡ others.now) }
+    ensures empty { OnTrue result (updates.old.items ≡ []) }
+    ensures same { OnFalse result (updates.new.items ≡ updates.old.items) }
+{
+    updates.is_empty() && updates.extend_from_slice(others).is_ok()
 }
 
 // The first place of an event among updates of a time, in ticks.

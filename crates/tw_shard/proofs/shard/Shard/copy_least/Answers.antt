@@ -10,9 +10,10 @@ use Rattle.tw_shard.specs.Shard.{Shard, core}
 use Rattle.tw_shard.proofs.Queues.{head_next, head_suits, least_first}
 use Rattle.tw_sim.specs.Ordered.{least}
 use Rattle.tw_shard.proofs.shard.Shard.copy_least.Goals as goal
+use Rattle.tw_shard.proofs.shard.Shard.copy_least.Goals.{After-copy_least_before}
 
 -- the least of what is pending stands first
-first : (c : goal.After-copy_least_before) → least event_before c.args.self.now.pending ≡ slice_get c.self.inside.pending.events 0
+first : (c : After-copy_least_before) → least event_before c.args.self.now.pending ≡ slice_get c.self.inside.pending.events 0
 first c =
     let a = c.self.inside in
     let case = a.case.now in

@@ -1,3 +1,4 @@
+use Rattle.tw_shard.specs.Shard.{core}
 use Rattle.tw_shard.proofs.Comings.{received, welcome}
 use Rattle.tw_shard.proofs.shard.Shard.receive_welcome.Goals as goal
 

@@ -87,6 +87,7 @@ returns-clause-ok c =
       outgoing = c.undo_at.new.outgoing;
       held = c.undo_at.new.held;
       sends = c.undo_at.new.sends;
+      latest = a.latest;
       bound = a.bound;
       keeps = a.keeps;
       cancel = a.cancel;

@@ -15,19 +15,14 @@ use Rattle.tw_sim.specs.Ordered.{take_out}
 use Rattle.tw_sim.specs.Rising.{IsRising}
 use Rattle.tw_shard.proofs.shard.Shard.step_first.Goals as goal
 
--- what is pending is without the event
-without : (c : goal.After-skip_least) → c.skip_least.new.self.events ≡ take_out event_same c.args.event.now c.self.inside.pending.events
-without c =
-    let a = c.self.inside in
-    let e = c.args.event.now in
-    c.skip_least.ensures.events ∙ head_out e a.pending.events (ap (λ s. slice_get s.pending 0) c.self.view_is ∙ c.requires.first)
-
 pub invariant_of-self-2 : goal.invariant_of-self-2
 invariant_of-self-2 c =
     let a = c.self.inside in
     let s = shard_of a in
     let r = c.args.event.now.dst in
     let e = c.args.event.now in
+    let without : c.skip_least.new.self.events ≡ take_out event_same e a.pending.events =
+    c.skip_least.ensures.events ∙ head_out e a.pending.events (ap (λ s. slice_get s.pending 0) c.self.view_is ∙ c.requires.first) in
     let mine : owns s r ≡ true = subst (λ s. owns s r ≡ true) (sym c.self.view_is) c.requires.own in
     let own = c.self.invariant.whole.routers r mine in
     let at : c.place-place.result ≡ place s r = c.place-place.ensures.value ∙ ap (λ s. place s r) (sym c.self.view_is) in
@@ -48,13 +43,13 @@ invariant_of-self-2 c =
       kept_routers = refl;
       held_routers = c.in_ok-handle_at.ensures.routers;
     }) own.net own.node own.done own.case own.keeps
-    (subst (AllByRecursion (λ x. suits s.case.net x.dst x ≡ true)) (sym (without c))
+    (subst (AllByRecursion (λ x. suits s.case.net x.dst x ≡ true)) (sym without)
     (suit_without s.case.net e a.pending.events c.self.invariant.whole.pending))
     (subst (IsRising event_before event_same) (sym c.in_ok-handle_at.ensures.held)
     (let t = get_or c.deref_mut.result.now c.place-place.result no_timeline in
     rising-still_held t.case (sends_after t (history t) e) a.held.events c.self.invariant.whole.held))
-    (let later = c.max-self.ensures in omega arith)
-    ((let later = c.max-self.ensures in omega arith), until_later a.latest c.max-self.result (history (timeline s r)) (let later = c.max-self.ensures in omega arith) (c.self.invariant.latest r mine))
+    (let later = c.max-self-inside.ensures in omega arith)
+    ((let later = c.max-self-inside.ensures in omega arith), until_later a.latest c.max-self-inside.result (history (timeline s r)) (let later = c.max-self-inside.ensures in omega arith) (c.self.invariant.latest r mine))
 
 pub returns-clause-ok : goal.returns-clause-ok
 returns-clause-ok c =
@@ -62,6 +57,8 @@ returns-clause-ok c =
     let s = shard_of a in
     let r = c.args.event.now.dst in
     let e = c.args.event.now in
+    let without : c.skip_least.new.self.events ≡ take_out event_same e a.pending.events =
+    c.skip_least.ensures.events ∙ head_out e a.pending.events (ap (λ s. slice_get s.pending 0) c.self.view_is ∙ c.requires.first) in
     let mine : owns s r ≡ true = subst (λ s. owns s r ≡ true) (sym c.self.view_is) c.requires.own in
     let same : (timeline s r).case ≡ s.case = (c.self.invariant.whole.routers r mine).case in
     let at : c.place-place.result ≡ place s r = c.place-place.ensures.value ∙ ap (λ s. place s r) (sym c.self.view_is) in
@@ -79,7 +76,7 @@ returns-clause-ok c =
       workers = a.workers;
       routers = a.roster.routers;
       timelines = timelines i;
-      pending = without c i;
+      pending = without i;
       kept = a.kept.events;
       outgoing = outgoing i;
       held = held i;

@@ -45,8 +45,8 @@ invariant_of-self-2 c =
     (subst (IsRising event_before event_same) (sym c.in_ok-handle_at.ensures.held)
     (let t = get_or c.deref_mut.result.now c.place-place.result no_timeline in
     rising-still_held t.case (sends_after t (history t) e) a.held.events c.self.invariant.whole.held))
-    (let later = c.max-self.ensures in omega arith)
-    ((let later = c.max-self.ensures in omega arith), until_later a.latest c.max-self.result (history (timeline s r)) (let later = c.max-self.ensures in omega arith) (c.self.invariant.latest r mine))
+    (let later = c.max-self-inside.ensures in omega arith)
+    ((let later = c.max-self-inside.ensures in omega arith), until_later a.latest c.max-self-inside.result (history (timeline s r)) (let later = c.max-self-inside.ensures in omega arith) (c.self.invariant.latest r mine))
 
 pub returns-clause-ok : goal.returns-clause-ok
 returns-clause-ok c =
