@@ -33,6 +33,10 @@ none_pending xs ys now h z =
     let n = ap (λ zs. length zs) h in
     nil_of now (omega arith)
 
+-- where the ring has none, the rest is all
+pub rest_alone : (xs ys now : List Event) → xs ≡ [] → IsRising event_before event_same ys → in_order event_before (xs ++ ys) ≡ now → ys ≡ now
+rest_alone xs ys now z r h = sym (in_order_rising ys r) ∙ ap (λ zs. in_order event_before (zs ++ ys)) (sym z) ∙ h
+
 -- the first is there
 pub first_there : (e : Event) (xs : List Event) → slice_get xs 0 ≡ Some e → 0 < times event_same e xs
 first_there e [] h = absurd (none-some e h)

@@ -231,6 +231,9 @@ impl Pending {
         ensures queue { IsQueue self.now }
     {
         let _ = self.ring.taken();
+        if !self.by_time {
+            return self.rest.least_at(router);
+        }
         earlier_of(self.ring.least_at(router), self.rest.least_at(router))
     }
 
