@@ -1,10 +1,12 @@
 //! Times of messages and of reports: what is too early, and the least ones.
 
-ghost use Rattle.std.specs.Prelude.{◌≡◌, ◌||◌, false, fold, min, nat_lt};
+ghost use Rattle.std.specs.Prelude.{◌≡◌, ◌||◌, List, false, fold, map, min, nat_lt};
 ghost use Rattle.std.specs.List.{flat_map, list_any};
 ghost use Rattle.std.specs.Option.{option_map_or, option_to_list};
 ghost use Rattle.tw_exchange.specs.Board.{least_report};
-ghost use Rattle.tw_exchange.specs.Rows.{lesser_time, soonest_of};
+ghost use Rattle.tw_event.specs.declared.event.Event.{Event as AnEvent};
+ghost use Rattle.tw_exchange.specs.Rows.{any_early, lesser_time, soonest_of};
+ghost use Rattle.tw_sim.specs.declared.machine.Signed.{Signed as ASigned};
 
 use crate::mail::NEVER;
 use tw_event::Event;
@@ -25,6 +27,20 @@ fn is_any_before(out: &[Signed<Event>], bound: u64) -> bool
     out.iter().any(|message| message.event.time < bound)
 }
 
+/// Whether the report lies before the bound, or a message in one of the lists of which these are the least times.
+pub fn is_any_early(times: &[u64], report: Option<u64>, bound: u64) -> bool
+    ensures { (lists : List (List (ASigned AnEvent))) → times.now ≡ map soonest_of lists → result ≡ any_early report bound lists }
+{
+    report.is_some_and(|time| time < bound) || is_any_time_before(times, bound)
+}
+
+// Whether a time lies before the bound.
+fn is_any_time_before(times: &[u64], bound: u64) -> bool
+    ensures { result ≡ list_any (λ time. nat_lt time bound) times.now }
+{
+    times.iter().any(|time| *time < bound)
+}
+
 /// The least of the report, if there is one, and of the times of the messages.
 pub fn least_report(report: Option<u64>, messages: &[Signed<Event>]) -> Option<u64>
     ensures { result ≡ least_report report messages.now }
@@ -34,6 +50,18 @@ pub fn least_report(report: Option<u64>, messages: &[Signed<Event>]) -> Option<u
         least = Some(lesser(message.event.time, least));
     }
     least
+}
+
+/// The same, where the least time of the messages is at hand.
+pub fn report_with(report: Option<u64>, messages: &[Signed<Event>], least: u64) -> Option<u64>
+    requires { least ≡ soonest_of messages.now }
+    ensures { result ≡ least_report report messages.now }
+{
+    if messages.is_empty() {
+        report
+    } else {
+        Some(lesser(least, report))
+    }
 }
 
 /// The least time of messages, and the end of time where there are none.
