@@ -39,6 +39,7 @@ holding worker bound v w x waits is knows =
       begun = waits.begun;
       share = waits.share;
       one = ap (λ n. n ∷ []) (sym (knows.workers (let l = ap length waits.share in let m = length-map v.shares worker_of in omega arith)));
+      owners_are = sym (knows.owners (let l = ap length waits.share in let m = length-map v.shares worker_of in omega arith));
     })
 
 -- and nothing is done to it yet
