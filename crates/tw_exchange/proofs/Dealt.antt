@@ -1,5 +1,5 @@
 -- What is dealt of messages to workers.
-use Rattle.std.proofs.Common.{arith, ℕ, zero, suc, ◌≡◌, ◌<◌, ◌≤◌, ◌||◌, Bool, true, false, true≢false, cond, List, [], ◌∷◌, ◌++◌, Option, None, Some, length, map, min, nat_lt, replicate, get_or, refl, ap, sym, ◌∙◌, subst, inl, inr}
+use Rattle.std.proofs.Common.{arith, ℕ, zero, suc, ◌≡◌, ◌<◌, ◌≤◌, ◌^◌, ◌==◌, ◌||◌, Bool, true, false, true≢false, cond, List, [], ◌∷◌, ◌++◌, Option, None, Some, length, map, min, nat_lt, replicate, get_or, refl, ap, sym, ◌∙◌, subst, inl, inr}
 use Rattle.std.proofs.lemmas.Bool.{cases_Bool, cases_eq, cases_lt, le-ltb, lt-ltb, ltb-false, ltb-true, or_from}
 use Rattle.std.proofs.lemmas.List.{ext_get_or, get_or-replicate, get_or_past, length-replicate}
 use Rattle.std.specs.List.{AllByRecursion, filter, fold, list_any, reduce}
@@ -168,3 +168,8 @@ report_found (Some a) m ms end =
     let two : fold min (min t a) (times ms) ≡ min (fold min t (times ms)) a = least_of_two t a (times ms) in
     let turn : min a (fold min t (times ms)) ≡ min (fold min t (times ms)) a = omega arith in
     ap (λ s. Some (min a (fold min s (times ms)))) cap ∙ (ap Some (turn ∙ sym two) ∙ ap (λ s. Some (fold min s (times ms))) swap)
+
+pub report_at : (report : Option ℕ) (ms : List (Signed Event)) (d : Signed Event) (least r : ℕ) → (length ms == 0) ≡ false → (get_or ms 0 d).event.time < 2 ^ 64 → least ≡ soonest_of ms
+    → r ≡ lesser_time least report → Some r ≡ least_report report ms
+report_at report [] d least r some fits is told = absurd (true≢false some)
+report_at report (m ∷ ms) d least r some fits is told = ap Some (told ∙ ap (λ s. lesser_time s report) is) ∙ report_found report m ms (omega arith)

@@ -1,6 +1,6 @@
 //! What is dealt of messages to workers: a list for each.
 
-ghost use Rattle.std.specs.Prelude.{ℕ, ◌≡◌, ◌↔◌, ◌<◌, ◌≤◌, IsTrue, List, OnErr, OnOk, [], Err, false, length, map, replicate, slice_index_or};
+ghost use Rattle.std.specs.Prelude.{ℕ, ◌≡◌, ◌↔◌, ◌<◌, ◌≤◌, IsTrue, OnErr, OnOk, [], Err, false, length, map, replicate, slice_index_or};
 ghost use Rattle.tw_exchange.specs.Board.{AreDealt, NoneDealt, any_homeless};
 ghost use Rattle.tw_exchange.specs.Owners.{list_of};
 ghost use Rattle.tw_exchange.specs.Rows.{any_early, behind, items, soonest_of};

@@ -1,12 +1,10 @@
 //! Times of messages and of reports: what is too early, and the least ones.
 
-ghost use Rattle.std.specs.Prelude.{◌≡◌, ◌||◌, List, false, fold, map, min, nat_lt};
+ghost use Rattle.std.specs.Prelude.{◌≡◌, ◌||◌, false, fold, min, nat_lt};
 ghost use Rattle.std.specs.List.{flat_map, list_any};
 ghost use Rattle.std.specs.Option.{option_map_or, option_to_list};
 ghost use Rattle.tw_exchange.specs.Board.{least_report};
-ghost use Rattle.tw_event.specs.declared.event.Event.{Event as AnEvent};
-ghost use Rattle.tw_exchange.specs.Rows.{any_early, lesser_time, soonest_of};
-ghost use Rattle.tw_sim.specs.declared.machine.Signed.{Signed as ASigned};
+ghost use Rattle.tw_exchange.specs.Rows.{lesser_time, soonest_of};
 
 use crate::mail::NEVER;
 use tw_event::Event;
@@ -27,9 +25,9 @@ fn is_any_before(out: &[Signed<Event>], bound: u64) -> bool
     out.iter().any(|message| message.event.time < bound)
 }
 
-/// Whether the report lies before the bound, or a message in one of the lists of which these are the least times.
+/// Whether the report or one of the times lies before the bound.
 pub fn is_any_early(times: &[u64], report: Option<u64>, bound: u64) -> bool
-    ensures { (lists : List (List (ASigned AnEvent))) → times.now ≡ map soonest_of lists → result ≡ any_early report bound lists }
+    ensures { result ≡ (option_map_or (λ time. nat_lt time bound) report false || list_any (λ time. nat_lt time bound) times.now) }
 {
     report.is_some_and(|time| time < bound) || is_any_time_before(times, bound)
 }
@@ -58,10 +56,11 @@ pub fn report_with(report: Option<u64>, messages: &[Signed<Event>], least: u64) 
     ensures { result ≡ least_report report messages.now }
 {
     if messages.is_empty() {
-        report
-    } else {
-        Some(lesser(least, report))
+        return report;
     }
+    // That a time fits its type is told by a read of it.
+    let _time = messages[0].event.time;
+    Some(lesser(least, report))
 }
 
 /// The least time of messages, and the end of time where there are none.

@@ -81,7 +81,7 @@ fn deposit(
 }
 
 /// Whether a visit of a worker that deposits these messages, dealt before, is told of this mail and this bound, and
-/// leaves this report and nothing dealt.
+/// leaves nothing dealt.
 fn hands_out(
     exchange: &mut Exchange,
     worker: u32,
@@ -89,7 +89,6 @@ fn hands_out(
     report: Option<u64>,
     mail: &[Signed<Event>],
     bound: u64,
-    left: Option<u64>,
     alloc: Global,
 ) -> bool {
     let mut parcels = Parcels::new(alloc);
@@ -106,7 +105,6 @@ fn hands_out(
         bound,
         halted: false,
     }) && handed.as_slice() == mail
-        && exchange.report(worker) == left
         && parcels.list(0).is_empty()
         && parcels.list(1).is_empty()
 }
@@ -133,34 +131,20 @@ fn hands_out_what_is_dealt(alloc: Global) -> bool {
     let exchange = &mut exchange;
     let [for_1, for_2] = offers_of_origin();
     let [for_0, also_for_1] = early_offers_of_2();
-    hands_out(
-        exchange,
-        0,
-        &offers_of_origin(),
-        None,
-        &[for_2],
-        0,
-        Some(5),
-        alloc,
-    ) && hands_out(
-        exchange,
-        0,
-        &early_offers_of_2(),
-        Some(7),
-        &[for_0],
-        0,
-        Some(7),
-        alloc,
-    ) && hands_out(
-        exchange,
-        1,
-        &[],
-        None,
-        &[for_1, also_for_1],
-        1,
-        Some(1),
-        alloc,
-    )
+    hands_out(exchange, 0, &offers_of_origin(), None, &[for_2], 0, alloc)
+        && exchange.report(0) == Some(5)
+        && hands_out(
+            exchange,
+            0,
+            &early_offers_of_2(),
+            Some(7),
+            &[for_0],
+            0,
+            alloc,
+        )
+        && exchange.report(0) == Some(7)
+        && hands_out(exchange, 1, &[], None, &[for_1, also_for_1], 1, alloc)
+        && exchange.report(1) == Some(1)
 }
 
 fn refuses_what_is_early(alloc: Global) -> bool {
