@@ -10,7 +10,7 @@ use Rattle.tw_exchange.specs.Board.{NoneDealt, times}
 use Rattle.tw_exchange.specs.Rows.{HasRoomBehind, behind, items, soonest_of}
 use Rattle.tw_exchange.specs.declared.mail.TheConstants.{NEVER}
 use Rattle.tw_exchange.proofs.Least.{at_most, least_of_two}
-use Rattle.tw_exchange.proofs.Rooms.{items_at, items_same, items_set, length_items}
+use Rattle.tw_exchange.proofs.Rooms.{items_at, items_set, length_items}
 use Rattle.tw_sim.specs.declared.machine.Signed.{Signed}
 
 module _ {X : Type 0} where

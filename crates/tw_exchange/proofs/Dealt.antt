@@ -1,8 +1,8 @@
 -- What is dealt of messages to workers.
 use Rattle.std.proofs.Common.{arith, ℕ, zero, suc, ◌≡◌, ◌<◌, ◌≤◌, ◌^◌, ◌==◌, ◌||◌, Bool, true, false, true≢false, cond, List, [], ◌∷◌, ◌++◌, Option, None, Some, length, map, min, nat_lt, replicate, get_or, refl, ap, sym, ◌∙◌, subst, inl, inr}
-use Rattle.std.proofs.lemmas.Bool.{cases_Bool, cases_eq, cases_lt, le-ltb, lt-ltb, ltb-false, ltb-true, or_from}
+use Rattle.std.proofs.lemmas.Bool.{cases_Bool, cases_eq, cases_lt, le-ltb, lt-ltb, or_from}
 use Rattle.std.proofs.lemmas.List.{ext_get_or, get_or-replicate, get_or_past, length-replicate}
-use Rattle.std.specs.List.{AllByRecursion, filter, fold, list_any, reduce}
+use Rattle.std.specs.List.{AllByRecursion, filter, fold, list_any}
 use Rattle.std.specs.Option.{option_map_or}
 use Rattle.tw_event.specs.declared.event.Event.{Event}
 use Rattle.tw_exchange.specs.Board.{AreDealt, Board, any_homeless, followed, is_early, is_for, least_report, sent_to, times, worker_for, workers}

@@ -4,7 +4,6 @@ pub mod Followed
 pub mod Homes
 pub mod Behind
 pub mod Dealt
-pub mod Lists
 pub mod Boards
 pub mod Moving
 pub mod Moves

@@ -1,4 +1,4 @@
-use Rattle.std.proofs.Common.{arith, false, ◌≡◌, ◌<◌, ◌≤◌, List, [], length, map, min, refl, set, get_or, ap, sym, ◌∙◌, subst}
+use Rattle.std.proofs.Common.{arith, false, ◌≡◌, ◌<◌, List, [], length, map, min, refl, set, get_or, ap, sym, ◌∙◌, subst}
 use Rattle.std.proofs.lemmas.List.{with_items_is}
 use Rattle.std.specs.List.{flat_map, fold}
 use Rattle.std.specs.Option.{option_to_list}

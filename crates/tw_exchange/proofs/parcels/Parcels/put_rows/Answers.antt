@@ -19,4 +19,4 @@ returns-clause-dealt c =
     let none : items c.deref_mut.result.now ≡ replicate (length c.args.self.now) [] = ap items rows ∙ (c.self.view_is ∙ c.requires.none) in
     let put = with_items_is a.lists c.deposit.new.mail (c.deposit.auto.mail ∙ c.deref_mut.ensures.len) in
     on_ok_weaker c.deposit.result (λ ok. dealt_new owners (length c.args.self.now) out (items (with_items a.lists c.deposit.new.mail).items) c.requires.home
-        (ap items put ∙ (ok ∙ λ i. followed (worker_for owners (many i)) 0 out (none i)))) c.deposit.ensures.ok
+    (ap items put ∙ (ok ∙ λ i. followed (worker_for owners (many i)) 0 out (none i)))) c.deposit.ensures.ok

@@ -1,6 +1,5 @@
 use Rattle.std.proofs.Common.{◌≡◌, ◌∙◌, [], ap, length, map, replicate, sym}
 use Rattle.std.proofs.lemmas.List.{length-replicate}
-use Rattle.tw_event.specs.declared.event.Event.{Event}
 use Rattle.tw_exchange.specs.Rows.{soonest_of}
 use Rattle.tw_exchange.proofs.Behind.{all_empty}
 use Rattle.tw_exchange.proofs.Boards.{opening_soonest}
