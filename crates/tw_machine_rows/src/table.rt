@@ -216,12 +216,7 @@ fn meet_dealt<'a, R: Wait>(rt: &R, table: &Table, worker: Sitting<'a>) -> Option
     let mut held = table.take(rt, seat);
     hand.mail.clear();
     hand.next = 0;
-    let told = visit_dealt(
-        &mut held,
-        &mut parcels,
-        shard.report_time(),
-        &mut hand.mail,
-    )?;
+    let told = visit_dealt(&mut held, &mut parcels, shard.report_time(), &mut hand.mail)?;
     shard.raise_bound(told.bound);
     let seat = table.give(rt, held, &shard, &hand);
     Some(Sitting { seat, shard, hand })

@@ -11,7 +11,7 @@ visit-meeting-requires-clause-dealt g c =
     let taken = c.take-held.ensures in
     let x = exchange_of c.take-held.result in
     on_ok_weaker c.deal-dealt.result (λ is. dealt_there x (owners_on t) (workers_at t) c.deref.result.now c.self.inside.hand.out.items c.deal-dealt.new.parcels
-        (ap (λ (y : Board). y.owners) taken.exchange ∙ taken.owners) (ap (λ (y : Board). workers y) taken.exchange ∙ taken.workers) c.deref.ensures.value is) c.deal-dealt.ensures.dealt
+    (ap (λ (y : Board). y.owners) taken.exchange ∙ taken.owners) (ap (λ (y : Board). workers y) taken.exchange ∙ taken.workers) c.deref.ensures.value is) c.deal-dealt.ensures.dealt
 
 pub visit-meeting-requires-clause-wanted : goal.visit-meeting-requires-clause-wanted
 visit-meeting-requires-clause-wanted g c =
