@@ -13,7 +13,7 @@ use Rattle.tw_sim.specs.declared.machine.Signed.{Signed}
 -- ---- passes
 
 -- the least of some numbers and of two more
-least_of_two : (a b : ℕ) (xs : List ℕ) → fold min (min a b) xs ≡ min (fold min a xs) b
+pub least_of_two : (a b : ℕ) (xs : List ℕ) → fold min (min a b) xs ≡ min (fold min a xs) b
 least_of_two a b [] = refl
 least_of_two a b (x ∷ xs) =
     let swap : min (min a b) x ≡ min (min a x) b = omega arith in
@@ -54,7 +54,7 @@ row_found stop (x ∷ xs) least h =
     let swap : min x stop ≡ min stop x = omega arith in
     h ∙ (sym (least_of_two x stop xs) ∙ ap (λ n. fold min n xs) swap)
 
-at_most : (s : ℕ) (xs : List ℕ) → fold min s xs ≤ s
+pub at_most : (s : ℕ) (xs : List ℕ) → fold min s xs ≤ s
 at_most s [] = omega arith
 at_most s (x ∷ xs) = let h = at_most (min s x) xs in omega arith
 

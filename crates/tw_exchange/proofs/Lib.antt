@@ -2,6 +2,8 @@ pub mod Least
 pub mod Rooms
 pub mod Followed
 pub mod Homes
+pub mod Behind
+pub mod Dealt
 pub mod Boards
 pub mod Moving
 pub mod Moves

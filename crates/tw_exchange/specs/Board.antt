@@ -98,6 +98,15 @@ any_homeless owners n out = list_any (λ m. not (nat_lt (worker_for owners n m.e
 abbrev pub is_homeless : List (Signed Event) → Board → Bool
 is_homeless out x = any_homeless x.owners (workers x) out
 
+-- what is dealt of messages, each of which has a worker: in the list of worker w, of n, those that are for it, in their order
+pub record AreDealt (owners : Option (List ℕ)) (n : ℕ) (out : List (Signed Event)) (lists : List (List (Signed Event))) : Type 0 where
+  pub home : any_homeless owners n out ≡ false
+  pub each : (w : ℕ) → slice_index_or lists w [] ≡ sent_to (worker_for owners n) w out
+
+-- nothing is dealt to any worker
+abbrev pub NoneDealt : List (List (Signed Event)) → Type 0
+NoneDealt lists = (w : ℕ) → slice_index_or lists w [] ≡ []
+
 -- whether a message is for router r, and whether it is for another
 abbrev pub is_to : ℕ → Signed Event → Bool
 is_to r message = message.event.dst == r

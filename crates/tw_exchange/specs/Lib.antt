@@ -2,3 +2,4 @@ pub mod Board
 pub mod Owners
 pub mod Rows
 pub mod Inside
+pub mod Parcels

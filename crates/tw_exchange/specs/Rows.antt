@@ -1,5 +1,6 @@
 -- Rows with a place for each worker (own).
-use Rattle.std.specs.Prelude.{ℕ, ◌+◌, ◌<◌, ◌≤◌, List, Option, fold, length, map, min, slice_index_or, vec_capacity, vec_len}
+use Rattle.std.specs.Prelude.{ℕ, ◌+◌, ◌<◌, ◌≤◌, ◌||◌, Bool, false, List, [], ◌∷◌, ◌++◌, Option, fold, length, map, min, nat_lt, slice_index_or, vec_capacity, vec_len}
+use Rattle.std.specs.List.{list_any}
 use Rattle.std.specs.Option.{option_map_or}
 use Rattle.std.specs.declared.vec.Vec.{Vec}
 use Rattle.tw_event.specs.declared.event.Event.{Event}
@@ -22,3 +23,18 @@ lesser_time time report = option_map_or (λ reported. min reported time) report 
 -- there is room for so many more at each place
 pub record HasRoom {X Z : Type 0} (rows : List (Vec X Z)) (counts : ℕ → ℕ) : Type 0 where
   pub room : (w : ℕ) (row : Vec X Z) → w < length rows → vec_len (slice_index_or rows w row) + counts w ≤ vec_capacity (slice_index_or rows w row)
+
+-- each list with what stands at its place among others behind it
+abbrev pub behind : {X : Type 0} → List (List X) → List (List X) → List (List X)
+behind [] others = []
+behind (xs ∷ lists) [] = xs ∷ lists
+behind (xs ∷ lists) (ys ∷ others) = (xs ++ ys) ∷ behind lists others
+
+-- where something is at a place, there is room for what stands at that place among these lists
+pub record HasRoomBehind {X Z : Type 0} (rows : List (Vec X Z)) (lists : List (List X)) : Type 0 where
+  pub room : (w : ℕ) (row : Vec X Z) → w < length rows → 0 < vec_len (slice_index_or rows w row)
+      → vec_len (slice_index_or rows w row) + length (slice_index_or lists w []) ≤ vec_capacity (slice_index_or rows w row)
+
+-- whether a report, or the time of a message in one of the lists, is before a time
+abbrev pub any_early : Option ℕ → ℕ → List (List (Signed Event)) → Bool
+any_early report bound lists = option_map_or (λ time. nat_lt time bound) report false || list_any (λ list. list_any (λ m. nat_lt m.event.time bound) list) lists

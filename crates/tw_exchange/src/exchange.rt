@@ -1,17 +1,18 @@
 //! The exchange: mail, reports and the bound.
 
-ghost use Rattle.std.specs.Prelude.{◌≡◌, ◌↔◌, ◌<◌, ◌≤◌, [], IfErr, IfOk, IsTrue, OnErr, OnOk, false, true, length, replicate, Err};
+ghost use Rattle.std.specs.Prelude.{◌≡◌, ◌↔◌, ◌<◌, ◌≤◌, IfErr, IfOk, IsTrue, OnErr, OnOk, false, true, length, Err};
 ghost use Rattle.std.specs.Result.{IsErrAnd};
 ghost use Rattle.tw_exchange.specs.Board.{IsBoard, handed, is_early, is_homeless, mail_of, opening, opening_owned, report_of, visited, workers};
 ghost use Rattle.tw_exchange.specs.Owners.{list_of};
-ghost use Rattle.tw_exchange.specs.Rows.{items};
 ghost use Rattle.tw_exchange.specs.declared.visit.VisitFault.TheVariants.{Early, NoRouter, NoWorker};
 ghost use Rattle.tw_model.specs.declared.memory.OrMemory.TheVariants as or_memory;
 
+mod dealt;
 mod moving;
 
 use crate::mail::{NEVER, deposit, hand_out};
 use crate::owners::Owners;
+use crate::rows::{no_mail, row};
 use crate::times::{is_early, least_of, least_report};
 use crate::visit::{Back, Visit, VisitFault};
 use std::alloc::{AllocError, Global};
@@ -271,24 +272,4 @@ impl Exchange {
         self.stop = stop;
         self.halted = false;
     }
-}
-
-/// No mail for any of so many workers.
-fn no_mail(alloc: Global, workers: u32) -> Result<Vec<Vec<Signed<Event>>>, AllocError>
-    ensures { IfOk result (λ mail. items mail.items ≡ replicate workers []) }
-{
-    let mut mail = Vec::new(alloc);
-    for _ in 0..workers {
-        mail.push(Vec::new(alloc))?;
-    }
-    Ok(mail)
-}
-
-/// A row with the same item for each of so many workers.
-fn row<T: Copy>(alloc: Global, workers: u32, item: T) -> Result<Vec<T>, AllocError>
-    ensures { IfOk result (λ row. row.items ≡ replicate workers item) }
-{
-    let mut row = Vec::new(alloc);
-    row.resize(workers as usize, item)?;
-    Ok(row)
 }

@@ -5,18 +5,24 @@
 //! Contracts see an `Exchange` as the `Board` of `specs/Board`: the mail of each worker in the order
 //! deposited, each worker's report, the bound, the stop and whether the workers shall halt; and the worker
 //! of each router where a list says it, without which routers are dealt out in turn. A worker calls `visit`,
-//! which deposits what it has sent, hands out its mail, and computes the new bound. Between visits a router
+//! which deposits what it has sent, hands out its mail, and computes the new bound. Or it deals what it has sent
+//! to `Parcels` first, and calls `visit_dealt`, which does the same with whole lists. Between visits a router
 //! may go to another worker, by `take_for` and `set_owner`. Nothing here waits or knows of threads.
 #![tactic(auto)]
 
 mod exchange;
+mod joining;
 pub mod laws;
 mod mail;
 mod owners;
+mod parcels;
+mod rows;
 mod times;
 mod visit;
 
 pub use exchange::Exchange;
+pub use owners::Owners;
+pub use parcels::Parcels;
 pub use tw_model::OrMemory;
 pub use tw_sim::Signed;
-pub use visit::{Back, Visit, VisitFault};
+pub use visit::{Back, Told, Visit, VisitFault};

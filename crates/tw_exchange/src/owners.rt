@@ -1,10 +1,11 @@
 //! Which worker has a router: a list says it, or routers are dealt out in turn.
 
-ghost use Rattle.std.specs.Prelude.{◌≡◌, ◌<◌, length, nat_lt, slice_set};
+ghost use Rattle.std.specs.Prelude.{◌≡◌, ◌<◌, IfOk, length, nat_lt, slice_set};
 ghost use Rattle.std.specs.Option.{IsSomeAnd, option_map};
 ghost use Rattle.tw_exchange.specs.Board.{any_homeless, worker_for};
 ghost use Rattle.tw_exchange.specs.Owners.{list_of};
 
+use std::alloc::{AllocError, Global};
 use tw_event::Event;
 use tw_sim::{Signed, owner};
 
@@ -19,9 +20,23 @@ pub enum Owners {
 }
 
 impl Owners {
+    /// The same, in memory of its own.
+    pub(crate) fn copy(&self, alloc: Global) -> Result<Owners, AllocError>
+        ensures { IfOk result (λ owners. list_of owners ≡ list_of self.now) }
+    {
+        match self {
+            Owners::InTurn => Ok(Owners::InTurn),
+            Owners::Listed(list) => {
+                let mut copy = Vec::new(alloc);
+                copy.extend_from_slice(list)?;
+                Ok(Owners::Listed(copy))
+            }
+        }
+    }
+
     /// The worker of a router, of so many: a number that none of them has where it has no worker.
     #[inline(always)]
-    pub fn worker_for(&self, router: u32, workers: usize) -> usize
+    pub(crate) fn worker_for(&self, router: u32, workers: usize) -> usize
         requires { 0 < workers }
         ensures { result ≡ worker_for (list_of self.now) workers router }
     {
@@ -44,7 +59,7 @@ impl Owners {
     }
 
     /// Whether a message is for a router that none of so many workers has.
-    pub fn is_any_homeless(&self, out: &[Signed<Event>], workers: usize) -> bool
+    pub(crate) fn is_any_homeless(&self, out: &[Signed<Event>], workers: usize) -> bool
         requires { 0 < workers }
         ensures { result ≡ any_homeless (list_of self.now) workers out.now }
     {
@@ -57,7 +72,7 @@ impl Owners {
     }
 
     /// Writes another worker of a router, where a list says it.
-    pub fn set(&mut self, router: u32, worker: u32)
+    pub(crate) fn set(&mut self, router: u32, worker: u32)
         requires { IsSomeAnd (list_of self.old) (λ list. router < length list) }
         ensures { list_of self.new ≡ option_map (λ list. slice_set list router worker) (list_of self.old) }
     {

@@ -25,6 +25,20 @@ fn is_any_before(out: &[Signed<Event>], bound: u64) -> bool
     out.iter().any(|message| message.event.time < bound)
 }
 
+/// Whether the report or one of the times lies before the bound.
+pub fn is_any_early(times: &[u64], report: Option<u64>, bound: u64) -> bool
+    ensures { result ≡ (option_map_or (λ time. nat_lt time bound) report false || list_any (λ time. nat_lt time bound) times.now) }
+{
+    report.is_some_and(|time| time < bound) || is_any_time_before(times, bound)
+}
+
+// Whether a time lies before the bound.
+fn is_any_time_before(times: &[u64], bound: u64) -> bool
+    ensures { result ≡ list_any (λ time. nat_lt time bound) times.now }
+{
+    times.iter().any(|time| *time < bound)
+}
+
 /// The least of the report, if there is one, and of the times of the messages.
 pub fn least_report(report: Option<u64>, messages: &[Signed<Event>]) -> Option<u64>
     ensures { result ≡ least_report report messages.now }
@@ -34,6 +48,19 @@ pub fn least_report(report: Option<u64>, messages: &[Signed<Event>]) -> Option<u
         least = Some(lesser(message.event.time, least));
     }
     least
+}
+
+/// The same, where the least time of the messages is at hand.
+pub fn report_with(report: Option<u64>, messages: &[Signed<Event>], least: u64) -> Option<u64>
+    requires { least ≡ soonest_of messages.now }
+    ensures { result ≡ least_report report messages.now }
+{
+    if messages.is_empty() {
+        return report;
+    }
+    // That a time fits its type is told by a read of it.
+    let _time = messages[0].event.time;
+    Some(lesser(least, report))
 }
 
 /// The least time of messages, and the end of time where there are none.

@@ -15,6 +15,15 @@ pub struct Visit {
     pub halted: bool,
 }
 
+/// What a worker is told at a visit beside its mail.
+#[derive(Clone, Copy, PartialEq, Eq, Debug)]
+pub struct Told {
+    /// The time before which nothing waits or is on its way, in ticks.
+    pub bound: u64,
+    /// Whether it shall take no further turn.
+    pub halted: bool,
+}
+
 /// A visit that changed nothing.
 #[derive(Drop, Debug)]
 pub struct Back {

@@ -1,5 +1,5 @@
 -- A pass that is cut into seats, one by one.
-use Rattle.std.proofs.Common.{◌≡◌, ℕ, zero, suc, ◌+◌, ◌<◌, ◌≤◌, Bool, false, List, [], ◌∷◌, ◌++◌, drop, get_or, length, map, take, refl, ap, sym, ◌∙◌, subst, arith}
+use Rattle.std.proofs.Common.{◌≡◌, ℕ, zero, suc, ◌+◌, ◌<◌, ◌≤◌, Bool, false, List, [], ◌∷◌, ◌++◌, Option, drop, get_or, length, map, take, refl, ap, sym, ◌∙◌, subst, arith}
 use Rattle.crossbeam_queue.specs.Passes.{Pass, view}
 use Rattle.std.specs.List.{AllByRecursion}
 use Rattle.tw_exchange.specs.Board.{Board, workers}
@@ -72,73 +72,76 @@ enough (s ∷ shards) [] = omega arith
 enough (s ∷ shards) (h ∷ hands) = let more = enough shards hands in omega arith
 
 -- a new seat
-pub record IsNew (Of : Pass Board View → Type 0) (n bound stop : ℕ) (halted : Bool) (s : Seat) : Type 0 where
+pub record IsNew (Of : Pass Board View → Type 0) (n bound stop : ℕ) (owners : Option (List ℕ)) (halted : Bool) (s : Seat) : Type 0 where
   pub pass : Of s.pass
   pub workers : (view s.pass).workers ≡ n
   pub bound_is : s.bound ≡ bound
   pub stop_is : (view s.pass).stop ≡ stop
+  pub owners_are : (view s.pass).owners ≡ owners
   pub halted_is : s.halted ≡ halted
 
 -- the first k of all shares have seats, and a pass stands for the others
-pub record IsDealt (Of : Pass Board View → Type 0) (n bound stop : ℕ) (halted : Bool) (all : List Share) (k : ℕ) (p : Pass Board View) (seats : List Seat) : Type 0 where
+pub record IsDealt (Of : Pass Board View → Type 0) (n bound stop : ℕ) (owners : Option (List ℕ)) (halted : Bool) (all : List Share) (k : ℕ) (p : Pass Board View) (seats : List Seat) : Type 0 where
   pub pass : Of p
   pub begun : (view p).opening ≡ false
   pub empty : (view p).held ≡ []
   pub seen : (view p).seen ≡ bound
   pub workers : (view p).workers ≡ n
   pub stop_is : (view p).stop ≡ stop
+  pub owners_are : (view p).owners ≡ owners
   pub left : (view p).shares ≡ drop k all
   pub dealt : map share_at seats ≡ take k all
-  pub each : AllByRecursion (IsNew Of n bound stop halted) seats
+  pub each : AllByRecursion (IsNew Of n bound stop owners halted) seats
 
-pub next_worker : (Of : Pass Board View → Type 0) (n bound stop : ℕ) (halted : Bool) (shards : List Shard) (hands : List Hand) (k : ℕ) (p : Pass Board View) (seats : List Seat) (s : Shard)
-    → IsDealt Of n bound stop halted (shares_of shards hands) k p seats → length (shares_of shards hands) ≡ n → k < length (take n shards) → s ≡ get_or (take n shards) k s
+pub next_worker : (Of : Pass Board View → Type 0) (n bound stop : ℕ) (owners : Option (List ℕ)) (halted : Bool) (shards : List Shard) (hands : List Hand) (k : ℕ) (p : Pass Board View) (seats : List Seat) (s : Shard)
+    → IsDealt Of n bound stop owners halted (shares_of shards hands) k p seats → length (shares_of shards hands) ≡ n → k < length (take n shards) → s ≡ get_or (take n shards) k s
     → map worker_of (take 1 (view p).shares) ≡ s.worker ∷ []
-next_worker Of n bound stop halted shards hands k p seats s is many h there = ap (λ l. map worker_of (take 1 l)) is.left ∙ worker_at shards hands n k s (omega arith) h there
+next_worker Of n bound stop owners halted shards hands k p seats s is many h there = ap (λ l. map worker_of (take 1 l)) is.left ∙ worker_at shards hands n k s (omega arith) h there
 
 map_append : {X Y : Type 0} (f : X → Y) (xs ys : List X) → map f (xs ++ ys) ≡ map f xs ++ map f ys
 map_append f [] ys = refl
 map_append f (x ∷ xs) ys = ap (λ l. f x ∷ l) (map_append f xs ys)
 
-pub deals_next : (Of : Pass Board View → Type 0) (n bound stop : ℕ) (halted : Bool) (all : List Share) (k : ℕ) (p q : Pass Board View) (seats : List Seat) (s : Seat) → IsDealt Of n bound stop halted all k p seats
+pub deals_next : (Of : Pass Board View → Type 0) (n bound stop : ℕ) (owners : Option (List ℕ)) (halted : Bool) (all : List Share) (k : ℕ) (p q : Pass Board View) (seats : List Seat) (s : Seat) → IsDealt Of n bound stop owners halted all k p seats
     → Of q → Of s.pass → view q ≡ record (view p) { shares = drop 1 (view p).shares } → view s.pass ≡ record (view p) { shares = take 1 (view p).shares; held = [] } → s.bound ≡ bound → s.halted ≡ halted
-    → IsDealt Of n bound stop halted all (k + 1) q (seats ++ s ∷ [])
-deals_next Of n bound stop halted all k p q seats s is of_q of_s others first same told = record {
+    → IsDealt Of n bound stop owners halted all (k + 1) q (seats ++ s ∷ [])
+deals_next Of n bound stop owners halted all k p q seats s is of_q of_s others first same told = record {
   pass = of_q;
   begun = ap (λ (v : View). v.opening) others ∙ is.begun;
   empty = ap (λ (v : View). v.held) others ∙ is.empty;
   seen = ap (λ (v : View). v.seen) others ∙ is.seen;
   workers = ap (λ (v : View). v.workers) others ∙ is.workers;
   stop_is = ap (λ (v : View). v.stop) others ∙ is.stop_is;
+  owners_are = ap (λ (v : View). v.owners) others ∙ is.owners_are;
   left = ap (λ (v : View). v.shares) others ∙ (ap (drop 1) is.left ∙ sym (drop_more k all));
   dealt = map_append share_at seats (s ∷ [])
       ∙ (ap (λ l. l ++ share_at s ∷ []) is.dealt
       ∙ (ap (λ l. take k all ++ l) (sym (only_share s) ∙ (ap (λ (v : View). v.shares) first ∙ ap (take 1) is.left)) ∙ sym (take_more k all)));
-  each = all_append (IsNew Of n bound stop halted) seats (s ∷ []) is.each
-      (record { pass = of_s; workers = ap (λ (v : View). v.workers) first ∙ is.workers; bound_is = same; stop_is = ap (λ (v : View). v.stop) first ∙ is.stop_is; halted_is = told }, tt);
+  each = all_append (IsNew Of n bound stop owners halted) seats (s ∷ []) is.each
+      (record { pass = of_s; workers = ap (λ (v : View). v.workers) first ∙ is.workers; bound_is = same; stop_is = ap (λ (v : View). v.stop) first ∙ is.stop_is; owners_are = ap (λ (v : View). v.owners) first ∙ is.owners_are; halted_is = told }, tt);
 }
 
 -- once all shards are gone over, all shares have seats
-pub all_dealt : (Of : Pass Board View → Type 0) (n bound stop : ℕ) (halted : Bool) (shards : List Shard) (hands : List Hand) (k : ℕ) (p : Pass Board View) (seats : List Seat)
-    → IsDealt Of n bound stop halted (shares_of shards hands) k p seats → length (shares_of shards hands) ≡ n → length (take n shards) ≤ k → map share_at seats ≡ shares_of shards hands
-all_dealt Of n bound stop halted shards hands k p seats is many h =
+pub all_dealt : (Of : Pass Board View → Type 0) (n bound stop : ℕ) (owners : Option (List ℕ)) (halted : Bool) (shards : List Shard) (hands : List Hand) (k : ℕ) (p : Pass Board View) (seats : List Seat)
+    → IsDealt Of n bound stop owners halted (shares_of shards hands) k p seats → length (shares_of shards hands) ≡ n → length (take n shards) ≤ k → map share_at seats ≡ shares_of shards hands
+all_dealt Of n bound stop owners halted shards hands k p seats is many h =
     let most = enough shards hands in
     let long = long_take n shards (omega arith) in
     is.dealt ∙ take_all k (shares_of shards hands) (omega arith)
 
 -- and each of them is a new one
-pub new_bounds : (Of : Pass Board View → Type 0) (n bound stop : ℕ) (halted : Bool) (seats : List Seat) → AllByRecursion (IsNew Of n bound stop halted) seats → AllByRecursion (λ s. bound_at s ≡ bound) seats
-new_bounds Of n bound stop halted seats new = all_map (IsNew Of n bound stop halted) (λ s. bound_at s ≡ bound) (λ s is. is.bound_is) seats new
+pub new_bounds : (Of : Pass Board View → Type 0) (n bound stop : ℕ) (owners : Option (List ℕ)) (halted : Bool) (seats : List Seat) → AllByRecursion (IsNew Of n bound stop owners halted) seats → AllByRecursion (λ s. bound_at s ≡ bound) seats
+new_bounds Of n bound stop owners halted seats new = all_map (IsNew Of n bound stop owners halted) (λ s. bound_at s ≡ bound) (λ s is. is.bound_is) seats new
 
-pub new_stops : (Of : Pass Board View → Type 0) (n bound stop : ℕ) (halted : Bool) (seats : List Seat) → AllByRecursion (IsNew Of n bound stop halted) seats → AllByRecursion (λ s. stop_at s ≡ stop) seats
-new_stops Of n bound stop halted seats new = all_map (IsNew Of n bound stop halted) (λ s. stop_at s ≡ stop) (λ s is. is.stop_is) seats new
+pub new_stops : (Of : Pass Board View → Type 0) (n bound stop : ℕ) (owners : Option (List ℕ)) (halted : Bool) (seats : List Seat) → AllByRecursion (IsNew Of n bound stop owners halted) seats → AllByRecursion (λ s. stop_at s ≡ stop) seats
+new_stops Of n bound stop owners halted seats new = all_map (IsNew Of n bound stop owners halted) (λ s. stop_at s ≡ stop) (λ s is. is.stop_is) seats new
 
-pub new_halted : (Of : Pass Board View → Type 0) (n bound stop : ℕ) (halted : Bool) (seats : List Seat) → AllByRecursion (IsNew Of n bound stop halted) seats
+pub new_halted : (Of : Pass Board View → Type 0) (n bound stop : ℕ) (owners : Option (List ℕ)) (halted : Bool) (seats : List Seat) → AllByRecursion (IsNew Of n bound stop owners halted) seats
     → AllByRecursion (λ s. halted_at s ≡ halted) seats
-new_halted Of n bound stop halted seats new = all_map (IsNew Of n bound stop halted) (λ s. halted_at s ≡ halted) (λ s is. is.halted_is) seats new
+new_halted Of n bound stop owners halted seats new = all_map (IsNew Of n bound stop owners halted) (λ s. halted_at s ≡ halted) (λ s is. is.halted_is) seats new
 
 pub deals_none : (Of : Pass Board View → Type 0) (x : Board) (halted : Bool) (all : List Share) (p : Pass Board View) (seats : List Seat) → seats ≡ [] → Of p → view p ≡ opened all x
-    → IsDealt Of (workers x) x.bound x.stop halted all 0 p seats
+    → IsDealt Of (workers x) x.bound x.stop x.owners halted all 0 p seats
 deals_none Of x halted all p seats none of_p told = record {
   pass = of_p;
   begun = ap (λ (v : View). v.opening) told;
@@ -146,7 +149,8 @@ deals_none Of x halted all p seats none of_p told = record {
   seen = ap (λ (v : View). v.seen) told;
   workers = ap (λ (v : View). v.workers) told;
   stop_is = ap (λ (v : View). v.stop) told;
+  owners_are = ap (λ (v : View). v.owners) told;
   left = ap (λ (v : View). v.shares) told ∙ sym (drop_none all);
   dealt = ap (map share_at) none ∙ sym (take_none all);
-  each = subst (AllByRecursion (IsNew Of (workers x) x.bound x.stop halted)) (sym none) tt;
+  each = subst (AllByRecursion (IsNew Of (workers x) x.bound x.stop x.owners halted)) (sym none) tt;
 }

@@ -32,14 +32,27 @@ there worker (s ∷ shares) x e met =
     let within : s.shard.worker < workers x = stands.worker in
     omega arith
 
+-- a seat stands for a worker
+stands_for : (worker bound : ℕ) (v : View) → IsWaiting worker bound v → 0 < length v.shares
+stands_for worker bound v waits = (let l = ap length waits.share in let m = length-map v.shares worker_of in omega arith)
+
 -- a seat that has taken the exchange holds it
 pub holding : (worker bound : ℕ) (v w : View) (x : Board) → IsWaiting worker bound v → w ≡ took v x → Knows x v → IsHolding worker w
 holding worker bound v w x waits is knows =
     subst (IsHolding worker) (sym is) (record {
       begun = waits.begun;
       share = waits.share;
-      one = ap (λ n. n ∷ []) (sym (knows.workers (let l = ap length waits.share in let m = length-map v.shares worker_of in omega arith)));
+      one = ap (λ n. n ∷ []) (sym (knows.workers (stands_for worker bound v waits)));
+      owners_are = sym (knows.owners (stands_for worker bound v waits));
     })
+
+-- what it has taken has the workers that the seat knows
+pub workers_taken : (worker bound n : ℕ) (v w : View) (x : Board) → IsWaiting worker bound v → w ≡ took v x → Knows x v → v.workers ≡ n → workers (taken w) ≡ n
+workers_taken worker bound n v w x waits is knows same = ap (λ (u : View). workers (taken u)) is ∙ (sym (knows.workers (stands_for worker bound v waits)) ∙ same)
+
+-- and the owners
+pub owners_taken : (worker bound : ℕ) (owners : Option (List ℕ)) (v w : View) (x : Board) → IsWaiting worker bound v → w ≡ took v x → Knows x v → v.owners ≡ owners → (taken w).owners ≡ owners
+owners_taken worker bound owners v w x waits is knows same = ap (λ (u : View). (taken u).owners) is ∙ (sym (knows.owners (stands_for worker bound v waits)) ∙ same)
 
 -- and nothing is done to it yet
 pub not_visited : (worker : ℕ) (v w : View) (x : Board) → w ≡ took v x → IsVisitedBy worker (taken w) x

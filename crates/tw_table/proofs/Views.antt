@@ -149,7 +149,7 @@ takes port v begun empty x items views (inr is) at =
             ∙ (nobody views port v w at (right_empty items (all_held views) rest) ∙ ap (λ b. b ∷ []) one);
         ruled = subst (IsRuled is.case is.board) (s.now ∙ sym (s.with w)) is.ruled;
         each = all_set (Knows is.board) views port w is.each
-            (record { begun = begun; seen = (let b = ap (λ (b : Board). b.bound) one in omega arith); workers = knows.workers; stop = knows.stop });
+            (record { begun = begun; seen = (let b = ap (λ (b : Board). b.bound) one in omega arith); workers = knows.workers; owners = knows.owners; stop = knows.stop });
       }),
       record {
         view = refl;
@@ -187,9 +187,10 @@ gives port v x y s t begun has mine board visited may items views room (inr is) 
     let one : 0 < length v.shares = (let n = ap length mine in omega arith) in
     let rises : is.board.bound ≤ y.bound = (let up = visited.bound in let b = ap (λ (b : Board). b.bound) h.one in omega arith) in
     let same : workers y ≡ workers is.board = visited.workers ∙ ap (λ (b : Board). workers b) h.one in
+    let same_owners : y.owners ≡ is.board.owners = visited.owners ∙ ap (λ (b : Board). b.owners) h.one in
     let same_stop : y.stop ≡ is.board.stop = visited.stop ∙ ap (λ (b : Board). b.stop) h.one in
     let weaker : (u : View) → Knows is.board u → Knows y u
-    = λ u k. record { begun = k.begun; seen = (let b = k.seen in omega arith); workers = λ l. k.workers l ∙ sym same; stop = λ l. k.stop l ∙ sym same_stop } in (
+    = λ u k. record { begun = k.begun; seen = (let b = k.seen in omega arith); workers = λ l. k.workers l ∙ sym same; owners = λ l. k.owners l ∙ sym same_owners; stop = λ l. k.stop l ∙ sym same_stop } in (
       w,
       inr (record {
         case = is.case;
@@ -197,7 +198,7 @@ gives port v x y s t begun has mine board visited may items views room (inr is) 
         one = ap (λ l. (l ++ y ∷ []) ++ all_held (set views port w)) h.items_empty ∙ ap (λ l. y ∷ l) (h.others w);
         ruled = subst (IsRuled is.case y) (sym (a.with w)) (any_order is.case y (t ∷ (a.front ++ a.rear)) (a.front ++ (t ∷ a.rear)) (to_middle a.front (t ∷ []) a.rear) new);
         each = all_set (Knows y) views port w (all_map (Knows is.board) (Knows y) weaker views is.each)
-            (record { begun = begun; seen = omega arith; workers = λ l. knows.workers one ∙ sym same; stop = λ l. knows.stop one ∙ sym same_stop });
+            (record { begun = begun; seen = omega arith; workers = λ l. knows.workers one ∙ sym same; owners = λ l. knows.owners one ∙ sym same_owners; stop = λ l. knows.stop one ∙ sym same_stop });
       }),
       refl,
     )
@@ -218,7 +219,7 @@ lays_first port case x shares ruled items views room (inl none) at =
         board = x;
         one = ap (λ l. (l ++ x ∷ []) ++ all_held (set views port w)) none.0 ∙ ap (λ l. x ∷ all_held l) now;
         ruled = subst (IsRuled case x) (sym (ap all_shares now ∙ nil_right shares)) ruled;
-        each = subst (AllByRecursion (Knows x)) (sym now) (record { begun = refl; seen = omega arith; workers = λ l. refl; stop = λ l. refl }, tt);
+        each = subst (AllByRecursion (Knows x)) (sym now) (record { begun = refl; seen = omega arith; workers = λ l. refl; owners = λ l. refl; stop = λ l. refl }, tt);
       }),
       refl,
     )
@@ -256,8 +257,8 @@ forks port v begun empty items views (inr is) at =
           (subst (IsRuled is.case is.board) s.now is.ruled));
       each = all_append (Knows is.board) (set views port l) (r ∷ [])
           (all_set (Knows is.board) views port l is.each
-          (record { begun = begun; seen = knows.seen; workers = λ n. knows.workers (fewer_left v.shares n); stop = λ n. knows.stop (fewer_left v.shares n) }))
-          (record { begun = begun; seen = knows.seen; workers = λ n. knows.workers (fewer_first v.shares n); stop = λ n. knows.stop (fewer_first v.shares n) }, tt);
+          (record { begun = begun; seen = knows.seen; workers = λ n. knows.workers (fewer_left v.shares n); owners = λ n. knows.owners (fewer_left v.shares n); stop = λ n. knows.stop (fewer_left v.shares n) }))
+          (record { begun = begun; seen = knows.seen; workers = λ n. knows.workers (fewer_first v.shares n); owners = λ n. knows.owners (fewer_first v.shares n); stop = λ n. knows.stop (fewer_first v.shares n) }, tt);
     })
 
 -- a pass takes in another
@@ -296,6 +297,6 @@ merges port v other u begun more empty items views (inr is) at apart there =
       ruled = any_order is.case is.board (all_shares views) (all_shares two) same is.ruled;
       each = all_set (Knows is.board) once other spent_view
           (all_set (Knows is.board) views port w is.each
-          (record { begun = begun; seen = (let a = knows.seen in let b = also.seen in omega arith); workers = λ n. knows.workers more; stop = λ n. knows.stop more }))
-          (record { begun = refl; seen = omega arith; workers = λ n. absurd (omega arith); stop = λ n. absurd (omega arith) });
+          (record { begun = begun; seen = (let a = knows.seen in let b = also.seen in omega arith); workers = λ n. knows.workers more; owners = λ n. knows.owners more; stop = λ n. knows.stop more }))
+          (record { begun = refl; seen = omega arith; workers = λ n. absurd (omega arith); owners = λ n. absurd (omega arith); stop = λ n. absurd (omega arith) });
     })

@@ -1,7 +1,8 @@
 -- What contracts say of a table and of its seats (own).
-use Rattle.std.specs.Prelude.{ℕ, ◌≡◌, Bool, slice_index_or}
+use Rattle.std.specs.Prelude.{ℕ, ◌≡◌, Bool, List, Option, slice_index_or}
 use Rattle.crossbeam_queue.specs.Passes.{IsPassOf, view}
 use Rattle.tw_exchange.specs.Board.{Board}
+use Rattle.tw_exchange.specs.Owners.{list_of}
 use Rattle.tw_table.specs.Shares.{Share, no_share}
 use Rattle.tw_table.specs.Views.{taken}
 use Rattle.tw_table.specs.declared.seat.Held.{Held}
@@ -11,6 +12,10 @@ use Rattle.tw_table.specs.declared.table.Table.{Table}
 -- how many workers a table has
 abbrev pub workers_at : Table → ℕ
 workers_at t = t.workers
+
+-- the worker of each router, where a list says it
+abbrev pub owners_on : Table → Option (List ℕ)
+owners_on t = list_of t.owners
 
 -- the stop of its exchange
 abbrev pub stop_on : Table → ℕ
@@ -22,6 +27,7 @@ stop_on t = t.stop
 pub record IsSeatOf (t : Table) (s : Seat) : Type 0 where
   pub pass : IsPassOf t.queue s.pass
   pub workers : (view s.pass).workers ≡ t.workers
+  pub owners : (view s.pass).owners ≡ owners_on t
   pub stop : (view s.pass).stop ≡ t.stop
 
 -- its worker's share: the shard and the hand given last
@@ -46,6 +52,7 @@ stop_at s = (view s.pass).stop
 pub record IsHeldOf (t : Table) (h : Held) : Type 0 where
   pub pass : IsPassOf t.queue h.pass
   pub workers : (view h.pass).workers ≡ t.workers
+  pub owners : (view h.pass).owners ≡ owners_on t
   pub stop : (view h.pass).stop ≡ t.stop
 
 -- its worker's share, as given last

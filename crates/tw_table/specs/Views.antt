@@ -1,5 +1,5 @@
 -- The rule of the table's queue: over the exchange in it, and over what each pass of it knows (own).
-use Rattle.std.specs.Prelude.{ℕ, ◌≡◌, ◌<◌, ◌≤◌, ◌⊎◌, true, false, List, [], ◌∷◌, ◌++◌, drop, length, map, max, slice_index_or, take}
+use Rattle.std.specs.Prelude.{ℕ, ◌≡◌, ◌<◌, ◌≤◌, ◌⊎◌, true, false, None, List, [], ◌∷◌, ◌++◌, drop, length, map, max, slice_index_or, take}
 use Rattle.std.specs.List.{AllByRecursion, flat_map}
 use Rattle.tw_exchange.specs.Board.{Board, opening, report_of, workers}
 use Rattle.tw_model.specs.Case.{Case}
@@ -10,11 +10,11 @@ use Rattle.tw_table.specs.Shares.{IsRuled, Share}
 
 -- before the exchange was given for the first time
 abbrev pub first_view : View
-first_view = record { opening = true; workers = 0; shares = []; seen = 0; stop = 0; held = [] }
+first_view = record { opening = true; workers = 0; owners = None; shares = []; seen = 0; stop = 0; held = [] }
 
 -- once it was, by the one who opens the table, for all workers
 abbrev pub opened : List Share → Board → View
-opened shares x = record { opening = false; workers = workers x; shares = shares; seen = x.bound; stop = x.stop; held = [] }
+opened shares x = record { opening = false; workers = workers x; owners = x.owners; shares = shares; seen = x.bound; stop = x.stop; held = [] }
 
 -- with the exchange
 abbrev pub took : View → Board → View
@@ -38,7 +38,7 @@ joined v w = record v { shares = v.shares ++ w.shares; seen = max v.seen w.seen 
 
 -- without any
 abbrev pub spent_view : View
-spent_view = record { opening = false; workers = 0; shares = []; seen = 0; stop = 0; held = [] }
+spent_view = record { opening = false; workers = 0; owners = None; shares = []; seen = 0; stop = 0; held = [] }
 
 -- ---- the rule
 
@@ -58,6 +58,8 @@ pub record Knows (x : Board) (v : View) : Type 0 where
   pub seen : v.seen ≤ x.bound
   -- and knows how many workers there are
   pub workers : 0 < length v.shares → v.workers ≡ workers x
+  -- which of them has each router
+  pub owners : 0 < length v.shares → v.owners ≡ x.owners
   -- and the stop
   pub stop : 0 < length v.shares → v.stop ≡ x.stop
 
@@ -114,3 +116,4 @@ pub record IsHolding (worker : ℕ) (v : View) : Type 0 where
   pub begun : v.opening ≡ false
   pub share : map (λ s. s.shard.worker) v.shares ≡ worker ∷ []
   pub one : map (λ x. workers x) v.held ≡ v.workers ∷ []
+  pub owners_are : (taken v).owners ≡ v.owners

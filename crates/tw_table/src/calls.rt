@@ -1,12 +1,14 @@
 //! What workers do at a table.
-ghost use Rattle.std.specs.Prelude.{◌≡◌, ◌<◌, ◌≤◌, ◌↔◌, ℕ, IfErr, IfOk, IsOk, false, List, [], ◌∷◌, drop, length, map, take, vec_len};
+ghost use Rattle.std.specs.Prelude.{◌≡◌, ◌<◌, ◌≤◌, ◌↔◌, ℕ, Err, IfErr, IfOk, IsOk, IsTrue, OnErr, OnOk, false, List, [], ◌∷◌, drop, length, map, take, vec_len};
 ghost use Rattle.std.specs.List.{AllByRecursion};
 ghost use Rattle.crossbeam_queue.specs.Fifo.{Learns, Pushes};
 ghost use Rattle.crossbeam_queue.specs.Passes.{IsPassOf, IsSamePass, ruled_capacity, view};
-ghost use Rattle.tw_exchange.specs.Board.{Board, IsBoard, workers};
+ghost use Rattle.tw_exchange.specs.Board.{AreDealt, Board, IsBoard, NoneDealt, any_homeless, workers};
+ghost use Rattle.tw_exchange.specs.declared.visit.VisitFault.TheVariants.{NoRouter};
 ghost use Rattle.tw_model.specs.Case.{Case};
+ghost use Rattle.tw_model.specs.declared.memory.OrMemory.TheVariants as or_memory;
 ghost use Rattle.tw_table.specs.declared.rule.View.{View as AView};
-ghost use Rattle.tw_table.specs.Seats.{IsHeldOf, IsSeatOf, bound_at, exchange_of, halted_at, share_at, share_of, stop_at, stop_of, stop_on, taken_by, workers_at};
+ghost use Rattle.tw_table.specs.Seats.{IsHeldOf, IsSeatOf, bound_at, exchange_of, halted_at, owners_on, share_at, share_of, stop_at, stop_of, stop_on, taken_by, workers_at};
 ghost use Rattle.tw_table.specs.Shares.{IsRuled, IsWhole, MayBeGiven, Share as AShare, share, shares_of};
 ghost use Rattle.tw_table.specs.Views.{Holds, IsMet, Knows, first_view, given, opened, took};
 
@@ -20,14 +22,16 @@ use crossbeam_utils::Backoff;
 use std::alloc::Global;
 use std::marker::Brand;
 use std::sync::Wait;
-use tw_exchange::Exchange;
+use tw_event::Event;
+use tw_exchange::{Exchange, OrMemory, Parcels, VisitFault};
 use tw_shard::Shard;
+use tw_sim::Signed;
 
 impl Table {
     /// A table with the exchange on it, and a seat for each of its workers, who have these shards and
     /// hands, in any order, in which the seats then are; there is one at least. With the exchange they keep
-    /// the rule, as new ones do. For want of memory the exchange comes back; no other call at the table
-    /// takes any.
+    /// the rule, as new ones do. For want of memory the exchange comes back. Of the other calls at the table none
+    /// takes any but [`Table::deal`] and the visits.
     pub fn open<R: Wait>(
         rt: &R,
         alloc: Global,
@@ -38,6 +42,7 @@ impl Table {
         requires some { 0 < workers exchange }
         requires ruled { (case : Case) × IsRuled case exchange (shares_of shards.now hands.now) }
         ensures workers { IfOk result (λ r. workers_at r.0 ≡ workers exchange) }
+        ensures owners { IfOk result (λ r. owners_on r.0 ≡ exchange.owners) }
         ensures stop { IfOk result (λ r. stop_on r.0 ≡ exchange.stop) }
         ensures seats { IfOk result (λ r. AllByRecursion (IsSeatOf r.0) r.1.items) }
         ensures shares { IfOk result (λ r. map share_at r.1.items ≡ shares_of shards.now hands.now) }
@@ -53,6 +58,9 @@ impl Table {
         let Ok((queue, mut pass)) = Queue::ruled(alloc, 1) else {
             return Err(exchange);
         };
+        let Ok(owners) = exchange.owners() else {
+            return Err(exchange);
+        };
         let bound = exchange.bound();
         let stop = exchange.stop();
         let halted = exchange.is_halted();
@@ -64,6 +72,7 @@ impl Table {
         let table = Table {
             queue,
             workers,
+            owners,
             hints: Hints::new(),
             stop,
         };
@@ -82,6 +91,8 @@ impl Table {
         ensures met { IsMet (share_at seat ∷ []) (taken_by result) }
         ensures board { IsBoard (taken_by result) }
         ensures bound { bound_at seat ≤ (taken_by result).bound }
+        ensures workers { workers (taken_by result) ≡ workers_at self.now }
+        ensures owners { (taken_by result).owners ≡ owners_on self.now }
         ensures stop { (taken_by result).stop ≡ stop_at seat }
         ensures knows { stop_of result ≡ stop_at seat }
     {
@@ -128,6 +139,24 @@ impl Table {
             halted,
             pass,
         }
+    }
+
+    /// Deals messages out to the workers, as the exchange says, which need not be taken for it: while the table is
+    /// open no router goes to another worker. What was dealt before goes.
+    ///
+    /// It is refused as `NoRouter` where a message is for a router that no worker has. After that, and for want of
+    /// memory, nothing is dealt. With no messages it takes no memory.
+    pub fn deal(
+        &self,
+        parcels: &mut Parcels,
+        messages: &[Signed<Event>],
+    ) -> Result<(), OrMemory<VisitFault>>
+        ensures dealt { OnOk result (AreDealt (owners_on self.now) (workers_at self.now) messages.now parcels.new) }
+        ensures no_router { result ≡ Err (or_memory.Fault NoRouter) ↔ IsTrue (any_homeless (owners_on self.now) (workers_at self.now) messages.now) }
+        ensures none { OnErr result (NoneDealt parcels.new) }
+        ensures wanted { OnErr result (0 < length messages.now) }
+    {
+        parcels.deal(&self.owners, self.workers, messages)
     }
 
     /// Whether the exchange may have something for a worker that knows this bound, in ticks: mail, or a bound that has

@@ -26,6 +26,8 @@ pub struct View {
     pub opening: bool,
     /// How many workers there are.
     pub workers: u64,
+    /// The worker of each router, where a list says it.
+    pub owners: Option<LinkedList<u32>>,
     /// What was given last by the workers that this pass stands for.
     pub shares: LinkedList<Share>,
     /// The greatest bound that it has seen, in ticks.

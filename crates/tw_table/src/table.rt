@@ -5,12 +5,15 @@ ghost use Rattle.crossbeam_queue.specs.Passes.{ruled_capacity};
 use crate::hints::Hints;
 use crate::rule::Queue;
 use crate::seat::Seat;
+use tw_exchange::Owners;
 
 /// Where the workers leave the exchange for one another: one of them at a time takes it.
 #[derive(Drop)]
 pub struct Table {
     pub(crate) queue: Queue,
     pub(crate) workers: u32,
+    // What says the worker of each router, which stays while the table is open.
+    pub(crate) owners: Owners,
     pub(crate) hints: Hints,
     pub(crate) stop: u64,
     pub(crate) ghost one: { ruled_capacity queue ≡ 1 },

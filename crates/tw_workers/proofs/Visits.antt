@@ -6,7 +6,7 @@ use Rattle.std.specs.Option.{option_map_or}
 use Rattle.tw_event.specs.declared.event.Event.{Event}
 use Rattle.tw_exchange.specs.declared.visit.VisitFault.{VisitFault}
 use Rattle.tw_exchange.specs.declared.visit.VisitFault.TheVariants.{Early, NoRouter, NoWorker}
-use Rattle.tw_exchange.specs.Board.{Board, IsBoard, any_homeless, handed, is_early, is_homeless, visited, who, worker_for, workers}
+use Rattle.tw_exchange.specs.Board.{AreDealt, Board, IsBoard, any_homeless, handed, is_early, is_homeless, visited, who, worker_for, workers}
 use Rattle.tw_model.proofs.Lawful.{lawful}
 use Rattle.tw_model.proofs.Within.{suits_within}
 use Rattle.tw_model.specs.declared.memory.OrMemory.{OrMemory}
@@ -195,6 +195,14 @@ at_work case x shares i s ruled place =
 pub work_given : (x y : Board) (stop : ℕ) (s t : Share) → IsMet (s ∷ []) x → x.stop ≡ stop → IsGiven x s y t → IsAtWork stop t
 work_given x y stop s t met same may =
     subst (λ n. IsAtWork n t) (may.give.steps.stop ∙ same) (at_work met.case y (t ∷ met.others) 0 t (given_one met.case x y s t met.others met.ruled may) refl)
+
+-- ---- what is dealt
+
+-- messages that are dealt as a table says are dealt as the exchange says that was taken there
+pub dealt_there : (x : Board) (owners : Option (List ℕ)) (n : ℕ) (out unsent : List (Signed Event)) (lists : List (List (Signed Event))) → x.owners ≡ owners → workers x ≡ n → out ≡ unsent
+    → AreDealt owners n out lists → AreDealt x.owners (workers x) unsent lists
+dealt_there x owners n out unsent lists same many all is =
+    subst (λ o. AreDealt o (workers x) unsent lists) (sym same) (subst (λ k. AreDealt owners k unsent lists) (sym many) (subst (λ ms. AreDealt owners n ms lists) all is))
 
 -- ---- why a visit is refused
 

@@ -1,6 +1,6 @@
 //! A worker meets the table.
-ghost use Rattle.std.specs.Prelude.{ℕ, ◌≡◌, ◌≤◌, ◌<◌, [], ◌∷◌, ◌⊎◌, length, true};
-ghost use Rattle.tw_exchange.specs.Board.{IsBoard};
+ghost use Rattle.std.specs.Prelude.{ℕ, ◌≡◌, ◌≤◌, ◌<◌, [], ◌∷◌, ◌⊎◌, OnErr, OnOk, length, true};
+ghost use Rattle.tw_exchange.specs.Board.{AreDealt, IsBoard, workers};
 ghost use Rattle.tw_shard.specs.Shard.{IsSameShare, core};
 ghost use Rattle.tw_table.specs.Seats.{IsSameSeat, IsSeatOf, bound_at, exchange_of, halted_at, share_at, share_of, stop_at, taken_by};
 ghost use Rattle.tw_table.specs.Shares.{MayBeGiven, board_of, share};
@@ -10,10 +10,9 @@ ghost use Rattle.tw_workers.specs.Seated.{HasTurned};
 ghost use Rattle.tw_workers.specs.Work.{IsAtWork, Kept};
 
 use crate::worker::Worker;
-use std::mem;
 use std::sync::Wait;
 use tw_shard::Shard;
-use tw_table::{Hand, Held, Seat, Table};
+use tw_table::{Hand, Held, OrMemory, Parcels, Seat, Table, VisitFault};
 
 /// What a worker is told at a meeting.
 #[derive(Clone, Copy, PartialEq, Eq, Debug)]
@@ -29,9 +28,9 @@ pub enum Meeting {
 }
 
 impl<'a> Worker<'a> {
-    /// The worker takes the exchange from the table, deposits what is unsent, reports the least time of what
-    /// waits for its routers, is handed its mail and told the bound, and gives the exchange back, with its
-    /// shard and hand as they are then. The seat is its own, at this table, and what it gave there last
+    /// The worker deals what is unsent to the workers that it is for. Then it takes the exchange from the table,
+    /// deposits that, reports the least time of what waits for its routers, is handed its mail and told the bound,
+    /// and gives the exchange back, with its shard and hand as they are then. The seat is its own, at this table, and what it gave there last
     /// has been kept since. It has delivered its hand.
     pub fn meet<R: Wait>(&mut self, rt: &R, table: &Table, seat: Seat) -> (Seat, Meeting)
         requires seat { IsSeatOf table.now seat }
@@ -52,8 +51,17 @@ impl<'a> Worker<'a> {
         ensures heard { result.1 ≡ Halted → halted_at result.0 ≡ true }
         ensures obeys { halted_at result.0 ≡ true → (result.1 ≡ Halted) ⊎ (result.1 ≡ Refused) }
     {
+        // What is dealt before takes no time at the table.
+        let dealt = table.deal(&mut self.parcels, &self.hand.out);
         let mut held = table.take(rt, seat);
-        let meeting = visit(&mut held, &mut self.shard, &mut self.hand, self.stop);
+        let meeting = visit(
+            &mut held,
+            &mut self.shard,
+            &mut self.hand,
+            &mut self.parcels,
+            dealt,
+            self.stop,
+        );
         let seat = table.give(rt, held, &self.shard, &self.hand);
         (seat, meeting)
     }
@@ -73,8 +81,16 @@ impl<'a> Worker<'a> {
     }
 }
 
-/// A worker with this shard and hand visits the exchange that it has just taken.
-fn visit(held: &mut Held, shard: &mut Shard<'_>, hand: &mut Hand, stop: u64) -> Meeting
+/// A worker with this shard and hand visits the exchange that it has just taken, where what is unsent is dealt to the
+/// workers that it is for.
+fn visit(
+    held: &mut Held,
+    shard: &mut Shard<'_>,
+    hand: &mut Hand,
+    parcels: &mut Parcels,
+    dealt: Result<(), OrMemory<VisitFault>>,
+    stop: u64,
+) -> Meeting
     requires met { IsMet (share_of held.old ∷ []) (taken_by held.old) }
     requires fresh { exchange_of held.old ≡ taken_by held.old }
     requires board { IsBoard (taken_by held.old) }
@@ -83,6 +99,8 @@ fn visit(held: &mut Held, shard: &mut Shard<'_>, hand: &mut Hand, stop: u64) -> 
     requires work { IsAtWork stop (share shard.old hand.old) }
     requires delivered { (share shard.old hand.old).mail ≡ [] }
     requires sorted { shard.old.outgoing ≡ [] }
+    requires dealt { OnOk dealt (AreDealt (exchange_of held.old).owners (workers (exchange_of held.old)) hand.old.out.items parcels.old) }
+    requires wanted { OnErr dealt (0 < length hand.old.out.items) }
     ensures seat { IsSameSeat held.old held.new }
     ensures given { MayBeGiven (taken_by held.old) (share_of held.old) (exchange_of held.new) (share shard.new hand.new) }
     ensures work { IsAtWork stop (share shard.new hand.new) }
@@ -99,21 +117,31 @@ fn visit(held: &mut Held, shard: &mut Shard<'_>, hand: &mut Hand, stop: u64) -> 
     ensures heard { result ≡ Halted → (exchange_of held.new).halted ≡ true }
     ensures obeys { (exchange_of held.new).halted ≡ true → (result ≡ Halted) ⊎ (result ≡ Refused) }
 {
-    let alloc = *hand.out.allocator();
-    let out = mem::replace(&mut hand.out, Vec::new(alloc));
-    match held.visit(out, shard.report_time()) {
-        Ok(visit) => {
-            shard.raise_bound(visit.bound);
-            hand.mail = visit.mail;
-            hand.next = 0;
-            told(visit.bound, visit.halted, stop)
+    let Ok(()) = dealt else {
+        return refuse(held);
+    };
+    // The messages in it are delivered, and its memory goes round.
+    hand.mail.clear();
+    hand.next = 0;
+    match held.visit_dealt(parcels, shard.report_time(), &mut hand.mail) {
+        Ok(news) => {
+            shard.raise_bound(news.bound);
+            hand.out.clear();
+            told(news.bound, news.halted, stop)
         }
-        Err(back) => {
-            hand.out = back.out;
-            halt_all(held);
-            Meeting::Refused
-        }
+        Err(_) => refuse(held),
     }
+}
+
+/// All workers are told to take no further turn, since memory was refused.
+fn refuse(held: &mut Held) -> Meeting
+    ensures refused { result ≡ Refused }
+    ensures same { IsSameSeat held.old held.new }
+    ensures board { board_of (exchange_of held.new) ≡ board_of (exchange_of held.old) }
+    ensures halts { (exchange_of held.new).halted ≡ true }
+{
+    halt_all(held);
+    Meeting::Refused
 }
 
 /// All workers are told to take no further turn.

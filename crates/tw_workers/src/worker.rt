@@ -9,7 +9,7 @@ use std::marker::Model;
 use tw_event::Event;
 use tw_shard::Shard;
 use tw_sim::Signed;
-use tw_table::Hand;
+use tw_table::{Hand, Parcels};
 
 /// A worker of a parallel run: its routers, and the messages in its hand.
 #[derive(Drop)]
@@ -18,6 +18,8 @@ pub struct Worker<'a> {
     pub(crate) hand: Hand,
     // Empty between calls: it keeps the memory of the list that goes out.
     pub(crate) outgoing: Vec<Signed<Event>>,
+    // What is unsent, as it was dealt at the last meeting. It keeps the memory of the lists that go round.
+    pub(crate) parcels: Parcels,
     pub(crate) stop: u64,
     pub(crate) pace: Pace,
 }
@@ -49,6 +51,7 @@ impl<'a> Worker<'a> {
             shard,
             hand,
             outgoing: Vec::new(alloc),
+            parcels: Parcels::new(alloc),
             stop,
             pace,
         }

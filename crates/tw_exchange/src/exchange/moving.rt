@@ -4,6 +4,7 @@ ghost use Rattle.std.specs.Prelude.{◌≡◌, ◌==◌, ◌+◌, ◌<◌, ◌�
 ghost use Rattle.std.specs.List.{AllByRecursion, range_with_len};
 ghost use Rattle.std.specs.Option.{SomeIff};
 ghost use Rattle.tw_exchange.specs.Board.{IsBoard, IsListed, all_mail, given, is_to, listed, mail_of, who, without_mail, workers};
+ghost use Rattle.tw_exchange.specs.Owners.{list_of};
 
 use super::Exchange;
 use crate::mail::take_out;
@@ -27,6 +28,13 @@ impl Exchange {
         } else {
             None
         }
+    }
+
+    /// A copy of what says the worker of each router.
+    pub fn owners(&self) -> Result<Owners, AllocError>
+        ensures { IfOk result (λ owners. list_of owners ≡ self.now.owners) }
+    {
+        self.owners.copy(self.alloc)
     }
 
     /// Takes out all mail for one router, and puts it behind `to` in its order. Where memory is refused,

@@ -42,7 +42,7 @@ deal-seat-requires-clause-first g c =
     = subst (λ n. c.loop-shard.shard-index < length (take n shards)) same c.loop-shard-test.true in
     let there : s ≡ get_or (take (workers c.args.exchange) shards) c.loop-shard.shard-index s
     = subst (λ n. s ≡ get_or (take n shards) c.loop-shard.shard-index s) same c.shard-item.is in
-    next_worker _ _ _ _ _ shards c.args.hands.now c.loop-shard.shard-index _ _ s c.loop-shard.invariant.0 c.requires.ruled.1.count inside there
+    next_worker _ _ _ _ _ _ shards c.args.hands.now c.loop-shard.shard-index _ _ s c.loop-shard.invariant.0 c.requires.ruled.1.count inside there
     ∙ ap (λ w. w ∷ []) (sym c.worker.ensures)
 
 pub loop-shard-preserved : goal.loop-shard-preserved
@@ -51,14 +51,15 @@ loop-shard-preserved g c =
     let n = workers c.args.exchange in
     let bound = c.args.exchange.bound in
     let stop = c.args.exchange.stop in
+    let owners = c.args.exchange.owners in
     let halted = c.args.exchange.halted in
     let all = shares_of c.args.shards.now c.args.hands.now in
     let k = c.loop-shard.shard-index in
     let is = c.loop-shard.invariant.0 in
     let told = c.deal-seat.ensures in
     let same = told.queue.0 in (
-      subst (IsDealt of n bound stop halted all (k + 1) c.deal-seat.new.pass) (sym c.push_reserved.ensures.items)
-          (deals_next of n bound stop halted all k c.loop-shard.pass c.deal-seat.new.pass c.loop-shard.seats.items c.deal-seat.result is
+      subst (IsDealt of n bound stop owners halted all (k + 1) c.deal-seat.new.pass) (sym c.push_reserved.ensures.items)
+          (deals_next of n bound stop owners halted all k c.loop-shard.pass c.deal-seat.new.pass c.loop-shard.seats.items c.deal-seat.result is
           (same.0 ∙ is.pass.0, same.2 ∙ is.pass.1) told.queue.1 told.others told.first (told.bound ∙ c.bound-bound.ensures.value) (told.halted ∙ c.is_halted-halted.ensures)),
       search rules,
       search rules,
@@ -70,13 +71,13 @@ returns-clause-shares g c =
     let same : c.workers-workers.result ≡ workers c.args.exchange = c.workers-workers.ensures.value in
     let past : length (take (workers c.args.exchange) shards) ≤ c.loop-shard.shard-index
     = subst (λ n. length (take n shards) ≤ c.loop-shard.shard-index) same c.loop-shard-test.false in
-    all_dealt _ _ _ _ _ shards c.args.hands.now c.loop-shard.shard-index _ _ c.loop-shard.invariant.0 c.requires.ruled.1.count past
+    all_dealt _ _ _ _ _ _ shards c.args.hands.now c.loop-shard.shard-index _ _ c.loop-shard.invariant.0 c.requires.ruled.1.count past
 
 pub returns-clause-bounds : goal.returns-clause-bounds
-returns-clause-bounds g c = new_bounds _ _ _ _ _ _ c.loop-shard.invariant.0.each
+returns-clause-bounds g c = new_bounds _ _ _ _ _ _ _ c.loop-shard.invariant.0.each
 
 pub returns-clause-stops : goal.returns-clause-stops
-returns-clause-stops g c = new_stops _ _ _ _ _ _ c.loop-shard.invariant.0.each
+returns-clause-stops g c = new_stops _ _ _ _ _ _ _ c.loop-shard.invariant.0.each
 
 pub returns-clause-halted : goal.returns-clause-halted
-returns-clause-halted g c = new_halted _ _ _ _ _ _ c.loop-shard.invariant.0.each
+returns-clause-halted g c = new_halted _ _ _ _ _ _ _ c.loop-shard.invariant.0.each

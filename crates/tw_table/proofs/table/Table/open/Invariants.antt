@@ -14,6 +14,6 @@ ghosts-lay-M-Outcome g a = record { then = λ v x w. w ≡ opened (shares_of a.s
 -- the first workers have their seats
 abbrev pub invariant-loop-shard : goal.invariant-loop-shard
 invariant-loop-shard g l =
-    IsDealt (IsPassOf l.queue) (workers l.fn.exchange) l.fn.exchange.bound l.fn.exchange.stop l.fn.exchange.halted (shares_of l.fn.shards l.fn.hands) l.shard-index l.pass l.seats.items
+    IsDealt (IsPassOf l.queue) (workers l.fn.exchange) l.fn.exchange.bound l.fn.exchange.stop l.fn.exchange.owners l.fn.exchange.halted (shares_of l.fn.shards l.fn.hands) l.shard-index l.pass l.seats.items
     × (vec_len l.seats ≡ l.shard-index)
     × (workers l.fn.exchange ≤ vec_capacity l.seats)

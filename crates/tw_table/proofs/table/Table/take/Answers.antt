@@ -1,5 +1,5 @@
 use Rattle.crossbeam_queue.specs.Passes.{view}
-use Rattle.tw_table.proofs.Seats.{holding, not_visited, there}
+use Rattle.tw_table.proofs.Seats.{holding, not_visited, owners_taken, there, workers_taken}
 use Rattle.tw_table.proofs.table.Table.take.Goals as goal
 
 pub invariant_of-result : goal.invariant_of-result
@@ -11,3 +11,15 @@ invariant_of-result g c =
       there = there seat.worker (view seat.pass).shares _ seat.waits.share told.met;
       visited = not_visited seat.worker (view seat.pass) _ _ told.view;
     }
+
+pub returns-clause-workers : goal.returns-clause-workers
+returns-clause-workers g c =
+    let seat = c.args.seat in
+    let told = c.pop-exchange.ensures in
+    workers_taken seat.worker seat.bound _ (view seat.pass) _ _ seat.waits told.view told.knows c.requires.seat.workers
+
+pub returns-clause-owners : goal.returns-clause-owners
+returns-clause-owners g c =
+    let seat = c.args.seat in
+    let told = c.pop-exchange.ensures in
+    owners_taken seat.worker seat.bound _ (view seat.pass) _ _ seat.waits told.view told.knows c.requires.seat.owners

@@ -1,6 +1,6 @@
 use Rattle.std.proofs.Common.{◌≡◌, [], replicate}
 use Rattle.tw_exchange.specs.Rows.{items}
-use Rattle.tw_exchange.proofs.exchange.no_mail.Given as goal
+use Rattle.tw_exchange.proofs.rows.no_mail.Given as goal
 
 abbrev pub invariant-loop : goal.invariant-loop
 invariant-loop l = items l.mail.items ≡ replicate l.counter []
