@@ -10,6 +10,8 @@ mod devices;
 #[cfg(test)]
 mod events;
 #[cfg(test)]
+mod moving;
+#[cfg(test)]
 mod parallel;
 #[cfg(test)]
 mod programs;

@@ -22,7 +22,7 @@ pub(crate) fn sim<'a>(alloc: Global, case: &'a Case) -> Result<Sim<'a>, AllocErr
 }
 
 /// What a run leaves that keeps its events, asked for once more where memory was refused.
-fn outcome(sim: &Sim<'_>) -> Result<Outcome, OrMemory<NotSettled>>
+pub(crate) fn outcome(sim: &Sim<'_>) -> Result<Outcome, OrMemory<NotSettled>>
     requires { KeepsEvents sim.now }
 {
     match sim.outcome(true) {

@@ -20,7 +20,7 @@ use tw_seq::{LoggedRun, OneThread, Running};
 use tw_shape::Verdict;
 
 /// Runs to the stop, once more where memory was refused.
-fn run_to<R: Running>(run: &mut R, stop: u64) -> bool
+pub(crate) fn run_to<R: Running>(run: &mut R, stop: u64) -> bool
     requires { stop ≤ LATEST }
     ensures { (R.run run.new).case ≡ (R.run run.old).case }
 {

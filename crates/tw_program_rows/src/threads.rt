@@ -11,9 +11,7 @@ use std::thread::{self, Threads};
 use tw_commands::{Cause, Status};
 use tw_event::Event;
 use tw_instance::Case;
-use tw_parallel::{
-    EndCause, Ended, Gate, OpenGate, Options, OrMemory, Sim, UnfitOwners, run_until,
-};
+use tw_parallel::{EndCause, Ended, Gate, OpenGate, Options, Sim, run_until};
 use tw_rows::cases::case;
 use tw_rows::texts::DISAGREE;
 use tw_run::{Dealing, run_io};
@@ -64,7 +62,7 @@ fn a_report_refused_once_is_written_whole(rt: HostRuntime) {
 }
 
 /// Runs on to a stop, once more where memory or a thread was refused.
-fn run_on<'a, X: Threads + Wait + Sync>(
+pub(crate) fn run_on<'a, X: Threads + Wait + Sync>(
     rt: &X,
     sim: Sim<'a>,
     stop: u64,
@@ -123,7 +121,7 @@ fn has_committed_some(sim: &Sim<'_>, bound: u64) -> bool {
 }
 
 /// Whether a run is settled with its first events, so many, committed.
-fn is_settled_with(sim: &Sim<'_>, count: usize) -> bool {
+pub(crate) fn is_settled_with(sim: &Sim<'_>, count: usize) -> bool {
     sim.is_settled() && has_committed(sim, count)
 }
 
@@ -153,35 +151,6 @@ fn a_run_goes_on_to_later_stops_and_to_no_earlier_one(rt: HostRuntime) {
     match run_on(&rt, sim, 19) {
         Ok(_) => panic!(rt; "the stop falls"),
         Err(ended) => assert!(rt; is_kept_at_20(&ended)),
-    }
-}
-
-/// Moves the routers of a run, once more where memory was refused.
-fn move_routers(sim: &mut Sim<'_>, owners: &[u32]) -> Result<(), OrMemory<UnfitOwners>> {
-    match sim.move_to(owners) {
-        Err(OrMemory::Memory) => sim.move_to(owners),
-        answer => answer,
-    }
-}
-
-#[test]
-fn routers_move_to_other_workers_between_runs(rt: HostRuntime) {
-    let Ok(case) = case(rt.alloc(), DISAGREE) else {
-        panic!(rt; "the case is refused")
-    };
-    let Ok(mut sim) = sim(rt.alloc(), &case) else {
-        panic!(rt; "no memory")
-    };
-    for owners in [[0, 1].as_slice(), &[0, 1, 2]] {
-        assert!(rt; move_routers(&mut sim, owners) == Err(OrMemory::Fault(UnfitOwners)));
-    }
-    let Ok(mut sim) = run_on(&rt, sim, 3) else {
-        panic!(rt; "the run ended early")
-    };
-    assert!(rt; move_routers(&mut sim, &[1, 1, 1]) == Ok(()) && is_settled_with(&sim, 4));
-    match run_on(&rt, sim, 20) {
-        Ok(sim) => assert!(rt; is_settled_with(&sim, 7)),
-        Err(_) => panic!(rt; "the run ended early"),
     }
 }
 
