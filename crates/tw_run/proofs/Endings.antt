@@ -8,7 +8,6 @@ use Rattle.tw_event.specs.declared.event.Event.{Event}
 use Rattle.tw_model.proofs.Lawful.{lawful, numbered}
 use Rattle.tw_model.specs.Case.{Case, IsCase, simulation}
 use Rattle.tw_model.specs.Quiet.{last_change}
-use Rattle.tw_model.specs.State.{State}
 use Rattle.tw_model.specs.Summary.{Summary, end_of}
 use Rattle.tw_parallel.specs.Settled.{logged, states_at}
 use Rattle.tw_seq.specs.Outcome.{least, outcome_of}
