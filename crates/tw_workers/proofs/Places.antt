@@ -16,6 +16,7 @@ use Rattle.tw_rule.proofs.Calls.{hand_is_loose, hand_is_own, keeps_handle, keeps
 use Rattle.tw_rule.specs.Place.{IsFrom, IsPlace, IsRunBefore, Keeps, with_core}
 use Rattle.std.specs.Option.{option_map_or}
 use Rattle.std.specs.Result.{result_and}
+use Rattle.tw_shard.proofs.Leasts.{one_told}
 use Rattle.tw_shard.specs.Arrival.{receiving, refusing}
 use Rattle.tw_shard.specs.declared.rejection.Rejection.{Rejection}
 use Rattle.tw_shard.specs.Roster.{has}
@@ -194,6 +195,13 @@ kept_handled stop r s t work same done mail unsent =
     let at_own : next ≡ Ok (core stop t.shard) = sym (ap (λ b. if b then next else Err NotMine) own) ∙ done in
     let keeps = keeps_handle m (lawful s.shard.case work.case) stop r (place_of s) (core stop t.shard) work.place at_own in
     record { case = same.case; workers = same.workers; routers = same.routers; keeping = same.keeps; cancel = same.cancel; place = subst (Keeps m stop (place_of s)) (sym (place_after stop s t same mail unsent)) keeps }
+
+-- and where the least of all pending events is handled
+pub kept_least : (stop : ℕ) (s t : Share) → IsAtWork stop s → IsSameShare s.shard t.shard → handling_least stop s.shard ≡ Ok (core stop t.shard) → t.mail ≡ s.mail → t.unsent ≡ s.unsent
+    → Kept stop s t
+kept_least stop s t work same done mail unsent =
+    let told = one_told stop s.shard (Ok (core stop t.shard)) done (λ none. cc none) in
+    kept_handled stop told.0 s t work same told.1 mail unsent
 
 -- a router that has no room is one of its own
 pub own_full : (stop r : ℕ) (s : Shard) → handling stop s r ≡ Err AheadFull → owns s r ≡ true

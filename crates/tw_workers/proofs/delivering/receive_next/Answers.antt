@@ -16,7 +16,7 @@ returns-in_err-receive_welcome-clause-kept c = λ stop work.
     let hand = c.args.hand.now in
     let x = c.index.result.now in
     let s = share c.args.shard.now hand in
-    let t = share c.receive_welcome.new.shard hand in
+    let t = share c.receive_welcome.new.self hand in
     kept_rolled_back stop s t x (drop (hand.next + 1) hand.mail.items) work
     (drop_one hand.mail.items hand.next x c.requires.some ∙ ap (λ y. y ∷ drop (hand.next + 1) hand.mail.items) (sym c.index.ensures))
     c.receive_welcome.ensures.same (c.in_err-receive_welcome.ensures.memory stop) refl refl
@@ -25,8 +25,9 @@ pub returns-clause-kept : goal.returns-clause-kept
 returns-clause-kept c = λ stop work.
     let hand = c.args.hand.now in
     let x = c.index.result.now in
+    let rest = drop (hand.next + 1) hand.mail.items in
     let s = share c.args.shard.now hand in
-    let t = share c.receive_welcome.new.shard (record hand { next = hand.next + 1 }) in
-    kept_received stop s t x (drop (hand.next + 1) hand.mail.items) work
-    (drop_one hand.mail.items hand.next x c.requires.some ∙ ap (λ y. y ∷ drop (hand.next + 1) hand.mail.items) (sym c.index.ensures))
-    c.receive_welcome.ensures.same (arrived c.args.shard.now c.receive_welcome.new.shard x stop c.receive_welcome.requires (c.in_ok-receive_welcome.ensures.ok stop)) refl refl
+    let t = share c.receive_welcome.new.self (record hand { next = hand.next + 1 }) in
+    let first = drop_one hand.mail.items hand.next x c.requires.some ∙ ap (λ y. y ∷ rest) (sym c.index.ensures) in
+    kept_received stop s t x rest work first c.receive_welcome.ensures.same
+    (arrived c.args.shard.now c.receive_welcome.new.self x stop (welcome stop s x rest work first) (c.in_ok-receive_welcome.ensures.ok stop)) refl refl

@@ -1,31 +1,22 @@
-use Rattle.std.proofs.Common.{rules, ◌≡◌, ◌≤◌, ◌×◌, ℕ, Ok, Err, arith, ap, sym, subst}
+use Rattle.std.proofs.Common.{rules, ◌≡◌, ◌≤◌, Err, refl, sym, subst}
 use Rattle.tw_core.specs.declared.refusal.Refusal.TheVariants as refusal
 use Rattle.tw_model.specs.declared.memory.OrMemory.TheVariants as or_memory
 use Rattle.tw_shard.proofs.Leasts.{one_told, refused_later}
-use Rattle.tw_shard.specs.Shard.{core, handling, handling_least}
+use Rattle.tw_shard.specs.Shard.{handling, handling_least}
 use Rattle.tw_table.specs.Shares.{share}
-use Rattle.tw_workers.proofs.Places.{kept_both, kept_handled, work_kept}
+use Rattle.tw_workers.proofs.Places.{kept_both, kept_least, work_kept}
 use Rattle.tw_workers.specs.Work.{Kept, Worker}
 use Rattle.tw_workers.proofs.worker.Worker.handle_before.Goals as goal
-use Rattle.tw_workers.proofs.worker.Worker.handle_before.Goals.{In-Ok}
-
-until : (c : goal.After-handle_least) → c.args.limit ≤ c.self.inside.stop
-until c = let same = ap (λ (w : Worker). w.stop) c.self.view_is in let most = c.requires in omega arith
-
--- what is kept where an event was handled
-kept : (c : In-Ok) → Kept c.self.inside.stop (share c.self.inside.shard c.self.inside.hand) (share c.handle_least.new.self c.self.inside.hand)
-kept c =
-    let inside = c.self.inside in
-    let s = share inside.shard inside.hand in
-    let t = share c.handle_least.new.self inside.hand in
-    let told = one_told inside.stop inside.shard (Ok (core inside.stop c.handle_least.new.self)) (c.in-Ok.ensures.ok inside.stop (until c.After-handle_least)) (λ none. cc none) in
-    kept_handled inside.stop told.0 s t c.self.invariant.work c.in-Ok.ensures.same told.1 refl refl
 
 pub invariant_of-self : goal.invariant_of-self
 invariant_of-self c =
     let inside = c.self.inside in
+    let s = share inside.shard inside.hand in
+    let t = share c.handle_least.new.self inside.hand in
+    let until : c.args.limit ≤ inside.stop = subst (λ (w : Worker). c.args.limit ≤ w.stop) (sym c.self.view_is) c.requires in
+    let kept = kept_least inside.stop s t c.self.invariant.work c.in-Ok.ensures.same (c.in-Ok.ensures.ok inside.stop until) refl refl in
     record {
-      work = work_kept inside.stop (share inside.shard inside.hand) (share c.handle_least.new.self inside.hand) c.self.invariant.work (kept (goal.at.invariant_of-self c).In-Ok);
+      work = work_kept inside.stop s t c.self.invariant.work kept;
       stop = c.self.invariant.stop;
       none = c.self.invariant.none;
     }
@@ -33,16 +24,20 @@ invariant_of-self c =
 pub returns-in-Ok-clause-kept : goal.returns-in-Ok-clause-kept
 returns-in-Ok-clause-kept c = λ since before.
     let inside = c.self.inside in
-    kept_both inside.stop since (share inside.shard inside.hand) (share c.handle_least.new.self inside.hand)
-    (subst (λ (w : Worker). Kept w.stop since w.share) (sym c.self.view_is) before) (kept (goal.at.returns-in-Ok-clause-kept c).In-Ok)
+    let s = share inside.shard inside.hand in
+    let t = share c.handle_least.new.self inside.hand in
+    let until : c.args.limit ≤ inside.stop = subst (λ (w : Worker). c.args.limit ≤ w.stop) (sym c.self.view_is) c.requires in
+    let kept = kept_least inside.stop s t c.self.invariant.work c.in-Ok.ensures.same (c.in-Ok.ensures.ok inside.stop until) refl refl in
+    kept_both inside.stop since s t (subst (λ (w : Worker). Kept w.stop since w.share) (sym c.self.view_is) before) kept
 
 pub returns-in-Err-Fault-CounterFull-clause-full : goal.returns-in-Err-Fault-CounterFull-clause-full
 returns-in-Err-Fault-CounterFull-clause-full c = λ is.
     let arm = c.in-Err-Fault-CounterFull in
     let inside = c.self.inside in
+    let until : c.args.limit ≤ inside.stop = subst (λ (w : Worker). c.args.limit ≤ w.stop) (sym c.self.view_is) c.requires in
     let told : c.handle_least.result ≡ Err (or_memory.Fault refusal.CounterFull) = search rules in
     let at = one_told c.args.limit inside.shard (Err refusal.CounterFull) ((c.handle_least.ensures.refused refusal.CounterFull).0 told) (λ none. cc none) in
-    let full = refused_later c.args.limit inside.stop inside.shard at.0 refusal.CounterFull (until (goal.at.returns-in-Err-Fault-CounterFull-clause-full c).After-handle_least) (λ none. cc none) at.1 in
+    let full = refused_later c.args.limit inside.stop inside.shard at.0 refusal.CounterFull until (λ none. cc none) at.1 in
     (at.0, subst (λ s. handling inside.stop s at.0 ≡ Err refusal.CounterFull) (sym arm.ensures.err) full)
 
 -- where its router has no room

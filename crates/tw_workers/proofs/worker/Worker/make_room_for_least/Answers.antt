@@ -18,4 +18,4 @@ make_room-requires c =
     let first : least event_before s.pending ≡ Some c.in-Some.event =
     ap (least event_before) (sym c.pending.ensures)
     ∙ (least_first (simulation s.case) law c.pending.result.now.events c.least.ensures.queue.rising ∙ (sym c.least.ensures.first ∙ c.in-Some.is)) in
-    subst (λ (w : Worker). owns w.share.shard c.in-Some.event.dst ≡ true) c.self.view_is (own_least c.requires.0 s c.in-Some.event first full)
+    record { own = subst (λ (w : Worker). owns w.share.shard c.in-Some.event.dst ≡ true) c.self.view_is (own_least c.requires.0 s c.in-Some.event first full) }
