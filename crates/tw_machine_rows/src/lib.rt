@@ -6,8 +6,6 @@
 #[cfg(test)]
 mod ample;
 #[cfg(test)]
-mod dealt;
-#[cfg(test)]
 mod exchange;
 #[cfg(test)]
 mod lazy;
