@@ -5,7 +5,7 @@ use crate::moving::{hand_over, shard};
 use crate::shards::welcomes;
 use crate::table::sit_down;
 use std::alloc::Global;
-use tw_exchange::Exchange;
+use tw_exchange::{Exchange, Parcels};
 use tw_instance::Case;
 use tw_rows::cases::case;
 use tw_rows::texts::DISAGREE;
@@ -23,6 +23,28 @@ fn visits(alloc: Global) -> bool {
         return false;
     };
     exchange.visit(0, out, None).is_ok()
+}
+
+/// Whether a worker deals two messages and deposits them in a new exchange.
+fn deals_and_visits(alloc: Global) -> bool {
+    let Ok(mut exchange) = Exchange::new(alloc, 2, 0, 20) else {
+        return false;
+    };
+    let Ok(owners) = exchange.owners() else {
+        return false;
+    };
+    let mut parcels = Parcels::new(alloc);
+    if parcels.deal(&owners, 2, &offers_of_origin()).is_err() {
+        return false;
+    }
+    exchange
+        .visit_dealt(0, &mut parcels, None, &mut Vec::new(alloc))
+        .is_ok()
+}
+
+#[test]
+fn a_worker_deals_and_visits(rt: HostRuntime) {
+    assert!(rt; deals_and_visits(rt.alloc()));
 }
 
 #[test]

@@ -7,7 +7,7 @@ use tw_exchange::{Back, Exchange, Signed, Visit, VisitFault};
 use tw_model::OrMemory;
 
 /// An exchange of two workers, with the bound 0 and the stop 20.
-fn exchange(alloc: Global) -> Result<Exchange, AllocError> {
+pub(crate) fn exchange(alloc: Global) -> Result<Exchange, AllocError> {
     match Exchange::new(alloc, 2, 0, 20) {
         Err(_) => Exchange::new(alloc, 2, 0, 20),
         made => made,

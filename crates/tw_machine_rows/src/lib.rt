@@ -6,6 +6,8 @@
 #[cfg(test)]
 mod ample;
 #[cfg(test)]
+mod dealt;
+#[cfg(test)]
 mod exchange;
 #[cfg(test)]
 mod lazy;

@@ -18,7 +18,7 @@ fn made(alloc: Global, owners: &[u32]) -> Result<Exchange, AllocError>
 }
 
 /// The same, once more where memory was refused.
-fn owned(alloc: Global, owners: &[u32]) -> Result<Exchange, AllocError>
+pub(crate) fn owned(alloc: Global, owners: &[u32]) -> Result<Exchange, AllocError>
     ensures { IfOk result (λ x. x ≡ opening_owned owners.now 2 0 20) }
 {
     match made(alloc, owners) {
