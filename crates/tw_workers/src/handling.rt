@@ -95,7 +95,8 @@ impl<'a> Worker<'a> {
 
     /// Whether its routers have sent something, and no event of the tick is left.
     fn is_own_mail_due(&self) -> bool {
-        !self.shard.outgoing().is_empty() && !self.pace.is_of_tick(self.shard.pending().least_time())
+        !self.shard.outgoing().is_empty()
+            && !self.pace.is_of_tick(self.shard.pending().least_time())
     }
 
     /// What its routers have sent is sorted: what is for them comes to them.
