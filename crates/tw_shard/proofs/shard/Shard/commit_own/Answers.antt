@@ -1,4 +1,4 @@
-use Rattle.std.proofs.Common.{◌≡◌, ◌≤◌, ◌*◌, refl, ap, sym, ◌∙◌, subst, true, set, get_or, arith}
+use Rattle.std.proofs.Common.{◌≡◌, ◌≤◌, refl, ap, sym, ◌∙◌, subst, true, set, get_or, arith}
 use Rattle.std.specs.List.{AllByRecursion}
 use Rattle.tw_shard.specs.Commit.{committed_to}
 use Rattle.tw_shard.proofs.Commits.{kept_history}

@@ -1,4 +1,4 @@
-use Rattle.std.proofs.Common.{◌≡◌, Some, true, slice_get, ap, sym, ◌∙◌, subst}
+use Rattle.std.proofs.Common.{◌≡◌, true, slice_get, ap, sym, ◌∙◌, subst}
 use Rattle.tw_core.specs.Steps.{first_pending}
 use Rattle.tw_event.specs.Order.{event_before}
 use Rattle.tw_model.proofs.Lawful.{lawful}

@@ -1,5 +1,4 @@
 use Rattle.std.proofs.Common.{IfSome, ◌≡◌, ap, sym, ◌∙◌, subst, true}
-use Rattle.tw_event.specs.declared.event.Event.{Event}
 use Rattle.tw_model.specs.Effect.{suits}
 use Rattle.tw_core.specs.Steps.{first_pending}
 use Rattle.tw_model.specs.Case.{simulation}

@@ -1,4 +1,4 @@
-use Rattle.std.proofs.Common.{◌≡◌, ◌++◌, map, min, option_map, ap, ◌∙◌}
+use Rattle.std.proofs.Common.{◌≡◌, ◌++◌, map, min, ap, ◌∙◌}
 use Rattle.std.specs.List.{reduce}
 use Rattle.tw_event.specs.declared.event.Event.{Event}
 use Rattle.tw_shard.specs.Shard.{Shard}

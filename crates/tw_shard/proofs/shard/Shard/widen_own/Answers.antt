@@ -1,5 +1,4 @@
-use Rattle.std.proofs.Common.{◌≡◌, ◌≤◌, ◌*◌, refl, ap, sym, ◌∙◌, subst, true, set, get_or, arith}
-use Rattle.std.specs.List.{AllByRecursion}
+use Rattle.std.proofs.Common.{◌≡◌, ◌*◌, refl, ap, sym, ◌∙◌, subst, true, set, get_or, arith}
 use Rattle.tw_shard.specs.Inside.{shard_of}
 use Rattle.tw_shard.specs.Shard.{no_timeline, owns, place, timeline}
 use Rattle.tw_shard.proofs.Fields.{changed_shard, other_items}

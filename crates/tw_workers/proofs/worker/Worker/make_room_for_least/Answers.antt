@@ -1,10 +1,10 @@
-use Rattle.std.proofs.Common.{◌≡◌, Err, Some, true, slice_get, ap, sym, ◌∙◌, subst}
+use Rattle.std.proofs.Common.{◌≡◌, Err, Some, true, ap, sym, ◌∙◌, subst}
 use Rattle.tw_core.specs.declared.refusal.Refusal.TheVariants.{AheadFull}
 use Rattle.tw_event.specs.Order.{event_before}
 use Rattle.tw_model.proofs.Lawful.{lawful}
 use Rattle.tw_model.specs.Case.{simulation}
 use Rattle.tw_shard.proofs.Queues.{least_first}
-use Rattle.tw_shard.specs.Shard.{Shard, handling_least, owns}
+use Rattle.tw_shard.specs.Shard.{handling_least, owns}
 use Rattle.tw_sim.specs.Ordered.{least}
 use Rattle.tw_workers.proofs.Places.{own_least}
 use Rattle.tw_workers.specs.Work.{Worker}
