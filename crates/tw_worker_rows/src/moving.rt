@@ -3,11 +3,13 @@
 
 ghost use Rattle.std.specs.Prelude.{◌≡◌, ◌<◌, IfSome};
 
-use crate::messages::{antimessage, early_offers_of_2, offers_of_1, offers_of_2, offers_of_origin};
 use crate::shards::{handle, receive, undo};
 use std::alloc::Global;
 use tw_event::PathNo;
 use tw_instance::Case;
+use tw_machine_rows::messages::{
+    antimessage, early_offers_of_2, offers_of_1, offers_of_2, offers_of_origin,
+};
 use tw_rows::cases::case;
 use tw_rows::texts::DISAGREE;
 use tw_shard::{OrMemory, Refusal, Shard};

@@ -3,17 +3,17 @@
 ghost use Rattle.std.specs.Prelude.{◌≡◌, ◌≤◌, [], ◌∷◌, IfOk, IfSome, List, OnSome, OnTrue};
 ghost use Rattle.tw_event.specs.declared.event.Event.{Event as AnEvent};
 ghost use Rattle.tw_exchange.specs.Board.{AreDealt, handed, visited, workers};
-ghost use Rattle.tw_machine_rows.specs.Sitting.{IsBeginning, IsReady};
+ghost use Rattle.tw_worker_rows.specs.Sitting.{IsBeginning, IsReady};
 ghost use Rattle.tw_sim.specs.declared.machine.Signed.{Signed as ASigned};
 ghost use Rattle.tw_table.specs.declared.table.Table.{Table as ATable};
 ghost use Rattle.tw_table.specs.Seats.{IsSameSeat, IsSeatOf, exchange_of, owners_on, share_of, workers_at};
 ghost use Rattle.tw_table.specs.Shares.{share, shares_of};
 
-use crate::messages::offers_of_origin;
 use std::alloc::{AllocError, Global};
 use std::sync::Wait;
 use tw_event::Event;
 use tw_instance::Case;
+use tw_machine_rows::messages::offers_of_origin;
 use tw_rows::cases::case;
 use tw_rows::texts::DISAGREE;
 use tw_shard::Shard;

@@ -7,11 +7,11 @@ ghost use Rattle.tw_exchange.specs.Owners.{list_of};
 ghost use Rattle.tw_sim.specs.declared.machine.Signed.{Signed as ASigned};
 
 use crate::exchange::{exchange, visit};
-use crate::messages::{early_offers_of_2, list, offers_of_1, offers_of_origin};
 use crate::owners::owned;
 use std::alloc::Global;
 use tw_event::Event;
 use tw_exchange::{Exchange, Owners, Parcels, Signed, Told, VisitFault};
+use tw_machine_rows::messages::{early_offers_of_2, list, offers_of_1, offers_of_origin};
 use tw_model::OrMemory;
 
 /// What says the worker of each router, once more where memory was refused.

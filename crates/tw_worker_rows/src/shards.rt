@@ -3,13 +3,13 @@
 ghost use Rattle.std.specs.Prelude.{◌≡◌, ◌<◌, ◌≤◌, true};
 ghost use Rattle.tw_model.specs.declared.limits.TheConstants.{LATEST};
 
-use crate::messages::{
-    antimessage, early_offers_of_2, list, offers_of_1, offers_of_2, offers_of_origin,
-};
 use std::alloc::{AllocError, Global};
 use tw_event::{Event, PathNo};
 use tw_handlers::does_suit;
 use tw_instance::Case;
+use tw_machine_rows::messages::{
+    antimessage, early_offers_of_2, list, offers_of_1, offers_of_2, offers_of_origin,
+};
 use tw_rows::cases::case;
 use tw_rows::texts::DISAGREE;
 use tw_shard::{OrMemory, Refusal, Rejection, Returned, Shard};

@@ -4,10 +4,10 @@ ghost use Rattle.std.specs.Prelude.{◌≡◌, [], ◌∷◌, IfOk};
 ghost use Rattle.tw_exchange.specs.Board.{opening_owned, visited};
 
 use crate::exchange::{hands_out, is_back, visit};
-use crate::messages::{list, offers_of_1, offers_of_origin};
 use std::alloc::{AllocError, Global};
 use tw_event::Event;
 use tw_exchange::{Exchange, Signed, VisitFault};
+use tw_machine_rows::messages::{list, offers_of_1, offers_of_origin};
 
 /// An exchange of two workers with these owners, with the bound 0 and the stop 20.
 fn made(alloc: Global, owners: &[u32]) -> Result<Exchange, AllocError>

@@ -1,9 +1,9 @@
 //! The exchange by calls.
 
-use crate::messages::{list, offers_of_1, offers_of_origin};
 use std::alloc::{AllocError, Global};
 use tw_event::Event;
 use tw_exchange::{Back, Exchange, Signed, Visit, VisitFault};
+use tw_machine_rows::messages::{list, offers_of_1, offers_of_origin};
 use tw_model::OrMemory;
 
 /// An exchange of two workers, with the bound 0 and the stop 20.

@@ -1,0 +1,19 @@
+//! Worked rows of what the workers of a parallel run have, as tests: the exchange, a shard, and the table of two workers.
+//!
+//! Each test tries a call once more where memory was refused, as those of `tw_rows` do.
+#![tactic(auto)]
+
+#[cfg(test)]
+mod ample;
+#[cfg(test)]
+mod dealt;
+#[cfg(test)]
+mod exchange;
+#[cfg(test)]
+mod moving;
+#[cfg(test)]
+mod owners;
+#[cfg(test)]
+mod shards;
+#[cfg(test)]
+mod table;
