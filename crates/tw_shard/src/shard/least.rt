@@ -56,8 +56,16 @@ impl<'a> Shard<'a> {
         if !self.copy_least(limit, &mut event) {
             return Err(OrMemory::Fault(Refusal::Nothing));
         }
+        self.count_tick(event.time);
         self.handle_first(&event)?;
         Ok(event.time)
+    }
+
+    /// A tick is counted that comes after all that were handled.
+    fn count_tick(&mut self, time: u64)
+        ensures { self.new ≡ self.old }
+    {
+        self.ticks = self.ticks.saturating_add(u64::from(self.latest < time));
     }
 
     /// Copies the least pending event where it is before a limit, and tells whether it did.
@@ -130,10 +138,7 @@ impl<'a> Shard<'a> {
             &mut self.outgoing,
         )?;
         self.pending.skip_least();
-        if self.latest < event.time {
-            self.latest = event.time;
-            self.ticks = self.ticks.saturating_add(1);
-        }
+        self.latest = self.latest.max(event.time);
         Ok(())
     }
 }

@@ -88,6 +88,7 @@ returns-clause-ok c =
       held = c.undo_at.new.held;
       sends = c.undo_at.new.sends;
       latest = a.latest;
+      ticks = a.ticks;
       bound = a.bound;
       keeps = a.keeps;
       cancel = a.cancel;
