@@ -1,6 +1,7 @@
 //! Messages that are dealt before a visit, by calls.
 
-ghost use Rattle.std.specs.Prelude.{◌≡◌, [], IfSome, List, OnTrue};
+ghost use Rattle.std.specs.Bool.{OnTrue};
+ghost use Rattle.std.specs.Prelude.{◌≡◌, [], IfSome, List};
 ghost use Rattle.tw_event.specs.declared.event.Event.{Event as AnEvent};
 ghost use Rattle.tw_exchange.specs.Board.{AreDealt, workers};
 ghost use Rattle.tw_exchange.specs.Owners.{list_of};

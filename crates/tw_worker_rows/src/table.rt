@@ -1,6 +1,7 @@
 //! The table by calls: two workers of DISAGREE meet there.
 
-ghost use Rattle.std.specs.Prelude.{◌≡◌, ◌≤◌, [], ◌∷◌, IfOk, IfSome, List, OnSome, OnTrue};
+ghost use Rattle.std.specs.Bool.{OnTrue};
+ghost use Rattle.std.specs.Prelude.{◌≡◌, ◌≤◌, [], ◌∷◌, IfOk, IfSome, List, OnSome};
 ghost use Rattle.tw_event.specs.declared.event.Event.{Event as AnEvent};
 ghost use Rattle.tw_exchange.specs.Board.{AreDealt, handed, visited, workers};
 ghost use Rattle.tw_worker_rows.specs.Sitting.{IsBeginning, IsReady};

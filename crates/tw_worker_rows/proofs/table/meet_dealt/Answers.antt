@@ -1,6 +1,6 @@
 use Rattle.std.proofs.Common.{◌++◌, map, max, min, ap, sym, ◌∙◌, subst}
 use Rattle.std.specs.List.{reduce}
-use Rattle.std.specs.Prelude.{OnTrue}
+use Rattle.std.specs.Bool.{OnTrue}
 use Rattle.tw_exchange.specs.Board.{AreDealt, Board, handed, visited, workers}
 use Rattle.tw_worker_rows.proofs.Sittings.{may_give}
 use Rattle.tw_table.specs.Seats.{exchange_of, owners_on, share_of, workers_at}
