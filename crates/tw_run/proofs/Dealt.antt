@@ -51,7 +51,7 @@ fits s d crew checkpoints some few =
     let nodes = s.case.net.nodes in
     let f = owner_after d crew nodes checkpoints in
     rw (length-map-range_with_len f 0 nodes, eq-eqb nodes nodes refl) (all_in_range f (workers s.board) 0 nodes (λ r there.
-        let its = owner_within d crew nodes checkpoints r some (omega (arith, there)) in omega (arith, its, few)))
+    let its = owner_within d crew nodes checkpoints r some (omega (arith, there)) in omega (arith, its, few)))
 
 -- nothing has changed
 pub goes_on_same : (s : Sim) → GoesOn s s
