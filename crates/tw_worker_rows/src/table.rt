@@ -1,13 +1,10 @@
 //! The table by calls: two workers of DISAGREE meet there.
 
-ghost use Rattle.std.specs.Bool.{OnTrue};
 ghost use Rattle.std.specs.Prelude.{◌≡◌, ◌≤◌, [], ◌∷◌, IfOk, IfSome, List, OnSome};
-ghost use Rattle.tw_event.specs.declared.event.Event.{Event as AnEvent};
-ghost use Rattle.tw_exchange.specs.Board.{AreDealt, handed, visited, workers};
+ghost use Rattle.tw_exchange.specs.Board.{handed, visited};
 ghost use Rattle.tw_worker_rows.specs.Sitting.{IsBeginning, IsReady};
-ghost use Rattle.tw_sim.specs.declared.machine.Signed.{Signed as ASigned};
 ghost use Rattle.tw_table.specs.declared.table.Table.{Table as ATable};
-ghost use Rattle.tw_table.specs.Seats.{IsSameSeat, IsSeatOf, exchange_of, owners_on, share_of, workers_at};
+ghost use Rattle.tw_table.specs.Seats.{IsSameSeat, IsSeatOf, exchange_of, share_of};
 ghost use Rattle.tw_table.specs.Shares.{share, shares_of};
 
 use std::alloc::{AllocError, Global};
@@ -20,7 +17,7 @@ use tw_rows::texts::DISAGREE;
 use tw_shard::Shard;
 use tw_sim::Signed;
 use tw_table::laws::new_is_ruled;
-use tw_table::{Exchange, Hand, Held, Missing, Parcels, Seat, Table, Told, Visit};
+use tw_table::{Exchange, Hand, Held, Missing, Seat, Table, Visit};
 use tw_workers::laws::shares_are_at_work;
 
 /// A worker at a table, with its routers and its hand.
@@ -160,69 +157,6 @@ fn meet<'a, R: Wait>(rt: &R, table: &Table, worker: Sitting<'a>) -> Option<Sitti
     Some(Sitting { seat, shard, hand })
 }
 
-/// Whether messages are dealt to the workers of a table, once more where memory was refused.
-fn deal(table: &Table, parcels: &mut Parcels, messages: &[Signed<Event>]) -> bool
-    ensures { OnTrue result (AreDealt (owners_on table.now) (workers_at table.now) messages.now parcels.new) }
-{
-    if let Ok(()) = table.deal(parcels, messages) {
-        return true;
-    }
-    match table.deal(parcels, messages) {
-        Ok(()) => true,
-        Err(_) => false,
-    }
-}
-
-/// A worker that has taken the exchange visits it with what is dealt, once more where memory was refused.
-fn visit_dealt(
-    held: &mut Held,
-    parcels: &mut Parcels,
-    report: Option<u64>,
-    mail: &mut Vec<Signed<Event>>,
-) -> Option<Told>
-    requires dealt { (out : List (ASigned AnEvent)) × AreDealt (exchange_of held.old).owners (workers (exchange_of held.old)) out parcels.old }
-    requires empty { mail.old.items ≡ [] }
-    ensures board { OnSome result ((out : List (ASigned AnEvent)) → AreDealt (exchange_of held.old).owners (workers (exchange_of held.old)) out parcels.old
-        → exchange_of held.new ≡ visited (share_of held.old).shard.worker out report (exchange_of held.old)) }
-    ensures mail { OnSome result ((out : List (ASigned AnEvent)) → AreDealt (exchange_of held.old).owners (workers (exchange_of held.old)) out parcels.old
-        → mail.new.items ≡ handed (share_of held.old).shard.worker out (exchange_of held.old)) }
-    ensures bound { IfSome result (λ told. told.bound ≡ (exchange_of held.new).bound) }
-    ensures rising { OnSome result ((exchange_of held.old).bound ≤ (exchange_of held.new).bound) }
-    ensures same { OnSome result (IsSameSeat held.old held.new) }
-{
-    if let Ok(told) = held.visit_dealt(parcels, report, mail) {
-        return Some(told);
-    }
-    match held.visit_dealt(parcels, report, mail) {
-        Ok(told) => Some(told),
-        Err(_) => None,
-    }
-}
-
-/// As [`meet`], where what its routers have sent is dealt before the exchange is taken.
-fn meet_dealt<'a, R: Wait>(rt: &R, table: &Table, worker: Sitting<'a>) -> Option<Sitting<'a>>
-    requires { IsReady table.now worker.seat (share worker.shard worker.hand) }
-    ensures { IfSome result (λ w. IsSeatOf table.now w.seat) }
-{
-    let Sitting {
-        seat,
-        mut shard,
-        mut hand,
-    } = worker;
-    let out = shard.take_out();
-    let mut parcels = Parcels::new(*out.allocator());
-    if !deal(table, &mut parcels, &out) {
-        return None;
-    }
-    let mut held = table.take(rt, seat);
-    hand.mail.clear();
-    hand.next = 0;
-    let told = visit_dealt(&mut held, &mut parcels, shard.report_time(), &mut hand.mail)?;
-    shard.raise_bound(told.bound);
-    let seat = table.give(rt, held, &shard, &hand);
-    Some(Sitting { seat, shard, hand })
-}
-
 /// The exchange of a table that does not close with the first seat alone, but with both. The list is empty.
 fn close<R: Wait>(
     rt: &R,
@@ -269,7 +203,7 @@ fn two_workers_hand_each_other_mail(rt: HostRuntime) {
     };
     let [for_1, for_2] = offers_of_origin();
     assert!(rt; has_sent(&first, &[for_1, for_2]) && has_sent(&second, &[]));
-    let Some(first) = meet_dealt(&rt, &table, first) else {
+    let Some(first) = meet(&rt, &table, first) else {
         panic!(rt; "the first visit is refused")
     };
     assert!(rt; is_told(&first, &[for_2], 0));
