@@ -1,4 +1,4 @@
-//! Worked rows of what the workers of a parallel run have, as tests: the exchange, a shard, and the table of two workers.
+//! Worked rows of what the workers of a parallel run have, as tests: a shard, and the table of two workers.
 //!
 //! Each test tries a call once more where memory was refused, as those of `tw_rows` do.
 #![tactic(auto)]
@@ -6,13 +6,7 @@
 #[cfg(test)]
 mod ample;
 #[cfg(test)]
-mod dealt;
-#[cfg(test)]
-mod exchange;
-#[cfg(test)]
 mod moving;
-#[cfg(test)]
-mod owners;
 #[cfg(test)]
 mod shards;
 #[cfg(test)]

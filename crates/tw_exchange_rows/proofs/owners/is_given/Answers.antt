@@ -1,7 +1,7 @@
 use Rattle.std.proofs.Common.{◌<◌, ◌≡◌, false, arith, subst, sym}
 use Rattle.std.specs.List.{AllByRecursion}
 use Rattle.tw_exchange.specs.Board.{IsListed, all_mail, is_to, workers}
-use Rattle.tw_worker_rows.proofs.owners.is_given.Goals as goal
+use Rattle.tw_exchange_rows.proofs.owners.is_given.Goals as goal
 
 pub set_owner-requires-clause-listed : goal.set_owner-requires-clause-listed
 set_owner-requires-clause-listed c = subst (IsListed 1) (sym c.requires) (omega arith)
