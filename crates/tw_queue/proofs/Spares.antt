@@ -1,8 +1,9 @@
 -- The events of the table and the spare list together.
 use Rattle.std.proofs.Common.{◌≡◌, ◌<◌, ◌+◌, ◌++◌, ◌↔◌, cond, ℕ, Bool, true, false, List}
-use Rattle.std.proofs.Common.{[], ◌∷◌, IfSome, filter, length, slice_get, refl, ap, sym, ◌∙◌, subst, inl, inr, arith}
+use Rattle.std.proofs.Common.{[], ◌∷◌, IfSome, None, Option, Some, filter, length, slice_get, refl, ap, sym, ◌∙◌, subst, inl, inr, arith}
 use Rattle.std.specs.List.Sorted.{IsPermutation, IsSorted}
 use Rattle.std.proofs.lemmas.Bool.{cases_Bool, false≢true}
+use Rattle.std.proofs.lemmas.Option.{none-some, same_Some}
 use Rattle.tw_sim.proofs.Counts.{none}
 use Rattle.tw_event.specs.declared.event.Event.{Event}
 use Rattle.tw_event.specs.Order.{event_before, event_same}
@@ -130,6 +131,19 @@ module _ (p : Event → Bool) where
 
 pub least_whole : (xs ys : List Event) → least_with (slice_get ys 0) xs ≡ slice_get (insert_all event_before xs ys) 0
 least_whole xs ys = first-insert_all xs ys
+
+-- where another event than the least is taken out, the least stays
+pub unmoved : (e least : Event) (o : Option Event) (xs zs : List Event) → o ≡ Some least → event_same e least ≡ false → o ≡ slice_get xs 0 → zs ≡ take_out event_same e xs → o ≡ slice_get zs 0
+unmoved e least o [] zs some other before left = absurd (none-some least (sym before ∙ some))
+unmoved e least o (x ∷ xs) zs some other before left =
+    let is : x ≡ least = same_Some x least (sym before ∙ some) in
+    let stays : take_out event_same e (x ∷ xs) ≡ x ∷ take_out event_same e xs = ap (λ b. cond b xs (x ∷ take_out event_same e xs)) (ap (event_same e) is ∙ other) in
+    before ∙ ap (λ ys. slice_get ys 0) (sym (left ∙ stays))
+
+-- of nothing, nothing is left
+pub none_left : (e : Event) (o : Option Event) (xs zs : List Event) → o ≡ None → o ≡ slice_get xs 0 → zs ≡ take_out event_same e xs → None ≡ slice_get zs 0
+none_left e o [] zs none before left = ap (λ ys. slice_get ys 0) (sym left)
+none_left e o (x ∷ xs) zs none before left = absurd (none-some x (sym none ∙ before))
 
 pub first_home : (n : ℕ) (xs : List Event) → AreFor n xs → IfSome (slice_get xs 0) (λ e. e.dst < n)
 first_home n [] h = tt

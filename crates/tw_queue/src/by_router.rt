@@ -1,15 +1,16 @@
 //! Pending events by router.
 
 ghost use Rattle.std.specs.Prelude.{◌≡◌, ◌↔◌, ◌+◌, ◌-◌, ◌<◌, ◌≤◌, ◌==◌, IfOk, IfSome, IsOk, IsTrue, OnErr, OnOk};
-ghost use Rattle.std.specs.Prelude.{[], if◌then◌else◌, filter, length, slice_get, vec_capacity, vec_len};
+ghost use Rattle.std.specs.Prelude.{[], if◌then◌else◌, List, filter, length, slice_get, vec_capacity, vec_len};
 ghost use Rattle.std.specs.Option.{option_copied};
+ghost use Rattle.tw_event.specs.declared.event.Event.{Event as AnEvent};
 ghost use Rattle.tw_event.specs.Order.{event_before, event_same};
 ghost use Rattle.tw_queue.specs.InOrder.{least_with};
 ghost use Rattle.tw_queue.specs.Queue.{AreFor, IsInOrder, IsQueue};
 ghost use Rattle.tw_sim.specs.Ordered.{insert, insert_all, take_out, times};
 
 use crate::queue_table::QueueTable;
-use crate::search::{count_of, least_of, remove_from, sooner};
+use crate::search::{count_of, earlier, least_of, remove_from, sooner};
 use std::alloc::{AllocError, Global};
 use std::marker::Model;
 use tw_event::Event;
@@ -25,6 +26,8 @@ pub(crate) struct ByRouter {
     table: QueueTable,
     // Where an event goes that its queue has no memory for: room is reserved here alone.
     spare: Vec<Event>,
+    // The least event of all, so that it is not sought again and again.
+    first: Option<Event>,
     len: usize,
 }
 
@@ -53,6 +56,7 @@ impl ByRouter {
             routers,
             table,
             spare: Vec::new(alloc),
+            first: None,
             len: 0,
         })
     }
@@ -100,6 +104,7 @@ impl ByRouter {
             return Err(AllocError);
         }
         place(&mut self.table, &mut self.spare, event)?;
+        self.first = Some(earlier(event, self.first));
         self.len += 1;
         Ok(())
     }
@@ -110,7 +115,7 @@ impl ByRouter {
         ensures home { IfSome result (λ e. e.dst < self.now.routers) }
         ensures queue { IsQueue self.now }
     {
-        least_of(self.table.least(), &self.spare)
+        self.first
     }
 
     /// How often this event is pending.
@@ -134,6 +139,7 @@ impl ByRouter {
         if removed {
             self.len -= 1;
         }
+        self.first = first_without(self.first, event, &self.table, &self.spare);
         removed
     }
 
@@ -164,6 +170,27 @@ impl ByRouter {
         self.table.append_to(&mut events)?;
         events.sort_unstable();
         Ok(events)
+    }
+}
+
+// The least event of a table and of the spare list from which an event was taken out, where there was this one before:
+// only where it goes, another is the least.
+fn first_without(
+    first: Option<Event>,
+    event: &Event,
+    table: &QueueTable,
+    spare: &[Event],
+) -> Option<Event>
+    requires { IsInOrder table.now }
+    ensures { (events : List AnEvent) → first ≡ slice_get events 0
+        → insert_all event_before spare.now table.now.events ≡ take_out event_same event.now events
+        → result ≡ slice_get (insert_all event_before spare.now table.now.events) 0 }
+{
+    let least = first?;
+    if *event == least {
+        least_of(table.least(), spare)
+    } else {
+        first
     }
 }
 

@@ -49,6 +49,7 @@ impl Ahead {
     }
 
     /// The newest one.
+    #[inline(always)]
     pub(crate) fn last(&self) -> Option<&HandledEvent>
         ensures { option_copied result ≡ slice_get self.now (length self.now - 1) }
     {

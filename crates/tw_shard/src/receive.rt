@@ -61,6 +61,7 @@ impl<'a> Shard<'a> {
     /// A message, or an antimessage, that may come comes to one of its routers, as [`Shard::receive`] has it, without
     /// a test of whether it may. It fails for want of memory alone; then some of the events that are to be undone
     /// may be undone, and nothing else has changed.
+    #[inline(always)]
     pub fn receive_welcome(&mut self, message: &Signed<Event>) -> Result<(), AllocError>
         requires { refusing self.old message.now.event ≡ Ok tt }
         ensures ok { (stop : ℕ) → OnOk result (receiving stop self.old message.now ≡ Ok (core stop self.new)) }
@@ -93,6 +94,7 @@ impl<'a> Shard<'a> {
     }
 
     /// A message comes that may come.
+    #[inline(always)]
     fn take_in(&mut self, message: &Signed<Event>) -> Result<(), AllocError>
         requires own { owns self.old message.now.event.dst ≡ true }
         requires late { self.old.bound ≤ message.now.event.time }
@@ -110,6 +112,7 @@ impl<'a> Shard<'a> {
     }
 
     /// A message comes.
+    #[inline(always)]
     fn arrive(&mut self, event: &Event) -> Result<(), AllocError>
         requires own { owns self.old event.now.dst ≡ true }
         requires late { self.old.bound ≤ event.now.time }
@@ -123,6 +126,19 @@ impl<'a> Shard<'a> {
             self.add_pending(event)?;
             return Ok(());
         }
+        self.arrive_late(event)
+    }
+
+    /// A message comes that may have its antimessage kept, or be before what its router has handled.
+    #[inline(never)]
+    fn arrive_late(&mut self, event: &Event) -> Result<(), AllocError>
+        requires own { owns self.old event.now.dst ≡ true }
+        requires late { self.old.bound ≤ event.now.time }
+        requires suit { suits self.old.case.net event.now.dst event.now ≡ true }
+        ensures ok { (stop : ℕ) → OnOk result (core stop self.new ≡ after_message (simulation self.old.case) (core stop self.old) event.now) }
+        ensures err { OnErr result ((stop : ℕ) → IsRolledBack (simulation self.old.case) event.now (core stop self.old) (core stop self.new)) }
+        ensures same { IsSameShare self.old self.new }
+    {
         if self.take_kept(event) {
             return Ok(());
         }
@@ -132,6 +148,7 @@ impl<'a> Shard<'a> {
     }
 
     /// An antimessage comes.
+    #[inline(never)]
     fn withdraw(&mut self, event: &Event) -> Result<(), AllocError>
         requires own { owns self.old event.now.dst ≡ true }
         requires late { self.old.bound ≤ event.now.time }

@@ -131,6 +131,7 @@ impl<'a> Shard<'a> {
     }
 
     /// The timeline of one of its routers.
+    #[inline(always)]
     pub(crate) fn timeline(&self, router: u32) -> &Timeline<'a>
         requires { owns self.now router ≡ true }
         ensures value { result.now ≡ timeline self.now router }
@@ -311,6 +312,7 @@ impl<'a> Shard<'a> {
     }
 
     /// Whether a router may handle its first pending event, if no counter is full.
+    #[inline(always)]
     fn may_handle(&self, router: u32, event: &Event) -> Result<(), Refusal>
         requires { owns self.now router ≡ true }
         ensures value { result ≡ may_handle self.now router event.now }
@@ -336,6 +338,7 @@ impl<'a> Shard<'a> {
     }
 
     /// An event becomes pending.
+    #[inline(always)]
     pub(crate) fn add_pending(&mut self, event: &Event) -> Result<(), AllocError>
         requires own { owns self.old event.now.dst ≡ true }
         requires suit { suits self.old.case.net event.now.dst event.now ≡ true }
@@ -376,6 +379,7 @@ impl<'a> Shard<'a> {
 
     /// Whether a message can only become pending: no antimessage is kept, and what its router has handled is before
     /// it.
+    #[inline(always)]
     pub(crate) fn comes_last(&self, event: &Event) -> bool
         requires { owns self.now event.now.dst ≡ true }
         ensures kept { OnTrue result (self.now.kept ≡ []) }

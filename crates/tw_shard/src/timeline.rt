@@ -100,6 +100,7 @@ impl<'a> Timeline<'a> {
     }
 
     /// The event that it handled last and has not undone, whether committed or not.
+    #[inline(always)]
     pub(crate) fn newest(&self) -> Option<&Event>
         ensures value { option_copied result ≡ slice_get (history self.now) 0 }
         ensures past { AllByRecursion (λ e. e.time < self.now.done) self.now.past }
@@ -128,6 +129,7 @@ impl<'a> Timeline<'a> {
     }
 
     /// Whether it may handle one more event before it commits.
+    #[inline(always)]
     pub(crate) fn has_room(&self) -> bool
         ensures { IsTrue result ↔ (length self.now.ahead < self.now.room) }
     {
@@ -145,6 +147,7 @@ impl<'a> Timeline<'a> {
     }
 
     /// Whether this is the event that it handled last and has not undone.
+    #[inline(always)]
     pub(crate) fn is_newest(&self, event: &Event) -> bool
         ensures { (case : ACase) → result ≡ is_newest (simulation case) event.now (history self.now) }
     {

@@ -1,6 +1,7 @@
 -- Messages move between the mail of a hand, what is unsent, and what its routers have sent.
-use Rattle.std.proofs.Common.{◌≡◌, ℕ, ◌+◌, ◌<◌, Bool, true, cond, not, List, [], ◌∷◌, ◌++◌, filter, refl, ap, ◌∙◌, subst, inl, inr, arith}
-use Rattle.std.proofs.lemmas.Bool.{cases_Bool, cases_lt}
+use Rattle.std.proofs.Common.{◌≡◌, ℕ, ◌+◌, ◌<◌, Bool, true, cond, not, ◌&&◌, List, [], ◌∷◌, ◌++◌, filter, refl, ap, ◌∙◌, subst, inl, inr, arith}
+use Rattle.std.proofs.lemmas.Bool.{cases_Bool, cases_lt, false≢true}
+use Rattle.std.specs.List.{list_all}
 use Rattle.tw_core.proofs.Counts.{antimessages-append, messages-append}
 use Rattle.tw_core.proofs.Delivery.{part_loose}
 use Rattle.tw_core.specs.Machine.{antimessages, messages}
@@ -58,6 +59,20 @@ module _ {S E : Type 0} (m : Simulation S E) (law : IsLawful m) where
             ]
         | inr fails ↦
             passes_test test e xs (subst (λ b. 0 < times_among m e (cond b (x ∷ filter (λ y. test y.event) xs) (filter (λ y. test y.event) xs))) fails h)
+      ]
+
+  -- so it does where all pass
+  pub all_pass : (test : E → Bool) (xs : List (Signed E)) → list_all (λ x. test x.event) xs ≡ true → (e : E) → 0 < times_among m e xs → test e ≡ true
+  all_pass test [] all e h = absurd (omega arith)
+  all_pass test (x ∷ xs) all e h =
+      let count = of_one_sign e x xs in
+      elim (cases_Bool (test x.event)) [
+        | inl passes ↦
+            elim (one_cases m law e x.event) [
+              | inl none ↦ all_pass test xs (subst (λ b. (b && list_all (λ y. test y.event) xs) ≡ true) passes all) e (omega arith)
+              | inr same ↦ ap test same ∙ passes
+            ]
+        | inr fails ↦ absurd (false≢true (subst (λ b. (b && list_all (λ y. test y.event) xs) ≡ true) fails all))
       ]
 
   -- no message is lost or invented, and none is with the mail that is for another
@@ -137,6 +152,24 @@ kept_sorted stop s work =
                 let b = antimessages-append m e s.mail own in
                 passes_test m law (λ (x : Event). owns s.shard x.dst) e s.shard.outgoing (omega arith)
           ]);
+    }
+
+-- or takes it all, where it is all for its own
+pub kept_taken : (stop : ℕ) (s : Share) → IsAtWork stop s → s.mail ≡ [] → list_all (is_own s.shard) s.shard.outgoing ≡ true
+    → Kept stop s (record { shard = record s.shard { outgoing = [] }; mail = s.shard.outgoing; unsent = s.unsent })
+kept_taken stop s work none own =
+    let m = simulation s.shard.case in
+    let law = lawful s.shard.case work.case in
+    record {
+      case = refl;
+      workers = refl;
+      routers = refl;
+      keeping = refl;
+      cancel = refl;
+      place = keeps_moved m law stop (place_of s) s.shard.outgoing s.unsent [] work.place
+          (λ e. (let a = ap (messages m e) none in omega arith))
+          (λ e. (let a = ap (antimessages m e) none in omega arith))
+          (all_pass m law (λ (x : Event). owns s.shard x.dst) s.shard.outgoing own);
     }
 
 -- or sends it all

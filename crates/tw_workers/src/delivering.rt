@@ -33,6 +33,7 @@ impl<'a> Worker<'a> {
 }
 
 /// The next message of a hand comes to its router.
+#[inline(always)]
 fn receive_next(shard: &mut Shard<'_>, hand: &mut Hand) -> Result<(), AllocError>
     requires some { hand.old.next < length hand.old.mail.items }
     requires work { (stop : ℕ) × IsAtWork stop (share shard.old hand.old) }

@@ -1,6 +1,7 @@
 //! Events are handled, and what they send is sorted: what is for the worker's own routers comes to them
 //! at once.
-ghost use Rattle.std.specs.Prelude.{◌≡◌, ◌++◌, ◌≤◌, ◌+◌, [], ℕ, Err, not, IsErrOf, OnOk, filter, length, vec_capacity, vec_len};
+ghost use Rattle.std.specs.List.{list_all};
+ghost use Rattle.std.specs.Prelude.{◌≡◌, ◌++◌, ◌≤◌, ◌+◌, [], ℕ, Err, not, true, IsErrOf, OnOk, filter, length, vec_capacity, vec_len};
 ghost use Rattle.tw_core.specs.declared.refusal.Refusal.TheVariants as refusal;
 ghost use Rattle.tw_handlers.specs.Calls.{counter_full};
 ghost use Rattle.tw_model.specs.declared.memory.OrMemory.TheVariants as or_memory;
@@ -106,8 +107,24 @@ impl<'a> Worker<'a> {
         ensures empty { OnOk result (self.new.share.mail ≡ []) }
         ensures stop { self.new.stop ≡ self.old.stop }
     {
-        self.sort_out()?;
+        if sends_to_itself(&self.shard) {
+            self.take_own();
+        } else {
+            self.sort_out()?;
+        }
         self.deliver()
+    }
+
+    /// What its routers have sent, all of which is for them, goes into the hand as mail. No message is moved.
+    fn take_own(&mut self)
+        requires mail { self.old.share.mail ≡ [] }
+        requires own { list_all (λ m. owns self.old.share.shard m.event.dst) self.old.share.shard.outgoing ≡ true }
+        ensures kept { StillKeeps self.old self.new }
+        ensures stop { self.new.stop ≡ self.old.stop }
+    {
+        self.hand.mail.clear();
+        self.hand.next = 0;
+        self.shard.swap_outgoing(&mut self.hand.mail);
     }
 
     /// What its routers have sent goes into the hand, which is delivered: what is for them as mail, and what
@@ -164,6 +181,16 @@ impl<'a> Worker<'a> {
             Err(OrMemory::Fault(_)) => Ok(false),
         }
     }
+}
+
+/// Whether all that a shard's routers have sent is for them.
+fn sends_to_itself(shard: &Shard<'_>) -> bool
+    ensures { result ≡ list_all (λ m. owns shard.now m.event.dst) shard.now.outgoing }
+{
+    shard
+        .outgoing()
+        .iter()
+        .all(|message| shard.owns(message.event.dst))
 }
 
 /// Puts what a shard has sent into a hand, in which there is room for it: what is for its own routers

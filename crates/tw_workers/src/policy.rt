@@ -32,7 +32,7 @@ const LONGEST_WAIT: u64 = 64;
 
 /// A commit looks at each of the worker's routers: once in so many events that costs next to nothing, and what
 /// undoing these would need stays small enough for the nearest caches.
-const HANDLED_FOR_EACH_COMMIT: u64 = 2_048;
+const HANDLED_FOR_EACH_COMMIT: u64 = 4_096;
 
 /// How often an idle worker looks at what is told beside the table before it sleeps: some 40 microseconds, in
 /// which most of what it waits for comes where each worker has a processor. A worker that sleeps comes back late,

@@ -1,15 +1,11 @@
 use Rattle.std.proofs.Common.{◌<◌, IfSome, slice_get, ap, sym, subst, ◌∙◌}
-use Rattle.tw_queue.specs.InOrder.{least_with}
 use Rattle.tw_queue.specs.ByRouter.{room_of}
 use Rattle.tw_queue.specs.Queue.{IsQueue}
-use Rattle.tw_queue.proofs.Spares.{first_home, least_whole, whole_queue}
+use Rattle.tw_queue.proofs.Spares.{first_home, whole_queue}
 use Rattle.tw_queue.proofs.by_router.ByRouter.least.Goals as goal
 
 pub returns-clause-first : goal.returns-clause-first
-returns-clause-first c =
-    let a = c.self.inside in
-    c.least_of.ensures ∙ ap (least_with c.least.result) c.deref.ensures.value ∙ ap (λ o. least_with o a.spare.items) c.least.ensures ∙ least_whole a.spare.items a.table.events
-    ∙ ap (λ q. slice_get q.events 0) c.self.view_is
+returns-clause-first c = c.self.invariant.first ∙ ap (λ q. slice_get q.events 0) c.self.view_is
 
 pub returns-clause-queue : goal.returns-clause-queue
 returns-clause-queue c =
