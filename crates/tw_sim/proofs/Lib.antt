@@ -6,4 +6,3 @@ pub mod Rising
 pub mod Least
 pub mod Unique
 pub mod Closed
-pub mod Dealing

@@ -3,4 +3,3 @@ pub mod Rising
 pub mod Simulation
 pub mod Seq
 pub mod Owners
-pub mod Left

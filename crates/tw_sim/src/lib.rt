@@ -14,4 +14,4 @@ mod machine;
 mod owners;
 
 pub use machine::{Cancel, Signed, Step};
-pub use owners::{Routers, own_place, owner};
+pub use owners::owner;
