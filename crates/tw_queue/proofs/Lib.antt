@@ -4,7 +4,7 @@ pub mod Places
 pub mod Lists
 pub mod Updates
 pub mod Rows
-pub mod Groups
+pub mod Leaves
 pub mod Tables
 pub mod Spares
 pub mod Rings

@@ -1,6 +1,8 @@
--- The first place of the least time in a row, which is kept in groups of 32 (own).
-use Rattle.std.specs.Prelude.{◌≡◌, ◌<◌, ◌≤◌, ◌+◌, ◌/◌, ℕ, List, length}
+-- The first place of the least time in a row, whose times are the leaves of a tree (own).
+use Rattle.std.specs.Prelude.{◌≡◌, ◌<◌, ◌≤◌, ◌+◌, ◌*◌, ℕ, List, drop, length, min, take}
+use Rattle.std.specs.Int.{IsPowerOfTwo}
 use Rattle.std.specs.List.{slice_index_or}
+use Rattle.tw_queue.specs.Times.{never}
 use Rattle.tw_queue.specs.declared.least_times.LeastTimes.TheInside.{Inside}
 
 -- no time is less than the one at the place, and each before it is greater
@@ -9,12 +11,34 @@ pub record IsFirstLeast (times : List ℕ) (place : ℕ) : Type 0 where
   pub least : (k : ℕ) → k < length times → slice_index_or times place 0 ≤ slice_index_or times k 0
   pub first : (k : ℕ) → k < place → slice_index_or times place 0 < slice_index_or times k 0
 
--- the least of the 32 times of a group
-pub record IsLeastOfGroup (times : List ℕ) (group least : ℕ) : Type 0 where
-  pub bound : (k : ℕ) → k < length times → k / 32 ≡ group → least ≤ slice_index_or times k 0
-  pub reached : (k : ℕ) × (k < length times) × (k / 32 ≡ group) × (slice_index_or times k 0 ≡ least)
+-- a node has the lesser time of its two children
+abbrev pub IsLesser : ℕ → List ℕ → Type 0
+IsLesser node nodes = slice_index_or nodes node 0 ≡ min (slice_index_or nodes (2 * node) 0) (slice_index_or nodes (2 * node + 1) 0)
 
--- the second row has the least time of each group
-pub record IsGrouped (a : Inside) : Type 0 where
-  pub number : length a.groups.items ≡ (length a.times.items + 31) / 32
-  pub least : (group : ℕ) → group < length a.groups.items → IsLeastOfGroup a.times.items group (slice_index_or a.groups.items group 0)
+-- each node that has children has the lesser time of them
+abbrev pub AreLesser : List ℕ → Type 0
+AreLesser nodes = (node : ℕ) → 0 < node → 2 * node + 1 < length nodes → IsLesser node nodes
+
+-- each has but one
+abbrev pub AreLesserBut : ℕ → List ℕ → Type 0
+AreLesserBut one nodes = (node : ℕ) → 0 < node → 2 * node + 1 < length nodes → (node ≡ one → ⊥) → IsLesser node nodes
+
+-- among the nodes that begin at `level`, as many as its number says, a node has the least time, and each before it a greater one
+pub record IsFirstOfLevel (nodes : List ℕ) (level node : ℕ) : Type 0 where
+  pub from : level ≤ node
+  pub below : node < 2 * level
+  pub least : (k : ℕ) → level ≤ k → k < 2 * level → slice_index_or nodes node 0 ≤ slice_index_or nodes k 0
+  pub first : (k : ℕ) → level ≤ k → k < node → slice_index_or nodes node 0 < slice_index_or nodes k 0
+
+-- the times of the row
+abbrev pub row_of : Inside → List ℕ
+row_of a = take a.count (drop a.leaves a.nodes.items)
+
+-- half of the nodes are leaves, those past the row have the time that stands for no event, and each other node has the lesser time of its children
+pub record IsTree (a : Inside) : Type 0 where
+  pub power : IsPowerOfTwo a.leaves
+  pub len : length a.nodes.items ≡ 2 * a.leaves
+  pub count : a.count ≤ a.leaves
+  pub latest : (k : ℕ) → a.leaves ≤ k → slice_index_or a.nodes.items k 0 ≤ never
+  pub past : (k : ℕ) → a.leaves + a.count ≤ k → k < 2 * a.leaves → slice_index_or a.nodes.items k 0 ≡ never
+  pub lesser : AreLesser a.nodes.items

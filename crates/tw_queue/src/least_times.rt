@@ -1,32 +1,33 @@
 //! The least time of each router, and the least of all.
 
-ghost use Rattle.std.specs.Prelude.{◌≡◌, ◌==◌, ◌*◌, ◌<◌, ◌≤◌, IfNone, IfOk, IfSome, [], drop, length, position, replicate, slice_set};
-ghost use Rattle.tw_queue.specs.Least.{IsFirstLeast, IsLeastOfGroup};
+ghost use Rattle.std.specs.Prelude.{ℕ, ◌≡◌, ◌<◌, ◌*◌, ◌+◌, ◌/◌, ◌%◌, IfNone, IfOk, IfSome, [], drop, length, min, replicate, slice_index_or, slice_set};
+ghost use Rattle.std.specs.Int.{IsPowerOfTwo};
+ghost use Rattle.tw_queue.specs.Least.{AreLesser, AreLesserBut, IsFirstLeast, IsFirstOfLevel};
 ghost use Rattle.tw_queue.specs.Table.{never};
 
 use std::alloc::{AllocError, Global};
 use std::marker::Model;
-use tw_lanes::least_time;
 
-/// How many times make a group.
-const GROUP: usize = 32;
-
-/// A row of times, in ticks, and beside it a row with the least time of each 32.
+/// A row of times, in ticks, as the leaves of a tree in which each other node has the lesser time of its two children.
+///
+/// Node 1 is the root, and node n has the children 2n and 2n + 1. The leaves begin at the node `leaves`, a power of two;
+/// those past the row have the time `u64::MAX`. Node 0 has no meaning.
 #[derive(Drop)]
 pub(crate) struct LeastTimes {
-    times: Vec<u64>,
-    groups: Vec<u64>,
+    count: usize,
+    leaves: usize,
+    nodes: Vec<u64>,
 }
 
 impl Model for LeastTimes {
     ghost use Rattle.std.specs.Prelude.{List, ℕ};
-    ghost use Rattle.tw_queue.specs.Least.{IsGrouped};
+    ghost use Rattle.tw_queue.specs.Least.{IsTree, row_of};
 
     ghost Value = { List ℕ };
 
-    ghost view = { λ a. a.times.items };
+    ghost view = { row_of };
 
-    ghost invariant = { IsGrouped };
+    ghost invariant = { IsTree };
 }
 
 impl LeastTimes {
@@ -34,9 +35,14 @@ impl LeastTimes {
     pub(crate) fn new(alloc: Global, count: usize) -> Result<LeastTimes, AllocError>
         ensures { IfOk result (λ row. row ≡ replicate count never) }
     {
-        let times = nevers(alloc, count)?;
-        let groups = nevers(alloc, count.div_ceil(GROUP))?;
-        Ok(LeastTimes { times, groups })
+        let leaves = count.checked_next_power_of_two().ok_or(AllocError)?;
+        let all = leaves.checked_mul(2).ok_or(AllocError)?;
+        let nodes = vec![in alloc; u64::MAX; all]?;
+        Ok(LeastTimes {
+            count,
+            leaves,
+            nodes,
+        })
     }
 
     /// Puts a time at a place.
@@ -44,10 +50,9 @@ impl LeastTimes {
         requires { place < length self.old }
         ensures { self.new ≡ slice_set self.old place time }
     {
-        let old = self.times[place];
-        self.times[place] = time;
-        let group = place / GROUP;
-        self.groups[group] = least_after(&self.times, group, self.groups[group], old, time);
+        let leaf = self.leaves + place;
+        self.nodes[leaf] = time;
+        mend_above(&mut self.nodes, leaf);
     }
 
     /// The first place of the least time, and `None` for an empty row.
@@ -55,59 +60,60 @@ impl LeastTimes {
         ensures some { IfSome result (λ place. IsFirstLeast self.now place) }
         ensures none { IfNone result (self.now ≡ []) }
     {
-        let least = least_time(&self.groups)?;
-        let group = place_of_time(&self.groups, least)?;
-        let start = group * GROUP;
-        let place = place_from(&self.times, start, least)?;
-        Some(start + place)
+        if self.count == 0 {
+            return None;
+        }
+        Some(first_leaf(&self.nodes, self.leaves) - self.leaves)
     }
 }
 
-// So many times that stand for no event.
-fn nevers(alloc: Global, count: usize) -> Result<Vec<u64>, AllocError>
-    ensures { IfOk result (λ times. times.items ≡ replicate count never) }
+// Gives the nodes above a leaf the lesser times of their children, as far up as that changes them.
+fn mend_above(nodes: &mut [u64], leaf: usize)
+    requires within { leaf < length nodes.old }
+    requires even { length nodes.old % 2 ≡ 0 }
+    requires lesser { AreLesserBut (leaf / 2) nodes.old }
+    ensures lesser { AreLesser nodes.new }
+    ensures len { length nodes.new ≡ length nodes.old }
+    ensures leaves { (n : ℕ) → leaf / 2 < n → drop n nodes.new ≡ drop n nodes.old }
 {
-    vec![in alloc; u64::MAX; count]
-}
-
-// The least time of a group in which a time took the place of an old one, from what it was before: the
-// group is passed over only where the old time was the least one.
-fn least_after(times: &[u64], group: usize, least: u64, old: u64, time: u64) -> u64
-    requires within { group * 32 < length times.now }
-    requires lower { time ≤ least → IsLeastOfGroup times.now group time }
-    requires stays { least < time → least < old → IsLeastOfGroup times.now group least }
-    ensures { IsLeastOfGroup times.now group result }
-{
-    if time <= least {
-        return time;
+    let mut node = leaf / 2;
+    while node > 0 {
+        let least = nodes[2 * node].min(nodes[2 * node + 1]);
+        if nodes[node] == least {
+            return;
+        }
+        nodes[node] = least;
+        node /= 2;
     }
-    if least < old {
-        return least;
+}
+
+// The first leaf that has the least time of all: from the root on, the first child that has the lesser time.
+fn first_leaf(nodes: &[u64], leaves: usize) -> usize
+    requires power { IsPowerOfTwo leaves }
+    requires len { length nodes.now ≡ 2 * leaves }
+    requires lesser { AreLesser nodes.now }
+    ensures { IsFirstOfLevel nodes.now leaves result }
+{
+    let mut level = 1;
+    let mut node = 1;
+    while level < leaves {
+        level *= 2;
+        node = first_child(nodes, node);
     }
-    least_of_group(times, group)
+    node
 }
 
-// The least time of a group.
-fn least_of_group(times: &[u64], group: usize) -> u64
-    requires { group * 32 < length times.now }
-    ensures { IsLeastOfGroup times.now group result }
+// The first of a node's two children that has the lesser time.
+fn first_child(nodes: &[u64], node: usize) -> usize
+    requires { 2 * node + 1 < length nodes.now }
+    ensures parent { result / 2 ≡ node }
+    ensures lesser { slice_index_or nodes.now result 0 ≡ min (slice_index_or nodes.now (2 * node) 0) (slice_index_or nodes.now (2 * node + 1) 0) }
+    ensures first { result ≡ 2 * node + 1 → slice_index_or nodes.now result 0 < slice_index_or nodes.now (2 * node) 0 }
 {
-    let start = group * GROUP;
-    let end = times.len().min(start + GROUP);
-    least_time(&times[start..end]).unwrap()
-}
-
-// The first place of a time among those from a place on, counted from there.
-fn place_from(times: &[u64], start: usize, time: u64) -> Option<usize>
-    requires { start ≤ length times.now }
-    ensures { result ≡ position (λ other. other == time) (drop start times.now) }
-{
-    place_of_time(&times[start..], time)
-}
-
-// The first place of a time.
-fn place_of_time(times: &[u64], time: u64) -> Option<usize>
-    ensures { result ≡ position (λ other. other == time) times.now }
-{
-    times.iter().position(|other| *other == time)
+    let left = 2 * node;
+    if nodes[left] <= nodes[left + 1] {
+        left
+    } else {
+        left + 1
+    }
 }
