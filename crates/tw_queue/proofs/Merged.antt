@@ -245,6 +245,11 @@ pub first_time_low : (xs : List Event) → IsRising event_before event_same xs �
 first_time_low [] r e there = absurd (omega arith)
 first_time_low (x ∷ xs) r e there = not_earlier e x ((least_of_rising x (x ∷ xs) r refl).first e there)
 
+-- a time that is not after the first event is not after the first time
+pub low_told : (m : ℕ) (xs : List Event) → m ≤ never → IfSome (slice_get xs 0) (λ e. m ≤ e.time) → m ≤ first_time xs
+low_told m [] l h = l
+low_told m (x ∷ xs) l h = h
+
 -- a ring whose first time is before all others
 pub sooner_ring : (ring others : List Event) (n : ℕ) → IsRising event_before event_same ring → n ≤ never → first_time ring < n → ((e : Event) → 0 < times event_same e others → n ≤ e.time)
     → slice_get (in_order event_before (ring ++ others)) 0 ≡ slice_get ring 0

@@ -1,9 +1,10 @@
 -- An event sought in a ring, and taken out of it: at hand, or in its bucket.
-use Rattle.std.proofs.Common.{◌≡◌, ◌≤◌, ◌<◌, ◌%◌, ◌++◌, ◌↔◌, IsTrue, ℕ, Bool, None, List, length, filter, get_or, set, slice_get, refl, ap, sym, ◌∙◌, subst, arith}
+use Rattle.std.proofs.Common.{◌≡◌, ◌≤◌, ◌<◌, ◌%◌, ◌++◌, ◌↔◌, IsTrue, ℕ, Bool, Option, Some, None, List, ◌∷◌, length, filter, get_or, set, slice_get, refl, ap, sym, ◌∙◌, subst, arith}
 use Rattle.std.proofs.lemmas.List.Elements.{filter-append}
 use Rattle.tw_event.specs.declared.event.Event.{Event}
 use Rattle.tw_event.specs.Order.{event_before, event_same}
 use Rattle.tw_sim.specs.Ordered.{take_out, times}
+use Rattle.tw_sim.specs.Rising.{IsRising}
 use Rattle.tw_sim.proofs.Counts.{none}
 use Rattle.tw_queue.specs.Buckets.{together}
 use Rattle.tw_queue.specs.InOrder.{in_order, least_with}
@@ -11,9 +12,10 @@ use Rattle.tw_queue.specs.Ring.{IsRing, hand_of, ring_events}
 use Rattle.tw_queue.specs.declared.ring.Ring.TheInside.{Inside}
 use Rattle.tw_queue.proofs.Events.{event_law, filter-in_order, least_first}
 use Rattle.tw_queue.proofs.Lists.{times-append, times-take_out-le}
-use Rattle.tw_queue.proofs.Ordered.{in_order-taken, times-in_order}
+use Rattle.tw_queue.proofs.Ordered.{in_order-taken, in_order-times, times-in_order}
 use Rattle.tw_queue.proofs.Rows.{rising-take_out}
 use Rattle.tw_queue.proofs.Sought.{least_behind}
+use Rattle.tw_queue.proofs.Tables.{in_order_rising}
 use Rattle.tw_queue.proofs.Turns.{cut_counts, placed_count}
 
 module _ (a : Inside) (v : IsRing a) (e : Event) where
@@ -83,3 +85,29 @@ pub least_passed : (p : Event → Bool) (hand later : List Event)
 least_passed p hand later =
     sym (least_behind None (filter p hand) (filter p later)) ∙ ap (least_with None) (sym (filter-append p hand later)) ∙ least_first (filter p (hand ++ later))
     ∙ ap (λ xs. slice_get xs 0) (sym (filter-in_order p (hand ++ later)))
+
+-- the least of an event and of a list does not depend on the list's order
+least_none : (xs ys : List Event) → ((e : Event) → times event_same e xs ≡ times event_same e ys) → least_with None xs ≡ least_with None ys
+least_none xs ys h =
+    least_first xs ∙ ap (λ zs. slice_get zs 0) (in_order-times event_before event_same event_law xs ys h) ∙ sym (least_first ys)
+
+least_any : (o : Option Event) (xs ys : List Event) → ((e : Event) → times event_same e xs ≡ times event_same e ys) → least_with o xs ≡ least_with o ys
+least_any None xs ys h = least_none xs ys h
+least_any (Some m) xs ys h = least_none (m ∷ xs) (m ∷ ys) (λ e. let c = h e in omega arith)
+
+-- nor does that of those that pass a test
+pub least_for_order : (p : Event → Bool) (o : Option Event) (xs : List Event) → least_with o (filter p xs) ≡ least_with o (filter p (in_order event_before xs))
+least_for_order p o xs =
+    sym (least_any o (in_order event_before (filter p xs)) (filter p xs) (λ e. times-in_order event_before event_same event_law e (filter p xs)))
+    ∙ ap (least_with o) (sym (filter-in_order p xs))
+
+-- and of two lists, one after the other
+pub least_for_both : (p : Event → Bool) (o : Option Event) (xs ys : List Event)
+    → least_with (least_with o (filter p xs)) (filter p ys) ≡ least_with o (filter p (in_order event_before (xs ++ ys)))
+least_for_both p o xs ys =
+    sym (least_behind o (filter p xs) (filter p ys)) ∙ ap (least_with o) (sym (filter-append p xs ys)) ∙ least_for_order p o (xs ++ ys)
+
+-- the first of a list in order is its least, of those that pass a test too
+pub first_passed : (p : Event → Bool) (xs : List Event) → IsRising event_before event_same xs → slice_get (filter p xs) 0 ≡ least_with None (filter p xs)
+first_passed p xs rising =
+    ap (λ zs. slice_get (filter p zs) 0) (sym (in_order_rising xs rising)) ∙ ap (λ zs. slice_get zs 0) (filter-in_order p xs) ∙ sym (least_first (filter p xs))

@@ -7,17 +7,17 @@ use Rattle.tw_queue.specs.Queue.{AreFor, Queue}
 use Rattle.tw_queue.specs.Table.{first_time}
 use Rattle.tw_queue.specs.declared.pending.Pending.TheInside.{Inside}
 
--- the events of a ring and of the rest, in order
+-- the events of a calendar and of the rest, in order
 abbrev pub together_with : List Event → Queue → List Event
-together_with ring rest = in_order event_before (ring ++ rest.events)
+together_with calendar rest = in_order event_before (calendar ++ rest.events)
 
 -- the room of the rest, as far as the number of events may grow
 abbrev pub room_of : Inside → ℕ
 room_of a = min a.rest.room (2 ^ 64 - 1 - a.len)
 
--- the ring's events are for its routers, and there are some only where events are kept by time; all are counted, and the rest's least time is kept
+-- the calendar's events are for its routers, and there are some only where events are kept by time; all are counted, and the rest's least time is kept
 pub record IsPending (a : Inside) : Type 0 where
-  pub homes : AreFor a.rest.routers a.ring
-  pub by_router : a.by_time ≡ false → a.ring ≡ []
-  pub len : a.len ≡ length a.ring + length a.rest.events
+  pub homes : AreFor a.rest.routers a.calendar
+  pub by_router : a.by_time ≡ false → a.calendar ≡ []
+  pub len : a.len ≡ length a.calendar + length a.rest.events
   pub rest_time : a.rest_time ≡ first_time a.rest.events

@@ -85,6 +85,14 @@ impl Bucket {
         self.events.pop();
     }
 
+    /// The events.
+    #[inline(always)]
+    pub(crate) fn events(&self) -> &[Event]
+        ensures { result.now ≡ self.now }
+    {
+        &self.events
+    }
+
     /// The least event.
     pub(crate) fn least(&self) -> Option<Event>
         ensures { result ≡ least_with None self.now }

@@ -1,12 +1,12 @@
 //! Paths that arrive, by time: the ring and the levels of the wheels above it.
 
-ghost use Rattle.std.specs.Prelude.{ℕ, ◌≡◌, ◌<◌, ◌≤◌, ◌+◌, ◌++◌, [], None, Some, IfNone, IfOk, IfSome, OnOk, drop, slice_get};
+ghost use Rattle.std.specs.Prelude.{ℕ, ◌≡◌, ◌==◌, ◌<◌, ◌≤◌, ◌+◌, ◌++◌, ◌↔◌, [], None, Some, IfNone, IfOk, IfSome, IsTrue, OnOk, drop, filter, slice_get};
 ghost use Rattle.std.specs.Bool.{OnFalse, OnTrue};
 ghost use Rattle.tw_event.specs.declared.event.Event.{Event as AnEvent};
 ghost use Rattle.tw_event.specs.Order.{event_before, event_same};
 ghost use Rattle.tw_queue.specs.InOrder.{in_order};
 ghost use Rattle.tw_queue.specs.Table.{first_time};
-ghost use Rattle.tw_sim.specs.Ordered.{insert, times};
+ghost use Rattle.tw_sim.specs.Ordered.{insert, take_out, times};
 ghost use Rattle.tw_sim.specs.Rising.{IsRising};
 
 use crate::ring::Ring;
@@ -153,8 +153,48 @@ impl Calendar {
     {
         match first_of_wheels(&self.ring, &self.wheels) {
             None => self.ring.skip_least(),
-            Some(first) => self.wheels.remove(&first),
+            Some(first) => {
+                self.wheels.remove(&first);
+            }
         }
+    }
+
+    /// How many events of the tick at hand are taken out. The events are in order.
+    #[inline(always)]
+    pub(crate) fn taken(&self) -> usize
+        ensures { IsRising event_before event_same self.now }
+    {
+        self.ring.taken()
+    }
+
+    /// Goes back to just before a time, in ticks, as the ring does.
+    pub(crate) fn step_back(&mut self, time: u64)
+        ensures { self.new ≡ self.old }
+    {
+        self.ring.step_back(time);
+    }
+
+    /// Takes one event that equals `event` out, and tells whether there was one.
+    pub(crate) fn remove(&mut self, event: &Event) -> bool
+        ensures found { IsTrue result ↔ (0 < times event_same event.now self.old) }
+        ensures events { self.new ≡ take_out event_same event.now self.old }
+    {
+        self.ring.remove(event) || self.wheels.remove(event)
+    }
+
+    /// How often an event is there.
+    pub(crate) fn count(&self, event: &Event) -> usize
+        ensures { result ≡ times event_same event.now self.now }
+    {
+        self.ring.count(event) + self.wheels.count(event)
+    }
+
+    /// The least event for a router.
+    pub(crate) fn least_at(&self, router: u32) -> Option<Event>
+        ensures { result ≡ slice_get (filter (λ e. e.dst == router) self.now) 0 }
+    {
+        let _ = self.ring.taken();
+        self.wheels.least_for(router, self.ring.least_at(router))
     }
 
     /// Puts its events at the end of a list.

@@ -1,15 +1,17 @@
 //! One level of the wheels: events by widths of time.
 
-ghost use Rattle.std.specs.Prelude.{ℕ, ◌≡◌, ◌<◌, ◌≤◌, ◌+◌, ◌++◌, ◌↔◌, [], None, Some, IsTrue, OnOk, drop, slice_get};
+ghost use Rattle.std.specs.Prelude.{ℕ, ◌≡◌, ◌==◌, ◌<◌, ◌≤◌, ◌+◌, ◌^◌, ◌++◌, ◌↔◌, [], None, Some, IsTrue, OnOk, drop, filter, slice_get};
 ghost use Rattle.std.specs.Bool.{OnFalse, OnTrue};
 ghost use Rattle.tw_event.specs.declared.event.Event.{Event as AnEvent};
 ghost use Rattle.tw_event.specs.Order.{event_before, event_same};
 ghost use Rattle.tw_queue.specs.Buckets.{together};
+ghost use Rattle.tw_queue.specs.InOrder.{least_with};
 ghost use Rattle.tw_sim.specs.Ordered.{insert, take_out, times};
 ghost use Rattle.tw_sim.specs.Rising.{IsRising};
 
 use crate::bucket::Bucket;
 use crate::marks::{first_place, is_ahead, marked_as, slot_of, with_mark, without_mark};
+use crate::search::{count_of, least_for};
 use std::alloc::{AllocError, Global};
 use std::array;
 use std::marker::Model;
@@ -134,6 +136,22 @@ impl Level {
         found
     }
 
+    /// How often an event is there.
+    pub(crate) fn count(&self, event: &Event) -> usize
+        ensures times { result ≡ times event_same event.now self.now }
+        ensures bound { result < 2 ^ 60 }
+    {
+        let slot = slot_of(event.time >> self.shift);
+        count_of(self.buckets[slot].events(), event)
+    }
+
+    /// The least of an event, if there is one, and of those that are for a router.
+    pub(crate) fn least_for(&self, router: u32, first: Option<Event>) -> Option<Event>
+        ensures { result ≡ least_with first (filter (λ e. e.dst == router) self.now) }
+    {
+        least_of_buckets(&self.buckets, router, first)
+    }
+
     /// The run has come to this time, in ticks, so that the widths after it may have buckets, as far as no event
     /// is before them. No promise rests on it.
     pub(crate) fn go_to(&mut self, time: u64)
@@ -152,6 +170,17 @@ impl Level {
     {
         append_buckets(&self.buckets, events)
     }
+}
+
+// The least of an event, if there is one, and of those in buckets that are for a router.
+fn least_of_buckets(buckets: &[Bucket], router: u32, first: Option<Event>) -> Option<Event>
+    ensures { result ≡ least_with first (filter (λ e. e.dst == router) (together buckets.now)) }
+{
+    let mut least = first;
+    for bucket in buckets {
+        least = least_for(router, least, bucket.events());
+    }
+    least
 }
 
 // Puts the events of buckets at the end of a list.

@@ -11,7 +11,7 @@ ghost use Rattle.tw_queue.specs.Table.{first_time};
 ghost use Rattle.tw_sim.specs.Ordered.{insert, insert_all, take_out, times};
 
 use crate::by_router::ByRouter;
-use crate::ring::Ring;
+use crate::calendar::Calendar;
 use crate::search::{comes_before, earlier_of};
 use std::alloc::{AllocError, Global};
 use std::marker::Model;
@@ -21,14 +21,14 @@ use tw_event::Event;
 ///
 /// By router, as they are at first, the least event of all, that of one router, and the place of an event are
 /// found without going over all events. By time the least of all comes out fast: paths that arrive in the next
-/// 64 ticks stand in buckets of one tick, which is put in order when it is begun, and all others by router.
+/// 2^24 ticks stand in a calendar, whose next tick is put in order when it is begun, and all others by router.
 #[derive(Drop)]
 pub struct Pending {
     alloc: Global,
-    ring: Ring,
-    // Where an event goes that the ring does not take: room is reserved here alone.
+    calendar: Calendar,
+    // Where an event goes that the calendar does not take: room is reserved here alone.
     rest: ByRouter,
-    // Whether the ring is used.
+    // Whether the calendar is used.
     by_time: bool,
     // The time of the rest's least event, in ticks, and `u64::MAX` where it has none.
     rest_time: u64,
@@ -41,7 +41,7 @@ impl Model for Pending {
 
     ghost Value = { Queue };
 
-    ghost view = { λ a. record { routers = a.rest.routers; events = together_with a.ring a.rest; room = room_of a } };
+    ghost view = { λ a. record { routers = a.rest.routers; events = together_with a.calendar a.rest; room = room_of a } };
 
     ghost invariant = { IsPending };
 }
@@ -52,11 +52,11 @@ impl Pending {
         ensures routers { IfOk result (λ q. q.routers ≡ routers) }
         ensures empty { IfOk result (λ q. q.events ≡ []) }
     {
-        let ring = Ring::new(alloc, 0)?;
+        let calendar = Calendar::new(alloc, 0)?;
         let rest = ByRouter::new(alloc, routers)?;
         Ok(Pending {
             alloc,
-            ring,
+            calendar,
             rest,
             by_time: false,
             rest_time: u64::MAX,
@@ -72,7 +72,7 @@ impl Pending {
         if self.by_time {
             return Ok(());
         }
-        self.ring = Ring::new(self.alloc, self.rest.routers())?;
+        self.calendar = Calendar::new(self.alloc, self.rest.routers())?;
         self.by_time = true;
         Ok(())
     }
@@ -120,7 +120,7 @@ impl Pending {
         if self.len == usize::MAX {
             return Err(AllocError);
         }
-        if insert_by_time(&mut self.ring, self.by_time, &event) {
+        if insert_by_time(&mut self.calendar, self.by_time, &event) {
             self.len += 1;
             return Ok(());
         }
@@ -137,7 +137,7 @@ impl Pending {
         ensures queue { IsQueue self.now }
     {
         let _ = self.rest.len();
-        least_of_both(&self.ring, &self.rest, self.rest_time)
+        least_of_both(&self.calendar, &self.rest, self.rest_time)
     }
 
     /// The time of the least event, in ticks.
@@ -145,12 +145,12 @@ impl Pending {
     pub fn least_time(&self) -> Option<u64>
         ensures { result ≡ option_map (λ e. e.time) (slice_get self.now.events 0) }
     {
-        let _ = self.ring.taken();
+        let _ = self.calendar.taken();
         let _ = self.rest.len();
         if self.len == 0 {
             return None;
         }
-        Some(self.ring.least_time().min(self.rest_time))
+        Some(self.calendar.least_time().min(self.rest_time))
     }
 
     /// Copies the least event where it is before a limit, in ticks, and tells whether it did; else `event` stays
@@ -166,7 +166,7 @@ impl Pending {
         ensures queue { IsQueue self.old }
     {
         let _ = self.rest.len();
-        copy_before(&mut self.ring, &self.rest, self.rest_time, limit, event)
+        copy_before(&mut self.calendar, &self.rest, self.rest_time, limit, event)
     }
 
     /// Takes out the least event, where there is one.
@@ -179,7 +179,7 @@ impl Pending {
         if self.len == 0 {
             return;
         }
-        skip_first(&mut self.ring, &mut self.rest, &mut self.rest_time);
+        skip_first(&mut self.calendar, &mut self.rest, &mut self.rest_time);
         self.len -= 1;
     }
 
@@ -204,7 +204,7 @@ impl Pending {
         if self.len == 0 {
             return 0;
         }
-        self.ring.count(event) + self.rest.count(event)
+        self.calendar.count(event) + self.rest.count(event)
     }
 
     /// Takes out one event that equals `event`, and tells whether there was one. It takes no memory.
@@ -217,7 +217,7 @@ impl Pending {
         if self.len == 0 {
             return false;
         }
-        let removed = take_from(&mut self.ring, &mut self.rest, &mut self.rest_time, event);
+        let removed = take_from(&mut self.calendar, &mut self.rest, &mut self.rest_time, event);
         if removed {
             self.len -= 1;
         }
@@ -230,11 +230,11 @@ impl Pending {
         ensures home { IfSome result (λ e. e.dst ≡ router) }
         ensures queue { IsQueue self.now }
     {
-        let _ = self.ring.taken();
+        let _ = self.calendar.taken();
         if !self.by_time {
             return self.rest.least_at(router);
         }
-        earlier_of(self.ring.least_at(router), self.rest.least_at(router))
+        earlier_of(self.calendar.least_at(router), self.rest.least_at(router))
     }
 
     /// Moves the events for this router to `to`, each as often as it is pending. The others stay.
@@ -278,115 +278,117 @@ impl Pending {
         ensures queue { IsQueue self.now }
     {
         let mut events = self.rest.list()?;
-        self.ring.append_to(&mut events)?;
+        self.calendar.append_to(&mut events)?;
         events.sort_unstable();
         Ok(events)
     }
 }
 
-// Adds an event to the ring, where events are kept by time and it takes the event, and tells whether it did.
+// Adds an event to the calendar, where events are kept by time and it takes the event, and tells whether it did.
 #[inline(always)]
-fn insert_by_time(ring: &mut Ring, by_time: bool, event: &Event) -> bool
-    ensures added { OnTrue result (ring.new ≡ insert event_before event.now ring.old) }
+fn insert_by_time(calendar: &mut Calendar, by_time: bool, event: &Event) -> bool
+    ensures added { OnTrue result (calendar.new ≡ insert event_before event.now calendar.old) }
     ensures by_time { OnTrue result (by_time ≡ true) }
-    ensures same { OnFalse result (ring.new ≡ ring.old) }
+    ensures same { OnFalse result (calendar.new ≡ calendar.old) }
 {
-    by_time && (ring.insert(event) || insert_late(ring, event))
+    by_time && (calendar.insert(event) || insert_late(calendar, event))
 }
 
-// Adds an event that is not after the ring's tick at hand, where the ring can go back, and tells whether it did.
+// Adds an event that is not after the calendar's tick at hand, where the calendar can go back, and tells whether it did.
 #[inline(never)]
-fn insert_late(ring: &mut Ring, event: &Event) -> bool
-    ensures added { OnTrue result (ring.new ≡ insert event_before event.now ring.old) }
-    ensures same { OnFalse result (ring.new ≡ ring.old) }
+fn insert_late(calendar: &mut Calendar, event: &Event) -> bool
+    ensures added { OnTrue result (calendar.new ≡ insert event_before event.now calendar.old) }
+    ensures same { OnFalse result (calendar.new ≡ calendar.old) }
 {
-    ring.step_back(event.time);
-    ring.insert(event)
+    calendar.step_back(event.time);
+    calendar.insert(event)
 }
 
-// The least event of a ring and of the rest.
-fn least_of_both(ring: &Ring, rest: &ByRouter, rest_time: u64) -> Option<Event>
+// The least event of a calendar and of the rest.
+fn least_of_both(calendar: &Calendar, rest: &ByRouter, rest_time: u64) -> Option<Event>
     requires { rest_time ≡ first_time rest.now.events }
-    ensures { result ≡ slice_get (together_with ring.now rest.now) 0 }
+    ensures { result ≡ slice_get (together_with calendar.now rest.now) 0 }
 {
     let mut event = Event::default();
-    if copy_first(ring, rest, rest_time, &mut event) {
+    if copy_first(calendar, rest, rest_time, &mut event) {
         Some(event)
     } else {
         None
     }
 }
 
-// Copies the least event of a ring and of the rest where it is before a limit, in ticks, and tells whether it did.
-// For that the ring's next tick is put at hand where it is needed.
+// Copies the least event of a calendar and of the rest where it is before a limit, in ticks, and tells whether it did.
+// For that the calendar's next tick is put at hand where it is needed.
 #[inline(always)]
 fn copy_before(
-    ring: &mut Ring,
+    calendar: &mut Calendar,
     rest: &ByRouter,
     rest_time: u64,
     limit: u64,
     event: &mut Event,
 ) -> bool
     requires { rest_time ≡ first_time rest.now.events }
-    ensures some { OnTrue result (Some event.new ≡ slice_get (together_with ring.old rest.now) 0) }
+    ensures some { OnTrue result (Some event.new ≡ slice_get (together_with calendar.old rest.now) 0) }
     ensures before { OnTrue result (event.new.time < limit) }
-    ensures none { OnFalse result ((e : AnEvent) → slice_get (together_with ring.old rest.now) 0 ≡ Some e → limit ≤ e.time) }
+    ensures none { OnFalse result ((e : AnEvent) → slice_get (together_with calendar.old rest.now) 0 ≡ Some e → limit ≤ e.time) }
     ensures unchanged { OnFalse result (event.new ≡ event.old) }
-    ensures same { ring.new ≡ ring.old }
+    ensures same { calendar.new ≡ calendar.old }
 {
-    let _ = ring.taken();
+    let _ = calendar.taken();
     let _ = rest.len();
     // Of most calls this is the answer, and costs little.
-    if ring.copy_hand(limit.min(rest_time), event) {
+    if calendar.copy_hand(limit.min(rest_time), event) {
         return true;
     }
-    begin_before(ring, limit.min(rest_time.saturating_add(1)));
-    copy_first_before(ring, rest, rest_time, limit, event)
+    begin_tick(calendar, limit.saturating_sub(1).min(rest_time));
+    copy_first_before(calendar, rest, rest_time, limit, event)
 }
 
-// Puts a ring's next tick at hand, where it is before a limit, in ticks: before its time comes, more events may
-// come to it, and then it would be put in order in vain.
+// Puts a calendar's next tick at hand, where it is at `latest`, in ticks, at the latest: before its time comes, more
+// events may come to it, and then it would be put in order in vain.
 #[inline(never)]
-fn begin_before(ring: &mut Ring, limit: u64)
-    ensures { ring.new ≡ ring.old }
+fn begin_tick(calendar: &mut Calendar, latest: u64)
+    ensures { calendar.new ≡ calendar.old }
 {
-    if ring.least_time() < limit {
-        ring.begin_tick();
-    }
+    calendar.begin_tick(latest);
 }
 
-// Copies the least event of a ring and of the rest where it is before a limit, in ticks, and tells whether it did.
+// Copies the least event of a calendar and of the rest where it is before a limit, in ticks, and tells whether it did.
 #[inline(never)]
 fn copy_first_before(
-    ring: &Ring,
+    calendar: &Calendar,
     rest: &ByRouter,
     rest_time: u64,
     limit: u64,
     event: &mut Event,
 ) -> bool
     requires { rest_time ≡ first_time rest.now.events }
-    ensures some { OnTrue result (Some event.new ≡ slice_get (together_with ring.now rest.now) 0) }
+    ensures some { OnTrue result (Some event.new ≡ slice_get (together_with calendar.now rest.now) 0) }
     ensures before { OnTrue result (event.new.time < limit) }
-    ensures none { OnFalse result ((e : AnEvent) → slice_get (together_with ring.now rest.now) 0 ≡ Some e → limit ≤ e.time) }
+    ensures none { OnFalse result ((e : AnEvent) → slice_get (together_with calendar.now rest.now) 0 ≡ Some e → limit ≤ e.time) }
     ensures unchanged { OnFalse result (event.new ≡ event.old) }
 {
-    let _ = ring.taken();
+    let _ = calendar.taken();
     let _ = rest.len();
-    if ring.least_time().min(rest_time) >= limit {
+    // The least time itself may have to be sought.
+    if calendar.soonest().min(rest_time) >= limit {
         return false;
     }
-    copy_first(ring, rest, rest_time, event)
+    if calendar.least_time().min(rest_time) >= limit {
+        return false;
+    }
+    copy_first(calendar, rest, rest_time, event)
 }
 
-// Copies the least event of a ring and of the rest, where there is one, and tells whether there is.
-fn copy_first(ring: &Ring, rest: &ByRouter, rest_time: u64, event: &mut Event) -> bool
+// Copies the least event of a calendar and of the rest, where there is one, and tells whether there is.
+fn copy_first(calendar: &Calendar, rest: &ByRouter, rest_time: u64, event: &mut Event) -> bool
     requires { rest_time ≡ first_time rest.now.events }
-    ensures some { OnTrue result (Some event.new ≡ slice_get (together_with ring.now rest.now) 0) }
-    ensures beyond { OnFalse result (slice_get (together_with ring.now rest.now) 0 ≡ None) }
+    ensures some { OnTrue result (Some event.new ≡ slice_get (together_with calendar.now rest.now) 0) }
+    ensures beyond { OnFalse result (slice_get (together_with calendar.now rest.now) 0 ≡ None) }
     ensures unchanged { OnFalse result (event.new ≡ event.old) }
 {
-    match first_of_rest(ring, rest, rest_time) {
-        None => ring.copy_least(event),
+    match first_of_rest(calendar, rest, rest_time) {
+        None => calendar.copy_least(event),
         Some(first) => {
             *event = first;
             true
@@ -394,35 +396,35 @@ fn copy_first(ring: &Ring, rest: &ByRouter, rest_time: u64, event: &mut Event) -
     }
 }
 
-// The least event of all, where it is in the rest and not in the ring.
-fn first_of_rest(ring: &Ring, rest: &ByRouter, rest_time: u64) -> Option<Event>
+// The least event of all, where it is in the rest and not in the calendar.
+fn first_of_rest(calendar: &Calendar, rest: &ByRouter, rest_time: u64) -> Option<Event>
     requires { rest_time ≡ first_time rest.now.events }
-    ensures rest { IfSome result (λ e. slice_get (together_with ring.now rest.now) 0 ≡ Some e) }
+    ensures rest { IfSome result (λ e. slice_get (together_with calendar.now rest.now) 0 ≡ Some e) }
     ensures there { IfSome result (λ e. slice_get rest.now.events 0 ≡ Some e) }
-    ensures ring { IfNone result (slice_get (together_with ring.now rest.now) 0 ≡ slice_get ring.now 0) }
+    ensures calendar { IfNone result (slice_get (together_with calendar.now rest.now) 0 ≡ slice_get calendar.now 0) }
 {
-    let _ = ring.taken();
+    let _ = calendar.taken();
     let _ = rest.len();
-    if ring.least_time() < rest_time {
+    if calendar.least_time() < rest_time {
         return None;
     }
-    first_by_search(ring, rest)
+    first_by_search(calendar, rest)
 }
 
-// The least event of all, where it is in the rest and not in the ring, sought in both.
+// The least event of all, where it is in the rest and not in the calendar, sought in both.
 #[inline(never)]
-fn first_by_search(ring: &Ring, rest: &ByRouter) -> Option<Event>
-    ensures rest { IfSome result (λ e. slice_get (together_with ring.now rest.now) 0 ≡ Some e) }
+fn first_by_search(calendar: &Calendar, rest: &ByRouter) -> Option<Event>
+    ensures rest { IfSome result (λ e. slice_get (together_with calendar.now rest.now) 0 ≡ Some e) }
     ensures there { IfSome result (λ e. slice_get rest.now.events 0 ≡ Some e) }
-    ensures ring { IfNone result (slice_get (together_with ring.now rest.now) 0 ≡ slice_get ring.now 0) }
+    ensures calendar { IfNone result (slice_get (together_with calendar.now rest.now) 0 ≡ slice_get calendar.now 0) }
 {
-    let _ = ring.taken();
+    let _ = calendar.taken();
     let first = match rest.least() {
         None => return None,
         Some(first) => first,
     };
     let mut least = Event::default();
-    if !ring.copy_least(&mut least) {
+    if !calendar.copy_least(&mut least) {
         return Some(first);
     }
     if comes_before(&first, &least) {
@@ -432,58 +434,58 @@ fn first_by_search(ring: &Ring, rest: &ByRouter) -> Option<Event>
     }
 }
 
-// Takes the least event of a ring and of the rest out, where there is one, and keeps the rest's least time.
+// Takes the least event of a calendar and of the rest out, where there is one, and keeps the rest's least time.
 #[inline(always)]
-fn skip_first(ring: &mut Ring, rest: &mut ByRouter, rest_time: &mut u64)
+fn skip_first(calendar: &mut Calendar, rest: &mut ByRouter, rest_time: &mut u64)
     requires { rest_time.old ≡ first_time rest.old.events }
-    ensures events { together_with ring.new rest.new ≡ drop 1 (together_with ring.old rest.old) }
-    ensures ring { (ring.new ≡ ring.old) ⊎ (ring.new ≡ drop 1 ring.old) }
+    ensures events { together_with calendar.new rest.new ≡ drop 1 (together_with calendar.old rest.old) }
+    ensures calendar { (calendar.new ≡ calendar.old) ⊎ (calendar.new ≡ drop 1 calendar.old) }
     ensures time { rest_time.new ≡ first_time rest.new.events }
     ensures routers { rest.new.routers ≡ rest.old.routers }
     ensures room { rest.old.room ≤ rest.new.room }
 {
-    let _ = ring.taken();
+    let _ = calendar.taken();
     let _ = rest.len();
     // Of most calls this is all, and costs little.
-    if ring.skip_hand(*rest_time) {
+    if calendar.skip_hand(*rest_time) {
         return;
     }
-    skip_by_search(ring, rest, rest_time);
+    skip_by_search(calendar, rest, rest_time);
 }
 
-// Takes the least event of a ring and of the rest out, where there is one, sought in both.
+// Takes the least event of a calendar and of the rest out, where there is one, sought in both.
 #[inline(never)]
-fn skip_by_search(ring: &mut Ring, rest: &mut ByRouter, rest_time: &mut u64)
+fn skip_by_search(calendar: &mut Calendar, rest: &mut ByRouter, rest_time: &mut u64)
     requires { rest_time.old ≡ first_time rest.old.events }
-    ensures events { together_with ring.new rest.new ≡ drop 1 (together_with ring.old rest.old) }
-    ensures ring { (ring.new ≡ ring.old) ⊎ (ring.new ≡ drop 1 ring.old) }
+    ensures events { together_with calendar.new rest.new ≡ drop 1 (together_with calendar.old rest.old) }
+    ensures calendar { (calendar.new ≡ calendar.old) ⊎ (calendar.new ≡ drop 1 calendar.old) }
     ensures time { rest_time.new ≡ first_time rest.new.events }
     ensures routers { rest.new.routers ≡ rest.old.routers }
     ensures room { rest.old.room ≤ rest.new.room }
 {
-    match first_of_rest(ring, rest, *rest_time) {
-        None => ring.skip_least(),
+    match first_of_rest(calendar, rest, *rest_time) {
+        None => calendar.skip_least(),
         Some(first) => {
             remove_from(rest, rest_time, &first);
-            ring.go_to(first.time);
+            calendar.go_to(first.time);
         }
     }
 }
 
-// Takes one event that equals `event` out of a ring or else out of the rest, tells whether there was one, and
+// Takes one event that equals `event` out of a calendar or else out of the rest, tells whether there was one, and
 // keeps the rest's least time.
-fn take_from(ring: &mut Ring, rest: &mut ByRouter, rest_time: &mut u64, event: &Event) -> bool
+fn take_from(calendar: &mut Calendar, rest: &mut ByRouter, rest_time: &mut u64, event: &Event) -> bool
     requires { rest_time.old ≡ first_time rest.old.events }
-    ensures found { IsTrue result ↔ (0 < times event_same event.now (together_with ring.old rest.old)) }
-    ensures events { together_with ring.new rest.new ≡ take_out event_same event.now (together_with ring.old rest.old) }
-    ensures len { length ring.new + length rest.new.events + (if result then 1 else 0) ≡ length ring.old + length rest.old.events }
-    ensures homes { AreFor rest.old.routers ring.old → AreFor rest.new.routers ring.new }
-    ensures empty { ring.old ≡ [] → ring.new ≡ [] }
+    ensures found { IsTrue result ↔ (0 < times event_same event.now (together_with calendar.old rest.old)) }
+    ensures events { together_with calendar.new rest.new ≡ take_out event_same event.now (together_with calendar.old rest.old) }
+    ensures len { length calendar.new + length rest.new.events + (if result then 1 else 0) ≡ length calendar.old + length rest.old.events }
+    ensures homes { AreFor rest.old.routers calendar.old → AreFor rest.new.routers calendar.new }
+    ensures empty { calendar.old ≡ [] → calendar.new ≡ [] }
     ensures time { rest_time.new ≡ first_time rest.new.events }
     ensures routers { rest.new.routers ≡ rest.old.routers }
     ensures room { rest.old.room ≤ rest.new.room }
 {
-    if ring.remove(event) {
+    if calendar.remove(event) {
         return true;
     }
     remove_from(rest, rest_time, event)

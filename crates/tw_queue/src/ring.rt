@@ -1,6 +1,6 @@
 //! The tick at hand, and the ticks after it in a ring of buckets.
 
-ghost use Rattle.std.specs.Prelude.{ℕ, ◌≡◌, ◌<◌, ◌≤◌, ◌==◌, ◌+◌, ◌++◌, ◌↔◌, None, Some, [], drop, filter, slice_get, slice_index_or, IfOk, IsTrue, OnOk};
+ghost use Rattle.std.specs.Prelude.{ℕ, ◌≡◌, ◌<◌, ◌≤◌, ◌==◌, ◌+◌, ◌++◌, ◌^◌, ◌↔◌, None, Some, [], drop, filter, slice_get, slice_index_or, IfOk, IsTrue, OnOk};
 ghost use Rattle.std.specs.Bool.{OnFalse, OnTrue};
 ghost use Rattle.tw_event.specs.declared.event.Event.{Event};
 ghost use Rattle.tw_event.specs.Order.{event_before, event_same};
@@ -256,7 +256,8 @@ impl Ring {
 
     /// How often an event is there.
     pub(crate) fn count(&self, event: &Event) -> usize
-        ensures { result ≡ times event_same event.now self.now }
+        ensures times { result ≡ times event_same event.now self.now }
+        ensures bound { result < 2 ^ 60 }
     {
         if event.time <= self.tick {
             return self.hand.count(self.taken, event);

@@ -1,7 +1,7 @@
 //! Searching a list in order.
 
 ghost use Rattle.std.specs.Option.{option_copied};
-ghost use Rattle.std.specs.Prelude.{◌≡◌, ◌<◌, ◌↔◌, None, IsTrue, count_by, position, vec_capacity};
+ghost use Rattle.std.specs.Prelude.{◌≡◌, ◌==◌, ◌<◌, ◌↔◌, None, IsTrue, count_by, filter, position, vec_capacity};
 ghost use Rattle.tw_event.specs.Order.{event_before, event_same};
 ghost use Rattle.tw_queue.specs.InOrder.{earlier, earlier_of, least_with};
 ghost use Rattle.tw_sim.specs.Ordered.{take_out, times};
@@ -44,6 +44,19 @@ pub(crate) fn least_of(first: Option<Event>, events: &[Event]) -> Option<Event>
     let mut least = first;
     for event in events {
         least = Some(earlier(*event, least));
+    }
+    least
+}
+
+// The least of an event, if there is one, and of those of these that are for a router.
+pub(crate) fn least_for(router: u32, first: Option<Event>, events: &[Event]) -> Option<Event>
+    ensures { result ≡ least_with first (filter (λ e. e.dst == router) events.now) }
+{
+    let mut least = first;
+    for event in events {
+        if event.dst == router {
+            least = Some(earlier(*event, least));
+        }
     }
     least
 }

@@ -1,6 +1,6 @@
 //! The events of one tick, put in order once.
 
-ghost use Rattle.std.specs.Prelude.{ℕ, ◌≡◌, ◌==◌, ◌+◌, ◌++◌, ◌<◌, ◌≤◌, ◌↔◌, ◌⊎◌, [], ◌∷◌, None, IfSome, IsTrue, OnOk, Some, count_by, drop, filter, length, position, slice_get};
+ghost use Rattle.std.specs.Prelude.{ℕ, ◌≡◌, ◌==◌, ◌+◌, ◌++◌, ◌^◌, ◌<◌, ◌≤◌, ◌↔◌, ◌⊎◌, [], ◌∷◌, None, IfSome, IsTrue, OnOk, Some, count_by, drop, filter, length, position, slice_get};
 ghost use Rattle.std.specs.Bool.{OnFalse, OnTrue};
 ghost use Rattle.tw_event.specs.declared.event.Event.{Event as AnEvent};
 ghost use Rattle.tw_event.specs.Order.{event_before, event_same};
@@ -138,7 +138,8 @@ impl Tick {
     /// How often an event stands among its events but for the first `start`.
     pub(crate) fn count(&self, start: usize, event: &Event) -> usize
         requires { start ≤ length self.now }
-        ensures { result ≡ times event_same event.now (drop start self.now) }
+        ensures times { result ≡ times event_same event.now (drop start self.now) }
+        ensures bound { result < 2 ^ 60 }
     {
         count_of(self.time, &self.updates[start..], event)
     }

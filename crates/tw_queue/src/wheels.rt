@@ -1,11 +1,11 @@
 //! The levels of the wheels above the ring.
 
-ghost use Rattle.std.specs.Prelude.{ℕ, ◌≡◌, ◌<◌, ◌≤◌, ◌+◌, ◌++◌, [], None, Some, OnOk, drop, length, slice_get};
+ghost use Rattle.std.specs.Prelude.{ℕ, ◌≡◌, ◌==◌, ◌<◌, ◌≤◌, ◌+◌, ◌^◌, ◌++◌, ◌↔◌, [], None, Some, IsTrue, OnOk, filter, length, slice_get};
 ghost use Rattle.std.specs.Bool.{OnFalse, OnTrue};
 ghost use Rattle.tw_event.specs.declared.event.Event.{Event as AnEvent};
 ghost use Rattle.tw_event.specs.Order.{event_before, event_same};
 ghost use Rattle.tw_queue.specs.Buckets.{together};
-ghost use Rattle.tw_queue.specs.InOrder.{in_order};
+ghost use Rattle.tw_queue.specs.InOrder.{in_order, least_with};
 ghost use Rattle.tw_sim.specs.Ordered.{insert, one, take_out, times};
 ghost use Rattle.tw_sim.specs.Rising.{IsRising};
 
@@ -13,7 +13,7 @@ use crate::bucket::Bucket;
 use crate::level::Level;
 use crate::marks::BUCKETS;
 use crate::ring::Ring;
-use crate::search::earlier_of;
+use crate::search::{count_of, earlier_of, least_for};
 use std::alloc::{AllocError, Global};
 use std::marker::Model;
 use tw_event::Event;
@@ -94,12 +94,32 @@ impl Wheels {
         earlier_of(least_of_levels(&self.levels), self.moving.least())
     }
 
-    /// Takes out the least event.
-    pub(crate) fn remove(&mut self, least: &Event)
-        requires { slice_get self.old 0 ≡ Some least.now }
-        ensures { self.new ≡ drop 1 self.old }
+    /// Takes one event that equals `event` out, and tells whether there was one.
+    pub(crate) fn remove(&mut self, event: &Event) -> bool
+        ensures found { IsTrue result ↔ (0 < times event_same event.now self.old) }
+        ensures events { self.new ≡ take_out event_same event.now self.old }
     {
-        remove_from(&mut self.levels, &mut self.moving, least);
+        // Of most calls for an event that isn't there this is the answer, and costs little.
+        if event.time < self.soonest {
+            return false;
+        }
+        remove_from(&mut self.levels, &mut self.moving, event)
+    }
+
+    /// How often an event is there.
+    pub(crate) fn count(&self, event: &Event) -> usize
+        ensures times { result ≡ times event_same event.now self.now }
+        ensures bound { result < 2 ^ 63 }
+    {
+        count_in(&self.levels, event) + count_of(self.moving.events(), event)
+    }
+
+    /// The least of an event, if there is one, and of those that are for a router.
+    pub(crate) fn least_for(&self, router: u32, first: Option<Event>) -> Option<Event>
+        ensures { result ≡ least_with first (filter (λ e. e.dst == router) self.now) }
+    {
+        let least = least_in_levels(&self.levels, router, first);
+        least_for(router, least, self.moving.events())
     }
 
     /// The run has come to this time, in ticks. No promise rests on it.
@@ -169,18 +189,40 @@ fn insert_into(levels: &mut [Level], event: &Event) -> bool
     false
 }
 
-// Takes one event that equals `event` out of a level, or of what is on its way down.
-fn remove_from(levels: &mut [Level], moving: &mut Bucket, event: &Event)
-    requires { 0 < times event_same event.now (together levels.old) + times event_same event.now moving.old }
-    ensures { (e : AnEvent) → times event_same e (together levels.new) + times event_same e moving.new + one event_same e event.now
-        ≡ times event_same e (together levels.old) + times event_same e moving.old }
+// Takes one event that equals `event` out of a level, or of what is on its way down, and tells whether there was one.
+fn remove_from(levels: &mut [Level], moving: &mut Bucket, event: &Event) -> bool
+    ensures found { OnTrue result ((e : AnEvent) → times event_same e (together levels.new) + times event_same e moving.new + one event_same e event.now
+        ≡ times event_same e (together levels.old) + times event_same e moving.old) }
+    ensures none { OnFalse result (times event_same event.now (together levels.old) + times event_same event.now moving.old ≡ 0) }
+    ensures levels { OnFalse result (levels.new ≡ levels.old) }
+    ensures moving { OnFalse result (moving.new ≡ moving.old) }
 {
     for number in 0..levels.len() {
         if levels[number].remove(event) {
-            return;
+            return true;
         }
     }
-    moving.remove(event);
+    moving.remove(event)
+}
+
+// How often an event is in levels.
+fn count_in(levels: &[Level], event: &Event) -> usize
+    requires { length levels.now ≡ 3 }
+    ensures times { result ≡ times event_same event.now (together levels.now) }
+    ensures bound { result < 2 ^ 62 }
+{
+    levels[0].count(event) + levels[1].count(event) + levels[2].count(event)
+}
+
+// The least of an event, if there is one, and of those in levels that are for a router.
+fn least_in_levels(levels: &[Level], router: u32, first: Option<Event>) -> Option<Event>
+    ensures { result ≡ least_with first (filter (λ e. e.dst == router) (together levels.now)) }
+{
+    let mut least = first;
+    for level in levels {
+        least = level.least_for(router, least);
+    }
+    least
 }
 
 // The least event of levels.

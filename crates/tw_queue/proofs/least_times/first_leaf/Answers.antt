@@ -1,4 +1,4 @@
-use Rattle.std.proofs.Common.{◌≡◌, ◌<◌, ◌≤◌, ◌*◌, subst, arith}
+use Rattle.std.proofs.Common.{subst, arith}
 use Rattle.tw_queue.specs.Least.{IsFirstOfLevel}
 use Rattle.tw_queue.proofs.Leaves.{level_below, level_end, next_level, twice_fits}
 use Rattle.tw_queue.proofs.least_times.first_leaf.Goals as goal

@@ -5,11 +5,11 @@ use Rattle.tw_queue.proofs.Merged.{first_time_low, sooner_ring}
 use Rattle.tw_queue.proofs.pending.copy_before.Goals as goal
 
 -- the first at hand is the first of all
-first : (c : goal.Then-copy_hand) → slice_get (in_order event_before (c.args.ring.now ++ c.args.rest.now.events)) 0 ≡ slice_get c.args.ring.now 0
+first : (c : goal.Then-copy_hand) → slice_get (in_order event_before (c.args.calendar.now ++ c.args.rest.now.events)) 0 ≡ slice_get c.args.calendar.now 0
 first c =
     let rest = c.args.rest.now in
     let m = c.min.ensures in
-    sooner_ring c.args.ring.now rest.events c.min.result c.taken.ensures (omega (arith, c.min.type_inv)) c.if-copy_hand.ensures.before (λ e there.
+    sooner_ring c.args.calendar.now rest.events c.min.result c.taken.ensures (omega (arith, c.min.type_inv)) c.if-copy_hand.ensures.before (λ e there.
     let l = first_time_low rest.events c.len.ensures.queue.rising e there in
     let t = c.requires in
     omega arith)

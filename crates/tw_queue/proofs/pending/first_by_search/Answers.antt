@@ -2,19 +2,19 @@ use Rattle.std.proofs.Common.{sym, ◌∙◌}
 use Rattle.tw_queue.proofs.Merged.{left_is_first, none_of, right_alone, right_is_first, ring_alone}
 use Rattle.tw_queue.proofs.pending.first_by_search.Goals as goal
 
-pub returns-in-None-clause-ring : goal.returns-in-None-clause-ring
-returns-in-None-clause-ring c = ring_alone c.args.ring.now c.args.rest.now.events (none_of c.args.rest.now.events (sym c.in-None.ensures.first)) c.taken.ensures
+pub returns-in-None-clause-calendar : goal.returns-in-None-clause-calendar
+returns-in-None-clause-calendar c = ring_alone c.args.calendar.now c.args.rest.now.events (none_of c.args.rest.now.events (sym c.in-None.ensures.first)) c.taken.ensures
 
 pub returns-then-not-copy_least-clause-rest : goal.returns-then-not-copy_least-clause-rest
 returns-then-not-copy_least-clause-rest c =
-    right_alone c.args.ring.now c.args.rest.now.events c.taken.ensures c.in-Some.ensures.queue.rising c.if-not-copy_least.ensures.beyond ∙ sym c.in-Some.ensures.first
+    right_alone c.args.calendar.now c.args.rest.now.events c.taken.ensures c.in-Some.ensures.queue.rising c.if-not-copy_least.ensures.beyond ∙ sym c.in-Some.ensures.first
 
 pub returns-then-comes_before-clause-rest : goal.returns-then-comes_before-clause-rest
 returns-then-comes_before-clause-rest c =
-    right_is_first c.args.ring.now c.args.rest.now.events c.taken.ensures c.in-Some.ensures.queue.rising c.copy_least.new.event c.in-Some.first (sym c.if-not-copy_least.ensures.some) (sym c.in-Some.ensures.first)
+    right_is_first c.args.calendar.now c.args.rest.now.events c.taken.ensures c.in-Some.ensures.queue.rising c.copy_least.new.event c.in-Some.first (sym c.if-not-copy_least.ensures.some) (sym c.in-Some.ensures.first)
     (sym c.comes_before.ensures ∙ c.if-comes_before.true)
 
-pub returns-else-comes_before-clause-ring : goal.returns-else-comes_before-clause-ring
-returns-else-comes_before-clause-ring c =
-    left_is_first c.args.ring.now c.args.rest.now.events c.taken.ensures c.in-Some.ensures.queue.rising c.copy_least.new.event c.in-Some.first (sym c.if-not-copy_least.ensures.some) (sym c.in-Some.ensures.first)
+pub returns-else-comes_before-clause-calendar : goal.returns-else-comes_before-clause-calendar
+returns-else-comes_before-clause-calendar c =
+    left_is_first c.args.calendar.now c.args.rest.now.events c.taken.ensures c.in-Some.ensures.queue.rising c.copy_least.new.event c.in-Some.first (sym c.if-not-copy_least.ensures.some) (sym c.in-Some.ensures.first)
     (sym c.comes_before.ensures ∙ c.if-comes_before.false)

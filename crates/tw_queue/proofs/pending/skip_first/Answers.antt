@@ -6,15 +6,15 @@ use Rattle.tw_queue.proofs.pending.skip_first.Goals as goal
 
 pub returns-then-skip_hand-clause-events : goal.returns-then-skip_hand-clause-events
 returns-then-skip_hand-clause-events c =
-    let ring = c.args.ring.now in
+    let calendar = c.args.calendar.now in
     let rest = c.args.rest.now in
     let told = c.if-skip_hand.ensures in
     let first =
-    sooner_ring ring rest.events c.args.rest_time.now c.taken.ensures (omega arith) told.before (λ e there.
+    sooner_ring calendar rest.events c.args.rest_time.now c.taken.ensures (omega arith) told.before (λ e there.
     let l = first_time_low rest.events c.len.ensures.queue.rising e there in
     let t = c.requires in
     omega arith) in
-    ap (λ xs. in_order event_before (xs ++ rest.events)) told.taken ∙ ring_taken ring rest.events first
+    ap (λ xs. in_order event_before (xs ++ rest.events)) told.taken ∙ ring_taken calendar rest.events first
 
-pub returns-then-skip_hand-clause-ring : goal.returns-then-skip_hand-clause-ring
-returns-then-skip_hand-clause-ring c = inr c.if-skip_hand.ensures.taken
+pub returns-then-skip_hand-clause-calendar : goal.returns-then-skip_hand-clause-calendar
+returns-then-skip_hand-clause-calendar c = inr c.if-skip_hand.ensures.taken

@@ -14,7 +14,7 @@ pub returns-clause-home : goal.returns-clause-home
 returns-clause-home c =
     let a = c.self.inside in
     subst (λ q. OnTrue c.copy_before.result (c.copy_before.new.event.dst < q.routers)) c.self.view_is
-    (on_true c.copy_before.result (λ some. home_first a.rest.routers (a.ring ++ a.rest.events) c.copy_before.new.event (all_both a.rest.routers a.ring a.rest.events c.self.invariant.homes c.len.ensures.queue.homes) (sym some)) c.copy_before.ensures.some)
+    (on_true c.copy_before.result (λ some. home_first a.rest.routers (a.calendar ++ a.rest.events) c.copy_before.new.event (all_both a.rest.routers a.calendar a.rest.events c.self.invariant.homes c.len.ensures.queue.homes) (sym some)) c.copy_before.ensures.some)
 
 pub returns-clause-none : goal.returns-clause-none
 returns-clause-none c = subst (λ q. OnFalse c.copy_before.result ((e : Event) → slice_get q.events 0 ≡ Some e → c.args.limit ≤ e.time)) c.self.view_is c.copy_before.ensures.none
@@ -22,4 +22,4 @@ returns-clause-none c = subst (λ q. OnFalse c.copy_before.result ((e : Event) �
 pub returns-clause-queue : goal.returns-clause-queue
 returns-clause-queue c =
     let a = c.self.inside in
-    subst IsQueue c.self.view_is (queue_of_both a.rest.routers (room_of a) a.ring a.rest.events c.self.invariant.homes c.len.ensures.queue.homes)
+    subst IsQueue c.self.view_is (queue_of_both a.rest.routers (room_of a) a.calendar a.rest.events c.self.invariant.homes c.len.ensures.queue.homes)

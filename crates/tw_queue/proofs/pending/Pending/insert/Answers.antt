@@ -18,10 +18,10 @@ invariant_of-self c =
     let told = c.if-insert_by_time.ensures in
     let n = ap (λ q. q.routers) c.self.view_is in
     let d = c.requires in
-    let long = ap (λ xs. length xs) told.added ∙ length-insert event_before e a.ring in
+    let long = ap (λ xs. length xs) told.added ∙ length-insert event_before e a.calendar in
     let l = v.len in
     record {
-      homes = homes_insert a.rest.routers e a.ring c.insert_by_time.new.ring told.added (omega arith) v.homes;
+      homes = homes_insert a.rest.routers e a.calendar c.insert_by_time.new.calendar told.added (omega arith) v.homes;
       by_router = λ h. absurd (false≢true (sym h ∙ told.by_time));
       len = omega arith;
       rest_time = v.rest_time;
@@ -31,21 +31,21 @@ pub returns-then-insert_by_time-clause-ok : goal.returns-then-insert_by_time-cla
 returns-then-insert_by_time-clause-ok c =
     let a = c.self.inside in
     let e = c.args.event in
-    ring_more e a.ring c.insert_by_time.new.ring a.rest.events c.if-insert_by_time.ensures.added ∙ ap (λ q. insert event_before e q.events) c.self.view_is
+    ring_more e a.calendar c.insert_by_time.new.calendar a.rest.events c.if-insert_by_time.ensures.added ∙ ap (λ q. insert event_before e q.events) c.self.view_is
 
 pub invariant_of-self-2 : goal.invariant_of-self-2
 invariant_of-self-2 c =
     let a = c.self.inside in
     let v = c.self.invariant in
     let e = c.args.event in
-    let same : c.insert_by_time.new.ring ≡ a.ring = c.if-insert_by_time.ensures.same in
+    let same : c.insert_by_time.new.calendar ≡ a.calendar = c.if-insert_by_time.ensures.same in
     let more : c.insert.new.self.events ≡ insert event_before e a.rest.events = c.in_ok-insert.ensures.ok in
     let long = ap (λ xs. length xs) more ∙ length-insert event_before e a.rest.events in
     let short = ap (λ xs. length xs) same in
     let l = v.len in
     let in_time : e.time ≤ never = omega arith in
     record {
-      homes = subst (λ n. AreFor n c.insert_by_time.new.ring) (sym c.insert.ensures.routers) (subst (AreFor a.rest.routers) (sym same) v.homes);
+      homes = subst (λ n. AreFor n c.insert_by_time.new.calendar) (sym c.insert.ensures.routers) (subst (AreFor a.rest.routers) (sym same) v.homes);
       by_router = λ h. same ∙ v.by_router h;
       len = omega arith;
       rest_time = c.min-self-inside.ensures ∙ ap (λ n. min n e.time) v.rest_time ∙ first_time-insert e a.rest.events in_time ∙ ap first_time (sym more);
@@ -55,6 +55,6 @@ pub returns-clause-ok : goal.returns-clause-ok
 returns-clause-ok c =
     let a = c.self.inside in
     let e = c.args.event in
-    let same : c.insert_by_time.new.ring ≡ a.ring = c.if-insert_by_time.ensures.same in
-    ap (λ ring. in_order event_before (ring ++ c.insert.new.self.events)) same ∙ right_more e a.ring a.rest.events c.insert.new.self.events c.in_ok-insert.ensures.ok
+    let same : c.insert_by_time.new.calendar ≡ a.calendar = c.if-insert_by_time.ensures.same in
+    ap (λ calendar. in_order event_before (calendar ++ c.insert.new.self.events)) same ∙ right_more e a.calendar a.rest.events c.insert.new.self.events c.in_ok-insert.ensures.ok
     ∙ ap (λ q. insert event_before e q.events) c.self.view_is

@@ -8,4 +8,4 @@ pub returns : goal.returns
 returns c =
     let a = c.self.inside in
     let z = c.in_ok-self-inside.ensures ∙ sym (c.self.invariant.by_router c.if-self.false) in
-    ap (λ ring. record { routers = a.rest.routers; events = in_order event_before (ring ++ a.rest.events); room = room_of a }) z ∙ c.self.view_is
+    ap (λ calendar. record { routers = a.rest.routers; events = in_order event_before (calendar ++ a.rest.events); room = room_of a }) z ∙ c.self.view_is

@@ -11,7 +11,7 @@ returns-clause-first c = c.least_of_both.ensures ∙ ap (λ q. slice_get q.event
 pub returns-clause-queue : goal.returns-clause-queue
 returns-clause-queue c =
     let a = c.self.inside in
-    subst IsQueue c.self.view_is (queue_of_both a.rest.routers (room_of a) a.ring a.rest.events c.self.invariant.homes c.len.ensures.queue.homes)
+    subst IsQueue c.self.view_is (queue_of_both a.rest.routers (room_of a) a.calendar a.rest.events c.self.invariant.homes c.len.ensures.queue.homes)
 
 pub returns-clause-home : goal.returns-clause-home
 returns-clause-home c =

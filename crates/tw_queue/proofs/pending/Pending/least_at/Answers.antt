@@ -10,13 +10,13 @@ returns-clause-first c =
     let a = c.self.inside in
     let r = c.args.router in
     c.earlier_of.ensures
-    ∙ both_passed a.ring a.rest.events c.taken.ensures c.least_at-3.ensures.queue.rising (λ e. e.dst == r) c.least_at-2.result c.least_at-3.result c.least_at-2.ensures c.least_at-3.ensures.first
+    ∙ both_passed a.calendar a.rest.events c.taken.ensures c.least_at-3.ensures.queue.rising (λ e. e.dst == r) c.least_at-2.result c.least_at-3.result c.least_at-2.ensures c.least_at-3.ensures.first
     ∙ ap (λ q. slice_get (filter (λ e. e.dst == r) q.events) 0) c.self.view_is
 
 pub returns-clause-queue : goal.returns-clause-queue
 returns-clause-queue c =
     let a = c.self.inside in
-    subst IsQueue c.self.view_is (queue_of_both a.rest.routers (room_of a) a.ring a.rest.events c.self.invariant.homes c.least_at-3.ensures.queue.homes)
+    subst IsQueue c.self.view_is (queue_of_both a.rest.routers (room_of a) a.calendar a.rest.events c.self.invariant.homes c.least_at-3.ensures.queue.homes)
 
 pub returns-clause-home : goal.returns-clause-home
 returns-clause-home c =
@@ -28,9 +28,9 @@ returns-then-not-self-clause-first c =
     let r = c.args.router in
     let z = c.self.invariant.by_router c.if-not-self.true in
     c.least_at.ensures.first
-    ∙ ap (λ xs. slice_get (filter (λ e. e.dst == r) xs) 0) (rest_alone a.ring a.rest.events c.args.self.now.events z c.least_at.ensures.queue.rising (ap (λ q. q.events) c.self.view_is))
+    ∙ ap (λ xs. slice_get (filter (λ e. e.dst == r) xs) 0) (rest_alone a.calendar a.rest.events c.args.self.now.events z c.least_at.ensures.queue.rising (ap (λ q. q.events) c.self.view_is))
 
 pub returns-then-not-self-clause-queue : goal.returns-then-not-self-clause-queue
 returns-then-not-self-clause-queue c =
     let a = c.self.inside in
-    subst IsQueue c.self.view_is (queue_of_both a.rest.routers (room_of a) a.ring a.rest.events c.self.invariant.homes c.least_at.ensures.queue.homes)
+    subst IsQueue c.self.view_is (queue_of_both a.rest.routers (room_of a) a.calendar a.rest.events c.self.invariant.homes c.least_at.ensures.queue.homes)

@@ -6,7 +6,7 @@ pub returns-then-self-eq0 : goal.returns-then-self-eq0
 returns-then-self-eq0 c =
     let a = c.self.inside in
     let n = c.self.invariant.len in
-    ap (λ xs. option_map (λ e. e.time) (slice_get xs 0)) (sym (none_pending a.ring a.rest.events c.args.self.now.events (ap (λ q. q.events) c.self.view_is) (omega (arith, c.if-self-eq0.true))))
+    ap (λ xs. option_map (λ e. e.time) (slice_get xs 0)) (sym (none_pending a.calendar a.rest.events c.args.self.now.events (ap (λ q. q.events) c.self.view_is) (omega (arith, c.if-self-eq0.true))))
 
 pub returns : goal.returns
 returns c =
@@ -16,5 +16,5 @@ returns c =
     let m = c.min.ensures in
     let n = v.len in
     let r = v.rest_time in
-    least_told a.ring a.rest.events c.taken.ensures c.len.ensures.queue.rising c.min.result (omega arith) (omega (arith, c.least_time.type_inv)) (omega arith) (omega (arith, c.if-self-eq0.false))
+    least_told a.calendar a.rest.events c.taken.ensures c.len.ensures.queue.rising c.min.result (omega arith) (omega (arith, c.least_time.type_inv)) (omega arith) (omega (arith, c.if-self-eq0.false))
     ∙ ap (λ q. option_map (λ e. e.time) (slice_get q.events 0)) c.self.view_is

@@ -7,9 +7,9 @@ use Rattle.tw_queue.proofs.pending.Pending.len.Goals as goal
 pub returns-clause-len : goal.returns-clause-len
 returns-clause-len c =
     let a = c.self.inside in
-    c.self.invariant.len ∙ sym (length-both a.ring a.rest.events) ∙ ap (λ q. length q.events) c.self.view_is
+    c.self.invariant.len ∙ sym (length-both a.calendar a.rest.events) ∙ ap (λ q. length q.events) c.self.view_is
 
 pub returns-clause-queue : goal.returns-clause-queue
 returns-clause-queue c =
     let a = c.self.inside in
-    subst IsQueue c.self.view_is (queue_of_both a.rest.routers (room_of a) a.ring a.rest.events c.self.invariant.homes c.len.ensures.queue.homes)
+    subst IsQueue c.self.view_is (queue_of_both a.rest.routers (room_of a) a.calendar a.rest.events c.self.invariant.homes c.len.ensures.queue.homes)

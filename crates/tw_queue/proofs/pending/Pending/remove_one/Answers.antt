@@ -9,7 +9,7 @@ none : (c : goal.Then-self-eq0) → c.args.self.now.events ≡ []
 none c =
     let a = c.self.inside in
     let n = c.self.invariant.len in
-    none_pending a.ring a.rest.events c.args.self.now.events (ap (λ q. q.events) c.self.view_is) (omega (arith, c.if-self-eq0.true))
+    none_pending a.calendar a.rest.events c.args.self.now.events (ap (λ q. q.events) c.self.view_is) (omega (arith, c.if-self-eq0.true))
 
 pub returns-then-self-eq0-clause-found : goal.returns-then-self-eq0-clause-found
 returns-then-self-eq0-clause-found c =

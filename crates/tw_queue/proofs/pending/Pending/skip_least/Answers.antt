@@ -8,7 +8,7 @@ pub returns-then-self-eq0-clause-events : goal.returns-then-self-eq0-clause-even
 returns-then-self-eq0-clause-events c =
     let a = c.self.inside in
     let n = c.self.invariant.len in
-    let z = none_pending a.ring a.rest.events c.args.self.now.events (ap (λ q. q.events) c.self.view_is) (omega (arith, c.if-self-eq0.true)) in
+    let z = none_pending a.calendar a.rest.events c.args.self.now.events (ap (λ q. q.events) c.self.view_is) (omega (arith, c.if-self-eq0.true)) in
     z ∙ ap (drop 1) (sym z)
 
 pub invariant_of-self : goal.invariant_of-self
@@ -16,16 +16,16 @@ invariant_of-self c =
     let a = c.self.inside in
     let v = c.self.invariant in
     let s = c.skip_first.ensures in
-    let ring = c.skip_first.new.ring in
+    let calendar = c.skip_first.new.calendar in
     let rest = c.skip_first.new.rest in
     let n = v.len in
-    let old = length-both a.ring a.rest.events in
-    let new = length-both ring rest.events in
+    let old = length-both a.calendar a.rest.events in
+    let new = length-both calendar rest.events in
     let less = ap (λ xs. length xs) s.events in
-    let left = length-drop 1 (together_with a.ring a.rest) in
+    let left = length-drop 1 (together_with a.calendar a.rest) in
     record {
-      homes = homes_skipped a.rest.routers rest.routers a.ring ring s.ring s.routers v.homes;
-      by_router = λ h. empty_skipped a.ring ring s.ring (v.by_router h);
+      homes = homes_skipped a.rest.routers rest.routers a.calendar calendar s.calendar s.routers v.homes;
+      by_router = λ h. empty_skipped a.calendar calendar s.calendar (v.by_router h);
       len = omega arith;
       rest_time = s.time;
     }

@@ -4,16 +4,16 @@ use Rattle.tw_sim.specs.Ordered.{times}
 use Rattle.tw_queue.proofs.Removed.{bucket_count, hand_count}
 use Rattle.tw_queue.proofs.ring.Ring.count.Goals as goal
 
-pub returns-then-event-self : goal.returns-then-event-self
-returns-then-event-self c =
+pub returns-then-event-self-clause-times : goal.returns-then-event-self-clause-times
+returns-then-event-self-clause-times c =
     let a = c.self.inside in
     let e = c.args.event.now in
-    c.count.ensures ∙ hand_count a c.self.invariant e (omega (arith, c.if-event-self.true)) ∙ ap (times event_same e) c.self.view_is
+    c.count.ensures.times ∙ hand_count a c.self.invariant e (omega (arith, c.if-event-self.true)) ∙ ap (times event_same e) c.self.view_is
 
-pub returns : goal.returns
-returns c =
+pub returns-clause-times : goal.returns-clause-times
+returns-clause-times c =
     let a = c.self.inside in
     let e = c.args.event.now in
     let b = c.index-self-slot_of in
-    c.count-2.ensures ∙ bucket_count a c.self.invariant e (omega (arith, c.if-event-self.false)) c.slot_of.result c.slot_of.ensures b.result b.is
+    c.count-2.ensures.times ∙ bucket_count a c.self.invariant e (omega (arith, c.if-event-self.false)) c.slot_of.result c.slot_of.ensures b.result b.is
     ∙ ap (times event_same e) c.self.view_is

@@ -6,8 +6,8 @@ use Rattle.tw_queue.proofs.Places.{equals}
 use Rattle.tw_queue.proofs.Sought.{count_through, rest_events}
 use Rattle.tw_queue.proofs.tick.Tick.count.Goals as goal
 
-pub returns : goal.returns
-returns c =
+pub returns-clause-times : goal.returns-clause-times
+returns-clause-times c =
     let a = c.self.inside in
     let e = c.args.event.now in
     let left = take (length a.updates.items - c.args.start) (drop c.args.start a.updates.items) in
