@@ -79,10 +79,13 @@ impl Calendar {
     pub(crate) fn least_time(&self) -> u64
         ensures { result ≡ first_time self.now }
     {
-        match first_of_wheels(&self.ring, &self.wheels) {
-            None => self.ring.least_time(),
-            Some(first) => first.time,
+        let _ = self.ring.taken();
+        let time = self.ring.least_time();
+        // Of most calls this is the answer, and costs little.
+        if time < self.wheels.soonest() {
+            return time;
         }
+        time_by_search(&self.ring, &self.wheels)
     }
 
     /// Copies the least event, where it is one of the tick at hand and before a limit, in ticks, and tells whether
@@ -229,6 +232,17 @@ fn begin_first(ring: &mut Ring, wheels: &mut Wheels, latest: u64)
     }
     ring.begin_tick();
     wheels.go_to(time);
+}
+
+// The time of the least event of a ring and of wheels, in ticks, and `u64::MAX` where there is none.
+#[inline(never)]
+fn time_by_search(ring: &Ring, wheels: &Wheels) -> u64
+    ensures { result ≡ first_time (in_order event_before (ring.now ++ wheels.now)) }
+{
+    match first_by_search(ring, wheels) {
+        None => ring.least_time(),
+        Some(first) => first.time,
+    }
 }
 
 // The least event of all, where it is in the wheels and not in the ring.

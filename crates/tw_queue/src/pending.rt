@@ -336,18 +336,29 @@ fn copy_before(
 {
     let _ = calendar.taken();
     let _ = rest.len();
+    begin_tick(calendar, limit.saturating_sub(1).min(rest_time));
     // Of most calls this is the answer, and costs little.
     if calendar.copy_hand(limit.min(rest_time), event) {
         return true;
     }
-    begin_tick(calendar, limit.saturating_sub(1).min(rest_time));
     copy_first_before(calendar, rest, rest_time, limit, event)
 }
 
 // Puts a calendar's next tick at hand, where it is at `latest`, in ticks, at the latest: before its time comes, more
 // events may come to it, and then it would be put in order in vain.
-#[inline(never)]
+#[inline(always)]
 fn begin_tick(calendar: &mut Calendar, latest: u64)
+    ensures { calendar.new ≡ calendar.old }
+{
+    // Of most calls nothing is to be done.
+    if calendar.has_tick_at_hand() {
+        return;
+    }
+    begin_next_tick(calendar, latest);
+}
+
+#[inline(never)]
+fn begin_next_tick(calendar: &mut Calendar, latest: u64)
     ensures { calendar.new ≡ calendar.old }
 {
     calendar.begin_tick(latest);
