@@ -31,6 +31,7 @@ impl Hand {
             out: Vec::new(alloc),
         }
     }
+
     /// The mail for one router that is not delivered goes to another hand, behind the mail there. What a visit
     /// gave back stays. For want of memory nothing has changed; it cannot fail where there is room for all mail.
     pub fn hand_over(&mut self, router: u32, to: &mut Hand) -> Result<(), AllocError>
@@ -38,6 +39,8 @@ impl Hand {
         ensures left { OnOk result (waiting self.new ≡ filter (is_to_another router) (waiting self.old)) }
         ensures err { OnErr result (self.new ≡ self.old) }
         ensures none_came { OnErr result (waiting to.new ≡ waiting to.old) }
+        ensures to_mail { OnErr result (to.new.mail.items ≡ to.old.mail.items) }
+        ensures to_next { OnErr result (to.new.next ≡ to.old.next) }
         ensures next { OnOk result (to.new.next ≡ 0) }
         ensures out { self.new.out ≡ self.old.out }
         ensures to_out { to.new.out ≡ to.old.out }
