@@ -55,6 +55,8 @@ ERROR = re.compile(r"(note: )?\S+:\d+:\d+:")
 OF_NAMES = re.compile(
     r"has no field|is not in scope|has no `|was not admitted|was rejected, w(as|ere) not checked"
 )
+# A note on what a proof costs refuses nothing.
+OF_COST = re.compile(r"note: large solution")
 AT_LIMIT = re.compile(r"antt ran out of|outgrew the memory limit|stopped at the step limit")
 
 Read = Callable[[str], str]
@@ -390,7 +392,9 @@ class Batches:
             self.tell(body, "", "it is still proved")
         elif said.has_refused():
             errors = [
-                line for line in said.lines if ERROR.match(line) and not OF_NAMES.search(line)
+                line
+                for line in said.lines
+                if ERROR.match(line) and not OF_NAMES.search(line) and not OF_COST.search(line)
             ]
             self.tell(
                 body, (errors or ["only because a proof file names what it took away"])[0], ""

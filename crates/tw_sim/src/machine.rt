@@ -3,10 +3,10 @@
 /// A message between routers: an event, or the antimessage that takes one back.
 #[derive(Clone, Copy, PartialEq, Eq, Debug)]
 pub struct Signed<E> {
-    /// Whether it brings the event; else it takes one equal event back.
-    pub plus: bool,
     /// The event, equal in every field to the one that it takes back.
     pub event: E,
+    /// Whether it brings the event; else it takes one equal event back.
+    pub plus: bool,
 }
 
 /// When what an event has sent is taken back, once the event is undone.

@@ -118,16 +118,18 @@ pub(crate) struct Pace {
     least_window: u64,
     // The time of the event handled last.
     tick: u64,
-    // Since the latest meeting.
-    turn: Work,
+    // How many events were handled: so far, at the latest meeting, and at the latest commit.
+    handled: u64,
+    handled_at_meeting: u64,
+    handled_at_commit: u64,
+    // How many were undone since the latest meeting.
+    undone: u64,
     // Since the window was judged.
     span: Span,
     // How many spans the window still stays before it may grow.
     wait: u64,
     // And how many after its next fall.
     next_wait: u64,
-    // Handled since the latest commit.
-    uncommitted: u64,
 }
 
 impl Pace {
@@ -140,11 +142,13 @@ impl Pace {
             window: least_window,
             least_window,
             tick: 0,
-            turn: Work::NONE,
+            handled: 0,
+            handled_at_meeting: 0,
+            handled_at_commit: 0,
+            undone: 0,
             span: Span::NONE,
             wait: 0,
             next_wait: FIRST_WAIT,
-            uncommitted: 0,
         }
     }
 
@@ -172,43 +176,48 @@ impl Pace {
 
     /// What was done since the latest meeting.
     pub(crate) fn turn(&self) -> Work {
-        self.turn
+        Work {
+            handled: self.handled.saturating_sub(self.handled_at_meeting),
+            undone: self.undone,
+        }
     }
 
     /// A meeting is over.
     pub(crate) fn begin_turn(&mut self) {
-        self.turn = Work::NONE;
+        self.handled_at_meeting = self.handled;
+        self.undone = 0;
     }
 
     /// An event of this time was handled.
     pub(crate) fn count_handled(&mut self, time: u64) {
         self.tick = time;
-        self.turn.handled = self.turn.handled.saturating_add(1);
-        self.uncommitted = self.uncommitted.saturating_add(1);
+        self.handled = self.handled.saturating_add(1);
     }
 
     /// Whether a worker commits that knows this bound: at the end, and once in a while before.
     pub(crate) fn is_commit_due(&self, bound: u64, stop: u64) -> bool
         ensures { bound ≡ stop → result ≡ true }
     {
-        bound == stop || self.uncommitted >= HANDLED_FOR_EACH_COMMIT
+        let uncommitted = self.handled.saturating_sub(self.handled_at_commit);
+        bound == stop || uncommitted >= HANDLED_FOR_EACH_COMMIT
     }
 
     /// All before the bound are committed.
     pub(crate) fn count_commit(&mut self)
         ensures { self.new.batch ≡ self.old.batch }
     {
-        self.uncommitted = 0;
+        self.handled_at_commit = self.handled;
     }
 
     /// So many events were undone.
     pub(crate) fn count_undone(&mut self, events: usize) {
-        self.turn.undone = self.turn.undone.saturating_add(events as u64);
+        self.undone = self.undone.saturating_add(events as u64);
     }
 
     /// A batch is over: whether it ended at the window. After a span of turns the window is judged.
     pub(crate) fn adapt(&mut self, at_window: bool) {
-        self.span.add(self.turn, at_window);
+        let turn = self.turn();
+        self.span.add(turn, at_window);
         if self.span.is_over() {
             self.judge();
             self.span = Span::NONE;
