@@ -1,8 +1,6 @@
 //! Calls that may answer want of memory, each with memory enough: none of them does, at its first try.
 
-use crate::moving::{hand_over, shard};
 use crate::shards::welcomes;
-use crate::table::sit_down;
 use std::alloc::Global;
 use tw_exchange::{Exchange, Parcels};
 use tw_instance::Case;
@@ -104,25 +102,6 @@ fn a_shard_handles_undoes_and_commits(rt: HostRuntime) {
     assert!(rt; opens_and_commits(rt.alloc(), &case));
 }
 
-/// Whether the origin goes from one of two workers to the other as a case begins.
-fn goes_over(alloc: Global, case: &Case) -> bool {
-    let (Some(mut from), Some(mut to)) = (
-        shard(alloc, case, 0, Cancel::Lazy),
-        shard(alloc, case, 1, Cancel::Lazy),
-    ) else {
-        return false;
-    };
-    hand_over(&mut from, 0, &mut to) == Some(Ok(()))
-}
-
-#[test]
-fn a_router_goes_to_another_shard(rt: HostRuntime) {
-    let Ok(case) = case(rt.alloc(), DISAGREE) else {
-        panic!(rt; "refused")
-    };
-    assert!(rt; goes_over(rt.alloc(), &case));
-}
-
 /// How many events wait at two workers as they begin.
 fn wait_at_first(alloc: Global, case: &Case) -> Option<usize> {
     let shards = open_all(alloc, case, 2, true, Cancel::Aggressive).ok()?;
@@ -136,12 +115,4 @@ fn shards_are_opened_and_tell_what_waits(rt: HostRuntime) {
         panic!(rt; "refused")
     };
     assert!(rt; wait_at_first(rt.alloc(), &case) == Some(1));
-}
-
-#[test]
-fn two_workers_sit_down_at_a_table(rt: HostRuntime) {
-    let Ok(case) = case(rt.alloc(), DISAGREE) else {
-        panic!(rt; "refused")
-    };
-    assert!(rt; sit_down(&rt, rt.alloc(), &case).is_some());
 }

@@ -3,6 +3,7 @@
 ghost use Rattle.std.specs.Prelude.{◌≡◌, ◌<◌, ◌≤◌, true};
 ghost use Rattle.tw_model.specs.declared.limits.TheConstants.{LATEST};
 
+use crate::calls::{handle, receive, undo};
 use std::alloc::{AllocError, Global};
 use tw_event::{Event, PathNo};
 use tw_handlers::does_suit;
@@ -22,16 +23,6 @@ fn shard<'a>(alloc: Global, case: &'a Case, worker: u32) -> Result<Shard<'a>, Al
     match Shard::open(alloc, case, worker, 3, true) {
         Err(_) => Shard::open(alloc, case, worker, 3, true),
         made => made,
-    }
-}
-
-/// Handles the first event of a router to stop 20, once more where memory was refused.
-pub(crate) fn handle(shard: &mut Shard<'_>, router: u32) -> Result<(), OrMemory<Refusal>>
-    ensures { shard.new.case ≡ shard.old.case }
-{
-    match shard.handle_next(router, 20) {
-        Err(OrMemory::Memory) => shard.handle_next(router, 20),
-        answer => answer,
     }
 }
 
@@ -62,31 +53,6 @@ pub(crate) fn welcomes(shard: &mut Shard<'_>, message: &Signed<Event>) -> bool {
 /// Whether a message is welcome and comes, once more where memory was refused.
 fn receive_welcome(shard: &mut Shard<'_>, message: &Signed<Event>) -> bool {
     welcomes(shard, message) || welcomes(shard, message)
-}
-
-/// Undoes the last event of a router, once more where memory was refused.
-pub(crate) fn undo(shard: &mut Shard<'_>, router: u32) -> Result<(), OrMemory<Refusal>>
-    ensures { shard.new.case ≡ shard.old.case }
-{
-    match shard.undo_last(router) {
-        Err(OrMemory::Memory) => shard.undo_last(router),
-        answer => answer,
-    }
-}
-
-/// A message comes, once more where memory was refused.
-pub(crate) fn receive(shard: &mut Shard<'_>, message: Signed<Event>) -> Result<(), Returned>
-    ensures { shard.new.case ≡ shard.old.case }
-{
-    match shard.receive(message) {
-        Err(
-            Returned {
-                message,
-                why: OrMemory::Memory,
-            },
-        ) => shard.receive(message),
-        answer => answer,
-    }
 }
 
 /// Commits and keeps, once more where memory was refused.

@@ -3,7 +3,6 @@
 
 ghost use Rattle.std.specs.Prelude.{◌≡◌, ◌<◌, IfSome};
 
-use crate::shards::{handle, receive, undo};
 use std::alloc::Global;
 use tw_event::PathNo;
 use tw_instance::Case;
@@ -14,6 +13,7 @@ use tw_rows::cases::case;
 use tw_rows::texts::DISAGREE;
 use tw_shard::{OrMemory, Refusal, Shard};
 use tw_sim::Cancel;
+use tw_worker_rows::calls::{handle, receive, undo};
 
 /// Which worker has each router.
 const OWNERS: [u32; 3] = [0, 0, 1];
@@ -70,7 +70,7 @@ pub(crate) fn hand_over<'a>(
 }
 
 /// How many routers a shard has, what waits for them, what is held for them and what they have sent, and its bound.
-#[derive(Clone, Copy, PartialEq, Eq, Debug)]
+#[derive(Clone, Copy, PartialEq)]
 struct Amounts {
     routers: usize,
     pending: usize,
@@ -216,20 +216,37 @@ enum Row {
 
 /// Whether a row holds of the two shards as DISAGREE begins.
 fn holds(alloc: Global, cancel: Cancel, row: Row) -> bool {
-    let Ok(case) = case(alloc, DISAGREE) else {
-        return false;
-    };
-    let (Some(mut from), Some(mut to)) = (
-        shard_at_last(alloc, &case, 0, cancel),
-        shard_at_last(alloc, &case, 1, cancel),
-    ) else {
-        return false;
-    };
+    match case(alloc, DISAGREE) {
+        Ok(case) => holds_in(alloc, &case, cancel, row),
+        Err(_) => false,
+    }
+}
+
+// A function that owns two shards takes far longer to prove than two functions that own one each.
+fn holds_in(alloc: Global, case: &Case, cancel: Cancel, row: Row) -> bool {
+    match shard_at_last(alloc, case, 0, cancel) {
+        Some(mut from) => holds_from(alloc, case, &mut from, row),
+        None => false,
+    }
+}
+
+fn holds_from<'a>(alloc: Global, case: &'a Case, from: &mut Shard<'a>, row: Row) -> bool
+    requires { from.old.case ≡ case.now }
+{
+    match shard_at_last(alloc, case, 1, from.cancel()) {
+        Some(mut to) => holds_of(from, &mut to, row),
+        None => false,
+    }
+}
+
+fn holds_of<'a>(from: &mut Shard<'a>, to: &mut Shard<'a>, row: Row) -> bool
+    requires { to.old.case ≡ from.old.case }
+{
     match row {
-        Row::DealtOut => are_dealt_out(&from, &to),
-        Row::Refused => is_refused(&mut from, &mut to),
-        Row::Waiting => comes_with_what_waits(&mut from, &mut to),
-        Row::Held => comes_with_what_is_held(&mut from, &mut to),
+        Row::DealtOut => are_dealt_out(from, to),
+        Row::Refused => is_refused(from, to),
+        Row::Waiting => comes_with_what_waits(from, to),
+        Row::Held => comes_with_what_is_held(from, to),
     }
 }
 
