@@ -18,7 +18,15 @@ STRAGGLER = CASES / "straggler.replay"
 PROGRAM = TOP / "crates/twarp/out/twarp"
 REPORT = TOP / "crates/twarp/stdout"
 REPLAYED = INPUTS / "straggler-replay.txt"
-ROWS = ("tw_rows", "tw_machine_rows", "tw_exchange_rows", "tw_worker_rows", "tw_program_rows")
+ROWS = (
+    "tw_rows",
+    "tw_machine_rows",
+    "tw_exchange_rows",
+    "tw_worker_rows",
+    "tw_moving_rows",
+    "tw_table_rows",
+    "tw_program_rows",
+)
 
 # Whoever imports this module first finds those of bench/ and tools/ too.
 sys.path += [str(TOP / "bench"), str(TOP / "tools")]

@@ -1,15 +1,12 @@
 //! Calls that may answer want of memory, each with memory enough: none of them does, at its first try.
 
-use crate::moving::{hand_over, shard};
-use crate::shards::welcomes;
-use crate::table::sit_down;
+use crate::shards::{Row, only_worker_holds};
 use std::alloc::Global;
 use tw_exchange::{Exchange, Parcels};
 use tw_instance::Case;
 use tw_machine_rows::messages::offers_of_origin;
 use tw_rows::cases::case;
 use tw_rows::texts::DISAGREE;
-use tw_shard::Shard;
 use tw_shard::shards::{open_all, pending_events};
 use tw_sim::Cancel;
 
@@ -51,76 +48,14 @@ fn a_worker_visits_the_exchange(rt: HostRuntime) {
     assert!(rt; visits(rt.alloc()));
 }
 
-/// Whether router 0 of the only worker handles its start, undoes it and commits it, and router 1 is offered a path.
-fn goes_and_comes_back(shard: &mut Shard<'_>) -> bool {
-    let [offer, _] = offers_of_origin();
-    shard.handle_next(0, 20) == Ok(())
-        && shard.undo_last(0) == Ok(())
-        && shard.handle_next(0, 20) == Ok(())
-        && shard.receive(offer) == Ok(())
-}
-
-/// Whether the start is handled as the least of all events, and router 1 is offered a path.
-fn handles_the_least(shard: &mut Shard<'_>) -> bool {
-    let [offer, _] = offers_of_origin();
-    shard.order_by_time() == Ok(()) && shard.handle_least(20) == Ok(0) && welcomes(shard, &offer)
-}
-
-/// Whether the only worker, as a case begins, handles its least event.
-fn opens_and_handles_the_least(alloc: Global, case: &Case) -> bool {
-    match Shard::open(alloc, case, 0, 1, true) {
-        Ok(mut shard) => handles_the_least(&mut shard),
-        Err(_) => false,
-    }
-}
-
 #[test]
 fn a_shard_handles_its_least_event(rt: HostRuntime) {
-    let Ok(case) = case(rt.alloc(), DISAGREE) else {
-        panic!(rt; "refused")
-    };
-    assert!(rt; opens_and_handles_the_least(rt.alloc(), &case));
-}
-
-/// Whether router 0 commits its start.
-fn commits(shard: &mut Shard<'_>) -> bool {
-    shard.raise_bound(1);
-    shard.keeps() && shard.commit(0) == Ok(())
-}
-
-/// Whether the only worker goes and comes back as a case begins, and commits.
-fn opens_and_commits(alloc: Global, case: &Case) -> bool {
-    match Shard::open(alloc, case, 0, 1, true) {
-        Ok(mut shard) => goes_and_comes_back(&mut shard) && commits(&mut shard),
-        Err(_) => false,
-    }
+    assert!(rt; only_worker_holds(rt.alloc(), Row::LeastAtOnce));
 }
 
 #[test]
 fn a_shard_handles_undoes_and_commits(rt: HostRuntime) {
-    let Ok(case) = case(rt.alloc(), DISAGREE) else {
-        panic!(rt; "refused")
-    };
-    assert!(rt; opens_and_commits(rt.alloc(), &case));
-}
-
-/// Whether the origin goes from one of two workers to the other as a case begins.
-fn goes_over(alloc: Global, case: &Case) -> bool {
-    let (Some(mut from), Some(mut to)) = (
-        shard(alloc, case, 0, Cancel::Lazy),
-        shard(alloc, case, 1, Cancel::Lazy),
-    ) else {
-        return false;
-    };
-    hand_over(&mut from, 0, &mut to) == Some(Ok(()))
-}
-
-#[test]
-fn a_router_goes_to_another_shard(rt: HostRuntime) {
-    let Ok(case) = case(rt.alloc(), DISAGREE) else {
-        panic!(rt; "refused")
-    };
-    assert!(rt; goes_over(rt.alloc(), &case));
+    assert!(rt; only_worker_holds(rt.alloc(), Row::CommitsAtOnce));
 }
 
 /// How many events wait at two workers as they begin.
@@ -136,12 +71,4 @@ fn shards_are_opened_and_tell_what_waits(rt: HostRuntime) {
         panic!(rt; "refused")
     };
     assert!(rt; wait_at_first(rt.alloc(), &case) == Some(1));
-}
-
-#[test]
-fn two_workers_sit_down_at_a_table(rt: HostRuntime) {
-    let Ok(case) = case(rt.alloc(), DISAGREE) else {
-        panic!(rt; "refused")
-    };
-    assert!(rt; sit_down(&rt, rt.alloc(), &case).is_some());
 }

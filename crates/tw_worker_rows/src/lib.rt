@@ -1,13 +1,10 @@
-//! Worked rows of what the workers of a parallel run have, as tests: a shard, and the table of two workers.
+//! Worked rows of what a worker of a parallel run has, a shard, as tests.
 //!
 //! Each test tries a call once more where memory was refused, as those of `tw_rows` do.
 #![tactic(auto)]
 
 #[cfg(test)]
 mod ample;
-#[cfg(test)]
-mod moving;
+pub mod calls;
 #[cfg(test)]
 mod shards;
-#[cfg(test)]
-mod table;

@@ -3,6 +3,7 @@
 ghost use Rattle.std.specs.Prelude.{◌≡◌, ◌<◌, ◌≤◌, true};
 ghost use Rattle.tw_model.specs.declared.limits.TheConstants.{LATEST};
 
+use crate::calls::{handle, receive, undo};
 use std::alloc::{AllocError, Global};
 use tw_event::{Event, PathNo};
 use tw_handlers::does_suit;
@@ -15,23 +16,26 @@ use tw_rows::texts::DISAGREE;
 use tw_shard::{OrMemory, Refusal, Rejection, Returned, Shard};
 use tw_sim::Signed;
 
-/// What one worker of three has of a case.
-fn shard<'a>(alloc: Global, case: &'a Case, worker: u32) -> Result<Shard<'a>, AllocError>
-    requires { worker < 3 }
-{
-    match Shard::open(alloc, case, worker, 3, true) {
-        Err(_) => Shard::open(alloc, case, worker, 3, true),
-        made => made,
-    }
+/// How often a shard is made, at most: once, or once more where memory was refused.
+#[derive(Clone, Copy)]
+enum Tries {
+    Once,
+    Twice,
 }
 
-/// Handles the first event of a router to stop 20, once more where memory was refused.
-pub(crate) fn handle(shard: &mut Shard<'_>, router: u32) -> Result<(), OrMemory<Refusal>>
-    ensures { shard.new.case ≡ shard.old.case }
+/// What one worker of so many has of a case, made so often.
+fn shard<'a>(
+    alloc: Global,
+    case: &'a Case,
+    worker: u32,
+    workers: u32,
+    tries: Tries,
+) -> Result<Shard<'a>, AllocError>
+    requires { worker < workers }
 {
-    match shard.handle_next(router, 20) {
-        Err(OrMemory::Memory) => shard.handle_next(router, 20),
-        answer => answer,
+    match (Shard::open(alloc, case, worker, workers, true), tries) {
+        (Err(_), Tries::Twice) => Shard::open(alloc, case, worker, workers, true),
+        (made, _) => made,
     }
 }
 
@@ -51,7 +55,7 @@ fn order_by_time(shard: &mut Shard<'_>) -> bool {
 }
 
 /// Whether a message is welcome and comes.
-pub(crate) fn welcomes(shard: &mut Shard<'_>, message: &Signed<Event>) -> bool {
+fn welcomes(shard: &mut Shard<'_>, message: &Signed<Event>) -> bool {
     let event = &message.event;
     shard.owns(event.dst)
         && shard.bound() <= event.time
@@ -62,31 +66,6 @@ pub(crate) fn welcomes(shard: &mut Shard<'_>, message: &Signed<Event>) -> bool {
 /// Whether a message is welcome and comes, once more where memory was refused.
 fn receive_welcome(shard: &mut Shard<'_>, message: &Signed<Event>) -> bool {
     welcomes(shard, message) || welcomes(shard, message)
-}
-
-/// Undoes the last event of a router, once more where memory was refused.
-pub(crate) fn undo(shard: &mut Shard<'_>, router: u32) -> Result<(), OrMemory<Refusal>>
-    ensures { shard.new.case ≡ shard.old.case }
-{
-    match shard.undo_last(router) {
-        Err(OrMemory::Memory) => shard.undo_last(router),
-        answer => answer,
-    }
-}
-
-/// A message comes, once more where memory was refused.
-pub(crate) fn receive(shard: &mut Shard<'_>, message: Signed<Event>) -> Result<(), Returned>
-    ensures { shard.new.case ≡ shard.old.case }
-{
-    match shard.receive(message) {
-        Err(
-            Returned {
-                message,
-                why: OrMemory::Memory,
-            },
-        ) => shard.receive(message),
-        answer => answer,
-    }
 }
 
 /// Commits and keeps, once more where memory was refused.
@@ -169,7 +148,7 @@ fn the_least_comes_late(shard: &mut Shard<'_>) -> bool {
 
 /// What a test shows of a shard.
 #[derive(Clone, Copy)]
-enum Row {
+pub(crate) enum Row {
     RolledBack,
     ToldHandled,
     ToldCommitted,
@@ -178,16 +157,36 @@ enum Row {
     AntimessageFirst,
     Lent,
     LeastFirst,
+    LeastAtOnce,
+    CommitsAtOnce,
 }
 
-/// Whether a row holds of what a worker has as DISAGREE begins.
+/// Whether a row holds of what one worker of three has as DISAGREE begins, made once more where memory was refused.
 fn holds(alloc: Global, worker: u32, row: Row) -> bool
     requires { worker < 3 }
 {
-    let Ok(case) = case(alloc, DISAGREE) else {
-        return false;
-    };
-    match shard(alloc, &case, worker) {
+    holds_by_tries(alloc, worker, 3, Tries::Twice, row)
+}
+
+/// Whether a row holds of what the only worker has as DISAGREE begins, made once.
+pub(crate) fn only_worker_holds(alloc: Global, row: Row) -> bool {
+    holds_by_tries(alloc, 0, 1, Tries::Once, row)
+}
+
+fn holds_by_tries(alloc: Global, worker: u32, workers: u32, tries: Tries, row: Row) -> bool
+    requires { worker < workers }
+{
+    match case(alloc, DISAGREE) {
+        Ok(case) => holds_in(alloc, &case, worker, workers, tries, row),
+        Err(_) => false,
+    }
+}
+
+// To prove a function takes the longer, the more it lets go. So one lets the case go, and one the shard.
+fn holds_in(alloc: Global, case: &Case, worker: u32, workers: u32, tries: Tries, row: Row) -> bool
+    requires { worker < workers }
+{
+    match shard(alloc, case, worker, workers, tries) {
         Ok(mut shard) => holds_of(alloc, &mut shard, row),
         Err(_) => false,
     }
@@ -203,6 +202,8 @@ fn holds_of(alloc: Global, shard: &mut Shard<'_>, row: Row) -> bool {
         Row::AntimessageFirst => keeps_an_antimessage(shard),
         Row::Lent => sends_behind_what_is_lent(alloc, shard),
         Row::LeastFirst => handles_the_least_first(shard),
+        Row::LeastAtOnce => handles_the_least_at_once(shard),
+        Row::CommitsAtOnce => goes_and_comes_back(shard) && commits_at_once(shard),
     }
 }
 
@@ -302,6 +303,28 @@ fn sends_behind_what_is_lent(alloc: Global, shard: &mut Shard<'_>) -> bool {
     }
     shard.swap_outgoing(&mut messages);
     messages.as_slice() == &[first, second, third, fourth][..] && shard.outgoing().is_empty()
+}
+
+/// Whether router 0 handles its start, undoes it and handles it again, each at the first try, and router 1 is offered
+/// a path.
+fn goes_and_comes_back(shard: &mut Shard<'_>) -> bool {
+    let [offer, _] = offers_of_origin();
+    shard.handle_next(0, 20) == Ok(())
+        && shard.undo_last(0) == Ok(())
+        && shard.handle_next(0, 20) == Ok(())
+        && shard.receive(offer) == Ok(())
+}
+
+/// Whether router 0 commits its start, at the first try.
+fn commits_at_once(shard: &mut Shard<'_>) -> bool {
+    shard.raise_bound(1);
+    shard.keeps() && shard.commit(0) == Ok(())
+}
+
+/// Whether the start is handled as the least of all events, at the first try, and router 1 is offered a path.
+fn handles_the_least_at_once(shard: &mut Shard<'_>) -> bool {
+    let [offer, _] = offers_of_origin();
+    shard.order_by_time() == Ok(()) && shard.handle_least(20) == Ok(0) && welcomes(shard, &offer)
 }
 
 #[test]

@@ -1,6 +1,6 @@
-use Rattle.tw_worker_rows.proofs.Sittings.{begun, new_share}
+use Rattle.tw_table_rows.proofs.Sittings.{begun, new_share}
 use Rattle.tw_sim.specs.declared.machine.Cancel.TheVariants.{Aggressive}
-use Rattle.tw_worker_rows.proofs.table.begin.Goals as goal
+use Rattle.tw_table_rows.proofs.table.begin.Goals as goal
 
 pub returns : goal.returns
 returns c =

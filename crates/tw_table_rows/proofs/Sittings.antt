@@ -4,7 +4,7 @@ use Rattle.std.specs.List.{AllByRecursion}
 use Rattle.tw_core.specs.Machine.{Core}
 use Rattle.tw_event.specs.declared.event.Event.{Event}
 use Rattle.tw_exchange.specs.Board.{Board, IsBoard, handed, opening, visited}
-use Rattle.tw_worker_rows.specs.Sitting.{IsBeginning, IsReady}
+use Rattle.tw_table_rows.specs.Sitting.{IsBeginning, IsReady}
 use Rattle.tw_model.specs.Case.{Case, IsCase}
 use Rattle.tw_shard.specs.Shard.{IsSameShare, Shard, core, handling, opening_core, owns}
 use Rattle.tw_sim.specs.declared.machine.Cancel.{Cancel}

@@ -1,9 +1,9 @@
 use Rattle.std.proofs.Common.{◌∙◌, subst, sym}
-use Rattle.tw_worker_rows.proofs.Sittings.{both_ready, ruled_so}
-use Rattle.tw_worker_rows.specs.Sitting.{IsReady}
+use Rattle.tw_table_rows.proofs.Sittings.{both_ready, ruled_so}
+use Rattle.tw_table_rows.specs.Sitting.{IsReady}
 use Rattle.tw_table.specs.Shares.{IsRuled, share, shares_of}
-use Rattle.tw_worker_rows.proofs.table.sit_down.Given.{Over}
-use Rattle.tw_worker_rows.proofs.table.sit_down.Goals as goal
+use Rattle.tw_table_rows.proofs.table.sit_down.Given.{Over}
+use Rattle.tw_table_rows.proofs.table.sit_down.Goals as goal
 
 pub open-requires-clause-ruled : goal.open-requires-clause-ruled
 open-requires-clause-ruled g c =

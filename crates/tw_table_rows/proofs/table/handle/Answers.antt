@@ -1,8 +1,8 @@
 use Rattle.std.proofs.Common.{sym, subst}
-use Rattle.tw_worker_rows.proofs.Sittings.{ready_handled}
-use Rattle.tw_worker_rows.specs.Sitting.{IsReady}
+use Rattle.tw_table_rows.proofs.Sittings.{ready_handled}
+use Rattle.tw_table_rows.specs.Sitting.{IsReady}
 use Rattle.tw_table.specs.Shares.{share}
-use Rattle.tw_worker_rows.proofs.table.handle.Goals as goal
+use Rattle.tw_table_rows.proofs.table.handle.Goals as goal
 
 pub returns-in-Ok : goal.returns-in-Ok
 returns-in-Ok c = λ t is.

@@ -3,7 +3,6 @@
 
 ghost use Rattle.std.specs.Prelude.{◌≡◌, ◌<◌, IfSome};
 
-use crate::shards::{handle, receive, undo};
 use std::alloc::Global;
 use tw_event::PathNo;
 use tw_instance::Case;
@@ -14,17 +13,13 @@ use tw_rows::cases::case;
 use tw_rows::texts::DISAGREE;
 use tw_shard::{OrMemory, Refusal, Shard};
 use tw_sim::Cancel;
+use tw_worker_rows::calls::{handle, receive, undo};
 
 /// Which worker has each router.
 const OWNERS: [u32; 3] = [0, 0, 1];
 
 /// What one of two workers has of a case of three routers, by the list of their owners.
-pub(crate) fn shard<'a>(
-    alloc: Global,
-    case: &'a Case,
-    worker: u32,
-    cancel: Cancel,
-) -> Option<Shard<'a>>
+fn shard<'a>(alloc: Global, case: &'a Case, worker: u32, cancel: Cancel) -> Option<Shard<'a>>
     requires { worker < 2 }
     ensures { IfSome result (λ s. s.case ≡ case.now) }
 {
@@ -37,24 +32,32 @@ pub(crate) fn shard<'a>(
     }
 }
 
-/// The same, made once more where memory was refused.
-fn shard_at_last<'a>(
+/// How often a shard is made, at most: once, or once more where memory was refused.
+#[derive(Clone, Copy)]
+pub(crate) enum Tries {
+    Once,
+    Twice,
+}
+
+/// The same, made so often.
+fn shard_by_tries<'a>(
     alloc: Global,
     case: &'a Case,
     worker: u32,
     cancel: Cancel,
+    tries: Tries,
 ) -> Option<Shard<'a>>
     requires { worker < 2 }
     ensures { IfSome result (λ s. s.case ≡ case.now) }
 {
-    match shard(alloc, case, worker, cancel) {
-        None => shard(alloc, case, worker, cancel),
-        made => made,
+    match (shard(alloc, case, worker, cancel), tries) {
+        (None, Tries::Twice) => shard(alloc, case, worker, cancel),
+        (made, _) => made,
     }
 }
 
 /// Hands a router over; `None` where that may not be asked for.
-pub(crate) fn hand_over<'a>(
+fn hand_over<'a>(
     from: &mut Shard<'a>,
     router: u32,
     to: &mut Shard<'a>,
@@ -70,7 +73,7 @@ pub(crate) fn hand_over<'a>(
 }
 
 /// How many routers a shard has, what waits for them, what is held for them and what they have sent, and its bound.
-#[derive(Clone, Copy, PartialEq, Eq, Debug)]
+#[derive(Clone, Copy, PartialEq)]
 struct Amounts {
     routers: usize,
     pending: usize,
@@ -207,29 +210,59 @@ fn comes_with_what_is_held<'a>(from: &mut Shard<'a>, to: &mut Shard<'a>) -> bool
 
 /// What a test shows of two shards.
 #[derive(Clone, Copy)]
-enum Row {
+pub(crate) enum Row {
     DealtOut,
     Refused,
     Waiting,
     Held,
+    OverAtOnce,
 }
 
-/// Whether a row holds of the two shards as DISAGREE begins.
+/// Whether a row holds of the two shards as DISAGREE begins, each made once more where memory was refused.
 fn holds(alloc: Global, cancel: Cancel, row: Row) -> bool {
-    let Ok(case) = case(alloc, DISAGREE) else {
-        return false;
-    };
-    let (Some(mut from), Some(mut to)) = (
-        shard_at_last(alloc, &case, 0, cancel),
-        shard_at_last(alloc, &case, 1, cancel),
-    ) else {
-        return false;
-    };
+    holds_by_tries(alloc, cancel, Tries::Twice, row)
+}
+
+/// Whether a row holds of the two shards as DISAGREE begins, each made so often.
+pub(crate) fn holds_by_tries(alloc: Global, cancel: Cancel, tries: Tries, row: Row) -> bool {
+    match case(alloc, DISAGREE) {
+        Ok(case) => holds_in(alloc, &case, cancel, tries, row),
+        Err(_) => false,
+    }
+}
+
+// To prove a function that lets two shards go takes many times as long as one that lets go of one.
+fn holds_in(alloc: Global, case: &Case, cancel: Cancel, tries: Tries, row: Row) -> bool {
+    match shard_by_tries(alloc, case, 0, cancel, tries) {
+        Some(mut from) => holds_from(alloc, case, &mut from, tries, row),
+        None => false,
+    }
+}
+
+fn holds_from<'a>(
+    alloc: Global,
+    case: &'a Case,
+    from: &mut Shard<'a>,
+    tries: Tries,
+    row: Row,
+) -> bool
+    requires { from.old.case ≡ case.now }
+{
+    match shard_by_tries(alloc, case, 1, from.cancel(), tries) {
+        Some(mut to) => holds_of(from, &mut to, row),
+        None => false,
+    }
+}
+
+fn holds_of<'a>(from: &mut Shard<'a>, to: &mut Shard<'a>, row: Row) -> bool
+    requires { to.old.case ≡ from.old.case }
+{
     match row {
-        Row::DealtOut => are_dealt_out(&from, &to),
-        Row::Refused => is_refused(&mut from, &mut to),
-        Row::Waiting => comes_with_what_waits(&mut from, &mut to),
-        Row::Held => comes_with_what_is_held(&mut from, &mut to),
+        Row::DealtOut => are_dealt_out(from, to),
+        Row::Refused => is_refused(from, to),
+        Row::Waiting => comes_with_what_waits(from, to),
+        Row::Held => comes_with_what_is_held(from, to),
+        Row::OverAtOnce => hand_over(from, 0, to) == Some(Ok(())),
     }
 }
 

@@ -1,11 +1,11 @@
 use Rattle.std.proofs.Common.{◌++◌, map, max, min, ◌∙◌}
 use Rattle.std.specs.List.{reduce}
 use Rattle.tw_exchange.specs.Board.{handed, visited}
-use Rattle.tw_worker_rows.proofs.Sittings.{may_give}
+use Rattle.tw_table_rows.proofs.Sittings.{may_give}
 use Rattle.tw_table.specs.Seats.{exchange_of, share_of}
 use Rattle.tw_table.specs.Shares.{share}
 use Rattle.tw_workers.proofs.Places.{drop_none}
-use Rattle.tw_worker_rows.proofs.table.meet.Goals as goal
+use Rattle.tw_table_rows.proofs.table.meet.Goals as goal
 
 pub give-seat-requires-clause-held : goal.give-seat-requires-clause-held
 give-seat-requires-clause-held g c = c.in_ok-visit.ensures.same.table c.args.table.now c.take-held.ensures.held

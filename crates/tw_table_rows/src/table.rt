@@ -2,7 +2,7 @@
 
 ghost use Rattle.std.specs.Prelude.{◌≡◌, ◌≤◌, [], ◌∷◌, IfOk, IfSome, List, OnSome};
 ghost use Rattle.tw_exchange.specs.Board.{handed, visited};
-ghost use Rattle.tw_worker_rows.specs.Sitting.{IsBeginning, IsReady};
+ghost use Rattle.tw_table_rows.specs.Sitting.{IsBeginning, IsReady};
 ghost use Rattle.tw_table.specs.declared.table.Table.{Table as ATable};
 ghost use Rattle.tw_table.specs.Seats.{IsSameSeat, IsSeatOf, exchange_of, share_of};
 ghost use Rattle.tw_table.specs.Shares.{share, shares_of};
@@ -157,6 +157,35 @@ fn meet<'a, R: Wait>(rt: &R, table: &Table, worker: Sitting<'a>) -> Option<Sitti
     Some(Sitting { seat, shard, hand })
 }
 
+/// Whether a worker has this mail in its hand, and was told this bound.
+fn is_told(worker: &Sitting<'_>, mail: &[Signed<Event>], bound: u64) -> bool {
+    worker.hand.mail.as_slice() == mail && worker.hand.next == 0 && worker.seat.bound() == bound
+}
+
+/// Whether the routers of a worker have sent these messages, and nothing waits for them.
+fn has_sent(worker: &Sitting<'_>, messages: &[Signed<Event>]) -> bool {
+    worker.shard.outgoing() == messages && worker.shard.report_time() == None
+}
+
+/// The seat of a worker that meets, is told this bound and has this mail in its hand.
+fn meet_and_be_told<'a, R: Wait>(
+    rt: &R,
+    table: &Table,
+    worker: Sitting<'a>,
+    mail: &[Signed<Event>],
+    bound: u64,
+) -> Option<Seat>
+    requires { IsReady table.now worker.seat (share worker.shard worker.hand) }
+    ensures { IfSome result (λ seat. IsSeatOf table.now seat) }
+{
+    let worker = meet(rt, table, worker)?;
+    if is_told(&worker, mail, bound) {
+        Some(worker.seat)
+    } else {
+        None
+    }
+}
+
 /// The exchange of a table that does not close with the first seat alone, but with both. The list is empty.
 fn close<R: Wait>(
     rt: &R,
@@ -178,45 +207,65 @@ fn close<R: Wait>(
     Table::close(rt, table, seats).ok()
 }
 
-/// Whether a worker has this mail in its hand, and was told this bound.
-fn is_told(worker: &Sitting<'_>, mail: &[Signed<Event>], bound: u64) -> bool {
-    worker.hand.mail.as_slice() == mail && worker.hand.next == 0 && worker.seat.bound() == bound
+/// A list with room for two seats, made once more where memory was refused.
+fn room_for_two(alloc: Global) -> Result<Vec<Seat>, AllocError>
+    ensures { IfOk result (λ seats. seats.items ≡ []) }
+{
+    match Vec::with_capacity(alloc, 2) {
+        Err(_) => Vec::with_capacity(alloc, 2),
+        made => made,
+    }
 }
 
-/// Whether the routers of a worker have sent these messages, and nothing waits for them.
-fn has_sent(worker: &Sitting<'_>, messages: &[Signed<Event>]) -> bool {
-    worker.shard.outgoing() == messages && worker.shard.report_time() == None
+/// Two workers at a table, the first of which has handled the start of its router 0 and sent its offers.
+fn sit_down_and_begin<'a, R: Wait>(
+    rt: &R,
+    alloc: Global,
+    case: &'a Case,
+) -> Option<(Table, Sitting<'a>, Sitting<'a>)>
+    ensures first { IfSome result (λ r. IsReady r.0 r.1.seat (share r.1.shard r.1.hand)) }
+    ensures second { IfSome result (λ r. IsReady r.0 r.2.seat (share r.2.shard r.2.hand)) }
+{
+    let (table, first, second) = sit_down_at_last(rt, alloc, case)?;
+    let first = handle(first, 0)?;
+    if have_begun(&first, &second) {
+        Some((table, first, second))
+    } else {
+        None
+    }
+}
+
+/// Whether the first worker has sent the offers of the origin, and the second nothing.
+fn have_begun(first: &Sitting<'_>, second: &Sitting<'_>) -> bool {
+    first.seat.worker() == 0
+        && second.seat.worker() == 1
+        && has_sent(first, &offers_of_origin())
+        && has_sent(second, &[])
+}
+
+/// The exchange that two workers leave who hand each other mail.
+fn hand_each_other_mail<R: Wait>(rt: &R, alloc: Global, case: &Case) -> Option<Exchange> {
+    let (table, first, second) = sit_down_and_begin(rt, alloc, case)?;
+    let [for_1, for_2] = offers_of_origin();
+    let first = meet_and_be_told(rt, &table, first, &[for_2], 0)?;
+    let second = meet_and_be_told(rt, &table, second, &[for_1], 1)?;
+    let seats = room_for_two(alloc).ok()?;
+    close(rt, table, first, second, seats)
+}
+
+/// Whether an exchange of two workers has reached bound 1 and has no mail.
+fn is_left(exchange: &Exchange) -> bool {
+    exchange.bound() == 1
+        && exchange.workers() == 2
+        && exchange.mail(0).is_empty()
+        && exchange.mail(1).is_empty()
 }
 
 #[test]
 fn two_workers_hand_each_other_mail(rt: HostRuntime) {
-    let alloc = rt.alloc();
-    let Ok(case) = case(alloc, DISAGREE) else {
+    let Ok(case) = case(rt.alloc(), DISAGREE) else {
         panic!(rt; "the case is refused")
     };
-    let Some((table, first, second)) = sit_down_at_last(&rt, alloc, &case) else {
-        panic!(rt; "no memory")
-    };
-    assert!(rt; first.seat.worker() == 0 && second.seat.worker() == 1);
-    let Some(first) = handle(first, 0) else {
-        panic!(rt; "nothing is handled")
-    };
-    let [for_1, for_2] = offers_of_origin();
-    assert!(rt; has_sent(&first, &[for_1, for_2]) && has_sent(&second, &[]));
-    let Some(first) = meet(&rt, &table, first) else {
-        panic!(rt; "the first visit is refused")
-    };
-    assert!(rt; is_told(&first, &[for_2], 0));
-    let Some(second) = meet(&rt, &table, second) else {
-        panic!(rt; "the second visit is refused")
-    };
-    assert!(rt; is_told(&second, &[for_1], 1));
-    let Ok(seats) = Vec::with_capacity(alloc, 2).or_else(|_| Vec::with_capacity(alloc, 2)) else {
-        panic!(rt; "no memory")
-    };
-    let Some(exchange) = close(&rt, table, first.seat, second.seat, seats) else {
-        panic!(rt; "the table is not closed")
-    };
-    assert!(rt; exchange.bound() == 1 && exchange.workers() == 2);
-    assert!(rt; exchange.mail(0).is_empty() && exchange.mail(1).is_empty());
+    let left = hand_each_other_mail(&rt, rt.alloc(), &case);
+    assert!(rt; left.is_some_and(|exchange| is_left(&exchange)));
 }
