@@ -1,11 +1,16 @@
 //! The table by calls: two workers of DISAGREE meet there.
 
-ghost use Rattle.std.specs.Prelude.{◌≡◌, ◌≤◌, [], ◌∷◌, IfOk, IfSome, List, OnSome};
+ghost use Rattle.std.specs.Bool.{OnTrue};
+ghost use Rattle.std.specs.Prelude.{◌≡◌, ◌<◌, ◌≤◌, ℕ, [], ◌∷◌, IfOk, IfSome, List, OnSome, length, slice_index_or, true};
 ghost use Rattle.tw_exchange.specs.Board.{handed, visited};
-ghost use Rattle.tw_table_rows.specs.Sitting.{IsBeginning, IsReady};
+ghost use Rattle.tw_shard.specs.Shard.{IsOpeningShard, Shard as AShard, no_shard};
+ghost use Rattle.tw_sim.specs.declared.machine.Cancel.TheVariants.{Aggressive};
+ghost use Rattle.tw_table.specs.declared.hand.Hand.{Hand as AHand};
+ghost use Rattle.tw_table.specs.declared.seat.Seat.{Seat as ASeat};
 ghost use Rattle.tw_table.specs.declared.table.Table.{Table as ATable};
 ghost use Rattle.tw_table.specs.Seats.{IsSameSeat, IsSeatOf, exchange_of, share_of};
-ghost use Rattle.tw_table.specs.Shares.{share, shares_of};
+ghost use Rattle.tw_table.specs.Shares.{share};
+ghost use Rattle.tw_table_rows.specs.Sitting.{AreBeginning, IsReady};
 
 use std::alloc::{AllocError, Global};
 use std::sync::Wait;
@@ -15,17 +20,21 @@ use tw_machine_rows::messages::offers_of_origin;
 use tw_rows::cases::case;
 use tw_rows::texts::DISAGREE;
 use tw_shard::Shard;
-use tw_sim::Signed;
+use tw_shard::shards::open_all;
+use tw_sim::{Cancel, Signed};
 use tw_table::laws::new_is_ruled;
 use tw_table::{Exchange, Hand, Held, Missing, Seat, Table, Visit};
 use tw_workers::laws::shares_are_at_work;
 
-/// A worker at a table, with its routers and its hand.
-#[derive(Drop)]
-pub(crate) struct Sitting<'a> {
-    seat: Seat,
-    shard: Shard<'a>,
-    hand: Hand,
+/// The shards of two workers, made once more where memory was refused.
+fn shards_of<'a>(alloc: Global, case: &'a Case) -> Result<Vec<Shard<'a>>, AllocError>
+    ensures count { IfOk result (λ v. length v.items ≡ 2) }
+    ensures each { IfOk result (λ v. (k : ℕ) → k < 2 → IsOpeningShard case.now k 2 true Aggressive (slice_index_or v.items k no_shard)) }
+{
+    match open_all(alloc, case, 2, true, Cancel::Aggressive) {
+        Err(_) => open_all(alloc, case, 2, true, Cancel::Aggressive),
+        made => made,
+    }
 }
 
 /// The first two of a list.
@@ -38,83 +47,85 @@ fn first_two<T: Drop>(list: Vec<T>) -> Option<(T, T)>
     Some((first, second))
 }
 
-/// A new exchange to stop 20, and what its two workers have as they begin.
-fn begin<'a>(
-    alloc: Global,
-    case: &'a Case,
-) -> Result<(Exchange, Vec<Shard<'a>>, Vec<Hand>), AllocError>
-    ensures { IfOk result (λ r. IsBeginning case.now r.0 (shares_of r.1.items r.2.items)) }
+/// A table with its first two seats.
+fn with_seats(table: Table, seats: Vec<Seat>) -> Option<(Table, Seat, Seat)>
+    ensures table { IfSome result (λ r. r.0 ≡ table) }
+    ensures seats { IfSome result (λ r. (others : List ASeat) × (seats.items ≡ r.1 ∷ r.2 ∷ others)) }
 {
-    let exchange = Exchange::new(alloc, 2, 0, 20)?;
-    let first = Shard::open(alloc, case, 0, 2, true)?;
-    let second = Shard::open(alloc, case, 1, 2, true)?;
-    let shards = Vec::from_array(alloc, [first, second])?;
-    let hands = Vec::from_array(alloc, [Hand::new(alloc), Hand::new(alloc)])?;
-    // What a case keeps is told by a read of it.
-    let _ = case.instance();
-    Ok((exchange, shards, hands))
+    let (first, second) = first_two(seats)?;
+    Some((table, first, second))
 }
 
-/// A table with that exchange, and its two workers.
-pub(crate) fn sit_down<'a, R: Wait>(
+/// A table with a new exchange to stop 20, and the seats of its two workers, who have these shards and hands.
+fn sit_down<R: Wait>(
     rt: &R,
     alloc: Global,
-    case: &'a Case,
-) -> Option<(Table, Sitting<'a>, Sitting<'a>)>
-    ensures first { IfSome result (λ r. IsReady r.0 r.1.seat (share r.1.shard r.1.hand)) }
-    ensures second { IfSome result (λ r. IsReady r.0 r.2.seat (share r.2.shard r.2.hand)) }
+    case: &Case,
+    shards: &[Shard<'_>],
+    hands: &[Hand],
+) -> Option<(Table, Seat, Seat)>
+    requires { AreBeginning case.now shards.now hands.now }
+    ensures { IfSome result (λ r. (s u : AShard) (g h : AHand) → shards.now ≡ s ∷ u ∷ [] → hands.now ≡ g ∷ h ∷ []
+        → IsReady r.0 r.1 (share s g) × IsReady r.0 r.2 (share u h)) }
 {
-    let Ok((exchange, shards, hands)) = begin(alloc, case) else {
+    // What a case keeps is told by a read of it.
+    let _ = case.instance();
+    let Ok(exchange) = Exchange::new(alloc, 2, 0, 20) else {
         return None;
     };
     new_is_ruled();
     shares_are_at_work();
-    let Ok((table, seats)) = Table::open(rt, alloc, exchange, &shards, &hands) else {
-        return None;
-    };
-    let seats = first_two(seats)?;
-    let shards = first_two(shards)?;
-    let hands = first_two(hands)?;
-    let first = Sitting {
-        seat: seats.0,
-        shard: shards.0,
-        hand: hands.0,
-    };
-    let second = Sitting {
-        seat: seats.1,
-        shard: shards.1,
-        hand: hands.1,
-    };
-    Some((table, first, second))
+    match Table::open(rt, alloc, exchange, shards, hands) {
+        Ok((table, seats)) => with_seats(table, seats),
+        Err(_) => None,
+    }
 }
 
 /// The same, once more where memory was refused.
-fn sit_down_at_last<'a, R: Wait>(
+fn sit_down_at_last<R: Wait>(
     rt: &R,
     alloc: Global,
-    case: &'a Case,
-) -> Option<(Table, Sitting<'a>, Sitting<'a>)>
-    ensures first { IfSome result (λ r. IsReady r.0 r.1.seat (share r.1.shard r.1.hand)) }
-    ensures second { IfSome result (λ r. IsReady r.0 r.2.seat (share r.2.shard r.2.hand)) }
+    case: &Case,
+    shards: &[Shard<'_>],
+    hands: &[Hand],
+) -> Option<(Table, Seat, Seat)>
+    requires { AreBeginning case.now shards.now hands.now }
+    ensures { IfSome result (λ r. (s u : AShard) (g h : AHand) → shards.now ≡ s ∷ u ∷ [] → hands.now ≡ g ∷ h ∷ []
+        → IsReady r.0 r.1 (share s g) × IsReady r.0 r.2 (share u h)) }
 {
-    match sit_down(rt, alloc, case) {
-        None => sit_down(rt, alloc, case),
+    match sit_down(rt, alloc, case, shards, hands) {
+        None => sit_down(rt, alloc, case, shards, hands),
         seated => seated,
     }
 }
 
-/// A router of the worker handles its first event, once more where memory was refused.
-fn handle<'a>(worker: Sitting<'a>, router: u32) -> Option<Sitting<'a>>
-    ensures { IfSome result (λ w. (t : ATable) → IsReady t worker.entry.seat (share worker.entry.shard worker.entry.hand) → IsReady t w.seat (share w.shard w.hand)) }
+/// Whether two workers sit down as a case begins, at the first try.
+pub(crate) fn sits_down<R: Wait>(rt: &R, alloc: Global, case: &Case) -> bool {
+    match open_all(alloc, case, 2, true, Cancel::Aggressive) {
+        Ok(shards) => seats_these(rt, alloc, case, &shards),
+        Err(_) => false,
+    }
+}
+
+fn seats_these<R: Wait>(rt: &R, alloc: Global, case: &Case, shards: &[Shard<'_>]) -> bool
+    requires count { length shards.now ≡ 2 }
+    requires each { (k : ℕ) → k < 2 → IsOpeningShard case.now k 2 true Aggressive (slice_index_or shards.now k no_shard) }
 {
-    let mut worker = worker;
-    match worker.shard.handle_next(router, 20) {
-        Ok(()) => return Some(worker),
+    let hands = [Hand::new(alloc), Hand::new(alloc)];
+    sit_down(rt, alloc, case, shards, &hands).is_some()
+}
+
+/// A router of a worker handles its first event, once more where memory was refused.
+fn handle(shard: &mut Shard<'_>, router: u32) -> bool
+    ensures { OnTrue result ((t : ATable) (s : ASeat) (h : AHand) → IsReady t s (share shard.old h) → IsReady t s (share shard.new h)) }
+{
+    match shard.handle_next(router, 20) {
+        Ok(()) => return true,
         Err(_) => {}
     }
-    match worker.shard.handle_next(router, 20) {
-        Ok(()) => Some(worker),
-        Err(_) => None,
+    match shard.handle_next(router, 20) {
+        Ok(()) => true,
+        Err(_) => false,
     }
 }
 
@@ -138,49 +149,76 @@ fn visit(held: &mut Held, out: Vec<Signed<Event>>, report: Option<u64>) -> Optio
 
 /// A worker takes the exchange, deposits what its routers have sent, reports what waits for them, and gives
 /// the exchange back with its mail in its hand.
-fn meet<'a, R: Wait>(rt: &R, table: &Table, worker: Sitting<'a>) -> Option<Sitting<'a>>
-    requires { IsReady table.now worker.seat (share worker.shard worker.hand) }
-    ensures { IfSome result (λ w. IsSeatOf table.now w.seat) }
+fn meet<R: Wait>(
+    rt: &R,
+    table: &Table,
+    seat: Seat,
+    shard: &mut Shard<'_>,
+    hand: &mut Hand,
+) -> Option<Seat>
+    requires { IsReady table.now seat (share shard.old hand.old) }
+    ensures { IfSome result (λ s. IsSeatOf table.now s) }
 {
-    let Sitting {
-        seat,
-        mut shard,
-        mut hand,
-    } = worker;
     let mut held = table.take(rt, seat);
     let out = shard.take_out();
     let visit = visit(&mut held, out, shard.report_time())?;
     shard.raise_bound(visit.bound);
     hand.mail = visit.mail;
     hand.next = 0;
-    let seat = table.give(rt, held, &shard, &hand);
-    Some(Sitting { seat, shard, hand })
+    Some(table.give(rt, held, shard, hand))
 }
 
 /// Whether a worker has this mail in its hand, and was told this bound.
-fn is_told(worker: &Sitting<'_>, mail: &[Signed<Event>], bound: u64) -> bool {
-    worker.hand.mail.as_slice() == mail && worker.hand.next == 0 && worker.seat.bound() == bound
+fn is_told(seat: &Seat, hand: &Hand, mail: &[Signed<Event>], bound: u64) -> bool {
+    hand.mail.as_slice() == mail && hand.next == 0 && seat.bound() == bound
 }
 
 /// Whether the routers of a worker have sent these messages, and nothing waits for them.
-fn has_sent(worker: &Sitting<'_>, messages: &[Signed<Event>]) -> bool {
-    worker.shard.outgoing() == messages && worker.shard.report_time() == None
+fn has_sent(shard: &Shard<'_>, messages: &[Signed<Event>]) -> bool {
+    shard.outgoing() == messages && shard.report_time() == None
 }
 
-/// The seat of a worker that meets, is told this bound and has this mail in its hand.
-fn meet_and_be_told<'a, R: Wait>(
+/// The first worker handles the start of router 0, and meets: it is told of bound 0, and has what router 2 is offered.
+fn meet_first<R: Wait>(
     rt: &R,
     table: &Table,
-    worker: Sitting<'a>,
-    mail: &[Signed<Event>],
-    bound: u64,
+    seat: Seat,
+    shard: &mut Shard<'_>,
+    hand: &mut Hand,
 ) -> Option<Seat>
-    requires { IsReady table.now worker.seat (share worker.shard worker.hand) }
-    ensures { IfSome result (λ seat. IsSeatOf table.now seat) }
+    requires { IsReady table.now seat (share shard.old hand.old) }
+    ensures { IfSome result (λ s. IsSeatOf table.now s) }
 {
-    let worker = meet(rt, table, worker)?;
-    if is_told(&worker, mail, bound) {
-        Some(worker.seat)
+    let [for_1, for_2] = offers_of_origin();
+    if seat.worker() != 0 || !handle(shard, 0) || !has_sent(shard, &[for_1, for_2]) {
+        return None;
+    }
+    let seat = meet(rt, table, seat, shard, hand)?;
+    if is_told(&seat, hand, &[for_2], 0) {
+        Some(seat)
+    } else {
+        None
+    }
+}
+
+/// The second worker has sent nothing and meets: it is told of bound 1, and has what router 1 is offered.
+fn meet_second<R: Wait>(
+    rt: &R,
+    table: &Table,
+    seat: Seat,
+    shard: &mut Shard<'_>,
+    hand: &mut Hand,
+) -> Option<Seat>
+    requires { IsReady table.now seat (share shard.old hand.old) }
+    ensures { IfSome result (λ s. IsSeatOf table.now s) }
+{
+    let [for_1, _] = offers_of_origin();
+    if seat.worker() != 1 || !has_sent(shard, &[]) {
+        return None;
+    }
+    let seat = meet(rt, table, seat, shard, hand)?;
+    if is_told(&seat, hand, &[for_1], 1) {
+        Some(seat)
     } else {
         None
     }
@@ -217,42 +255,6 @@ fn room_for_two(alloc: Global) -> Result<Vec<Seat>, AllocError>
     }
 }
 
-/// Two workers at a table, the first of which has handled the start of its router 0 and sent its offers.
-fn sit_down_and_begin<'a, R: Wait>(
-    rt: &R,
-    alloc: Global,
-    case: &'a Case,
-) -> Option<(Table, Sitting<'a>, Sitting<'a>)>
-    ensures first { IfSome result (λ r. IsReady r.0 r.1.seat (share r.1.shard r.1.hand)) }
-    ensures second { IfSome result (λ r. IsReady r.0 r.2.seat (share r.2.shard r.2.hand)) }
-{
-    let (table, first, second) = sit_down_at_last(rt, alloc, case)?;
-    let first = handle(first, 0)?;
-    if have_begun(&first, &second) {
-        Some((table, first, second))
-    } else {
-        None
-    }
-}
-
-/// Whether the first worker has sent the offers of the origin, and the second nothing.
-fn have_begun(first: &Sitting<'_>, second: &Sitting<'_>) -> bool {
-    first.seat.worker() == 0
-        && second.seat.worker() == 1
-        && has_sent(first, &offers_of_origin())
-        && has_sent(second, &[])
-}
-
-/// The exchange that two workers leave who hand each other mail.
-fn hand_each_other_mail<R: Wait>(rt: &R, alloc: Global, case: &Case) -> Option<Exchange> {
-    let (table, first, second) = sit_down_and_begin(rt, alloc, case)?;
-    let [for_1, for_2] = offers_of_origin();
-    let first = meet_and_be_told(rt, &table, first, &[for_2], 0)?;
-    let second = meet_and_be_told(rt, &table, second, &[for_1], 1)?;
-    let seats = room_for_two(alloc).ok()?;
-    close(rt, table, first, second, seats)
-}
-
 /// Whether an exchange of two workers has reached bound 1 and has no mail.
 fn is_left(exchange: &Exchange) -> bool {
     exchange.bound() == 1
@@ -261,11 +263,46 @@ fn is_left(exchange: &Exchange) -> bool {
         && exchange.mail(1).is_empty()
 }
 
+/// The exchange that two workers leave who hand each other mail.
+fn hand_each_other_mail<R: Wait>(
+    rt: &R,
+    alloc: Global,
+    case: &Case,
+    shards: &mut [Shard<'_>],
+    hands: &mut [Hand],
+) -> Option<Exchange>
+    requires { AreBeginning case.now shards.old hands.old }
+{
+    let (table, first, second) = sit_down_at_last(rt, alloc, case, shards, hands)?;
+    let first = meet_first(rt, &table, first, &mut shards[0], &mut hands[0])?;
+    let second = meet_second(rt, &table, second, &mut shards[1], &mut hands[1])?;
+    let seats = room_for_two(alloc).ok()?;
+    close(rt, table, first, second, seats)
+}
+
+/// Whether two workers hand each other mail as a case begins, and leave none.
+fn leave_no_mail<R: Wait>(rt: &R, alloc: Global, case: &Case) -> bool {
+    match shards_of(alloc, case) {
+        Ok(mut shards) => leave_no_mail_with(rt, alloc, case, &mut shards),
+        Err(_) => false,
+    }
+}
+
+fn leave_no_mail_with<R: Wait>(rt: &R, alloc: Global, case: &Case, shards: &mut [Shard<'_>]) -> bool
+    requires count { length shards.old ≡ 2 }
+    requires each { (k : ℕ) → k < 2 → IsOpeningShard case.now k 2 true Aggressive (slice_index_or shards.old k no_shard) }
+{
+    let mut hands = [Hand::new(alloc), Hand::new(alloc)];
+    match hand_each_other_mail(rt, alloc, case, shards, &mut hands) {
+        Some(exchange) => is_left(&exchange),
+        None => false,
+    }
+}
+
 #[test]
 fn two_workers_hand_each_other_mail(rt: HostRuntime) {
     let Ok(case) = case(rt.alloc(), DISAGREE) else {
         panic!(rt; "the case is refused")
     };
-    let left = hand_each_other_mail(&rt, rt.alloc(), &case);
-    assert!(rt; left.is_some_and(|exchange| is_left(&exchange)));
+    assert!(rt; leave_no_mail(&rt, rt.alloc(), &case));
 }
