@@ -21,14 +21,14 @@ next_level nodes level node child lesser p long old parent is right =
     let below = old.below in
     let mine : get_or nodes child 0 ≡ get_or nodes node 0 = is ∙ sym (lesser node (omega arith) (omega arith)) in
     let above : (k : ℕ) → level * 2 ≤ k → k < 2 * (level * 2) → get_or nodes (k / 2) 0 ≤ get_or nodes k 0 = λ k l m.
-        let half = lesser (k / 2) (omega arith) (omega arith) in
-        elim (cases_eq k (2 * (k / 2))) [
-          | inl e ↦ let same = ap (λ j. get_or nodes j 0) e in omega arith
-          | inr d ↦
-              let e : k ≡ 2 * (k / 2) + 1 = omega arith in
-              let same = ap (λ j. get_or nodes j 0) e in
-              omega arith
-        ] in
+    let half = lesser (k / 2) (omega arith) (omega arith) in
+    elim (cases_eq k (2 * (k / 2))) [
+      | inl e ↦ let same = ap (λ j. get_or nodes j 0) e in omega arith
+      | inr d ↦
+          let e : k ≡ 2 * (k / 2) + 1 = omega arith in
+          let same = ap (λ j. get_or nodes j 0) e in
+          omega arith
+    ] in
     record {
       from = omega arith;
       below = omega arith;

@@ -217,7 +217,12 @@ impl Pending {
         if self.len == 0 {
             return false;
         }
-        let removed = take_from(&mut self.calendar, &mut self.rest, &mut self.rest_time, event);
+        let removed = take_from(
+            &mut self.calendar,
+            &mut self.rest,
+            &mut self.rest_time,
+            event,
+        );
         if removed {
             self.len -= 1;
         }
@@ -485,7 +490,12 @@ fn skip_by_search(calendar: &mut Calendar, rest: &mut ByRouter, rest_time: &mut 
 
 // Takes one event that equals `event` out of a calendar or else out of the rest, tells whether there was one, and
 // keeps the rest's least time.
-fn take_from(calendar: &mut Calendar, rest: &mut ByRouter, rest_time: &mut u64, event: &Event) -> bool
+fn take_from(
+    calendar: &mut Calendar,
+    rest: &mut ByRouter,
+    rest_time: &mut u64,
+    event: &Event,
+) -> bool
     requires { rest_time.old ≡ first_time rest.old.events }
     ensures found { IsTrue result ↔ (0 < times event_same event.now (together_with calendar.old rest.old)) }
     ensures events { together_with calendar.new rest.new ≡ take_out event_same event.now (together_with calendar.old rest.old) }
