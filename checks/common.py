@@ -23,7 +23,6 @@ ROWS = (
     "tw_machine_rows",
     "tw_exchange_rows",
     "tw_worker_rows",
-    "tw_moving_rows",
     "tw_table_rows",
     "tw_program_rows",
 )

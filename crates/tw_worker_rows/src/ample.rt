@@ -1,5 +1,7 @@
 //! Calls that may answer want of memory, each with memory enough: none of them does, at its first try.
 
+use crate::moving;
+use crate::moving::{Tries, holds_by_tries};
 use crate::shards::{Row, only_worker_holds};
 use std::alloc::Global;
 use tw_exchange::{Exchange, Parcels};
@@ -56,6 +58,18 @@ fn a_shard_handles_its_least_event(rt: HostRuntime) {
 #[test]
 fn a_shard_handles_undoes_and_commits(rt: HostRuntime) {
     assert!(rt; only_worker_holds(rt.alloc(), Row::CommitsAtOnce));
+}
+
+#[test]
+fn a_router_goes_to_another_shard(rt: HostRuntime) {
+    assert!(rt;
+        holds_by_tries(
+            rt.alloc(),
+            Cancel::Lazy,
+            Tries::Once,
+            moving::Row::OverAtOnce
+        )
+    );
 }
 
 /// How many events wait at two workers as they begin.

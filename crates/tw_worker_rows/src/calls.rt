@@ -7,7 +7,7 @@ use tw_shard::{OrMemory, Refusal, Returned, Shard};
 use tw_sim::Signed;
 
 /// Handles the first event of a router to stop 20, once more where memory was refused.
-pub fn handle(shard: &mut Shard<'_>, router: u32) -> Result<(), OrMemory<Refusal>>
+pub(crate) fn handle(shard: &mut Shard<'_>, router: u32) -> Result<(), OrMemory<Refusal>>
     ensures { shard.new.case ≡ shard.old.case }
 {
     match shard.handle_next(router, 20) {
@@ -17,7 +17,7 @@ pub fn handle(shard: &mut Shard<'_>, router: u32) -> Result<(), OrMemory<Refusal
 }
 
 /// Undoes the last event of a router, once more where memory was refused.
-pub fn undo(shard: &mut Shard<'_>, router: u32) -> Result<(), OrMemory<Refusal>>
+pub(crate) fn undo(shard: &mut Shard<'_>, router: u32) -> Result<(), OrMemory<Refusal>>
     ensures { shard.new.case ≡ shard.old.case }
 {
     match shard.undo_last(router) {
@@ -27,7 +27,7 @@ pub fn undo(shard: &mut Shard<'_>, router: u32) -> Result<(), OrMemory<Refusal>>
 }
 
 /// A message comes, once more where memory was refused.
-pub fn receive(shard: &mut Shard<'_>, message: Signed<Event>) -> Result<(), Returned>
+pub(crate) fn receive(shard: &mut Shard<'_>, message: Signed<Event>) -> Result<(), Returned>
     ensures { shard.new.case ≡ shard.old.case }
 {
     match shard.receive(message) {

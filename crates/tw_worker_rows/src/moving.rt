@@ -3,6 +3,7 @@
 
 ghost use Rattle.std.specs.Prelude.{◌≡◌, ◌<◌, IfSome};
 
+use crate::calls::{handle, receive, undo};
 use std::alloc::Global;
 use tw_event::PathNo;
 use tw_instance::Case;
@@ -13,7 +14,6 @@ use tw_rows::cases::case;
 use tw_rows::texts::DISAGREE;
 use tw_shard::{OrMemory, Refusal, Shard};
 use tw_sim::Cancel;
-use tw_worker_rows::calls::{handle, receive, undo};
 
 /// Which worker has each router.
 const OWNERS: [u32; 3] = [0, 0, 1];
