@@ -49,6 +49,7 @@ from common import (
 from refuser import Refuser
 
 LONG = (
+    "moving::routers_that_move_at_random_run_as_on_one_thread",
     "programs::a_sink_that_fails_has_a_prefix",
     "readings::every_prefix_of_a_case_is_refused_near_its_end",
     "threads::a_run_goes_on_to_later_stops_and_to_no_earlier_one",
