@@ -126,9 +126,9 @@ class Refuser:
         run(words, stdin, env={"LD_PRELOAD": str(self.library), "STARTED": str(told)})
         return told.stat().st_size
 
-    def each(self, words: Sequence[Word], stdin: Path) -> Iterator[Refusal]:
-        """Refuses allocation 1, 2, .. to the last, or to one with which the command never ends."""
-        for number in itertools.count(1):
+    def each(self, words: Sequence[Word], stdin: Path, step: int = 1) -> Iterator[Refusal]:
+        """Refuses allocation 1, 1 + step, .. to the last, or to one that never lets it end."""
+        for number in itertools.count(1, step):
             done = self.run(number, words, stdin)
             if done is None:
                 return
