@@ -18,12 +18,13 @@ BLOCK = re.compile(
 class Function:
     """A function by its path in the crate, as ('mail', 'Post', 'count').
 
-    Its first and its last line are counted from 1.
+    Its first and its last line are counted from 1. It may be one of a trait.
     """
 
     path: tuple[str, ...]
     first: int
     last: int
+    is_of_trait: bool = False
 
     def has_line(self, line: int) -> bool:
         return self.first <= line <= self.last
@@ -53,6 +54,11 @@ def owner_of(block: re.Match[str]) -> str:
     return "".join(name.strip().lstrip("&").rpartition("::")[2] for name in (of, trait))
 
 
+def is_of_trait(block: re.Match[str]) -> bool:
+    """Whether a block of functions is a trait, or some type's functions of a trait."""
+    return bool(block["trait"]) or bool(re.search(r"\bfor\b", block["impl"]))
+
+
 def modules_of(file: str) -> tuple[str, ...]:
     """The module that a file below src/ is: `src/mail/post.rt` is `mail::post`."""
     parts = PurePosixPath(file).with_suffix("").parts[1:]
@@ -73,15 +79,18 @@ def functions_of(file: str, text: str) -> list[Function]:
     found: list[Function] = []
     owner: tuple[str, ...] = ()
     owner_ends = -1
+    of_trait = False
     for place, line in enumerate(lines):
         if place > owner_ends:
-            owner = ()
+            owner, of_trait = (), False
         # A header may go over several lines.
         block = BLOCK.match(" ".join(lines[place : place + 6]).partition("{")[0])
         if block:
             owner, owner_ends = (owner_of(block),), end_of(lines, place, "")
+            of_trait = is_of_trait(block)
         function = FUNCTION.match(line)
         if function:
             path = (*modules_of(file), *(owner if function[1] else ()), function[2])
-            found.append(Function(path, place + 1, end_of(lines, place, function[1]) + 1))
+            last = end_of(lines, place, function[1]) + 1
+            found.append(Function(path, place + 1, last, of_trait and bool(function[1])))
     return found

@@ -1,28 +1,30 @@
 #!/usr/bin/env python3
 """Tries the wrong bodies of crates in batches: the checker must refuse each.
 
-    wrong_bodies.py [--changed REV] [--jobs N] [CRATE ..]
+    wrong_bodies.py [--changed REV] [--jobs N] [--right] [CRATE ..]
 
 Where no crate is named, these are all that have some. A wrong body is a file NAME.edit in a
 crate's must-fail/ or wrong-bodies/: `file:` names a file of the crate, and each pair of lines
-`old:`, `new:` puts one text in place of another that stands in it once. As many as change
-different functions go into one copy of the crate, which is checked once. A wrong body counts as
-refused where the checker tells an error of the very function that it changes: a function's proof
-rests on the contracts of what it calls and not on their bodies, so that refusals do not hide one
-another. What is not told of (its function waits for another one's proof, or its text stands twice
-once another one is there) goes into a later batch, and at last alone; so does what changes more
-than functions, as a definition. What is still proved alone has failed, and so has what does not
-apply or what the checker cannot read.
+`old:`, `new:` puts one text in place of another that stands in it once.
+
+A function's proof rests on the contracts of what it calls and not on their bodies, and nothing
+calls a function that is new. So a wrong body is tried as a function of its own: a copy of the one
+that it changes, with its contract, its proof and another name, beside it. Many of them go into one
+copy of the crate, which is checked once, and none hides another. A wrong body counts as refused
+where the checker tells an error of its very function. What is not told of is tried alone, in place
+of the right body; so is what changes anything else than one function, as a definition, and what
+changes a function of a trait. What is still proved alone has failed, and so has what does not apply
+or what the checker cannot read.
 
 It first checks each crate as it stands, by `rt check` in this checkout, and then works in a
 folder beside the repository, over what that check kept. --changed takes the crates whose files
-differ from the revision REV. There is a line for each wrong body, one for each crate with its
-processor time, and at last 'N passed, M failed'.
+differ from the revision REV. --right tries the right bodies in the same way, as functions of their
+own: the checker must prove each, or it refuses a wrong one for its name alone. There is a line
+for each wrong body, one for each crate with its processor time, and at last 'N passed, M failed'.
 """
 from __future__ import annotations
 
 import argparse
-import collections
 import os
 import re
 import shutil
@@ -34,6 +36,7 @@ import threading
 from collections.abc import Callable, Iterable, Iterator
 from concurrent.futures import ThreadPoolExecutor
 from dataclasses import dataclass, field
+from functools import cached_property
 from pathlib import Path
 
 from common import TOP, Tally
@@ -43,11 +46,10 @@ from twarp_tools.schedule import below, graph_of
 CRATES = TOP / "crates.txt"
 FOLDERS = ("must-fail", "wrong-bodies")
 PARTS = ("src", "specs", "proofs")
-# How often a wrong body is tried beside others before it is tried alone.
-MOST_TOGETHER = 3
+# So many wrong bodies are tried together: the checker stops a check at a limit of its own.
+MOST_TOGETHER = 60
 
-VERDICT = re.compile(r"(?:fn|impl) (\S+?): (not proved|no proof: .*)")
-WAITS = re.compile(r"no proof: it calls (.*?), which (?:is|are) not proved")
+VERDICT = re.compile(r"(?:fn|impl) (\S+?): (no proof: expected.*)")
 ERROR_OF_PROOF = re.compile(r"(?:\./)?proofs/(\S+)/[^/\s]+\.antt:\d+:\d+: error: (.*)")
 ERROR_OF_SOURCE = re.compile(r"(?:note: )?(?:\./)?(src/\S+?):(\d+):\d+: (.*)")
 ERROR = re.compile(r"(note: )?\S+:\d+:\d+:")
@@ -127,8 +129,8 @@ class WrongBody:
             changed[file] = text.replace(old, new)
         return changed
 
-    def functions(self, read: Read) -> set[Function] | None:
-        """The functions that it changes; None where it changes something else."""
+    def function(self, read: Read) -> Function | None:
+        """The only function that it changes; None where it changes more, or something else."""
         found = set()
         for file, text in self.applied({}, read).items():
             if not file.startswith("src/"):
@@ -136,11 +138,66 @@ class WrongBody:
             inside = functions_of(file, read(file))
             pairs = zip(without_comments(read(file)), without_comments(text))
             for line in (place for place, (one, other) in enumerate(pairs, 1) if one != other):
-                around = [it for it in inside if it.has_line(line)]
-                if not around:
-                    return None
-                found.add(around[-1])
-        return found
+                found.add(next((it for it in reversed(inside) if it.has_line(line)), None))
+        return found.pop() if len(found) == 1 else None
+
+
+@dataclass(frozen=True)
+class Trial:
+    """A wrong body as a function of its own.
+
+    It stands in a file of the crate behind the function of which it is a copy, has another name,
+    these lines, and the same proof.
+    """
+
+    body: WrongBody
+    file: str
+    function: Function
+    name: str
+    lines: list[str]
+    proofs: Texts
+
+    @property
+    def path(self) -> Name:
+        return (*self.function.path[:-1], self.name)
+
+    @classmethod
+    def of(cls, body: WrongBody, number: int, crate: Path, is_right: bool) -> Trial | None:
+        """None where the wrong body changes anything else than one function, or one of a trait.
+
+        The lines may be those of the right body.
+        """
+
+        def read(file: str) -> str:
+            return (crate / file).read_text()
+
+        function = body.function(read)
+        if not function or function.is_of_trait:
+            return None
+        ((file, text),) = body.applied({}, read).items()
+        if is_right:
+            text = read(file)
+        copied = next((it for it in functions_of(file, text) if it.path == function.path), None)
+        if not copied:
+            return None
+        name = f"{function.path[-1]}_wrong_{number}"
+        lines = text.split("\n")
+        first = copied.first - 1
+        lines[first] = re.sub(rf"\bfn {function.path[-1]}\b", f"fn {name}", lines[first], count=1)
+        while lines[first - 1].lstrip().startswith("#["):
+            first -= 1
+        proofs = proofs_renamed(crate, function.path, name)
+        return cls(body, file, function, name, lines[first : copied.last], proofs)
+
+
+def proofs_renamed(crate: Path, path: Name, name: str) -> Texts:
+    """The proof of a function, for a copy of that function with another name."""
+    folder, to = Path("proofs", *path), Path("proofs", *path[:-1], name)
+    own, others = (".".join((*it.parts, "")) for it in (folder, to))
+    return {
+        str(to / file.name): file.read_text().replace(own, others)
+        for file in sorted((crate / folder).glob("*.antt"))
+    }
 
 
 @dataclass(frozen=True)
@@ -155,24 +212,28 @@ class Said:
         """Whether the check came to its end and found something that is not proved."""
         return self.status == 1 and any(line.startswith("logic=not-proved") for line in self.lines)
 
-    def verdicts(self) -> Iterator[tuple[list[str], str]]:
-        """For each function that is not proved the words of its name, and what is told of it."""
-        for match in map(VERDICT.match, self.lines):
-            if match:
-                yield match[1].split("::")[1:], match[2]
+    @cached_property
+    def told(self) -> list[str]:
+        """What it said, but for notes on cost: a line for each thing."""
+        told: list[str] = []
+        for line in self.lines:
+            if line.startswith("  ") and told:
+                told[-1] += f" {line.strip()}"
+            else:
+                told.append(line)
+        return [line for line in told if not OF_COST.search(line)]
 
     def errors_of(self, function: Function, file: str) -> Iterator[str]:
         """What the check told of this function, in its proof or source, or for want of a proof."""
-        for line in self.lines:
+        for line in self.told:
             proof, source = ERROR_OF_PROOF.match(line), ERROR_OF_SOURCE.match(line)
+            verdict = VERDICT.match(line)
             if proof and function.is_named_by(proof[1].split("/")):
-                if not OF_NAMES.search(proof[2]):
-                    yield proof[2]
+                yield proof[2]
             elif source and source[1] == file and function.has_line(int(source[2])):
                 yield source[3]
-        for words, verdict in self.verdicts():
-            if function.is_named_by(words) and verdict.startswith("no proof: expected"):
-                yield verdict
+            elif verdict and function.is_named_by(verdict[1].split("::")[1:]):
+                yield verdict[2]
 
     def first_error(self) -> str:
         return next((line for line in self.lines if "error" in line), self.lines[0])[:200]
@@ -246,144 +307,119 @@ class Room:
         return (self.original / file).read_text()
 
     def check(self, texts: Texts) -> Said:
-        """Checks the crate with these texts in place of its own.
+        """Checks the crate with these texts in place of its own, or beside them.
 
         This goes over what is kept of the crate as it stands.
         """
         shutil.rmtree(self.copy / "out", ignore_errors=True)
         copy_linked(self.original / "out/incremental", self.copy / "out/incremental")
         for file, text in texts.items():
+            (self.copy / file).parent.mkdir(parents=True, exist_ok=True)
             (self.copy / file).write_text(text)
         try:
             said = checked(self.copy)
         finally:
-            for file in texts:
-                shutil.copy2(self.original / file, self.copy / file)
+            for part in {Path(file).parts[0] for file in texts}:
+                shutil.rmtree(self.copy / part)
+                copy_linked(self.original / part, self.copy / part)
         self.minutes += said.minutes
         self.checks += 1
         return said
 
 
-class Waits:
-    """Which functions are known to wait for the proofs of which others."""
-
-    def __init__(self) -> None:
-        self.known: dict[Name, set[Name]] = collections.defaultdict(set)
-
-    def note(self, said: Said, functions: Iterable[Function]) -> None:
-        every = list(functions)
-
-        def paths(words: list[str]) -> set[Name]:
-            return {it.path for it in every if it.is_named_by(words)} or {tuple(words)}
-
-        for words, verdict in said.verdicts():
-            waits = WAITS.match(verdict)
-            for name in re.findall(r"`([^`]+)`", waits[1]) if waits else []:
-                for path in paths(words):
-                    self.known[path] |= paths(name.split("::")[1:]) - {path}
-
-    def lead(self, some: set[Name], others: set[Name]) -> bool:
-        """Whether one of some functions waits for one of the others, by way of any."""
-        seen, todo = set[Name](), list(some)
-        while todo:
-            for path in self.known[todo.pop()] - seen:
-                seen.add(path)
-                todo.append(path)
-        return bool(seen & others)
+def first_reason(errors: list[str]) -> str:
+    """The first error that tells of what is promised, where there is one."""
+    if not errors:
+        return ""
+    telling = (error for error in errors if not OF_NAMES.search(error))
+    return next(telling, "only because a proof file names what it took away")
 
 
-class Batches:
+def in_parts(trials: list[Trial]) -> Iterator[list[Trial]]:
+    """As many as are tried together, and then the next ones."""
+    for start in range(0, len(trials), MOST_TOGETHER):
+        yield trials[start : start + MOST_TOGETHER]
+
+
+class Trials:
     """Tries the wrong bodies of a crate, and tells why each was refused, or what is wrong."""
 
     def __init__(self, room: Room, tell: Callable[[WrongBody, str, str], None]) -> None:
         self.room = room
         self.tell = tell
-        self.functions: dict[WrongBody, set[Function]] = {}
-        self.waits = Waits()
-        self.together: list[WrongBody] = []
         self.alone: list[WrongBody] = []
 
     def run(self, bodies: Iterable[WrongBody]) -> None:
-        for body in bodies:
-            self.sort(body)
-        while self.together:
-            self.try_together(*self.next_batch())
+        trials: list[Trial] = []
+        for number, body in enumerate(bodies):
+            try:
+                trial = Trial.of(body, number, self.room.original, is_right=False)
+            except (DoesNotApply, OSError) as error:
+                self.tell(body, "", f"it does not apply: {error}")
+                continue
+            if trial:
+                trials.append(trial)
+            else:
+                self.alone.append(body)
+        for some in in_parts(trials):
+            self.try_together(some)
         for body in self.alone:
             self.try_alone(body)
 
-    def sort(self, body: WrongBody) -> None:
-        """What changes functions is tried beside others, anything else alone."""
-        try:
-            functions = body.functions(self.room.read)
-        except (DoesNotApply, OSError) as error:
-            self.tell(body, "", f"it does not apply: {error}")
-            return
-        if functions:
-            self.functions[body] = functions
-            self.together.append(body)
-        else:
-            self.alone.append(body)
+    def run_right(self, bodies: Iterable[WrongBody]) -> None:
+        """Tries the right body of each function that a wrong one changes."""
+        trials: dict[Function, Trial] = {}
+        for number, body in enumerate(bodies):
+            trial = Trial.of(body, number, self.room.original, is_right=True)
+            if trial:
+                trials.setdefault(trial.function, trial)
+        for some in in_parts(list(trials.values())):
+            texts = self.texts_with(some)
+            said = self.room.check(texts)
+            for trial in some:
+                wrong = "" if said.status == 0 else self.reason(trial, texts, said)
+                if said.status != 0 and not said.has_refused():
+                    wrong = said.first_error()
+                self.tell(trial.body, "", wrong and f"its right body: {wrong}")
 
-    def paths(self, bodies: Iterable[WrongBody]) -> set[Name]:
-        return {function.path for body in bodies for function in self.functions[body]}
-
-    def next_batch(self) -> tuple[list[WrongBody], Texts]:
-        """Takes the next wrong bodies to be tried together, and makes the texts with them all."""
-        batch: list[WrongBody] = []
-        texts: Texts = {}
-        for body in self.together:
-            if self.is_apart(body, batch):
-                try:
-                    texts |= body.applied(texts, self.room.read)
-                    batch.append(body)
-                except DoesNotApply:
-                    # It applies alone, so another one of the batch has its text: it waits for the
-                    # next.
-                    pass
-        self.together = [body for body in self.together if body not in batch]
-        return batch, texts
-
-    def is_apart(self, body: WrongBody, batch: list[WrongBody]) -> bool:
-        """Whether it changes other functions than the batch, and neither waits for the other's."""
-        own, others = self.paths([body]), self.paths(batch)
-        leads = self.waits.lead(own, others) or self.waits.lead(others, own)
-        return not own & others and not leads
-
-    def try_together(self, batch: list[WrongBody], texts: Texts) -> None:
-        if len(batch) == 1:
-            self.alone += batch
-            return
+    def try_together(self, trials: list[Trial]) -> None:
+        texts = self.texts_with(trials)
         said = self.room.check(texts)
         if not said.has_refused():
-            self.part(batch)
+            self.part(trials)
             return
-        self.waits.note(said, (it for functions in self.functions.values() for it in functions))
-        for body in batch:
-            reason = self.reason(body, texts, said)
+        for trial in trials:
+            reason = self.reason(trial, texts, said)
             if reason:
-                self.tell(body, reason, "")
+                self.tell(trial.body, reason, "")
             else:
-                self.put_back(body)
+                self.alone.append(trial.body)
 
-    def part(self, batch: list[WrongBody]) -> None:
-        """Tries one half of a batch without a verdict alone, the other beside what comes later."""
-        half = len(batch) // 2
-        self.alone += batch[:half]
-        for body in batch[half:]:
-            self.put_back(body)
+    def part(self, trials: list[Trial]) -> None:
+        """Tries each half of what has no verdict together."""
+        half = len(trials) // 2
+        if half == 0:
+            self.alone += [trial.body for trial in trials]
+            return
+        self.try_together(trials[:half])
+        self.try_together(trials[half:])
 
-    def put_back(self, body: WrongBody) -> None:
-        body.tries += 1
-        (self.alone if body.tries >= MOST_TOGETHER else self.together).append(body)
+    def texts_with(self, trials: Iterable[Trial]) -> Texts:
+        """The files of the crate with these wrong bodies in them, and the proofs of these."""
+        texts: Texts = {}
+        lines: dict[str, list[str]] = {}
+        # From the end of a file on, so that the places before stay what they are.
+        for trial in sorted(trials, key=lambda it: -it.function.last):
+            texts |= trial.proofs
+            inside = lines.setdefault(trial.file, self.room.read(trial.file).split("\n"))
+            inside[trial.function.last : trial.function.last] = ["", *trial.lines]
+        return texts | {file: "\n".join(inside) for file, inside in lines.items()}
 
-    def reason(self, body: WrongBody, texts: Texts, said: Said) -> str:
-        """The first thing that the check told of a function that the wrong body changes."""
-        paths = self.paths([body])
-        for file in sorted({file for file, _, _ in body.changes}):
-            for function in functions_of(file, texts[file]):
-                if function.path in paths:
-                    for error in said.errors_of(function, file):
-                        return error
+    def reason(self, trial: Trial, texts: Texts, said: Said) -> str:
+        """The first thing that the check told of the function that the wrong body is."""
+        for function in functions_of(trial.file, texts[trial.file]):
+            if function.path == trial.path:
+                return first_reason(list(said.errors_of(function, trial.file)))
         return ""
 
     def try_alone(self, body: WrongBody) -> None:
@@ -391,14 +427,8 @@ class Batches:
         if said.status == 0:
             self.tell(body, "", "it is still proved")
         elif said.has_refused():
-            errors = [
-                line
-                for line in said.lines
-                if ERROR.match(line) and not OF_NAMES.search(line) and not OF_COST.search(line)
-            ]
-            self.tell(
-                body, (errors or ["only because a proof file names what it took away"])[0], ""
-            )
+            errors = [line for line in said.told if ERROR.match(line)]
+            self.tell(body, first_reason(errors) or "it is not proved", "")
         elif said.status == 3 and any(map(AT_LIMIT.search, said.lines)):
             self.tell(body, "only by a limit of the prover", "")
         elif said.status == 1:
@@ -428,19 +458,23 @@ def changed_since(revision: str) -> set[str]:
     return {path.split("/")[1] for one in told for path in one.stdout.split()}
 
 
-def try_crate(crate: str, folder: Path, tally: Tally) -> float:
-    """Tries a crate's wrong bodies, and returns the processor minutes that it took."""
+def try_crate(crate: str, folder: Path, tally: Tally, is_right: bool) -> float:
+    """Tries a crate's wrong bodies, or the right ones, and returns its processor minutes."""
     bodies = bodies_of(crate)
 
     def tell(body: WrongBody, reason: str, wrong: str) -> None:
         with printing:
             tally.add(body.name, wrong)
-            if not wrong:
+            if reason:
                 print(f"{body.name}: refused: {reason[:160]}", flush=True)
 
     room = Room(folder, crate)
     try:
-        Batches(room, tell).run(bodies)
+        trials = Trials(room, tell)
+        if is_right:
+            trials.run_right(bodies)
+        else:
+            trials.run(bodies)
     finally:
         shutil.rmtree(room.top, ignore_errors=True)
     say(f"== {crate}: {len(bodies)} in {room.checks} checks, {room.minutes:.1f} processor minutes")
@@ -478,6 +512,9 @@ def main() -> None:
         "--jobs", metavar="N", type=int, default=os.cpu_count(),
         help="crates side by side (one for each processor)",
     )
+    words.add_argument(
+        "--right", action="store_true", help="the right bodies in their place, which are proved"
+    )
     words.add_argument("crates", metavar="CRATE", nargs="*")
     asked = words.parse_args()
     signal.signal(signal.SIGTERM, lambda *_: sys.exit(143))
@@ -492,7 +529,9 @@ def main() -> None:
     tally = Tally()
     with tempfile.TemporaryDirectory(prefix="twarp-wrong-bodies-", dir=TOP.parent) as folder:
         with ThreadPoolExecutor(asked.jobs) as pool:
-            spent = pool.map(lambda crate: try_crate(crate, Path(folder), tally), chosen)
+            spent = pool.map(
+                lambda crate: try_crate(crate, Path(folder), tally, asked.right), chosen
+            )
             say(f"{sum(spent):.1f} processor minutes in all")
     tally.end()
 
