@@ -1,5 +1,7 @@
 //! The messages that the routers of DISAGREE send one another.
 
+ghost use Rattle.std.specs.Prelude.{◌≡◌, IfOk, false};
+
 use std::alloc::{AllocError, Global};
 use tw_event::{Body, Event, PathNo};
 use tw_sim::Signed;
@@ -42,7 +44,9 @@ pub fn offers_of_2() -> [Signed<Event>; 2] {
 }
 
 /// The antimessage of a message.
-pub fn antimessage(message: Signed<Event>) -> Signed<Event> {
+pub fn antimessage(message: Signed<Event>) -> Signed<Event>
+    ensures { result ≡ record message { plus = false } }
+{
     Signed {
         plus: false,
         ..message
@@ -50,7 +54,9 @@ pub fn antimessage(message: Signed<Event>) -> Signed<Event> {
 }
 
 /// A list of messages, made once more where memory was refused.
-pub fn list(alloc: Global, messages: &[Signed<Event>]) -> Result<Vec<Signed<Event>>, AllocError> {
+pub fn list(alloc: Global, messages: &[Signed<Event>]) -> Result<Vec<Signed<Event>>, AllocError>
+    ensures { IfOk result (λ list. list.items ≡ messages.now) }
+{
     match Vec::from_slice(alloc, messages) {
         Err(_) => Vec::from_slice(alloc, messages),
         made => made,

@@ -1,12 +1,10 @@
 -- Where a router goes from one share to another, its place goes as the rule has it.
-use Rattle.std.proofs.Common.{◌≡◌, ℕ, zero, suc, ◌+◌, ◌<◌, ◌≤◌, ◌==◌, ◌&&◌, ◌||◌, Bool, not, true, false, cond, List, [], ◌∷◌, ◌++◌, Option, Some, None, filter, flat_map, get_or, length, map, max, set, slice_get, refl, ap, sym, ◌∙◌, subst, inl, inr, arith}
-use Rattle.std.proofs.lemmas.Bool.{both_ways, cases_Bool, cases_eq, eq-eqb, eqb-true, ne_eqb}
+use Rattle.std.proofs.Common.{◌≡◌, ℕ, zero, suc, ◌+◌, ◌<◌, ◌≤◌, ◌==◌, ◌&&◌, ◌||◌, Bool, not, true, false, cond, List, [], ◌∷◌, ◌++◌, Option, Some, None, filter, flat_map, length, map, set, slice_get, refl, ap, sym, ◌∙◌, subst, inl, inr, arith}
+use Rattle.std.proofs.lemmas.Bool.{both_ways, cases_Bool, cases_eq, eq-eqb, ne_eqb}
 use Rattle.std.proofs.lemmas.List.{get_or-set_other, get_or-set_same, length-set}
-use Rattle.std.specs.List.{AllByRecursion}
 use Rattle.std.specs.Option.{IsSomeAnd, option_map}
 use Rattle.std.specs.Prelude.{if◌then◌else◌}
 use Rattle.tw_core.proofs.Counts.{antimessages-append, messages-append}
-use Rattle.tw_core.proofs.Sums.{all_both, all_map}
 use Rattle.tw_core.specs.declared.limits.TheConstants.{OPENING_ROOM}
 use Rattle.tw_core.specs.Machine.{IsSameMachine, antimessages, messages}
 use Rattle.tw_event.specs.declared.event.Event.{Event}
@@ -15,9 +13,8 @@ use Rattle.tw_exchange.specs.Board.{Board, IsListed, all_mail, is_to, is_to_anot
 use Rattle.tw_model.proofs.Lawful.{lawful}
 use Rattle.tw_model.specs.Case.{Case, IsCase, simulation}
 use Rattle.tw_model.specs.State.{State}
-use Rattle.tw_rule.proofs.Moved.{get_beside, rule_moves}
+use Rattle.tw_rule.proofs.Moved.{rule_moves}
 use Rattle.tw_rule.proofs.Same.{machine_moves}
-use Rattle.tw_rule.specs.Board as rule
 use Rattle.tw_rule.specs.Moving.{HasFollowed, HaveGone, IsMoved}
 use Rattle.tw_rule.specs.Place.{Place}
 use Rattle.tw_rule.specs.Rule.{Rule, Stands, assembled}

@@ -6,7 +6,7 @@ use Rattle.std.specs.List.{AllByRecursion}
 use Rattle.tw_core.specs.Good.{times_there}
 use Rattle.tw_core.specs.Parts.{times_wanted, total}
 use Rattle.tw_event.specs.declared.event.Event.{Event}
-use Rattle.tw_exchange.specs.Board.{Board, IsBoard, all_mail, who, worker_for, workers}
+use Rattle.tw_exchange.specs.Board.{Board, IsBoard, all_mail, who, worker_for}
 use Rattle.tw_model.proofs.Lawful.{lawful, numbered}
 use Rattle.tw_model.specs.Case.{Case, IsCase, simulation}
 use Rattle.tw_rule.proofs.Gives.{rule_gives}

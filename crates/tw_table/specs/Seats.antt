@@ -69,7 +69,7 @@ taken_by h = taken (view h.pass)
 
 -- and as it is
 abbrev pub exchange_of : Held → Board
-exchange_of h = h.exchange
+exchange_of h = h.exchange.value
 
 -- the same seat, whatever was done to the exchange
 pub record IsSameSeat (h k : Held) : Type 0 where

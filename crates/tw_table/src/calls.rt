@@ -14,7 +14,7 @@ ghost use Rattle.tw_table.specs.Views.{Holds, IsMet, Knows, first_view, given, o
 
 use crate::hand::Hand;
 use crate::hints::Hints;
-use crate::rule::{Deals, Joins, Queue, Takes, Ticket, View};
+use crate::rule::{Deals, Joins, Laid, Queue, Takes, Ticket, View};
 use crate::seat::{Held, Seat};
 use crate::table::{Missing, Table};
 use crossbeam_queue::protocol::{Lesson, Outcome};
@@ -64,7 +64,11 @@ impl Table {
         let bound = exchange.bound();
         let stop = exchange.stop();
         let halted = exchange.is_halted();
-        lay::<Brand, R>(rt, &queue, &mut pass, exchange, shards, hands);
+        let exchange = match Box::new(alloc, exchange) {
+            Ok(exchange) => exchange,
+            Err(refused) => return Err(refused.value),
+        };
+        lay::<Brand, R>(rt, &queue, &mut pass, Laid { exchange }, shards, hands);
         for shard in &shards[..workers as usize] {
             let seat = deal(&queue, &mut pass, shard.worker(), bound, halted);
             seats.push_reserved(seat);
@@ -101,7 +105,7 @@ impl Table {
             mut pass,
             ..
         } = seat;
-        let exchange = pop(rt, &self.queue, &mut pass);
+        let Laid { exchange } = pop(rt, &self.queue, &mut pass);
         // What an exchange keeps is told by a read of it.
         let _ = exchange.bound();
         Held {
@@ -132,7 +136,7 @@ impl Table {
         let bound = exchange.bound();
         let halted = exchange.is_halted();
         self.hints.tell(&exchange);
-        push::<Brand, R>(rt, &self.queue, &mut pass, exchange, shard, hand);
+        push::<Brand, R>(rt, &self.queue, &mut pass, Laid { exchange }, shard, hand);
         Seat {
             worker,
             bound,
@@ -180,12 +184,13 @@ impl Table {
             return Err(Missing { table, seats });
         }
         let mut pass = join_all(&table, seats);
-        Ok(pop(rt, &table.queue, &mut pass))
+        let Laid { exchange } = pop(rt, &table.queue, &mut pass);
+        Ok(Box::into_inner(exchange))
     }
 }
 
 /// Waits until the exchange is in the queue, and takes it out.
-fn pop<R: Wait>(rt: &R, queue: &Queue, pass: &mut Ticket) -> Exchange
+fn pop<R: Wait>(rt: &R, queue: &Queue, pass: &mut Ticket) -> Laid
     requires queue { IsPassOf queue.now pass.old }
     requires begun { (view pass.old).opening ≡ false }
     requires empty { (view pass.old).held ≡ [] }
@@ -205,11 +210,11 @@ fn pop<R: Wait>(rt: &R, queue: &Queue, pass: &mut Ticket) -> Exchange
 }
 
 /// Puts the exchange into the queue, which is empty, and leaves a worker's share.
-fn push<M: Outcome<Exchange, View> + Lesson<Exchange, View>, R: Wait>(
+fn push<M: Outcome<Laid, View> + Lesson<Laid, View>, R: Wait>(
     rt: &R,
     queue: &Queue,
     pass: &mut Ticket,
-    exchange: Exchange,
+    exchange: Laid,
     shard: &Shard<'_>,
     hand: &Hand,
 )
@@ -227,11 +232,11 @@ fn push<M: Outcome<Exchange, View> + Lesson<Exchange, View>, R: Wait>(
 }
 
 /// Puts the exchange into the queue for the first time, and leaves the shares of all workers.
-fn lay<M: Outcome<Exchange, View> + Lesson<Exchange, View>, R: Wait>(
+fn lay<M: Outcome<Laid, View> + Lesson<Laid, View>, R: Wait>(
     rt: &R,
     queue: &Queue,
     pass: &mut Ticket,
-    exchange: Exchange,
+    exchange: Laid,
     shards: &[Shard<'_>],
     hands: &[Hand],
 )

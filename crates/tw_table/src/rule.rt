@@ -7,6 +7,20 @@ use std::collections::LinkedList;
 use std::marker::{Brand, Model};
 use tw_exchange::Exchange;
 
+/// The exchange, as it lies in the queue: it stays where it is, so that little moves as it is taken and given back.
+#[derive(Drop)]
+pub struct Laid {
+    pub(crate) exchange: Box<Exchange>,
+}
+
+impl Model for Laid {
+    ghost use Rattle.tw_exchange.specs.Board.{Board};
+
+    ghost Value = { Board };
+
+    ghost view = { λ laid. laid.exchange.value };
+}
+
 /// The share of a worker, as the rule sees it. No value of it is made.
 pub struct Share {
     nothing: (),
@@ -35,13 +49,13 @@ pub struct View {
     /// The stop of the exchange, in ticks.
     pub stop: u64,
     /// The exchange, as it was taken, while this pass has it.
-    pub held: LinkedList<Exchange>,
+    pub held: LinkedList<Laid>,
 }
 
 /// The exchange is in the queue or with one pass, and the workers' places keep the rule with it.
 pub struct OneExchange;
 
-impl Protocol<Exchange, View> for OneExchange {
+impl Protocol<Laid, View> for OneExchange {
     ghost use Rattle.tw_table.specs.Views.{Holds, first_view};
 
     ghost holds = { Holds };
@@ -52,7 +66,7 @@ impl Protocol<Exchange, View> for OneExchange {
 /// The exchange leaves the queue.
 pub struct Takes;
 
-impl Outcome<Exchange, View> for Takes {
+impl Outcome<Laid, View> for Takes {
     ghost use Rattle.tw_table.specs.Views.{Taken};
 
     ghost then = { Taken };
@@ -81,16 +95,16 @@ impl Join<View> for Joins {
 }
 
 // What a push tells is picked at each call.
-impl Outcome<Exchange, View> for Brand {
+impl Outcome<Laid, View> for Brand {
     ghost then = { λ v x w. ⊤ };
 }
 
-impl Lesson<Exchange, View> for Brand {
+impl Lesson<Laid, View> for Brand {
     ghost fact = { λ v items. items ≡ [] };
 }
 
 /// The queue with one place, in which the exchange lies.
-pub type Queue = RuledArrayQueue<Exchange, View, OneExchange>;
+pub type Queue = RuledArrayQueue<Laid, View, OneExchange>;
 
 /// A pass of that queue.
-pub type Ticket = Pass<Exchange, View>;
+pub type Ticket = Pass<Laid, View>;

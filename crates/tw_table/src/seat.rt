@@ -21,10 +21,10 @@ pub struct Seat {
 /// A worker's seat, with the exchange.
 #[derive(Drop)]
 pub struct Held {
-    pub(crate) exchange: Exchange,
+    pub(crate) exchange: Box<Exchange>,
     pub(crate) worker: u32,
     pub(crate) pass: Ticket,
     pub(crate) ghost holds: { IsHolding worker (view pass) },
-    pub(crate) ghost there: { worker < workers exchange },
-    pub(crate) ghost visited: { IsVisitedBy worker (taken (view pass)) exchange },
+    pub(crate) ghost there: { worker < workers exchange.value },
+    pub(crate) ghost visited: { IsVisitedBy worker (taken (view pass)) exchange.value },
 }

@@ -2,13 +2,15 @@
 
 ghost use Rattle.std.specs.Bool.{OnTrue};
 ghost use Rattle.std.specs.Prelude.{◌≡◌, ◌<◌, ◌≤◌, ℕ, [], ◌∷◌, IfOk, IfSome, List, OnSome, length, slice_index_or, true};
-ghost use Rattle.tw_exchange.specs.Board.{handed, visited};
+ghost use Rattle.tw_event.specs.declared.event.Event.{Event as AnEvent};
+ghost use Rattle.tw_exchange.specs.Board.{AreDealt, handed, visited, workers};
 ghost use Rattle.tw_shard.specs.Shard.{IsOpeningShard, Shard as AShard, no_shard};
 ghost use Rattle.tw_sim.specs.declared.machine.Cancel.TheVariants.{Aggressive};
+ghost use Rattle.tw_sim.specs.declared.machine.Signed.{Signed as ASigned};
 ghost use Rattle.tw_table.specs.declared.hand.Hand.{Hand as AHand};
 ghost use Rattle.tw_table.specs.declared.seat.Seat.{Seat as ASeat};
 ghost use Rattle.tw_table.specs.declared.table.Table.{Table as ATable};
-ghost use Rattle.tw_table.specs.Seats.{IsSameSeat, IsSeatOf, exchange_of, share_of};
+ghost use Rattle.tw_table.specs.Seats.{IsSameSeat, IsSeatOf, exchange_of, owners_on, share_of, workers_at};
 ghost use Rattle.tw_table.specs.Shares.{share};
 ghost use Rattle.tw_table_rows.specs.Sitting.{AreBeginning, IsReady};
 
@@ -23,7 +25,7 @@ use tw_shard::Shard;
 use tw_shard::shards::open_all;
 use tw_sim::{Cancel, Signed};
 use tw_table::laws::new_is_ruled;
-use tw_table::{Exchange, Hand, Held, Missing, Seat, Table, Visit};
+use tw_table::{Exchange, Hand, Held, Missing, Parcels, Seat, Table, Told, Visit};
 use tw_workers::laws::shares_are_at_work;
 
 /// The shards of two workers, made once more where memory was refused.
@@ -168,6 +170,69 @@ fn meet<R: Wait>(
     Some(table.give(rt, held, shard, hand))
 }
 
+/// Whether messages are dealt to the workers of a table, once more where memory was refused.
+fn deal(table: &Table, parcels: &mut Parcels, messages: &[Signed<Event>]) -> bool
+    ensures { OnTrue result (AreDealt (owners_on table.now) (workers_at table.now) messages.now parcels.new) }
+{
+    if let Ok(()) = table.deal(parcels, messages) {
+        return true;
+    }
+    match table.deal(parcels, messages) {
+        Ok(()) => true,
+        Err(_) => false,
+    }
+}
+
+/// A worker that has taken the exchange visits it with what is dealt, once more where memory was refused.
+fn visit_dealt(
+    held: &mut Held,
+    parcels: &mut Parcels,
+    report: Option<u64>,
+    mail: &mut Vec<Signed<Event>>,
+) -> Option<Told>
+    requires dealt { (out : List (ASigned AnEvent)) × AreDealt (exchange_of held.old).owners (workers (exchange_of held.old)) out parcels.old }
+    requires empty { mail.old.items ≡ [] }
+    ensures board { OnSome result ((out : List (ASigned AnEvent)) → AreDealt (exchange_of held.old).owners (workers (exchange_of held.old)) out parcels.old
+        → exchange_of held.new ≡ visited (share_of held.old).shard.worker out report (exchange_of held.old)) }
+    ensures mail { OnSome result ((out : List (ASigned AnEvent)) → AreDealt (exchange_of held.old).owners (workers (exchange_of held.old)) out parcels.old
+        → mail.new.items ≡ handed (share_of held.old).shard.worker out (exchange_of held.old)) }
+    ensures bound { IfSome result (λ told. told.bound ≡ (exchange_of held.new).bound) }
+    ensures rising { OnSome result ((exchange_of held.old).bound ≤ (exchange_of held.new).bound) }
+    ensures same { OnSome result (IsSameSeat held.old held.new) }
+{
+    if let Ok(told) = held.visit_dealt(parcels, report, mail) {
+        return Some(told);
+    }
+    match held.visit_dealt(parcels, report, mail) {
+        Ok(told) => Some(told),
+        Err(_) => None,
+    }
+}
+
+/// As [`meet`], where what its routers have sent is dealt before the exchange is taken.
+fn meet_dealt<R: Wait>(
+    rt: &R,
+    table: &Table,
+    seat: Seat,
+    shard: &mut Shard<'_>,
+    hand: &mut Hand,
+) -> Option<Seat>
+    requires { IsReady table.now seat (share shard.old hand.old) }
+    ensures { IfSome result (λ s. IsSeatOf table.now s) }
+{
+    let out = shard.take_out();
+    let mut parcels = Parcels::new(*out.allocator());
+    if !deal(table, &mut parcels, &out) {
+        return None;
+    }
+    let mut held = table.take(rt, seat);
+    hand.mail.clear();
+    hand.next = 0;
+    let told = visit_dealt(&mut held, &mut parcels, shard.report_time(), &mut hand.mail)?;
+    shard.raise_bound(told.bound);
+    Some(table.give(rt, held, shard, hand))
+}
+
 /// Whether a worker has this mail in its hand, and was told this bound.
 fn is_told(seat: &Seat, hand: &Hand, mail: &[Signed<Event>], bound: u64) -> bool {
     hand.mail.as_slice() == mail && hand.next == 0 && seat.bound() == bound
@@ -178,7 +243,8 @@ fn has_sent(shard: &Shard<'_>, messages: &[Signed<Event>]) -> bool {
     shard.outgoing() == messages && shard.report_time() == None
 }
 
-/// The first worker handles the start of router 0, and meets: it is told of bound 0, and has what router 2 is offered.
+/// The first worker handles the start of router 0, deals what that sends, and meets: it is told of bound 0, and has
+/// what router 2 is offered.
 fn meet_first<R: Wait>(
     rt: &R,
     table: &Table,
@@ -193,7 +259,7 @@ fn meet_first<R: Wait>(
     if seat.worker() != 0 || !handle(shard, 0) || !has_sent(shard, &[for_1, for_2]) {
         return None;
     }
-    let seat = meet(rt, table, seat, shard, hand)?;
+    let seat = meet_dealt(rt, table, seat, shard, hand)?;
     if is_told(&seat, hand, &[for_2], 0) {
         Some(seat)
     } else {

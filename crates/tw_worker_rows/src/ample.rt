@@ -1,8 +1,8 @@
 //! Calls that may answer want of memory, each with memory enough: none of them does, at its first try.
 
 use crate::moving;
-use crate::moving::{Tries, holds_by_tries};
-use crate::shards::{Row, only_worker_holds};
+use crate::moving::holds_by_tries;
+use crate::shards::{Row, Tries, only_worker_holds};
 use std::alloc::Global;
 use tw_exchange::{Exchange, Parcels};
 use tw_instance::Case;

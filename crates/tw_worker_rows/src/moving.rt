@@ -4,6 +4,7 @@
 ghost use Rattle.std.specs.Prelude.{◌≡◌, ◌<◌, IfSome};
 
 use crate::calls::{handle, receive, undo};
+use crate::shards::Tries;
 use std::alloc::Global;
 use tw_event::PathNo;
 use tw_instance::Case;
@@ -30,13 +31,6 @@ fn shard<'a>(alloc: Global, case: &'a Case, worker: u32, cancel: Cancel) -> Opti
         Ok(made) => Some(made),
         Err(_) => None,
     }
-}
-
-/// How often a shard is made, at most: once, or once more where memory was refused.
-#[derive(Clone, Copy)]
-pub(crate) enum Tries {
-    Once,
-    Twice,
 }
 
 /// The same, made so often.

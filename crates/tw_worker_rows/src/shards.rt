@@ -18,7 +18,7 @@ use tw_sim::Signed;
 
 /// How often a shard is made, at most: once, or once more where memory was refused.
 #[derive(Clone, Copy)]
-enum Tries {
+pub(crate) enum Tries {
     Once,
     Twice,
 }

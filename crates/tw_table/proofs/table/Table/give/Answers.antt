@@ -1,6 +1,6 @@
 use Rattle.std.proofs.Common.{subst, sym}
 use Rattle.crossbeam_queue.specs.Passes.{view}
-use Rattle.tw_exchange.specs.Board.{opening, workers}
+use Rattle.tw_exchange.specs.Board.{IsBoard, opening, workers}
 use Rattle.tw_table.proofs.Seats.{one_alone, one_read, worker_of}
 use Rattle.tw_table.proofs.Views.{finds_empty, gives}
 use Rattle.tw_table.specs.Seats.{share_of, taken_by}
@@ -12,10 +12,10 @@ pub push-requires-clause-keeps : goal.push-requires-clause-keeps
 push-requires-clause-keeps g c =
     let held = c.args.held in
     let v = view held.pass in
-    gives _ v (taken_by held) _ (share_of held) (share c.args.shard.now c.args.hand.now) held.holds.begun
+    gives _ v (taken_by held) held.exchange.value (share_of held) (share c.args.shard.now c.args.hand.now) held.holds.begun
     (one_alone (λ x. workers x) (opening 0 0 0) v.workers v.held held.holds.one)
-    (one_alone worker_of no_share held.worker v.shares held.holds.share) c.bound-bound.ensures.board
-    (subst (λ w. IsVisitedBy w (taken_by held) held.exchange) (sym (one_read worker_of no_share held.worker v.shares held.holds.share)) held.visited) c.requires.fair
+    (one_alone worker_of no_share held.worker v.shares held.holds.share) (subst IsBoard c.deref.ensures c.bound-bound.ensures.board)
+    (subst (λ w. IsVisitedBy w (taken_by held) held.exchange.value) (sym (one_read worker_of no_share held.worker v.shares held.holds.share)) held.visited) c.requires.fair
 
 pub push-requires-clause-learns : goal.push-requires-clause-learns
 push-requires-clause-learns g c =

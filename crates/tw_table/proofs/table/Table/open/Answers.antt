@@ -3,11 +3,14 @@ use Rattle.crossbeam_queue.specs.Passes.{IsPassOf}
 use Rattle.tw_exchange.specs.Board.{workers}
 use Rattle.tw_table.proofs.Deals.{IsDealt, all_dealt, deals_next, deals_none, enough, long_take, new_bounds, new_halted, new_stops, next_worker}
 use Rattle.tw_table.proofs.Views.{lays, lays_on_empty}
-use Rattle.tw_table.specs.Shares.{shares_of}
+use Rattle.tw_table.specs.Shares.{IsRuled, shares_of}
+use Rattle.tw_table.specs.Views.{opened}
 use Rattle.tw_table.proofs.table.Table.open.Goals as goal
 
 pub lay-requires-clause-keeps : goal.lay-requires-clause-keeps
-lay-requires-clause-keeps g c = lays _ _ c.requires.ruled.0 _ _ (search rules) c.requires.ruled.1
+lay-requires-clause-keeps g c =
+    lays _ _ c.requires.ruled.0 _ _ (search rules)
+    (subst (λ x. IsRuled c.requires.ruled.0 x (shares_of c.args.shards.now c.args.hands.now)) (sym c.in-Ok-new.ensures.ok) c.requires.ruled.1)
 
 pub lay-requires-clause-learns : goal.lay-requires-clause-learns
 lay-requires-clause-learns g c = lays_on_empty _ _ (search rules)
@@ -28,7 +31,8 @@ loop-shard-init g c =
     let same = c.lay.ensures.queue in
     let pass = c.in-Ok-ruled.ensures.1 in (
       deals_none (IsPassOf c.in-Ok-ruled.queue) c.args.exchange c.args.exchange.halted (shares_of c.args.shards.now c.args.hands.now) c.lay.new.pass c.in-Ok.seats.items
-          c.in-Ok.ensures.items (same.0 ∙ pass.0, same.2 ∙ pass.1) c.lay.ensures.view,
+          c.in-Ok.ensures.items (same.0 ∙ pass.0, same.2 ∙ pass.1)
+          (c.lay.ensures.view ∙ ap (opened (shares_of c.args.shards.now c.args.hands.now)) c.in-Ok-new.ensures.ok),
       search rules,
       search rules,
     )
