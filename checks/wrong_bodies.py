@@ -35,12 +35,12 @@ import tempfile
 import threading
 from collections.abc import Callable, Iterable, Iterator
 from concurrent.futures import ThreadPoolExecutor
-from dataclasses import dataclass, field
+from dataclasses import dataclass, field, replace
 from functools import cached_property
 from pathlib import Path
 
 from common import TOP, Tally
-from functions import Function, functions_of
+from functions import Function, functions_of, modules_of
 from twarp_tools.schedule import below, graph_of
 
 CRATES = TOP / "crates.txt"
@@ -146,20 +146,16 @@ class WrongBody:
 class Trial:
     """A wrong body as a function of its own.
 
-    It stands in a file of the crate behind the function of which it is a copy, has another name,
-    these lines, and the same proof.
+    It stands in a file of the crate behind the function of which it is a copy, has another name, by
+    which the checker calls it, these lines, and the same proof.
     """
 
     body: WrongBody
     file: str
     function: Function
-    name: str
+    path: Name
     lines: list[str]
     proofs: Texts
-
-    @property
-    def path(self) -> Name:
-        return (*self.function.path[:-1], self.name)
 
     @classmethod
     def of(cls, body: WrongBody, number: int, crate: Path, is_right: bool) -> Trial | None:
@@ -186,8 +182,21 @@ class Trial:
         lines[first] = re.sub(rf"\bfn {function.path[-1]}\b", f"fn {name}", lines[first], count=1)
         while lines[first - 1].lstrip().startswith("#["):
             first -= 1
-        proofs = proofs_renamed(crate, function.path, name)
-        return cls(body, file, function, name, lines[first : copied.last], proofs)
+        path = path_at_home(function, file, crate)
+        proofs = proofs_renamed(crate, path, name)
+        return cls(body, file, function, (*path[:-1], name), lines[first : copied.last], proofs)
+
+
+def path_at_home(function: Function, file: str, crate: Path) -> Name:
+    """The path of a function as the checker has it: a type's functions are where the type is."""
+    *_, owner, name = ("", *function.path)
+    if len(function.path) <= len(modules_of(file)) + 1:
+        return function.path
+    declared = re.compile(rf"^(?:pub(?:\([^)]*\))? )?(?:struct|enum) {owner}\b", re.MULTILINE)
+    homes = [it for it in sorted(crate.glob("src/**/*.rt")) if declared.search(it.read_text())]
+    if len(homes) != 1:
+        return function.path
+    return (*modules_of(str(homes[0].relative_to(crate))), owner, name)
 
 
 def proofs_renamed(crate: Path, path: Name, name: str) -> Texts:
@@ -418,8 +427,9 @@ class Trials:
     def reason(self, trial: Trial, texts: Texts, said: Said) -> str:
         """The first thing that the check told of the function that the wrong body is."""
         for function in functions_of(trial.file, texts[trial.file]):
-            if function.path == trial.path:
-                return first_reason(list(said.errors_of(function, trial.file)))
+            if function.path[-1] == trial.path[-1]:
+                named = replace(function, path=trial.path)
+                return first_reason(list(said.errors_of(named, trial.file)))
         return ""
 
     def try_alone(self, body: WrongBody) -> None:
