@@ -1,13 +1,19 @@
 -- The events that a router can undo, in the two parts of a ring.
-use Rattle.std.proofs.Common.{◌≡◌, ℕ, zero, suc, ◌+◌, ◌-◌, ◌<◌, ◌≤◌, Bool, cond, List, [], ◌∷◌, ◌++◌, refl, ap, sym, ◌∙◌, arith, if◌then◌else◌}
-use Rattle.std.proofs.Common.{append-nil, append_assoc, count_by, length, reverse, slice_get, take, None, Some}
-use Rattle.std.proofs.lemmas.Bool.{eq-eqb, ne_eqb}
+use Rattle.std.proofs.Common.{◌≡◌, ℕ, zero, suc, ◌==◌, ◌+◌, ◌-◌, ◌<◌, ◌≤◌, Bool, cond, List, [], ◌∷◌, ◌++◌, refl, ap, sym, ◌∙◌, arith, if◌then◌else◌}
+use Rattle.std.proofs.Common.{append-nil, append_assoc, count_by, false, length, not, reverse, slice_get, take, true, None, Some}
+use Rattle.std.proofs.lemmas.Bool.{eq-eqb, false_from_ne_true, ne_eqb}
 use Rattle.std.proofs.lemmas.List.{map-append, reverse-append, take-append-le}
 use Rattle.std.proofs.lemmas.List.Folds.{prefix_len-append}
 use Rattle.std.proofs.lemmas.List.Sums.{prefix_len-le-length, sum_by-append}
 use Rattle.std.specs.List.{prefix_len}
 use Rattle.tw_event.specs.declared.event.Event.{Event}
+use Rattle.tw_event.specs.Order.{event_same}
+use Rattle.tw_event.proofs.Order.{same_is}
+use Rattle.tw_core.specs.Steps.{is_newest}
+use Rattle.tw_model.specs.Case.{Case, simulation}
 use Rattle.tw_shard.proofs.Histories.{newest_first}
+use Rattle.tw_shard.proofs.Queues.{newest_same}
+use Rattle.tw_shard.specs.Ahead.{EndsOtherwise}
 use Rattle.tw_shard.specs.declared.timeline.HandledEvent.{HandledEvent}
 use Rattle.tw_shard.specs.Timeline.{events_of, noted_change}
 
@@ -64,7 +70,7 @@ module _ {X : Type 0} where
   last_is [] d h = cc
   last_is (x ∷ xs) d h = split_at (length (x ∷ xs) - 1) (x ∷ xs) d (omega arith) h
 
-  some_at : (xs : List X) (n : ℕ) → n < length xs → (d : X) × (slice_get xs n ≡ Some d)
+  pub some_at : (xs : List X) (n : ℕ) → n < length xs → (d : X) × (slice_get xs n ≡ Some d)
   some_at [] n lt = absurd (omega arith)
   some_at (x ∷ xs) zero lt = (x, refl)
   some_at (x ∷ xs) (suc n) lt = some_at xs n (omega arith)
@@ -86,3 +92,22 @@ newest_is steps d past h =
 
 pub newest_ahead_is : (steps : List HandledEvent) (d : HandledEvent) → slice_get steps (length steps - 1) ≡ Some d → Some d.event ≡ slice_get (events_of (reverse steps)) 0
 newest_ahead_is steps d h = ap (λ l. slice_get (events_of l) 0) (sym (newest_first steps (take (length steps - 1) steps) d (last_is steps d h)))
+
+-- where the newest event is another one, so is the newest of the history
+pub newest_otherwise : (case : Case) (e : Event) (steps : List HandledEvent) (past : List Event) → EndsOtherwise e steps
+    → false ≡ is_newest (simulation case) e (events_of (reverse steps) ++ past)
+newest_otherwise case e steps past h =
+    sym h.2 ∙ newest_same case e h.0.event (events_of (reverse steps) ++ past) (newest_is steps h.0 past h.1)
+
+-- events that are not equal are told apart
+pub other_event : (e d : Event) → (e ≡ d → ⊥) → event_same e d ≡ false
+other_event e d other = false_from_ne_true (event_same e d) (λ same. other (same_is e d same))
+
+-- there is something where it is not told that there is nothing
+pub some_there : (n : ℕ) → not (n == 0) ≡ true → 0 < n
+some_there zero h = cc h
+some_there (suc n) h = omega arith
+
+-- two numbers that are told apart differ
+pub other_number : (m n : ℕ) → not (m == n) ≡ true → m ≡ n → ⊥
+other_number m n told same = cc (rw (eq-eqb m n same) at told)

@@ -1,3 +1,4 @@
+pub mod Ahead
 pub mod Arrival
 pub mod Commit
 pub mod Inside

@@ -1,8 +1,10 @@
 //! The events that a router can undo, in a ring.
 
+ghost use Rattle.std.specs.Bool.{OnTrue};
 ghost use Rattle.std.specs.Prelude.{◌≡◌, ◌++◌, ◌∷◌, ◌-◌, ◌^◌, ◌<◌, ◌≤◌, [], IfOk, OnErr, OnOk, count_by, drop, length, nat_lt, slice_get, take};
 ghost use Rattle.std.specs.List.{list_any, prefix_len};
 ghost use Rattle.std.specs.Option.{option_copied};
+ghost use Rattle.tw_shard.specs.Ahead.{EndsOtherwise};
 
 use crate::timeline::HandledEvent;
 use circular_buffer::HeapCircularBuffer;
@@ -19,15 +21,21 @@ const FIRST_CAPACITY: usize = 4;
 #[derive(Drop)]
 pub(crate) struct Ahead {
     steps: HeapCircularBuffer<HandledEvent>,
+    // The time and the number of the newest event, where there is one.
+    newest_time: u64,
+    newest_seq: u64,
 }
 
 impl Model for Ahead {
     ghost use Rattle.std.specs.Prelude.{List};
     ghost use Rattle.tw_shard.specs.declared.timeline.HandledEvent.{HandledEvent as AStep};
+    ghost use Rattle.tw_shard.specs.Ahead.{NotesNewest};
 
     ghost Value = { List AStep };
 
     ghost view = { λ a. a.steps.items };
+
+    ghost invariant = { NotesNewest };
 }
 
 impl Ahead {
@@ -37,6 +45,8 @@ impl Ahead {
     {
         Ok(Ahead {
             steps: HeapCircularBuffer::with_capacity(alloc, 0)?,
+            newest_time: 0,
+            newest_seq: 0,
         })
     }
 
@@ -54,6 +64,16 @@ impl Ahead {
         ensures { option_copied result ≡ slice_get self.now (length self.now - 1) }
     {
         self.steps.back()
+    }
+
+    /// Whether there is a newest one and its event is another one, as its time and its number tell. The ring is not
+    /// looked at.
+    #[inline(always)]
+    pub(crate) fn ends_otherwise(&self, event: &Event) -> bool
+        ensures { OnTrue result (EndsOtherwise event.now self.now) }
+    {
+        let told = self.newest_time != event.time || self.newest_seq != event.seq;
+        told && !self.steps.is_empty()
     }
 
     /// Number `k`, from 0, the oldest first.
@@ -89,6 +109,8 @@ impl Ahead {
         ensures err { OnErr result (self.new ≡ self.old) }
     {
         make_room(&mut self.steps)?;
+        self.newest_time = step.event.time;
+        self.newest_seq = step.event.seq;
         // There is a place for it, so that nothing comes back.
         let _ = self.steps.try_push_back(step);
         Ok(())
@@ -99,6 +121,10 @@ impl Ahead {
         ensures { self.new ≡ take (length self.old - 1) self.old }
     {
         self.steps.pop_back();
+        if let Some(newest) = self.steps.back() {
+            self.newest_time = newest.event.time;
+            self.newest_seq = newest.event.seq;
+        }
     }
 
     /// The oldest ones, so many, are committed.

@@ -151,6 +151,10 @@ impl<'a> Timeline<'a> {
     pub(crate) fn is_newest(&self, event: &Event) -> bool
         ensures { (case : ACase) → result ≡ is_newest (simulation case) event.now (history self.now) }
     {
+        // Of most events this is all.
+        if self.ahead.ends_otherwise(event) {
+            return false;
+        }
         match self.newest() {
             Some(newest) => *event == *newest,
             None => false,
@@ -178,14 +182,15 @@ impl<'a> Timeline<'a> {
         ensures full { IsErrOf result (or_memory.Fault counter_full) ↔ IsTrue (is_full_at (router_of_timeline self.old) event.now) }
     {
         let instance = self.router.instance();
-        sends.clear();
+        empty(sends);
         let note = handle_fitting(instance, &mut self.router, event, sends)?;
         let step = HandledEvent {
             event: *event,
             note,
         };
         if let Err(error) = add_step(&mut self.ahead, step, outgoing, sends.len()) {
-            take_back(instance, &mut self.router, event, note);
+            // A copy, so that the record itself need not be in memory.
+            take_back(instance, &mut self.router, event, UndoRecord { ..note });
             return Err(OrMemory::from(error));
         }
         send_unheld(outgoing, sends, held);
@@ -228,6 +233,16 @@ impl<'a> Timeline<'a> {
         self.ahead.drop_last();
         call_back(cancel, sends, held, outgoing);
         Ok(newest.event)
+    }
+}
+
+/// Empties a list. Most events send nothing, so that most lists are empty already.
+#[inline(always)]
+fn empty(sends: &mut SmallVec<Event, 8>)
+    ensures { sends.new.items ≡ [] }
+{
+    if !sends.is_empty() {
+        sends.clear();
     }
 }
 

@@ -73,31 +73,27 @@ impl<'a> Worker<'a> {
         ensures stop { self.new.stop ≡ self.old.stop }
     {
         for _ in 0..self.pace.batch() {
-            self.receive_where_due()?;
-            if !self.handle_before(limit)? {
+            if self.handle_before(self.limit_now(limit))? {
+                continue;
+            }
+            if self.shard.outgoing().is_empty() {
                 return Ok(true);
             }
+            self.receive_own()?;
         }
         Ok(false)
     }
 
-    /// Its routers receive what they have sent one another, once no event of the tick is left.
-    fn receive_where_due(&mut self) -> Result<(), AllocError>
-        requires { self.old.share.mail ≡ [] }
-        ensures kept { StillKeeps self.old self.new }
-        ensures empty { OnOk result (self.new.share.mail ≡ []) }
-        ensures stop { self.new.stop ≡ self.old.stop }
+    /// The time before which an event is handled now: at most the end of the tick, where its routers have sent
+    /// something, which is to come before later events are handled.
+    fn limit_now(&self, limit: u64) -> u64
+        ensures { result ≤ limit }
     {
-        if !self.is_own_mail_due() {
-            return Ok(());
+        if self.shard.outgoing().is_empty() {
+            limit
+        } else {
+            limit.min(self.pace.end_of_tick())
         }
-        self.receive_own()
-    }
-
-    /// Whether its routers have sent something, and no event of the tick is left.
-    fn is_own_mail_due(&self) -> bool {
-        !self.shard.outgoing().is_empty()
-            && !self.pace.is_of_tick(self.shard.pending().least_time())
     }
 
     /// What its routers have sent is sorted: what is for them comes to them.

@@ -169,9 +169,9 @@ impl Pace {
         time.saturating_sub(self.window)
     }
 
-    /// Whether a time is that of the tick that is handled.
-    pub(crate) fn is_of_tick(&self, time: Option<u64>) -> bool {
-        time == Some(self.tick)
+    /// The time after the tick that is handled.
+    pub(crate) fn end_of_tick(&self) -> u64 {
+        self.tick.saturating_add(1)
     }
 
     /// What was done since the latest meeting.

@@ -12,7 +12,7 @@ sent c =
     let e = c.args.event.now in
     c.deref.ensures
     ∙ (c.in_ok-note.ensures.sends
-    ∙ (ap (λ xs. xs ++ (effect router.net router.node router.state e).sends) c.clear.ensures.items
+    ∙ (ap (λ xs. xs ++ (effect router.net router.node router.state e).sends) c.empty.ensures
     ∙ ap (λ s. (effect router.net router.node s e).sends) c.self.invariant.state))
 
 pub returns-clause-sends : goal.returns-clause-sends
