@@ -3,7 +3,7 @@ use Rattle.tw_run.proofs.Dealt.{goes_on_same}
 use Rattle.tw_run.proofs.stretches.run_in_stretches.Goals as goal
 
 pub loop-init : goal.loop-init
-loop-init g c = (goes_on_same c.args.sim, c.requires.stop, omega (arith, c.workers-crew.ensures.value, c.requires.some), omega (arith, c.workers-crew.ensures.value))
+loop-init g c = (goes_on_same c.args.sim, c.requires.stop, omega (arith, c.first-stretch.ensures, c.workers.ensures.value, c.requires.some), omega (arith, c.first-stretch.ensures, c.workers.ensures.value))
 
 pub returns-in_default-clause-goes_on : goal.returns-in_default-clause-goes_on
 returns-in_default-clause-goes_on g c = c.loop.invariant.0
