@@ -11,6 +11,7 @@
 
 mod cause;
 mod dealing;
+mod naps;
 mod outcome;
 mod policy;
 mod run;

@@ -1,18 +1,29 @@
 //! To how many of its workers a run deals its routers out. No promise rests on this.
 
-ghost use Rattle.std.specs.Prelude.{◌≤◌, ◌<◌};
+ghost use Rattle.std.specs.Prelude.{◌≡◌, ◌≤◌, ◌<◌};
 
 use tw_instance::Instance;
 
 /// The first stretch, in ticks, behind which it is judged how much there is to do. To go on from there costs as much as
 /// some hundred events.
-const FIRST_STRETCH: u64 = 256;
+const FIRST_STRETCH: u64 = 32;
 
 /// Each stretch is so many times as long as the one before: a long run is judged a few times, and early.
 const GROWTH: u64 = 4;
 
-/// So many stretches, the last of which is longer than any run.
-pub(crate) const STRETCHES: u32 = 12;
+/// More stretches than the longest run has.
+pub(crate) const STRETCHES: u32 = 64;
+
+/// A worker that sleeps once loses as much time as one worker takes for so many events. Measured on quiet and on busy
+/// processors.
+const EVENTS_FOR_EACH_NAP: u64 = 400;
+
+/// Where workers slept less often in a stretch, that is no more than the start of a thread.
+const FEW_NAPS: u64 = 32;
+
+/// Where other work takes the processors, one worker goes on for so many times as long before it is tried again by
+/// all: with all of them such a run takes up to twenty times as long.
+const LONG_BY_ONE: u64 = 64;
 
 /// Where a worker has fewer events at hand than so many in the time that a message takes, one worker handles all sooner
 /// than several: these would meet after each few of them, and a meeting costs as much as some dozen events. Measured with
@@ -25,6 +36,8 @@ pub(crate) struct Handled {
     pub(crate) events: u64,
     // In so many ticks, counted for each worker.
     pub(crate) ticks: u64,
+    // And slept so often while they waited for one another.
+    pub(crate) naps: u64,
 }
 
 impl Handled {
@@ -33,18 +46,70 @@ impl Handled {
         Handled {
             events: self.events.saturating_sub(other.events),
             ticks: self.ticks.saturating_sub(other.ticks),
+            naps: self.naps.saturating_sub(other.naps),
+        }
+    }
+
+    /// Whether one worker would have handled this sooner than several that waited so: a worker's time went by asleep,
+    /// as it does where other work takes the processors.
+    fn is_slept_through(self) -> bool {
+        self.naps >= FEW_NAPS && self.naps.saturating_mul(EVENTS_FOR_EACH_NAP) > self.events
+    }
+}
+
+/// How a run goes on: by how many of its workers, and how far.
+#[derive(Clone, Copy, Debug)]
+pub(crate) struct Stretch {
+    pub(crate) crew: u32,
+    /// In ticks.
+    pub(crate) length: u64,
+    // Whether it is by one worker since other work took the processors.
+    is_alone: bool,
+}
+
+impl Stretch {
+    /// The first one, by all of so many workers.
+    pub(crate) fn first(workers: u32) -> Stretch
+        ensures { result.crew ≡ workers }
+    {
+        Stretch {
+            crew: workers,
+            length: FIRST_STRETCH,
+            is_alone: false,
+        }
+    }
+
+    /// The one behind it, of so many workers, where this much was handled and a message takes `delay` ticks.
+    pub(crate) fn next(self, handled: Handled, delay: u64, workers: u32) -> Stretch
+        requires { 0 < workers }
+        ensures some { 0 < result.crew }
+        ensures within { result.crew ≤ workers }
+    {
+        if self.is_alone {
+            return Stretch {
+                crew: workers,
+                length: self.length / (LONG_BY_ONE / 2),
+                is_alone: false,
+            };
+        }
+        if self.crew > 1 && handled.is_slept_through() {
+            return Stretch {
+                crew: 1,
+                length: self.length.saturating_mul(LONG_BY_ONE),
+                is_alone: true,
+            };
+        }
+        Stretch {
+            crew: next_crew(handled, self.crew, delay, workers),
+            length: self.length.saturating_mul(GROWTH),
+            is_alone: false,
         }
     }
 }
 
-/// How long a stretch is, in ticks, of this number from 0.
-pub(crate) fn length_of(stretch: u32) -> u64 {
-    FIRST_STRETCH.saturating_mul(GROWTH.saturating_pow(stretch))
-}
-
 /// To how many of so many workers routers are dealt out behind a stretch in which `crew` of them had some and
 /// handled this much, where a message takes `delay` ticks.
-pub(crate) fn next_crew(handled: Handled, crew: u32, delay: u64, workers: u32) -> u32
+fn next_crew(handled: Handled, crew: u32, delay: u64, workers: u32) -> u32
     requires { 0 < workers }
     ensures some { 0 < result }
     ensures within { result ≤ workers }

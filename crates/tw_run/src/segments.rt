@@ -10,6 +10,7 @@ ghost use Rattle.tw_shape.specs.Shape.{shape as shape_at};
 ghost use Rattle.tw_shape.specs.Verdict.{finding};
 
 use crate::dealing::{Dealing, deal};
+use crate::naps::Naps;
 use crate::stretches::{run_in_stretches, run_on};
 use std::alloc::{AllocError, Global};
 use std::sync::Wait;
@@ -44,7 +45,7 @@ fn run_to<'a, X: Threads + Wait + Sync>(
         let all = sim.workers();
         deal(alloc, &mut sim, dealing, all, checkpoints)?;
     }
-    run_on(rt, sim, stop, batch)
+    run_on(rt, sim, stop, batch, &Naps::none())
 }
 
 /// Runs to a stop, in ticks, and answers what was found at the checkpoints, the multiples of `every`. The
@@ -97,7 +98,7 @@ fn run_straight<'a, X: Threads + Wait + Sync>(
         deal(alloc, &mut sim, dealing, all, 0)?;
     }
     let sim = run_in_stretches(rt, alloc, sim, dealing, stop, batch)?;
-    run_on(rt, sim, stop, batch)
+    run_on(rt, sim, stop, batch, &Naps::none())
 }
 
 /// Runs to a stop, and shows a watch the shapes at the multiples of `every` up to it. The run is at its

@@ -13,6 +13,10 @@ pub trait Gate {
     /// handled once more.
     fn worked(&self, _worker: u32, _handled: u64, _undone: u64) {}
 
+    /// The worker has waited for something to do, and has slept so often meanwhile: for some 20 microseconds each time,
+    /// and longer where other work has its processor.
+    fn waited(&self, _worker: u32, _naps: u32) {}
+
     /// The worker is about to take the exchange. It goes on when this returns.
     fn enter<R: Wait>(&self, rt: &R, worker: u32, turn: u64);
 

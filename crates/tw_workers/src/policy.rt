@@ -43,8 +43,21 @@ pub(crate) const LOOKS: u32 = 8_192;
 /// that sleeps gets its own back much sooner than one that spins or yields.
 pub(crate) const NAP_MICROS: u64 = 20;
 
+/// How long a worker without routers sleeps at most, in microseconds: it has nothing to do before the end, and is not to take
+/// the processor or the exchange from those that have.
+const LONG_NAP_MICROS: u64 = 250;
+
 /// After so many it takes a turn, whatever is told: another worker may have told all to halt.
 pub(crate) const NAPS: u32 = 32;
+
+/// How long a worker with so many routers sleeps at most between two looks, in microseconds.
+pub(crate) fn longest_nap(routers: usize) -> u64 {
+    if routers == 0 {
+        LONG_NAP_MICROS
+    } else {
+        NAP_MICROS
+    }
+}
 
 /// How many events were handled, and how many undone.
 #[derive(Clone, Copy, Debug)]

@@ -1,6 +1,7 @@
 //! A worker that has nothing to do waits.
 
-use crate::policy::{LOOKS, NAP_MICROS, NAPS};
+use crate::gate::Gate;
+use crate::policy::{LOOKS, NAP_MICROS, NAPS, longest_nap};
 use crate::worker::Worker;
 use std::hint;
 use std::sync::Wait;
@@ -11,9 +12,12 @@ use tw_table::Table;
 impl<'a> Worker<'a> {
     /// Where it has nothing to do after a turn that it began with this bound, it waits until it may have, or
     /// for a while: the others get on sooner where the exchange and the processor are left to them.
-    pub(crate) fn rest<R: Wait>(&self, rt: &R, table: &Table, known: u64) {
+    pub(crate) fn rest<G: Gate, R: Wait>(&self, rt: &R, table: &Table, gate: &G, known: u64) {
         if !self.has_work(known) {
-            wait_for_news(rt, table, self.shard.worker(), self.idle_bound());
+            let worker = self.shard.worker();
+            let longest = longest_nap(self.shard.router_count());
+            let naps = wait_for_news(rt, table, worker, self.idle_bound(), longest);
+            gate.waited(worker, naps);
         }
     }
 
@@ -50,17 +54,20 @@ impl<'a> Worker<'a> {
 }
 
 /// Waits until mail for a worker is told, or a bound past this one, or for a while: it looks again and again at
-/// first, and then sleeps in between.
-fn wait_for_news<R: Wait>(rt: &R, table: &Table, worker: u32, bound: u64) {
+/// first, and then sleeps in between. It is answered how often it slept.
+fn wait_for_news<R: Wait>(rt: &R, table: &Table, worker: u32, bound: u64, longest: u64) -> u32 {
     if is_told_soon(table, worker, bound) {
-        return;
+        return 0;
     }
-    for _ in 0..NAPS {
-        Parker::new().park_timeout(rt, Duration::from_micros(NAP_MICROS));
+    let mut micros = NAP_MICROS;
+    for nap in 1..=NAPS {
+        Parker::new().park_timeout(rt, Duration::from_micros(micros));
+        micros = longest.min(micros.saturating_mul(2));
         if table.is_news_for(worker, bound) {
-            return;
+            return nap;
         }
     }
+    NAPS
 }
 
 /// Whether mail for a worker is told, or a bound past this one, at one of so many looks.

@@ -66,7 +66,7 @@ impl<'a> Worker<'a> {
                 return (next, leaving);
             }
             seat = next;
-            self.rest(rt, table, known);
+            self.rest(rt, table, gate, known);
             self.pace.begin_turn();
         }
         unreachable!()
