@@ -4,15 +4,16 @@ ghost use Rattle.std.specs.Prelude.{◌≡◌, ◌≤◌, ◌<◌};
 
 use tw_instance::Instance;
 
-/// The first stretch, in ticks, behind which it is judged how much there is to do. To go on from there costs as much as
-/// some hundred events.
-const FIRST_STRETCH: u64 = 32;
+/// The first stretch, in ticks, behind which it is judged how much there is to do, and whether workers sleep. To go on
+/// from there costs as much as some hundred events; beside other work a tick by all workers costs as much as some
+/// ten thousand.
+const FIRST_STRETCH: u64 = 4;
 
 /// Each stretch is so many times as long as the one before: a long run is judged a few times, and early.
 const GROWTH: u64 = 4;
 
-/// More stretches than the longest run has.
-pub(crate) const STRETCHES: u32 = 64;
+/// More stretches than most runs have: behind the last one a run goes on to its stop.
+pub(crate) const STRETCHES: u32 = 256;
 
 /// A worker that sleeps once loses as much time as one worker takes for so many events. Measured on quiet and on busy
 /// processors.
@@ -21,9 +22,13 @@ const EVENTS_FOR_EACH_NAP: u64 = 400;
 /// Where workers slept less often in a stretch, that is no more than the start of a thread.
 const FEW_NAPS: u64 = 32;
 
-/// Where other work takes the processors, one worker goes on for so many times as long before it is tried again by
-/// all: with all of them such a run takes up to twenty times as long.
-const LONG_BY_ONE: u64 = 64;
+/// Where other work takes the processors, one worker goes on for about so many events, which take it about a second,
+/// before it is tried again by all, and each further time for longer: with all of them such a run takes up to twenty
+/// times as long.
+const EVENTS_BY_ONE: u64 = 4_194_304;
+
+/// Of fewer events in a stretch chance decides how many there will be in a longer one.
+const FEW_EVENTS: u64 = 1_024;
 
 /// Where a worker has fewer events at hand than so many in the time that a message takes, one worker handles all sooner
 /// than several: these would meet after each few of them, and a meeting costs as much as some dozen events. Measured with
@@ -65,6 +70,8 @@ pub(crate) struct Stretch {
     pub(crate) length: u64,
     // Whether it is by one worker since other work took the processors.
     is_alone: bool,
+    // For about how many events it will be so the next time.
+    events_by_one: u64,
 }
 
 impl Stretch {
@@ -76,6 +83,7 @@ impl Stretch {
             crew: workers,
             length: FIRST_STRETCH,
             is_alone: false,
+            events_by_one: EVENTS_BY_ONE,
         }
     }
 
@@ -88,22 +96,30 @@ impl Stretch {
         if self.is_alone {
             return Stretch {
                 crew: workers,
-                length: self.length / (LONG_BY_ONE / 2),
+                length: FIRST_STRETCH,
                 is_alone: false,
+                events_by_one: self.events_by_one,
             };
         }
         if self.crew > 1 && handled.is_slept_through() {
             return Stretch {
                 crew: 1,
-                length: self.length.saturating_mul(LONG_BY_ONE),
+                length: self.length_by_one(handled.events),
                 is_alone: true,
+                events_by_one: self.events_by_one.saturating_mul(GROWTH),
             };
         }
         Stretch {
             crew: next_crew(handled, self.crew, delay, workers),
             length: self.length.saturating_mul(GROWTH),
             is_alone: false,
+            events_by_one: self.events_by_one,
         }
+    }
+
+    /// For how many ticks one worker goes on behind it, where it had so many events.
+    fn length_by_one(self, events: u64) -> u64 {
+        self.length.saturating_mul(self.events_by_one) / events.max(FEW_EVENTS)
     }
 }
 

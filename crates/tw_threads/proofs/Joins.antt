@@ -3,17 +3,43 @@ use Rattle.std.proofs.Common.{◌≡◌, ◌⊎◌, inl, inr, ℕ, suc, zero, Bo
 use Rattle.std.proofs.lemmas.List.{append-nil, map-append}
 use Rattle.std.proofs.lemmas.Option.{none-some, same_Some}
 use Rattle.std.specs.List.{AllByRecursion, AllZip}
+use Rattle.tw_shard.specs.Shard.{IsSameShare, Shard}
 use Rattle.tw_table.specs.Seats.{IsSeatOf, share_at}
 use Rattle.tw_table.specs.Shares.{Share}
 use Rattle.tw_table.specs.declared.seat.Seat.{Seat}
 use Rattle.tw_table.specs.declared.table.Table.{Table}
 use Rattle.tw_threads.specs.Left.{HasLeft, IsLeft}
-use Rattle.tw_threads.specs.Started.{HaveLeft, IsSomeFull, IsStarted}
+use Rattle.tw_threads.specs.Started.{HaveLeft, IsSomeFull, IsStarted, MaySit}
 use Rattle.tw_threads.specs.declared.end_cause.EndCause.{EndCause}
 use Rattle.tw_threads.specs.declared.end_cause.EndCause.TheVariants as cause
 use Rattle.tw_threads.specs.declared.start.Started.{Started}
+use Rattle.tw_threads.specs.declared.start.Started.TheVariants.{Aside, Here, Running}
 use Rattle.tw_workers.specs.declared.working.Leaving.{Leaving}
 use Rattle.tw_workers.specs.declared.working.Leaving.TheVariants as leaving
+
+same_again : (a b c : Shard) → IsSameShare a b → IsSameShare b c → IsSameShare a c
+same_again a b c first then = record {
+  case = then.case ∙ first.case;
+  worker = then.worker ∙ first.worker;
+  workers = then.workers ∙ first.workers;
+  routers = then.routers ∙ first.routers;
+  keeps = then.keeps ∙ first.keeps;
+  cancel = then.cancel ∙ first.cancel;
+}
+
+-- one that left a seat had left the one before
+pub left_again : (s : Share) (t : Table) (before seat after : Seat) (why : Leaving) → HasLeft t before seat → IsLeft s t seat after why → IsLeft s t before after why
+left_again s t before seat after why first then = record {
+  left = record {
+    seat = then.left.seat;
+    stop = then.left.stop ∙ first.stop;
+    bound = omega (arith, first.bound, then.left.bound);
+    same = same_again (share_at before).shard (share_at seat).shard (share_at after).shard first.same then.left.same;
+  };
+  share = then.share;
+  halts = then.halts;
+  full = then.full;
+}
 
 module _ {X : Type 0} where
   -- an element is where it was
@@ -39,17 +65,29 @@ no_memory e = grind (arith, e)
 no_thread : cause.NoThread ≡ cause.StopLower → ⊥
 no_thread e = grind (arith, e)
 
-module _ {W : Type 0} (share : W → Share) where
+module _ {W : Type 0} (share : W → Share) (stop : W → ℕ) where
   -- these workers are still to be joined, and those before them have left
   pub record AreJoined (t : Table) (before : List Seat) (rest : List (Started W)) (workers : List W) (seats : List Seat) (why : Option EndCause) : Type 0 where
     pub waiting : List Seat
-    pub each : AllZip (IsStarted share t) waiting rest
+    pub each : AllZip (IsStarted share stop t) waiting rest
     pub left : (more : List Seat) → AllZip (HasLeft t) waiting more → AllZip (HasLeft t) before (seats ++ more)
     pub shares : map share_at seats ≡ map share workers
     pub full : why ≡ Some cause.CounterFull → IsSomeFull seats
     pub lower : why ≡ Some cause.StopLower → ⊥
 
-  pub none_joined : (t : Table) (before : List Seat) (rest : List (Started W)) → AllZip (IsStarted share t) before rest → AreJoined t before rest [] [] None
+  may_sit : (t : Table) (s : Seat) (one : Started W) → IsStarted share stop t s one → MaySit share stop t one
+  may_sit t s (Running h) is = tt
+  may_sit t s (Here l) is = tt
+  may_sit t s (Aside worker seat) is = is.1
+
+  -- all that were started and wait have their seats
+  pub all_may_sit : (t : Table) (before : List Seat) (started : List (Started W)) → AllZip (IsStarted share stop t) before started → AllByRecursion (MaySit share stop t) started
+  all_may_sit t [] [] h = tt
+  all_may_sit t [] (one ∷ rest) h = absurd h
+  all_may_sit t (s ∷ before) [] h = absurd h
+  all_may_sit t (s ∷ before) (one ∷ rest) h = (may_sit t s one h.0, all_may_sit t before rest h.1)
+
+  pub none_joined : (t : Table) (before : List Seat) (rest : List (Started W)) → AllZip (IsStarted share stop t) before rest → AreJoined t before rest [] [] None
   none_joined t before rest each = record {
     waiting = before;
     each = each;
@@ -74,12 +112,12 @@ module _ {W : Type 0} (share : W → Share) where
 
   next_joined : (t : Table) (before waiting : List Seat) (one : Started W) (rest : List (Started W)) (workers : List W) (seats : List Seat) (why : Option EndCause)
       (w : W) (seat : Seat) (reason : Leaving) (later : Option EndCause)
-      → AllZip (IsStarted share t) waiting (one ∷ rest)
+      → AllZip (IsStarted share stop t) waiting (one ∷ rest)
       → ((more : List Seat) → AllZip (HasLeft t) waiting more → AllZip (HasLeft t) before (seats ++ more))
       → map share_at seats ≡ map share workers
       → (why ≡ Some cause.CounterFull → IsSomeFull seats)
       → (why ≡ Some cause.StopLower → ⊥)
-      → ((s : Seat) → IsStarted share t s one → IsLeft (share w) t s seat reason)
+      → ((s : Seat) → IsStarted share stop t s one → IsLeft (share w) t s seat reason)
       → (later ≡ Some cause.CounterFull → (why ≡ Some cause.CounterFull) ⊎ (reason ≡ leaving.CounterFull))
       → (later ≡ Some cause.StopLower → why ≡ Some cause.StopLower)
       → AreJoined t before rest (workers ++ w ∷ []) (seats ++ seat ∷ []) later
@@ -99,7 +137,7 @@ module _ {W : Type 0} (share : W → Share) where
       (w : W) (seat : Seat) (reason : Leaving) (later : Option EndCause)
       → AreJoined t before (one ∷ rest) workers seats why
       → next ≡ workers ++ w ∷ [] → after ≡ seats ++ seat ∷ []
-      → ((s : Seat) → IsStarted share t s one → IsLeft (share w) t s seat reason)
+      → ((s : Seat) → IsStarted share stop t s one → IsLeft (share w) t s seat reason)
       → (later ≡ Some cause.CounterFull → (why ≡ Some cause.CounterFull) ⊎ (reason ≡ leaving.CounterFull))
       → (later ≡ Some cause.StopLower → why ≡ Some cause.StopLower)
       → AreJoined t before rest next after later
@@ -108,7 +146,7 @@ module _ {W : Type 0} (share : W → Share) where
       (subst (λ ss. AreJoined t before rest (workers ++ w ∷ []) ss later) (sym too)
       (next_joined t before h.waiting one rest workers seats why w seat reason later h.each h.left h.shares h.full h.lower is told none))
 
-  all_waited : (t : Table) (before waiting seats : List Seat) → AllZip (IsStarted share t) waiting []
+  all_waited : (t : Table) (before waiting seats : List Seat) → AllZip (IsStarted share stop t) waiting []
       → ((more : List Seat) → AllZip (HasLeft t) waiting more → AllZip (HasLeft t) before (seats ++ more)) → AllZip (HasLeft t) before seats
   all_waited t before [] seats each left = subst (AllZip (HasLeft t) before) (append-nil seats) (left [] tt)
   all_waited t before (s ∷ waiting) seats each left = absurd each
@@ -117,6 +155,7 @@ module _ {W : Type 0} (share : W → Share) where
       → HaveLeft share t before seats workers why
   all_joined t before workers seats why h = record { left = all_waited t before h.waiting seats h.each h.left; shares = h.shares; full = h.full; lower = h.lower }
 
+module _ {W : Type 0} (share : W → Share) where
   stay : (t : Table) (seats : List Seat) → AllByRecursion (IsSeatOf t) seats → AllZip (HasLeft t) seats seats
   stay t [] h = tt
   stay t (s ∷ seats) h = (record { seat = h.0; stop = refl; bound = omega arith; same = record { case = refl; worker = refl; workers = refl; routers = refl; keeps = refl; cancel = refl } }, stay t seats h.1)

@@ -1,5 +1,5 @@
 -- Workers that were started, and what all of them leave (own).
-use Rattle.std.specs.Prelude.{ℕ, ◌≡◌, List, Option, Some, map, slice_get}
+use Rattle.std.specs.Prelude.{ℕ, ◌≡◌, ⊤, List, Option, Some, map, slice_get}
 use Rattle.std.specs.List.{AllByRecursion, AllZip}
 use Rattle.tw_table.specs.Seats.{IsSeatOf, share_at, stop_at}
 use Rattle.tw_table.specs.Shares.{Share}
@@ -9,7 +9,8 @@ use Rattle.tw_threads.specs.Left.{HasLeft, IsFull, IsLeft}
 use Rattle.tw_threads.specs.declared.end_cause.EndCause.{EndCause}
 use Rattle.tw_threads.specs.declared.end_cause.EndCause.TheVariants as cause
 use Rattle.tw_threads.specs.declared.start.Started.{Started}
-use Rattle.tw_threads.specs.declared.start.Started.TheVariants.{Here, Running}
+use Rattle.tw_threads.specs.declared.start.Started.TheVariants.{Aside, Here, Running}
+use Rattle.tw_workers.specs.Seated.{IsSeated}
 
 -- some of these seats is of a worker that has a full counter
 pub record IsSomeFull (seats : List Seat) : Type 0 where
@@ -25,12 +26,19 @@ module _ {W : Type 0} (share : W → Share) (stop : W → ℕ) where
     pub shares : map share_at seats ≡ map share workers
     pub stops : map stop_at seats ≡ map stop workers
 
-module _ {W : Type 0} (share : W → Share) where
-  -- the worker of a seat was started: its thread promises what it leaves, or it has left
+  -- the worker of a seat was started: its thread promises what it leaves, or it has left, or it waits for the others to leave
   abbrev pub IsStarted : Table → Seat → Started W → Type 0
   IsStarted t s (Running h) = (h.promise.table.value ≡ t) × (h.promise.seat.value ≡ s)
   IsStarted t s (Here l) = IsLeft (share l.worker) t s l.seat l.why
+  IsStarted t s (Aside worker seat) = HasLeft t s seat × IsSeated t seat (share worker) (stop worker)
 
+  -- one that waits has its seat
+  abbrev pub MaySit : Table → Started W → Type 0
+  MaySit t (Running h) = ⊤
+  MaySit t (Here l) = ⊤
+  MaySit t (Aside worker seat) = IsSeated t seat (share worker) (stop worker)
+
+module _ {W : Type 0} (share : W → Share) where
   -- the workers of these seats have left those seats, and why
   pub record HaveLeft (t : Table) (before after : List Seat) (workers : List W) (why : Option EndCause) : Type 0 where
     pub left : AllZip (HasLeft t) before after

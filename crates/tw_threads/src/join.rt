@@ -1,20 +1,21 @@
 //! The threads of workers are joined.
 ghost use Rattle.std.specs.Prelude.{◌≡◌, ◌≤◌, ◌⊎◌, ◌↔◌, [], None, Some, length, vec_capacity, List};
-ghost use Rattle.std.specs.List.{AllZip};
+ghost use Rattle.std.specs.List.{AllByRecursion, AllZip};
 ghost use Rattle.tw_table.specs.declared.seat.Seat.{Seat as ASeat};
-ghost use Rattle.tw_table.specs.declared.table.Table.{Table as ATable};
 ghost use Rattle.tw_threads.specs.Left.{IsLeft};
-ghost use Rattle.tw_threads.specs.Started.{HaveLeft, IsStarted};
+ghost use Rattle.tw_threads.specs.Started.{HaveLeft, IsStarted, MaySit};
 ghost use Rattle.tw_threads.specs.declared.end_cause.EndCause.{EndCause as ACause};
 ghost use Rattle.tw_threads.specs.declared.end_cause.EndCause.TheVariants as cause;
 ghost use Rattle.tw_workers.specs.declared.working.Leaving.TheVariants as leaving;
 
 use crate::end_cause::EndCause;
-use crate::start::{Left, Started};
+use crate::start::{Left, Started, run};
 use crate::work::Work;
+use std::sync::Wait;
+use std::sync::atomic::AtomicBool;
 use std::thread::Threads;
-use tw_table::Seat;
-use tw_workers::Leaving;
+use tw_table::{Seat, Table};
+use tw_workers::{Gate, Leaving};
 
 /// What all workers leave.
 #[derive(Drop)]
@@ -25,22 +26,26 @@ pub(crate) struct Gathered<W> {
 }
 
 /// What these workers leave, once they all have left, in their order. The lists are empty, with room for all.
-pub(crate) fn join_all<W: Work + Drop, R: Threads>(
+pub(crate) fn join_all<W: Work + Drop, G: Gate, R: Threads + Wait>(
     rt: &R,
+    table: &Table,
+    gate: &G,
+    refused: &AtomicBool,
     started: Vec<Started<W>>,
     workers: Vec<W>,
     seats: Vec<Seat>,
 ) -> Gathered<W>
     requires workers { (workers.items ≡ []) × (length started.items ≤ vec_capacity workers) }
     requires seats { (seats.items ≡ []) × (length started.items ≤ vec_capacity seats) }
-    ensures { (t : ATable) (before : List ASeat) → AllZip (IsStarted W.share t) before started.items
-        → HaveLeft W.share t before result.seats.items result.workers.items result.cause }
+    requires aside { AllByRecursion (MaySit W.share W.stop table.now) started.items }
+    ensures { (before : List ASeat) → AllZip (IsStarted W.share W.stop table.now) before started.items
+        → HaveLeft W.share table.now before result.seats.items result.workers.items result.cause }
 {
     let mut workers = workers;
     let mut seats = seats;
     let mut cause = None;
     for one in started {
-        let left = join(rt, one);
+        let left = join(rt, table, gate, refused, one);
         cause = worse(cause, left.why);
         workers.push_reserved(left.worker);
         seats.push_reserved(left.seat);
@@ -52,13 +57,21 @@ pub(crate) fn join_all<W: Work + Drop, R: Threads>(
     }
 }
 
-/// What a worker leaves, once it has left.
-fn join<W: Work, R: Threads>(rt: &R, started: Started<W>) -> Left<W>
-    ensures { (t : ATable) (before : ASeat) → IsStarted W.share t before started → IsLeft (W.share result.worker) t before result.seat result.why }
+/// What a worker leaves, once it has left. One that waits for the others to leave takes its turns here.
+fn join<W: Work, G: Gate, R: Threads + Wait>(
+    rt: &R,
+    table: &Table,
+    gate: &G,
+    refused: &AtomicBool,
+    started: Started<W>,
+) -> Left<W>
+    requires { MaySit W.share W.stop table.now started }
+    ensures { (before : ASeat) → IsStarted W.share W.stop table.now before started → IsLeft (W.share result.worker) table.now before result.seat result.why }
 {
     match started {
         Started::Running(handle) => handle.join(rt),
         Started::Here(left) => left,
+        Started::Aside { worker, seat } => run(rt, table, gate, refused, worker, seat),
     }
 }
 

@@ -32,7 +32,8 @@ pub struct Ran<W> {
     pub cause: Option<EndCause>,
 }
 
-/// Each worker takes its turns in a thread of its own, and the table is closed once all have left. The seats
+/// Each worker that has routers, or messages, takes its turns in a thread of its own; the others take theirs once those
+/// have left, and a gate shall not wait for them. The table is closed once all have left. The seats
 /// are all those of the table, one for each worker, in their order, and a worker has what it gave there last.
 ///
 /// Memory is taken before the first thread alone. Where it is refused, no thread is started. Where a thread
@@ -102,10 +103,10 @@ fn gather<W: Work + Send + Drop, G: Gate + Sync, R: Threads + Wait + Sync>(
             requires room { length workers.items ≤ vec_capacity started }
             requires seated { AreSeated W.share W.stop table.now seats.items workers.items }
             ensures count { vec_len result ≡ vec_len workers }
-            ensures started { AllZip (IsStarted W.share table.entry.now) seats.items result.items }
+            ensures started { AllZip (IsStarted W.share W.stop table.entry.now) seats.items result.items }
         { start_all(scope, rt, table, gate, told, workers, seats, started) },
     );
-    let mut gathered = join_all(rt, started, back, left);
+    let mut gathered = join_all(rt, table, gate, told, started, back, left);
     gathered.cause = cause_of(refused.into_inner(), gathered.cause);
     gathered
 }

@@ -39,10 +39,12 @@ pub(crate) enum Started<W: Work> {
     Running(PromisedHandle<Left<W>, Leaves>),
     /// Its thread was refused, and it has left.
     Here(Left<W>),
+    /// It has nothing to do before the others have left, and no thread.
+    Aside { worker: W, seat: Seat },
 }
 
-/// A thread for each of these workers, who have these seats. Where one is refused, its worker leaves, and
-/// so do those that have not taken a turn yet. The list is empty, with room for all.
+/// A thread for each of these workers, who have these seats, that has something to do. Where one is refused, its
+/// worker leaves, and so do those that have not taken a turn yet. The list is empty, with room for all.
 pub(crate) fn start_all<
     's,
     E,
@@ -63,7 +65,7 @@ pub(crate) fn start_all<
     requires room { length workers.items ≤ vec_capacity started }
     requires seated { AreSeated W.share W.stop table.now seats.items workers.items }
     ensures count { vec_len result ≡ vec_len workers }
-    ensures started { AllZip (IsStarted W.share table.now) seats.items result.items }
+    ensures started { AllZip (IsStarted W.share W.stop table.now) seats.items result.items }
 {
     let mut started = started;
     let mut seats = seats.into_iter();
@@ -77,7 +79,7 @@ pub(crate) fn start_all<
     started
 }
 
-/// A thread for a worker. Where it is refused, all workers are told so, and this one leaves.
+/// A thread for a worker, where it has something to do before the others have left.
 fn start<'s, E, W: Work + Send + Drop + 's, G: Gate + Sync + 's, R: Threads + Wait + Sync + 's>(
     scope: &'s Scope<'s, E>,
     rt: &'s R,
@@ -88,7 +90,34 @@ fn start<'s, E, W: Work + Send + Drop + 's, G: Gate + Sync + 's, R: Threads + Wa
     seat: Seat,
 ) -> Started<W>
     requires { IsSeated table.now seat (W.share worker) (W.stop worker) }
-    ensures { IsStarted W.share table.now seat result }
+    ensures { IsStarted W.share W.stop table.now seat result }
+{
+    let mut worker = worker;
+    let (seat, is_aside) = worker.step_aside(rt, table, seat);
+    if is_aside {
+        return Started::Aside { worker, seat };
+    }
+    start_thread(scope, rt, table, gate, refused, worker, seat)
+}
+
+/// A thread for a worker. Where it is refused, all workers are told so, and this one leaves.
+fn start_thread<
+    's,
+    E,
+    W: Work + Send + Drop + 's,
+    G: Gate + Sync + 's,
+    R: Threads + Wait + Sync + 's,
+>(
+    scope: &'s Scope<'s, E>,
+    rt: &'s R,
+    table: &'s Table,
+    gate: &'s G,
+    refused: &'s AtomicBool,
+    worker: W,
+    seat: Seat,
+) -> Started<W>
+    requires { IsSeated table.now seat (W.share worker) (W.stop worker) }
+    ensures { IsStarted W.share W.stop table.now seat result }
 {
     let promise = Leaves {
         table: Snapshot::of(table),
@@ -109,7 +138,7 @@ fn start<'s, E, W: Work + Send + Drop + 's, G: Gate + Sync + 's, R: Threads + Wa
 }
 
 /// A worker takes its turns, or leaves at once where a thread was refused.
-fn run<W: Work, G: Gate, R: Wait>(
+pub(crate) fn run<W: Work, G: Gate, R: Wait>(
     rt: &R,
     table: &Table,
     gate: &G,

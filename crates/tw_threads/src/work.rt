@@ -33,6 +33,14 @@ pub trait Work {
         ensures obeys { halted_at seat ≡ true → (result.0 ≡ seat) × (result.1 ≡ Halted) }
         ensures full { result.1 ≡ CounterFull → IsFull (stop_at result.0) (share_at result.0).shard };
 
+    /// Where it has nothing to do before the others have left, it tells so at the table, and true is answered. Else
+    /// nothing changes. The seat is its own, at this table, and what it gave there last it still has.
+    fn step_aside<R: Wait>(&mut self, rt: &R, table: &Table, seat: Seat) -> (Seat, bool)
+        requires { IsSeated table.now seat (share self.old) (stop self.old) }
+        ensures left { HasLeft table.now seat result.0 }
+        ensures seated { IsSeated table.now result.0 (share self.new) (stop self.new) }
+        ensures stays { result.1 ≡ false → (result.0 ≡ seat) × (self.new ≡ self.old) };
+
     /// It takes no turn, and tells all workers to take no further one. The seat is its own, at this table, and
     /// what it gave there last it still has.
     fn leave<R: Wait>(&self, rt: &R, table: &Table, seat: Seat) -> Seat

@@ -20,6 +20,10 @@ impl<'a> Work for Worker<'a> {
         Worker::work(self, rt, table, gate, seat)
     }
 
+    fn step_aside<R: Wait>(&mut self, rt: &R, table: &Table, seat: Seat) -> (Seat, bool) {
+        Worker::step_aside(self, rt, table, seat)
+    }
+
     fn leave<R: Wait>(&self, rt: &R, table: &Table, seat: Seat) -> Seat {
         // What a worker keeps is told by a read of it.
         let _ = self.shard();

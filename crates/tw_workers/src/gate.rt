@@ -4,7 +4,8 @@ use std::sync::Wait;
 use tw_table::Seat;
 
 /// What is told of the turns of each worker, and may hold a worker between them. Turns are numbered from 1.
-/// No promise rests on it.
+/// A worker that has no router and no message takes its turns once the others have left, so that none is to be held
+/// for it. No promise rests on it.
 pub trait Gate {
     /// The worker is about to handle events, and doesn't have the exchange. It goes on when this returns.
     fn handling<R: Wait>(&self, rt: &R, worker: u32, turn: u64);

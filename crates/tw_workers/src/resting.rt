@@ -1,4 +1,7 @@
 //! A worker that has nothing to do waits.
+ghost use Rattle.std.specs.Prelude.{◌≡◌, [], false, true};
+ghost use Rattle.tw_workers.specs.Seated.{HasTurned, IsSeated};
+ghost use Rattle.tw_workers.specs.Work.{IsAtWork};
 
 use crate::gate::Gate;
 use crate::policy::{LOOKS, NAP_MICROS, NAPS, longest_nap};
@@ -7,9 +10,39 @@ use std::hint;
 use std::sync::Wait;
 use std::thread::Parker;
 use std::time::Duration;
-use tw_table::Table;
+use tw_table::{Seat, Table};
 
 impl<'a> Worker<'a> {
+    /// Where it has no router, and no message to deliver or to send, it tells at the table that nothing is to be waited
+    /// for from it, and true is answered: it needs take no turn before the others have left. Else nothing changes. The
+    /// seat is its own, at this table, with its shard and hand as they are.
+    pub fn step_aside<R: Wait>(&mut self, rt: &R, table: &Table, seat: Seat) -> (Seat, bool)
+        requires seated { IsSeated table.now seat self.old.share self.old.stop }
+        ensures turned { HasTurned table.now seat result.0 self.old self.new }
+        ensures aside { result.1 ≡ true → self.old.share.shard.routers ≡ [] }
+        ensures stays { result.1 ≡ false → (result.0 ≡ seat) × (self.new ≡ self.old) }
+    {
+        if !self.has_nothing() {
+            return (seat, false);
+        }
+        let (seat, _) = self.meet(rt, table, seat);
+        (seat, true)
+    }
+
+    /// Whether it has no router, and no message to deliver or to send.
+    fn has_nothing(&self) -> bool
+        ensures routers { result ≡ true → self.now.share.shard.routers ≡ [] }
+        ensures mail { result ≡ true → self.now.share.mail ≡ [] }
+        ensures unsent { result ≡ true → self.now.share.unsent ≡ [] }
+        ensures sorted { result ≡ true → self.now.share.shard.outgoing ≡ [] }
+        ensures work { IsAtWork self.now.stop self.now.share }
+    {
+        self.shard.router_count() == 0
+            && self.hand.mail.is_empty()
+            && self.hand.out.is_empty()
+            && self.shard.outgoing().is_empty()
+    }
+
     /// Where it has nothing to do after a turn that it began with this bound, it waits until it may have, or
     /// for a while: the others get on sooner where the exchange and the processor are left to them.
     pub(crate) fn rest<G: Gate, R: Wait>(&self, rt: &R, table: &Table, gate: &G, known: u64) {

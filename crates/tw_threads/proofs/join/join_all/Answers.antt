@@ -1,7 +1,9 @@
 use Rattle.std.proofs.Common.{length, ap, ◌∙◌, subst, arith}
 use Rattle.std.proofs.lemmas.List.{nil_from_length}
+use Rattle.std.specs.List.{AllByRecursion}
 use Rattle.std.specs.Vec.Iter.{into_iter_items}
 use Rattle.tw_threads.proofs.Joins.{AreJoined, all_joined, one_joined}
+use Rattle.tw_threads.specs.Started.{MaySit}
 use Rattle.tw_threads.proofs.join.join_all.Goals as goal
 
 pub loop-one-preserved : goal.loop-one-preserved
@@ -9,22 +11,32 @@ loop-one-preserved g c =
     let was = c.loop-one.invariant in
     let step = c.in-Some.ensures.steps in
     let of = g.W.Work.share in
+    let to = g.W.Work.stop in
+    let t = c.args.table.now in
+    let aside = subst (AllByRecursion (MaySit of to t)) step.0 was.aside in
     let worker = c.push_reserved.ensures in
     let seat = c.push_reserved-in-loop-one.ensures in
     record {
-      joined = λ t before each. one_joined of t before c.in-Some.one (into_iter_items c.next.new.self) c.loop-one.workers.items c.push_reserved.new.self.items
+      aside = aside.1;
+      joined = λ before each. one_joined of to t before c.in-Some.one (into_iter_items c.next.new.self) c.loop-one.workers.items c.push_reserved.new.self.items
           c.loop-one.seats.items c.push_reserved-in-loop-one.new.self.items c.loop-one.cause c.join-left.result.worker c.join-left.result.seat c.join-left.result.why c.worse-cause.result
-          (subst (λ rest. AreJoined of t before rest c.loop-one.workers.items c.loop-one.seats.items c.loop-one.cause) step.0 (was.joined t before each))
-          worker.items seat.items (λ s is. c.join-left.ensures t s is) c.worse-cause.ensures.full c.worse-cause.ensures.lower;
+          (subst (λ rest. AreJoined of to t before rest c.loop-one.workers.items c.loop-one.seats.items c.loop-one.cause) step.0 (was.joined before each))
+          worker.items seat.items (λ s is. c.join-left.ensures s is) c.worse-cause.ensures.full c.worse-cause.ensures.lower;
       workers = omega (arith, was.workers, step.1, worker.len, worker.capacity);
       seats = omega (arith, was.seats, step.1, seat.len, seat.capacity);
       rest = (let long = ap length step.0 in omega (arith, was.rest, step.1, long));
     }
 
+pub join-left-requires : goal.join-left-requires
+join-left-requires g c =
+    (subst (AllByRecursion (MaySit g.W.Work.share g.W.Work.stop c.args.table.now)) c.in-Some.ensures.steps.0 c.loop-one.invariant.aside).0
+
 pub returns : goal.returns
-returns g c = λ t before each.
+returns g c = λ before each.
     let was = c.loop-one.invariant in
     let of = g.W.Work.share in
+    let to = g.W.Work.stop in
+    let t = c.args.table.now in
     let none = nil_from_length (into_iter_items c.loop-one.one-iterator) (was.rest ∙ c.in-None.ensures.steps.0) in
-    all_joined of t before c.loop-one.workers.items c.loop-one.seats.items c.loop-one.cause
-    (subst (λ rest. AreJoined of t before rest c.loop-one.workers.items c.loop-one.seats.items c.loop-one.cause) none (was.joined t before each))
+    all_joined of to t before c.loop-one.workers.items c.loop-one.seats.items c.loop-one.cause
+    (subst (λ rest. AreJoined of to t before rest c.loop-one.workers.items c.loop-one.seats.items c.loop-one.cause) none (was.joined before each))

@@ -1,6 +1,6 @@
 use Rattle.std.proofs.Common.{ap, ◌∙◌, subst}
 use Rattle.tw_threads.specs.Left.{IsLeft}
-use Rattle.tw_threads.proofs.start.start.Goals as goal
+use Rattle.tw_threads.proofs.start.start_thread.Goals as goal
 
 pub returns-in-Ok : goal.returns-in-Ok
 returns-in-Ok g c =
