@@ -27,8 +27,9 @@ const FEW_NAPS: u64 = 32;
 /// times as long.
 const EVENTS_BY_ONE: u64 = 4_194_304;
 
-/// Of fewer events in a stretch chance decides how many there will be in a longer one.
-const FEW_EVENTS: u64 = 1_024;
+/// Fewer events in a stretch say nothing of those in a longer one: it goes on as it was. To deal a thousand routers out
+/// anew costs as much as some ten thousand events.
+const FEW_EVENTS: u64 = 256;
 
 /// Where a worker has fewer events at hand than so many in the time that a message takes, one worker handles all sooner
 /// than several: these would meet after each few of them, and a meeting costs as much as some dozen events. Measured with
@@ -130,6 +131,9 @@ fn next_crew(handled: Handled, crew: u32, delay: u64, workers: u32) -> u32
     ensures some { 0 < result }
     ensures within { result ≤ workers }
 {
+    if handled.events < FEW_EVENTS {
+        return crew.clamp(1, workers);
+    }
     // In a tick in which one of all workers has something to handle, it has one event at least.
     let ticks = handled.ticks.saturating_mul(u64::from(workers));
     let events = handled.events.saturating_mul(u64::from(crew)).max(ticks);
