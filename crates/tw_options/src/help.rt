@@ -76,7 +76,8 @@ to worker R * W div N of a case of N routers, so that routers whose numbers are 
 worker: fewer messages go from worker to worker where these are neighbours. With --rotate every
 router goes from worker V to worker V + 1 mod W at each checkpoint of --every at which the workers
 come together before --stop. Where few events happen one worker is faster than several:
-without --every all routers then go to one, until there is more to do. Nothing of this changes the report.
+without --every all routers then go to one, until there is more to do. They also do so for a while
+where other work takes the processors. Nothing of this changes the report.
 
 What an event has sent is taken back where the event is undone: at once, or, with --lazy, only
 once the router has come past it without sending the same again (lazy cancellation). The report
