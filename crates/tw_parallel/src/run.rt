@@ -20,7 +20,8 @@ use tw_workers::laws::shares_are_at_work;
 /// How the workers of a run work.
 #[derive(Clone, Copy, PartialEq, Eq, Debug)]
 pub struct Options {
-    /// How many events a worker handles at most between two meetings. 0 is taken as 1.
+    /// How many events a worker handles at most between two meetings; one that has all routers, and so nobody to meet,
+    /// handles eight times as many. 0 is taken as 1.
     pub batch: u32,
 }
 

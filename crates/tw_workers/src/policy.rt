@@ -13,6 +13,12 @@ use tw_sim::Signed;
 /// A window wider than the longest delay of a link lets routers run ahead of messages not yet sent.
 const WIDEST_WINDOW: u64 = LONGEST_DELAY;
 
+/// The window of a worker that has all routers.
+const ALL_TIME: u64 = u64::MAX;
+
+/// Such a worker has nobody to meet, and handles so many batches at a time: it takes one to three hundredths less.
+const BATCHES_ALONE: u32 = 8;
+
 /// So many turns in which something was handled are judged together: of fewer, chance decides.
 const TURNS_OF_A_SPAN: u64 = 16;
 
@@ -167,7 +173,11 @@ impl Pace {
 
     /// How many events may be handled before the next meeting.
     pub(crate) fn batch(&self) -> u32 {
-        self.batch
+        if self.least_window == ALL_TIME {
+            self.batch.saturating_mul(BATCHES_ALONE)
+        } else {
+            self.batch
+        }
     }
 
     /// The time at which a worker stops that knows this bound: the stop, or before it.
@@ -257,7 +267,7 @@ impl Pace {
 pub(crate) fn least_window(shard: &Shard<'_>) -> u64 {
     let instance = shard.instance();
     if shard.router_count() == instance.nodes() as usize {
-        u64::MAX
+        ALL_TIME
     } else {
         least_delay(instance)
     }

@@ -37,7 +37,7 @@ impl<'a> Model for Worker<'a> {
 
 impl<'a> Worker<'a> {
     /// A worker with this shard and hand, which handles nothing from the stop on, in ticks, at most
-    /// 1,000,000,000, and at most `batch` events between two meetings.
+    /// 1,000,000,000, and at most `batch` events between two meetings, or eight times as many where it has all routers.
     pub fn new(shard: Shard<'a>, hand: Hand, stop: u64, batch: u32) -> Worker<'a>
         requires work { IsAtWork stop (share shard hand) }
         requires stop { stop ≤ LATEST }
