@@ -19,7 +19,8 @@ so do its help and a line that it does not accept. Refused memory must end it wi
 line `stopped memory`, or `stopped thread` where a thread needed it, with nothing on standard
 output; or, where the standard library then asks for less and gets it, it must end as it does with
 all its memory. Of a run by one worker the allocation that starts its thread is the only one that
-may be told as a refused thread. Of runs by 1 to 64 workers each thread is refused in turn.
+may be told as a refused thread. Of runs by 1 to 64 workers each thread is refused in turn; a worker
+without routers has none.
 """
 from __future__ import annotations
 
@@ -61,6 +62,8 @@ LONG = (
 STEPS = {"moving::routers_that_move_at_random_run_as_on_one_thread": 97}
 
 LEFT_OUT = ("ample::", "lanes::")
+
+ROUTERS_OF_DISAGREE = 3
 
 LINES = (
     ["check"],
@@ -141,7 +144,8 @@ def refuse_in_program(refuser: Refuser, line: list[str]) -> Outcome:
 
 
 def run_by(workers: int) -> list[str]:
-    return ["run", "--stop", "20", "--log", "--workers", str(workers)]
+    # A run to 4 starts its threads once.
+    return ["run", "--stop", "4", "--log", "--workers", str(workers)]
 
 
 def refuse_start(refuser: Refuser) -> Outcome:
@@ -157,11 +161,13 @@ def refuse_start(refuser: Refuser) -> Outcome:
 
 
 def refuse_threads(refuser: Refuser, workers: int) -> Outcome:
-    """Whether a run whose threads are refused in turn stops for a thread, and has as many."""
+    """Whether a run whose threads are refused in turn stops for a thread, and has as many as due."""
     words = [PROGRAM, *run_by(workers)]
-    numbers = range(1, workers + 2)
+    # A worker without routers has no thread.
+    threads = min(workers, ROUTERS_OF_DISAGREE)
+    numbers = range(1, threads + 2)
     ends = [refuser.run_without_thread(number, words, DISAGREE) for number in numbers]
-    due = [NO_THREAD] * workers + [None]
+    due = [NO_THREAD] * threads + [None]
     wrong = None if ends == due else f"its threads refused in turn, it ended with {ends}"
     return Outcome(0, wrong)
 
