@@ -1,4 +1,4 @@
-//! A parallel run goes on to a stop, with a thread for each worker.
+//! A parallel run goes on to a stop, with a thread for each worker that has something to do.
 ghost use Rattle.std.specs.Prelude.{◌≡◌, ◌↔◌, ◌<◌, ◌⊎◌, IfErr, IfOk, Some, length};
 ghost use Rattle.std.specs.Result.{IsErrAnd};
 ghost use Rattle.tw_model.specs.declared.limits.TheConstants.{LATEST};
@@ -37,7 +37,8 @@ pub struct Ended<'a> {
 }
 
 /// A run goes on to a stop, in ticks, that is not below its own and at most 1,000,000,000: each of its workers
-/// takes turns in a thread of its own, and asks the gate.
+/// takes turns in a thread of its own, and asks the gate. One without routers and messages takes its turns once the
+/// others have left, so that a gate shall not wait for it.
 ///
 /// Where it ends before, for want of memory or of a thread or at a full counter, the run comes back with all
 /// that is committed, its bound not lower than it was. Where the stop is refused nothing has changed.
