@@ -22,7 +22,7 @@ const EVENTS_FOR_EACH_NAP: u64 = 400;
 /// Where workers slept less often in a stretch, that is no more than the start of a thread.
 const FEW_NAPS: u64 = 32;
 
-/// Where other work takes the processors, one worker goes on for about so many events, which take it about a second,
+/// Where other work takes the processors, one worker goes on for about so many events, which take it some half a second,
 /// before it is tried again by all, and each further time for longer: with all of them such a run takes up to twenty
 /// times as long.
 const EVENTS_BY_ONE: u64 = 4_194_304;
