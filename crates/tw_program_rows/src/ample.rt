@@ -70,13 +70,18 @@ fn tells_its_events(sim: &Sim<'_>) -> bool {
     sim.keeps_events() && sim.committed().is_ok() && sim.outcome(true).is_ok()
 }
 
+/// Whether a run tells all of itself.
+fn tells_all(sim: &Sim<'_>) -> bool {
+    tells_how_it_stands(sim) && tells_its_events(sim)
+}
+
 /// Whether the run of a case by two workers comes to stop 20, and tells all of itself.
 fn succeeds<X: Threads + Wait + Sync>(rt: &X, alloc: Global, case: &Case) -> bool {
     let Ok(sim) = Sim::open_with(alloc, case, 2, true, Cancel::Lazy) else {
         return false;
     };
     match run_until(rt, sim, 20, Options { batch: 64 }, &OpenGate) {
-        Ok(sim) => tells_how_it_stands(&sim) && tells_its_events(&sim),
+        Ok(sim) => tells_all(&sim),
         Err(_) => false,
     }
 }

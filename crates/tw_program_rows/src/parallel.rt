@@ -84,7 +84,7 @@ fn is_settled_as_it_begins(sim: &Sim<'_>) -> bool {
 /// Whether the run of a case begins settled at stop 0, with its events kept.
 fn begins_settled(alloc: Global, case: &Case) -> bool {
     match sim(alloc, case) {
-        Ok(sim) => is_at_0(&sim) && is_settled_as_it_begins(&sim),
+        Ok(sim) => is_settled_as_it_begins(&sim),
         Err(_) => false,
     }
 }

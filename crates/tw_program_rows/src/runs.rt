@@ -59,18 +59,19 @@ pub(crate) fn left_by(run: &LoggedRun<'_>) -> Result<Outcome, AllocError> {
     }
 }
 
-/// Whether a run gives just these events away, where memory is not refused.
-fn gives_away(run: LoggedRun<'_>, events: &[Event]) -> bool {
-    match run.into_outcome() {
-        Ok(moved) => moved.events.as_slice() == events,
+/// Whether a run to stop 20 leaves seven events, and gives the same ones away, where memory is not refused.
+fn gives_away(run: LoggedRun<'_>, left: &Outcome) -> bool {
+    let gives = match run.into_outcome() {
+        Ok(moved) => moved.events.as_slice() == left.events.as_slice(),
         Err(_) => true,
-    }
+    };
+    gives && is_quiet_at_20(left, 7)
 }
 
-/// Whether a run to stop 20 leaves seven events, and gives the same ones away.
+/// Whether a run tells what it leaves at stop 20, and gives the same away.
 fn leaves_its_events(run: LoggedRun<'_>) -> bool {
     match left_by(&run) {
-        Ok(outcome) => is_quiet_at_20(&outcome, 7) && gives_away(run, outcome.events.as_slice()),
+        Ok(left) => gives_away(run, &left),
         Err(_) => false,
     }
 }

@@ -180,10 +180,15 @@ fn is_refused_on_its_way(ended: &Ended<'_>) -> bool {
         && has_committed_some(&ended.sim, ended.bound)
 }
 
+/// Whether a run is settled at stop 20 with all its events.
+fn is_settled_at_20(sim: &Sim<'_>) -> bool {
+    sim.bound() == 20 && is_settled_with(sim, 7)
+}
+
 /// Whether a run goes on to stop 20, and has all its events there.
 pub(crate) fn goes_on_to_20<X: Threads + Wait + Sync>(rt: &X, sim: Sim<'_>) -> bool {
     match run_on(rt, sim, 20) {
-        Ok(sim) => is_settled_with(&sim, 7) && sim.bound() == 20,
+        Ok(sim) => is_settled_at_20(&sim),
         Err(_) => false,
     }
 }
@@ -354,6 +359,26 @@ impl Gate for Overtaking {
     }
 }
 
+/// What a run that ended early tells: that it has failed, or `None` where memory or a thread was refused.
+fn told_by(cause: EndCause) -> Option<bool> {
+    if cause == EndCause::Memory || cause == EndCause::NoThread {
+        return None;
+    }
+    Some(false)
+}
+
+/// Whether a run comes to stop 20 at this gate; `None` where memory or a thread was refused.
+fn comes_through<G: Gate + Sync, X: Threads + Wait + Sync>(
+    rt: &X,
+    sim: Sim<'_>,
+    gate: &G,
+) -> Option<bool> {
+    match run_until(rt, sim, 20, Options { batch: 64 }, gate) {
+        Ok(sim) => Some(sim.bound() == 20),
+        Err(ended) => told_by(ended.cause),
+    }
+}
+
 /// Whether two workers take a case to stop 20 at this gate; `None` where memory or a thread was refused.
 fn passes<G: Gate + Sync, X: Threads + Wait + Sync>(
     rt: &X,
@@ -361,18 +386,9 @@ fn passes<G: Gate + Sync, X: Threads + Wait + Sync>(
     case: &Case,
     gate: &G,
 ) -> Option<bool> {
-    let Ok(sim) = Sim::open(alloc, case, 2, true) else {
-        return None;
-    };
-    match run_until(rt, sim, 20, Options { batch: 64 }, gate) {
-        Ok(sim) => Some(sim.bound() == 20),
-        Err(
-            Ended {
-                cause: EndCause::Memory | EndCause::NoThread,
-                ..
-            },
-        ) => None,
-        Err(_) => Some(false),
+    match Sim::open(alloc, case, 2, true) {
+        Ok(sim) => comes_through(rt, sim, gate),
+        Err(_) => None,
     }
 }
 
