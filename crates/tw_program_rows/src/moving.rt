@@ -3,13 +3,15 @@
 ghost use Rattle.std.specs.Prelude.{◌<◌};
 
 use crate::parallel::{outcome, sim};
-use crate::runs::run_to;
-use crate::threads::{is_settled_with, run_on};
-use std::alloc::Global;
+use crate::runs::{left_by, logged_run, run_to};
+use crate::threads::{goes_on_to_20, is_settled_with, run_on};
+use std::alloc::{AllocError, Global};
 use std::sync::Wait;
 use std::thread::Threads;
 use tw_instance::Case;
-use tw_parallel::{EndCause, OpenGate, Options, OrMemory, Outcome, Sim, UnfitOwners, run_until};
+use tw_parallel::{
+    EndCause, Ended, OpenGate, Options, OrMemory, Outcome, Sim, UnfitOwners, run_until,
+};
 use tw_rows::cases::case;
 use tw_rows::texts::{DISAGREE, FORBIDDEN_PATH, RANK_EXCHANGE};
 use tw_seq::LoggedRun;
@@ -23,25 +25,43 @@ fn move_routers(sim: &mut Sim<'_>, owners: &[u32]) -> Result<(), OrMemory<UnfitO
     }
 }
 
+/// Whether routers stay where a list has too few workers, or one that is not of the run.
+fn refuses_to_move(sim: &mut Sim<'_>) -> bool {
+    for owners in [[0, 1].as_slice(), &[0, 1, 2]] {
+        if move_routers(sim, owners) != Err(OrMemory::Fault(UnfitOwners)) {
+            return false;
+        }
+    }
+    true
+}
+
+/// Whether a run that has come to stop 3 moves all its routers to worker 1.
+fn moves_at_3(sim: &mut Sim<'_>) -> bool {
+    move_routers(sim, &[1, 1, 1]) == Ok(()) && is_settled_with(sim, 4)
+}
+
+/// Whether a run goes on to stop 3, moves its routers there, and goes on to stop 20.
+fn goes_on_moved<X: Threads + Wait + Sync>(rt: &X, sim: Sim<'_>) -> bool {
+    match run_on(rt, sim, 3) {
+        Ok(mut sim) => moves_at_3(&mut sim) && goes_on_to_20(rt, sim),
+        Err(_) => false,
+    }
+}
+
+/// Whether the run of a case moves its routers between two stops.
+fn moves_between<X: Threads + Wait + Sync>(rt: &X, alloc: Global, case: &Case) -> bool {
+    match sim(alloc, case) {
+        Ok(mut sim) => refuses_to_move(&mut sim) && goes_on_moved(rt, sim),
+        Err(_) => false,
+    }
+}
+
 #[test]
 fn routers_move_to_other_workers_between_runs(rt: HostRuntime) {
     let Ok(case) = case(rt.alloc(), DISAGREE) else {
         panic!(rt; "the case is refused")
     };
-    let Ok(mut sim) = sim(rt.alloc(), &case) else {
-        panic!(rt; "no memory")
-    };
-    for owners in [[0, 1].as_slice(), &[0, 1, 2]] {
-        assert!(rt; move_routers(&mut sim, owners) == Err(OrMemory::Fault(UnfitOwners)));
-    }
-    let Ok(mut sim) = run_on(&rt, sim, 3) else {
-        panic!(rt; "the run ended early")
-    };
-    assert!(rt; move_routers(&mut sim, &[1, 1, 1]) == Ok(()) && is_settled_with(&sim, 4));
-    match run_on(&rt, sim, 20) {
-        Ok(sim) => assert!(rt; is_settled_with(&sim, 7)),
-        Err(_) => panic!(rt; "the run ended early"),
-    }
+    assert!(rt; moves_between(&rt, rt.alloc(), &case));
 }
 
 /// Numbers each of which follows from the one before.
@@ -75,6 +95,21 @@ impl Draws {
     }
 }
 
+/// A run that ended for want of memory or of a thread goes on to a stop, once its routers have moved.
+fn go_on_moved<'a, X: Threads + Wait + Sync>(
+    rt: &X,
+    ended: Ended<'a>,
+    stop: u64,
+    owners: &[u32],
+) -> Option<Sim<'a>> {
+    let mut sim = ended.sim;
+    let is_refused = ended.cause == EndCause::Memory || ended.cause == EndCause::NoThread;
+    if !is_refused || move_routers(&mut sim, owners).is_err() {
+        return None;
+    }
+    run_on(rt, sim, stop).ok()
+}
+
 /// Runs on to a stop. Where memory or a thread is refused, the routers move once more, and the run goes on
 /// from there.
 fn run_on_moved<'a, X: Threads + Wait + Sync>(
@@ -83,19 +118,9 @@ fn run_on_moved<'a, X: Threads + Wait + Sync>(
     stop: u64,
     owners: &[u32],
 ) -> Option<Sim<'a>> {
-    let mut ended = match run_until(rt, sim, stop, Options { batch: 64 }, &OpenGate) {
-        Ok(sim) => return Some(sim),
-        Err(ended) => ended,
-    };
-    if ended.cause != EndCause::Memory && ended.cause != EndCause::NoThread {
-        return None;
-    }
-    if move_routers(&mut ended.sim, owners).is_err() {
-        return None;
-    }
-    match run_on(rt, ended.sim, stop) {
+    match run_until(rt, sim, stop, Options { batch: 64 }, &OpenGate) {
         Ok(sim) => Some(sim),
-        Err(_) => None,
+        Err(ended) => go_on_moved(rt, ended, stop, owners),
     }
 }
 
@@ -121,15 +146,20 @@ fn run_to_20<'a, X: Threads + Wait + Sync>(
     Some(sim)
 }
 
-/// What the run of a case on one thread leaves at stop 20.
-fn left_by_one_thread(alloc: Global, case: &Case) -> Option<Outcome> {
-    let Ok(mut run) = LoggedRun::new(alloc, case).or_else(|_| LoggedRun::new(alloc, case)) else {
-        return None;
-    };
-    if !run_to(&mut run, 20) {
+/// What a run leaves at stop 20.
+fn left_at_20(run: &mut LoggedRun<'_>) -> Option<Outcome> {
+    if !run_to(run, 20) {
         return None;
     }
-    run.outcome().or_else(|_| run.outcome()).ok()
+    left_by(run).ok()
+}
+
+/// What the run of a case on one thread leaves at stop 20.
+fn left_by_one_thread(alloc: Global, case: &Case) -> Option<Outcome> {
+    match logged_run(alloc, case) {
+        Ok(mut run) => left_at_20(&mut run),
+        Err(_) => None,
+    }
 }
 
 /// Whether two runs left the same events, routers and pending events.
@@ -138,6 +168,26 @@ fn is_same(left: &Outcome, other: &Outcome) -> bool {
         && left.events.as_slice() == other.events.as_slice()
         && left.routers.as_slice() == other.routers.as_slice()
         && left.pending.as_slice() == other.pending.as_slice()
+}
+
+/// Whether a run that keeps its events has left just this.
+fn has_left(sim: &Sim<'_>, expected: &Outcome) -> bool {
+    sim.keeps_events() && matches!(outcome(sim), Ok(left) if is_same(&left, expected))
+}
+
+/// The run of a case as it begins, with so many workers, asked for once more where memory was refused.
+fn sim_with<'a>(
+    alloc: Global,
+    case: &'a Case,
+    workers: u32,
+    cancel: Cancel,
+) -> Result<Sim<'a>, AllocError>
+    requires { 0 < workers }
+{
+    match Sim::open_with(alloc, case, workers, true, cancel) {
+        Err(_) => Sim::open_with(alloc, case, workers, true, cancel),
+        opened => opened,
+    }
 }
 
 /// Whether so many workers, between whom routers move at each tick, leave at stop 20 what one thread leaves.
@@ -152,38 +202,42 @@ fn ends_as<X: Threads + Wait + Sync>(
 ) -> bool
     requires { 0 < workers }
 {
-    let opened = match Sim::open_with(alloc, case, workers, true, cancel) {
-        Err(_) => Sim::open_with(alloc, case, workers, true, cancel),
-        opened => opened,
-    };
-    let Ok(sim) = opened else {
+    let Ok(sim) = sim_with(alloc, case, workers, cancel) else {
         return false;
     };
     match run_to_20(rt, sim, workers, draws) {
-        Some(sim) => {
-            sim.keeps_events() && matches!(outcome(&sim), Ok(left) if is_same(&left, expected))
-        }
+        Some(sim) => has_left(&sim, expected),
         None => false,
     }
 }
 
 /// Whether 3 workers and 5 end so on a case, whenever they take back what they have sent.
-fn ends_as_on_one_thread<X: Threads + Wait + Sync>(rt: &X, alloc: Global, text: &str) -> bool {
-    let Ok(case) = case(alloc, text) else {
-        return false;
-    };
-    let Some(expected) = left_by_one_thread(alloc, &case) else {
-        return false;
-    };
+fn all_end_as<X: Threads + Wait + Sync>(
+    rt: &X,
+    alloc: Global,
+    case: &Case,
+    expected: &Outcome,
+) -> bool {
     let mut draws = Draws { last: 38 };
     for cancel in [Cancel::Aggressive, Cancel::Lazy] {
-        if !ends_as(rt, alloc, &case, 3, cancel, &mut draws, &expected)
-            || !ends_as(rt, alloc, &case, 5, cancel, &mut draws, &expected)
+        if !ends_as(rt, alloc, case, 3, cancel, &mut draws, expected)
+            || !ends_as(rt, alloc, case, 5, cancel, &mut draws, expected)
         {
             return false;
         }
     }
     true
+}
+
+/// Whether they end as one thread on the case of a text.
+fn ends_as_on_one_thread<X: Threads + Wait + Sync>(rt: &X, alloc: Global, text: &str) -> bool {
+    let Ok(case) = case(alloc, text) else {
+        return false;
+    };
+    match left_by_one_thread(alloc, &case) {
+        Some(expected) => all_end_as(rt, alloc, &case, &expected),
+        None => false,
+    }
 }
 
 #[test]

@@ -31,6 +31,16 @@ pub(crate) fn outcome(sim: &Sim<'_>) -> Result<Outcome, OrMemory<NotSettled>>
     }
 }
 
+/// What a run has committed that keeps its events, asked for once more where memory was refused.
+pub(crate) fn committed(sim: &Sim<'_>) -> Result<Vec<Event>, AllocError>
+    requires { KeepsEvents sim.now }
+{
+    match sim.committed() {
+        Err(_) => sim.committed(),
+        found => found,
+    }
+}
+
 /// Whether nothing is handled, and only the origin's start is pending.
 fn begins_so(outcome: &Outcome) -> bool {
     let start = Event {
@@ -61,18 +71,22 @@ fn is_refused(sim: &Sim<'_>) -> bool {
         && matches!(sim.shape(), Err(OrMemory::Fault(NotSettled)))
 }
 
+/// Whether a run has two workers, of which none is ahead, and its bound and stop are 0.
+fn is_at_0(sim: &Sim<'_>) -> bool {
+    sim.workers() == 2 && [sim.bound(), sim.stop()] == [0, 0] && sim.ahead() == 0
+}
+
+/// Whether a run is settled, with its events kept, and as it begins.
+fn is_settled_as_it_begins(sim: &Sim<'_>) -> bool {
+    sim.is_settled() && sim.keeps_events() && matches!(outcome(sim), Ok(left) if begins_so(&left))
+}
+
 /// Whether the run of a case begins settled at stop 0, with its events kept.
 fn begins_settled(alloc: Global, case: &Case) -> bool {
-    let Ok(sim) = sim(alloc, case) else {
-        return false;
-    };
-    sim.workers() == 2
-        && sim.bound() == 0
-        && sim.stop() == 0
-        && sim.ahead() == 0
-        && sim.is_settled()
-        && sim.keeps_events()
-        && matches!(outcome(&sim), Ok(left) if begins_so(&left))
+    match sim(alloc, case) {
+        Ok(sim) => is_settled_as_it_begins(&sim),
+        Err(_) => false,
+    }
 }
 
 #[test]
@@ -83,25 +97,36 @@ fn a_run_that_begins_is_settled_at_stop_0(rt: HostRuntime) {
     assert!(rt; begins_settled(rt.alloc(), &case));
 }
 
+/// Whether a run refuses each of these as its stop, which stays 20.
+fn keeps_its_stop(sim: &mut Sim<'_>, stops: &[u64]) -> bool {
+    for stop in stops {
+        if sim.raise_stop(*stop) != Err(StopLower) || sim.stop() != 20 {
+            return false;
+        }
+    }
+    true
+}
+
 /// Whether the stop of a run rises to 20 and to no less, nor past its limit, and is then still to be reached.
 fn raises_its_stop(sim: &mut Sim<'_>) -> bool {
     sim.raise_stop(20) == Ok(())
-        && sim.stop() == 20
-        && sim.bound() == 0
-        && sim.raise_stop(19) == Err(StopLower)
-        && sim.raise_stop(1_000_000_001) == Err(StopLower)
-        && sim.stop() == 20
+        && [sim.stop(), sim.bound()] == [20, 0]
+        && keeps_its_stop(sim, &[19, 1_000_000_001])
         && is_refused(sim)
+}
+
+/// Whether a run, once it was taken apart, has its stop still to be reached.
+fn is_same_of_its_parts(sim: Sim<'_>) -> bool {
+    let sim = Sim::of_parts(sim.into_parts());
+    sim.stop() == 20 && !sim.is_settled()
 }
 
 /// Whether the run of a case raises its stop, also once it was taken apart.
 fn is_to_be_reached(alloc: Global, case: &Case) -> bool {
-    let Ok(mut sim) = sim(alloc, case) else {
-        return false;
-    };
-    let rises = raises_its_stop(&mut sim);
-    let sim = Sim::of_parts(sim.into_parts());
-    rises && sim.stop() == 20 && !sim.is_settled()
+    match sim(alloc, case) {
+        Ok(mut sim) => raises_its_stop(&mut sim) && is_same_of_its_parts(sim),
+        Err(_) => false,
+    }
 }
 
 #[test]

@@ -40,15 +40,17 @@ pub(crate) fn run(
     }
 }
 
-/// How the program ends on a tape, and the page that it wrote, which takes `room` bytes, `most` in
-/// one call. It is run once more where memory was refused and nothing stands on the page.
-fn answer_from(
+/// Whether a program ends so on a tape, with just this on a page that takes `room` bytes, `most` in one call.
+/// It is run once more where memory was refused and nothing stands on the page.
+fn answers(
     alloc: Global,
     asked: Asked,
     tape: Tape<'_>,
     room: usize,
     most: usize,
-) -> Option<(Result<Status, Cause>, ShortPage)>
+    expected: Result<Status, Cause>,
+    written: &[u8],
+) -> bool
     requires { tape.failed ≡ false }
 {
     for _ in 0..2 {
@@ -58,30 +60,37 @@ fn answer_from(
         let mut source = tape;
         match run(alloc, asked, &mut source, &mut page) {
             Err(Cause::Memory) if page.bytes().is_empty() => {}
-            status => return Some((status, page)),
+            ended => return ended == expected && page.bytes() == written,
         }
     }
-    None
+    false
 }
 
-/// The same, on a tape that gives the whole text.
-fn answer(
+/// Whether a program ends so on a whole text, with just this on a page with room, written `most` bytes in one call.
+fn writes(
+    alloc: Global,
+    asked: Asked,
+    text: &str,
+    most: usize,
+    status: Status,
+    written: &str,
+) -> bool {
+    let tape = Tape::new(text.as_bytes(), usize::MAX);
+    let written = written.as_bytes();
+    answers(alloc, asked, tape, AMPLE, most, Ok(status), written)
+}
+
+/// Whether a program is ended by a page that takes no more than `room` bytes of a text, with just this on it.
+fn fails(
     alloc: Global,
     asked: Asked,
     text: &str,
     room: usize,
     most: usize,
-) -> Option<(Result<Status, Cause>, ShortPage)> {
+    written: &[u8],
+) -> bool {
     let tape = Tape::new(text.as_bytes(), usize::MAX);
-    answer_from(alloc, asked, tape, room, most)
-}
-
-/// Whether the program ends so, having written just this.
-fn answers(alloc: Global, asked: Asked, text: &str, status: Status, written: &str) -> bool {
-    match answer(alloc, asked, text, AMPLE, AMPLE) {
-        Some((ended, page)) => ended == Ok(status) && page.bytes() == written.as_bytes(),
-        None => false,
-    }
+    answers(alloc, asked, tape, room, most, Err(Cause::Device), written)
 }
 
 const ACCEPTED: &str = "accepted nodes 3 links 3 paths 4 scenario 0\n";
@@ -101,7 +110,7 @@ fn each_program_writes_to_the_byte(rt: HostRuntime) {
     ];
     for (text, asked, written) in rows {
         assert!(rt;
-            answers(rt.alloc(), asked, text, Status::Done, written),
+            writes(rt.alloc(), asked, text, AMPLE, Status::Done, written),
             "{asked:?}"
         );
     }
@@ -118,7 +127,14 @@ fn a_text_that_is_broken_off_is_refused(rt: HostRuntime) {
     ] {
         let line = "refused line 3 X6 End\n";
         assert!(rt;
-            answers(rt.alloc(), asked, "spp 1\nnodes 1\n", Status::Refused, line),
+            writes(
+                rt.alloc(),
+                asked,
+                "spp 1\nnodes 1\n",
+                AMPLE,
+                Status::Refused,
+                line
+            ),
             "{asked:?}"
         );
     }
@@ -128,10 +144,7 @@ fn a_text_that_is_broken_off_is_refused(rt: HostRuntime) {
 /// it failed.
 fn fails_with_a_prefix(alloc: Global, asked: Asked, whole: &[u8], most: usize) -> bool {
     for room in 0..whole.len() {
-        let Some((ended, page)) = answer(alloc, asked, DISAGREE, room, most) else {
-            return false;
-        };
-        if ended != Err(Cause::Device) || page.bytes() != &whole[..room] {
+        if !fails(alloc, asked, DISAGREE, room, most, &whole[..room]) {
             return false;
         }
     }
@@ -156,26 +169,10 @@ fn a_sink_that_fails_has_a_prefix(rt: HostRuntime) {
     }
 }
 
-/// Whether a program is ended by its device, having written just this.
-fn is_failed(answer: Option<(Result<Status, Cause>, ShortPage)>, written: &[u8]) -> bool {
-    match answer {
-        Some((ended, page)) => ended == Err(Cause::Device) && page.bytes() == written,
-        None => false,
-    }
-}
-
 #[test]
 fn the_first_line_stands_where_a_sink_takes_thirteen_bytes(rt: HostRuntime) {
-    let answer = answer(rt.alloc(), Asked::Seq { stop: 10 }, ALONE, 13, AMPLE);
-    assert!(rt; is_failed(answer, b"spp-report 1\n"));
-}
-
-/// Whether a program writes just this on DISAGREE to a sink that takes a byte at a time.
-fn writes_byte_by_byte(alloc: Global, asked: Asked, text: &str) -> bool {
-    match answer(alloc, asked, DISAGREE, AMPLE, 1) {
-        Some((ended, page)) => ended == Ok(Status::Done) && page.bytes() == text.as_bytes(),
-        None => false,
-    }
+    let asked = Asked::Seq { stop: 10 };
+    assert!(rt; fails(rt.alloc(), asked, ALONE, 13, AMPLE, b"spp-report 1\n"));
 }
 
 #[test]
@@ -186,14 +183,14 @@ fn a_sink_may_take_a_byte_at_a_time(rt: HostRuntime) {
         (Asked::Check, ACCEPTED),
         (Asked::Upgrade, DISAGREE_UPGRADED),
     ] {
-        assert!(rt; writes_byte_by_byte(rt.alloc(), asked, text));
+        assert!(rt; writes(rt.alloc(), asked, DISAGREE, 1, Status::Done, text));
     }
 }
 
 /// Whether a program that can read so many bytes of DISAGREE is ended by its device, and writes nothing.
 fn writes_nothing(alloc: Global, asked: Asked, left: usize) -> bool {
     let tape = Tape::new(DISAGREE.as_bytes(), left);
-    is_failed(answer_from(alloc, asked, tape, AMPLE, AMPLE), &[])
+    answers(alloc, asked, tape, AMPLE, AMPLE, Err(Cause::Device), &[])
 }
 
 #[test]
@@ -206,9 +203,9 @@ fn a_source_that_fails_leaves_nothing_written(rt: HostRuntime) {
     }
 }
 
-/// How `check` ends on line ends without end, how many it read, and what it wrote. It is run once
-/// more where memory was refused.
-fn check_endless(alloc: Global) -> Option<(Result<Status, Cause>, usize, ShortPage)> {
+/// Whether `check` refuses line ends without end, having read the most that it reads. It is run once more
+/// where memory was refused.
+fn refuses_endless(alloc: Global) -> bool {
     for _ in 0..2 {
         let Ok(mut page) = ShortPage::new(alloc, AMPLE, AMPLE) else {
             continue;
@@ -216,22 +213,15 @@ fn check_endless(alloc: Global) -> Option<(Result<Status, Cause>, usize, ShortPa
         let mut source = Endless::new();
         match check_io(alloc, &mut source, &mut page) {
             Err(Cause::Memory) => {}
-            ended => return Some((ended, source.given(), page)),
+            ended => return ended == Ok(Status::Refused) && has_read_all(&source, &page),
         }
     }
-    None
+    false
 }
 
-/// Whether `check` refuses line ends without end, having read the most that it reads.
-fn refuses_endless(alloc: Global) -> bool {
-    match check_endless(alloc) {
-        Some((ended, read, page)) => {
-            ended == Ok(Status::Refused)
-                && read == 67_108_864
-                && page.bytes() == b"refused line 1 X2 Header\n".as_slice()
-        }
-        None => false,
-    }
+/// Whether the most bytes were read of line ends without end, and the page has the answer to them.
+fn has_read_all(source: &Endless, page: &ShortPage) -> bool {
+    source.given() == 67_108_864 && page.bytes() == b"refused line 1 X2 Header\n".as_slice()
 }
 
 #[test]

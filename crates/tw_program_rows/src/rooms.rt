@@ -1,7 +1,7 @@
 //! A parallel run of a router that has more events of one tick to handle than it has room for at first.
 
-use crate::parallel::sim;
-use std::alloc::Global;
+use crate::parallel::{committed, sim};
+use std::alloc::{AllocError, Global};
 use std::sync::Wait;
 use std::thread::Threads;
 use tw_event::{Body, Event};
@@ -41,8 +41,10 @@ fn committed_count(sim: &Sim<'_>) -> Option<usize> {
     if !sim.keeps_events() {
         return None;
     }
-    let committed = sim.committed().or_else(|_| sim.committed()).ok()?;
-    are_first(&committed, sim.bound()).then_some(committed.len())
+    match committed(sim) {
+        Ok(committed) => are_first(&committed, sim.bound()).then_some(committed.len()),
+        Err(_) => None,
+    }
 }
 
 /// Whether a run was refused memory or a thread, and what it has committed is of the run.
@@ -57,38 +59,50 @@ fn is_over(sim: &Sim<'_>) -> bool {
     sim.is_settled() && sim.bound() == 20 && committed_count(sim) == Some(EVENTS)
 }
 
-/// Whether a run comes to stop 20, if need be from where it ended early, where its events are some of the run's.
-fn comes_to_20<X: Threads + Wait + Sync>(rt: &X, sim: Sim<'_>) -> bool {
-    let options = Options { batch: 64 };
-    match run_until(rt, sim, 20, options, &OpenGate) {
+/// Whether a run that ended early has some of the run's events, and comes to stop 20 from there.
+fn goes_on_from_there<X: Threads + Wait + Sync>(rt: &X, ended: Ended<'_>) -> bool {
+    if !is_refused_on_its_way(&ended) {
+        return false;
+    }
+    match run_until(rt, ended.sim, 20, Options { batch: 64 }, &OpenGate) {
         Ok(sim) => is_over(&sim),
-        Err(ended) => {
-            is_refused_on_its_way(&ended)
-                && match run_until(rt, ended.sim, 20, options, &OpenGate) {
-                    Ok(sim) => is_over(&sim),
-                    Err(_) => false,
-                }
-        }
+        Err(_) => false,
     }
 }
 
-/// The case of one router and 300 exchanges; its text is made once more where memory was refused.
-fn crowded(alloc: Global) -> Option<Case> {
-    let text = many_exchanges(alloc)
-        .or_else(|_| many_exchanges(alloc))
-        .ok()?;
-    case(alloc, &text).ok()
+/// Whether a run comes to stop 20, if need be from where it ended early, where its events are some of the run's.
+fn comes_to_20<X: Threads + Wait + Sync>(rt: &X, sim: Sim<'_>) -> bool {
+    match run_until(rt, sim, 20, Options { batch: 64 }, &OpenGate) {
+        Ok(sim) => is_over(&sim),
+        Err(ended) => goes_on_from_there(rt, ended),
+    }
 }
 
-/// Whether the run of the case by two workers comes to stop 20.
+/// The text of one router and 300 exchanges, made once more where memory was refused.
+fn crowded(alloc: Global) -> Result<String, AllocError> {
+    match many_exchanges(alloc) {
+        Err(_) => many_exchanges(alloc),
+        made => made,
+    }
+}
+
+/// Whether the run of a case by two workers comes to stop 20.
+fn comes_to_its_end<X: Threads + Wait + Sync>(rt: &X, alloc: Global, case: &Case) -> bool {
+    match sim(alloc, case) {
+        Ok(sim) => comes_to_20(rt, sim),
+        Err(_) => false,
+    }
+}
+
+/// Whether that of the case with 300 exchanges does.
 fn holds<X: Threads + Wait + Sync>(rt: &X, alloc: Global) -> bool {
-    let Some(case) = crowded(alloc) else {
+    let Ok(text) = crowded(alloc) else {
         return false;
     };
-    let Ok(sim) = sim(alloc, &case) else {
-        return false;
-    };
-    comes_to_20(rt, sim)
+    match case(alloc, &text) {
+        Ok(case) => comes_to_its_end(rt, alloc, &case),
+        Err(_) => false,
+    }
 }
 
 #[test]

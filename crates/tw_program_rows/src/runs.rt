@@ -1,10 +1,11 @@
 //! Runs and reports by calls.
 
-ghost use Rattle.std.specs.Prelude.{◌≡◌, ◌≤◌, false, IfOk};
+ghost use Rattle.std.specs.Prelude.{◌≡◌, ◌<◌, ◌≤◌, false, IfOk};
 ghost use Rattle.tw_model.specs.declared.limits.TheConstants.{LATEST};
 ghost use Rattle.tw_model.specs.Net.{Net};
 ghost use Rattle.tw_model.specs.Summary.{summary_of};
 ghost use Rattle.tw_report.specs.Report.{HasPaths};
+ghost use Rattle.tw_seq.specs.Run.{opening_run};
 
 use crate::devices::{AMPLE, ShortPage};
 use crate::texts::ALONE_LOG;
@@ -40,40 +41,80 @@ fn is_quiet_at_20(outcome: &Outcome, events: usize) -> bool {
         && Verdict::of(outcome, None) == Verdict::Quiet(2)
 }
 
-/// Whether a run to stop 20 leaves seven events, and gives the same ones away.
-fn leaves_its_events(run: LoggedRun<'_>) -> bool {
-    let Ok(outcome) = run.outcome().or_else(|_| run.outcome()) else {
-        return false;
-    };
-    if !is_quiet_at_20(&outcome, 7) {
-        return false;
+/// The run of a case as it begins, asked for once more where memory was refused.
+pub(crate) fn logged_run<'a>(alloc: Global, case: &'a Case) -> Result<LoggedRun<'a>, AllocError>
+    ensures { IfOk result (λ run. run ≡ opening_run case.now) }
+{
+    match LoggedRun::new(alloc, case) {
+        Err(_) => LoggedRun::new(alloc, case),
+        made => made,
     }
-    match run.into_outcome() {
-        Ok(moved) => moved.events.as_slice() == outcome.events.as_slice(),
+}
+
+/// What a run leaves, asked for once more where memory was refused.
+pub(crate) fn left_by(run: &LoggedRun<'_>) -> Result<Outcome, AllocError> {
+    match run.outcome() {
+        Err(_) => run.outcome(),
+        left => left,
+    }
+}
+
+/// Whether a run to stop 20 leaves seven events, and gives the same ones away, where memory is not refused.
+fn gives_away(run: LoggedRun<'_>, left: &Outcome) -> bool {
+    let gives = match run.into_outcome() {
+        Ok(moved) => moved.events.as_slice() == left.events.as_slice(),
         Err(_) => true,
+    };
+    gives && is_quiet_at_20(left, 7)
+}
+
+/// Whether a run tells what it leaves at stop 20, and gives the same away.
+fn leaves_its_events(run: LoggedRun<'_>) -> bool {
+    match left_by(&run) {
+        Ok(left) => gives_away(run, &left),
+        Err(_) => false,
     }
+}
+
+/// Whether a run has handled six events, and just one is pending, of time 7.
+fn has_one_left(run: &LoggedRun<'_>) -> bool {
+    let pending = match run.pending() {
+        Err(_) => run.pending(),
+        pending => pending,
+    };
+    run.handled().len() == 6 && matches!(pending, Ok(pending) if is_the_last(&pending))
+}
+
+/// Whether a run that has handled nothing goes on to tick 7, and no earlier stop takes anything back.
+fn handles_six(run: &mut LoggedRun<'_>) -> bool
+    ensures { run.new.case ≡ run.old.case }
+{
+    run.handled().is_empty()
+        && run_to(run, 7)
+        && run.handled().len() == 6
+        && run_to(run, 3)
+        && has_one_left(run)
+}
+
+/// Whether a run goes on to stop 20 with seven events, router 1 being on its path by the origin.
+fn handles_seven(run: &mut LoggedRun<'_>) -> bool
+    requires { 1 < run.old.case.net.nodes }
+{
+    run_to(run, 20) && run.handled().len() == 7 && run.router(1).rib() == PathNo(3)
 }
 
 /// Whether the run of a case goes on to later stops, and no earlier one takes anything back.
 fn goes_on(alloc: Global, case: &Case) -> bool {
     let has_three_routers = case.instance().nodes() == 3;
-    let Ok(mut run) = LoggedRun::new(alloc, case).or_else(|_| LoggedRun::new(alloc, case)) else {
-        return false;
-    };
-    let goes = has_three_routers
-        && run.handled().is_empty()
-        && run_to(&mut run, 7)
-        && run.handled().len() == 6
-        && run_to(&mut run, 3)
-        && run.handled().len() == 6
-        && run
-            .pending()
-            .or_else(|_| run.pending())
-            .is_ok_and(|pending| is_the_last(&pending))
-        && run_to(&mut run, 20)
-        && run.handled().len() == 7
-        && run.router(1).rib() == PathNo(3);
-    goes && leaves_its_events(run)
+    match logged_run(alloc, case) {
+        Ok(mut run) => {
+            has_three_routers
+                && handles_six(&mut run)
+                && handles_seven(&mut run)
+                && leaves_its_events(run)
+        }
+        Err(_) => false,
+    }
 }
 
 #[test]
@@ -84,24 +125,53 @@ fn a_run_goes_on_to_a_later_stop(rt: HostRuntime) {
     assert!(rt; goes_on(rt.alloc(), &case));
 }
 
+/// Whether a run without a log goes on to tick 7, and just one event is pending then, of time 7.
+fn comes_to_the_last(run: &mut OneThread<'_>) -> bool
+    ensures { run.new.case ≡ run.old.case }
+{
+    if !run_to(run, 7) {
+        return false;
+    }
+    let pending = match run.pending() {
+        Err(_) => run.pending(),
+        pending => pending,
+    };
+    matches!(pending, Ok(pending) if is_the_last(&pending))
+}
+
+/// Whether a run without a log is quiet at stop 20, as one with a log.
+fn is_left_quiet(run: &OneThread<'_>) -> bool {
+    let left = match run.outcome_without_events() {
+        Err(_) => run.outcome_without_events(),
+        left => left,
+    };
+    matches!(left, Ok(outcome) if is_quiet_at_20(&outcome, 0))
+}
+
+/// Whether a run without a log goes on to stop 20, router 1 being on its path by the origin.
+fn comes_to_20(run: &mut OneThread<'_>) -> bool
+    requires { 1 < run.old.case.net.nodes }
+{
+    run_to(run, 20) && run.router(1).rib() == PathNo(3) && is_left_quiet(run)
+}
+
+/// The run of a case without a log as it begins, asked for once more where memory was refused.
+fn one_thread<'a>(alloc: Global, case: &'a Case) -> Result<OneThread<'a>, AllocError>
+    ensures { IfOk result (λ run. run ≡ opening_run case.now) }
+{
+    match OneThread::new(alloc, case) {
+        Err(_) => OneThread::new(alloc, case),
+        made => made,
+    }
+}
+
 /// Whether the run of a case without a log goes on to stop 20, and ends as one with a log.
 fn goes_on_without_a_log(alloc: Global, case: &Case) -> bool {
     let has_three_routers = case.instance().nodes() == 3;
-    let Ok(mut run) = OneThread::new(alloc, case).or_else(|_| OneThread::new(alloc, case)) else {
-        return false;
-    };
-    has_three_routers
-        && run_to(&mut run, 7)
-        && run
-            .pending()
-            .or_else(|_| run.pending())
-            .is_ok_and(|pending| is_the_last(&pending))
-        && run_to(&mut run, 20)
-        && run.router(1).rib() == PathNo(3)
-        && run
-            .outcome_without_events()
-            .or_else(|_| run.outcome_without_events())
-            .is_ok_and(|outcome| is_quiet_at_20(&outcome, 0))
+    match one_thread(alloc, case) {
+        Ok(mut run) => { has_three_routers && comes_to_the_last(&mut run) && comes_to_20(&mut run) }
+        Err(_) => false,
+    }
 }
 
 #[test]
@@ -162,24 +232,23 @@ fn page_at_last(alloc: Global, room: usize) -> Result<ShortPage, AllocError>
     }
 }
 
-/// How writing the report ends, and the page that it is on, which takes `room` bytes.
-fn report(
+/// Whether writing the report on a page that takes `room` bytes ends so, with just this on the page.
+fn reports(
     alloc: Global,
     instance: &Instance,
     outcome: &Outcome,
     room: usize,
-) -> Result<(Result<(), Failed>, ShortPage), AllocError>
+    expected: Result<(), Failed>,
+    written: &[u8],
+) -> bool
     requires { HasPaths instance.now (summary_of outcome.now) }
 {
-    let mut page = page_at_last(alloc, room)?;
-    let ended = write_report(
-        &mut page,
-        instance,
-        outcome,
-        Verdict::of(outcome, None),
-        true,
-    );
-    Ok((ended, page))
+    let Ok(mut page) = page_at_last(alloc, room) else {
+        return false;
+    };
+    let verdict = Verdict::of(outcome, None);
+    let ended = write_report(&mut page, instance, outcome, verdict, true);
+    ended == expected && page.bytes() == written
 }
 
 /// Whether the report of the origin alone is whole on a page with room, and else its first line.
@@ -187,16 +256,9 @@ fn is_whole_or_a_prefix(alloc: Global, case: &Case) -> bool {
     let Ok(outcome) = alone_at_last(alloc) else {
         return false;
     };
-    let (Ok((ended, page)), Ok((failed, short))) = (
-        report(alloc, case.instance(), &outcome, AMPLE),
-        report(alloc, case.instance(), &outcome, 13),
-    ) else {
-        return false;
-    };
-    ended == Ok(())
-        && page.bytes() == ALONE_LOG.as_bytes()
-        && failed == Err(Failed)
-        && short.bytes() == b"spp-report 1\n".as_slice()
+    let net = case.instance();
+    reports(alloc, net, &outcome, AMPLE, Ok(()), ALONE_LOG.as_bytes())
+        && reports(alloc, net, &outcome, 13, Err(Failed), b"spp-report 1\n")
 }
 
 #[test]

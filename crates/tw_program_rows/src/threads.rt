@@ -1,8 +1,11 @@
 //! Parallel runs by threads.
 
+ghost use Rattle.std.specs.Prelude.{◌≡◌, ◌<◌, ◌≤◌, false, IfSome};
+ghost use Rattle.tw_model.specs.declared.limits.TheConstants.{LATEST};
+
 use crate::devices::{AMPLE, ShortPage, Tape};
 use crate::events::events;
-use crate::parallel::sim;
+use crate::parallel::{committed, sim};
 use crate::texts::DISAGREE_LOG;
 use std::alloc::Global;
 use std::sync::Wait;
@@ -18,47 +21,48 @@ use tw_run::{Dealing, run_io};
 use tw_sim::Cancel;
 use tw_table::Seat;
 
-/// How `run` to stop 20 by two workers ends on a text, with the log on the page that it wrote. It is run once
-/// more where memory or a thread was refused and it has written nothing.
-fn answer<X: Threads + Wait + Sync>(
+/// How `run` to stop 20 by two workers ends on DISAGREE, with the log on this page.
+pub(crate) fn run_by_two<X: Threads + Wait + Sync>(
     rt: &X,
     alloc: Global,
-    text: &str,
-) -> Option<(Result<Status, Cause>, ShortPage)> {
+    page: &mut ShortPage,
+    every: Option<u64>,
+    cancel: Cancel,
+    dealing: Dealing,
+) -> Result<Status, Cause>
+    requires sink { page.old.failed ≡ false }
+    requires every { IfSome every (λ n. (0 < n) × (n ≤ LATEST)) }
+{
+    let mut tape = Tape::new(DISAGREE.as_bytes(), usize::MAX);
+    run_io(
+        rt, alloc, &mut tape, page, 20, every, true, 2, 64, cancel, dealing,
+    )
+}
+
+/// Whether `run` by two workers writes the whole log of DISAGREE. It is run once more where memory or a thread was
+/// refused and it has written nothing.
+fn writes_whole<X: Threads + Wait + Sync>(rt: &X, alloc: Global) -> bool {
+    let dealing = Dealing {
+        blocks: false,
+        rotate: false,
+    };
     for _ in 0..2 {
         let Ok(mut page) = ShortPage::new(alloc, AMPLE, AMPLE) else {
             continue;
         };
-        let mut tape = Tape::new(text.as_bytes(), usize::MAX);
-        match run_io(
-            rt,
-            alloc,
-            &mut tape,
-            &mut page,
-            20,
-            None,
-            true,
-            2,
-            64,
-            Cancel::Aggressive,
-            Dealing {
-                blocks: false,
-                rotate: false,
-            },
-        ) {
+        match run_by_two(rt, alloc, &mut page, None, Cancel::Aggressive, dealing) {
             Err(Cause::Memory | Cause::NoThread) if page.bytes().is_empty() => {}
-            ended => return Some((ended, page)),
+            ended => {
+                return ended == Ok(Status::Done) && page.bytes() == DISAGREE_LOG.as_bytes();
+            }
         }
     }
-    None
+    false
 }
 
 #[test]
 fn a_report_refused_once_is_written_whole(rt: HostRuntime) {
-    let Some((ended, page)) = answer(&rt, rt.alloc(), DISAGREE) else {
-        panic!(rt; "no answer")
-    };
-    assert!(rt; ended == Ok(Status::Done) && page.bytes() == DISAGREE_LOG.as_bytes());
+    assert!(rt; writes_whole(&rt, rt.alloc()));
 }
 
 /// Runs on to a stop, once more where memory or a thread was refused.
@@ -82,17 +86,8 @@ pub(crate) fn run_on<'a, X: Threads + Wait + Sync>(
 
 /// Whether the first events of the run, so many, are committed.
 fn has_committed(sim: &Sim<'_>, count: usize) -> bool {
-    if !sim.keeps_events() {
-        return false;
-    }
-    let found = match sim.committed() {
-        Err(_) => sim.committed(),
-        found => found,
-    };
-    match found {
-        Ok(committed) => events().get(..count) == Some(committed.as_slice()),
-        Err(_) => false,
-    }
+    sim.keeps_events()
+        && matches!(committed(sim), Ok(found) if events().get(..count) == Some(found.as_slice()))
 }
 
 /// Whether these are some events of the run, in their order, each of them below the bound.
@@ -113,11 +108,7 @@ fn are_below(committed: &[Event], bound: u64) -> bool {
 
 /// Whether what is committed is of the run, and below the bound.
 fn has_committed_some(sim: &Sim<'_>, bound: u64) -> bool {
-    sim.keeps_events()
-        && sim
-            .committed()
-            .or_else(|_| sim.committed())
-            .is_ok_and(|committed| are_below(&committed, bound))
+    sim.keeps_events() && matches!(committed(sim), Ok(found) if are_below(&found, bound))
 }
 
 /// Whether a run is settled with its first events, so many, committed.
@@ -133,25 +124,54 @@ fn is_kept_at_20(ended: &Ended<'_>) -> bool {
         && has_committed(&ended.sim, 7)
 }
 
+/// Whether a run to a stop below its own ends, and is kept as it was at stop 20.
+fn refuses_19<X: Threads + Wait + Sync>(rt: &X, sim: Sim<'_>) -> bool {
+    match run_on(rt, sim, 19) {
+        Ok(_) => false,
+        Err(ended) => is_kept_at_20(&ended),
+    }
+}
+
+/// The run at a later stop, where it is settled there with its first events, so many.
+fn settled_at<'a, X: Threads + Wait + Sync>(
+    rt: &X,
+    sim: Sim<'a>,
+    stop: u64,
+    count: usize,
+) -> Option<Sim<'a>> {
+    match run_on(rt, sim, stop) {
+        Ok(sim) => {
+            if is_settled_with(&sim, count) {
+                Some(sim)
+            } else {
+                None
+            }
+        }
+        Err(_) => None,
+    }
+}
+
+/// Whether the run of a case goes on to later stops, and then to no earlier one.
+fn goes_on<X: Threads + Wait + Sync>(rt: &X, alloc: Global, case: &Case) -> bool {
+    let mut run = sim(alloc, case).ok();
+    for (stop, count) in [(3, 4), (7, 6), (20, 7)] {
+        run = match run {
+            Some(sim) => settled_at(rt, sim, stop, count),
+            None => None,
+        };
+    }
+    match run {
+        Some(sim) => refuses_19(rt, sim),
+        None => false,
+    }
+}
+
 #[test]
 fn a_run_goes_on_to_later_stops_and_to_no_earlier_one(rt: HostRuntime) {
     let Ok(case) = case(rt.alloc(), DISAGREE) else {
         panic!(rt; "the case is refused")
     };
-    let Ok(mut sim) = sim(rt.alloc(), &case) else {
-        panic!(rt; "no memory")
-    };
-    for (stop, count) in [(3, 4), (7, 6), (20, 7)] {
-        sim = match run_on(&rt, sim, stop) {
-            Ok(sim) => sim,
-            Err(_) => panic!(rt; "the run ended early"),
-        };
-        assert!(rt; is_settled_with(&sim, count), "{stop}");
-    }
-    match run_on(&rt, sim, 19) {
-        Ok(_) => panic!(rt; "the stop falls"),
-        Err(ended) => assert!(rt; is_kept_at_20(&ended)),
-    }
+    assert!(rt; goes_on(&rt, rt.alloc(), &case));
 }
 
 /// Whether a run was refused memory or a thread, and what it has committed is of the run, and below its bound.
@@ -160,17 +180,31 @@ fn is_refused_on_its_way(ended: &Ended<'_>) -> bool {
         && has_committed_some(&ended.sim, ended.bound)
 }
 
+/// Whether a run is settled at stop 20 with all its events.
+fn is_settled_at_20(sim: &Sim<'_>) -> bool {
+    sim.bound() == 20 && is_settled_with(sim, 7)
+}
+
+/// Whether a run goes on to stop 20, and has all its events there.
+pub(crate) fn goes_on_to_20<X: Threads + Wait + Sync>(rt: &X, sim: Sim<'_>) -> bool {
+    match run_on(rt, sim, 20) {
+        Ok(sim) => is_settled_at_20(&sim),
+        Err(_) => false,
+    }
+}
+
 /// Whether a run to stop 20, and once more from where it ended, comes there.
 fn comes_to_20<X: Threads + Wait + Sync>(rt: &X, sim: Sim<'_>) -> bool {
-    let (sim, is_so_far) = match run_until(rt, sim, 20, Options { batch: 64 }, &OpenGate) {
-        Ok(sim) => (sim, true),
-        Err(ended) => {
-            let is_so_far = is_refused_on_its_way(&ended);
-            (ended.sim, is_so_far)
-        }
-    };
-    match run_on(rt, sim, 20) {
-        Ok(sim) => is_so_far && is_settled_with(&sim, 7) && sim.bound() == 20,
+    match run_until(rt, sim, 20, Options { batch: 64 }, &OpenGate) {
+        Ok(sim) => goes_on_to_20(rt, sim),
+        Err(ended) => is_refused_on_its_way(&ended) && goes_on_to_20(rt, ended.sim),
+    }
+}
+
+/// Whether the run of a case comes to stop 20, also from where it ended early.
+fn goes_on_from_there<X: Threads + Wait + Sync>(rt: &X, alloc: Global, case: &Case) -> bool {
+    match sim(alloc, case) {
+        Ok(sim) => comes_to_20(rt, sim),
         Err(_) => false,
     }
 }
@@ -180,10 +214,7 @@ fn a_run_that_ended_early_goes_on_from_there(rt: HostRuntime) {
     let Ok(case) = case(rt.alloc(), DISAGREE) else {
         panic!(rt; "the case is refused")
     };
-    let Ok(sim) = sim(rt.alloc(), &case) else {
-        panic!(rt; "no memory")
-    };
-    assert!(rt; comes_to_20(&rt, sim));
+    assert!(rt; goes_on_from_there(&rt, rt.alloc(), &case));
 }
 
 /// How often a worker looks for another before it goes on without it.
@@ -328,6 +359,26 @@ impl Gate for Overtaking {
     }
 }
 
+/// What a run that ended early tells: that it has failed, or `None` where memory or a thread was refused.
+fn told_by(cause: EndCause) -> Option<bool> {
+    if cause == EndCause::Memory || cause == EndCause::NoThread {
+        return None;
+    }
+    Some(false)
+}
+
+/// Whether a run comes to stop 20 at this gate; `None` where memory or a thread was refused.
+fn comes_through<G: Gate + Sync, X: Threads + Wait + Sync>(
+    rt: &X,
+    sim: Sim<'_>,
+    gate: &G,
+) -> Option<bool> {
+    match run_until(rt, sim, 20, Options { batch: 64 }, gate) {
+        Ok(sim) => Some(sim.bound() == 20),
+        Err(ended) => told_by(ended.cause),
+    }
+}
+
 /// Whether two workers take a case to stop 20 at this gate; `None` where memory or a thread was refused.
 fn passes<G: Gate + Sync, X: Threads + Wait + Sync>(
     rt: &X,
@@ -335,18 +386,9 @@ fn passes<G: Gate + Sync, X: Threads + Wait + Sync>(
     case: &Case,
     gate: &G,
 ) -> Option<bool> {
-    let Ok(sim) = Sim::open(alloc, case, 2, true) else {
-        return None;
-    };
-    match run_until(rt, sim, 20, Options { batch: 64 }, gate) {
-        Ok(sim) => Some(sim.bound() == 20),
-        Err(
-            Ended {
-                cause: EndCause::Memory | EndCause::NoThread,
-                ..
-            },
-        ) => None,
-        Err(_) => Some(false),
+    match Sim::open(alloc, case, 2, true) {
+        Ok(sim) => comes_through(rt, sim, gate),
+        Err(_) => None,
     }
 }
 
