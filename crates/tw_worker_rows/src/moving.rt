@@ -105,13 +105,23 @@ fn goes_over<'a>(from: &mut Shard<'a>, router: u32, to: &mut Shard<'a>) -> bool
 
 /// Whether the routers are dealt out by the list, and the origin's start is pending where the origin is.
 fn are_dealt_out(from: &Shard<'_>, to: &Shard<'_>) -> bool {
-    from.router_count() == 2
-        && from.router_at(0) == 0
-        && from.router_at(1) == 1
+    has_routers(from, &[0, 1])
+        && has_routers(to, &[2])
         && from.pending().len() == 1
-        && to.router_count() == 1
-        && to.router_at(0) == 2
         && to.pending().is_empty()
+}
+
+/// Whether a shard has these routers, in this order, and no more.
+fn has_routers(shard: &Shard<'_>, routers: &[u32]) -> bool {
+    if shard.router_count() != routers.len() {
+        return false;
+    }
+    for k in 0..routers.len() {
+        if shard.router_at(k) != routers[k] {
+            return false;
+        }
+    }
+    true
 }
 
 /// Whether a router that neither has is refused.
@@ -228,7 +238,7 @@ pub(crate) fn holds_by_tries(alloc: Global, cancel: Cancel, tries: Tries, row: R
 // To prove a function that lets two shards go takes many times as long as one that lets go of one.
 fn holds_in(alloc: Global, case: &Case, cancel: Cancel, tries: Tries, row: Row) -> bool {
     match shard_by_tries(alloc, case, 0, cancel, tries) {
-        Some(mut from) => holds_from(alloc, case, &mut from, tries, row),
+        Some(mut from) => holds_from(alloc, case, &mut from, cancel, tries, row),
         None => false,
     }
 }
@@ -237,12 +247,13 @@ fn holds_from<'a>(
     alloc: Global,
     case: &'a Case,
     from: &mut Shard<'a>,
+    cancel: Cancel,
     tries: Tries,
     row: Row,
 ) -> bool
     requires { from.old.case ≡ case.now }
 {
-    match shard_by_tries(alloc, case, 1, from.cancel(), tries) {
+    match shard_by_tries(alloc, case, 1, cancel, tries) {
         Some(mut to) => holds_of(from, &mut to, row),
         None => false,
     }
