@@ -362,17 +362,31 @@ fn sends_the_last(alloc: Global, instance: &Instance, router: &mut Router<'_>) -
         && router.counters().sent == 1 << 48
 }
 
+/// Whether a router that may send once more refuses an update.
+fn refuses_at_the_last_but_one(alloc: Global, instance: &Instance) -> bool
+    requires { 1 < instance.now.nodes }
+{
+    let full = counts(MOST_COUNTED - 1);
+    match router(alloc, instance, full) {
+        Ok(mut router) => is_full(alloc, instance, &mut router, full),
+        Err(_) => false,
+    }
+}
+
+/// Whether a router that may send twice more takes an update.
+fn takes_the_last_two(alloc: Global, instance: &Instance) -> bool
+    requires { 1 < instance.now.nodes }
+{
+    match router(alloc, instance, counts(MOST_COUNTED - 2)) {
+        Ok(mut router) => sends_the_last(alloc, instance, &mut router),
+        Err(_) => false,
+    }
+}
+
 fn refuses_a_full_counter(alloc: Global, instance: &Instance) -> bool
     requires { 1 < instance.now.nodes }
 {
-    let (full, free) = (counts(MOST_COUNTED - 1), counts(MOST_COUNTED - 2));
-    match (router(alloc, instance, full), router(alloc, instance, free)) {
-        (Ok(mut refusing), Ok(mut sending)) => {
-            is_full(alloc, instance, &mut refusing, full)
-                && sends_the_last(alloc, instance, &mut sending)
-        }
-        _ => false,
-    }
+    refuses_at_the_last_but_one(alloc, instance) && takes_the_last_two(alloc, instance)
 }
 
 fn refuses_impossible_counters(alloc: Global, instance: &Instance) -> bool
@@ -389,19 +403,21 @@ fn refuses_impossible_counters(alloc: Global, instance: &Instance) -> bool
     refused && router(alloc, instance, counters).is_ok()
 }
 
+/// What is shown of router 1, each with a name and the text of the case.
+const ROWS: [(&str, &str, Row<'static>); 8] = [
+    ("each state", DISAGREE, Row::Trail(&STATES)),
+    ("the rank row", DISAGREE, Row::Trail(&RANKS)),
+    ("an exchange", RANK_EXCHANGE, Row::Trail(&EXCHANGE)),
+    ("a forbidden path", DISAGREE, Row::Trail(&FORBIDDEN)),
+    ("an allowed path", DISAGREE, Row::Trail(&ALLOWED)),
+    ("another session", DISAGREE, Row::AnotherSession),
+    ("a full counter", DISAGREE, Row::FullCounter),
+    ("impossible counters", DISAGREE, Row::ImpossibleCounters),
+];
+
 #[test]
 fn router_1_goes_on_and_back(rt: HostRuntime) {
-    let rows = [
-        ("each state", DISAGREE, Row::Trail(&STATES)),
-        ("the rank row", DISAGREE, Row::Trail(&RANKS)),
-        ("an exchange", RANK_EXCHANGE, Row::Trail(&EXCHANGE)),
-        ("a forbidden path", DISAGREE, Row::Trail(&FORBIDDEN)),
-        ("an allowed path", DISAGREE, Row::Trail(&ALLOWED)),
-        ("another session", DISAGREE, Row::AnotherSession),
-        ("a full counter", DISAGREE, Row::FullCounter),
-        ("impossible counters", DISAGREE, Row::ImpossibleCounters),
-    ];
-    for (name, text, row) in rows {
-        assert!(rt; holds(rt.alloc(), text, row), "{name}");
+    for (name, text, row) in &ROWS {
+        assert!(rt; holds(rt.alloc(), text, *row), "{name}");
     }
 }

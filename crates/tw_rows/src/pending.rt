@@ -288,16 +288,18 @@ fn goes_on(alloc: Global, by_time: bool, before: &[Line<'_>], lines: &[Line<'_>]
     }
 }
 
+/// What holds of pending events: a name, whether they are kept by time, what was done before, and what holds then.
+const ROWS: [(&str, bool, &[Line<'static>], &[Line<'static>]); 4] = [
+    ("counted", false, &[], &COUNTED),
+    ("limited", true, &NEAR_AND_FAR, &LIMITED),
+    ("removed", true, &NEAR_AND_FAR, &REMOVED),
+    ("a turn apart", false, &[], &APART),
+];
+
 #[test]
 fn events_are_pending_until_they_are_taken(rt: HostRuntime) {
-    let rows = [
-        ("counted", false, &[][..], &COUNTED[..]),
-        ("limited", true, &NEAR_AND_FAR[..], &LIMITED[..]),
-        ("removed", true, &NEAR_AND_FAR[..], &REMOVED[..]),
-        ("a turn apart", false, &[][..], &APART[..]),
-    ];
-    for (name, by_time, before, lines) in rows {
-        assert!(rt; goes_on(rt.alloc(), by_time, before, lines), "{name}");
+    for (name, by_time, before, lines) in &ROWS {
+        assert!(rt; goes_on(rt.alloc(), *by_time, before, lines), "{name}");
     }
 }
 
@@ -418,33 +420,53 @@ fn is_given(pending: &mut Pending, to: &mut Pending, row: HandOver<'_>) -> bool
         && goes_by(to, row.given)
 }
 
-fn goes_to_another(alloc: Global, row: HandOver<'_>) -> bool {
-    match (nothing(alloc, row.by_time), nothing(alloc, row.by_time)) {
-        (Ok(mut pending), Ok(mut to)) => is_given(&mut pending, &mut to, row),
-        _ => false,
+/// The same of another list, with no event yet.
+fn goes_to_an_empty_one(alloc: Global, pending: &mut Pending, row: HandOver<'_>) -> bool
+    requires { pending.old.routers ≡ 3 }
+{
+    match nothing(alloc, row.by_time) {
+        Ok(mut to) => is_given(pending, &mut to, row),
+        Err(_) => false,
     }
 }
 
-#[test]
-fn what_is_pending_for_a_router_goes_to_another_list(rt: HostRuntime) {
-    let (first, own, second) = ((1, 1, 0), (3, 1, 2), (5, 2, 1));
-    let rows = [
-        (0, &[first, first, second][..], &[own][..]),
-        (1, &[second][..], &[first, first, own][..]),
-        (2, &[first, first][..], &[own, second][..]),
-    ];
-    for (router, left, given) in rows {
-        let row = HandOver {
-            by_time: false,
-            before: &TWO_AND_ONE,
-            own: &[Line::Insert(own)],
-            router,
-            left: &[Line::Lists(left)],
-            given: &[Line::Lists(given)],
-        };
-        assert!(rt; goes_to_another(rt.alloc(), row), "router {router}");
+/// The same of two lists with no event yet.
+fn goes_to_another(alloc: Global, row: HandOver<'_>) -> bool {
+    match nothing(alloc, row.by_time) {
+        Ok(mut pending) => goes_to_an_empty_one(alloc, &mut pending, row),
+        Err(_) => false,
     }
 }
+
+/// Events of which router 0 has none.
+const OF_NONE: HandOver<'static> = HandOver {
+    by_time: false,
+    before: &TWO_AND_ONE,
+    own: &[Line::Insert((3, 1, 2))],
+    router: 0,
+    left: &[Line::Lists(&[(1, 1, 0), (1, 1, 0), (5, 2, 1)])],
+    given: &[Line::Lists(&[(3, 1, 2)])],
+};
+
+/// Events of which router 1 has one twice.
+const OF_TWO: HandOver<'static> = HandOver {
+    by_time: false,
+    before: &TWO_AND_ONE,
+    own: &[Line::Insert((3, 1, 2))],
+    router: 1,
+    left: &[Line::Lists(&[(5, 2, 1)])],
+    given: &[Line::Lists(&[(1, 1, 0), (1, 1, 0), (3, 1, 2)])],
+};
+
+/// Events of which router 2 has one.
+const OF_ONE: HandOver<'static> = HandOver {
+    by_time: false,
+    before: &TWO_AND_ONE,
+    own: &[Line::Insert((3, 1, 2))],
+    router: 2,
+    left: &[Line::Lists(&[(1, 1, 0), (1, 1, 0)])],
+    given: &[Line::Lists(&[(3, 1, 2), (5, 2, 1)])],
+};
 
 /// Events by time of router 1, one of the tick at hand and a far one among them.
 const BY_TIME: HandOver<'static> = HandOver {
@@ -457,7 +479,7 @@ const BY_TIME: HandOver<'static> = HandOver {
 };
 
 /// Many events of router 1, which stand in buckets, and come out there in order.
-const MANY_GIVEN: HandOver<'static> = HandOver {
+const OF_MANY: HandOver<'static> = HandOver {
     by_time: false,
     before: &[Line::InsertMany],
     own: &[],
@@ -466,9 +488,18 @@ const MANY_GIVEN: HandOver<'static> = HandOver {
     given: &[Line::TakeMany, Line::Empty],
 };
 
+/// What goes to another list, each with a name.
+const GIVEN: [(&str, HandOver<'static>); 5] = [
+    ("router 0", OF_NONE),
+    ("router 1", OF_TWO),
+    ("router 2", OF_ONE),
+    ("by time", BY_TIME),
+    ("many", OF_MANY),
+];
+
 #[test]
-fn what_is_pending_by_time_or_in_buckets_goes_to_another_list(rt: HostRuntime) {
-    for (name, row) in [("by time", BY_TIME), ("many", MANY_GIVEN)] {
-        assert!(rt; goes_to_another(rt.alloc(), row), "{name}");
+fn what_is_pending_for_a_router_goes_to_another_list(rt: HostRuntime) {
+    for (name, row) in &GIVEN {
+        assert!(rt; goes_to_another(rt.alloc(), *row), "{name}");
     }
 }
