@@ -16,31 +16,34 @@ fn asks_for(alloc: Global, words: &[&str], line: CommandLine) -> bool {
     matches!(asked(alloc, words), Ok(found) if found == line)
 }
 
+/// Command lines whose numbers are left out or out of range.
+const REFUSED: [&[&str]; 14] = [
+    &["twarp", "seq"],
+    &["twarp", "seq", "--stop", "0"],
+    &["twarp", "seq", "--stop", "1000000001"],
+    &["twarp", "seq", "--stop", "20", "--every", "0"],
+    &[
+        "twarp", "trail", "--router", "1024", "--stop", "20", "--keep", "0",
+    ],
+    &["twarp", "run", "--workers", "2"],
+    &["twarp", "run", "--stop", "20", "--workers", "0"],
+    &["twarp", "run", "--stop", "20", "--workers", "65"],
+    &["twarp", "run", "--stop", "20", "--batch", "0"],
+    &["twarp", "run", "--stop", "20", "--batch", "4097"],
+    &["twarp", "replay"],
+    &["twarp", "replay", "--stop", "0"],
+    &["twarp", "replay", "--stop", "20", "--workers", "0"],
+    &["twarp", "replay", "--stop", "20", "--workers", "65"],
+];
+/// Whether the words are refused.
+fn is_refused(alloc: Global, words: &[&str]) -> bool {
+    matches!(asked(alloc, words), Err(CommandLineFault::Bad(_)))
+}
+
 #[test]
 fn numbers_left_out_or_out_of_range_are_refused(rt: HostRuntime) {
-    let refused: [&[&str]; 14] = [
-        &["twarp", "seq"],
-        &["twarp", "seq", "--stop", "0"],
-        &["twarp", "seq", "--stop", "1000000001"],
-        &["twarp", "seq", "--stop", "20", "--every", "0"],
-        &[
-            "twarp", "trail", "--router", "1024", "--stop", "20", "--keep", "0",
-        ],
-        &["twarp", "run", "--workers", "2"],
-        &["twarp", "run", "--stop", "20", "--workers", "0"],
-        &["twarp", "run", "--stop", "20", "--workers", "65"],
-        &["twarp", "run", "--stop", "20", "--batch", "0"],
-        &["twarp", "run", "--stop", "20", "--batch", "4097"],
-        &["twarp", "replay"],
-        &["twarp", "replay", "--stop", "0"],
-        &["twarp", "replay", "--stop", "20", "--workers", "0"],
-        &["twarp", "replay", "--stop", "20", "--workers", "65"],
-    ];
-    for words in refused {
-        assert!(rt;
-            matches!(asked(rt.alloc(), words), Err(CommandLineFault::Bad(_))),
-            "{words:?}"
-        );
+    for words in &REFUSED {
+        assert!(rt; is_refused(rt.alloc(), words), "{words:?}");
     }
 }
 

@@ -90,104 +90,32 @@ fn times(sends: &[Event], expected: &[(u64, u64)]) -> bool {
             && event.seq == pair.1)
 }
 
-/// What a test shows of router 1.
+/// What happens to router 1 on its trail, and what it shows then. A pair is the router's path and the messages that it
+/// has sent.
 #[derive(Clone, Copy)]
-enum Row {
-    GoesBack,
-    RankRow,
-    RankExchange,
-    ForbiddenPath,
-    AllowedPath,
-    AnotherSession,
-    FullCounter,
-    ImpossibleCounters,
-}
-
-/// Whether a row holds of router 1 of a case of three routers.
-fn holds(alloc: Global, text: &str, row: Row) -> bool {
-    let Ok(case) = case(alloc, text) else {
-        return false;
-    };
-    let instance = case.instance();
-    instance.nodes() == 3 && holds_in(alloc, instance, row)
-}
-
-fn holds_in(alloc: Global, instance: &Instance, row: Row) -> bool
-    requires { 1 < instance.now.nodes }
-{
-    match row {
-        Row::GoesBack => goes_back_to_each_state(alloc, instance),
-        Row::RankRow => keeps_its_rank_row(alloc, instance),
-        Row::RankExchange => takes_an_exchange_back(alloc, instance),
-        Row::ForbiddenPath => takes_a_bar_back(alloc, instance),
-        Row::AllowedPath => bars_a_path_again(alloc, instance),
-        Row::AnotherSession => drops_another_session(alloc, instance),
-        Row::FullCounter => refuses_a_full_counter(alloc, instance),
-        Row::ImpossibleCounters => refuses_impossible_counters(alloc, instance),
-    }
-}
-
-fn goes_back_to_each_state(alloc: Global, instance: &Instance) -> bool
-    requires { 1 < instance.now.nodes }
-{
-    let Ok(router) = router(alloc, instance, NO_COUNTS) else {
-        return false;
-    };
-    let trail = &mut Trail::over(alloc, router);
-    let sends = &mut SmallVec::new(alloc);
-    step(trail, instance, &update(1, 0, 0, 1, 0)) == Ok((PathNo(3), 2))
-        && step(trail, instance, &update(3, 2, 1, 5, 0)) == Ok((PathNo(2), 4))
-        && step(trail, instance, &update(4, 2, 2, 0, 0)) == Ok((PathNo(3), 6))
-        && back(trail, instance, 3, sends) == (PathNo(3), 6)
-        && sends.is_empty()
-        && trail.len() == 3
-        && back(trail, instance, 1, sends) == (PathNo(3), 2)
-        && times(sends, &[(5, 4), (5, 5), (4, 2), (4, 3)])
-        && trail.len() == 1
-        && back(trail, instance, 0, sends) == (PathNo::EMPTY, 0)
-        && times(sends, &[(5, 4), (5, 5), (4, 2), (4, 3), (2, 0), (2, 1)])
-        && trail.router().counters() == NO_COUNTS
-}
-
-fn keeps_its_rank_row(alloc: Global, instance: &Instance) -> bool
-    requires { 1 < instance.now.nodes }
-{
-    let Ok(router) = router(alloc, instance, NO_COUNTS) else {
-        return false;
-    };
-    let trail = &mut Trail::over(alloc, router);
-    let sends = &mut SmallVec::new(alloc);
-    trail.router().rank_row() == [0, 0].as_slice()
-        && step(trail, instance, &update(1, 0, 0, 1, 0)) == Ok((PathNo(3), 2))
-        && trail.router().rank_row() == [1, 0].as_slice()
-        && step(trail, instance, &update(3, 2, 1, 5, 0)) == Ok((PathNo(2), 4))
-        && trail.router().rank_row() == [1, 2].as_slice()
-        && first_equal(trail.router().rank_row(), 2) == Some(1)
-        && back(trail, instance, 0, sends) == (PathNo::EMPTY, 0)
-        && trail.router().rank_row() == [0, 0].as_slice()
-}
-
-fn takes_an_exchange_back(alloc: Global, instance: &Instance) -> bool
-    requires { 1 < instance.now.nodes }
-{
-    let Ok(router) = router(alloc, instance, NO_COUNTS) else {
-        return false;
-    };
-    let swap = Event {
-        time: 8,
-        dst: 1,
-        src: 1,
-        seq: 1,
-        body: Body::Swap(1, 2),
-    };
-    let trail = &mut Trail::over(alloc, router);
-    let sends = &mut SmallVec::new(alloc);
-    step(trail, instance, &update(1, 0, 0, 1, 0)) == Ok((PathNo(2), 2))
-        && step(trail, instance, &swap) == Ok((PathNo(2), 2))
-        && trail.router().order() == [PathNo(3), PathNo(2)].as_slice()
-        && back(trail, instance, 1, sends) == (PathNo(2), 2)
-        && sends.is_empty()
-        && trail.router().order() == [PathNo(2), PathNo(3)].as_slice()
+enum Line<'a> {
+    /// A path comes: the time, the neighbour, the number of the event and the path.
+    Hears(u64, u32, u64, u32, (u32, u64)),
+    /// A line of the scenario: the time, the number of the event and what happens.
+    Meets(u64, u64, Body, (u32, u64)),
+    /// A line of the scenario that is not for this router.
+    Refuses(u64, u64, Body),
+    /// All events but so many are undone.
+    Undoes(usize, (u32, u64)),
+    /// The trail has so many events.
+    Keeps(usize),
+    /// The times and numbers of all that was sent by what is undone.
+    Unsent(&'a [(u64, u64)]),
+    /// The ranks that its neighbours' paths have.
+    Ranks([u32; 2]),
+    /// The first neighbour whose path has this rank.
+    FirstOfRank(u32, usize),
+    /// Which of its paths are forbidden.
+    Bars([bool; 2]),
+    /// Its paths in their order.
+    Orders([PathNo; 2]),
+    /// Nothing is counted.
+    CountsNothing,
 }
 
 /// What happens to router 1 by a line of the scenario.
@@ -201,29 +129,68 @@ fn scene(time: u64, seq: u64, body: Body) -> Event {
     }
 }
 
-/// Whether a path that is forbidden is given up, and comes back where that is undone.
-fn takes_a_bar_back(alloc: Global, instance: &Instance) -> bool
-    requires { 1 < instance.now.nodes }
+/// Whether a line holds that changes the trail, or is shown by it.
+fn holds_on(
+    trail: &mut Trail<'_>,
+    instance: &Instance,
+    sends: &mut SmallVec<Event, 8>,
+    line: Line<'_>,
+) -> bool
+    requires { instance.now ≡ trail.old.opening.net }
+    ensures { trail.new.opening ≡ trail.old.opening }
 {
-    let Ok(router) = router(alloc, instance, NO_COUNTS) else {
-        return false;
+    let (event, due) = match line {
+        Line::Hears(time, src, seq, path, (rib, sent)) => {
+            (update(time, src, seq, path, 0), Ok((PathNo(rib), sent)))
+        }
+        Line::Meets(time, seq, body, (rib, sent)) => {
+            (scene(time, seq, body), Ok((PathNo(rib), sent)))
+        }
+        Line::Refuses(time, seq, body) => {
+            (scene(time, seq, body), Err(OrMemory::Fault(Fault::Foreign)))
+        }
+        Line::Undoes(len, (rib, sent)) => {
+            return back(trail, instance, len, sends) == (PathNo(rib), sent);
+        }
+        line => return shows(trail, sends, line),
     };
-    let trail = &mut Trail::over(alloc, router);
-    let sends = &mut SmallVec::new(alloc);
-    step(trail, instance, &update(1, 0, 0, 1, 0)) == Ok((PathNo(3), 2))
-        && step(trail, instance, &scene(2, 1, Body::Forbid(2))) == Ok((PathNo::EMPTY, 4))
-        && trail.router().rank_row() == [0, 0].as_slice()
-        && step(trail, instance, &scene(3, 2, Body::Forbid(2))) == Ok((PathNo::EMPTY, 4))
-        && back(trail, instance, 2, sends) == (PathNo::EMPTY, 4)
-        && trail.router().barred() == [false, true].as_slice()
-        && back(trail, instance, 1, sends) == (PathNo(3), 2)
-        && times(sends, &[(3, 2), (3, 3)])
-        && trail.router().barred() == [false, false].as_slice()
-        && trail.router().rank_row() == [1, 0].as_slice()
+    step(trail, instance, &event) == due
 }
 
-/// Whether a path that is allowed again is taken up, and is forbidden where that is undone.
-fn bars_a_path_again(alloc: Global, instance: &Instance) -> bool
+/// Whether the trail shows what a line says, which changes nothing.
+fn shows(trail: &Trail<'_>, sends: &[Event], line: Line<'_>) -> bool {
+    let router = trail.router();
+    match line {
+        Line::Keeps(len) => trail.len() == len,
+        Line::Unsent(expected) => times(sends, expected),
+        Line::Ranks(ranks) => router.rank_row() == ranks.as_slice(),
+        Line::FirstOfRank(rank, place) => first_equal(router.rank_row(), rank) == Some(place),
+        Line::Bars(barred) => router.barred() == barred.as_slice(),
+        Line::Orders(order) => router.order() == order.as_slice(),
+        Line::CountsNothing => router.counters() == NO_COUNTS,
+        _ => false,
+    }
+}
+
+/// Whether the lines hold one after the other.
+fn goes_by(
+    trail: &mut Trail<'_>,
+    instance: &Instance,
+    sends: &mut SmallVec<Event, 8>,
+    lines: &[Line<'_>],
+) -> bool
+    requires { instance.now ≡ trail.old.opening.net }
+{
+    for line in lines {
+        if !holds_on(trail, instance, sends, *line) {
+            return false;
+        }
+    }
+    true
+}
+
+/// Whether the lines hold of a trail that begins with no event.
+fn goes_from_the_start(alloc: Global, instance: &Instance, lines: &[Line<'_>]) -> bool
     requires { 1 < instance.now.nodes }
 {
     let Ok(router) = router(alloc, instance, NO_COUNTS) else {
@@ -231,16 +198,101 @@ fn bars_a_path_again(alloc: Global, instance: &Instance) -> bool
     };
     let trail = &mut Trail::over(alloc, router);
     let sends = &mut SmallVec::new(alloc);
-    step(trail, instance, &scene(0, 1, Body::Forbid(2))) == Ok((PathNo::EMPTY, 0))
-        && step(trail, instance, &update(1, 0, 0, 1, 0)) == Ok((PathNo::EMPTY, 0))
-        && step(trail, instance, &scene(2, 2, Body::Allow(2))) == Ok((PathNo(3), 2))
-        && step(trail, instance, &scene(3, 3, Body::Allow(2))) == Ok((PathNo(3), 2))
-        && back(trail, instance, 2, sends) == (PathNo::EMPTY, 0)
-        && trail.router().barred() == [false, true].as_slice()
-        && trail.router().rank_row() == [0, 0].as_slice()
-        && step(trail, instance, &update(4, 2, 0, 5, 0)) == Ok((PathNo(2), 2))
-        && step(trail, instance, &scene(5, 4, Body::Forbid(3)))
-            == Err(OrMemory::Fault(Fault::Foreign))
+    goes_by(trail, instance, sends, lines)
+}
+
+/// A trail goes back to each earlier state.
+const STATES: [Line<'static>; 12] = [
+    Line::Hears(1, 0, 0, 1, (3, 2)),
+    Line::Hears(3, 2, 1, 5, (2, 4)),
+    Line::Hears(4, 2, 2, 0, (3, 6)),
+    Line::Undoes(3, (3, 6)),
+    Line::Unsent(&[]),
+    Line::Keeps(3),
+    Line::Undoes(1, (3, 2)),
+    Line::Unsent(&[(5, 4), (5, 5), (4, 2), (4, 3)]),
+    Line::Keeps(1),
+    Line::Undoes(0, (0, 0)),
+    Line::Unsent(&[(5, 4), (5, 5), (4, 2), (4, 3), (2, 0), (2, 1)]),
+    Line::CountsNothing,
+];
+
+/// The rank row follows what is heard, and goes back.
+const RANKS: [Line<'static>; 8] = [
+    Line::Ranks([0, 0]),
+    Line::Hears(1, 0, 0, 1, (3, 2)),
+    Line::Ranks([1, 0]),
+    Line::Hears(3, 2, 1, 5, (2, 4)),
+    Line::Ranks([1, 2]),
+    Line::FirstOfRank(2, 1),
+    Line::Undoes(0, (0, 0)),
+    Line::Ranks([0, 0]),
+];
+
+/// An exchange of ranks is taken back.
+const EXCHANGE: [Line<'static>; 6] = [
+    Line::Hears(1, 0, 0, 1, (2, 2)),
+    Line::Meets(8, 1, Body::Swap(1, 2), (2, 2)),
+    Line::Orders([PathNo(3), PathNo(2)]),
+    Line::Undoes(1, (2, 2)),
+    Line::Unsent(&[]),
+    Line::Orders([PathNo(2), PathNo(3)]),
+];
+
+/// A path that is forbidden is given up, and comes back where that is undone.
+const FORBIDDEN: [Line<'static>; 10] = [
+    Line::Hears(1, 0, 0, 1, (3, 2)),
+    Line::Meets(2, 1, Body::Forbid(2), (0, 4)),
+    Line::Ranks([0, 0]),
+    Line::Meets(3, 2, Body::Forbid(2), (0, 4)),
+    Line::Undoes(2, (0, 4)),
+    Line::Bars([false, true]),
+    Line::Undoes(1, (3, 2)),
+    Line::Unsent(&[(3, 2), (3, 3)]),
+    Line::Bars([false, false]),
+    Line::Ranks([1, 0]),
+];
+
+/// A path that is allowed again is taken up, and is forbidden where that is undone.
+const ALLOWED: [Line<'static>; 9] = [
+    Line::Meets(0, 1, Body::Forbid(2), (0, 0)),
+    Line::Hears(1, 0, 0, 1, (0, 0)),
+    Line::Meets(2, 2, Body::Allow(2), (3, 2)),
+    Line::Meets(3, 3, Body::Allow(2), (3, 2)),
+    Line::Undoes(2, (0, 0)),
+    Line::Bars([false, true]),
+    Line::Ranks([0, 0]),
+    Line::Hears(4, 2, 0, 5, (2, 2)),
+    Line::Refuses(5, 4, Body::Forbid(3)),
+];
+
+/// What a test shows of router 1.
+#[derive(Clone, Copy)]
+enum Row<'a> {
+    Trail(&'a [Line<'a>]),
+    AnotherSession,
+    FullCounter,
+    ImpossibleCounters,
+}
+
+/// Whether a row holds of router 1 of a case of three routers.
+fn holds(alloc: Global, text: &str, row: Row<'_>) -> bool {
+    let Ok(case) = case(alloc, text) else {
+        return false;
+    };
+    let instance = case.instance();
+    instance.nodes() == 3 && holds_in(alloc, instance, row)
+}
+
+fn holds_in(alloc: Global, instance: &Instance, row: Row<'_>) -> bool
+    requires { 1 < instance.now.nodes }
+{
+    match row {
+        Row::Trail(lines) => goes_from_the_start(alloc, instance, lines),
+        Row::AnotherSession => drops_another_session(alloc, instance),
+        Row::FullCounter => refuses_a_full_counter(alloc, instance),
+        Row::ImpossibleCounters => refuses_impossible_counters(alloc, instance),
+    }
 }
 
 /// Whether a router has counted one event, which it dropped, and is as it was but for that.
@@ -253,22 +305,29 @@ fn has_dropped_one(router: &Router<'_>) -> bool {
         && matches!(router.rows().first(), Some(row) if row.heard == PathNo::EMPTY)
 }
 
+/// Whether the router drops an update of another session, and is as it was where that is undone.
+fn takes_a_drop_back(alloc: Global, instance: &Instance, router: &mut Router<'_>) -> bool
+    requires { instance.now ≡ router.old.net }
+{
+    let event = update(1, 0, 0, 1, 1);
+    let sends = &mut SmallVec::new(alloc);
+    let Ok(note) = handle(instance, router, &event, sends) else {
+        return false;
+    };
+    has_dropped_one(router)
+        && sends.is_empty()
+        && undo(instance, router, &event, note, sends).is_ok()
+        && router.counters() == NO_COUNTS
+        && sends.is_empty()
+}
+
 fn drops_another_session(alloc: Global, instance: &Instance) -> bool
     requires { 1 < instance.now.nodes }
 {
-    let Ok(mut router) = router(alloc, instance, NO_COUNTS) else {
-        return false;
-    };
-    let event = update(1, 0, 0, 1, 1);
-    let mut sends = SmallVec::new(alloc);
-    let Ok(note) = handle(instance, &mut router, &event, &mut sends) else {
-        return false;
-    };
-    has_dropped_one(&router)
-        && sends.is_empty()
-        && undo(instance, &mut router, &event, note, &mut sends).is_ok()
-        && router.counters() == NO_COUNTS
-        && sends.is_empty()
+    match router(alloc, instance, NO_COUNTS) {
+        Ok(mut router) => takes_a_drop_back(alloc, instance, &mut router),
+        Err(_) => false,
+    }
 }
 
 /// Counts of a router that has so many sends, each of its five events having changed its path.
@@ -281,25 +340,53 @@ fn counts(sent: u64) -> Counters {
     }
 }
 
+/// Whether the router, which has these counts, refuses an update that it would send on, and is as it was.
+fn is_full(alloc: Global, instance: &Instance, router: &mut Router<'_>, full: Counters) -> bool
+    requires { instance.now ≡ router.old.net }
+{
+    let sends = &mut SmallVec::new(alloc);
+    handle(instance, router, &update(1, 0, 0, 1, 0), sends)
+        == Err(OrMemory::Fault(Fault::CounterFull))
+        && router.counters() == full
+        && router.rib() == PathNo::EMPTY
+        && sends.is_empty()
+}
+
+/// Whether the router, which may send twice more, sends an update on to both its neighbours.
+fn sends_the_last(alloc: Global, instance: &Instance, router: &mut Router<'_>) -> bool
+    requires { instance.now ≡ router.old.net }
+{
+    let sends = &mut SmallVec::new(alloc);
+    handle(instance, router, &update(1, 0, 0, 1, 0), sends).is_ok()
+        && times(sends, &[(2, MOST_COUNTED - 2), (2, MOST_COUNTED - 1)])
+        && router.counters().sent == 1 << 48
+}
+
+/// Whether a router that may send once more refuses an update.
+fn refuses_at_the_last_but_one(alloc: Global, instance: &Instance) -> bool
+    requires { 1 < instance.now.nodes }
+{
+    let full = counts(MOST_COUNTED - 1);
+    match router(alloc, instance, full) {
+        Ok(mut router) => is_full(alloc, instance, &mut router, full),
+        Err(_) => false,
+    }
+}
+
+/// Whether a router that may send twice more takes an update.
+fn takes_the_last_two(alloc: Global, instance: &Instance) -> bool
+    requires { 1 < instance.now.nodes }
+{
+    match router(alloc, instance, counts(MOST_COUNTED - 2)) {
+        Ok(mut router) => sends_the_last(alloc, instance, &mut router),
+        Err(_) => false,
+    }
+}
+
 fn refuses_a_full_counter(alloc: Global, instance: &Instance) -> bool
     requires { 1 < instance.now.nodes }
 {
-    let (full, free) = (counts(MOST_COUNTED - 1), counts(MOST_COUNTED - 2));
-    let (Ok(mut refusing), Ok(mut sending)) = (
-        router(alloc, instance, full),
-        router(alloc, instance, free),
-    ) else {
-        return false;
-    };
-    let event = update(1, 0, 0, 1, 0);
-    let sends = &mut SmallVec::new(alloc);
-    handle(instance, &mut refusing, &event, sends) == Err(OrMemory::Fault(Fault::CounterFull))
-        && refusing.counters() == full
-        && refusing.rib() == PathNo::EMPTY
-        && sends.is_empty()
-        && handle(instance, &mut sending, &event, sends).is_ok()
-        && times(sends, &[(2, MOST_COUNTED - 2), (2, MOST_COUNTED - 1)])
-        && sending.counters().sent == 1 << 48
+    refuses_at_the_last_but_one(alloc, instance) && takes_the_last_two(alloc, instance)
 }
 
 fn refuses_impossible_counters(alloc: Global, instance: &Instance) -> bool
@@ -316,42 +403,21 @@ fn refuses_impossible_counters(alloc: Global, instance: &Instance) -> bool
     refused && router(alloc, instance, counters).is_ok()
 }
 
-#[test]
-fn a_trail_goes_back_to_each_earlier_state(rt: HostRuntime) {
-    assert!(rt; holds(rt.alloc(), DISAGREE, Row::GoesBack));
-}
+/// What is shown of router 1, each with a name and the text of the case.
+const ROWS: [(&str, &str, Row<'static>); 8] = [
+    ("each state", DISAGREE, Row::Trail(&STATES)),
+    ("the rank row", DISAGREE, Row::Trail(&RANKS)),
+    ("an exchange", RANK_EXCHANGE, Row::Trail(&EXCHANGE)),
+    ("a forbidden path", DISAGREE, Row::Trail(&FORBIDDEN)),
+    ("an allowed path", DISAGREE, Row::Trail(&ALLOWED)),
+    ("another session", DISAGREE, Row::AnotherSession),
+    ("a full counter", DISAGREE, Row::FullCounter),
+    ("impossible counters", DISAGREE, Row::ImpossibleCounters),
+];
 
 #[test]
-fn the_rank_row_follows_what_is_heard_and_goes_back(rt: HostRuntime) {
-    assert!(rt; holds(rt.alloc(), DISAGREE, Row::RankRow));
-}
-
-#[test]
-fn an_exchange_of_ranks_is_taken_back(rt: HostRuntime) {
-    assert!(rt; holds(rt.alloc(), RANK_EXCHANGE, Row::RankExchange));
-}
-
-#[test]
-fn a_path_that_was_forbidden_comes_back(rt: HostRuntime) {
-    assert!(rt; holds(rt.alloc(), DISAGREE, Row::ForbiddenPath));
-}
-
-#[test]
-fn a_path_that_was_allowed_is_forbidden_again(rt: HostRuntime) {
-    assert!(rt; holds(rt.alloc(), DISAGREE, Row::AllowedPath));
-}
-
-#[test]
-fn an_update_of_another_session_is_dropped(rt: HostRuntime) {
-    assert!(rt; holds(rt.alloc(), DISAGREE, Row::AnotherSession));
-}
-
-#[test]
-fn a_full_counter_is_refused(rt: HostRuntime) {
-    assert!(rt; holds(rt.alloc(), DISAGREE, Row::FullCounter));
-}
-
-#[test]
-fn counters_that_no_router_has_are_refused(rt: HostRuntime) {
-    assert!(rt; holds(rt.alloc(), DISAGREE, Row::ImpossibleCounters));
+fn router_1_goes_on_and_back(rt: HostRuntime) {
+    for (name, text, row) in &ROWS {
+        assert!(rt; holds(rt.alloc(), text, *row), "{name}");
+    }
 }

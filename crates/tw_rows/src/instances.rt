@@ -17,28 +17,45 @@ fn link(first: u32, second: u32, delay: u64, back: u64) -> Link {
     }
 }
 
+/// Adds the path of these nodes, the first of them its router.
+fn add_path(
+    alloc: Global,
+    paths: &mut Vec<PermittedPath>,
+    owner: u32,
+    nodes: &[u32],
+) -> Result<(), AllocError> {
+    let nodes = Vec::from_slice(alloc, nodes)?;
+    paths.push(PermittedPath { owner, nodes })?;
+    Ok(())
+}
+
 /// The permitted paths of DISAGREE.
 fn paths(alloc: Global) -> Result<Vec<PermittedPath>, AllocError> {
-    let nodes: [&[u32]; 4] = [&[1, 2, 0], &[1, 0], &[2, 1, 0], &[2, 0]];
+    let rows: [(u32, &[u32]); 4] = [(1, &[1, 2, 0]), (1, &[1, 0]), (2, &[2, 1, 0]), (2, &[2, 0])];
     let mut paths = Vec::new(alloc);
-    for nodes in nodes {
-        paths.push(PermittedPath {
-            owner: nodes[0],
-            nodes: Vec::from_slice(alloc, nodes)?,
-        })?;
+    for (owner, nodes) in rows {
+        add_path(alloc, &mut paths, owner, nodes)?;
     }
     Ok(paths)
 }
 
-/// The links of DISAGREE.
-fn links() -> [Link; 3] {
-    [link(0, 1, 1, 1), link(0, 2, 5, 5), link(1, 2, 1, 1)]
+/// Two routers with the delay from the first to the second and the delay back.
+type Ends = (u32, u32, u64, u64);
+
+/// The links between these routers.
+fn links_of(alloc: Global, rows: &[Ends]) -> Result<Vec<Link>, AllocError> {
+    let mut links = Vec::new(alloc);
+    for row in rows {
+        links.push(link(row.0, row.1, row.2, row.3))?;
+    }
+    Ok(links)
 }
 
+/// The links of DISAGREE.
+const LINKS: [Ends; 3] = [(0, 1, 1, 1), (0, 2, 5, 5), (1, 2, 1, 1)];
+
 /// The links of DISAGREE, of which the last has another delay back.
-fn links_with_two_delays() -> [Link; 3] {
-    [link(0, 1, 1, 1), link(0, 2, 5, 5), link(1, 2, 1, 2)]
-}
+const TWO_DELAYS: [Ends; 3] = [(0, 1, 1, 1), (0, 2, 5, 5), (1, 2, 1, 2)];
 
 /// Router 2 may not use its best path from 9 on.
 const FORBIDDEN: Scene = Scene::Forbid {
@@ -58,10 +75,10 @@ const ALLOWED: Scene = Scene::Allow {
 fn built(
     alloc: Global,
     version: u32,
-    links: &[Link],
+    links: &[Ends],
     scenes: &[Scene],
 ) -> Result<Case, OrMemory<At>> {
-    let links = Vec::from_slice(alloc, links)?;
+    let links = links_of(alloc, links)?;
     let scenes = Vec::from_slice(alloc, scenes)?;
     let instance = Instance::build(alloc, 3, links, paths(alloc)?).map_err(OrMemory::Fault)?;
     Case::build(alloc, version, instance, scenes).map_err(OrMemory::Fault)
@@ -71,7 +88,7 @@ fn built(
 fn build(
     alloc: Global,
     version: u32,
-    links: &[Link],
+    links: &[Ends],
     scenes: &[Scene],
 ) -> Result<Case, OrMemory<At>> {
     match built(alloc, version, links, scenes) {
@@ -102,11 +119,8 @@ fn is_written_as(alloc: Global, case: &Case, version: u32, text: &str) -> bool {
         && text_of(alloc, case).is_ok_and(|written| written.as_slice() == text.as_bytes())
 }
 
-/// Whether DISAGREE built from items is written as its text, and begins with the origin's start alone.
-fn is_that_of_the_text(alloc: Global) -> bool {
-    let Ok(case) = build(alloc, 1, &links(), &[]) else {
-        return false;
-    };
+/// Whether DISAGREE is written as its text, and begins with the origin's start alone.
+fn is_that_of_the_text(alloc: Global, case: &Case) -> bool {
     let start = Event {
         time: 0,
         dst: 0,
@@ -114,14 +128,9 @@ fn is_that_of_the_text(alloc: Global) -> bool {
         seq: 0,
         body: Body::Start,
     };
-    is_written_as(alloc, &case, 1, DISAGREE)
+    is_written_as(alloc, case, 1, DISAGREE)
         && case.opening(0) == Some(start)
         && case.opening(1) == None
-}
-
-#[test]
-fn a_case_from_items_is_that_of_the_text(rt: HostRuntime) {
-    assert!(rt; is_that_of_the_text(rt.alloc()));
 }
 
 /// Whether routers 1 and 2 each have the delay of what they send one another.
@@ -133,44 +142,47 @@ fn has_a_delay_for_each_direction(instance: &Instance) -> bool {
 }
 
 /// Whether a path that is forbidden and allowed, and two delays of a link, are written in version 2.
-fn is_that_of_the_text_in_version_2(alloc: Global) -> bool {
-    let Ok(case) = build(alloc, 2, &links_with_two_delays(), &[FORBIDDEN, ALLOWED]) else {
-        return false;
-    };
-    is_written_as(alloc, &case, 2, FORBIDDEN_PATH)
-        && has_a_delay_for_each_direction(case.instance())
+fn is_that_of_the_text_in_version_2(alloc: Global, case: &Case) -> bool {
+    is_written_as(alloc, case, 2, FORBIDDEN_PATH) && has_a_delay_for_each_direction(case.instance())
 }
 
-#[test]
-fn a_case_of_version_2_is_that_of_its_text(rt: HostRuntime) {
-    assert!(rt; is_that_of_the_text_in_version_2(rt.alloc()));
+/// The case of version 2, upgraded once more where memory was refused.
+fn upgraded(alloc: Global, given: &Case) -> Result<Case, AllocError> {
+    match upgrade(alloc, given) {
+        Err(_) => upgrade(alloc, given),
+        done => done,
+    }
 }
 
-/// Whether the case of a text is upgraded to one of version 2 that is written as this one.
-fn is_upgraded_to(alloc: Global, text: &str, due: &str) -> bool {
-    let Ok(given) = case(alloc, text) else {
-        return false;
-    };
-    match upgrade(alloc, &given).or_else(|_| upgrade(alloc, &given)) {
+/// Whether a case is upgraded to one of version 2 that is written as this one.
+fn upgrades_to(alloc: Global, given: &Case, due: &str) -> bool {
+    match upgraded(alloc, given) {
         Ok(upgraded) => is_written_as(alloc, &upgraded, 2, due),
         Err(_) => false,
     }
 }
 
-#[test]
-fn a_case_with_failures_is_upgraded(rt: HostRuntime) {
-    assert!(rt;
-        is_upgraded_to(
-            rt.alloc(),
-            FAILURE_AND_REPAIR,
-            FAILURE_AND_REPAIR_IN_VERSION_2
-        )
-    );
+/// The same of the case of a text.
+fn is_upgraded_to(alloc: Global, text: &str, due: &str) -> bool {
+    match case(alloc, text) {
+        Ok(given) => upgrades_to(alloc, &given, due),
+        Err(_) => false,
+    }
 }
 
 #[test]
-fn a_case_of_the_latest_version_is_upgraded_to_itself(rt: HostRuntime) {
-    assert!(rt; is_upgraded_to(rt.alloc(), FORBIDDEN_PATH, FORBIDDEN_PATH));
+fn a_case_is_upgraded(rt: HostRuntime) {
+    let rows = [
+        (
+            "with failures",
+            FAILURE_AND_REPAIR,
+            FAILURE_AND_REPAIR_IN_VERSION_2,
+        ),
+        ("of the latest version", FORBIDDEN_PATH, FORBIDDEN_PATH),
+    ];
+    for (name, text, due) in rows {
+        assert!(rt; is_upgraded_to(rt.alloc(), text, due), "{name}");
+    }
 }
 
 /// Whether the paths of DISAGREE have the numbers that their nodes give them.
@@ -195,109 +207,137 @@ fn extends_the_origin(instance: &Instance) -> bool {
         && instance.path(direct) == [0].as_slice()
 }
 
-/// Whether DISAGREE built from items finds its paths.
-fn finds_its_paths(alloc: Global) -> bool {
-    let Ok(case) = build(alloc, 1, &links(), &[]) else {
-        return false;
-    };
-    let instance = case.instance();
+/// Whether DISAGREE finds its paths by their nodes and by what they extend.
+fn finds_its_paths(instance: &Instance) -> bool {
     instance.nodes() == 3
         && numbers_its_paths(instance)
         && instance.slot(2, 2) == None
         && extends_the_origin(instance)
 }
 
-#[test]
-fn paths_are_found_by_their_nodes_and_by_what_they_extend(rt: HostRuntime) {
-    assert!(rt; finds_its_paths(rt.alloc()));
-}
-
-/// Where and why the items are refused in this version.
-fn refused(alloc: Global, version: u32, links: &[Link], scenes: &[Scene]) -> Option<At> {
-    match build(alloc, version, links, scenes) {
-        Err(OrMemory::Fault(at)) => Some(at),
-        _ => None,
+/// Whether DISAGREE built from items is that of its text, and finds its paths.
+fn is_disagree(alloc: Global) -> bool {
+    match build(alloc, 1, &LINKS, &[]) {
+        Ok(case) => is_that_of_the_text(alloc, &case) && finds_its_paths(case.instance()),
+        Err(_) => false,
     }
 }
 
-/// A rule that an item breaks.
-fn broken(item: Item, rule: Rule) -> Option<At> {
-    Some(At {
-        item,
-        fault: OrMemory::Fault(rule),
-    })
+#[test]
+fn a_case_from_items_is_that_of_the_text(rt: HostRuntime) {
+    assert!(rt; is_disagree(rt.alloc()));
 }
 
-/// Whether a link of a router to itself, a path without a link and an exchange of no such place are named.
-fn names_the_first_bad_item(alloc: Global) -> bool {
-    let looped = [link(0, 1, 1, 1), link(1, 1, 0, 0)];
-    let two = [link(0, 1, 1, 1), link(1, 2, 1, 1)];
-    let failure = Scene::Fail {
-        time: 4,
-        first: 0,
-        second: 2,
-    };
-    let exchange = Scene::Swap {
-        time: 4,
-        node: 2,
-        first: 1,
-        second: 3,
-    };
-    refused(alloc, 1, &looped, &[]) == broken(Item::Link(2), Rule::SelfLink)
-        && refused(alloc, 1, &two, &[]) == broken(Item::Path(1), Rule::PathNoLink)
-        && refused(alloc, 1, &links(), &[failure, exchange])
-            == broken(Item::Scene(2), Rule::NoSuchPlace)
+/// Whether a case of version 2 built from items is that of its text.
+fn is_forbidden_path(alloc: Global) -> bool {
+    match build(alloc, 2, &TWO_DELAYS, &[FORBIDDEN, ALLOWED]) {
+        Ok(case) => is_that_of_the_text_in_version_2(alloc, &case),
+        Err(_) => false,
+    }
 }
 
 #[test]
-fn the_first_bad_item_is_named(rt: HostRuntime) {
-    assert!(rt; names_the_first_bad_item(rt.alloc()));
+fn a_case_of_version_2_is_that_of_its_text(rt: HostRuntime) {
+    assert!(rt; is_forbidden_path(rt.alloc()));
 }
 
-/// Whether a delay back of 0, and a path forbidden at a place that is not there or at the origin, are named.
-fn names_what_version_2_brings(alloc: Global) -> bool {
-    let still = [link(0, 1, 1, 1), link(0, 2, 5, 0)];
-    let beyond = Scene::Forbid {
-        time: 9,
-        node: 2,
-        line: 3,
+/// The link between the origin and router 2 fails.
+const FAILURE: Scene = Scene::Fail {
+    time: 4,
+    first: 0,
+    second: 2,
+};
+
+/// An exchange with a place that router 2 lacks.
+const EXCHANGE: Scene = Scene::Swap {
+    time: 4,
+    node: 2,
+    first: 1,
+    second: 3,
+};
+
+/// A path is forbidden at a place that router 2 lacks.
+const BEYOND: Scene = Scene::Forbid {
+    time: 9,
+    node: 2,
+    line: 3,
+};
+
+/// A path of the origin's is allowed.
+const AT_ORIGIN: Scene = Scene::Allow {
+    time: 9,
+    node: 0,
+    line: 1,
+};
+
+/// Whether the items are refused in this version, for this rule and at this item.
+fn is_refused(
+    alloc: Global,
+    version: u32,
+    links: &[Ends],
+    scenes: &[Scene],
+    broken: (Item, Rule),
+) -> bool {
+    let at = At {
+        item: broken.0,
+        fault: OrMemory::Fault(broken.1),
     };
-    let at_origin = Scene::Allow {
-        time: 9,
-        node: 0,
-        line: 1,
-    };
-    refused(alloc, 2, &still, &[]) == broken(Item::Link(2), Rule::Delay)
-        && refused(alloc, 2, &links(), &[FORBIDDEN, beyond])
-            == broken(Item::Scene(2), Rule::NoSuchPlace)
-        && refused(alloc, 2, &links(), &[at_origin]) == broken(Item::Scene(1), Rule::NoSuchPlace)
+    match build(alloc, version, links, scenes) {
+        Err(OrMemory::Fault(found)) => found == at,
+        _ => false,
+    }
 }
+
+/// Items that are refused: the version, the links, the scenario, and the item and the rule that it breaks. The first
+/// bad item is named; version 2 brings delays back and bars; the version is judged last.
+const REFUSED: [(u32, &[Ends], &[Scene], (Item, Rule)); 12] = [
+    (
+        1,
+        &[(0, 1, 1, 1), (1, 1, 0, 0)],
+        &[],
+        (Item::Link(2), Rule::SelfLink),
+    ),
+    (
+        1,
+        &[(0, 1, 1, 1), (1, 2, 1, 1)],
+        &[],
+        (Item::Path(1), Rule::PathNoLink),
+    ),
+    (
+        1,
+        &LINKS,
+        &[FAILURE, EXCHANGE],
+        (Item::Scene(2), Rule::NoSuchPlace),
+    ),
+    (
+        2,
+        &[(0, 1, 1, 1), (0, 2, 5, 0)],
+        &[],
+        (Item::Link(2), Rule::Delay),
+    ),
+    (
+        2,
+        &LINKS,
+        &[FORBIDDEN, BEYOND],
+        (Item::Scene(2), Rule::NoSuchPlace),
+    ),
+    (2, &LINKS, &[AT_ORIGIN], (Item::Scene(1), Rule::NoSuchPlace)),
+    (3, &LINKS, &[], (Item::Whole, Rule::Version)),
+    (0, &LINKS, &[], (Item::Whole, Rule::Version)),
+    (1, &LINKS, &[FORBIDDEN], (Item::Whole, Rule::Version)),
+    (1, &LINKS, &[ALLOWED], (Item::Whole, Rule::Version)),
+    (1, &TWO_DELAYS, &[], (Item::Whole, Rule::Version)),
+    (3, &LINKS, &[EXCHANGE], (Item::Scene(1), Rule::NoSuchPlace)),
+];
 
 #[test]
-fn what_version_2_brings_is_judged(rt: HostRuntime) {
-    assert!(rt; names_what_version_2_brings(rt.alloc()));
-}
-
-/// Whether a version that is not there is named, and version 1 where it can't say the case; any item first.
-fn judges_the_version_last(alloc: Global) -> bool {
-    let exchange = Scene::Swap {
-        time: 4,
-        node: 2,
-        first: 1,
-        second: 3,
-    };
-    let whole = broken(Item::Whole, Rule::Version);
-    refused(alloc, 3, &links(), &[]) == whole
-        && refused(alloc, 0, &links(), &[]) == whole
-        && refused(alloc, 1, &links(), &[FORBIDDEN]) == whole
-        && refused(alloc, 1, &links(), &[ALLOWED]) == whole
-        && refused(alloc, 1, &links_with_two_delays(), &[]) == whole
-        && refused(alloc, 3, &links(), &[exchange]) == broken(Item::Scene(1), Rule::NoSuchPlace)
-}
-
-#[test]
-fn the_version_is_judged_last(rt: HostRuntime) {
-    assert!(rt; judges_the_version_last(rt.alloc()));
+fn what_is_wrong_is_named(rt: HostRuntime) {
+    for (version, links, scenes, broken) in &REFUSED {
+        assert!(rt;
+            is_refused(rt.alloc(), *version, links, scenes, *broken),
+            "version {version}: {broken:?}"
+        );
+    }
 }
 
 #[test]

@@ -42,12 +42,14 @@ fn keep_by_time(pending: &mut Pending) -> Result<(), AllocError>
     }
 }
 
-/// Pending events of three routers, none yet, which are kept by time.
-fn nothing_by_time(alloc: Global) -> Result<Pending, AllocError>
+/// Pending events of three routers, none yet, which may be kept by time.
+fn nothing(alloc: Global, by_time: bool) -> Result<Pending, AllocError>
     ensures { IfOk result (λ pending. pending.routers ≡ 3) }
 {
     let mut pending = nothing_pending(alloc)?;
-    keep_by_time(&mut pending)?;
+    if by_time {
+        keep_by_time(&mut pending)?;
+    }
     Ok(pending)
 }
 
@@ -60,40 +62,6 @@ fn insert(pending: &mut Pending, event: Event) -> Result<(), AllocError>
         Err(_) => pending.insert(event),
         done => done,
     }
-}
-
-/// Whether events are counted as often as they were inserted, and taken in their order.
-fn counts_each(alloc: Global) -> bool {
-    let Ok(mut pending) = nothing_pending(alloc) else {
-        return false;
-    };
-    let (first, second) = (offer(1, 1, 0), offer(5, 2, 1));
-    insert(&mut pending, first).is_ok()
-        && insert(&mut pending, first).is_ok()
-        && insert(&mut pending, second).is_ok()
-        && holds_two_and_one(&pending, first, second)
-        && pending.remove_one(&first)
-        && pending.remove_one(&first)
-        && !pending.remove_one(&first)
-        && pending.take_least() == Some(second)
-        && pending.is_empty()
-}
-
-/// Whether one event of router 1 is pending twice and a later one of router 2 once.
-fn holds_two_and_one(pending: &Pending, first: Event, second: Event) -> bool
-    requires { pending.now.routers ≡ 3 }
-{
-    pending.count(&first) == 2
-        && pending.len() == 3
-        && pending.least_time() == Some(1)
-        && pending.least() == Some(first)
-        && pending.least_at(2) == Some(second)
-        && pending.least_at(0) == None
-}
-
-#[test]
-fn an_event_is_counted_as_often_as_it_was_inserted(rt: HostRuntime) {
-    assert!(rt; counts_each(rt.alloc()));
 }
 
 /// Whether the event is the least and before the limit, and is taken out.
@@ -114,67 +82,6 @@ fn has_none_before(pending: &mut Pending, limit: u64) -> bool
     !pending.copy_least_before(limit, &mut least) && least == Event::default()
 }
 
-/// Inserts events of near ticks and of a far one.
-fn insert_near_and_far(pending: &mut Pending) -> Result<(), AllocError>
-    requires { pending.old.routers ≡ 3 }
-    ensures { pending.new.routers ≡ 3 }
-{
-    insert(pending, offer(5, 1, 0))?;
-    insert(pending, offer(100, 1, 3))?;
-    insert(pending, offer(5, 2, 1))?;
-    insert(pending, offer(3, 1, 2))
-}
-
-/// Whether events by time come before their limits alone, a late one between two of the tick at hand.
-fn comes_by_time(alloc: Global) -> bool {
-    let Ok(mut pending) = nothing_by_time(alloc) else {
-        return false;
-    };
-    insert_near_and_far(&mut pending).is_ok()
-        && has_none_before(&mut pending, 3)
-        && comes_before(&mut pending, 4, offer(3, 1, 2))
-        && comes_before(&mut pending, 6, offer(5, 1, 0))
-        && insert(&mut pending, offer(4, 2, 4)).is_ok()
-        && comes_before(&mut pending, 6, offer(4, 2, 4))
-        && leaves_near_and_far(&mut pending)
-}
-
-/// Whether the second event of the tick at hand is removed and the far one comes.
-fn leaves_near_and_far(pending: &mut Pending) -> bool {
-    pending.least_at(2) == Some(offer(5, 2, 1))
-        && pending.remove_one(&offer(5, 2, 1))
-        && !pending.remove_one(&offer(5, 2, 1))
-        && has_none_before(pending, 100)
-        && pending.least_time() == Some(100)
-        && comes_before(pending, 101, offer(100, 1, 3))
-        && pending.is_empty()
-}
-
-#[test]
-fn events_by_time_come_before_their_limits(rt: HostRuntime) {
-    assert!(rt; comes_by_time(rt.alloc()));
-}
-
-/// Whether events of a bucket and of the tick at hand are removed, and one that was removed is there no more.
-fn goes_by_time(alloc: Global) -> bool {
-    let Ok(mut pending) = nothing_by_time(alloc) else {
-        return false;
-    };
-    insert_near_and_far(&mut pending).is_ok()
-        && pending.remove_one(&offer(5, 1, 0))
-        && !pending.remove_one(&offer(5, 1, 0))
-        && pending.count(&offer(5, 2, 1)) == 1
-        && pending.count(&offer(5, 1, 0)) == 0
-        && comes_before(&mut pending, 10, offer(3, 1, 2))
-        && has_none_before(&mut pending, 5)
-        && lists(&pending, &[offer(5, 2, 1), offer(100, 1, 3)])
-}
-
-#[test]
-fn events_by_time_are_removed(rt: HostRuntime) {
-    assert!(rt; goes_by_time(rt.alloc()));
-}
-
 /// How many events of one router make its queue take to buckets, and more.
 const MANY: u64 = 300;
 
@@ -190,7 +97,10 @@ fn insert_many(pending: &mut Pending) -> Result<(), AllocError>
 }
 
 /// Takes out as many events as were inserted, and tells whether each was the least, in the order of their numbers.
-fn takes_many(pending: &mut Pending) -> bool {
+fn takes_many(pending: &mut Pending) -> bool
+    requires { pending.old.routers ≡ 3 }
+    ensures { pending.new.routers ≡ 3 }
+{
     for seq in 0..MANY {
         if pending.take_least() != Some(offer(0, 1, seq)) {
             return false;
@@ -199,26 +109,198 @@ fn takes_many(pending: &mut Pending) -> bool {
     true
 }
 
-/// Whether two events of one bucket, a whole turn of the buckets apart, come out one after the other.
-fn shares_a_bucket(alloc: Global) -> bool {
-    let Ok(mut pending) = nothing_pending(alloc) else {
-        return false;
-    };
-    let (first, second) = (offer(5, 1, 50), offer(1029, 1, 51));
-    insert_many(&mut pending).is_ok()
-        && insert(&mut pending, second).is_ok()
-        && insert(&mut pending, first).is_ok()
-        && takes_many(&mut pending)
-        && pending.least_time() == Some(5)
-        && pending.remove_one(&first)
-        && pending.least_time() == Some(1029)
-        && pending.remove_one(&second)
-        && pending.is_empty()
+/// The time, the router and the number of an event that the origin sends.
+type Offer = (u64, u32, u64);
+
+/// What is done with pending events, or what they are. An event is given as an offer of the origin.
+#[derive(Clone, Copy)]
+enum Line<'a> {
+    /// The event is inserted.
+    Insert(Offer),
+    /// Many events of router 1 are inserted.
+    InsertMany,
+    /// The event is removed, and whether it was there.
+    Remove(Offer, bool),
+    /// The event is the least, and taken.
+    Take(Offer),
+    /// As many events come in order as many are.
+    TakeMany,
+    /// The event is the least and before the limit, and is taken out.
+    Before(u64, Offer),
+    /// No event is pending before the limit.
+    NoneBefore(u64),
+    /// The event is pending so often.
+    Counts(Offer, usize),
+    /// So many events are pending.
+    Length(usize),
+    /// None is pending.
+    Empty,
+    /// The time of the least event.
+    LeastTime(u64),
+    /// The least event.
+    Least(Offer),
+    /// The least event of a router.
+    LeastAt(u32, Option<Offer>),
+    /// These events are pending.
+    Lists(&'a [Offer]),
 }
 
+/// The event of an offer.
+fn event_of(offered: Offer) -> Event
+    ensures { result.dst ≡ offered.1 }
+{
+    offer(offered.0, offered.1, offered.2)
+}
+
+/// Whether a line holds that changes what is pending, or is shown by it.
+fn holds_on(pending: &mut Pending, line: Line<'_>) -> bool
+    requires { pending.old.routers ≡ 3 }
+    ensures { pending.new.routers ≡ 3 }
+{
+    match line {
+        Line::Insert(offered) => offered.1 < 3 && insert(pending, event_of(offered)).is_ok(),
+        Line::InsertMany => insert_many(pending).is_ok(),
+        Line::Remove(offered, there) => pending.remove_one(&event_of(offered)) == there,
+        Line::Take(offered) => pending.take_least() == Some(event_of(offered)),
+        Line::TakeMany => takes_many(pending),
+        Line::Before(limit, offered) => comes_before(pending, limit, event_of(offered)),
+        Line::NoneBefore(limit) => has_none_before(pending, limit),
+        line => shows(pending, line),
+    }
+}
+
+/// Whether what is pending is as a line says, which changes nothing.
+fn shows(pending: &Pending, line: Line<'_>) -> bool {
+    match line {
+        Line::Counts(offered, count) => pending.count(&event_of(offered)) == count,
+        Line::Length(length) => pending.len() == length,
+        Line::Empty => pending.is_empty(),
+        Line::LeastTime(time) => pending.least_time() == Some(time),
+        Line::Least(offered) => pending.least() == Some(event_of(offered)),
+        Line::LeastAt(router, offered) => pending.least_at(router) == offered.map(event_of),
+        Line::Lists(offers) => lists(pending, offers),
+        _ => false,
+    }
+}
+
+/// Whether the lines hold one after the other.
+fn goes_by(pending: &mut Pending, lines: &[Line<'_>]) -> bool
+    requires { pending.old.routers ≡ 3 }
+    ensures { pending.new.routers ≡ 3 }
+{
+    for line in lines {
+        if !holds_on(pending, *line) {
+            return false;
+        }
+    }
+    true
+}
+
+/// Whether these are the events of the offers.
+fn are_these(events: &[Event], offers: &[Offer]) -> bool {
+    events.len() == offers.len()
+        && events
+            .iter()
+            .zip(offers)
+            .all(|(event, offered)| *event == event_of(*offered))
+}
+
+/// Whether these events are pending, listed once more where memory was refused.
+fn lists(pending: &Pending, offers: &[Offer]) -> bool {
+    let list = match pending.list() {
+        Err(_) => pending.list(),
+        done => done,
+    };
+    pending.len() == offers.len() && list.is_ok_and(|list| are_these(&list, offers))
+}
+
+/// An event is counted as often as it was inserted, and events are taken in their order.
+const COUNTED: [Line<'static>; 14] = [
+    Line::Insert((1, 1, 0)),
+    Line::Insert((1, 1, 0)),
+    Line::Insert((5, 2, 1)),
+    Line::Counts((1, 1, 0), 2),
+    Line::Length(3),
+    Line::LeastTime(1),
+    Line::Least((1, 1, 0)),
+    Line::LeastAt(2, Some((5, 2, 1))),
+    Line::LeastAt(0, None),
+    Line::Remove((1, 1, 0), true),
+    Line::Remove((1, 1, 0), true),
+    Line::Remove((1, 1, 0), false),
+    Line::Take((5, 2, 1)),
+    Line::Empty,
+];
+
+/// Events of near ticks and a far one.
+const NEAR_AND_FAR: [Line<'static>; 4] = [
+    Line::Insert((5, 1, 0)),
+    Line::Insert((100, 1, 3)),
+    Line::Insert((5, 2, 1)),
+    Line::Insert((3, 1, 2)),
+];
+
+/// After these, events by time come before their limits alone, a late one between two of the tick at hand.
+const LIMITED: [Line<'static>; 12] = [
+    Line::NoneBefore(3),
+    Line::Before(4, (3, 1, 2)),
+    Line::Before(6, (5, 1, 0)),
+    Line::Insert((4, 2, 4)),
+    Line::Before(6, (4, 2, 4)),
+    Line::LeastAt(2, Some((5, 2, 1))),
+    Line::Remove((5, 2, 1), true),
+    Line::Remove((5, 2, 1), false),
+    Line::NoneBefore(100),
+    Line::LeastTime(100),
+    Line::Before(101, (100, 1, 3)),
+    Line::Empty,
+];
+
+/// After these, events of a bucket and of the tick at hand are removed, and one that was removed is there no more.
+const REMOVED: [Line<'static>; 7] = [
+    Line::Remove((5, 1, 0), true),
+    Line::Remove((5, 1, 0), false),
+    Line::Counts((5, 2, 1), 1),
+    Line::Counts((5, 1, 0), 0),
+    Line::Before(10, (3, 1, 2)),
+    Line::NoneBefore(5),
+    Line::Lists(&[(5, 2, 1), (100, 1, 3)]),
+];
+
+/// Two events of one bucket, a whole turn of the buckets apart, come out one after the other.
+const APART: [Line<'static>; 9] = [
+    Line::InsertMany,
+    Line::Insert((1029, 1, 51)),
+    Line::Insert((5, 1, 50)),
+    Line::TakeMany,
+    Line::LeastTime(5),
+    Line::Remove((5, 1, 50), true),
+    Line::LeastTime(1029),
+    Line::Remove((1029, 1, 51), true),
+    Line::Empty,
+];
+
+/// Whether the lines hold of what is pending after these.
+fn goes_on(alloc: Global, by_time: bool, before: &[Line<'_>], lines: &[Line<'_>]) -> bool {
+    match nothing(alloc, by_time) {
+        Ok(mut pending) => goes_by(&mut pending, before) && goes_by(&mut pending, lines),
+        Err(_) => false,
+    }
+}
+
+/// What holds of pending events: a name, whether they are kept by time, what was done before, and what holds then.
+const ROWS: [(&str, bool, &[Line<'static>], &[Line<'static>]); 4] = [
+    ("counted", false, &[], &COUNTED),
+    ("limited", true, &NEAR_AND_FAR, &LIMITED),
+    ("removed", true, &NEAR_AND_FAR, &REMOVED),
+    ("a turn apart", false, &[], &APART),
+];
+
 #[test]
-fn events_a_turn_of_buckets_apart_come_one_after_the_other(rt: HostRuntime) {
-    assert!(rt; shares_a_bucket(rt.alloc()));
+fn events_are_pending_until_they_are_taken(rt: HostRuntime) {
+    for (name, by_time, before, lines) in &ROWS {
+        assert!(rt; goes_on(rt.alloc(), *by_time, before, lines), "{name}");
+    }
 }
 
 /// Puts the event at the end of the list, once more where memory was refused.
@@ -243,17 +325,17 @@ fn scatter(pending: &mut Pending, events: &mut Vec<Event>) -> Result<(), AllocEr
 }
 
 /// Whether many events of a router come out as from one list in order, every third of them removed first.
-fn comes_as_from_a_list(alloc: Global, mut pending: Pending) -> bool
-    requires { pending.routers ≡ 3 }
+fn comes_as_from_a_list(alloc: Global, pending: &mut Pending) -> bool
+    requires { pending.old.routers ≡ 3 }
 {
     let mut events = Vec::new(alloc);
-    if scatter(&mut pending, &mut events).is_err() {
-        return false;
-    }
+    scatter(pending, &mut events).is_ok() && comes_in_order(pending, &mut events)
+}
+
+/// Whether the events that are pending come out in order, every third of them removed first.
+fn comes_in_order(pending: &mut Pending, events: &mut [Event]) -> bool {
     events.sort_unstable();
-    removes_thirds(&mut pending, &events)
-        && takes_others(&mut pending, &events)
-        && pending.is_empty()
+    removes_thirds(pending, events) && takes_others(pending, events) && pending.is_empty()
 }
 
 /// Takes out the events whose numbers 3 divides, and tells whether each was there.
@@ -276,34 +358,26 @@ fn takes_others(pending: &mut Pending, events: &[Event]) -> bool {
     true
 }
 
+/// Whether many events of a router come out as from a list of them.
+fn many_come(alloc: Global, by_time: bool) -> bool {
+    match nothing(alloc, by_time) {
+        Ok(mut pending) => comes_as_from_a_list(alloc, &mut pending),
+        Err(_) => false,
+    }
+}
+
 #[test]
 fn many_events_come_out_as_from_a_list(rt: HostRuntime) {
-    let Ok(pending) = nothing_pending(rt.alloc()) else {
-        panic!(rt; "refused")
-    };
-    assert!(rt; comes_as_from_a_list(rt.alloc(), pending));
-}
-
-#[test]
-fn many_events_by_time_come_out_as_from_a_list(rt: HostRuntime) {
-    let Ok(pending) = nothing_by_time(rt.alloc()) else {
-        panic!(rt; "refused")
-    };
-    assert!(rt; comes_as_from_a_list(rt.alloc(), pending));
-}
-
-/// Whether these events are pending, listed once more where memory was refused.
-fn lists(pending: &Pending, events: &[Event]) -> bool {
-    let list = match pending.list() {
-        Err(_) => pending.list(),
-        done => done,
-    };
-    pending.len() == events.len() && list.is_ok_and(|list| list.as_slice() == events)
+    for by_time in [false, true] {
+        assert!(rt; many_come(rt.alloc(), by_time), "{by_time}");
+    }
 }
 
 /// Hands over what is pending for a router, once more where memory was refused.
 fn hand_over(pending: &mut Pending, router: u32, to: &mut Pending) -> Result<(), AllocError>
     requires { pending.old.routers ≤ to.old.routers }
+    ensures first { pending.new.routers ≡ pending.old.routers }
+    ensures second { to.new.routers ≡ to.old.routers }
 {
     match pending.hand_over(router, to) {
         Err(_) => pending.hand_over(router, to),
@@ -312,72 +386,120 @@ fn hand_over(pending: &mut Pending, router: u32, to: &mut Pending) -> Result<(),
 }
 
 /// One event of router 1 twice, and one of router 2.
-fn two_and_one(alloc: Global) -> Result<Pending, AllocError>
-    ensures { IfOk result (λ pending. pending.routers ≡ 3) }
+const TWO_AND_ONE: [Line<'static>; 3] = [
+    Line::Insert((5, 2, 1)),
+    Line::Insert((1, 1, 0)),
+    Line::Insert((1, 1, 0)),
+];
+
+/// What a router has goes from one list to another.
+#[derive(Clone, Copy)]
+struct HandOver<'a> {
+    /// Whether both are kept by time.
+    by_time: bool,
+    /// What was done with the first list.
+    before: &'a [Line<'a>],
+    /// What was done with the other.
+    own: &'a [Line<'a>],
+    router: u32,
+    /// What then holds of the first list.
+    left: &'a [Line<'a>],
+    /// What then holds of the other.
+    given: &'a [Line<'a>],
+}
+
+/// Whether what is pending for the router goes to the other list, and leaves the others.
+fn is_given(pending: &mut Pending, to: &mut Pending, row: HandOver<'_>) -> bool
+    requires first { pending.old.routers ≡ 3 }
+    requires second { to.old.routers ≡ 3 }
 {
-    let mut pending = nothing_pending(alloc)?;
-    insert(&mut pending, offer(5, 2, 1))?;
-    insert(&mut pending, offer(1, 1, 0))?;
-    insert(&mut pending, offer(1, 1, 0))?;
-    Ok(pending)
+    goes_by(pending, row.before)
+        && goes_by(to, row.own)
+        && hand_over(pending, row.router, to).is_ok()
+        && goes_by(pending, row.left)
+        && goes_by(to, row.given)
 }
 
-/// Whether what is pending for the router goes to a list with a later event of its own, and leaves the others.
-fn goes_to_another(alloc: Global, router: u32, left: &[Event], given: &[Event]) -> bool {
-    let (Ok(mut pending), Ok(mut to)) = (two_and_one(alloc), nothing_pending(alloc)) else {
-        return false;
-    };
-    insert(&mut to, offer(3, 1, 2)).is_ok()
-        && hand_over(&mut pending, router, &mut to).is_ok()
-        && lists(&pending, left)
-        && lists(&to, given)
-}
-
-#[test]
-fn what_is_pending_for_a_router_goes_to_another_list(rt: HostRuntime) {
-    let (first, own, second) = (offer(1, 1, 0), offer(3, 1, 2), offer(5, 2, 1));
-    let rows = [
-        (0, &[first, first, second][..], &[own][..]),
-        (1, &[second][..], &[first, first, own][..]),
-        (2, &[first, first][..], &[own, second][..]),
-    ];
-    for (router, left, given) in rows {
-        assert!(rt;
-            goes_to_another(rt.alloc(), router, left, given),
-            "router {router}"
-        );
+/// The same of another list, with no event yet.
+fn goes_to_an_empty_one(alloc: Global, pending: &mut Pending, row: HandOver<'_>) -> bool
+    requires { pending.old.routers ≡ 3 }
+{
+    match nothing(alloc, row.by_time) {
+        Ok(mut to) => is_given(pending, &mut to, row),
+        Err(_) => false,
     }
 }
 
-/// Whether what is pending by time for a router goes to another list, and the rest stays.
-fn goes_on_by_time(alloc: Global) -> bool {
-    let (Ok(mut pending), Ok(mut to)) = (nothing_by_time(alloc), nothing_by_time(alloc)) else {
-        return false;
-    };
-    insert_near_and_far(&mut pending).is_ok()
-        && hand_over(&mut pending, 1, &mut to).is_ok()
-        && lists(&pending, &[offer(5, 2, 1)])
-        && lists(&to, &[offer(3, 1, 2), offer(5, 1, 0), offer(100, 1, 3)])
+/// The same of two lists with no event yet.
+fn goes_to_another(alloc: Global, row: HandOver<'_>) -> bool {
+    match nothing(alloc, row.by_time) {
+        Ok(mut pending) => goes_to_an_empty_one(alloc, &mut pending, row),
+        Err(_) => false,
+    }
 }
+
+/// Events of which router 0 has none.
+const OF_NONE: HandOver<'static> = HandOver {
+    by_time: false,
+    before: &TWO_AND_ONE,
+    own: &[Line::Insert((3, 1, 2))],
+    router: 0,
+    left: &[Line::Lists(&[(1, 1, 0), (1, 1, 0), (5, 2, 1)])],
+    given: &[Line::Lists(&[(3, 1, 2)])],
+};
+
+/// Events of which router 1 has one twice.
+const OF_TWO: HandOver<'static> = HandOver {
+    by_time: false,
+    before: &TWO_AND_ONE,
+    own: &[Line::Insert((3, 1, 2))],
+    router: 1,
+    left: &[Line::Lists(&[(5, 2, 1)])],
+    given: &[Line::Lists(&[(1, 1, 0), (1, 1, 0), (3, 1, 2)])],
+};
+
+/// Events of which router 2 has one.
+const OF_ONE: HandOver<'static> = HandOver {
+    by_time: false,
+    before: &TWO_AND_ONE,
+    own: &[Line::Insert((3, 1, 2))],
+    router: 2,
+    left: &[Line::Lists(&[(1, 1, 0), (1, 1, 0)])],
+    given: &[Line::Lists(&[(3, 1, 2), (5, 2, 1)])],
+};
+
+/// Events by time of router 1, one of the tick at hand and a far one among them.
+const BY_TIME: HandOver<'static> = HandOver {
+    by_time: true,
+    before: &NEAR_AND_FAR,
+    own: &[],
+    router: 1,
+    left: &[Line::Lists(&[(5, 2, 1)])],
+    given: &[Line::Lists(&[(3, 1, 2), (5, 1, 0), (100, 1, 3)])],
+};
+
+/// Many events of router 1, which stand in buckets, and come out there in order.
+const OF_MANY: HandOver<'static> = HandOver {
+    by_time: false,
+    before: &[Line::InsertMany],
+    own: &[],
+    router: 1,
+    left: &[Line::Empty],
+    given: &[Line::TakeMany, Line::Empty],
+};
+
+/// What goes to another list, each with a name.
+const GIVEN: [(&str, HandOver<'static>); 5] = [
+    ("router 0", OF_NONE),
+    ("router 1", OF_TWO),
+    ("router 2", OF_ONE),
+    ("by time", BY_TIME),
+    ("many", OF_MANY),
+];
 
 #[test]
-fn what_is_pending_by_time_goes_to_another_list(rt: HostRuntime) {
-    assert!(rt; goes_on_by_time(rt.alloc()));
-}
-
-/// Whether many events of a router, which stand in buckets, go to another list and come out there in order.
-fn many_go_to_another(alloc: Global) -> bool {
-    let (Ok(mut pending), Ok(mut to)) = (nothing_pending(alloc), nothing_pending(alloc)) else {
-        return false;
-    };
-    insert_many(&mut pending).is_ok()
-        && hand_over(&mut pending, 1, &mut to).is_ok()
-        && pending.is_empty()
-        && takes_many(&mut to)
-        && to.is_empty()
-}
-
-#[test]
-fn many_events_of_a_router_go_to_another_list(rt: HostRuntime) {
-    assert!(rt; many_go_to_another(rt.alloc()));
+fn what_is_pending_for_a_router_goes_to_another_list(rt: HostRuntime) {
+    for (name, row) in &GIVEN {
+        assert!(rt; goes_to_another(rt.alloc(), *row), "{name}");
+    }
 }

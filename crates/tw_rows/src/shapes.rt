@@ -10,14 +10,33 @@ use tw_instance::Case;
 use tw_seq::{OneThread, Running};
 use tw_shape::Shape;
 
+/// The shape of a run at a stop, and nothing where memory is refused.
+fn shape_of(run: &mut OneThread<'_>, stop: u64) -> Option<Shape>
+    requires { stop ≤ LATEST }
+{
+    match run.run_to(stop) {
+        Ok(()) => run.shape().ok(),
+        Err(_) => None,
+    }
+}
+
 /// The shape of a case's run at a stop, and nothing where memory is refused.
 fn shape_at(alloc: Global, case: &Case, stop: u64) -> Option<Shape>
     requires { stop ≤ LATEST }
 {
-    let mut run = OneThread::new(alloc, case).ok()?;
-    match run.run_to(stop) {
-        Ok(()) => run.shape().ok(),
+    match OneThread::new(alloc, case) {
+        Ok(mut run) => shape_of(&mut run, stop),
         Err(_) => None,
+    }
+}
+
+/// Whether this is a case's shape at a stop, and nothing where memory is refused.
+fn is_that_at(alloc: Global, case: &Case, shape: &mut Shape, stop: u64) -> Option<bool>
+    requires { stop ≤ LATEST }
+{
+    match shape_at(alloc, case, stop) {
+        Some(mut other) => Some(shape.is_same(&mut other)),
+        None => None,
     }
 }
 
@@ -26,9 +45,10 @@ fn is_same_at(alloc: Global, case: &Case, first: u64, second: u64) -> Option<boo
     requires first { first ≤ LATEST }
     requires second { second ≤ LATEST }
 {
-    let mut shape = shape_at(alloc, case, first)?;
-    let mut other = shape_at(alloc, case, second)?;
-    Some(shape.is_same(&mut other))
+    match shape_at(alloc, case, first) {
+        Some(mut shape) => is_that_at(alloc, case, &mut shape, second),
+        None => None,
+    }
 }
 
 /// The same, once more where memory was refused.
