@@ -1,50 +1,58 @@
 //! Messages that are dealt before a visit, by calls.
 
-ghost use Rattle.std.specs.Bool.{OnTrue};
-ghost use Rattle.std.specs.Prelude.{◌≡◌, [], IfSome, List};
+ghost use Rattle.std.specs.Prelude.{◌≡◌, [], IfOk, List, OnOk};
 ghost use Rattle.tw_event.specs.declared.event.Event.{Event as AnEvent};
 ghost use Rattle.tw_exchange.specs.Board.{AreDealt, workers};
 ghost use Rattle.tw_exchange.specs.Owners.{list_of};
 ghost use Rattle.tw_sim.specs.declared.machine.Signed.{Signed as ASigned};
 
-use crate::exchange::{exchange, visit};
+use crate::exchange::{Row, Way, exchange, holds, refuses};
 use crate::owners::owned;
-use std::alloc::Global;
+use std::alloc::{AllocError, Global};
 use tw_event::Event;
 use tw_exchange::{Exchange, Owners, Parcels, Signed, Told, VisitFault};
-use tw_machine_rows::messages::{early_offers_of_2, list, offers_of_1, offers_of_origin};
+use tw_machine_rows::messages::{early_offers_of_2, offers_of_1, offers_of_origin};
 use tw_model::OrMemory;
 
 /// What says the worker of each router, once more where memory was refused.
-fn owners_of(exchange: &Exchange) -> Option<Owners>
-    ensures { IfSome result (λ owners. list_of owners ≡ exchange.now.owners) }
+fn owners_of(exchange: &Exchange) -> Result<Owners, AllocError>
+    ensures { IfOk result (λ owners. list_of owners ≡ exchange.now.owners) }
 {
-    if let Ok(owners) = exchange.owners() {
-        return Some(owners);
-    }
     match exchange.owners() {
-        Ok(owners) => Some(owners),
-        Err(_) => None,
+        Err(_) => exchange.owners(),
+        made => made,
     }
 }
 
-/// Whether messages are dealt to the workers of an exchange, once more where memory was refused.
-fn deals(exchange: &Exchange, parcels: &mut Parcels, messages: &[Signed<Event>]) -> bool
-    ensures { OnTrue result (AreDealt exchange.now.owners (workers exchange.now) messages.now parcels.new) }
+/// Deals messages to so many workers, once more where memory was refused.
+fn deal_by(
+    owners: &Owners,
+    workers: u32,
+    parcels: &mut Parcels,
+    messages: &[Signed<Event>],
+) -> Result<(), OrMemory<VisitFault>>
+    ensures { OnOk result (AreDealt (list_of owners.now) workers messages.now parcels.new) }
 {
-    let workers = exchange.workers();
-    let Some(owners) = owners_of(exchange) else {
-        return false;
-    };
     if workers == 0 {
-        return false;
+        return Err(OrMemory::Fault(VisitFault::NoRouter));
     }
-    if let Ok(()) = parcels.deal(&owners, workers, messages) {
-        return true;
+    match parcels.deal(owners, workers, messages) {
+        Err(OrMemory::Memory) => parcels.deal(owners, workers, messages),
+        answer => answer,
     }
-    match parcels.deal(&owners, workers, messages) {
-        Ok(()) => true,
-        Err(_) => false,
+}
+
+/// Deals messages to the workers of an exchange.
+fn deal(
+    exchange: &Exchange,
+    parcels: &mut Parcels,
+    messages: &[Signed<Event>],
+) -> Result<(), OrMemory<VisitFault>>
+    ensures { OnOk result (AreDealt exchange.now.owners (workers exchange.now) messages.now parcels.new) }
+{
+    match owners_of(exchange) {
+        Ok(owners) => deal_by(&owners, exchange.workers(), parcels, messages),
+        Err(_) => Err(OrMemory::Memory),
     }
 }
 
@@ -68,133 +76,131 @@ fn visit_dealt(
 /// Deals messages, and visits with them.
 fn deposit(
     exchange: &mut Exchange,
-    worker: u32,
+    row: &Row<'_>,
     parcels: &mut Parcels,
-    messages: &[Signed<Event>],
-    report: Option<u64>,
     mail: &mut Vec<Signed<Event>>,
 ) -> Result<Told, OrMemory<VisitFault>> {
-    if !deals(exchange, parcels, messages) {
-        return Err(OrMemory::Memory);
+    match deal(exchange, parcels, row.out) {
+        Ok(()) => {
+            mail.clear();
+            visit_dealt(exchange, row.worker, parcels, row.told, mail)
+        }
+        Err(fault) => Err(fault),
     }
-    mail.clear();
-    visit_dealt(exchange, worker, parcels, report, mail)
 }
 
-/// Whether a visit of a worker that deposits these messages, dealt before, is told of this mail and this bound, and
-/// leaves nothing dealt.
-fn hands_out(
+/// Whether a visit with what is dealt before is answered so, and leaves nothing dealt, or all where it is refused.
+pub(crate) fn is_dealt_so(
     exchange: &mut Exchange,
-    worker: u32,
-    messages: &[Signed<Event>],
-    report: Option<u64>,
-    mail: &[Signed<Event>],
-    bound: u64,
-    alloc: Global,
+    row: &Row<'_>,
+    parcels: &mut Parcels,
+    mail: &mut Vec<Signed<Event>>,
 ) -> bool {
-    let mut parcels = Parcels::new(alloc);
-    let mut handed = Vec::new(alloc);
-    let told = deposit(
-        exchange,
-        worker,
-        &mut parcels,
-        messages,
-        report,
-        &mut handed,
-    );
-    told == Ok(Told {
-        bound,
-        halted: false,
-    }) && handed.as_slice() == mail
-        && parcels.list(0).is_empty()
-        && parcels.list(1).is_empty()
+    let halted = exchange.is_halted();
+    let bound = row.left.0;
+    match (deposit(exchange, row, parcels, mail), row.fault) {
+        (Ok(told), None) => {
+            told == Told { bound, halted }
+                && mail.as_slice() == row.mail
+                && parcels.list(0).is_empty()
+                && parcels.list(1).is_empty()
+        }
+        (Err(answer), Some(fault)) => {
+            answer == OrMemory::Fault(fault) && parcels.list(1) == row.out
+        }
+        _ => false,
+    }
 }
 
-fn deals_by_worker(alloc: Global) -> bool {
-    let Ok(exchange) = exchange(alloc) else {
-        return false;
-    };
-    let mut parcels = Parcels::new(alloc);
-    let [for_1, for_2] = offers_of_origin();
-    deals(&exchange, &mut parcels, &offers_of_origin())
-        && parcels.list(0) == &[for_2][..]
-        && parcels.list(1) == &[for_1][..]
-        && parcels.list(2).is_empty()
-        && deals(&exchange, &mut parcels, &offers_of_1())
-        && parcels.list(0) == &offers_of_1()[..]
-        && parcels.list(1).is_empty()
+/// Messages, the answer where they are dealt, and what is dealt to workers 0, 1 and 2.
+#[derive(Clone, Copy)]
+struct Dealing<'a> {
+    messages: &'a [Signed<Event>],
+    answer: Result<(), OrMemory<VisitFault>>,
+    lists: [&'a [Signed<Event>]; 3],
 }
 
-fn hands_out_what_is_dealt(alloc: Global) -> bool {
-    let Ok(mut exchange) = exchange(alloc) else {
-        return false;
-    };
-    let exchange = &mut exchange;
-    let [for_1, for_2] = offers_of_origin();
-    let [for_0, also_for_1] = early_offers_of_2();
-    hands_out(exchange, 0, &offers_of_origin(), None, &[for_2], 0, alloc)
-        && exchange.report(0) == Some(5)
-        && hands_out(
-            exchange,
-            0,
-            &early_offers_of_2(),
-            Some(7),
-            &[for_0],
-            0,
-            alloc,
-        )
-        && exchange.report(0) == Some(7)
-        && hands_out(exchange, 1, &[], None, &[for_1, also_for_1], 1, alloc)
-        && exchange.report(1) == Some(1)
+/// Whether messages are dealt so.
+fn deals_so(exchange: &Exchange, parcels: &mut Parcels, deals: &[Dealing<'_>]) -> bool {
+    for row in deals {
+        if deal(exchange, parcels, row.messages) != row.answer
+            || [parcels.list(0), parcels.list(1), parcels.list(2)] != row.lists
+        {
+            return false;
+        }
+    }
+    true
 }
 
-fn refuses_what_is_early(alloc: Global) -> bool {
-    let (Ok(mut exchange), Ok(second)) = (exchange(alloc), list(alloc, &offers_of_1())) else {
-        return false;
-    };
-    let exchange = &mut exchange;
-    let mut parcels = Parcels::new(alloc);
-    let mut mail = Vec::new(alloc);
-    let early = &offers_of_origin()[..1];
-    visit(exchange, 0, Vec::new(alloc), Some(5)).is_ok()
-        && visit(exchange, 1, second, None).is_ok()
-        && deposit(exchange, 0, &mut parcels, early, Some(5), &mut mail)
-            == Err(OrMemory::Fault(VisitFault::Early))
-        && deposit(exchange, 2, &mut parcels, early, Some(5), &mut mail)
-            == Err(OrMemory::Fault(VisitFault::NoWorker))
-        && parcels.list(1) == early
-        && exchange.bound() == 2
-        && exchange.mail(0) == &offers_of_1()[..]
-}
-
-fn refuses_to_deal_to_nobody(alloc: Global) -> bool {
-    let Ok(exchange) = owned(alloc, &[1, 1]) else {
-        return false;
-    };
-    let Some(owners) = owners_of(&exchange) else {
-        return false;
-    };
-    let mut parcels = Parcels::new(alloc);
-    parcels.deal(&owners, 2, &offers_of_origin()) == Err(OrMemory::Fault(VisitFault::NoRouter))
-        && parcels.list(1).is_empty()
+/// Whether messages are dealt so to the workers of an exchange, one deal after another.
+fn deals(made: Result<Exchange, AllocError>, deals: &[Dealing<'_>], alloc: Global) -> bool {
+    match made {
+        Ok(exchange) => deals_so(&exchange, &mut Parcels::new(alloc), deals),
+        Err(_) => false,
+    }
 }
 
 #[test]
 fn messages_are_dealt_by_worker(rt: HostRuntime) {
-    assert!(rt; deals_by_worker(rt.alloc()));
+    let ([m, n], [c, d]) = (offers_of_origin(), offers_of_1());
+    let rows = [
+        Dealing {
+            messages: &[m, n],
+            answer: Ok(()),
+            lists: [&[n], &[m], &[]],
+        },
+        Dealing {
+            messages: &[c, d],
+            answer: Ok(()),
+            lists: [&[c, d], &[], &[]],
+        },
+    ];
+    assert!(rt; deals(exchange(rt.alloc()), &rows, rt.alloc()));
 }
 
 #[test]
 fn visits_hand_out_what_is_dealt(rt: HostRuntime) {
-    assert!(rt; hands_out_what_is_dealt(rt.alloc()));
+    let ([m, n], [a, b]) = (offers_of_origin(), early_offers_of_2());
+    let rows = [
+        Row {
+            worker: 0,
+            out: &[m, n],
+            told: None,
+            mail: &[n],
+            fault: None,
+            left: (0, Some(5)),
+        },
+        Row {
+            worker: 0,
+            out: &[a, b],
+            told: Some(7),
+            mail: &[a],
+            fault: None,
+            left: (0, Some(7)),
+        },
+        Row {
+            worker: 1,
+            out: &[],
+            told: None,
+            mail: &[m, b],
+            fault: None,
+            left: (1, Some(1)),
+        },
+    ];
+    assert!(rt; holds(exchange(rt.alloc()), &rows, Way::Dealt, rt.alloc()));
 }
 
 #[test]
 fn dealt_messages_of_the_past_are_refused(rt: HostRuntime) {
-    assert!(rt; refuses_what_is_early(rt.alloc()));
+    assert!(rt; refuses(rt.alloc(), Way::Dealt));
 }
 
 #[test]
 fn messages_for_nobody_are_not_dealt(rt: HostRuntime) {
-    assert!(rt; refuses_to_deal_to_nobody(rt.alloc()));
+    let rows = [Dealing {
+        messages: &offers_of_origin(),
+        answer: Err(OrMemory::Fault(VisitFault::NoRouter)),
+        lists: [&[], &[], &[]],
+    }];
+    assert!(rt; deals(owned(rt.alloc(), &[1, 1]), &rows, rt.alloc()));
 }

@@ -1,8 +1,9 @@
 //! The exchange by calls.
 
+use crate::dealt::is_dealt_so;
 use std::alloc::{AllocError, Global};
 use tw_event::Event;
-use tw_exchange::{Back, Exchange, Signed, Visit, VisitFault};
+use tw_exchange::{Back, Exchange, Parcels, Signed, Visit, VisitFault};
 use tw_machine_rows::messages::{list, offers_of_1, offers_of_origin};
 use tw_model::OrMemory;
 
@@ -14,8 +15,27 @@ pub(crate) fn exchange(alloc: Global) -> Result<Exchange, AllocError> {
     }
 }
 
+/// A visit of a worker that deposits `out` and reports `told`: the mail that it is handed, or the fault for which it is
+/// refused; and what is left: the bound, and the report of the worker.
+#[derive(Clone, Copy)]
+pub(crate) struct Row<'a> {
+    pub(crate) worker: u32,
+    pub(crate) out: &'a [Signed<Event>],
+    pub(crate) told: Option<u64>,
+    pub(crate) mail: &'a [Signed<Event>],
+    pub(crate) fault: Option<VisitFault>,
+    pub(crate) left: (u64, Option<u64>),
+}
+
+/// How messages are deposited.
+#[derive(Clone, Copy)]
+pub(crate) enum Way {
+    ByMessage,
+    Dealt,
+}
+
 /// A visit, once more where memory was refused.
-pub(crate) fn visit(
+fn visit(
     exchange: &mut Exchange,
     worker: u32,
     out: Vec<Signed<Event>>,
@@ -32,141 +52,211 @@ pub(crate) fn visit(
     }
 }
 
-/// Whether a visit was told of this mail and this bound.
-fn is_told(answer: &Result<Visit, Back>, mail: &[Signed<Event>], bound: u64) -> bool {
-    match answer {
-        Ok(visit) => visit.mail.as_slice() == mail && visit.bound == bound && !visit.halted,
+/// Whether a visit is answered so: by what is handed out and the bound, or by the fault and what would be deposited.
+fn is_answer(answer: &Result<Visit, Back>, row: &Row<'_>, halted: bool) -> bool {
+    match (answer, row.fault) {
+        (Ok(visit), None) => {
+            visit.mail.as_slice() == row.mail && visit.bound == row.left.0 && visit.halted == halted
+        }
+        (Err(back), Some(fault)) => {
+            back.out.as_slice() == row.out && back.why == OrMemory::Fault(fault)
+        }
+        _ => false,
+    }
+}
+
+/// Whether a visit is answered so where nothing is dealt before.
+fn is_so(exchange: &mut Exchange, row: &Row<'_>, alloc: Global) -> bool {
+    let halted = exchange.is_halted();
+    match list(alloc, row.out) {
+        Ok(out) => is_answer(&visit(exchange, row.worker, out, row.told), row, halted),
         Err(_) => false,
     }
 }
 
-/// Whether a visit was told to take no further turn.
-fn is_told_to_halt(answer: &Result<Visit, Back>) -> bool {
-    match answer {
-        Ok(visit) => visit.halted,
+/// Whether visits, one by one, are answered so and leave such bounds and reports.
+pub(crate) fn goes_so(exchange: &mut Exchange, rows: &[Row<'_>], way: Way, alloc: Global) -> bool {
+    for row in rows {
+        let is_so = match way {
+            Way::ByMessage => is_so(exchange, row, alloc),
+            Way::Dealt => is_dealt_so(
+                exchange,
+                row,
+                &mut Parcels::new(alloc),
+                &mut Vec::new(alloc),
+            ),
+        };
+        if !is_so || (exchange.bound(), exchange.report(row.worker)) != row.left {
+            return false;
+        }
+    }
+    true
+}
+
+/// Whether visits of an exchange, one by one, are answered so and leave no mail.
+pub(crate) fn holds(
+    made: Result<Exchange, AllocError>,
+    rows: &[Row<'_>],
+    way: Way,
+    alloc: Global,
+) -> bool {
+    match made {
+        Ok(mut exchange) => goes_so(&mut exchange, rows, way, alloc) && is_left(&exchange, &[]),
         Err(_) => false,
     }
 }
 
-/// Whether a visit was refused for this reason, and this came back.
-pub(crate) fn is_back(
-    answer: &Result<Visit, Back>,
-    out: &[Signed<Event>],
-    fault: VisitFault,
-) -> bool {
-    match answer {
-        Ok(_) => false,
-        Err(back) => back.out.as_slice() == out && back.why == OrMemory::Fault(fault),
+/// Whether this mail is left for worker 0, none is for worker 1, and the workers may go on.
+pub(crate) fn is_left(exchange: &Exchange, mail: &[Signed<Event>]) -> bool {
+    exchange.mail(0) == mail && exchange.mail(1).is_empty() && !exchange.is_halted()
+}
+
+/// Whether two visits raise the bound to 2.
+fn rises_to_2(exchange: &mut Exchange, alloc: Global) -> bool {
+    let rows = [
+        Row {
+            worker: 0,
+            out: &[],
+            told: Some(5),
+            mail: &[],
+            fault: None,
+            left: (0, Some(5)),
+        },
+        Row {
+            worker: 1,
+            out: &offers_of_1(),
+            told: None,
+            mail: &[],
+            fault: None,
+            left: (2, None),
+        },
+    ];
+    goes_so(exchange, &rows, Way::ByMessage, alloc)
+}
+
+/// Whether visits of nobody and of the past are refused, where the bound is 2.
+fn refuses_nobody_and_the_past(exchange: &mut Exchange, way: Way, alloc: Global) -> bool {
+    let [m, _] = offers_of_origin();
+    let rows = [
+        Row {
+            worker: 2,
+            out: &[],
+            told: None,
+            mail: &[],
+            fault: Some(VisitFault::NoWorker),
+            left: (2, None),
+        },
+        Row {
+            worker: 0,
+            out: &[m],
+            told: Some(5),
+            mail: &[],
+            fault: Some(VisitFault::Early),
+            left: (2, Some(5)),
+        },
+        Row {
+            worker: 2,
+            out: &[m],
+            told: Some(5),
+            mail: &[],
+            fault: Some(VisitFault::NoWorker),
+            left: (2, None),
+        },
+    ];
+    goes_so(exchange, &rows, way, alloc)
+}
+
+/// Whether an exchange whose bound has risen refuses visits, deposited in this way, and keeps its mail.
+pub(crate) fn refuses(alloc: Global, way: Way) -> bool {
+    match exchange(alloc) {
+        Ok(mut exchange) => {
+            rises_to_2(&mut exchange, alloc)
+                && refuses_nobody_and_the_past(&mut exchange, way, alloc)
+                && is_left(&exchange, &offers_of_1())
+        }
+        Err(_) => false,
     }
 }
 
-/// Whether a visit of a worker that deposits these messages is told of this mail and this bound, and leaves this
-/// report.
-pub(crate) fn hands_out(
-    exchange: &mut Exchange,
-    worker: u32,
-    deposit: Vec<Signed<Event>>,
-    told: Option<u64>,
-    mail: &[Signed<Event>],
-    bound: u64,
-    report: Option<u64>,
-) -> bool {
-    is_told(&visit(exchange, worker, deposit, told), mail, bound)
-        && exchange.report(worker) == report
+/// Whether an exchange is halted and opened again.
+fn halts(alloc: Global) -> bool {
+    match exchange(alloc) {
+        Ok(mut exchange) => is_halted(&mut exchange, alloc) && is_opened_again(&mut exchange),
+        Err(_) => false,
+    }
 }
 
-fn hands_out_and_rises(alloc: Global) -> bool {
-    let (Ok(mut exchange), Ok(first), Ok(second)) = (
-        exchange(alloc),
-        list(alloc, &offers_of_origin()),
-        list(alloc, &offers_of_1()),
-    ) else {
-        return false;
-    };
-    let exchange = &mut exchange;
-    let [for_1, for_2] = offers_of_origin();
-    hands_out(exchange, 0, first, None, &[for_2], 0, Some(5))
-        && hands_out(exchange, 1, Vec::new(alloc), None, &[for_1], 1, Some(1))
-        && hands_out(exchange, 1, second, None, &[], 2, None)
-        && hands_out(
-            exchange,
-            0,
-            Vec::new(alloc),
-            Some(5),
-            &offers_of_1(),
-            2,
-            Some(2),
-        )
-}
-
-/// Whether a visit is refused for this reason, and leaves the bound at 2.
-fn is_refused(
-    exchange: &mut Exchange,
-    worker: u32,
-    deposit: Vec<Signed<Event>>,
-    told: Option<u64>,
-    back: &[Signed<Event>],
-    fault: VisitFault,
-) -> bool {
-    is_back(&visit(exchange, worker, deposit, told), back, fault) && exchange.bound() == 2
-}
-
-fn refuses_nobody_and_the_past(alloc: Global) -> bool {
-    let (Ok(mut exchange), Ok(second), Ok(late)) = (
-        exchange(alloc),
-        list(alloc, &offers_of_1()),
-        list(alloc, &offers_of_origin()[..1]),
-    ) else {
-        return false;
-    };
-    let exchange = &mut exchange;
-    is_told(&visit(exchange, 0, Vec::new(alloc), Some(5)), &[], 0)
-        && is_told(&visit(exchange, 1, second, None), &[], 2)
-        && is_refused(
-            exchange,
-            2,
-            Vec::new(alloc),
-            None,
-            &[],
-            VisitFault::NoWorker,
-        )
-        && is_refused(
-            exchange,
-            0,
-            late,
-            Some(5),
-            &offers_of_origin()[..1],
-            VisitFault::Early,
-        )
-        && exchange.mail(0) == &offers_of_1()[..]
-        && exchange.mail(1).is_empty()
-}
-
-fn is_halted_and_opened_again(alloc: Global) -> bool {
-    let Ok(mut exchange) = exchange(alloc) else {
-        return false;
-    };
+/// Whether an exchange, once halted, tells a visit so.
+fn is_halted(exchange: &mut Exchange, alloc: Global) -> bool {
     exchange.halt();
-    let answer = visit(&mut exchange, 1, Vec::new(alloc), Some(30));
-    if !is_told_to_halt(&answer) || !exchange.is_halted() || exchange.stop() != 20 {
+    let rows = [Row {
+        worker: 1,
+        out: &[],
+        told: Some(30),
+        mail: &[],
+        fault: None,
+        left: (0, Some(30)),
+    }];
+    goes_so(exchange, &rows, Way::ByMessage, alloc)
+        && exchange.is_halted()
+        && exchange.workers() == 2
+}
+
+/// Whether an exchange with the stop 20 is opened to another stop.
+fn is_opened_again(exchange: &mut Exchange) -> bool {
+    if exchange.stop() != 20 {
         return false;
     }
-    let workers = exchange.workers();
     exchange.reopen(25);
-    workers == 2 && !exchange.is_halted() && exchange.stop() == 25 && exchange.bound() == 0
+    !exchange.is_halted() && exchange.stop() == 25 && exchange.bound() == 0
 }
 
 #[test]
 fn visits_hand_out_mail_and_raise_the_bound(rt: HostRuntime) {
-    assert!(rt; hands_out_and_rises(rt.alloc()));
+    let ([m, n], [c, d]) = (offers_of_origin(), offers_of_1());
+    let rows = [
+        Row {
+            worker: 0,
+            out: &[m, n],
+            told: None,
+            mail: &[n],
+            fault: None,
+            left: (0, Some(5)),
+        },
+        Row {
+            worker: 1,
+            out: &[],
+            told: None,
+            mail: &[m],
+            fault: None,
+            left: (1, Some(1)),
+        },
+        Row {
+            worker: 1,
+            out: &[c, d],
+            told: None,
+            mail: &[],
+            fault: None,
+            left: (2, None),
+        },
+        Row {
+            worker: 0,
+            out: &[],
+            told: Some(5),
+            mail: &[c, d],
+            fault: None,
+            left: (2, Some(2)),
+        },
+    ];
+    assert!(rt; holds(exchange(rt.alloc()), &rows, Way::ByMessage, rt.alloc()));
 }
 
 #[test]
 fn visits_of_nobody_and_of_the_past_are_refused(rt: HostRuntime) {
-    assert!(rt; refuses_nobody_and_the_past(rt.alloc()));
+    assert!(rt; refuses(rt.alloc(), Way::ByMessage));
 }
 
 #[test]
 fn a_halted_exchange_can_be_opened_again(rt: HostRuntime) {
-    assert!(rt; is_halted_and_opened_again(rt.alloc()));
+    assert!(rt; halts(rt.alloc()));
 }

@@ -3,11 +3,11 @@
 ghost use Rattle.std.specs.Prelude.{◌≡◌, [], ◌∷◌, IfOk};
 ghost use Rattle.tw_exchange.specs.Board.{opening_owned, visited};
 
-use crate::exchange::{hands_out, is_back, visit};
+use crate::exchange::{Row, Way, goes_so, holds};
 use std::alloc::{AllocError, Global};
 use tw_event::Event;
 use tw_exchange::{Exchange, Signed, VisitFault};
-use tw_machine_rows::messages::{list, offers_of_1, offers_of_origin};
+use tw_machine_rows::messages::{offers_of_1, offers_of_origin};
 
 /// An exchange of two workers with these owners, with the bound 0 and the stop 20.
 fn made(alloc: Global, owners: &[u32]) -> Result<Exchange, AllocError>
@@ -32,46 +32,59 @@ fn takes(exchange: &mut Exchange, router: u32, to: &mut Vec<Signed<Event>>) -> b
     exchange.take_for(router, to).is_ok() || exchange.take_for(router, to).is_ok()
 }
 
-fn tells_owners(alloc: Global) -> bool {
-    let (Ok(all), Ok(some)) = (owned(alloc, &[1, 1, 0]), owned(alloc, &[0, 2])) else {
-        return false;
-    };
-    all.owner(0) == Some(1)
-        && all.owner(1) == Some(1)
-        && all.owner(2) == Some(0)
-        && all.owner(3).is_none()
-        && some.owner(0) == Some(0)
-        && some.owner(1).is_none()
+/// Whether the routers, from 0 on, have these workers by a list of owners.
+fn tells_owners(alloc: Global, list: &[u32], owners: &[Option<u32>]) -> bool {
+    match owned(alloc, list) {
+        Ok(exchange) => has_owners(&exchange, owners),
+        Err(_) => false,
+    }
 }
 
-fn hands_out_by_owners(alloc: Global) -> bool {
-    let (Ok(mut exchange), Ok(out)) = (owned(alloc, &[1, 1, 0]), list(alloc, &offers_of_origin()))
-    else {
-        return false;
-    };
-    let exchange = &mut exchange;
-    let [for_1, for_2] = offers_of_origin();
-    hands_out(exchange, 0, out, None, &[for_2], 0, Some(5))
-        && hands_out(exchange, 1, Vec::new(alloc), None, &[for_1], 1, Some(1))
+/// Whether the routers, from 0 on, have these workers.
+fn has_owners(exchange: &Exchange, owners: &[Option<u32>]) -> bool {
+    let mut router = 0;
+    for owner in owners {
+        if exchange.owner(router) != *owner {
+            return false;
+        }
+        router = router.wrapping_add(1);
+    }
+    true
 }
 
-fn takes_out_mail(alloc: Global) -> bool {
-    let (Ok(mut exchange), Ok(first), Ok(second)) = (
-        owned(alloc, &[1, 1, 1]),
-        list(alloc, &offers_of_origin()),
-        list(alloc, &offers_of_1()),
-    ) else {
-        return false;
-    };
-    let exchange = &mut exchange;
-    let mut to = Vec::new(alloc);
-    let [for_1, for_2] = offers_of_origin();
-    let [for_0, also_for_2] = offers_of_1();
-    visit(exchange, 0, first, None).is_ok()
-        && visit(exchange, 0, second, None).is_ok()
-        && takes(exchange, 2, &mut to)
-        && to.as_slice() == &[for_2, also_for_2][..]
-        && exchange.mail(1) == &[for_1, for_0][..]
+/// Whether what worker 0 deposits for router 2 of worker 1 is taken out, and the other mail is left.
+fn takes_out_mail(exchange: &mut Exchange, to: &mut Vec<Signed<Event>>, alloc: Global) -> bool {
+    let ([m, n], [c, d]) = (offers_of_origin(), offers_of_1());
+    let rows = [
+        Row {
+            worker: 0,
+            out: &[m, n],
+            told: None,
+            mail: &[],
+            fault: None,
+            left: (0, None),
+        },
+        Row {
+            worker: 0,
+            out: &[c, d],
+            told: None,
+            mail: &[],
+            fault: None,
+            left: (0, None),
+        },
+    ];
+    goes_so(exchange, &rows, Way::ByMessage, alloc)
+        && takes(exchange, 2, to)
+        && to.as_slice() == &[n, d][..]
+        && exchange.mail(1) == &[m, c][..]
+}
+
+/// Whether mail is taken out where worker 1 has all routers.
+fn takes_out(alloc: Global) -> bool {
+    match owned(alloc, &[1, 1, 1]) {
+        Ok(mut exchange) => takes_out_mail(&mut exchange, &mut Vec::new(alloc), alloc),
+        Err(_) => false,
+    }
 }
 
 fn gives_a_router(alloc: Global) -> bool {
@@ -95,33 +108,47 @@ fn is_given(exchange: &mut Exchange) -> bool
         && exchange.report(0) == Some(0)
 }
 
-fn refuses_a_router_without_a_worker(alloc: Global) -> bool {
-    let (Ok(mut exchange), Ok(out)) = (owned(alloc, &[1, 1]), list(alloc, &offers_of_origin()))
-    else {
-        return false;
-    };
-    let exchange = &mut exchange;
-    is_back(
-        &visit(exchange, 0, out, Some(3)),
-        &offers_of_origin(),
-        VisitFault::NoRouter,
-    ) && exchange.mail(1).is_empty()
-        && exchange.report(0) == Some(0)
-}
-
 #[test]
 fn owners_are_those_of_the_list(rt: HostRuntime) {
-    assert!(rt; tells_owners(rt.alloc()));
+    let (all, some) = ([Some(1), Some(1), Some(0), None], [Some(0), None]);
+    assert!(rt; tells_owners(rt.alloc(), &[1, 1, 0], &all));
+    assert!(rt; tells_owners(rt.alloc(), &[0, 2], &some));
 }
 
 #[test]
 fn mail_goes_by_owners(rt: HostRuntime) {
-    assert!(rt; hands_out_by_owners(rt.alloc()));
+    let [m, n] = offers_of_origin();
+    let rows = [
+        Row {
+            worker: 0,
+            out: &[m, n],
+            told: None,
+            mail: &[n],
+            fault: None,
+            left: (0, Some(5)),
+        },
+        Row {
+            worker: 1,
+            out: &[],
+            told: None,
+            mail: &[m],
+            fault: None,
+            left: (1, Some(1)),
+        },
+    ];
+    assert!(rt;
+        holds(
+            owned(rt.alloc(), &[1, 1, 0]),
+            &rows,
+            Way::ByMessage,
+            rt.alloc()
+        )
+    );
 }
 
 #[test]
 fn all_mail_for_a_router_is_taken_out(rt: HostRuntime) {
-    assert!(rt; takes_out_mail(rt.alloc()));
+    assert!(rt; takes_out(rt.alloc()));
 }
 
 #[test]
@@ -131,5 +158,20 @@ fn a_router_is_given_to_another_worker(rt: HostRuntime) {
 
 #[test]
 fn visits_for_a_router_without_a_worker_are_refused(rt: HostRuntime) {
-    assert!(rt; refuses_a_router_without_a_worker(rt.alloc()));
+    let rows = [Row {
+        worker: 0,
+        out: &offers_of_origin(),
+        told: Some(3),
+        mail: &[],
+        fault: Some(VisitFault::NoRouter),
+        left: (0, Some(0)),
+    }];
+    assert!(rt;
+        holds(
+            owned(rt.alloc(), &[1, 1]),
+            &rows,
+            Way::ByMessage,
+            rt.alloc()
+        )
+    );
 }

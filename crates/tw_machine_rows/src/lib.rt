@@ -12,3 +12,5 @@ mod machine;
 pub mod messages;
 #[cfg(test)]
 mod rooms;
+#[cfg(test)]
+mod rows;

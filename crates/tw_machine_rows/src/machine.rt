@@ -1,30 +1,12 @@
 //! The machine of all routers by calls.
 
-ghost use Rattle.std.specs.Prelude.{◌<◌};
-
 use crate::messages::{antimessage, early_offers_of_2, offers_of_1, offers_of_2, offers_of_origin};
-use std::alloc::{AllocError, Global};
+use crate::rows::{Kind, Row, holds};
 use tw_event::{Event, PathNo};
-use tw_instance::Case;
 use tw_model::Counters;
-use tw_rows::cases::case;
 use tw_rows::texts::{DISAGREE, DISAGREE_WITH_EQUAL_TIMES};
 use tw_sim::{Signed, Step};
 use tw_warp::{OrMemory, Refusal, StopLower, Warp};
-
-/// The machine of a case, to stop 20.
-pub(crate) fn machine<'a>(
-    alloc: Global,
-    case: &'a Case,
-    workers: u32,
-) -> Result<Warp<'a>, AllocError>
-    requires { 0 < workers }
-{
-    match Warp::new(alloc, case, workers, 20) {
-        Err(_) => Warp::new(alloc, case, workers, 20),
-        made => made,
-    }
-}
 
 /// Takes a step, once more where memory was refused.
 pub(crate) fn step(warp: &mut Warp<'_>, step: Step) -> Result<(), OrMemory<Refusal>> {
@@ -134,7 +116,7 @@ fn owned_by(warp: &Warp<'_>, worker: usize) -> Option<[bool; 3]> {
 }
 
 /// The path that a router has chosen, and what it counts.
-pub(crate) fn told(warp: &Warp<'_>, router: u32) -> Option<(PathNo, Counters)> {
+fn told(warp: &Warp<'_>, router: u32) -> Option<(PathNo, Counters)> {
     if router >= warp.case().instance().nodes() {
         return None;
     }
@@ -143,12 +125,7 @@ pub(crate) fn told(warp: &Warp<'_>, router: u32) -> Option<(PathNo, Counters)> {
 }
 
 /// A path, and the counts of a router that has dropped nothing.
-pub(crate) fn counts(
-    path: u32,
-    sent: u64,
-    handled: u64,
-    changed: u64,
-) -> Option<(PathNo, Counters)> {
+fn counts(path: u32, sent: u64, handled: u64, changed: u64) -> Option<(PathNo, Counters)> {
     let counters = Counters {
         sent,
         handled,
@@ -156,6 +133,17 @@ pub(crate) fn counts(
         changed,
     };
     Some((PathNo(path), counters))
+}
+
+/// Whether routers 0, 1 and 2 have chosen these paths, and count so.
+pub(crate) fn tell(warp: &Warp<'_>, rows: &[(u32, u64, u64, u64); 3]) -> bool {
+    for router in 0..3_u32 {
+        let (path, sent, handled, changed) = rows[router as usize];
+        if told(warp, router) != counts(path, sent, handled, changed) {
+            return false;
+        }
+    }
+    true
 }
 
 /// Whether the origin handles its start and undoes it, so many times.
@@ -221,7 +209,7 @@ fn has_committed(warp: &Warp<'_>, letters: &str) -> bool {
 }
 
 /// Whether these are the start of the origin and the events of these letters, in this order.
-pub(crate) fn are_of(events: &[Event], letters: &str) -> bool {
+fn are_of(events: &[Event], letters: &str) -> bool {
     let letters = letters.as_bytes();
     match events {
         [first, rest @ ..] => {
@@ -239,63 +227,23 @@ pub(crate) fn are_of(events: &[Event], letters: &str) -> bool {
     }
 }
 
+/// Steps that commit all routers to a new bound.
+const COMMITTED: [Step; 4] = [
+    Step::Bound,
+    Step::Commit(0),
+    Step::Commit(1),
+    Step::Commit(2),
+];
+
 /// Whether the bound is then the stop, the routers are committed to it, and they are as one thread leaves them.
 fn ends_so(warp: &mut Warp<'_>) -> bool {
-    let steps = [
-        Step::Bound,
-        Step::Commit(0),
-        Step::Commit(1),
-        Step::Commit(2),
-    ];
-    answers_so(warp, &steps, &[Ok(()); 4])
-        && warp.bound() == 20
-        && warp.ahead() == 0
+    answers_so(warp, &COMMITTED, &[Ok(()); 4])
+        && is_at(warp, 20, 0)
         && has_committed(warp, "mcdfne")
-        && told(warp, 0) == counts(1, 2, 3, 1)
-        && told(warp, 1) == counts(3, 2, 2, 1)
-        && told(warp, 2) == counts(4, 2, 2, 1)
+        && tell(warp, &[(1, 2, 3, 1), (3, 2, 2, 1), (4, 2, 2, 1)])
 }
 
-/// What a test shows of a machine.
-#[derive(Clone, Copy)]
-enum Row {
-    StopNeverFalls,
-    Straggler,
-    StragglerInOneCall,
-    TakenBack,
-    PendingTwice,
-    FromAnywhere,
-    Refused,
-    DealtOut,
-}
-
-/// Whether a row holds of the machine of a case, with so many workers.
-fn holds(alloc: Global, text: &str, workers: u32, row: Row) -> bool
-    requires { 0 < workers }
-{
-    let Ok(case) = case(alloc, text) else {
-        return false;
-    };
-    match machine(alloc, &case, workers) {
-        Ok(mut warp) => holds_of(&mut warp, row),
-        Err(_) => false,
-    }
-}
-
-fn holds_of(warp: &mut Warp<'_>, row: Row) -> bool {
-    match row {
-        Row::StopNeverFalls => keeps_its_stop(warp),
-        Row::Straggler => rolls_back(warp),
-        Row::StragglerInOneCall => rolls_back_in_one_call(warp),
-        Row::TakenBack => takes_back_by_the_path(warp),
-        Row::PendingTwice => handles_once(warp),
-        Row::FromAnywhere => takes_from_anywhere(warp),
-        Row::Refused => refuses(warp),
-        Row::DealtOut => is_dealt_out(warp),
-    }
-}
-
-fn keeps_its_stop(warp: &mut Warp<'_>) -> bool {
+pub(crate) fn keeps_its_stop(warp: &mut Warp<'_>) -> bool {
     warp.set_stop(19) == Err(StopLower)
         && warp.set_stop(1_000_000_001) == Err(StopLower)
         && warp.stop() == 20
@@ -305,18 +253,18 @@ fn keeps_its_stop(warp: &mut Warp<'_>) -> bool {
         && warp.stop() == 30
 }
 
-fn rolls_back(warp: &mut Warp<'_>) -> bool {
+pub(crate) fn rolls_back(warp: &mut Warp<'_>) -> bool {
     goes_so(warp, &STRAGGLER[..11])
-        && has_begun(warp, 4)
+        && is_at(warp, 0, 4)
         && has_loose(warp, 4, 0, 1)
         && goes_so(warp, &STRAGGLER[11..])
         && has_loose(warp, 0, 0, 0)
         && ends_so(warp)
 }
 
-/// Whether the bound is still 0, and so many events are handled beyond it.
-fn has_begun(warp: &Warp<'_>, ahead: u128) -> bool {
-    warp.bound() == 0 && warp.ahead() == ahead
+/// Whether the bound is this, and so many events are handled beyond it.
+pub(crate) fn is_at(warp: &Warp<'_>, bound: u64, ahead: u128) -> bool {
+    warp.bound() == bound && warp.ahead() == ahead
 }
 
 /// The steps of the row, in one call.
@@ -328,53 +276,63 @@ fn steps_of_the_row() -> [Step; 18] {
     steps
 }
 
-fn rolls_back_in_one_call(warp: &mut Warp<'_>) -> bool {
+pub(crate) fn rolls_back_in_one_call(warp: &mut Warp<'_>) -> bool {
     answers_so(warp, &steps_of_the_row(), &[Ok(()); 18]) && ends_so(warp)
 }
 
-fn takes_back_by_the_path(warp: &mut Warp<'_>) -> bool {
-    let steps = [
-        Step::Handle(0),
-        Step::Deliver(1),
-        Step::Handle(1),
-        Step::Deliver(3),
-        Step::Handle(2),
-        Step::Deliver(1),
-        Step::Handle(2),
-        Step::Deliver(6),
-        Step::Deliver(4),
-    ];
-    answers_so(warp, &steps, &[Ok(()); 9])
-        && has_begun(warp, 3)
+/// Steps after which router 2 takes back what differs in its path alone.
+const TAKEN_BACK: [Step; 9] = [
+    Step::Handle(0),
+    Step::Deliver(1),
+    Step::Handle(1),
+    Step::Deliver(3),
+    Step::Handle(2),
+    Step::Deliver(1),
+    Step::Handle(2),
+    Step::Deliver(6),
+    Step::Deliver(4),
+];
+
+pub(crate) fn takes_back_by_the_path(warp: &mut Warp<'_>) -> bool {
+    answers_so(warp, &TAKEN_BACK, &[Ok(()); 9])
+        && is_at(warp, 0, 3)
         && has_loose(warp, 5, 2, 1)
-        && told(warp, 0) == counts(1, 2, 1, 1)
-        && told(warp, 1) == counts(3, 2, 1, 1)
-        && told(warp, 2) == counts(5, 2, 1, 1)
+        && tell(warp, &[(1, 2, 1, 1), (3, 2, 1, 1), (5, 2, 1, 1)])
 }
 
-fn handles_once(warp: &mut Warp<'_>) -> bool {
-    let steps = [
-        Step::Handle(0),
-        Step::Undo(0),
-        Step::Handle(0),
-        Step::Deliver(1),
-        Step::Deliver(4),
-        Step::Handle(1),
-        Step::Handle(1),
-        Step::Deliver(2),
-    ];
-    let mut answers = [Ok(()); 8];
-    answers[6] = Err(Refusal::Double);
-    answers_so(warp, &steps, &answers)
+/// Steps after which router 1 has an event pending twice, and handles it.
+const PENDING_TWICE: [Step; 8] = [
+    Step::Handle(0),
+    Step::Undo(0),
+    Step::Handle(0),
+    Step::Deliver(1),
+    Step::Deliver(4),
+    Step::Handle(1),
+    Step::Handle(1),
+    Step::Deliver(2),
+];
+
+/// The answers of these steps.
+const HANDLED_ONCE: [Result<(), Refusal>; 8] = [
+    Ok(()),
+    Ok(()),
+    Ok(()),
+    Ok(()),
+    Ok(()),
+    Ok(()),
+    Err(Refusal::Double),
+    Ok(()),
+];
+
+pub(crate) fn handles_once(warp: &mut Warp<'_>) -> bool {
+    answers_so(warp, &PENDING_TWICE, &HANDLED_ONCE)
         && warp.bound() == 0
         && has_loose(warp, 5, 0, 0)
         && has_in_flight(warp, "nNncd")
-        && told(warp, 0) == counts(1, 2, 1, 1)
-        && told(warp, 1) == counts(3, 2, 1, 1)
-        && told(warp, 2) == counts(0, 0, 0, 0)
+        && tell(warp, &[(1, 2, 1, 1), (3, 2, 1, 1), (0, 0, 0, 0)])
 }
 
-fn takes_from_anywhere(warp: &mut Warp<'_>) -> bool {
+pub(crate) fn takes_from_anywhere(warp: &mut Warp<'_>) -> bool {
     for next in [Next::First, Next::Middle, Next::Last] {
         if !starts_and_all_come(warp, next) {
             return false;
@@ -392,7 +350,7 @@ fn starts_and_all_come(warp: &mut Warp<'_>, next: Next) -> bool {
         && warp.ahead() == 0
 }
 
-fn refuses(warp: &mut Warp<'_>) -> bool {
+pub(crate) fn refuses(warp: &mut Warp<'_>) -> bool {
     refuses_at_first(warp)
         && answers_so(
             warp,
@@ -403,8 +361,7 @@ fn refuses(warp: &mut Warp<'_>) -> bool {
         && warp.bound() == 1
         && has_loose(warp, 2, 0, 0)
         && has_in_flight(warp, "mn")
-        && told(warp, 0) == counts(1, 2, 1, 1)
-        && told(warp, 1) == counts(0, 0, 0, 0)
+        && tell(warp, &[(1, 2, 1, 1), (0, 0, 0, 0), (0, 0, 0, 0)])
 }
 
 fn refuses_at_first(warp: &mut Warp<'_>) -> bool {
@@ -439,7 +396,7 @@ fn refuses_what_is_committed(warp: &mut Warp<'_>) -> bool {
     answers_so(warp, &steps, &why)
 }
 
-fn is_dealt_out(warp: &Warp<'_>) -> bool {
+pub(crate) fn is_dealt_out(warp: &Warp<'_>) -> bool {
     warp.workers() == 2
         && owned_by(warp, 0) == Some([true, false, true])
         && owned_by(warp, 1) == Some([false, true, false])
@@ -447,47 +404,63 @@ fn is_dealt_out(warp: &Warp<'_>) -> bool {
 
 #[test]
 fn the_stop_never_falls(rt: HostRuntime) {
-    assert!(rt; holds(rt.alloc(), DISAGREE, 1, Row::StopNeverFalls));
+    assert!(rt; holds(rt.alloc(), DISAGREE, 1, Kind::Eager, Row::StopNeverFalls));
 }
 
 #[test]
 fn a_straggler_is_rolled_back(rt: HostRuntime) {
-    assert!(rt; holds(rt.alloc(), DISAGREE, 1, Row::Straggler));
+    assert!(rt; holds(rt.alloc(), DISAGREE, 1, Kind::Eager, Row::Straggler));
 }
 
 #[test]
 fn a_row_goes_on_where_it_was_broken_off_and_begins_again(rt: HostRuntime) {
     for _ in 0..2 {
-        assert!(rt; holds(rt.alloc(), DISAGREE, 2, Row::StragglerInOneCall));
+        assert!(rt;
+            holds(
+                rt.alloc(),
+                DISAGREE,
+                2,
+                Kind::Eager,
+                Row::StragglerInOneCall
+            )
+        );
     }
 }
 
 #[test]
 fn a_straggler_is_rolled_back_with_a_router_for_each_worker(rt: HostRuntime) {
-    assert!(rt; holds(rt.alloc(), DISAGREE, 3, Row::Straggler));
+    assert!(rt; holds(rt.alloc(), DISAGREE, 3, Kind::Eager, Row::Straggler));
 }
 
 #[test]
 fn what_is_taken_back_differs_in_its_path_alone(rt: HostRuntime) {
-    assert!(rt; holds(rt.alloc(), DISAGREE_WITH_EQUAL_TIMES, 1, Row::TakenBack));
+    assert!(rt;
+        holds(
+            rt.alloc(),
+            DISAGREE_WITH_EQUAL_TIMES,
+            1,
+            Kind::Eager,
+            Row::TakenBack
+        )
+    );
 }
 
 #[test]
 fn an_event_pending_twice_is_handled_once(rt: HostRuntime) {
-    assert!(rt; holds(rt.alloc(), DISAGREE, 1, Row::PendingTwice));
+    assert!(rt; holds(rt.alloc(), DISAGREE, 1, Kind::Eager, Row::PendingTwice));
 }
 
 #[test]
 fn messages_come_from_anywhere(rt: HostRuntime) {
-    assert!(rt; holds(rt.alloc(), DISAGREE, 2, Row::FromAnywhere));
+    assert!(rt; holds(rt.alloc(), DISAGREE, 2, Kind::Eager, Row::FromAnywhere));
 }
 
 #[test]
 fn what_cannot_be_done_is_refused(rt: HostRuntime) {
-    assert!(rt; holds(rt.alloc(), DISAGREE, 2, Row::Refused));
+    assert!(rt; holds(rt.alloc(), DISAGREE, 2, Kind::Eager, Row::Refused));
 }
 
 #[test]
 fn the_routers_are_dealt_out_to_the_workers(rt: HostRuntime) {
-    assert!(rt; holds(rt.alloc(), DISAGREE, 2, Row::DealtOut));
+    assert!(rt; holds(rt.alloc(), DISAGREE, 2, Kind::Eager, Row::DealtOut));
 }

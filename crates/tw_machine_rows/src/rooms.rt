@@ -1,11 +1,10 @@
 //! A router that has handled as many events that are not committed as it has room for, by calls.
 
-ghost use Rattle.std.specs.Prelude.{◌<◌};
-
-use crate::machine::{machine, step};
+use crate::machine::step;
+use crate::rows::{Kind, Row, holds};
 use std::alloc::Global;
 use tw_core::limits::OPENING_ROOM;
-use tw_rows::cases::{case, many_exchanges};
+use tw_rows::cases::many_exchanges;
 use tw_sim::Step;
 use tw_warp::{OrMemory, Refusal, Warp};
 
@@ -31,7 +30,7 @@ fn commits(warp: &mut Warp<'_>) -> bool {
 
 /// Whether the origin has room for as many events as a router begins with, and for one more once one is
 /// committed, and for twice as many once it is given more; and no other router is.
-fn has_its_room(warp: &mut Warp<'_>) -> bool {
+pub(crate) fn has_its_room(warp: &mut Warp<'_>) -> bool {
     handles(warp, OPENING_ROOM)
         && is_full(warp)
         && commits(warp)
@@ -43,27 +42,19 @@ fn has_its_room(warp: &mut Warp<'_>) -> bool {
         && warp.ahead() == 300
 }
 
-/// Whether the row holds for a machine of so many workers.
-fn holds(alloc: Global, workers: u32) -> bool
-    requires { 0 < workers }
-{
+/// Whether the row holds for the text of many exchanges.
+fn holds_of_many(alloc: Global) -> bool {
     let made = match many_exchanges(alloc) {
         Err(_) => many_exchanges(alloc),
         made => made,
     };
-    let Ok(text) = made else {
-        return false;
-    };
-    let Ok(case) = case(alloc, &text) else {
-        return false;
-    };
-    match machine(alloc, &case, workers) {
-        Ok(mut warp) => has_its_room(&mut warp),
+    match made {
+        Ok(text) => holds(alloc, &text, 1, Kind::Eager, Row::Room),
         Err(_) => false,
     }
 }
 
 #[test]
 fn a_router_handles_no_more_than_it_has_room_for(rt: HostRuntime) {
-    assert!(rt; holds(rt.alloc(), 1));
+    assert!(rt; holds_of_many(rt.alloc()));
 }
