@@ -21,9 +21,6 @@ REPLAYED = INPUTS / "straggler-replay.txt"
 ROWS = (
     "tw_rows",
     "tw_machine_rows",
-    "tw_exchange_rows",
-    "tw_worker_rows",
-    "tw_table_rows",
     "tw_program_rows",
 )
 

@@ -1,4 +1,5 @@
-//! Worked rows of the Time Warp machine as tests, and the messages that they and other rows begin with.
+//! Worked rows of Time Warp as tests: the machine, the exchange, shards, routers that go from one to another, and the
+//! table; and the messages that they begin with.
 //!
 //! Each test tries a call once more where memory was refused, as those of `tw_rows` do.
 #![tactic(auto)]
@@ -6,11 +7,25 @@
 #[cfg(test)]
 mod ample;
 #[cfg(test)]
+mod calls;
+#[cfg(test)]
+mod dealt;
+#[cfg(test)]
+mod exchange;
+#[cfg(test)]
 mod lazy;
 #[cfg(test)]
 mod machine;
 pub mod messages;
 #[cfg(test)]
+mod moving;
+#[cfg(test)]
+mod owners;
+#[cfg(test)]
 mod rooms;
 #[cfg(test)]
 mod rows;
+#[cfg(test)]
+mod shards;
+#[cfg(test)]
+mod table;

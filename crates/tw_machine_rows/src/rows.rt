@@ -86,8 +86,8 @@ fn holds_of(warp: &mut Warp<'_>, row: Row) -> bool {
         Row::SentOnce => lazy::sends_once(warp),
         Row::Released => lazy::releases(warp),
         Row::ReleasedInOneCall => lazy::releases_in_one_call(warp),
-        Row::Steps => ample::takes_its_steps(warp),
-        Row::Held => ample::takes_back_what_it_holds(warp),
+        Row::Steps => ample::machine::takes_its_steps(warp),
+        Row::Held => ample::machine::takes_back_what_it_holds(warp),
         Row::Room => rooms::has_its_room(warp),
     }
 }

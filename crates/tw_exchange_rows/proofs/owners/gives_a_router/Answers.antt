@@ -1,6 +1,0 @@
-use Rattle.std.proofs.Common.{◌∙◌, Some}
-use Rattle.tw_exchange.specs.Board.{visited}
-use Rattle.tw_exchange_rows.proofs.owners.gives_a_router.Goals as goal
-
-pub is_given-requires : goal.is_given-requires
-is_given-requires c = c.in-Ok-visit.ensures.board ∙ (λ i. visited 0 (c.new.ensures.items i) (Some 5) (c.in-Ok.ensures i))

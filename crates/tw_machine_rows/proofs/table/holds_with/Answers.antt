@@ -1,0 +1,10 @@
+use Rattle.tw_machine_rows.proofs.Sittings.{begun}
+use Rattle.tw_machine_rows.proofs.table.holds_with.Goals as goal
+
+pub holds_of-requires : goal.holds_of-requires
+holds_of-requires g c =
+    let one = c.new.ensures in
+    let two = c.new-2.ensures in
+    begun c.args.case.now c.args.shards.now c.new.result c.new-2.result c.requires.count c.requires.each
+    record { mail = one.mail; next = one.next; out = one.out }
+    record { mail = two.mail; next = two.next; out = two.out }
