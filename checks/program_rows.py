@@ -73,6 +73,9 @@ RANGES = {
     "replay": ["1 to 1000000000", "1 to 64"],
 }
 
+# How often the origin handles its start and undoes it, so that many messages are on their way.
+STARTS = 400
+
 # The beginning of a case, of six lines, in each version.
 TWO_LINKS = "spp 1\nnodes 3\nlink 0 1 3\nlink 1 2 3\npath 1 1 0\npath 2 2 1 0\n"
 TWO_WAYS = "spp 2\nnodes 3\nlink 0 1 3 4\nlink 1 2 3 3\npath 1 1 0\npath 2 2 1 0\n"
@@ -157,6 +160,7 @@ BAD_LINES: dict[str, Sequence[Word]] = {
     "an option given twice": ["seq", "--stop", "20", "--stop", "20"],
     "an option without its number": ["seq", "--stop"],
     "no stop": ["seq", "--log"],
+    "checkpoints at no distance": ["seq", "--stop", "20", "--every", "0"],
     "no router": ["trail", "--stop", "20", "--keep", "0"],
     "no stop of a trail": ["trail", "--router", "1", "--keep", "0"],
     "no keep": ["trail", "--router", "1", "--stop", "20"],
@@ -168,6 +172,7 @@ BAD_LINES: dict[str, Sequence[Word]] = {
     "a router past its limit": ["trail", "--router", "1024", "--stop", "20", "--keep", "0"],
     "a keep past its limit": ["trail", "--router", "1", "--stop", "20", "--keep", "1000000001"],
     "no stop of a replay": ["replay", "--workers", "2"],
+    "a stop of 0 of a replay": ["replay", "--stop", "0"],
     "no worker": ["replay", "--stop", "20", "--workers", "0"],
     "a worker too many": ["replay", "--stop", "20", "--workers", "65"],
     "a replay that is to be logged": ["replay", "--stop", "20", "--log"],
@@ -267,6 +272,52 @@ def refused_texts(folder: Path) -> Iterator[Row]:
                 yield row(f"{name_of(words)} of {text!r}", words, file, 1, refused)
 
 
+def all_come(place_of: Callable[[int], int]) -> tuple[str, str]:
+    """Steps behind DISAGREE, and what `replay` answers: the origin handles its start and undoes it again and again, and
+    of what it has sent and taken back one message after another comes, which are all. `place_of` tells its place among
+    those that are left."""
+    sent = 4 * STARTS
+    steps = ["handle 0", "undo 0"] * STARTS
+    steps += [f"deliver {place_of(left)}" for left in range(sent, 0, -1)]
+    answers = [f"step {number} ok" for number, _ in enumerate(steps, start=1)]
+    answers.append(f"step {len(steps) + 1} refused K1 NoMessage")
+    routers = [f"router {number} sent 0 handled 0 dropped 0 changed 0 rib ()" for number in range(3)]
+    due = ["spp-replay 1", *answers, "bound 0", "flight 0 pending 1 kept 0 ahead 0", *routers]
+    return "\n".join([*steps, "deliver 1", "end", ""]), "\n".join([*due, ""])
+
+
+def many_messages(folder: Path) -> Iterator[Row]:
+    """Many messages come, each time the first, the middle one or the last. The replays are put into the folder."""
+    places: dict[str, Callable[[int], int]] = {
+        "first": lambda left: 1,
+        "middle": lambda left: left // 2 + 1,
+        "last": lambda left: left,
+    }
+    for name, place_of in places.items():
+        steps, due = all_come(place_of)
+        file = folder / f"many-{name}.replay"
+        file.write_text(DISAGREE.read_text() + steps)
+        yield row(f"{name_of(REPLAY)}: the {name} of many messages", REPLAY, file, 0, due.encode())
+
+
+def wrong_beginning(text: bytes, done: Ended) -> str | None:
+    """What is wrong with how this beginning of a case is refused, if anything."""
+    refused = re.fullmatch(rb"refused line (\d+) [A-Z]\d+ \w+\n", done.out)
+    is_near = refused is not None and int(refused[1]) <= text.count(b"\n") + 1
+    return None if is_near and (done.status, done.err) == (1, b"") else f"it ended with {done}"
+
+
+def beginnings(folder: Path) -> Iterator[Row]:
+    """Every beginning of a case, each in a file in the folder: none is refused behind the line that it ends in."""
+    case = CASES / "failure-and-repair.spp"
+    whole = case.read_bytes()
+    for size in range(len(whole)):
+        text, file = whole[:size], folder / f"beginning-{size}"
+        file.write_bytes(text)
+        name = f"check of the first {size} bytes of {case.name}"
+        yield Row(name, ["check"], file, partial(wrong_beginning, text))
+
+
 def wrong_help(command: str, done: Ended) -> str | None:
     if (done.status, done.err) != (0, b""):
         return f"it ended with {done}"
@@ -299,5 +350,7 @@ def rows(folder: Path) -> Iterator[Row]:
     yield from worked()
     yield from refusals(folder)
     yield from refused_texts(folder)
+    yield from beginnings(folder)
+    yield from many_messages(folder)
     yield from helps()
     yield from bad_lines()

@@ -52,7 +52,6 @@ from refuser import Refuser
 
 LONG = (
     "programs::a_sink_that_fails_has_a_prefix",
-    "readings::every_prefix_of_a_case_is_refused_near_its_end",
     "threads::a_run_goes_on_to_later_stops_and_to_no_earlier_one",
     "threads::handling_happens_off_the_table",
     "threads::workers_overlap",
@@ -73,6 +72,7 @@ LINES = (
     ["trail", "--router", "3", "--stop", "20", "--keep", "0"],
     ["replay", "--stop", "20"],
     ["replay", "--stop", "20", "--workers", "3"],
+    ["replay", "--stop", "20", "--lazy"],
     ["upgrade"],
     ["seq", "--stop", "20", "--every", "1"],
     ["run", "--stop", "20", "--every", "1", "--workers", "2"],

@@ -1,5 +1,5 @@
 //! Worked rows of Time Warp as tests: the machine, the exchange, shards, routers that go from one to another, and the
-//! table; and the messages that they begin with.
+//! table; and the messages that they begin with. What a machine answers to steps is in `checks/rows`, as replays.
 //!
 //! Each test tries a call once more where memory was refused, as those of `tw_rows` do.
 #![tactic(auto)]
@@ -13,9 +13,9 @@ mod dealt;
 #[cfg(test)]
 mod exchange;
 #[cfg(test)]
-mod lazy;
-#[cfg(test)]
 mod machine;
+#[cfg(test)]
+mod made;
 pub mod messages;
 #[cfg(test)]
 mod moving;

@@ -1,10 +1,9 @@
 //! The machine of all routers by calls.
 
 use crate::messages::{antimessage, early_offers_of_2, offers_of_1, offers_of_2, offers_of_origin};
-use crate::rows::{Kind, Row, holds};
-use tw_event::{Event, PathNo};
-use tw_model::Counters;
-use tw_rows::texts::{DISAGREE, DISAGREE_WITH_EQUAL_TIMES};
+use crate::rows::{Row, holds};
+use tw_event::Event;
+use tw_rows::texts::DISAGREE;
 use tw_sim::{Signed, Step};
 use tw_warp::{OrMemory, Refusal, StopLower, Warp};
 
@@ -83,27 +82,26 @@ fn goes_so(warp: &mut Warp<'_>, steps: &[(Step, &str)]) -> bool {
     true
 }
 
-/// Whether the steps have these answers. Where memory was refused to one, it and the rest are taken once more.
-pub(crate) fn answers_so(
-    warp: &mut Warp<'_>,
-    steps: &[Step],
-    answers: &[Result<(), Refusal>],
-) -> bool {
+/// Whether so many steps are answered, and each is done.
+fn are_done(answers: &[Result<(), Refusal>], count: usize) -> bool {
+    answers.len() == count && answers.iter().all(Result::is_ok)
+}
+
+/// Whether all steps are done in one call. Where memory was refused to one, it and the rest are taken by another.
+fn goes_in_one_call(warp: &mut Warp<'_>, steps: &[Step]) -> bool {
     let fault = match warp.run(steps) {
-        Ok(found) => return found.as_slice() == answers,
+        Ok(answers) => return are_done(&answers, steps.len()),
         Err(fault) => fault,
     };
     let done = fault.answers.len();
-    let (Some(rest), Some(first), Some(last)) = (
-        steps.get(done..),
-        answers.get(..done),
-        answers.get(done..),
-    ) else {
+    let Some(rest) = steps.get(done..) else {
         return false;
     };
     fault.step == done + 1
-        && fault.answers.as_slice() == first
-        && warp.run(rest).is_ok_and(|found| found.as_slice() == last)
+        && are_done(&fault.answers, done)
+        && warp
+            .run(rest)
+            .is_ok_and(|answers| are_done(&answers, rest.len()))
 }
 
 /// Which of three routers a worker has.
@@ -115,39 +113,8 @@ fn owned_by(warp: &Warp<'_>, worker: usize) -> Option<[bool; 3]> {
     Some([shard.owns(0), shard.owns(1), shard.owns(2)])
 }
 
-/// The path that a router has chosen, and what it counts.
-fn told(warp: &Warp<'_>, router: u32) -> Option<(PathNo, Counters)> {
-    if router >= warp.case().instance().nodes() {
-        return None;
-    }
-    let router = warp.router(router);
-    Some((router.rib(), router.counters()))
-}
-
-/// A path, and the counts of a router that has dropped nothing.
-fn counts(path: u32, sent: u64, handled: u64, changed: u64) -> Option<(PathNo, Counters)> {
-    let counters = Counters {
-        sent,
-        handled,
-        dropped: 0,
-        changed,
-    };
-    Some((PathNo(path), counters))
-}
-
-/// Whether routers 0, 1 and 2 have chosen these paths, and count so.
-pub(crate) fn tell(warp: &Warp<'_>, rows: &[(u32, u64, u64, u64); 3]) -> bool {
-    for router in 0..3_u32 {
-        let (path, sent, handled, changed) = rows[router as usize];
-        if told(warp, router) != counts(path, sent, handled, changed) {
-            return false;
-        }
-    }
-    true
-}
-
 /// Whether the origin handles its start and undoes it, so many times.
-fn starts_over(warp: &mut Warp<'_>, times: u32) -> bool {
+fn starts_again_and_again(warp: &mut Warp<'_>, times: u32) -> bool {
     for _ in 0..times {
         if step(warp, Step::Handle(0)) != Ok(()) || step(warp, Step::Undo(0)) != Ok(()) {
             return false;
@@ -167,80 +134,9 @@ fn has_starts_in_flight(warp: &Warp<'_>, count: u64) -> bool {
     true
 }
 
-/// Which of the messages on their way comes next.
-#[derive(Clone, Copy)]
-enum Next {
-    First,
-    Middle,
-    Last,
-}
-
-/// Whether so many messages come, one by one, which are all.
-fn all_come(warp: &mut Warp<'_>, count: u64, next: Next) -> bool {
-    for come in 0..count {
-        let left = count - come;
-        let place = match next {
-            Next::First => 1,
-            Next::Middle => left / 2 + 1,
-            Next::Last => left,
-        };
-        if step(warp, Step::Deliver(place)) != Ok(()) {
-            return false;
-        }
-    }
-    step(warp, Step::Deliver(1)) == Err(OrMemory::Fault(Refusal::NoMessage))
-}
-
 /// Whether nothing but these numbers of messages is loose: on their way, pending and kept.
-pub(crate) fn has_loose(warp: &Warp<'_>, flight: u128, pending: u128, kept: u128) -> bool {
+fn has_loose(warp: &Warp<'_>, flight: u128, pending: u128, kept: u128) -> bool {
     warp.flight_len() == flight && warp.pending_len() == pending && warp.kept_len() == kept
-}
-
-/// Whether the start of the origin and the events of these letters are committed, in this order.
-fn has_committed(warp: &Warp<'_>, letters: &str) -> bool {
-    let found = match warp.committed() {
-        Err(_) => warp.committed(),
-        found => found,
-    };
-    match found {
-        Ok(events) => are_of(&events, letters),
-        Err(_) => false,
-    }
-}
-
-/// Whether these are the start of the origin and the events of these letters, in this order.
-fn are_of(events: &[Event], letters: &str) -> bool {
-    let letters = letters.as_bytes();
-    match events {
-        [first, rest @ ..] => {
-            *first == Event::default()
-                && rest.len() == letters.len()
-                && rest.iter().zip(letters).all(|(event, letter)| {
-                    message(*letter)
-                        == Some(Signed {
-                            plus: true,
-                            event: *event,
-                        })
-                })
-        }
-        [] => false,
-    }
-}
-
-/// Steps that commit all routers to a new bound.
-const COMMITTED: [Step; 4] = [
-    Step::Bound,
-    Step::Commit(0),
-    Step::Commit(1),
-    Step::Commit(2),
-];
-
-/// Whether the bound is then the stop, the routers are committed to it, and they are as one thread leaves them.
-fn ends_so(warp: &mut Warp<'_>) -> bool {
-    answers_so(warp, &COMMITTED, &[Ok(()); 4])
-        && is_at(warp, 20, 0)
-        && has_committed(warp, "mcdfne")
-        && tell(warp, &[(1, 2, 3, 1), (3, 2, 2, 1), (4, 2, 2, 1)])
 }
 
 pub(crate) fn keeps_its_stop(warp: &mut Warp<'_>) -> bool {
@@ -255,16 +151,10 @@ pub(crate) fn keeps_its_stop(warp: &mut Warp<'_>) -> bool {
 
 pub(crate) fn rolls_back(warp: &mut Warp<'_>) -> bool {
     goes_so(warp, &STRAGGLER[..11])
-        && is_at(warp, 0, 4)
         && has_loose(warp, 4, 0, 1)
+        && warp.ahead() == 4
         && goes_so(warp, &STRAGGLER[11..])
         && has_loose(warp, 0, 0, 0)
-        && ends_so(warp)
-}
-
-/// Whether the bound is this, and so many events are handled beyond it.
-pub(crate) fn is_at(warp: &Warp<'_>, bound: u64, ahead: u128) -> bool {
-    warp.bound() == bound && warp.ahead() == ahead
 }
 
 /// The steps of the row, in one call.
@@ -277,123 +167,29 @@ fn steps_of_the_row() -> [Step; 18] {
 }
 
 pub(crate) fn rolls_back_in_one_call(warp: &mut Warp<'_>) -> bool {
-    answers_so(warp, &steps_of_the_row(), &[Ok(()); 18]) && ends_so(warp)
+    goes_in_one_call(warp, &steps_of_the_row()) && has_loose(warp, 0, 0, 0) && warp.ahead() == 7
 }
 
-/// Steps after which router 2 takes back what differs in its path alone.
-const TAKEN_BACK: [Step; 9] = [
-    Step::Handle(0),
-    Step::Deliver(1),
-    Step::Handle(1),
-    Step::Deliver(3),
-    Step::Handle(2),
-    Step::Deliver(1),
-    Step::Handle(2),
-    Step::Deliver(6),
-    Step::Deliver(4),
+/// Steps after which router 1 has an event pending twice, handles it, and then hears that it is taken back.
+const PENDING_TWICE: [(Step, &str); 7] = [
+    (Step::Handle(0), "mn"),
+    (Step::Undo(0), "mnMN"),
+    (Step::Handle(0), "mnMNmn"),
+    (Step::Deliver(1), "nMNmn"),
+    (Step::Deliver(4), "nMNn"),
+    (Step::Handle(1), "nMNncd"),
+    (Step::Deliver(2), "nNncd"),
 ];
 
-pub(crate) fn takes_back_by_the_path(warp: &mut Warp<'_>) -> bool {
-    answers_so(warp, &TAKEN_BACK, &[Ok(()); 9])
-        && is_at(warp, 0, 3)
-        && has_loose(warp, 5, 2, 1)
-        && tell(warp, &[(1, 2, 1, 1), (3, 2, 1, 1), (5, 2, 1, 1)])
+pub(crate) fn is_pending_twice(warp: &mut Warp<'_>) -> bool {
+    goes_so(warp, &PENDING_TWICE) && has_loose(warp, 5, 0, 0)
 }
 
-/// Steps after which router 1 has an event pending twice, and handles it.
-const PENDING_TWICE: [Step; 8] = [
-    Step::Handle(0),
-    Step::Undo(0),
-    Step::Handle(0),
-    Step::Deliver(1),
-    Step::Deliver(4),
-    Step::Handle(1),
-    Step::Handle(1),
-    Step::Deliver(2),
-];
-
-/// The answers of these steps.
-const HANDLED_ONCE: [Result<(), Refusal>; 8] = [
-    Ok(()),
-    Ok(()),
-    Ok(()),
-    Ok(()),
-    Ok(()),
-    Ok(()),
-    Err(Refusal::Double),
-    Ok(()),
-];
-
-pub(crate) fn handles_once(warp: &mut Warp<'_>) -> bool {
-    answers_so(warp, &PENDING_TWICE, &HANDLED_ONCE)
-        && warp.bound() == 0
-        && has_loose(warp, 5, 0, 0)
-        && has_in_flight(warp, "nNncd")
-        && tell(warp, &[(1, 2, 1, 1), (3, 2, 1, 1), (0, 0, 0, 0)])
-}
-
-pub(crate) fn takes_from_anywhere(warp: &mut Warp<'_>) -> bool {
-    for next in [Next::First, Next::Middle, Next::Last] {
-        if !starts_and_all_come(warp, next) {
-            return false;
-        }
-    }
-    true
-}
-
-fn starts_and_all_come(warp: &mut Warp<'_>, next: Next) -> bool {
-    starts_over(warp, 400)
+/// Whether the origin handles its start and undoes it, four hundred times, and all that it offers is on its way.
+pub(crate) fn starts_over(warp: &mut Warp<'_>) -> bool {
+    starts_again_and_again(warp, 400)
         && has_loose(warp, 1_600, 1, 0)
         && has_starts_in_flight(warp, 1_600)
-        && all_come(warp, 1_600, next)
-        && has_loose(warp, 0, 1, 0)
-        && warp.ahead() == 0
-}
-
-pub(crate) fn refuses(warp: &mut Warp<'_>) -> bool {
-    refuses_at_first(warp)
-        && answers_so(
-            warp,
-            &[Step::Bound, Step::Handle(0), Step::Bound],
-            &[Ok(()); 3],
-        )
-        && refuses_what_is_committed(warp)
-        && warp.bound() == 1
-        && has_loose(warp, 2, 0, 0)
-        && has_in_flight(warp, "mn")
-        && tell(warp, &[(1, 2, 1, 1), (0, 0, 0, 0), (0, 0, 0, 0)])
-}
-
-fn refuses_at_first(warp: &mut Warp<'_>) -> bool {
-    let steps = [
-        Step::Deliver(0),
-        Step::Handle(7),
-        Step::Undo(0),
-        Step::Commit(5),
-    ];
-    let why = [
-        Err(Refusal::NoMessage),
-        Err(Refusal::NotMine),
-        Err(Refusal::Nothing),
-        Err(Refusal::NotMine),
-    ];
-    answers_so(warp, &steps, &why)
-}
-
-fn refuses_what_is_committed(warp: &mut Warp<'_>) -> bool {
-    let steps = [
-        Step::Undo(0),
-        Step::Commit(0),
-        Step::Undo(0),
-        Step::Handle(0),
-    ];
-    let why = [
-        Err(Refusal::Committed),
-        Ok(()),
-        Err(Refusal::Committed),
-        Err(Refusal::Nothing),
-    ];
-    answers_so(warp, &steps, &why)
 }
 
 pub(crate) fn is_dealt_out(warp: &Warp<'_>) -> bool {
@@ -402,65 +198,29 @@ pub(crate) fn is_dealt_out(warp: &Warp<'_>) -> bool {
         && owned_by(warp, 1) == Some([false, true, false])
 }
 
-#[test]
-fn the_stop_never_falls(rt: HostRuntime) {
-    assert!(rt; holds(rt.alloc(), DISAGREE, 1, Kind::Eager, Row::StopNeverFalls));
-}
+/// What is shown of the machine of DISAGREE, each with a name and how many workers it has. The row in one call goes on
+/// where it was broken off, and begins again.
+const ROWS: [(&str, u32, Row); 7] = [
+    ("the stop never falls", 1, Row::StopNeverFalls),
+    ("a straggler is rolled back", 1, Row::Straggler),
+    ("a straggler in one call", 2, Row::StragglerInOneCall),
+    ("a straggler once more", 2, Row::StragglerInOneCall),
+    ("a router for each worker", 3, Row::Straggler),
+    ("an event is pending twice", 1, Row::PendingTwice),
+    ("routers are dealt out", 2, Row::DealtOut),
+];
 
 #[test]
-fn a_straggler_is_rolled_back(rt: HostRuntime) {
-    assert!(rt; holds(rt.alloc(), DISAGREE, 1, Kind::Eager, Row::Straggler));
-}
-
-#[test]
-fn a_row_goes_on_where_it_was_broken_off_and_begins_again(rt: HostRuntime) {
-    for _ in 0..2 {
+fn a_machine_takes_its_steps(rt: HostRuntime) {
+    for (name, workers, row) in &ROWS {
         assert!(rt;
-            holds(
-                rt.alloc(),
-                DISAGREE,
-                2,
-                Kind::Eager,
-                Row::StragglerInOneCall
-            )
+            *workers > 0 && holds(rt.alloc(), DISAGREE, *workers, *row),
+            "{name}"
         );
     }
 }
 
 #[test]
-fn a_straggler_is_rolled_back_with_a_router_for_each_worker(rt: HostRuntime) {
-    assert!(rt; holds(rt.alloc(), DISAGREE, 3, Kind::Eager, Row::Straggler));
-}
-
-#[test]
-fn what_is_taken_back_differs_in_its_path_alone(rt: HostRuntime) {
-    assert!(rt;
-        holds(
-            rt.alloc(),
-            DISAGREE_WITH_EQUAL_TIMES,
-            1,
-            Kind::Eager,
-            Row::TakenBack
-        )
-    );
-}
-
-#[test]
-fn an_event_pending_twice_is_handled_once(rt: HostRuntime) {
-    assert!(rt; holds(rt.alloc(), DISAGREE, 1, Kind::Eager, Row::PendingTwice));
-}
-
-#[test]
-fn messages_come_from_anywhere(rt: HostRuntime) {
-    assert!(rt; holds(rt.alloc(), DISAGREE, 2, Kind::Eager, Row::FromAnywhere));
-}
-
-#[test]
-fn what_cannot_be_done_is_refused(rt: HostRuntime) {
-    assert!(rt; holds(rt.alloc(), DISAGREE, 2, Kind::Eager, Row::Refused));
-}
-
-#[test]
-fn the_routers_are_dealt_out_to_the_workers(rt: HostRuntime) {
-    assert!(rt; holds(rt.alloc(), DISAGREE, 2, Kind::Eager, Row::DealtOut));
+fn many_messages_are_on_their_way(rt: HostRuntime) {
+    assert!(rt; holds(rt.alloc(), DISAGREE, 2, Row::Started));
 }

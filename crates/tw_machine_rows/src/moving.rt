@@ -4,8 +4,8 @@
 ghost use Rattle.std.specs.Prelude.{◌≡◌, ◌<◌, IfSome};
 
 use crate::calls::{handle, receive, undo};
+use crate::made::holds_of_made;
 use crate::messages::{antimessage, early_offers_of_2, offers_of_1, offers_of_2, offers_of_origin};
-use crate::shards::Tries;
 use std::alloc::Global;
 use tw_event::PathNo;
 use tw_instance::Case;
@@ -31,20 +31,19 @@ fn shard<'a>(alloc: Global, case: &'a Case, worker: u32, cancel: Cancel) -> Opti
     }
 }
 
-/// The same, made so often.
-fn shard_by_tries<'a>(
+/// The same, made once more where memory was refused.
+fn shard_at_last<'a>(
     alloc: Global,
     case: &'a Case,
     worker: u32,
     cancel: Cancel,
-    tries: Tries,
 ) -> Option<Shard<'a>>
     requires { worker < 2 }
     ensures { IfSome result (λ s. s.case ≡ case.now) }
 {
-    match (shard(alloc, case, worker, cancel), tries) {
-        (None, Tries::Twice) => shard(alloc, case, worker, cancel),
-        (made, _) => made,
+    match shard(alloc, case, worker, cancel) {
+        None => shard(alloc, case, worker, cancel),
+        made => made,
     }
 }
 
@@ -212,33 +211,28 @@ fn comes_with_what_is_held<'a>(from: &mut Shard<'a>, to: &mut Shard<'a>) -> bool
 
 /// What a test shows of two shards.
 #[derive(Clone, Copy)]
-pub(crate) enum Row {
+enum Row {
     DealtOut,
     Refused,
     Waiting,
     Held,
-    OverAtOnce,
 }
 
-/// Whether a row holds of the two shards as DISAGREE begins, each made once more where memory was refused.
+/// Whether a row holds of the two shards as DISAGREE begins.
 fn holds(alloc: Global, cancel: Cancel, row: Row) -> bool {
-    holds_by_tries(alloc, cancel, Tries::Twice, row)
-}
-
-/// Whether a row holds of the two shards as DISAGREE begins, each made so often.
-pub(crate) fn holds_by_tries(alloc: Global, cancel: Cancel, tries: Tries, row: Row) -> bool {
     match case(alloc, DISAGREE) {
-        Ok(case) => holds_in(alloc, &case, cancel, tries, row),
+        Ok(case) => holds_in(alloc, &case, cancel, row),
         Err(_) => false,
     }
 }
 
-// To prove a function that lets two shards go takes many times as long as one that lets go of one.
-fn holds_in(alloc: Global, case: &Case, cancel: Cancel, tries: Tries, row: Row) -> bool {
-    match shard_by_tries(alloc, case, 0, cancel, tries) {
-        Some(mut from) => holds_from(alloc, case, &mut from, cancel, tries, row),
-        None => false,
-    }
+fn holds_in(alloc: Global, case: &Case, cancel: Cancel, row: Row) -> bool {
+    holds_of_made(
+        shard_at_last(alloc, case, 0, cancel),
+        |from| -> bool
+            requires { from.old.case ≡ case.now }
+        { holds_from(alloc, case, from, cancel, row) },
+    )
 }
 
 fn holds_from<'a>(
@@ -246,12 +240,11 @@ fn holds_from<'a>(
     case: &'a Case,
     from: &mut Shard<'a>,
     cancel: Cancel,
-    tries: Tries,
     row: Row,
 ) -> bool
     requires { from.old.case ≡ case.now }
 {
-    match shard_by_tries(alloc, case, 1, cancel, tries) {
+    match shard_at_last(alloc, case, 1, cancel) {
         Some(mut to) => holds_of(from, &mut to, row),
         None => false,
     }
@@ -265,26 +258,20 @@ fn holds_of<'a>(from: &mut Shard<'a>, to: &mut Shard<'a>, row: Row) -> bool
         Row::Refused => is_refused(from, to),
         Row::Waiting => comes_with_what_waits(from, to),
         Row::Held => comes_with_what_is_held(from, to),
-        Row::OverAtOnce => hand_over(from, 0, to) == Some(Ok(())),
     }
 }
 
-#[test]
-fn routers_are_dealt_out_by_a_list_of_owners(rt: HostRuntime) {
-    assert!(rt; holds(rt.alloc(), Cancel::Aggressive, Row::DealtOut));
-}
+/// What is shown of two shards, each with a name and how they cancel.
+const ROWS: [(&str, Cancel, Row); 4] = [
+    ("dealt out by a list", Cancel::Aggressive, Row::DealtOut),
+    ("a router of no shard", Cancel::Aggressive, Row::Refused),
+    ("with what waits for it", Cancel::Aggressive, Row::Waiting),
+    ("with what is held for it", Cancel::Lazy, Row::Held),
+];
 
 #[test]
-fn a_router_of_no_shard_is_not_handed_over(rt: HostRuntime) {
-    assert!(rt; holds(rt.alloc(), Cancel::Aggressive, Row::Refused));
-}
-
-#[test]
-fn a_router_goes_over_with_what_waits_for_it(rt: HostRuntime) {
-    assert!(rt; holds(rt.alloc(), Cancel::Aggressive, Row::Waiting));
-}
-
-#[test]
-fn a_router_goes_over_with_what_is_held_for_it(rt: HostRuntime) {
-    assert!(rt; holds(rt.alloc(), Cancel::Lazy, Row::Held));
+fn a_router_goes_from_one_shard_to_another(rt: HostRuntime) {
+    for (name, cancel, row) in &ROWS {
+        assert!(rt; holds(rt.alloc(), *cancel, *row), "{name}");
+    }
 }

@@ -1,7 +1,7 @@
 //! A router that has handled as many events that are not committed as it has room for, by calls.
 
 use crate::machine::step;
-use crate::rows::{Kind, Row, holds};
+use crate::rows::{Row, holds};
 use std::alloc::Global;
 use tw_core::limits::OPENING_ROOM;
 use tw_rows::cases::many_exchanges;
@@ -18,28 +18,15 @@ fn handles(warp: &mut Warp<'_>, count: usize) -> bool {
     true
 }
 
-/// Whether the origin has no room.
-fn is_full(warp: &mut Warp<'_>) -> bool {
-    step(warp, Step::Handle(0)) == Err(OrMemory::Fault(Refusal::AheadFull))
-}
-
-/// Whether the origin commits what is before the bound.
-fn commits(warp: &mut Warp<'_>) -> bool {
-    step(warp, Step::Bound) == Ok(()) && step(warp, Step::Commit(0)) == Ok(())
-}
-
-/// Whether the origin has room for as many events as a router begins with, and for one more once one is
-/// committed, and for twice as many once it is given more; and no other router is.
+/// Whether the origin has room for as many events as a router begins with, and for twice as many once it is given more,
+/// which no other router is.
 pub(crate) fn has_its_room(warp: &mut Warp<'_>) -> bool {
     handles(warp, OPENING_ROOM)
-        && is_full(warp)
-        && commits(warp)
-        && handles(warp, 1)
-        && is_full(warp)
+        && step(warp, Step::Handle(0)) == Err(OrMemory::Fault(Refusal::AheadFull))
         && warp.widen(1) == Err(OrMemory::Fault(Refusal::NotMine))
         && warp.widen(0) == Ok(())
-        && handles(warp, 44)
-        && warp.ahead() == 300
+        && handles(warp, 45)
+        && warp.ahead() == 301
 }
 
 /// Whether the row holds for the text of many exchanges.
@@ -49,7 +36,7 @@ fn holds_of_many(alloc: Global) -> bool {
         made => made,
     };
     match made {
-        Ok(text) => holds(alloc, &text, 1, Kind::Eager, Row::Room),
+        Ok(text) => holds(alloc, &text, 1, Row::Room),
         Err(_) => false,
     }
 }

@@ -4,6 +4,7 @@ ghost use Rattle.std.specs.Prelude.{◌≡◌, ◌<◌, ◌≤◌, true};
 ghost use Rattle.tw_model.specs.declared.limits.TheConstants.{LATEST};
 
 use crate::calls::{handle, receive, undo};
+use crate::made::holds_of_made;
 use crate::messages::{
     antimessage, early_offers_of_2, list, offers_of_1, offers_of_2, offers_of_origin,
 };
@@ -16,26 +17,13 @@ use tw_rows::texts::DISAGREE;
 use tw_shard::{OrMemory, Refusal, Rejection, Returned, Shard};
 use tw_sim::Signed;
 
-/// How often a shard is made, at most: once, or once more where memory was refused.
-#[derive(Clone, Copy)]
-pub(crate) enum Tries {
-    Once,
-    Twice,
-}
-
-/// What one worker of so many has of a case, made so often.
-fn shard<'a>(
-    alloc: Global,
-    case: &'a Case,
-    worker: u32,
-    workers: u32,
-    tries: Tries,
-) -> Result<Shard<'a>, AllocError>
-    requires { worker < workers }
+/// What one worker of three has of a case, made once more where memory was refused.
+fn shard<'a>(alloc: Global, case: &'a Case, worker: u32) -> Result<Shard<'a>, AllocError>
+    requires { worker < 3 }
 {
-    match (Shard::open(alloc, case, worker, workers, true), tries) {
-        (Err(_), Tries::Twice) => Shard::open(alloc, case, worker, workers, true),
-        (made, _) => made,
+    match Shard::open(alloc, case, worker, 3, true) {
+        Err(_) => Shard::open(alloc, case, worker, 3, true),
+        made => made,
     }
 }
 
@@ -148,7 +136,7 @@ fn the_least_comes_late(shard: &mut Shard<'_>) -> bool {
 
 /// What a test shows of a shard.
 #[derive(Clone, Copy)]
-pub(crate) enum Row {
+enum Row {
     RolledBack,
     ToldHandled,
     ToldCommitted,
@@ -157,39 +145,24 @@ pub(crate) enum Row {
     AntimessageFirst,
     Lent,
     LeastFirst,
-    LeastAtOnce,
-    CommitsAtOnce,
 }
 
-/// Whether a row holds of what one worker of three has as DISAGREE begins, made once more where memory was refused.
+/// Whether a row holds of what one worker of three has as DISAGREE begins.
 fn holds(alloc: Global, worker: u32, row: Row) -> bool
     requires { worker < 3 }
 {
-    holds_by_tries(alloc, worker, 3, Tries::Twice, row)
-}
-
-/// Whether a row holds of what the only worker has as DISAGREE begins, made once.
-pub(crate) fn only_worker_holds(alloc: Global, row: Row) -> bool {
-    holds_by_tries(alloc, 0, 1, Tries::Once, row)
-}
-
-fn holds_by_tries(alloc: Global, worker: u32, workers: u32, tries: Tries, row: Row) -> bool
-    requires { worker < workers }
-{
     match case(alloc, DISAGREE) {
-        Ok(case) => holds_in(alloc, &case, worker, workers, tries, row),
+        Ok(case) => holds_in(alloc, &case, worker, row),
         Err(_) => false,
     }
 }
 
-// To prove a function takes the longer, the more it lets go. So one lets the case go, and one the shard.
-fn holds_in(alloc: Global, case: &Case, worker: u32, workers: u32, tries: Tries, row: Row) -> bool
-    requires { worker < workers }
+fn holds_in(alloc: Global, case: &Case, worker: u32, row: Row) -> bool
+    requires { worker < 3 }
 {
-    match shard(alloc, case, worker, workers, tries) {
-        Ok(mut shard) => holds_of(alloc, &mut shard, row),
-        Err(_) => false,
-    }
+    holds_of_made(shard(alloc, case, worker).ok(), |shard| {
+        holds_of(alloc, shard, row)
+    })
 }
 
 fn holds_of(alloc: Global, shard: &mut Shard<'_>, row: Row) -> bool {
@@ -202,8 +175,6 @@ fn holds_of(alloc: Global, shard: &mut Shard<'_>, row: Row) -> bool {
         Row::AntimessageFirst => keeps_an_antimessage(shard),
         Row::Lent => sends_behind_what_is_lent(alloc, shard),
         Row::LeastFirst => handles_the_least_first(shard),
-        Row::LeastAtOnce => handles_the_least_at_once(shard),
-        Row::CommitsAtOnce => goes_and_comes_back(shard) && commits_at_once(shard),
     }
 }
 
@@ -305,64 +276,21 @@ fn sends_behind_what_is_lent(alloc: Global, shard: &mut Shard<'_>) -> bool {
     messages.as_slice() == &[first, second, third, fourth][..] && shard.outgoing().is_empty()
 }
 
-/// Whether router 0 handles its start, undoes it and handles it again, each at the first try, and router 1 is offered
-/// a path.
-fn goes_and_comes_back(shard: &mut Shard<'_>) -> bool {
-    let [offer, _] = offers_of_origin();
-    shard.handle_next(0, 20) == Ok(())
-        && shard.undo_last(0) == Ok(())
-        && shard.handle_next(0, 20) == Ok(())
-        && shard.receive(offer) == Ok(())
-}
-
-/// Whether router 0 commits its start, at the first try.
-fn commits_at_once(shard: &mut Shard<'_>) -> bool {
-    shard.raise_bound(1);
-    shard.keeps() && shard.commit(0) == Ok(())
-}
-
-/// Whether the start is handled as the least of all events, at the first try, and router 1 is offered a path.
-fn handles_the_least_at_once(shard: &mut Shard<'_>) -> bool {
-    let [offer, _] = offers_of_origin();
-    shard.order_by_time() == Ok(()) && shard.handle_least(20) == Ok(0) && welcomes(shard, &offer)
-}
+/// What is shown of a shard, each with a name and the worker that has it.
+const ROWS: [(&str, u32, Row); 8] = [
+    ("rolled back, and goes on", 2, Row::RolledBack),
+    ("what it has handled", 2, Row::ToldHandled),
+    ("what it has committed", 2, Row::ToldCommitted),
+    ("taken back and sent again", 0, Row::TakenBackAndSentAgain),
+    ("an event sent twice", 1, Row::SentTwice),
+    ("an antimessage that is first", 1, Row::AntimessageFirst),
+    ("behind what is lent", 0, Row::Lent),
+    ("the least of all events first", 2, Row::LeastFirst),
+];
 
 #[test]
-fn a_router_is_rolled_back_and_goes_on(rt: HostRuntime) {
-    assert!(rt; holds(rt.alloc(), 2, Row::RolledBack));
-}
-
-#[test]
-fn a_shard_tells_what_it_has_handled(rt: HostRuntime) {
-    assert!(rt; holds(rt.alloc(), 2, Row::ToldHandled));
-}
-
-#[test]
-fn a_shard_tells_what_it_has_committed(rt: HostRuntime) {
-    assert!(rt; holds(rt.alloc(), 2, Row::ToldCommitted));
-}
-
-#[test]
-fn what_is_undone_is_taken_back_and_sent_again(rt: HostRuntime) {
-    assert!(rt; holds(rt.alloc(), 0, Row::TakenBackAndSentAgain));
-}
-
-#[test]
-fn an_event_sent_twice_is_handled_once(rt: HostRuntime) {
-    assert!(rt; holds(rt.alloc(), 1, Row::SentTwice));
-}
-
-#[test]
-fn an_antimessage_waits_for_its_message(rt: HostRuntime) {
-    assert!(rt; holds(rt.alloc(), 1, Row::AntimessageFirst));
-}
-
-#[test]
-fn messages_are_lent_to_a_shard_that_sends_behind_them(rt: HostRuntime) {
-    assert!(rt; holds(rt.alloc(), 0, Row::Lent));
-}
-
-#[test]
-fn the_least_of_all_events_is_handled_first(rt: HostRuntime) {
-    assert!(rt; holds(rt.alloc(), 2, Row::LeastFirst));
+fn a_shard_goes_on_and_back(rt: HostRuntime) {
+    for (name, worker, row) in &ROWS {
+        assert!(rt; *worker < 3 && holds(rt.alloc(), *worker, *row), "{name}");
+    }
 }

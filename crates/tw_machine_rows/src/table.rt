@@ -28,22 +28,14 @@ use tw_table::laws::new_is_ruled;
 use tw_table::{Exchange, Hand, Held, Missing, Parcels, Seat, Table, Told, Visit};
 use tw_workers::laws::shares_are_at_work;
 
-/// What a test shows of two workers.
-#[derive(Clone, Copy)]
-pub(crate) enum Row {
-    SeatedAtOnce,
-    MailHandedOver,
-}
-
-/// The shards of two workers, made once more where memory was refused and the row does not ask for the first try.
-fn shards_of<'a>(alloc: Global, case: &'a Case, row: Row) -> Result<Vec<Shard<'a>>, AllocError>
+/// The shards of two workers, made once more where memory was refused.
+fn shards_of<'a>(alloc: Global, case: &'a Case) -> Result<Vec<Shard<'a>>, AllocError>
     ensures count { IfOk result (λ v. length v.items ≡ 2) }
     ensures each { IfOk result (λ v. (k : ℕ) → k < 2 → IsOpeningShard case.now k 2 true Aggressive (slice_index_or v.items k no_shard)) }
 {
-    let made = open_all(alloc, case, 2, true, Cancel::Aggressive);
-    match (made, row) {
-        (Err(_), Row::MailHandedOver) => open_all(alloc, case, 2, true, Cancel::Aggressive),
-        (made, _) => made,
+    match open_all(alloc, case, 2, true, Cancel::Aggressive) {
+        Err(_) => open_all(alloc, case, 2, true, Cancel::Aggressive),
+        made => made,
     }
 }
 
@@ -338,71 +330,30 @@ fn hand_each_other_mail<R: Wait>(
     close(rt, table, first, second, seats)
 }
 
-/// Whether two workers hand each other mail, and leave none.
-fn leave_no_mail<R: Wait>(
-    rt: &R,
-    alloc: Global,
-    case: &Case,
-    shards: &mut [Shard<'_>],
-    hands: &mut [Hand],
-) -> bool
-    requires { AreBeginning case.now shards.old hands.old }
+/// Whether two workers with these shards, and hands that are empty, hand each other mail, and leave none.
+fn leave_no_mail<R: Wait>(rt: &R, alloc: Global, case: &Case, shards: &mut [Shard<'_>]) -> bool
+    requires count { length shards.old ≡ 2 }
+    requires each { (k : ℕ) → k < 2 → IsOpeningShard case.now k 2 true Aggressive (slice_index_or shards.old k no_shard) }
 {
-    match hand_each_other_mail(rt, alloc, case, shards, hands) {
+    let mut hands = [Hand::new(alloc), Hand::new(alloc)];
+    match hand_each_other_mail(rt, alloc, case, shards, &mut hands) {
         Some(exchange) => is_left(&exchange),
         None => false,
     }
 }
 
-/// Whether a row holds of two workers with these shards and hands.
-fn holds_of<R: Wait>(
-    rt: &R,
-    alloc: Global,
-    case: &Case,
-    shards: &mut [Shard<'_>],
-    hands: &mut [Hand],
-    row: Row,
-) -> bool
-    requires { AreBeginning case.now shards.old hands.old }
-{
-    match row {
-        Row::SeatedAtOnce => sit_down(rt, alloc, case, shards, hands).is_some(),
-        Row::MailHandedOver => leave_no_mail(rt, alloc, case, shards, hands),
-    }
-}
-
-/// Whether a row holds of two workers with these shards, and hands that are empty.
-fn holds_with<R: Wait>(
-    rt: &R,
-    alloc: Global,
-    case: &Case,
-    shards: &mut [Shard<'_>],
-    row: Row,
-) -> bool
-    requires count { length shards.old ≡ 2 }
-    requires each { (k : ℕ) → k < 2 → IsOpeningShard case.now k 2 true Aggressive (slice_index_or shards.old k no_shard) }
-{
-    let mut hands = [Hand::new(alloc), Hand::new(alloc)];
-    holds_of(rt, alloc, case, shards, &mut hands, row)
-}
-
-/// Whether a row holds of two workers as a case begins.
-fn holds_in<R: Wait>(rt: &R, alloc: Global, case: &Case, row: Row) -> bool {
-    match shards_of(alloc, case, row) {
-        Ok(mut shards) => holds_with(rt, alloc, case, &mut shards, row),
-        Err(_) => false,
-    }
-}
-
-/// Whether a row holds of two workers as DISAGREE begins.
-pub(crate) fn holds<R: Wait>(rt: &R, alloc: Global, row: Row) -> bool {
-    match case(alloc, DISAGREE) {
-        Ok(case) => holds_in(rt, alloc, &case, row),
+/// Whether two workers do so as a case begins.
+fn leave_no_mail_of<R: Wait>(rt: &R, alloc: Global, case: &Case) -> bool {
+    match shards_of(alloc, case) {
+        Ok(mut shards) => leave_no_mail(rt, alloc, case, &mut shards),
         Err(_) => false,
     }
 }
 
 #[test]
 fn two_workers_hand_each_other_mail(rt: HostRuntime) {
-    assert!(rt; holds(&rt, rt.alloc(), Row::MailHandedOver));
+    let Ok(case) = case(rt.alloc(), DISAGREE) else {
+        panic!(rt; "refused")
+    };
+    assert!(rt; leave_no_mail_of(&rt, rt.alloc(), &case));
 }

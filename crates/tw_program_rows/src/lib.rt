@@ -4,8 +4,6 @@
 #![tactic(auto)]
 
 #[cfg(test)]
-mod ample;
-#[cfg(test)]
 mod devices;
 #[cfg(test)]
 mod events;

@@ -3,26 +3,21 @@
 ghost use Rattle.std.specs.Prelude.{◌≡◌, false};
 
 use crate::devices::{AMPLE, Endless, ShortPage, Tape};
-use crate::texts::{ALONE_LOG, ALONE_REPLAY, DISAGREE_LOG, DISAGREE_TRAIL, DISAGREE_UPGRADED};
+use crate::texts::{DISAGREE_LOG, DISAGREE_UPGRADED};
 use std::alloc::Global;
-use tw_commands::{Cause, Status, check_io, replay_io, seq_io, trail_io, upgrade_io};
+use tw_commands::{Cause, Status, check_io, seq_io, upgrade_io};
 use tw_rows::texts::{ALONE, DISAGREE};
-use tw_sim::Cancel;
 
 /// A program, with its options.
 #[derive(Clone, Copy, Debug)]
-pub(crate) enum Asked {
+enum Asked {
     Check,
     /// With the log, and no checkpoints.
     Seq { stop: u16 },
-    /// Of router 1 to stop 20, down to its first state.
-    Trail,
-    /// To stop 20, by one worker.
-    Replay,
     Upgrade,
 }
 
-pub(crate) fn run(
+fn run(
     alloc: Global,
     asked: Asked,
     tape: &mut Tape<'_>,
@@ -34,8 +29,6 @@ pub(crate) fn run(
     match asked {
         Asked::Check => check_io(alloc, tape, page),
         Asked::Seq { stop } => seq_io(alloc, tape, page, u64::from(stop), None, true),
-        Asked::Trail => trail_io(alloc, tape, page, 1, 20, 0),
-        Asked::Replay => replay_io(alloc, tape, page, 20, 1, Cancel::Aggressive),
         Asked::Upgrade => upgrade_io(alloc, tape, page),
     }
 }
@@ -66,20 +59,6 @@ fn answers(
     false
 }
 
-/// Whether a program ends so on a whole text, with just this on a page with room, written `most` bytes in one call.
-fn writes(
-    alloc: Global,
-    asked: Asked,
-    text: &str,
-    most: usize,
-    status: Status,
-    written: &str,
-) -> bool {
-    let tape = Tape::new(text.as_bytes(), usize::MAX);
-    let written = written.as_bytes();
-    answers(alloc, asked, tape, AMPLE, most, Ok(status), written)
-}
-
 /// Whether a program is ended by a page that takes no more than `room` bytes of a text, with just this on it.
 fn fails(
     alloc: Global,
@@ -94,51 +73,6 @@ fn fails(
 }
 
 const ACCEPTED: &str = "accepted nodes 3 links 3 paths 4 scenario 0\n";
-
-/// The origin alone, which handles its start and commits it.
-pub(crate) const ALONE_STEPS: &str = "spp 1\nnodes 1\nend\nhandle 0\nbound\ncommit 0\nend\n";
-
-#[test]
-fn each_program_writes_to_the_byte(rt: HostRuntime) {
-    let rows = [
-        (ALONE, Asked::Seq { stop: 10 }, ALONE_LOG),
-        (DISAGREE, Asked::Trail, DISAGREE_TRAIL),
-        (DISAGREE, Asked::Check, ACCEPTED),
-        (ALONE_STEPS, Asked::Replay, ALONE_REPLAY),
-        (DISAGREE, Asked::Upgrade, DISAGREE_UPGRADED),
-        (DISAGREE_UPGRADED, Asked::Upgrade, DISAGREE_UPGRADED),
-    ];
-    for (text, asked, written) in rows {
-        assert!(rt;
-            writes(rt.alloc(), asked, text, AMPLE, Status::Done, written),
-            "{asked:?}"
-        );
-    }
-}
-
-#[test]
-fn a_text_that_is_broken_off_is_refused(rt: HostRuntime) {
-    for asked in [
-        Asked::Check,
-        Asked::Seq { stop: 10 },
-        Asked::Trail,
-        Asked::Replay,
-        Asked::Upgrade,
-    ] {
-        let line = "refused line 3 X6 End\n";
-        assert!(rt;
-            writes(
-                rt.alloc(),
-                asked,
-                "spp 1\nnodes 1\n",
-                AMPLE,
-                Status::Refused,
-                line
-            ),
-            "{asked:?}"
-        );
-    }
-}
 
 /// Whether each shorter page has a prefix of what the program writes on DISAGREE, and tells that
 /// it failed.
@@ -175,6 +109,12 @@ fn the_first_line_stands_where_a_sink_takes_thirteen_bytes(rt: HostRuntime) {
     assert!(rt; fails(rt.alloc(), asked, ALONE, 13, AMPLE, b"spp-report 1\n"));
 }
 
+/// Whether a program writes just this on DISAGREE, a byte at a time.
+fn writes_bytes(alloc: Global, asked: Asked, written: &[u8]) -> bool {
+    let tape = Tape::new(DISAGREE.as_bytes(), usize::MAX);
+    answers(alloc, asked, tape, AMPLE, 1, Ok(Status::Done), written)
+}
+
 #[test]
 fn a_sink_may_take_a_byte_at_a_time(rt: HostRuntime) {
     let asked = Asked::Seq { stop: 20 };
@@ -183,7 +123,10 @@ fn a_sink_may_take_a_byte_at_a_time(rt: HostRuntime) {
         (Asked::Check, ACCEPTED),
         (Asked::Upgrade, DISAGREE_UPGRADED),
     ] {
-        assert!(rt; writes(rt.alloc(), asked, DISAGREE, 1, Status::Done, text));
+        assert!(rt;
+            writes_bytes(rt.alloc(), asked, text.as_bytes()),
+            "{asked:?}"
+        );
     }
 }
 

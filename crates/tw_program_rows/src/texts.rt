@@ -28,29 +28,6 @@ router 2 sent 2 handled 2 dropped 0 changed 1 rib (2 1 0)
 verdict quiet 2
 ";
 
-/// The trail of --router 1 --stop 20 --keep 0
-pub(crate) const DISAGREE_TRAIL: &str = "\
-spp-trail 1
-router 1 sent 2 handled 2 dropped 0 changed 1 rib (1 0)
-undo event 3 1 update 2 1 0 (2 1 0)
-undo event 1 1 update 0 0 0 (0)
-send event 2 0 update 1 0 0 (1 0)
-send event 2 2 update 1 1 0 (1 0)
-router 1 sent 0 handled 0 dropped 0 changed 0 rib ()
-";
-
-/// The replay in which the origin alone handles its start and commits it, to stop 20.
-pub(crate) const ALONE_REPLAY: &str = "\
-spp-replay 1
-step 1 ok
-step 2 ok
-step 3 ok
-bound 20
-flight 0 pending 0 kept 0 ahead 0
-event 0 0 start
-router 0 sent 0 handled 1 dropped 0 changed 1 rib (0)
-";
-
 /// DISAGREE in version 2.
 pub(crate) const DISAGREE_UPGRADED: &str = "\
 spp 2

@@ -1,7 +1,6 @@
 //! Parallel runs by threads.
 
-ghost use Rattle.std.specs.Prelude.{◌≡◌, ◌<◌, ◌≤◌, false, IfSome};
-ghost use Rattle.tw_model.specs.declared.limits.TheConstants.{LATEST};
+ghost use Rattle.std.specs.Prelude.{◌≡◌, false};
 
 use crate::devices::{AMPLE, ShortPage, Tape};
 use crate::events::events;
@@ -22,35 +21,41 @@ use tw_sim::Cancel;
 use tw_table::Seat;
 
 /// How `run` to stop 20 by two workers ends on DISAGREE, with the log on this page.
-pub(crate) fn run_by_two<X: Threads + Wait + Sync>(
+fn run_by_two<X: Threads + Wait + Sync>(
     rt: &X,
     alloc: Global,
     page: &mut ShortPage,
-    every: Option<u64>,
-    cancel: Cancel,
-    dealing: Dealing,
 ) -> Result<Status, Cause>
-    requires sink { page.old.failed ≡ false }
-    requires every { IfSome every (λ n. (0 < n) × (n ≤ LATEST)) }
+    requires { page.old.failed ≡ false }
 {
     let mut tape = Tape::new(DISAGREE.as_bytes(), usize::MAX);
+    let dealing = Dealing {
+        blocks: false,
+        rotate: false,
+    };
     run_io(
-        rt, alloc, &mut tape, page, 20, every, true, 2, 64, cancel, dealing,
+        rt,
+        alloc,
+        &mut tape,
+        page,
+        20,
+        None,
+        true,
+        2,
+        64,
+        Cancel::Aggressive,
+        dealing,
     )
 }
 
 /// Whether `run` by two workers writes the whole log of DISAGREE. It is run once more where memory or a thread was
 /// refused and it has written nothing.
 fn writes_whole<X: Threads + Wait + Sync>(rt: &X, alloc: Global) -> bool {
-    let dealing = Dealing {
-        blocks: false,
-        rotate: false,
-    };
     for _ in 0..2 {
         let Ok(mut page) = ShortPage::new(alloc, AMPLE, AMPLE) else {
             continue;
         };
-        match run_by_two(rt, alloc, &mut page, None, Cancel::Aggressive, dealing) {
+        match run_by_two(rt, alloc, &mut page) {
             Err(Cause::Memory | Cause::NoThread) if page.bytes().is_empty() => {}
             ended => {
                 return ended == Ok(Status::Done) && page.bytes() == DISAGREE_LOG.as_bytes();

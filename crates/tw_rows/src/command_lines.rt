@@ -1,4 +1,4 @@
-//! Command lines, and what they ask for.
+//! Command lines, and what they ask for. Those that are refused are in `checks/program_rows.py`.
 
 use std::alloc::Global;
 use tw_options::{CommandLine, CommandLineFault, options};
@@ -14,50 +14,6 @@ fn asked(alloc: Global, words: &[&str]) -> Result<CommandLine, CommandLineFault>
 /// Whether the words ask for just this.
 fn asks_for(alloc: Global, words: &[&str], line: CommandLine) -> bool {
     matches!(asked(alloc, words), Ok(found) if found == line)
-}
-
-/// Command lines whose numbers are left out or out of range.
-const REFUSED: [&[&str]; 14] = [
-    &["twarp", "seq"],
-    &["twarp", "seq", "--stop", "0"],
-    &["twarp", "seq", "--stop", "1000000001"],
-    &["twarp", "seq", "--stop", "20", "--every", "0"],
-    &[
-        "twarp", "trail", "--router", "1024", "--stop", "20", "--keep", "0",
-    ],
-    &["twarp", "run", "--workers", "2"],
-    &["twarp", "run", "--stop", "20", "--workers", "0"],
-    &["twarp", "run", "--stop", "20", "--workers", "65"],
-    &["twarp", "run", "--stop", "20", "--batch", "0"],
-    &["twarp", "run", "--stop", "20", "--batch", "4097"],
-    &["twarp", "replay"],
-    &["twarp", "replay", "--stop", "0"],
-    &["twarp", "replay", "--stop", "20", "--workers", "0"],
-    &["twarp", "replay", "--stop", "20", "--workers", "65"],
-];
-/// Whether the words are refused.
-fn is_refused(alloc: Global, words: &[&str]) -> bool {
-    matches!(asked(alloc, words), Err(CommandLineFault::Bad(_)))
-}
-
-#[test]
-fn numbers_left_out_or_out_of_range_are_refused(rt: HostRuntime) {
-    for words in &REFUSED {
-        assert!(rt; is_refused(rt.alloc(), words), "{words:?}");
-    }
-}
-
-#[test]
-fn help_and_version_are_told_apart_from_a_refusal(rt: HostRuntime) {
-    for word in ["--help", "--version"] {
-        assert!(rt;
-            matches!(
-                asked(rt.alloc(), &["twarp", word]),
-                Err(CommandLineFault::Help(_))
-            ),
-            "{word}"
-        );
-    }
 }
 
 /// Whether a trail has the greatest numbers that it may be given.

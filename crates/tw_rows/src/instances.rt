@@ -1,11 +1,10 @@
 //! Instances and cases by calls, from items in place of a text.
 
-use crate::cases::case;
-use crate::texts::{DISAGREE, FAILURE_AND_REPAIR, FAILURE_AND_REPAIR_IN_VERSION_2, FORBIDDEN_PATH};
+use crate::texts::{DISAGREE, FORBIDDEN_PATH};
 use std::alloc::{AllocError, Global};
 use tw_event::{Body, Event, PathNo};
 use tw_instance::{At, Case, Instance, Item, Link, OrMemory, PermittedPath, Rule, Scene};
-use tw_text::{upgrade, write_case};
+use tw_text::write_case;
 
 /// A link between two routers, with the delay from the first to the second and the delay back.
 fn link(first: u32, second: u32, delay: u64, back: u64) -> Link {
@@ -144,45 +143,6 @@ fn has_a_delay_for_each_direction(instance: &Instance) -> bool {
 /// Whether a path that is forbidden and allowed, and two delays of a link, are written in version 2.
 fn is_that_of_the_text_in_version_2(alloc: Global, case: &Case) -> bool {
     is_written_as(alloc, case, 2, FORBIDDEN_PATH) && has_a_delay_for_each_direction(case.instance())
-}
-
-/// The case of version 2, upgraded once more where memory was refused.
-fn upgraded(alloc: Global, given: &Case) -> Result<Case, AllocError> {
-    match upgrade(alloc, given) {
-        Err(_) => upgrade(alloc, given),
-        done => done,
-    }
-}
-
-/// Whether a case is upgraded to one of version 2 that is written as this one.
-fn upgrades_to(alloc: Global, given: &Case, due: &str) -> bool {
-    match upgraded(alloc, given) {
-        Ok(upgraded) => is_written_as(alloc, &upgraded, 2, due),
-        Err(_) => false,
-    }
-}
-
-/// The same of the case of a text.
-fn is_upgraded_to(alloc: Global, text: &str, due: &str) -> bool {
-    match case(alloc, text) {
-        Ok(given) => upgrades_to(alloc, &given, due),
-        Err(_) => false,
-    }
-}
-
-#[test]
-fn a_case_is_upgraded(rt: HostRuntime) {
-    let rows = [
-        (
-            "with failures",
-            FAILURE_AND_REPAIR,
-            FAILURE_AND_REPAIR_IN_VERSION_2,
-        ),
-        ("of the latest version", FORBIDDEN_PATH, FORBIDDEN_PATH),
-    ];
-    for (name, text, due) in rows {
-        assert!(rt; is_upgraded_to(rt.alloc(), text, due), "{name}");
-    }
 }
 
 /// Whether the paths of DISAGREE have the numbers that their nodes give them.

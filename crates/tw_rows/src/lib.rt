@@ -23,6 +23,4 @@ mod lanes;
 mod pending;
 #[cfg(test)]
 mod readings;
-#[cfg(test)]
-mod shapes;
 pub mod texts;

@@ -6,7 +6,7 @@ use std::alloc::{AllocError, Global};
 use tw_instance::Case;
 use tw_model::OrMemory;
 use tw_sim::Step;
-use tw_text::{TextFault, read_case, read_replay, read_steps, write_case};
+use tw_text::{TextFault, read_replay, read_steps, write_case};
 
 /// The steps of a text, tried again where memory was refused.
 fn steps_of(alloc: Global, text: &str) -> Result<Vec<Step>, OrMemory<TextFault>> {
@@ -81,36 +81,5 @@ const TEXTS: [&str; 4] = [DISAGREE, RANK_EXCHANGE, FAILURE_AND_REPAIR, FORBIDDEN
 fn a_case_that_was_read_is_written_as_it_was(rt: HostRuntime) {
     for text in &TEXTS {
         assert!(rt; is_written_again(rt.alloc(), text), "{text}");
-    }
-}
-
-/// The line that a refused text is refused at.
-fn refused_line(fault: OrMemory<TextFault>) -> Option<usize> {
-    match fault {
-        OrMemory::Fault(fault) => Some(fault.line),
-        OrMemory::Memory => None,
-    }
-}
-
-/// Whether a start of a case is refused, at its last line or the next, or memory was.
-fn is_refused_near_its_end(alloc: Global, start: &[u8]) -> bool {
-    let ended = start.iter().filter(|byte| **byte == b'\n').count();
-    match read_case(alloc, start) {
-        Err(fault) => match refused_line(fault) {
-            Some(line) => line <= ended + 1,
-            None => true,
-        },
-        Ok(_) => false,
-    }
-}
-
-#[test]
-fn every_prefix_of_a_case_is_refused_near_its_end(rt: HostRuntime) {
-    let whole = FAILURE_AND_REPAIR.as_bytes();
-    for cut in 0..whole.len() {
-        assert!(rt;
-            is_refused_near_its_end(rt.alloc(), &whole[..cut]),
-            "after {cut} bytes"
-        );
     }
 }

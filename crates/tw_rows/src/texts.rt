@@ -21,53 +21,12 @@ path 2 2 0
 end
 ";
 
-/// DISAGREE with delays 1, 2 and 1: what the origin and router 1 offer comes to router 2 at one time.
-pub const DISAGREE_WITH_EQUAL_TIMES: &str = "\
-spp 1
-nodes 3
-link 0 1 1
-link 0 2 2
-link 1 2 1
-path 1 1 2 0
-path 1 1 0
-path 2 2 1 0
-path 2 2 0
-end
-";
-
-/// DISAGREE with all delays 1.
-pub const DISAGREE_AT_ONCE: &str = "\
-spp 1
-nodes 3
-link 0 1 1
-link 0 2 1
-link 1 2 1
-path 1 1 2 0
-path 1 1 0
-path 2 2 1 0
-path 2 2 0
-end
-";
-
 /// A link that fails and is repaired while an update is under way.
 pub const FAILURE_AND_REPAIR: &str = "\
 spp 1
 nodes 3
 link 0 1 3
 link 1 2 3
-path 1 1 0
-path 2 2 1 0
-fail 4 1 2
-restore 5 1 2
-end
-";
-
-/// The same case in version 2.
-pub const FAILURE_AND_REPAIR_IN_VERSION_2: &str = "\
-spp 2
-nodes 3
-link 0 1 3 3
-link 1 2 3 3
 path 1 1 0
 path 2 2 1 0
 fail 4 1 2

@@ -1,9 +1,10 @@
 //! What a thread knows of a worker.
-ghost use Rattle.std.specs.Prelude.{◌≡◌, ℕ, false, true};
+ghost use Rattle.std.specs.Prelude.{◌≡◌, ◌↔◌, ℕ, false, true};
 ghost use Rattle.tw_table.specs.Seats.{halted_at, share_at, stop_at};
 ghost use Rattle.tw_table.specs.Shares.{Share};
 ghost use Rattle.tw_threads.specs.Left.{HasLeft, IsFull};
 ghost use Rattle.tw_workers.specs.Seated.{IsSeated};
+ghost use Rattle.tw_workers.specs.Work.{IsIdle};
 ghost use Rattle.tw_workers.specs.declared.working.Leaving.TheVariants.{CounterFull, Halted, Settled};
 
 use std::sync::Wait;
@@ -39,6 +40,7 @@ pub trait Work {
         requires { IsSeated table.now seat (share self.old) (stop self.old) }
         ensures left { HasLeft table.now seat result.0 }
         ensures seated { IsSeated table.now result.0 (share self.new) (stop self.new) }
+        ensures aside { (result.1 ≡ true) ↔ IsIdle (share self.old) }
         ensures stays { result.1 ≡ false → (result.0 ≡ seat) × (self.new ≡ self.old) };
 
     /// It takes no turn, and tells all workers to take no further one. The seat is its own, at this table, and

@@ -1,5 +1,5 @@
 -- A worker at its work, and what each call at it keeps (own, after Jefferson, Virtual Time, 1985).
-use Rattle.std.specs.Prelude.{ℕ, ◌≡◌, ◌<◌, true, List}
+use Rattle.std.specs.Prelude.{ℕ, ◌≡◌, ◌<◌, [], true, List}
 use Rattle.std.specs.List.{AllZip}
 use Rattle.tw_event.specs.declared.event.Event.{Event}
 use Rattle.tw_model.specs.Case.{IsCase, simulation}
@@ -36,6 +36,13 @@ pub record Kept (stop : ℕ) (s t : Share) : Type 0 where
   -- and it takes back what undone events have sent as before
   pub cancel : t.shard.cancel ≡ s.shard.cancel
   pub place : Keeps (simulation s.shard.case) stop (place_of s) (place_of t)
+
+-- a worker with this share has no router, and no message to deliver or to send
+pub record IsIdle (s : Share) : Type 0 where
+  pub routers : s.shard.routers ≡ []
+  pub mail : s.mail ≡ []
+  pub unsent : s.unsent ≡ []
+  pub outgoing : s.shard.outgoing ≡ []
 
 -- its routers have committed all before its stop
 abbrev pub HasCommitted : Worker → Type 0

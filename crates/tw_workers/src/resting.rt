@@ -1,7 +1,7 @@
 //! A worker that has nothing to do waits.
-ghost use Rattle.std.specs.Prelude.{◌≡◌, [], false, true};
+ghost use Rattle.std.specs.Prelude.{◌≡◌, ◌↔◌, false, true};
 ghost use Rattle.tw_workers.specs.Seated.{HasTurned, IsSeated};
-ghost use Rattle.tw_workers.specs.Work.{IsAtWork};
+ghost use Rattle.tw_workers.specs.Work.{IsAtWork, IsIdle};
 
 use crate::gate::Gate;
 use crate::policy::{LOOKS, NAP_MICROS, NAPS, longest_nap};
@@ -19,7 +19,7 @@ impl<'a> Worker<'a> {
     pub fn step_aside<R: Wait>(&mut self, rt: &R, table: &Table, seat: Seat) -> (Seat, bool)
         requires seated { IsSeated table.now seat self.old.share self.old.stop }
         ensures turned { HasTurned table.now seat result.0 self.old self.new }
-        ensures aside { result.1 ≡ true → self.old.share.shard.routers ≡ [] }
+        ensures aside { (result.1 ≡ true) ↔ IsIdle self.old.share }
         ensures stays { result.1 ≡ false → (result.0 ≡ seat) × (self.new ≡ self.old) }
     {
         if !self.has_nothing() {
@@ -31,14 +31,11 @@ impl<'a> Worker<'a> {
 
     /// Whether it has no router, and no message to deliver or to send.
     fn has_nothing(&self) -> bool
-        ensures routers { result ≡ true → self.now.share.shard.routers ≡ [] }
-        ensures mail { result ≡ true → self.now.share.mail ≡ [] }
-        ensures unsent { result ≡ true → self.now.share.unsent ≡ [] }
-        ensures sorted { result ≡ true → self.now.share.shard.outgoing ≡ [] }
+        ensures idle { (result ≡ true) ↔ IsIdle self.now.share }
         ensures work { IsAtWork self.now.stop self.now.share }
     {
         self.shard.router_count() == 0
-            && self.hand.mail.is_empty()
+            && self.hand.next >= self.hand.mail.len()
             && self.hand.out.is_empty()
             && self.shard.outgoing().is_empty()
     }

@@ -1,8 +1,8 @@
 use Rattle.tw_machine_rows.proofs.Sittings.{begun}
-use Rattle.tw_machine_rows.proofs.table.holds_with.Goals as goal
+use Rattle.tw_machine_rows.proofs.table.leave_no_mail.Goals as goal
 
-pub holds_of-requires : goal.holds_of-requires
-holds_of-requires g c =
+pub hand_each_other_mail-requires : goal.hand_each_other_mail-requires
+hand_each_other_mail-requires g c =
     let one = c.new.ensures in
     let two = c.new-2.ensures in
     begun c.args.case.now c.args.shards.now c.new.result c.new-2.result c.requires.count c.requires.each
