@@ -13,6 +13,8 @@ mod dealt;
 #[cfg(test)]
 mod exchange;
 #[cfg(test)]
+mod lazy;
+#[cfg(test)]
 mod machine;
 #[cfg(test)]
 mod made;

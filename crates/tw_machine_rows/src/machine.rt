@@ -4,7 +4,7 @@ use crate::messages::{antimessage, early_offers_of_2, offers_of_1, offers_of_2, 
 use crate::rows::{Row, holds};
 use tw_event::Event;
 use tw_rows::texts::DISAGREE;
-use tw_sim::{Signed, Step};
+use tw_sim::{Cancel, Signed, Step};
 use tw_warp::{OrMemory, Refusal, StopLower, Warp};
 
 /// Takes a step, once more where memory was refused.
@@ -17,7 +17,7 @@ pub(crate) fn step(warp: &mut Warp<'_>, step: Step) -> Result<(), OrMemory<Refus
 
 /// The message of a letter: `m` and `n` are what the origin offers, `a` and `b` what router 2 offers early,
 /// `c` and `d` what router 1 offers, `e` and `f` what router 2 then offers; the capital is its antimessage.
-fn message(letter: u8) -> Option<Signed<Event>> {
+pub(crate) fn message(letter: u8) -> Option<Signed<Event>> {
     let ([m, n], [a, b]) = (offers_of_origin(), early_offers_of_2());
     let ([c, d], [e, f]) = (offers_of_1(), offers_of_2());
     let message = match letter.to_ascii_lowercase() {
@@ -88,7 +88,7 @@ fn are_done(answers: &[Result<(), Refusal>], count: usize) -> bool {
 }
 
 /// Whether all steps are done in one call. Where memory was refused to one, it and the rest are taken by another.
-fn goes_in_one_call(warp: &mut Warp<'_>, steps: &[Step]) -> bool {
+pub(crate) fn goes_in_one_call(warp: &mut Warp<'_>, steps: &[Step]) -> bool {
     let fault = match warp.run(steps) {
         Ok(answers) => return are_done(&answers, steps.len()),
         Err(fault) => fault,
@@ -135,7 +135,7 @@ fn has_starts_in_flight(warp: &Warp<'_>, count: u64) -> bool {
 }
 
 /// Whether nothing but these numbers of messages is loose: on their way, pending and kept.
-fn has_loose(warp: &Warp<'_>, flight: u128, pending: u128, kept: u128) -> bool {
+pub(crate) fn has_loose(warp: &Warp<'_>, flight: u128, pending: u128, kept: u128) -> bool {
     warp.flight_len() == flight && warp.pending_len() == pending && warp.kept_len() == kept
 }
 
@@ -214,7 +214,7 @@ const ROWS: [(&str, u32, Row); 7] = [
 fn a_machine_takes_its_steps(rt: HostRuntime) {
     for (name, workers, row) in &ROWS {
         assert!(rt;
-            *workers > 0 && holds(rt.alloc(), DISAGREE, *workers, *row),
+            *workers > 0 && holds(rt.alloc(), DISAGREE, *workers, Cancel::Aggressive, *row),
             "{name}"
         );
     }
@@ -222,5 +222,5 @@ fn a_machine_takes_its_steps(rt: HostRuntime) {
 
 #[test]
 fn many_messages_are_on_their_way(rt: HostRuntime) {
-    assert!(rt; holds(rt.alloc(), DISAGREE, 2, Row::Started));
+    assert!(rt; holds(rt.alloc(), DISAGREE, 2, Cancel::Aggressive, Row::Started));
 }

@@ -3,10 +3,11 @@
 ghost use Rattle.std.specs.Prelude.{◌<◌};
 
 use crate::made::holds_of_made;
-use crate::{machine, rooms};
+use crate::{lazy, machine, rooms};
 use std::alloc::{AllocError, Global};
 use tw_instance::Case;
 use tw_rows::cases::case;
+use tw_sim::Cancel;
 use tw_warp::Warp;
 
 /// What a test shows of a machine.
@@ -18,27 +19,39 @@ pub(crate) enum Row {
     PendingTwice,
     Started,
     DealtOut,
+    Released,
     Room,
 }
 
 /// The machine of a case, to stop 20, made once more where memory was refused.
-fn machine_of<'a>(alloc: Global, case: &'a Case, workers: u32) -> Result<Warp<'a>, AllocError>
+fn machine_of<'a>(
+    alloc: Global,
+    case: &'a Case,
+    workers: u32,
+    cancel: Cancel,
+) -> Result<Warp<'a>, AllocError>
     requires { 0 < workers }
 {
-    match Warp::new(alloc, case, workers, 20) {
-        Err(_) => Warp::new(alloc, case, workers, 20),
-        made => made,
+    match cancel {
+        Cancel::Aggressive => match Warp::new(alloc, case, workers, 20) {
+            Err(_) => Warp::new(alloc, case, workers, 20),
+            made => made,
+        },
+        Cancel::Lazy => match Warp::with_cancel(alloc, case, workers, 20, cancel) {
+            Err(_) => Warp::with_cancel(alloc, case, workers, 20, cancel),
+            made => made,
+        },
     }
 }
 
 /// Whether a row holds of the machine of a case, with so many workers.
-pub(crate) fn holds(alloc: Global, text: &str, workers: u32, row: Row) -> bool
+pub(crate) fn holds(alloc: Global, text: &str, workers: u32, cancel: Cancel, row: Row) -> bool
     requires { 0 < workers }
 {
     let Ok(case) = case(alloc, text) else {
         return false;
     };
-    holds_of_made(machine_of(alloc, &case, workers).ok(), |warp| {
+    holds_of_made(machine_of(alloc, &case, workers, cancel).ok(), |warp| {
         holds_of(warp, row)
     })
 }
@@ -51,6 +64,7 @@ fn holds_of(warp: &mut Warp<'_>, row: Row) -> bool {
         Row::PendingTwice => machine::is_pending_twice(warp),
         Row::Started => machine::starts_over(warp),
         Row::DealtOut => machine::is_dealt_out(warp),
+        Row::Released => lazy::releases(warp),
         Row::Room => rooms::has_its_room(warp),
     }
 }

@@ -270,6 +270,7 @@ const ALLOWED: [Line<'static>; 9] = [
 #[derive(Clone, Copy)]
 enum Row<'a> {
     Trail(&'a [Line<'a>]),
+    AnotherSession,
     FullCounter,
     ImpossibleCounters,
 }
@@ -288,8 +289,44 @@ fn holds_in(alloc: Global, instance: &Instance, row: Row<'_>) -> bool
 {
     match row {
         Row::Trail(lines) => goes_from_the_start(alloc, instance, lines),
+        Row::AnotherSession => drops_another_session(alloc, instance),
         Row::FullCounter => refuses_a_full_counter(alloc, instance),
         Row::ImpossibleCounters => refuses_impossible_counters(alloc, instance),
+    }
+}
+
+/// Whether a router has counted one event, which it dropped, and is as it was but for that.
+fn has_dropped_one(router: &Router<'_>) -> bool {
+    let counters = router.counters();
+    counters.handled == 1
+        && counters.dropped == 1
+        && counters.sent == 0
+        && router.rib() == PathNo::EMPTY
+        && matches!(router.rows().first(), Some(row) if row.heard == PathNo::EMPTY)
+}
+
+/// Whether the router drops an update of another session, and is as it was where that is undone.
+fn takes_a_drop_back(alloc: Global, instance: &Instance, router: &mut Router<'_>) -> bool
+    requires { instance.now ≡ router.old.net }
+{
+    let event = update(1, 0, 0, 1, 1);
+    let sends = &mut SmallVec::new(alloc);
+    let Ok(note) = handle(instance, router, &event, sends) else {
+        return false;
+    };
+    has_dropped_one(router)
+        && sends.is_empty()
+        && undo(instance, router, &event, note, sends).is_ok()
+        && router.counters() == NO_COUNTS
+        && sends.is_empty()
+}
+
+fn drops_another_session(alloc: Global, instance: &Instance) -> bool
+    requires { 1 < instance.now.nodes }
+{
+    match router(alloc, instance, NO_COUNTS) {
+        Ok(mut router) => takes_a_drop_back(alloc, instance, &mut router),
+        Err(_) => false,
     }
 }
 
@@ -367,12 +404,13 @@ fn refuses_impossible_counters(alloc: Global, instance: &Instance) -> bool
 }
 
 /// What is shown of router 1, each with a name and the text of the case.
-const ROWS: [(&str, &str, Row<'static>); 7] = [
+const ROWS: [(&str, &str, Row<'static>); 8] = [
     ("each state", DISAGREE, Row::Trail(&STATES)),
     ("the rank row", DISAGREE, Row::Trail(&RANKS)),
     ("an exchange", RANK_EXCHANGE, Row::Trail(&EXCHANGE)),
     ("a forbidden path", DISAGREE, Row::Trail(&FORBIDDEN)),
     ("an allowed path", DISAGREE, Row::Trail(&ALLOWED)),
+    ("another session", DISAGREE, Row::AnotherSession),
     ("a full counter", DISAGREE, Row::FullCounter),
     ("impossible counters", DISAGREE, Row::ImpossibleCounters),
 ];
