@@ -16,8 +16,6 @@ mod exchange;
 mod lazy;
 #[cfg(test)]
 mod machine;
-#[cfg(test)]
-mod made;
 pub mod messages;
 #[cfg(test)]
 mod moving;

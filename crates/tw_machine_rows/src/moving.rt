@@ -4,12 +4,12 @@
 ghost use Rattle.std.specs.Prelude.{◌≡◌, ◌<◌, IfSome};
 
 use crate::calls::{handle, receive, undo};
-use crate::made::holds_of_made;
 use crate::messages::{antimessage, early_offers_of_2, offers_of_1, offers_of_2, offers_of_origin};
 use std::alloc::Global;
 use tw_event::PathNo;
 use tw_instance::Case;
 use tw_rows::cases::case;
+use tw_rows::made::holds_of_both;
 use tw_rows::texts::DISAGREE;
 use tw_shard::{OrMemory, Refusal, Shard};
 use tw_sim::Cancel;
@@ -227,27 +227,13 @@ fn holds(alloc: Global, cancel: Cancel, row: Row) -> bool {
 }
 
 fn holds_in(alloc: Global, case: &Case, cancel: Cancel, row: Row) -> bool {
-    holds_of_made(
+    holds_of_both(
         shard_at_last(alloc, case, 0, cancel),
-        |from| -> bool
-            requires { from.old.case ≡ case.now }
-        { holds_from(alloc, case, from, cancel, row) },
+        shard_at_last(alloc, case, 1, cancel),
+        |from, to| -> bool
+            requires { to.old.case ≡ from.old.case }
+        { holds_of(from, to, row) },
     )
-}
-
-fn holds_from<'a>(
-    alloc: Global,
-    case: &'a Case,
-    from: &mut Shard<'a>,
-    cancel: Cancel,
-    row: Row,
-) -> bool
-    requires { from.old.case ≡ case.now }
-{
-    match shard_at_last(alloc, case, 1, cancel) {
-        Some(mut to) => holds_of(from, &mut to, row),
-        None => false,
-    }
 }
 
 fn holds_of<'a>(from: &mut Shard<'a>, to: &mut Shard<'a>, row: Row) -> bool

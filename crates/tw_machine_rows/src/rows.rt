@@ -2,11 +2,11 @@
 
 ghost use Rattle.std.specs.Prelude.{◌<◌};
 
-use crate::made::holds_of_made;
 use crate::{lazy, machine, rooms};
 use std::alloc::{AllocError, Global};
 use tw_instance::Case;
 use tw_rows::cases::case;
+use tw_rows::made::holds_of_made;
 use tw_sim::Cancel;
 use tw_warp::Warp;
 

@@ -4,7 +4,6 @@ ghost use Rattle.std.specs.Prelude.{◌≡◌, ◌<◌, ◌≤◌, true};
 ghost use Rattle.tw_model.specs.declared.limits.TheConstants.{LATEST};
 
 use crate::calls::{handle, receive, undo};
-use crate::made::holds_of_made;
 use crate::messages::{
     antimessage, early_offers_of_2, list, offers_of_1, offers_of_2, offers_of_origin,
 };
@@ -13,6 +12,7 @@ use tw_event::{Event, PathNo};
 use tw_handlers::does_suit;
 use tw_instance::Case;
 use tw_rows::cases::case;
+use tw_rows::made::holds_of_made;
 use tw_rows::texts::DISAGREE;
 use tw_shard::{OrMemory, Refusal, Rejection, Returned, Shard};
 use tw_sim::Signed;

@@ -13,6 +13,7 @@ use tw_parallel::{
     EndCause, Ended, OpenGate, Options, OrMemory, Outcome, Sim, UnfitOwners, run_until,
 };
 use tw_rows::cases::case;
+use tw_rows::made::holds_of_made;
 use tw_rows::texts::{DISAGREE, FORBIDDEN_PATH, RANK_EXCHANGE};
 use tw_seq::LoggedRun;
 use tw_sim::Cancel;
@@ -43,7 +44,10 @@ fn moves_at_3(sim: &mut Sim<'_>) -> bool {
 /// Whether a run goes on to stop 3, moves its routers there, and goes on to stop 20.
 fn goes_on_moved<X: Threads + Wait + Sync>(rt: &X, sim: Sim<'_>) -> bool {
     match run_on(rt, sim, 3) {
-        Ok(mut sim) => moves_at_3(&mut sim) && goes_on_to_20(rt, sim),
+        Ok(mut sim) => {
+            let has_moved = moves_at_3(&mut sim);
+            goes_on_to_20(rt, sim) && has_moved
+        }
         Err(_) => false,
     }
 }
@@ -51,7 +55,10 @@ fn goes_on_moved<X: Threads + Wait + Sync>(rt: &X, sim: Sim<'_>) -> bool {
 /// Whether the run of a case moves its routers between two stops.
 fn moves_between<X: Threads + Wait + Sync>(rt: &X, alloc: Global, case: &Case) -> bool {
     match sim(alloc, case) {
-        Ok(mut sim) => refuses_to_move(&mut sim) && goes_on_moved(rt, sim),
+        Ok(mut sim) => {
+            let stay = refuses_to_move(&mut sim);
+            goes_on_moved(rt, sim) && stay
+        }
         Err(_) => false,
     }
 }
@@ -205,10 +212,10 @@ fn ends_as<X: Threads + Wait + Sync>(
     let Ok(sim) = sim_with(alloc, case, workers, cancel) else {
         return false;
     };
-    match run_to_20(rt, sim, workers, draws) {
-        Some(sim) => has_left(&sim, expected),
-        None => false,
-    }
+    holds_of_made(
+        run_to_20(rt, sim, workers, draws),
+        |sim| has_left(sim, expected),
+    )
 }
 
 /// Whether 3 workers and 5 end so on a case, whenever they take back what they have sent.

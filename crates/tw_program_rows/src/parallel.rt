@@ -9,6 +9,7 @@ use tw_instance::Case;
 use tw_model::{Counters, Outcome, RouterEnd};
 use tw_parallel::{NotSettled, OrMemory, Sim, StopLower};
 use tw_rows::cases::case;
+use tw_rows::made::holds_of_made;
 use tw_rows::texts::DISAGREE;
 
 /// The run of a case as it begins, with two workers.
@@ -83,10 +84,7 @@ fn is_settled_as_it_begins(sim: &Sim<'_>) -> bool {
 
 /// Whether the run of a case begins settled at stop 0, with its events kept.
 fn begins_settled(alloc: Global, case: &Case) -> bool {
-    match sim(alloc, case) {
-        Ok(sim) => is_settled_as_it_begins(&sim),
-        Err(_) => false,
-    }
+    holds_of_made(sim(alloc, case).ok(), |sim| is_settled_as_it_begins(sim))
 }
 
 #[test]
@@ -115,18 +113,23 @@ fn raises_its_stop(sim: &mut Sim<'_>) -> bool {
         && is_refused(sim)
 }
 
-/// Whether a run, once it was taken apart, has its stop still to be reached.
-fn is_same_of_its_parts(sim: Sim<'_>) -> bool {
-    let sim = Sim::of_parts(sim.into_parts());
+/// A run that was taken apart and put together.
+fn of_its_parts<'a>(sim: Sim<'a>) -> Sim<'a> {
+    Sim::of_parts(sim.into_parts())
+}
+
+/// Whether a run has stop 20 still to be reached.
+fn is_on_its_way_to_20(sim: &Sim<'_>) -> bool {
     sim.stop() == 20 && !sim.is_settled()
 }
 
-/// Whether the run of a case raises its stop, also once it was taken apart.
+/// Whether the run of a case raises its stop, which is still to be reached once it was taken apart.
 fn is_to_be_reached(alloc: Global, case: &Case) -> bool {
-    match sim(alloc, case) {
-        Ok(mut sim) => raises_its_stop(&mut sim) && is_same_of_its_parts(sim),
-        Err(_) => false,
-    }
+    let Ok(mut sim) = sim(alloc, case) else {
+        return false;
+    };
+    let rises = raises_its_stop(&mut sim);
+    holds_of_made(Some(of_its_parts(sim)), |sim| is_on_its_way_to_20(sim)) && rises
 }
 
 #[test]

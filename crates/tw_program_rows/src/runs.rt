@@ -108,10 +108,8 @@ fn goes_on(alloc: Global, case: &Case) -> bool {
     let has_three_routers = case.instance().nodes() == 3;
     match logged_run(alloc, case) {
         Ok(mut run) => {
-            has_three_routers
-                && handles_six(&mut run)
-                && handles_seven(&mut run)
-                && leaves_its_events(run)
+            let handles_all = has_three_routers && handles_six(&mut run) && handles_seven(&mut run);
+            leaves_its_events(run) && handles_all
         }
         Err(_) => false,
     }

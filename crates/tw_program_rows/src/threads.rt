@@ -15,6 +15,7 @@ use tw_event::Event;
 use tw_instance::Case;
 use tw_parallel::{EndCause, Ended, Gate, OpenGate, Options, Sim, run_until};
 use tw_rows::cases::case;
+use tw_rows::made::holds_of_made;
 use tw_rows::texts::DISAGREE;
 use tw_run::{Dealing, run_io};
 use tw_sim::Cancel;
@@ -131,10 +132,7 @@ fn is_kept_at_20(ended: &Ended<'_>) -> bool {
 
 /// Whether a run to a stop below its own ends, and is kept as it was at stop 20.
 fn refuses_19<X: Threads + Wait + Sync>(rt: &X, sim: Sim<'_>) -> bool {
-    match run_on(rt, sim, 19) {
-        Ok(_) => false,
-        Err(ended) => is_kept_at_20(&ended),
-    }
+    holds_of_made(run_on(rt, sim, 19).err(), |ended| is_kept_at_20(ended))
 }
 
 /// The run at a later stop, where it is settled there with its first events, so many.
@@ -144,16 +142,9 @@ fn settled_at<'a, X: Threads + Wait + Sync>(
     stop: u64,
     count: usize,
 ) -> Option<Sim<'a>> {
-    match run_on(rt, sim, stop) {
-        Ok(sim) => {
-            if is_settled_with(&sim, count) {
-                Some(sim)
-            } else {
-                None
-            }
-        }
-        Err(_) => None,
-    }
+    run_on(rt, sim, stop)
+        .ok()
+        .filter(|sim| is_settled_with(sim, count))
 }
 
 /// Whether the run of a case goes on to later stops, and then to no earlier one.
@@ -192,17 +183,17 @@ fn is_settled_at_20(sim: &Sim<'_>) -> bool {
 
 /// Whether a run goes on to stop 20, and has all its events there.
 pub(crate) fn goes_on_to_20<X: Threads + Wait + Sync>(rt: &X, sim: Sim<'_>) -> bool {
-    match run_on(rt, sim, 20) {
-        Ok(sim) => is_settled_at_20(&sim),
-        Err(_) => false,
-    }
+    holds_of_made(run_on(rt, sim, 20).ok(), |sim| is_settled_at_20(sim))
 }
 
 /// Whether a run to stop 20, and once more from where it ended, comes there.
 fn comes_to_20<X: Threads + Wait + Sync>(rt: &X, sim: Sim<'_>) -> bool {
     match run_until(rt, sim, 20, Options { batch: 64 }, &OpenGate) {
         Ok(sim) => goes_on_to_20(rt, sim),
-        Err(ended) => is_refused_on_its_way(&ended) && goes_on_to_20(rt, ended.sim),
+        Err(ended) => {
+            let is_refused = is_refused_on_its_way(&ended);
+            goes_on_to_20(rt, ended.sim) && is_refused
+        }
     }
 }
 
@@ -378,7 +369,7 @@ fn comes_through<G: Gate + Sync, X: Threads + Wait + Sync>(
     sim: Sim<'_>,
     gate: &G,
 ) -> Option<bool> {
-    match run_until(rt, sim, 20, Options { batch: 64 }, gate) {
+    match &run_until(rt, sim, 20, Options { batch: 64 }, gate) {
         Ok(sim) => Some(sim.bound() == 20),
         Err(ended) => told_by(ended.cause),
     }

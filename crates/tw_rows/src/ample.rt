@@ -5,6 +5,7 @@
 ghost use Rattle.std.specs.Prelude.{◌≡◌, ◌<◌};
 
 use crate::cases::case;
+use crate::made::holds_of_made;
 use crate::texts::{DISAGREE, RANK_EXCHANGE};
 use smallvec::SmallVec;
 use std::alloc::Global;
@@ -88,10 +89,9 @@ fn an_exchange_is_handled_and_undone(rt: HostRuntime) {
 
 /// Whether the run of a case tells what is pending, and what it leaves.
 fn tells_what_it_leaves(alloc: Global, case: &Case) -> bool {
-    match LoggedRun::new(alloc, case) {
-        Ok(run) => run.pending().is_ok() && run.outcome().is_ok(),
-        Err(_) => false,
-    }
+    holds_of_made(LoggedRun::new(alloc, case).ok(), |run| {
+        run.pending().is_ok() && run.outcome().is_ok()
+    })
 }
 
 #[test]

@@ -19,6 +19,7 @@ mod held;
 mod instances;
 #[cfg(test)]
 mod lanes;
+pub mod made;
 #[cfg(test)]
 mod pending;
 #[cfg(test)]
