@@ -5,6 +5,7 @@
 """
 from __future__ import annotations
 
+import contextlib
 import os
 import shutil
 import signal
@@ -12,7 +13,7 @@ import subprocess
 import tempfile
 import time
 import unittest
-from collections.abc import Collection
+from collections.abc import Collection, Iterator
 from pathlib import Path
 
 from common import TOP, run_tests
@@ -70,6 +71,7 @@ class ScriptTest(unittest.TestCase):
         (self.kit / "WHAT").write_text("one\n")
         (self.kit / "bin/rt").write_text(RT)
         (self.kit / "bin/rt").chmod(0o755)
+        self.heard = 0
         self.age()
 
     def age(self) -> None:
@@ -77,16 +79,22 @@ class ScriptTest(unittest.TestCase):
         for path in [self.clone / "crates.txt", *(self.clone / "crates").rglob("*")]:
             os.utime(path, (1, 1))
 
+    @contextlib.contextmanager
     def start(
         self, *words: str, path: str | None = None, stdin: int = subprocess.DEVNULL
-    ) -> subprocess.Popen[bytes]:
-        return subprocess.Popen(
+    ) -> Iterator[subprocess.Popen[bytes]]:
+        """The script, which is ended where a test gives it up."""
+        with subprocess.Popen(
             [self.clone / "twarp", *words],
             env={"PATH": path or f"{self.kit / 'bin'}:{NO_TOOLCHAIN}"},
             stdin=stdin,
             stdout=subprocess.PIPE,
             stderr=subprocess.PIPE,
-        )
+        ) as script:
+            try:
+                yield script
+            finally:
+                script.kill()
 
     def run_script(self, *words: str, path: str | None = None) -> Done:
         with self.start(*words, path=path) as script:
@@ -96,9 +104,10 @@ class ScriptTest(unittest.TestCase):
     def calls(self) -> list[str]:
         """What rt was called with since this was last asked."""
         file = self.kit / "bin/calls"
-        said = file.read_text().splitlines() if file.exists() else []
-        file.unlink(missing_ok=True)
-        return said
+        said = file.read_text() if file.exists() else ""
+        # A line that is still being written is left for the next time.
+        start, self.heard = self.heard, said.rfind("\n") + 1
+        return said[start : self.heard].splitlines()
 
     def assert_ended(self, done: Done, status: int, out: str) -> None:
         self.assertEqual((done.status, done.out), (status, out), done.err)
@@ -134,7 +143,10 @@ class ScriptTest(unittest.TestCase):
 
     def end(self, script: subprocess.Popen[bytes], number: signal.Signals) -> None:
         """Ends the script by a signal once it has called rt."""
+        given_up = time.monotonic() + LIMIT
         while not self.calls():
+            self.assertIsNone(script.poll(), "it ended and has not called rt")
+            self.assertLess(time.monotonic(), given_up, "it has not called rt")
             time.sleep(0.05)
         script.send_signal(number)
         # Standard output is at its end once no child has it open.

@@ -8,7 +8,7 @@ from collections.abc import Iterator
 from pathlib import Path
 
 from twarp_tools.schedule import Graph, below
-from twarp_tools.toolchain import ROOT, RT
+from twarp_tools.toolchain import ROOT, RT, begin, signals_held_back
 
 # Git ignores this folder. What rt keeps of a crate is moved here for its proof, and back; so it is on the same disk.
 FOLDER = ROOT / "out/copies"
@@ -44,10 +44,8 @@ class Copy:
         if self.kept.exists():
             self.kept.rename(self.own / "out")
         words = [RT, "lib", "--jobs", str(jobs)]
-        with open(self.log, "wb") as log:
-            self.rt = subprocess.Popen(
-                words, cwd=self.own, stdin=subprocess.DEVNULL, stdout=log, stderr=subprocess.STDOUT
-            )
+        with open(self.log, "wb") as log, signals_held_back():
+            self.rt = begin(words, cwd=self.own, stdin=subprocess.DEVNULL, stdout=log, stderr=subprocess.STDOUT)
 
     def link(self, library: str) -> None:
         if not (self.folder / library).exists():

@@ -18,6 +18,9 @@ RT = "rt"
 NOT_RUN = 126
 MISSING = 127
 
+# The signals that end the script, and its children with it.
+ENDING = signal.SIGINT, signal.SIGTERM, signal.SIGHUP
+
 
 def tell(message: str) -> None:
     print(f"twarp: {message}", file=sys.stderr, flush=True)
@@ -35,20 +38,43 @@ def find_kit() -> Path | None:
 def end_with_signals() -> None:
     """Has INT, TERM and HUP end this script as an exit does, which ends its children."""
 
-    def end(number: int, _frame: object) -> None:
+    def exit_by(number: int, _frame: object) -> None:
         sys.exit(128 + number)
 
-    for number in signal.SIGINT, signal.SIGTERM, signal.SIGHUP:
-        signal.signal(number, end)
+    for number in ENDING:
+        signal.signal(number, exit_by)
+
+
+def let_signals_in() -> None:
+    signal.pthread_sigmask(signal.SIG_UNBLOCK, ENDING)
+
+
+@contextlib.contextmanager
+def signals_held_back() -> Iterator[None]:
+    """Has signals that end this script wait while a command is started, so that none is left running by itself."""
+    signal.pthread_sigmask(signal.SIG_BLOCK, ENDING)
+    try:
+        yield
+    finally:
+        let_signals_in()
+
+
+def begin(words: list[str], **how: object) -> subprocess.Popen[bytes]:
+    """Starts a command, which signals reach as usual."""
+    return subprocess.Popen(words, preexec_fn=let_signals_in, **how)
+
+
+def end(child: subprocess.Popen[bytes]) -> None:
+    if child.poll() is None:
+        child.terminate()
 
 
 @contextlib.contextmanager
 def started(words: list[str], cwd: Path = CRATE, **how: object) -> Iterator[subprocess.Popen[bytes]]:
     """A command in a crate, or else in that of the program. It is ended where this script is, by INT, TERM or HUP too."""
     end_with_signals()
-    with subprocess.Popen(words, cwd=cwd, **how) as child:
-        try:
-            yield child
-        finally:
-            if child.poll() is None:
-                child.terminate()
+    with contextlib.ExitStack() as ends:
+        with signals_held_back():
+            child = ends.enter_context(begin(words, cwd=cwd, **how))
+            ends.callback(end, child)
+        yield child
