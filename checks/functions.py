@@ -18,16 +18,18 @@ BLOCK = re.compile(
 class Function:
     """A function by its path in the crate, as ('mail', 'Post', 'count').
 
-    Its first and its last line are counted from 1. It may be one of a trait.
+    Lines are counted from 1: that of its first attribute, where it has some, that which names it,
+    and its last. It may be one of a trait.
     """
 
     path: tuple[str, ...]
+    top: int
     first: int
     last: int
     is_of_trait: bool = False
 
     def has_line(self, line: int) -> bool:
-        return self.first <= line <= self.last
+        return self.top <= line <= self.last
 
     def is_named_by(self, words: Sequence[str]) -> bool:
         """Whether the words, modules first, name this function, or a closure in it."""
@@ -73,6 +75,13 @@ def end_of(lines: Sequence[str], start: int, indent: str) -> int:
     return next((at for at in range(start, len(lines)) if lines[at] in ends), len(lines) - 1)
 
 
+def top_of(lines: Sequence[str], start: int) -> int:
+    """The place of the first attribute of what begins at `start`."""
+    while start > 0 and lines[start - 1].lstrip().startswith("#["):
+        start -= 1
+    return start
+
+
 def functions_of(file: str, text: str) -> list[Function]:
     """The functions of a file below src/, in the order in which they begin."""
     lines = text.split("\n")
@@ -92,5 +101,6 @@ def functions_of(file: str, text: str) -> list[Function]:
         if function:
             path = (*modules_of(file), *(owner if function[1] else ()), function[2])
             last = end_of(lines, place, function[1]) + 1
-            found.append(Function(path, place + 1, last, of_trait and bool(function[1])))
+            top = top_of(lines, place) + 1
+            found.append(Function(path, top, place + 1, last, of_trait and bool(function[1])))
     return found

@@ -10,11 +10,12 @@ crate's must-fail/ or wrong-bodies/: `file:` names a file of the crate, and each
 A function's proof rests on the contracts of what it calls and not on their bodies, and nothing
 calls a function that is new. So a wrong body is tried as a function of its own: a copy of the one
 that it changes, with its contract, its proof and another name, beside it. Many of them go into one
-copy of the crate, which is checked once, and none hides another. A wrong body counts as refused
-where the checker tells an error of its very function. What is not told of is tried alone, in place
-of the right body; so is what changes anything else than one function, as a definition, and what
-changes a function of a trait. What is still proved alone has failed, and so has what does not apply
-or what the checker cannot read.
+copy of the crate, which is checked once, and none hides another. What changes a function of a
+trait, or several functions, has no copy: it stands in place of the right bodies, together with
+others that change other functions. A wrong body counts as refused where the checker tells an error
+of its very function. What is not told of is tried alone, and so is what changes anything else, as a
+definition. What is still proved alone has failed, and so has what does not apply or what the
+checker cannot read.
 
 It first checks each crate as it stands, by `rt check` in this checkout, and then works in a
 folder beside the repository, over what that check kept. --changed takes the crates whose files
@@ -48,6 +49,10 @@ FOLDERS = ("must-fail", "wrong-bodies")
 PARTS = ("src", "specs", "proofs")
 # So many wrong bodies are tried together: the checker stops a check at a limit of its own.
 MOST_TOGETHER = 60
+# What no proof can give. Where a proof asks for it, the checker offers no files for what else is
+# open there, for which it would search once more: up to a third of a check's time.
+WANTING = "nothing-is-offered"
+ASKED_FOR = f"\n{WANTING} : Type 0\n{WANTING} = wanting\n"
 
 VERDICT = re.compile(r"(?:fn|impl) (\S+?): (no proof: expected.*)")
 ERROR_OF_PROOF = re.compile(r"(?:\./)?proofs/(\S+)/[^/\s]+\.antt:\d+:\d+: error: (.*)")
@@ -91,7 +96,6 @@ class WrongBody:
 
     path: Path
     changes: list[tuple[str, str, str]] = field(default_factory=list)
-    tries: int = 0
 
     @property
     def name(self) -> str:
@@ -129,17 +133,20 @@ class WrongBody:
             changed[file] = text.replace(old, new)
         return changed
 
-    def function(self, read: Read) -> Function | None:
-        """The only function that it changes; None where it changes more, or something else."""
-        found = set()
+    def functions(self, read: Read) -> list[tuple[str, Function]]:
+        """The functions that it changes, with their files; none where it changes something else."""
+        found: dict[tuple[str, Function], None] = {}
         for file, text in self.applied({}, read).items():
             if not file.startswith("src/"):
-                return None
+                return []
             inside = functions_of(file, read(file))
             pairs = zip(without_comments(read(file)), without_comments(text))
             for line in (place for place, (one, other) in enumerate(pairs, 1) if one != other):
-                found.add(next((it for it in reversed(inside) if it.has_line(line)), None))
-        return found.pop() if len(found) == 1 else None
+                function = next((it for it in reversed(inside) if it.has_line(line)), None)
+                if not function:
+                    return []
+                found[file, function] = None
+        return list(found)
 
 
 @dataclass(frozen=True)
@@ -157,6 +164,11 @@ class Trial:
     lines: list[str]
     proofs: Texts
 
+    def proof_asking(self) -> Texts:
+        """Its proof's answers, which also ask for what no proof can give."""
+        answers = str(Path("proofs", *self.path, "Answers.antt"))
+        return {answers: self.proofs.get(answers, "") + ASKED_FOR}
+
     @classmethod
     def of(cls, body: WrongBody, number: int, crate: Path, is_right: bool) -> Trial | None:
         """None where the wrong body changes anything else than one function, or one of a trait.
@@ -167,10 +179,11 @@ class Trial:
         def read(file: str) -> str:
             return (crate / file).read_text()
 
-        function = body.function(read)
-        if not function or function.is_of_trait:
+        changed = body.functions(read)
+        if len(changed) != 1 or changed[0][1].is_of_trait:
             return None
-        ((file, text),) = body.applied({}, read).items()
+        ((file, function),) = changed
+        text = body.applied({}, read)[file]
         if is_right:
             text = read(file)
         copied = next((it for it in functions_of(file, text) if it.path == function.path), None)
@@ -180,11 +193,10 @@ class Trial:
         lines = text.split("\n")
         first = copied.first - 1
         lines[first] = re.sub(rf"\bfn {function.path[-1]}\b", f"fn {name}", lines[first], count=1)
-        while lines[first - 1].lstrip().startswith("#["):
-            first -= 1
         path = path_at_home(function, file, crate)
         proofs = proofs_renamed(crate, path, name)
-        return cls(body, file, function, (*path[:-1], name), lines[first : copied.last], proofs)
+        lines = lines[copied.top - 1 : copied.last]
+        return cls(body, file, function, (*path[:-1], name), lines, proofs)
 
 
 def path_at_home(function: Function, file: str, crate: Path) -> Name:
@@ -237,7 +249,7 @@ class Said:
         for line in self.told:
             proof, source = ERROR_OF_PROOF.match(line), ERROR_OF_SOURCE.match(line)
             verdict = VERDICT.match(line)
-            if proof and function.is_named_by(proof[1].split("/")):
+            if proof and function.is_named_by(proof[1].split("/")) and WANTING not in proof[2]:
                 yield proof[2]
             elif source and source[1] == file and function.has_line(int(source[2])):
                 yield source[3]
@@ -350,6 +362,33 @@ def in_parts(trials: list[Trial]) -> Iterator[list[Trial]]:
         yield trials[start : start + MOST_TOGETHER]
 
 
+@dataclass(frozen=True)
+class InPlace:
+    """A wrong body in place of the right one, and the functions that it changes, by their files."""
+
+    body: WrongBody
+    changed: list[tuple[str, Function]]
+
+    def paths(self) -> set[Name]:
+        return {function.path for _, function in self.changed}
+
+    def reason(self, said: Said) -> str:
+        """The first thing that the check told of one of the functions."""
+        errors = (said.errors_of(function, file) for file, function in self.changed)
+        return first_reason([error for some in errors for error in some])
+
+
+def apart(bodies: list[InPlace]) -> Iterator[list[InPlace]]:
+    """Wrong bodies that change different functions, and then those that are left."""
+    while bodies:
+        chosen, left, paths = [], [], set[Name]()
+        for body in bodies:
+            (left if body.paths() & paths else chosen).append(body)
+            paths |= body.paths()
+        yield chosen
+        bodies = left
+
+
 class Trials:
     """Tries the wrong bodies of a crate, and tells why each was refused, or what is wrong."""
 
@@ -360,18 +399,24 @@ class Trials:
 
     def run(self, bodies: Iterable[WrongBody]) -> None:
         trials: list[Trial] = []
+        in_place: list[InPlace] = []
         for number, body in enumerate(bodies):
             try:
+                changed = body.functions(self.room.read)
                 trial = Trial.of(body, number, self.room.original, is_right=False)
             except (DoesNotApply, OSError) as error:
                 self.tell(body, "", f"it does not apply: {error}")
                 continue
             if trial:
                 trials.append(trial)
+            elif changed:
+                in_place.append(InPlace(body, changed))
             else:
                 self.alone.append(body)
         for some in in_parts(trials):
             self.try_together(some)
+        for different in apart(in_place):
+            self.try_in_place(different)
         for body in self.alone:
             self.try_alone(body)
 
@@ -393,12 +438,31 @@ class Trials:
 
     def try_together(self, trials: list[Trial]) -> None:
         texts = self.texts_with(trials)
+        for trial in trials:
+            texts |= trial.proof_asking()
         said = self.room.check(texts)
         if not said.has_refused():
             self.part(trials)
             return
         for trial in trials:
             reason = self.reason(trial, texts, said)
+            if reason:
+                self.tell(trial.body, reason, "")
+            else:
+                self.alone.append(trial.body)
+
+    def try_in_place(self, trials: list[InPlace]) -> None:
+        texts: Texts = {}
+        applied = []
+        for trial in trials:
+            try:
+                texts |= trial.body.applied(texts, self.room.read)
+                applied.append(trial)
+            except DoesNotApply:
+                self.alone.append(trial.body)
+        said = self.room.check(texts)
+        for trial in applied:
+            reason = trial.reason(said) if said.has_refused() else ""
             if reason:
                 self.tell(trial.body, reason, "")
             else:
