@@ -48,12 +48,23 @@ def without_parameters(text: str) -> str:
 
 
 def owner_of(block: re.Match[str]) -> str:
-    """What the checker calls a block of functions: the type, and behind it the trait's name."""
+    """What the checker calls a block of functions.
+
+    It is the type, behind it the trait's name, and behind `From` what the type is made from.
+    """
     if block["trait"]:
         return block["trait"]
-    names = without_parameters(block["impl"].replace("->", ""))
+    header = block["impl"].replace("->", "")
+    names = without_parameters(header)
     trait, _, of = re.sub(r"\bwhere\b.*", "", names, flags=re.DOTALL).rpartition(" for ")
-    return "".join(name.strip().lstrip("&").rpartition("::")[2] for name in (of, trait))
+    short = (name.strip().lstrip("&").rpartition("::")[2] for name in (of, trait))
+    source = re.search(r"\bFrom<(.*)> for ", header)
+    return "".join((*short, *(word[0].upper() + word[1:] for word in words_of(source))))
+
+
+def words_of(source: re.Match[str] | None) -> list[str]:
+    """The names in what a type is made from: `clap` and `Error` of `From<clap::Error>`."""
+    return re.findall(r"[A-Za-z]\w*", source[1]) if source else []
 
 
 def is_of_trait(block: re.Match[str]) -> bool:

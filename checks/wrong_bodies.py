@@ -55,6 +55,7 @@ WANTING = "nothing-is-offered"
 ASKED_FOR = f"\n{WANTING} : Type 0\n{WANTING} = wanting\n"
 
 VERDICT = re.compile(r"(?:fn|impl) (\S+?): (no proof: expected.*)")
+PROVED = re.compile(r"fn \w+::(\S+): proved")
 ERROR_OF_PROOF = re.compile(r"(?:\./)?proofs/(\S+)/[^/\s]+\.antt:\d+:\d+: error: (.*)")
 ERROR_OF_SOURCE = re.compile(r"(?:note: )?(?:\./)?(src/\S+?):(\d+):\d+: (.*)")
 ERROR = re.compile(r"(note: )?\S+:\d+:\d+:")
@@ -229,6 +230,10 @@ class Said:
     lines: list[str]
     minutes: float
 
+    def proved(self) -> set[Name]:
+        """The functions that it told to be proved, by their paths in the crate."""
+        return {tuple(told[1].split("::")) for told in map(PROVED.match, self.lines) if told}
+
     def has_refused(self) -> bool:
         """Whether the check came to its end and found something that is not proved."""
         return self.status == 1 and any(line.startswith("logic=not-proved") for line in self.lines)
@@ -305,10 +310,14 @@ def copy_linked(folder: Path, to: Path) -> None:
 
 
 class Room:
-    """A copy of a crate, with what it stands on, in which changed texts are checked."""
+    """A copy of a crate, with what it stands on, in which changed texts are checked.
 
-    def __init__(self, folder: Path, crate: str) -> None:
+    The functions are those that the checker names, with the crate as it stands.
+    """
+
+    def __init__(self, folder: Path, crate: str, functions: set[Name]) -> None:
         self.original = TOP / "crates" / crate
+        self.functions = functions
         self.top = folder / crate
         self.copy = self.top / "crates" / crate
         self.minutes = 0.0
@@ -326,6 +335,14 @@ class Room:
     def read(self, file: str) -> str:
         """A file of the crate as it stands in the repository."""
         return (self.original / file).read_text()
+
+    def asking(self, function: Name) -> Texts:
+        """The answers of a function that the checker names, asking for what no proof gives too."""
+        if function not in self.functions:
+            return {}
+        answers = str(Path("proofs", *function, "Answers.antt"))
+        is_there = (self.original / answers).exists()
+        return {answers: (self.read(answers) if is_there else "") + ASKED_FOR}
 
     def check(self, texts: Texts) -> Said:
         """Checks the crate with these texts in place of its own, or beside them.
@@ -460,6 +477,10 @@ class Trials:
                 applied.append(trial)
             except DoesNotApply:
                 self.alone.append(trial.body)
+        for trial in applied:
+            # A function that is right would keep others waiting for its proof.
+            if len(trial.paths()) == 1:
+                texts |= self.room.asking(*trial.paths())
         said = self.room.check(texts)
         for trial in applied:
             reason = trial.reason(said) if said.has_refused() else ""
@@ -532,7 +553,9 @@ def changed_since(revision: str) -> set[str]:
     return {path.split("/")[1] for one in told for path in one.stdout.split()}
 
 
-def try_crate(crate: str, folder: Path, tally: Tally, is_right: bool) -> float:
+def try_crate(
+    crate: str, functions: set[Name], folder: Path, tally: Tally, is_right: bool
+) -> float:
     """Tries a crate's wrong bodies, or the right ones, and returns its processor minutes."""
     bodies = bodies_of(crate)
 
@@ -542,7 +565,7 @@ def try_crate(crate: str, folder: Path, tally: Tally, is_right: bool) -> float:
             if reason:
                 print(f"{body.name}: refused: {reason[:160]}", flush=True)
 
-    room = Room(folder, crate)
+    room = Room(folder, crate, functions)
     try:
         trials = Trials(room, tell)
         if is_right:
@@ -593,10 +616,12 @@ def main() -> None:
     asked = words.parse_args()
     signal.signal(signal.SIGTERM, lambda *_: sys.exit(143))
     chosen = chosen_crates(asked)
+    functions: dict[str, set[Name]] = {}
     for crate in chosen:
         said = checked(TOP / "crates" / crate)
         if said.status != 0:
             sys.exit(f"{crate} is not proved as it stands: {said.first_error()}")
+        functions[crate] = said.proved()
         say(f"{crate} is proved as it stands ({said.minutes:.1f} processor minutes)")
     # Those with the most first, so that none is left to run long by itself.
     chosen.sort(key=lambda crate: -len(bodies_of(crate)))
@@ -604,7 +629,7 @@ def main() -> None:
     with tempfile.TemporaryDirectory(prefix="twarp-wrong-bodies-", dir=TOP.parent) as folder:
         with ThreadPoolExecutor(asked.jobs) as pool:
             spent = pool.map(
-                lambda crate: try_crate(crate, Path(folder), tally, asked.right), chosen
+                lambda it: try_crate(it, functions[it], Path(folder), tally, asked.right), chosen
             )
             say(f"{sum(spent):.1f} processor minutes in all")
     tally.end()
