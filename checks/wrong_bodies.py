@@ -167,7 +167,7 @@ class Trial:
 
     def proof_asking(self) -> Texts:
         """Its proof's answers, which also ask for what no proof can give."""
-        answers = str(Path("proofs", *self.path, "Answers.antt"))
+        answers = answers_of(self.path)
         return {answers: self.proofs.get(answers, "") + ASKED_FOR}
 
     @classmethod
@@ -198,6 +198,11 @@ class Trial:
         proofs = proofs_renamed(crate, path, name)
         lines = lines[copied.top - 1 : copied.last]
         return cls(body, file, function, (*path[:-1], name), lines, proofs)
+
+
+def answers_of(function: Name) -> str:
+    """The file of a function's answers."""
+    return str(Path("proofs", *function, "Answers.antt"))
 
 
 def path_at_home(function: Function, file: str, crate: Path) -> Name:
@@ -340,7 +345,7 @@ class Room:
         """The answers of a function that the checker names, asking for what no proof gives too."""
         if function not in self.functions:
             return {}
-        answers = str(Path("proofs", *function, "Answers.antt"))
+        answers = answers_of(function)
         is_there = (self.original / answers).exists()
         return {answers: (self.read(answers) if is_there else "") + ASKED_FOR}
 
