@@ -172,7 +172,7 @@ class ScriptTest(unittest.TestCase):
             self.assertIn("the command rt", done.err)
 
     def test_it_is_built_once_and_again_where_something_changed(self) -> None:
-        build = ["lib", "run -- --help"]
+        build = ["lib", "run"]
         changes = {
             "nothing built": lambda: None,
             "a source": lambda: (self.clone / "crates/tw_low/src/lib.rt").touch(),
@@ -213,9 +213,9 @@ class ScheduleTest(unittest.TestCase):
     CHAIN = schedule.chains(GRAPH, "top", {"top": 1, "left": 3, "right": 5, "low": 2})
 
     def choose(
-        self, done: Collection[str], running: Collection[str], cores: int
+        self, done: Collection[str], running: dict[str, int], cores: int, provers: int
     ) -> dict[str, int]:
-        return schedule.choose(self.GRAPH, self.CHAIN, {*done}, {*running}, cores)
+        return schedule.choose(self.GRAPH, self.CHAIN, {*done}, running, cores, provers)
 
     def test_only_what_the_top_stands_on(self) -> None:
         self.assertEqual(schedule.below(self.GRAPH, "top"), ["low", "left", "right", "top"])
@@ -224,26 +224,31 @@ class ScheduleTest(unittest.TestCase):
         self.assertFalse({"tw_rows", "tw_bench"} & {*schedule.below(graph, "twarp")})
 
     def test_the_longest_chain_comes_first(self) -> None:
-        self.assertEqual(self.choose([], [], 4), {"low": 4})
-        self.assertEqual(self.choose([], ["low"], 4), {})
-        self.assertEqual(self.choose(["low"], [], 1), {"right": 1})
-        self.assertEqual(self.choose(["low"], [], 2), {"right": 1, "left": 1})
-        self.assertEqual(self.choose(["low"], [], 4), {"right": 3, "left": 1})
-        self.assertEqual(self.choose(["low"], ["right"], 4), {"left": 1})
-        self.assertEqual(self.choose(["low", "left", "right"], [], 2), {"top": 2})
+        self.assertEqual(self.choose([], {}, 4, 8), {"low": 4})
+        self.assertEqual(self.choose([], {"low": 4}, 4, 8), {})
+        self.assertEqual(self.choose(["low"], {}, 1, 2), {"right": 1})
+        self.assertEqual(self.choose(["low"], {}, 2, 2), {"right": 1, "left": 1})
+        self.assertEqual(self.choose(["low"], {}, 4, 4), {"right": 3, "left": 1})
+        self.assertEqual(self.choose(["low"], {}, 4, 6), {"right": 4, "left": 2})
+        self.assertEqual(self.choose(["low"], {"right": 4}, 4, 4), {"left": 1})
+        self.assertEqual(self.choose(["low"], {"right": 4}, 4, 8), {"left": 4})
+        self.assertEqual(self.choose(["low", "left", "right"], {}, 2, 3), {"top": 2})
 
     def test_each_crate_is_proved_once_after_those_that_it_uses(self) -> None:
         graph = schedule.graph_of((TOP / "crates.txt").read_text())
         chain = schedule.chains(graph, "twarp", dict.fromkeys(graph, 1))
         for cores in 1, 2, 4, 16:
             done: list[str] = []
-            running: list[str] = []
+            running: dict[str, int] = {}
             while len(done) < len(chain):
-                begun = schedule.choose(graph, chain, {*done}, {*running}, cores)
+                begun = schedule.choose(graph, chain, {*done}, running, cores, 2 * cores)
                 self.assertTrue(all({*graph[crate]} <= {*done} for crate in begun))
-                running += begun
+                running |= begun
                 self.assertLessEqual(len(running), cores)
-                done.append(running.pop(0))
+                self.assertLessEqual(sum(running.values()), 2 * cores)
+                first = next(iter(running))
+                del running[first]
+                done.append(first)
             self.assertEqual(sorted(done), sorted(chain))
 
 

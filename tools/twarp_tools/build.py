@@ -13,8 +13,11 @@ from twarp_tools.copies import SOURCES, Copies
 from twarp_tools.schedule import Graph, below, chains, choose, graph_of
 from twarp_tools.toolchain import MISSING, NOT_RUN, PROGRAM, ROOT, RT, end_with_signals, find_kit, started, tell
 
-# What a check takes of memory, which few exceed.
+# What a crate's check takes of memory with one prover, and what each prover takes, which few exceed.
 MEMORY_OF_A_CHECK = 2_500_000_000
+MEMORY_OF_A_PROVER = 2_000_000_000
+# How many provers there may be for each processor: with a second one it waits for none.
+PROVERS_ON_A_CORE = 2
 SECONDS_BETWEEN_LOOKS = 0.2
 
 # Which toolchain built the program: the script twarp compares it with the one on the PATH.
@@ -22,10 +25,12 @@ KIT_SUM = "WHAT"
 KEPT_SUM = PROGRAM.parent / "toolchain"
 
 
-def checks_at_once() -> int:
-    """How many checks the processors and the memory have room for."""
+def room() -> tuple[int, int]:
+    """How many checks, and how many provers in all, the processors and the memory have room for."""
     memory = os.sysconf("SC_PHYS_PAGES") * os.sysconf("SC_PAGE_SIZE")
-    return max(1, min(len(os.sched_getaffinity(0)), memory // MEMORY_OF_A_CHECK))
+    processors = len(os.sched_getaffinity(0))
+    checks = max(1, min(processors, memory // MEMORY_OF_A_CHECK))
+    return checks, max(checks, min(processors * PROVERS_ON_A_CORE, memory // MEMORY_OF_A_PROVER))
 
 
 def size_of(crate: str) -> int:
@@ -34,7 +39,7 @@ def size_of(crate: str) -> int:
     return sum(file.stat().st_size for folder in folders for file in folder.rglob("*.*"))
 
 
-def prove_libraries(graph: Graph, crates: list[str], cores: int) -> str | None:
+def prove_libraries(graph: Graph, crates: list[str], checks: int, provers: int) -> str | None:
     """Proves all crates but the last, side by side. Gives what rt said where one is not proved."""
     chain = chains(graph, crates[-1], {crate: size_of(crate) for crate in crates})
     del chain[crates[-1]]
@@ -42,7 +47,8 @@ def prove_libraries(graph: Graph, crates: list[str], cores: int) -> str | None:
     start = time.monotonic()
     with Copies(graph) as copies:
         while len(done) < len(chain):
-            begun = choose(graph, chain, done, {*copies.running}, cores)
+            running = {crate: copy.jobs for crate, copy in copies.running.items()}
+            begun = choose(graph, chain, done, running, checks, provers)
             for crate, jobs in begun.items():
                 copies.start(crate, jobs)
             if begun:
@@ -56,11 +62,12 @@ def prove_libraries(graph: Graph, crates: list[str], cores: int) -> str | None:
     return None
 
 
-def prove_program() -> str | None:
+def prove_program(provers: int) -> str | None:
     """Proves the program over its libraries and builds it. Gives what rt said where it did not."""
     tell(f"all libraries are proved; now {PROGRAM.name}")
+    words = [RT, "run", "--jobs", str(provers), "--", "--help"]
     how = {"stdin": subprocess.DEVNULL, "stdout": subprocess.PIPE, "stderr": subprocess.STDOUT}
-    with started([RT, "run", "--", "--help"], **how) as child:
+    with started(words, **how) as child:
         said = child.stdout.read().decode(errors="replace")
     return said if child.returncode else None
 
@@ -82,15 +89,16 @@ def build() -> int:
     if kit is None:
         return MISSING
     graph = graph_of((ROOT / "crates.txt").read_text())
-    crates, cores = below(graph, PROGRAM.name), checks_at_once()
-    tell(f"proving and building the program: {len(crates)} crates, up to {cores} at a time")
+    crates = below(graph, PROGRAM.name)
+    checks, provers = room()
+    tell(f"proving and building the program: {len(crates)} crates, up to {checks} at a time")
     began = time.time()
     held = hold(crates)
     end_with_signals()
-    said = prove_libraries(graph, crates, cores)
+    said = prove_libraries(graph, crates, checks, provers)
     for file in held:
         os.close(file)
-    said = said if said is not None else prove_program()
+    said = said if said is not None else prove_program(checks)
     if said is not None:
         print(said, file=sys.stderr)
         tell("the program was not built; what rt said stands above")

@@ -29,18 +29,21 @@ def chains(graph: Graph, top: str, size: dict[str, int]) -> dict[str, int]:
     return longest
 
 
-def choose(graph: Graph, chain: dict[str, int], done: set[str], running: set[str], cores: int) -> dict[str, int]:
-    """The crates to begin now, each with the processors that it gets, where those of `done` are proved.
+def choose(
+    graph: Graph, chain: dict[str, int], done: set[str], running: dict[str, int], cores: int, provers: int
+) -> dict[str, int]:
+    """The crates to begin now, each with the provers that it gets, where those of `done` are proved.
 
-    Crates that head longer chains come first. The longest chain decides when all is done, so its crate gets the
-    processors that the others leave, and half of them at least.
+    Crates that head longer chains come first, and each gets as many provers as there are processors, where `provers` in
+    all leave them. More than there are processors keep these busy: a crate's first and last steps have one prover only,
+    and what a crate has when it begins it keeps while others end.
     """
-    ready = [crate for crate in chain if crate not in done | running and done.issuperset(graph[crate])]
+    ready = [crate for crate in chain if crate not in done | running.keys() and done.issuperset(graph[crate])]
     ready.sort(key=lambda crate: -chain[crate])
     begun = ready[: cores - len(running)]
-    if not begun:
-        return {}
-    jobs = dict.fromkeys(begun, 1)
-    if chain[begun[0]] > max((chain[crate] for crate in running), default=0):
-        jobs[begun[0]] = max(cores // 2, cores - len(running) - len(begun) + 1)
+    free = provers - sum(running.values())
+    jobs: dict[str, int] = {}
+    for later, crate in zip(reversed(range(len(begun))), begun):
+        jobs[crate] = max(1, min(cores, free - later))
+        free -= jobs[crate]
     return jobs
