@@ -62,10 +62,11 @@ def prove_libraries(graph: Graph, crates: list[str], checks: int, provers: int) 
     return None
 
 
-def prove_program(provers: int) -> str | None:
+def prove_program() -> str | None:
     """Proves the program over its libraries and builds it. Gives what rt said where it did not."""
     tell(f"all libraries are proved; now {PROGRAM.name}")
-    words = [RT, "run", "--jobs", str(provers), "--", "--help"]
+    # Most of its proof loads what the libraries proved; more provers take longer.
+    words = [RT, "run", "--jobs", "1", "--", "--help"]
     how = {"stdin": subprocess.DEVNULL, "stdout": subprocess.PIPE, "stderr": subprocess.STDOUT}
     with started(words, **how) as child:
         said = child.stdout.read().decode(errors="replace")
@@ -98,7 +99,7 @@ def build() -> int:
     said = prove_libraries(graph, crates, checks, provers)
     for file in held:
         os.close(file)
-    said = said if said is not None else prove_program(checks)
+    said = said if said is not None else prove_program()
     if said is not None:
         print(said, file=sys.stderr)
         tell("the program was not built; what rt said stands above")
