@@ -230,7 +230,8 @@ class ScheduleTest(unittest.TestCase):
         self.assertEqual(self.choose(["low"], {}, 2, 2), {"right": 1, "left": 1})
         self.assertEqual(self.choose(["low"], {}, 4, 4), {"right": 3, "left": 1})
         self.assertEqual(self.choose(["low"], {}, 4, 6), {"right": 4, "left": 2})
-        self.assertEqual(self.choose(["low"], {"right": 4}, 4, 4), {"left": 1})
+        self.assertEqual(self.choose(["low"], {"right": 4}, 4, 4), {})
+        self.assertEqual(self.choose(["low"], {"right": 4}, 4, 5), {"left": 1})
         self.assertEqual(self.choose(["low"], {"right": 4}, 4, 8), {"left": 4})
         self.assertEqual(self.choose(["low", "left", "right"], {}, 2, 3), {"top": 2})
 

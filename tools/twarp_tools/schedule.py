@@ -34,16 +34,16 @@ def choose(
 ) -> dict[str, int]:
     """The crates to begin now, each with the provers that it gets, where those of `done` are proved.
 
-    Crates that head longer chains come first, and each gets as many provers as there are processors, where `provers` in
-    all leave them. More than there are processors keep these busy: a crate's first and last steps have one prover only,
-    and what a crate has when it begins it keeps while others end.
+    Crates that head longer chains come first, and each gets as many provers as there are processors, as far as
+    `provers` in all allow. These are more than the processors, which else stand idle at a crate's first and last steps,
+    for which it has one prover only, and where crates end, since what a crate gets when it begins it keeps.
     """
     ready = [crate for crate in chain if crate not in done | running.keys() and done.issuperset(graph[crate])]
     ready.sort(key=lambda crate: -chain[crate])
-    begun = ready[: cores - len(running)]
     free = provers - sum(running.values())
+    begun = ready[: min(cores - len(running), free)]
     jobs: dict[str, int] = {}
     for later, crate in zip(reversed(range(len(begun))), begun):
-        jobs[crate] = max(1, min(cores, free - later))
+        jobs[crate] = min(cores, free - later)
         free -= jobs[crate]
     return jobs
