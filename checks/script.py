@@ -208,48 +208,49 @@ class ScriptTest(unittest.TestCase):
 
 class ScheduleTest(unittest.TestCase):
     GRAPH = schedule.graph_of(
-        "top: left right\nleft: low\nright: low\nlow: clap\nalone:\nother: alone\n"
+        "top: left right\nleft: low side\nright: low\nlow: clap\nside:\nalone:\nother: alone\n"
     )
-    CHAIN = schedule.chains(GRAPH, "top", {"top": 1, "left": 3, "right": 5, "low": 2})
+    SIZES = {"top": 1, "left": 3, "right": 5, "low": 2, "side": 1}
+    CHAIN = schedule.chains(GRAPH, "top", SIZES)
 
     def choose(
-        self, done: Collection[str], running: dict[str, int], cores: int, provers: int
+        self, done: Collection[str], running: Collection[str], cores: int
     ) -> dict[str, int]:
-        return schedule.choose(self.GRAPH, self.CHAIN, {*done}, running, cores, provers)
+        return schedule.choose(self.GRAPH, self.CHAIN, {*done}, {*running}, cores)
 
     def test_only_what_the_top_stands_on(self) -> None:
-        self.assertEqual(schedule.below(self.GRAPH, "top"), ["low", "left", "right", "top"])
-        self.assertEqual(self.CHAIN, {"top": 1, "left": 4, "right": 6, "low": 8})
+        below = ["low", "side", "left", "right", "top"]
+        self.assertEqual(schedule.below(self.GRAPH, "top"), below)
+        self.assertEqual(self.CHAIN, {"top": 1, "left": 4, "right": 6, "low": 8, "side": 5})
         graph = schedule.graph_of((TOP / "crates.txt").read_text())
         self.assertFalse({"tw_rows", "tw_bench"} & {*schedule.below(graph, "twarp")})
 
     def test_the_longest_chain_comes_first(self) -> None:
-        self.assertEqual(self.choose([], {}, 4, 8), {"low": 4})
-        self.assertEqual(self.choose([], {"low": 4}, 4, 8), {})
-        self.assertEqual(self.choose(["low"], {}, 1, 2), {"right": 1})
-        self.assertEqual(self.choose(["low"], {}, 2, 2), {"right": 1, "left": 1})
-        self.assertEqual(self.choose(["low"], {}, 4, 4), {"right": 3, "left": 1})
-        self.assertEqual(self.choose(["low"], {}, 4, 6), {"right": 4, "left": 2})
-        self.assertEqual(self.choose(["low"], {"right": 4}, 4, 4), {})
-        self.assertEqual(self.choose(["low"], {"right": 4}, 4, 5), {"left": 1})
-        self.assertEqual(self.choose(["low"], {"right": 4}, 4, 8), {"left": 4})
-        self.assertEqual(self.choose(["low", "left", "right"], {}, 2, 3), {"top": 2})
+        self.assertEqual(self.choose([], [], 1), {"low": 1})
+        self.assertEqual(self.choose([], [], 2), {"low": 1, "side": 1})
+        self.assertEqual(self.choose([], [], 4), {"low": 3, "side": 1})
+        self.assertEqual(self.choose(["low", "side"], [], 4), {"right": 3, "left": 1})
+        self.assertEqual(self.choose(["low", "side"], [], 1), {"right": 1})
+        self.assertEqual(self.choose([*self.SIZES][1:], [], 2), {"top": 2})
+
+    def test_what_waits_for_a_running_crate_counts(self) -> None:
+        self.assertEqual(self.choose([], ["low", "side"], 4), {})
+        self.assertEqual(self.choose([], ["low"], 4), {"side": 1})
+        self.assertEqual(self.choose([], ["side"], 4), {"low": 3})
+        self.assertEqual(self.choose(["low", "side"], ["right"], 4), {"left": 3})
 
     def test_each_crate_is_proved_once_after_those_that_it_uses(self) -> None:
         graph = schedule.graph_of((TOP / "crates.txt").read_text())
         chain = schedule.chains(graph, "twarp", dict.fromkeys(graph, 1))
         for cores in 1, 2, 4, 16:
             done: list[str] = []
-            running: dict[str, int] = {}
+            running: list[str] = []
             while len(done) < len(chain):
-                begun = schedule.choose(graph, chain, {*done}, running, cores, 2 * cores)
+                begun = schedule.choose(graph, chain, {*done}, {*running}, cores)
                 self.assertTrue(all({*graph[crate]} <= {*done} for crate in begun))
-                running |= begun
+                running += begun
                 self.assertLessEqual(len(running), cores)
-                self.assertLessEqual(sum(running.values()), 2 * cores)
-                first = next(iter(running))
-                del running[first]
-                done.append(first)
+                done.append(running.pop(0))
             self.assertEqual(sorted(done), sorted(chain))
 
 

@@ -13,11 +13,8 @@ from twarp_tools.copies import SOURCES, Copies
 from twarp_tools.schedule import Graph, below, chains, choose, graph_of
 from twarp_tools.toolchain import MISSING, NOT_RUN, PROGRAM, ROOT, RT, end_with_signals, find_kit, started, tell
 
-# What a crate's check takes of memory with one prover, and what each prover takes, which few exceed.
+# What a check takes of memory, which few exceed.
 MEMORY_OF_A_CHECK = 2_500_000_000
-MEMORY_OF_A_PROVER = 2_000_000_000
-# How many provers there may be for each processor: with a second one it waits for none.
-PROVERS_ON_A_CORE = 2
 SECONDS_BETWEEN_LOOKS = 0.2
 
 # Which toolchain built the program: the script twarp compares it with the one on the PATH.
@@ -25,12 +22,10 @@ KIT_SUM = "WHAT"
 KEPT_SUM = PROGRAM.parent / "toolchain"
 
 
-def room() -> tuple[int, int]:
-    """How many checks, and how many provers in all, the processors and the memory have room for."""
+def checks_at_once() -> int:
+    """How many checks the processors and the memory have room for."""
     memory = os.sysconf("SC_PHYS_PAGES") * os.sysconf("SC_PAGE_SIZE")
-    processors = len(os.sched_getaffinity(0))
-    checks = max(1, min(processors, memory // MEMORY_OF_A_CHECK))
-    return checks, max(checks, min(processors * PROVERS_ON_A_CORE, memory // MEMORY_OF_A_PROVER))
+    return max(1, min(len(os.sched_getaffinity(0)), memory // MEMORY_OF_A_CHECK))
 
 
 def size_of(crate: str) -> int:
@@ -39,7 +34,7 @@ def size_of(crate: str) -> int:
     return sum(file.stat().st_size for folder in folders for file in folder.rglob("*.*"))
 
 
-def prove_libraries(graph: Graph, crates: list[str], checks: int, provers: int) -> str | None:
+def prove_libraries(graph: Graph, crates: list[str], cores: int) -> str | None:
     """Proves all crates but the last, side by side. Gives what rt said where one is not proved."""
     chain = chains(graph, crates[-1], {crate: size_of(crate) for crate in crates})
     del chain[crates[-1]]
@@ -47,8 +42,7 @@ def prove_libraries(graph: Graph, crates: list[str], checks: int, provers: int) 
     start = time.monotonic()
     with Copies(graph) as copies:
         while len(done) < len(chain):
-            running = {crate: copy.jobs for crate, copy in copies.running.items()}
-            begun = choose(graph, chain, done, running, checks, provers)
+            begun = choose(graph, chain, done, {*copies.running}, cores)
             for crate, jobs in begun.items():
                 copies.start(crate, jobs)
             if begun:
@@ -65,7 +59,7 @@ def prove_libraries(graph: Graph, crates: list[str], checks: int, provers: int) 
 def prove_program() -> str | None:
     """Proves the program over its libraries and builds it. Gives what rt said where it did not."""
     tell(f"all libraries are proved; now {PROGRAM.name}")
-    # Most of its proof loads what the libraries proved; more provers take longer.
+    # Most of its proof loads what the libraries proved, and each further prover does so again.
     words = [RT, "run", "--jobs", "1", "--", "--help"]
     how = {"stdin": subprocess.DEVNULL, "stdout": subprocess.PIPE, "stderr": subprocess.STDOUT}
     with started(words, **how) as child:
@@ -90,13 +84,12 @@ def build() -> int:
     if kit is None:
         return MISSING
     graph = graph_of((ROOT / "crates.txt").read_text())
-    crates = below(graph, PROGRAM.name)
-    checks, provers = room()
-    tell(f"proving and building the program: {len(crates)} crates, up to {checks} at a time")
+    crates, cores = below(graph, PROGRAM.name), checks_at_once()
+    tell(f"proving and building the program: {len(crates)} crates, up to {cores} at a time")
     began = time.time()
     held = hold(crates)
     end_with_signals()
-    said = prove_libraries(graph, crates, checks, provers)
+    said = prove_libraries(graph, crates, cores)
     for file in held:
         os.close(file)
     said = said if said is not None else prove_program()

@@ -37,7 +37,6 @@ class Copy:
     def start(self, graph: Graph, crate: str, jobs: int) -> None:
         """Begins the proof of a crate; those below it are proved."""
         self.rt: subprocess.Popen[bytes] | None = None
-        self.jobs = jobs
         self.own = self.folder / "crates" / crate
         self.kept = ROOT / "crates" / crate / "out"
         for other in below(graph, crate)[:-1]:

@@ -29,21 +29,21 @@ def chains(graph: Graph, top: str, size: dict[str, int]) -> dict[str, int]:
     return longest
 
 
-def choose(
-    graph: Graph, chain: dict[str, int], done: set[str], running: dict[str, int], cores: int, provers: int
-) -> dict[str, int]:
-    """The crates to begin now, each with the provers that it gets, where those of `done` are proved.
+def choose(graph: Graph, chain: dict[str, int], done: set[str], running: set[str], cores: int) -> dict[str, int]:
+    """The crates to begin now, each with the processors that it gets, where those of `done` are proved.
 
-    Crates that head longer chains come first, and each gets as many provers as there are processors, as far as
-    `provers` in all allow. These are more than the processors, which else stand idle at a crate's first and last steps,
-    for which it has one prover only, and where crates end, since what a crate gets when it begins it keeps.
+    Crates that head longer chains come first. The longest chain decides when all is done, so its crate gets the
+    processors that the others leave, and half of them at least. Of a crate that is being proved, only what waits for
+    it counts: how much of its own proof is left is not known. More provers take more processor time in all, so the
+    others have one each.
     """
-    ready = [crate for crate in chain if crate not in done | running.keys() and done.issuperset(graph[crate])]
+    ready = [crate for crate in chain if crate not in done | running and done.issuperset(graph[crate])]
     ready.sort(key=lambda crate: -chain[crate])
-    free = provers - sum(running.values())
-    begun = ready[: min(cores - len(running), free)]
-    jobs: dict[str, int] = {}
-    for later, crate in zip(reversed(range(len(begun))), begun):
-        jobs[crate] = min(cores, free - later)
-        free -= jobs[crate]
+    begun = ready[: cores - len(running)]
+    if not begun:
+        return {}
+    jobs = dict.fromkeys(begun, 1)
+    waiting = (chain[other] for other in chain if not running.isdisjoint(graph[other]))
+    if chain[begun[0]] > max(waiting, default=0):
+        jobs[begun[0]] = max(cores // 2, cores - len(running) - len(begun) + 1)
     return jobs
