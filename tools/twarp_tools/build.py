@@ -59,7 +59,7 @@ def prove_libraries(graph: Graph, crates: list[str], cores: int) -> str | None:
 def prove_program() -> str | None:
     """Proves the program over its libraries and builds it. Gives what rt said where it did not."""
     tell(f"all libraries are proved; now {PROGRAM.name}")
-    # Most of its proof loads what the libraries proved, and each further prover does so again.
+    # Most of its proof loads what the libraries proved, which one prover does; with two it took longer.
     words = [RT, "run", "--jobs", "1", "--", "--help"]
     how = {"stdin": subprocess.DEVNULL, "stdout": subprocess.PIPE, "stderr": subprocess.STDOUT}
     with started(words, **how) as child:

@@ -34,8 +34,8 @@ def choose(graph: Graph, chain: dict[str, int], done: set[str], running: set[str
 
     Crates that head longer chains come first. The longest chain decides when all is done, so its crate gets the
     processors that the others leave, and half of them at least. Of a crate that is being proved, only what waits for
-    it counts: how much of its own proof is left is not known. More provers take more processor time in all, so the
-    others have one each.
+    it counts: how much of its own proof is left is not known. More provers can take more processor time in all, so
+    the others have one each.
     """
     ready = [crate for crate in chain if crate not in done | running and done.issuperset(graph[crate])]
     ready.sort(key=lambda crate: -chain[crate])
