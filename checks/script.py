@@ -1,5 +1,5 @@
 #!/usr/bin/env python3
-"""Tests the script twarp with a stand-in for rt: nothing is proved or built.
+"""Tests the script twarp with stand-ins for rt and rattle: nothing is proved or built.
 
     script.py                        takes some seconds
 """
@@ -20,7 +20,7 @@ from common import TOP, run_tests
 from tools_common import Done
 from twarp_tools import schedule
 
-# Says what rt says at `try`, and builds libraries, and a program that prints its words.
+# Says what rt says at `try`.
 RT = r"""#!/bin/sh
 echo "$*" >>"$(dirname "$0")/calls"
 case $1 in
@@ -39,17 +39,36 @@ try)
     printf 'checked: ended status=%s\nraces: not looked for\n' "$status" >&2
     echo "run=ended status=$status runners=1 proved=no" >&2
     exit "$status" ;;
-lib)
-    [ ! -e src/slow.rt ] || exec sleep 600
-    [ ! -e src/bad.rt ] || { echo "fn bad: not proved"; exit 1; }
-    mkdir -p out/rlib ;;
-run)
-    mkdir -p out
-    printf '#!/bin/sh\necho proved "$@"\nexit 3\n' >out/twarp
-    chmod +x out/twarp ;;
 esac
 """
-CRATES = "# the crates\ntw_low:\ntwarp: clap tw_low # the program\ntw_rows: tw_low\n"
+# Builds a library over those that it is given, or an object file; waits as long as a file `slow` stands beside it.
+RATTLE = r"""#!/bin/sh
+echo "rattle $3" >>"$(dirname "$0")/calls"
+while [ -e "$(dirname "$0")/slow" ]; do sleep 0.05; done
+echo "fn good: proved"
+[ ! -e src/bad.rt ] || { echo "fn bad: not proved"; exit 1; }
+[ ! -e src/edited.rt ] || echo >>src/lib.rt
+for word; do
+    case $word in
+    --extern=tw_*) [ -e "${word##*=}/format" ] || { echo "no library: $word"; exit 1; } ;;
+    esac
+    to=$word
+done
+case $to in
+*.rlib) mkdir "$to" && echo "rattle rlib" >"$to/format" ;;
+*) : >"$to" ;;
+esac
+"""
+# Makes a program that prints its words.
+LINK = r"""#!/bin/sh
+echo link >>"$(dirname "$0")/calls"
+while [ "$1" != -o ]; do shift; done
+printf '#!/bin/sh\necho proved "$@"\nexit 3\n' >"$2"
+chmod +x "$2"
+"""
+CRATES = "# the crates\ntw_low:\ntw_high: tw_low\ntwarp: clap tw_low tw_high # the program\ntw_rows: tw_low\n"
+# The calls of a build where nothing is kept.
+ALL = ["rattle tw_low", "rattle tw_high", "rattle twarp", "link"]
 NO_TOOLCHAIN = "/usr/bin:/bin"
 
 # Seconds after which the script is given up.
@@ -64,13 +83,16 @@ class ScriptTest(unittest.TestCase):
         shutil.copytree(TOP / "tools", self.clone / "tools")
         shutil.copy(TOP / "twarp", self.clone)
         (self.clone / "crates.txt").write_text(CRATES)
-        for crate in "tw_low", "twarp":
+        for crate in "tw_low", "tw_high", "twarp":
             for part in "src", "specs", "proofs":
                 (self.clone / "crates" / crate / part).mkdir(parents=True)
         (self.kit / "bin").mkdir(parents=True)
         (self.kit / "WHAT").write_text("one\n")
-        (self.kit / "bin/rt").write_text(RT)
-        (self.kit / "bin/rt").chmod(0o755)
+        for name, text in ("rt", RT), ("rattle", RATTLE), ("rattle-link", LINK):
+            (self.kit / "bin" / name).write_text(text)
+            (self.kit / "bin" / name).chmod(0o755)
+        self.room = Path(folder.name, "room")
+        self.room.mkdir()
         self.heard = 0
         self.age()
 
@@ -86,7 +108,7 @@ class ScriptTest(unittest.TestCase):
         """The script, which is ended where a test gives it up."""
         with subprocess.Popen(
             [self.clone / "twarp", *words],
-            env={"PATH": path or f"{self.kit / 'bin'}:{NO_TOOLCHAIN}"},
+            env={"PATH": path or f"{self.kit / 'bin'}:{NO_TOOLCHAIN}", "TMPDIR": str(self.room)},
             stdin=stdin,
             stdout=subprocess.PIPE,
             stderr=subprocess.PIPE,
@@ -102,7 +124,7 @@ class ScriptTest(unittest.TestCase):
         return Done(script.returncode, out.decode(), err.decode())
 
     def calls(self) -> list[str]:
-        """What rt was called with since this was last asked."""
+        """The calls of the toolchain since this was last asked."""
         file = self.kit / "bin/calls"
         said = file.read_text() if file.exists() else ""
         # A line that is still being written is left for the next time.
@@ -141,29 +163,28 @@ class ScriptTest(unittest.TestCase):
         self.assertIn("did not end within the time limit", done.err)
         self.assertIn("1 MiB", done.err)
 
-    def end(self, script: subprocess.Popen[bytes], number: signal.Signals) -> None:
-        """Ends the script by a signal once it has called rt."""
+    def await_call(self, script: subprocess.Popen[bytes]) -> None:
         given_up = time.monotonic() + LIMIT
         while not self.calls():
-            self.assertIsNone(script.poll(), "it ended and has not called rt")
-            self.assertLess(time.monotonic(), given_up, "it has not called rt")
+            self.assertIsNone(script.poll(), "it ended and has not called the toolchain")
+            self.assertLess(time.monotonic(), given_up, "it has not called the toolchain")
             time.sleep(0.05)
+
+    def end(self, script: subprocess.Popen[bytes], number: signal.Signals) -> None:
+        """Ends the script by a signal once it has called the toolchain."""
+        self.await_call(script)
         script.send_signal(number)
         # Standard output is at its end once no child has it open.
         script.communicate(timeout=LIMIT)
         self.assertEqual(script.returncode, 128 + number)
 
     def test_children_end_with_the_script(self) -> None:
-        (self.clone / "crates/tw_low/src/slow.rt").touch()
-        kept = self.clone / "crates/tw_low/out/kept"
-        kept.parent.mkdir()
-        kept.touch()
+        (self.kit / "bin/slow").touch()
         for number in signal.SIGINT, signal.SIGTERM, signal.SIGHUP:
             for words in ["--try", "trail"], ["--build"], ["seq"]:
                 with self.subTest(words, number=number), self.start(*words) as script:
                     self.end(script, number)
-                    self.assertTrue(kept.exists())
-                    self.assertEqual(list((self.clone / "out").glob("*")), [])
+                    self.assertEqual(list(self.room.glob("*")), [])
 
     def test_no_toolchain(self) -> None:
         for words in ["--try", "check"], ["--build"], ["check"]:
@@ -172,38 +193,76 @@ class ScriptTest(unittest.TestCase):
             self.assertIn("the command rt", done.err)
 
     def test_it_is_built_once_and_again_where_something_changed(self) -> None:
-        build = ["lib", "run"]
+        low, high, top = (self.clone / "crates" / name for name in ("tw_low/src/lib.rt", "tw_high/src/lib.rt", "twarp/src/main.rt"))
         changes = {
-            "nothing built": lambda: None,
-            "a source": lambda: (self.clone / "crates/tw_low/src/lib.rt").touch(),
-            "a source less": lambda: (self.clone / "crates/tw_low/src/lib.rt").unlink(),
-            "the toolchain": lambda: (self.kit / "WHAT").write_text("two\n"),
+            "nothing built": (lambda: None, ALL),
+            "a source below": (low.touch, ALL),
+            "a source of the program": (top.touch, ALL[2:]),
+            "a source below, touched alone": (low.touch, ALL[2:]),
+            "a source between": (high.touch, ALL[1:]),
+            "a source less": (low.unlink, ALL),
+            "the toolchain": (lambda: (self.kit / "WHAT").write_text("two\n"), ALL),
         }
-        for name, change in changes.items():
+        for name, (change, wanted) in changes.items():
             with self.subTest(name):
+                self.age()
                 change()
                 self.assert_ended(self.run_script("seq", "x"), 3, "proved seq x\n")
-                self.assertEqual([line.partition(" --jobs")[0] for line in self.calls()], build)
+                self.assertEqual(self.calls(), wanted)
                 self.assertEqual(self.run_script("seq", "x"), Done(3, "proved seq x\n", ""))
                 self.assertEqual(self.calls(), [])
         done = self.run_script("seq", path=NO_TOOLCHAIN)
         self.assertEqual(done, Done(3, "proved seq\n", ""))
 
+    def test_what_stood_on_another_library_is_not_taken(self) -> None:
+        low, bad = self.clone / "crates/tw_low/src/lib.rt", self.clone / "crates/tw_high/src/bad.rt"
+        self.assert_ended(self.run_script("--build"), 0, "")
+        low.touch()
+        bad.touch()
+        self.assert_ended(self.run_script("--build"), 126, "")
+        low.unlink()
+        bad.unlink()
+        self.calls()
+        self.assert_ended(self.run_script("--build"), 0, "")
+        self.assertEqual(self.calls(), ALL)
+
+    def test_what_is_edited_while_it_is_proved_is_not_kept(self) -> None:
+        edited = self.clone / "crates/tw_low/src/edited.rt"
+        edited.touch()
+        self.assert_ended(self.run_script("--build"), 0, "")
+        self.assertEqual(list(self.clone.glob("out/libraries/*")), [])
+        self.assertEqual(list(self.room.glob("*")), [])
+
     def test_a_build_says_where_it_is(self) -> None:
         done = self.run_script("--build")
         self.assert_ended(done, 0, "")
-        said = r"(?s)0 of 2 crates after .* now tw_low\n.*now twarp\n.*built\n$"
+        said = r"(?s)0 of 3 crates after .* now tw_low\n.*2 of 3 .* now twarp\n.*built\n$"
         self.assertRegex(done.err, said)
         self.calls()
         self.assert_ended(self.run_script("--build"), 0, "")
         self.assertEqual(self.calls(), [])
+
+    def test_a_second_build_waits_and_takes_what_the_first_made(self) -> None:
+        slow = self.kit / "bin/slow"
+        slow.touch()
+        with self.start("--build") as first:
+            self.await_call(first)
+            with self.start("seq") as second:
+                assert second.stderr
+                self.assertIn(b"waiting for another build", second.stderr.readline())
+                slow.unlink()
+                out, _ = second.communicate(timeout=LIMIT)
+            first.communicate(timeout=LIMIT)
+        self.assertEqual((first.returncode, out), (0, b"proved seq\n"))
+        self.assertEqual(self.calls(), ALL[1:])
 
     def test_a_build_that_fails_says_why_and_leaves_the_program_stale(self) -> None:
         (self.clone / "crates/tw_low/src/bad.rt").touch()
         for words in ["--build"], ["seq"]:
             done = self.run_script(*words)
             self.assert_ended(done, 126, "")
-            self.assertIn("fn bad: not proved", done.err)
+            self.assertIn("== tw_low\nfn bad: not proved\n", done.err)
+            self.assertEqual(list(self.room.glob("*")), [])
 
 
 class ScheduleTest(unittest.TestCase):
@@ -216,7 +275,9 @@ class ScheduleTest(unittest.TestCase):
     def choose(
         self, done: Collection[str], running: Collection[str], cores: int
     ) -> dict[str, int]:
-        return schedule.choose(self.GRAPH, self.CHAIN, {*done}, {*running}, cores)
+        """The number of provers of each crate that is begun, below zero where it gives way to others."""
+        begun = schedule.choose(self.GRAPH, self.CHAIN, {*done}, {*running}, cores)
+        return {crate: -share.provers if share.gives_way else share.provers for crate, share in begun.items()}
 
     def test_only_what_the_top_stands_on(self) -> None:
         below = ["low", "side", "left", "right", "top"]
@@ -227,17 +288,18 @@ class ScheduleTest(unittest.TestCase):
 
     def test_the_longest_chain_comes_first(self) -> None:
         self.assertEqual(self.choose([], [], 1), {"low": 1})
-        self.assertEqual(self.choose([], [], 2), {"low": 1, "side": 1})
-        self.assertEqual(self.choose([], [], 4), {"low": 3, "side": 1})
-        self.assertEqual(self.choose(["low", "side"], [], 4), {"right": 3, "left": 1})
+        self.assertEqual(self.choose([], [], 2), {"low": 1, "side": -1})
+        self.assertEqual(self.choose([], [], 4), {"low": 3, "side": -1})
+        self.assertEqual(self.choose(["low", "side"], [], 4), {"right": 3, "left": -1})
         self.assertEqual(self.choose(["low", "side"], [], 1), {"right": 1})
         self.assertEqual(self.choose([*self.SIZES][1:], [], 2), {"top": 2})
 
     def test_what_waits_for_a_running_crate_counts(self) -> None:
         self.assertEqual(self.choose([], ["low", "side"], 4), {})
-        self.assertEqual(self.choose([], ["low"], 4), {"side": 1})
+        self.assertEqual(self.choose([], ["low"], 4), {"side": 3})
         self.assertEqual(self.choose([], ["side"], 4), {"low": 3})
         self.assertEqual(self.choose(["low", "side"], ["right"], 4), {"left": 3})
+        self.assertEqual(self.choose([], ["one", "two", "three"], 4), {"low": 2})
 
     def test_each_crate_is_proved_once_after_those_that_it_uses(self) -> None:
         graph = schedule.graph_of((TOP / "crates.txt").read_text())

@@ -1,25 +1,28 @@
 """The proved program, built where it is not: what `./twarp --build` does."""
 from __future__ import annotations
 
+import contextlib
 import fcntl
 import os
 import signal
-import subprocess
 import sys
+import tempfile
 import time
+from collections.abc import Iterator
+from pathlib import Path
 from typing import NoReturn
 
-from twarp_tools.copies import SOURCES, Copies
-from twarp_tools.schedule import Graph, below, chains, choose, graph_of
-from twarp_tools.toolchain import MISSING, NOT_RUN, PROGRAM, ROOT, RT, end_with_signals, find_kit, started, tell
+from twarp_tools.compiler import Compiler
+from twarp_tools.kept import FOLDER, Kept
+from twarp_tools.schedule import Graph, below, chains, choose, graph_of, uses_of
+from twarp_tools.toolchain import MISSING, NOT_RUN, PROGRAM, ROOT, end_with_signals, find_kit, kit_name, tell
 
 # What a check takes of memory, which few exceed.
 MEMORY_OF_A_CHECK = 2_500_000_000
 SECONDS_BETWEEN_LOOKS = 0.2
 
 # Which toolchain built the program: the script twarp compares it with the one on the PATH.
-KIT_SUM = "WHAT"
-KEPT_SUM = PROGRAM.parent / "toolchain"
+KEPT_NAME = PROGRAM.parent / "toolchain"
 
 
 def checks_at_once() -> int:
@@ -29,95 +32,94 @@ def checks_at_once() -> int:
 
 
 def size_of(crate: str) -> int:
-    """The bytes of its sources, by which the time of its proof is guessed."""
-    folders = [ROOT / "crates" / crate / part for part in SOURCES]
-    return sum(file.stat().st_size for folder in folders for file in folder.rglob("*.*"))
+    """The bytes of its code, by which the time of its proof is guessed."""
+    return sum(file.stat().st_size for file in (ROOT / "crates" / crate / "src").rglob("*.rt"))
 
 
-def prove_libraries(graph: Graph, crates: list[str], cores: int) -> str | None:
-    """Proves all crates but the last, side by side. Gives what rt said where one is not proved."""
+def prove(compiler: Compiler, graph: Graph, kept: Kept, crates: list[str]) -> str | None:
+    """Proves the crates side by side, and builds them. Gives what rattle said where one is not proved."""
+    start, cores = time.monotonic(), checks_at_once()
     chain = chains(graph, crates[-1], {crate: size_of(crate) for crate in crates})
-    del chain[crates[-1]]
-    done: set[str] = set()
-    start = time.monotonic()
-    with Copies(graph) as copies:
-        while len(done) < len(chain):
-            begun = choose(graph, chain, done, {*copies.running}, cores)
-            for crate, jobs in begun.items():
-                copies.start(crate, jobs)
-            if begun:
-                minutes = (time.monotonic() - start) / 60
-                tell(f"{len(done)} of {len(crates)} crates after {minutes:.1f} minutes; now {', '.join(copies.running)}")
-            time.sleep(SECONDS_BETWEEN_LOOKS)
-            for crate, is_proved, said in copies.ended():
-                if not is_proved:
-                    return said
-                done.add(crate)
+    done = {crate for crate in crates[:-1] if kept.give(crate, compiler.folder)}
+    while len(done) < len(crates):
+        begun = choose(graph, chain, done, {*compiler.running}, cores)
+        for crate, share in begun.items():
+            compiler.start(crate, share)
+        if begun:
+            minutes = (time.monotonic() - start) / 60
+            tell(f"{len(done)} of {len(crates)} crates after {minutes:.1f} minutes; now {', '.join(compiler.running)}")
+        time.sleep(SECONDS_BETWEEN_LOOKS)
+        for crate, refused in compiler.ended():
+            if refused is not None:
+                return refused
+            done.add(crate)
+            if crate != crates[-1]:
+                kept.keep(crate, compiler.folder)
     return None
 
 
-def prove_program() -> str | None:
-    """Proves the program over its libraries and builds it. Gives what rt said where it did not."""
-    tell(f"all libraries are proved; now {PROGRAM.name}")
-    # Most of its proof loads what the libraries proved, which one prover does; with two it took longer.
-    words = [RT, "run", "--jobs", "1", "--", "--help"]
-    how = {"stdin": subprocess.DEVNULL, "stdout": subprocess.PIPE, "stderr": subprocess.STDOUT}
-    with started(words, **how) as child:
-        said = child.stdout.read().decode(errors="replace")
-    return said if child.returncode else None
+@contextlib.contextmanager
+def alone() -> Iterator[bool]:
+    """Lets one build at a time work in this clone. Whether another one had to end first."""
+    FOLDER.mkdir(parents=True, exist_ok=True)
+    folder = os.open(FOLDER, os.O_RDONLY)
+    try:
+        fcntl.flock(folder, fcntl.LOCK_EX | fcntl.LOCK_NB)
+        has_waited = False
+    except BlockingIOError:
+        tell("waiting for another build in this clone to end")
+        fcntl.flock(folder, fcntl.LOCK_EX)
+        has_waited = True
+    try:
+        yield has_waited
+    finally:
+        os.close(folder)
 
 
-def hold(crates: list[str]) -> list[int]:
-    """Keeps other runs of rt out of the crates' folders until these files are closed, as rt does itself."""
-    held = [os.open(ROOT / "crates" / crate, os.O_RDONLY) for crate in sorted(crates)]
-    for file in held:
-        try:
-            fcntl.flock(file, fcntl.LOCK_EX | fcntl.LOCK_NB)
-        except BlockingIOError:
-            tell("waiting for another run of rt in this clone to end")
-            fcntl.flock(file, fcntl.LOCK_EX)
-    return held
-
-
-def build() -> int:
-    kit = find_kit()
-    if kit is None:
-        return MISSING
-    graph = graph_of((ROOT / "crates.txt").read_text())
-    crates, cores = below(graph, PROGRAM.name), checks_at_once()
-    tell(f"proving and building the program: {len(crates)} crates, up to {cores} at a time")
+def build(kit: Path) -> str | None:
+    """Proves and builds the program. Gives what was said where it is not built."""
     began = time.time()
-    held = hold(crates)
-    end_with_signals()
-    said = prove_libraries(graph, crates, cores)
-    for file in held:
-        os.close(file)
-    said = said if said is not None else prove_program()
-    if said is not None:
-        print(said, file=sys.stderr)
-        tell("the program was not built; what rt said stands above")
-        return NOT_RUN
-    # An edit during the build leaves it stale.
-    os.utime(PROGRAM, (began, began))
-    KEPT_SUM.write_bytes((kit / KIT_SUM).read_bytes())
-    tell("the program is proved and built")
-    return 0
+    text = (ROOT / "crates.txt").read_text()
+    uses, graph = uses_of(text), graph_of(text)
+    crates = below(graph, PROGRAM.name)
+    tell(f"proving and building the program: {len(crates)} crates, up to {checks_at_once()} at a time")
+    with tempfile.TemporaryDirectory(prefix="twarp-build-") as room, Compiler(kit, uses, Path(room)) as compiler:
+        refused = prove(compiler, graph, Kept(kit, uses, crates), crates) or compiler.link()
+        if refused is None:
+            # An edit during the build leaves it stale.
+            os.utime(PROGRAM, (began, began))
+            KEPT_NAME.write_bytes(kit_name(kit))
+    return refused
 
 
-def run(words: list[str]) -> NoReturn:
+def run(program: Path, words: list[str]) -> NoReturn:
     """Lets the program take this process's place, with the signals that a shell gives it."""
     for number in signal.SIGPIPE, signal.SIGXFSZ:
         signal.signal(number, signal.SIG_DFL)
-    os.execv(PROGRAM, [str(PROGRAM), *words])
+    os.execv(program, [str(program), *words])
 
 
 def main(words: list[str]) -> int:
     """Builds the program, and runs it with the words that stand behind `--then`."""
+    kit = find_kit()
+    if kit is None:
+        return MISSING
+    end_with_signals()
+    is_run = words[:1] == ["--then"]
     try:
-        status = build()
+        with alone() as has_waited:
+            if has_waited:
+                # What the other build left need not be built again.
+                run(ROOT / "twarp", words[1:] if is_run else ["--build"])
+            refused = build(kit)
     except OSError as error:
         tell(f"the program was not built: {error}")
         return NOT_RUN
-    if status == 0 and words[:1] == ["--then"]:
-        run(words[1:])
-    return status
+    if refused is not None:
+        print(refused, end="", file=sys.stderr)
+        tell("the program was not built; what rattle said stands above")
+        return NOT_RUN
+    tell("the program is proved and built")
+    if is_run:
+        run(PROGRAM, words[1:])
+    return 0

@@ -35,6 +35,11 @@ def find_kit() -> Path | None:
     return Path(found).resolve().parent.parent
 
 
+def kit_name(kit: Path) -> bytes:
+    """Which toolchain it is: the script twarp compares this with what stood there when the program was built."""
+    return (kit / "WHAT").read_bytes()
+
+
 def end_with_signals() -> None:
     """Has INT, TERM and HUP end this script as an exit does, which ends its children."""
 
