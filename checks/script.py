@@ -41,7 +41,7 @@ try)
     exit "$status" ;;
 esac
 """
-# Builds a library over those that it is given, or an object file; waits as long as a file `slow` stands beside it.
+# Builds a library, each time another one, over those that it is given, or an object file; waits as long as a file `slow` stands beside it.
 RATTLE = r"""#!/bin/sh
 echo "rattle $3" >>"$(dirname "$0")/calls"
 while [ -e "$(dirname "$0")/slow" ]; do sleep 0.05; done
@@ -55,7 +55,7 @@ for word; do
     to=$word
 done
 case $to in
-*.rlib) mkdir "$to" && echo "rattle rlib" >"$to/format" ;;
+*.rlib) mkdir "$to" && echo "made by $$ at $(date +%s%N)" >"$to/format" ;;
 *) : >"$to" ;;
 esac
 """
@@ -230,7 +230,7 @@ class ScriptTest(unittest.TestCase):
         edited = self.clone / "crates/tw_low/src/edited.rt"
         edited.touch()
         self.assert_ended(self.run_script("--build"), 0, "")
-        self.assertEqual(list(self.clone.glob("out/libraries/*")), [])
+        self.assertEqual(list(self.clone.glob("out/libraries/tw_low*")), [])
         self.assertEqual(list(self.room.glob("*")), [])
 
     def test_a_build_says_where_it_is(self) -> None:

@@ -40,10 +40,11 @@ def prove(compiler: Compiler, graph: Graph, kept: Kept, crates: list[str]) -> st
     """Proves the crates side by side, and builds them. Gives what rattle said where one is not proved."""
     start, cores = time.monotonic(), checks_at_once()
     chain = chains(graph, crates[-1], {crate: size_of(crate) for crate in crates})
-    done = {crate for crate in crates[:-1] if kept.give(crate, compiler.folder)}
+    done = {crate for crate in crates[:-1] if kept.give(crate)}
     while len(done) < len(crates):
         begun = choose(graph, chain, done, {*compiler.running}, cores)
         for crate, share in begun.items():
+            kept.note(crate)
             compiler.start(crate, share)
         if begun:
             minutes = (time.monotonic() - start) / 60
@@ -54,7 +55,7 @@ def prove(compiler: Compiler, graph: Graph, kept: Kept, crates: list[str]) -> st
                 return refused
             done.add(crate)
             if crate != crates[-1]:
-                kept.keep(crate, compiler.folder)
+                kept.keep(crate)
     return None
 
 
@@ -84,7 +85,7 @@ def build(kit: Path) -> str | None:
     crates = below(graph, PROGRAM.name)
     tell(f"proving and building the program: {len(crates)} crates, up to {checks_at_once()} at a time")
     with tempfile.TemporaryDirectory(prefix="twarp-build-") as room, Compiler(kit, uses, Path(room)) as compiler:
-        refused = prove(compiler, graph, Kept(kit, uses, crates), crates) or compiler.link()
+        refused = prove(compiler, graph, Kept(kit, uses, compiler.folder), crates) or compiler.link()
         if refused is None:
             # An edit during the build leaves it stale.
             os.utime(PROGRAM, (began, began))

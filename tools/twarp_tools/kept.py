@@ -1,4 +1,4 @@
-"""The libraries that earlier builds proved, each kept under a sum of all that its proof reads."""
+"""The libraries that earlier builds proved, each kept under a sum of what its proof reads."""
 from __future__ import annotations
 
 import hashlib
@@ -27,38 +27,39 @@ def sum_of_sources(crate: str) -> str:
 
 
 class Kept:
-    def __init__(self, kit: Path, uses: Graph, crates: list[str]):
-        """Takes crates in an order in which each comes after those that it uses."""
-        self.uses = uses
-        self.sources = {crate: sum_of_sources(crate) for crate in crates}
-        self.sums: dict[str, str] = {}
-        for crate in crates:
-            below = "\n".join([*uses[crate], *(self.sums.get(name, "") for name in uses[crate])])
-            self.sums[crate] = sum_of(kit_name(kit), below.encode(), self.sources[crate].encode())
-        # Those whose libraries are of these sums, given or made.
-        self.current: set[str] = set()
+    """Archives of libraries, taken into a folder and made from there."""
+
+    def __init__(self, kit: Path, uses: Graph, folder: Path):
+        self.kit, self.uses, self.folder = kit, uses, folder
+        self.noted: dict[str, Path] = {}
 
     def archive(self, crate: str) -> Path:
-        return FOLDER / f"{crate}-{self.sums[crate]}.tar"
+        """Its place, which another text of the crate, another toolchain or another library that it uses would change."""
+        uses = self.uses[crate]
+        libraries = [self.folder / f"{name}.rlib/format" for name in uses if name in self.uses]
+        texts = [kit_name(self.kit), " ".join(uses).encode(), *(library.read_bytes() for library in libraries)]
+        return FOLDER / f"{crate}-{sum_of(sum_of_sources(crate).encode(), *texts)}.tar"
 
-    def is_over_current(self, crate: str) -> bool:
-        return self.current.issuperset(name for name in self.uses[crate] if name in self.sums)
-
-    def give(self, crate: str, folder: Path) -> bool:
-        """Puts a library into the folder where an earlier build kept it, over the same ones as are there."""
-        if not (self.is_over_current(crate) and self.archive(crate).exists()):
+    def give(self, crate: str) -> bool:
+        """Takes a library that an earlier build proved over the very libraries that are there."""
+        try:
+            archive = self.archive(crate)
+        except FileNotFoundError:
             return False
-        shutil.unpack_archive(self.archive(crate), folder)
-        self.current.add(crate)
-        return True
+        if archive.exists():
+            shutil.unpack_archive(archive, self.folder)
+        return archive.exists()
 
-    def keep(self, crate: str, folder: Path) -> None:
-        """Keeps a library that was made just now, in place of earlier ones, if no source was changed meanwhile."""
-        if not self.is_over_current(crate) or sum_of_sources(crate) != self.sources[crate]:
+    def note(self, crate: str) -> None:
+        """Notes what a crate's proof reads, before it begins."""
+        self.noted[crate] = self.archive(crate)
+
+    def keep(self, crate: str) -> None:
+        """Keeps a library that was made just now, in place of earlier ones, if nothing was changed meanwhile."""
+        archive = self.archive(crate)
+        if archive != self.noted[crate]:
             return
-        FOLDER.mkdir(parents=True, exist_ok=True)
-        made = shutil.make_archive(f"{FOLDER / crate}.part", "tar", folder, f"{crate}.rlib")
+        made = shutil.make_archive(f"{FOLDER / crate}.part", "tar", self.folder, f"{crate}.rlib")
         for old in FOLDER.glob(f"{crate}-*.tar"):
             old.unlink()
-        os.replace(made, self.archive(crate))
-        self.current.add(crate)
+        os.replace(made, archive)
