@@ -8,10 +8,10 @@ from itertools import pairwise
 from pathlib import Path
 from random import Random
 
-# Whoever imports this module first finds those of tools/ too.
-sys.path.append(str(Path(__file__).resolve().parent.parent / "tools"))
+# Whoever imports this module first finds the package and the modules of tools/ too.
+sys.path += [str(Path(__file__).resolve().parent.parent / folder) for folder in ("python", "tools")]
 
-from twarp_tools.case import (  # noqa: E402: it is found by the line above
+from twarp.case import (  # noqa: E402: it is found by the line above
     GREATEST_TIME,
     MOST_NODES,
     MOST_PATHS,
@@ -21,7 +21,7 @@ from twarp_tools.case import (  # noqa: E402: it is found by the line above
     Link,
     LinkScene,
 )
-from twarp_tools.lines import Nodes  # noqa: E402
+from twarp.lines import Nodes  # noqa: E402
 
 
 def shortest_first(paths: Iterable[Nodes]) -> list[Nodes]:

@@ -5,6 +5,7 @@
     bench.py run [NAME ..] [--seed N] [--events N ..] [--program FILE]
     bench.py threads [NAME ..] [--seed N] [--events N ..] [--workers N ..] [--batch N ..]
                      [--lazy] [--case FILE --stop N] [--program FILE]
+    bench.py compare ..     programs in turns, and the tables of README.md: compare --help tells
 
 `run` prints for each case the bytes read per second, and for each number of events: the stop,
 events handled, seconds, events per second, the greatest memory in use, and memory per event beside
@@ -15,8 +16,8 @@ by proportion. Times are the least of three runs.
 of workers and each batch how long `twarp run` takes, how many times that of `seq` this is, events
 per second, and the greatest memory. It stops where the two reports differ. Times are the least of
 five runs in turns. With `--lazy` each run is also measured with lazy cancellation; `--case` takes
-a file in place of the cases by name. Where crates/tw_bench is built (`rt run` there), a further run is counted:
-turns of all workers, and events undone for each event that is committed.
+a file in place of the cases by name. Where crates/tw_bench is built (`rt run` there), a further run
+is counted: turns of all workers, and events undone for each event that is committed.
 """
 from __future__ import annotations
 
@@ -28,6 +29,7 @@ from pathlib import Path
 from typing import NamedTuple
 
 from at_scale import MAKERS, text_of
+from compare import main as compare_programs
 from measuring import CRATES, Measured, least, measure, measure_once, parser_of, stored
 
 COUNTER = CRATES / "tw_bench/out/tw_bench"
@@ -147,6 +149,9 @@ def threads(name: str, asked: Asked) -> None:
 
 
 def main() -> None:
+    if sys.argv[1:2] == ["compare"]:
+        compare_programs(sys.argv[2:])
+        return
     parser = parser_of(__doc__, ["make", "run", "threads"])
     parser.add_argument("names", nargs="*", choices=[*MAKERS, []])
     parser.add_argument("--events", type=int, nargs="*", default=[10**5, 10**6, 10**7])

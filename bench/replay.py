@@ -19,9 +19,9 @@ from random import Random
 
 from at_scale import cliques
 from measuring import measure, parser_of, stored
-from twarp_tools.case import Case
-from twarp_tools.machine import History, Machine
-from twarp_tools.report import Step
+from twarp.case import Case
+from twarp.machine import History, Machine
+from twarp.report import Step
 
 # The stop of the machine: routers of the case always have something to do before it.
 STOP = 1_000_000

@@ -26,7 +26,7 @@ OPTIONS = (
 LIMIT = 60
 
 # Keys by the names that DevTools has for them, with their codes.
-KEYS = {"ArrowLeft": 37, "ArrowRight": 39, "Home": 36, "End": 35, "Tab": 9, "Enter": 13, " ": 32}
+KEYS = {"ArrowLeft": 37, "ArrowRight": 39, "Home": 36, "End": 35, "Tab": 9, "Enter": 13, " ": 32, "+": 187, "-": 189}
 
 
 class Browser:

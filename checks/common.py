@@ -1,7 +1,9 @@
 """What the checks share: where things are, how commands are run, and a count of what passes."""
 from __future__ import annotations
 
+import errno
 import os
+import re
 import subprocess
 import sys
 import unittest
@@ -24,8 +26,8 @@ ROWS = (
     "tw_program_rows",
 )
 
-# Whoever imports this module first finds those of bench/ and tools/ too.
-sys.path += [str(TOP / "bench"), str(TOP / "tools")]
+# Whoever imports this module first finds those of bench/ and tools/, and the package, too.
+sys.path += [str(TOP / folder) for folder in ("bench", "tools", "python")]
 
 # Seconds after which a run is ended, and counts as failed.
 LIMIT = 60
@@ -43,7 +45,27 @@ class Ended(NamedTuple):
 
 NO_MEMORY = Ended(2, b"", b"stopped memory\n")
 NO_THREAD = Ended(2, b"", b"stopped thread\n")
-NO_DEVICE = Ended(2, b"", b"stopped device\n")
+
+# What a person is told beside the answer that refuses an input.
+ADVICE = re.compile(
+    rb'line (?P<line>\d+) is (?:"[ -~]*"(?:\.\.)?: [ -~]+|not there: [ -~]+)\n|there is no router \d+: [ -~]+\n'
+)
+REFUSED = re.compile(rb"refused (?:line (?P<line>\d+)|option) .*\n")
+
+
+def without_advice(done: Ended) -> Ended:
+    """How a command ended, without what a person is told of a refused input, which has to be told of the same line."""
+    refused, advice = REFUSED.fullmatch(done.out), ADVICE.fullmatch(done.err)
+    is_advised = refused and advice and refused["line"] == advice["line"]
+    return done._replace(err=b"") if done.status == 1 and is_advised else done
+
+
+def no_device(stream: str, number: int) -> Ended:
+    """How a command ends whose standard input or output met this error of the system, and where nothing was written. A
+    pipe that nobody reads is no matter for a person."""
+    told = f"stopped device: standard {stream}: {os.strerror(number)} (os error {number})\n"
+    return Ended(2, b"", b"" if number == errno.EPIPE else told.encode())
+
 
 
 def run(words: Sequence[Word], stdin: Path, **how: Any) -> Ended:

@@ -22,7 +22,7 @@ from functions import functions_of
 
 CRATES = TOP / "crates"
 
-DOCUMENTS = ("*.md", "docs/*.md", "bench/*.md", "cases/*.md", "checks/*.md", "tools/*.md")
+DOCUMENTS = ("*.md", "docs/*.md", "bench/*.md", "cases/*.md", "checks/*.md", "python/*.md", "tools/*.md")
 SOURCES = (
     "crates.txt",
     "HANDLES",
@@ -36,6 +36,8 @@ SOURCES = (
     "crates/*/wrong-bodies/*",
     "tools/*",
     "tools/**/*.py",
+    "python/**/*.py",
+    "python/*.toml",
 )
 PARTS = ("src", "specs", "proofs")
 CODE = tuple(f"crates/*/{part}/**/*.{kind}" for part in PARTS for kind in ("rt", "antt"))

@@ -35,9 +35,9 @@ from common import (
 
 # Where they are is known from common.
 from at_scale import gadgets, hierarchy, mesh
-from twarp_tools.case import BarScene, Case, Link
+from twarp.case import BarScene, Case, Link
 
-WORKERS = (1, 2, 3, 4, 8, 64)
+WORKERS = (None, 1, 2, 3, 4, 8, 64)
 BATCHES = (1, 64, 4096)
 
 # What undone events have sent is taken back at once, or as late as may be.
@@ -110,12 +110,18 @@ class Answer(NamedTuple):
 
 
 class Runs(NamedTuple):
-    """Runs with these words, by each number of workers here, with each batch and each dealing."""
+    """Runs with these words, by each number of workers here, with each batch and each dealing. Where no number is
+    told, the program chooses."""
 
     words: Sequence[str]
-    workers: Sequence[int]
+    workers: Sequence[int | None]
     batches: Sequence[int]
     dealings: Sequence[list[str]] = DEALINGS[:1]
+
+
+def told(workers: int | None) -> list[str]:
+    """The words that tell how many workers there are to be."""
+    return [] if workers is None else ["--workers", str(workers)]
 
 
 def compare(tally: Tally, case: Path, runs: Runs) -> None:
@@ -124,7 +130,7 @@ def compare(tally: Tally, case: Path, runs: Runs) -> None:
     for workers, batch, dealing, kind in product(
         runs.workers, runs.batches, runs.dealings, KINDS
     ):
-        sizes = ["--workers", str(workers), "--batch", str(batch)]
+        sizes = [*told(workers), "--batch", str(batch)]
         words = ["run", *runs.words, *sizes, *dealing, *kind]
         wrong = Answer.of(words, case).differs(wanted)
         tally.add(f"{name_of(words)} of {case.name}", wrong)
@@ -134,7 +140,7 @@ def compare_stored(tally: Tally) -> None:
     """Each stored case, with checkpoints and without."""
     for case in sorted(CASES.glob("*.spp")):
         for more in ["--log"], ["--every", "1"], ["--every", "7"], ["--every", "3", "--log"]:
-            compare(tally, case, Runs(["--stop", "40", *more], (1, 2, 5), (3,), DEALINGS))
+            compare(tally, case, Runs(["--stop", "40", *more], (None, 1, 2, 5), (3,), DEALINGS))
 
 
 def compare_made(tally: Tally, folder: Path) -> None:
@@ -145,7 +151,7 @@ def compare_made(tally: Tally, folder: Path) -> None:
         early = ["--stop", str(stop // 4)]
         every = str(max(1, stop // 40))
         compare(tally, case, Runs(["--stop", str(stop)], WORKERS, (64,), DEALINGS[:2]))
-        compare(tally, case, Runs([*early, "--log"], (2, 4), BATCHES))
+        compare(tally, case, Runs([*early, "--log"], (None, 2, 4), BATCHES))
         compare(tally, case, Runs([*early, "--every", every], (2, 4, 64), (64,), DEALINGS))
         logged = [*early, "--every", every, "--log"]
         compare(tally, case, Runs(logged, (3,), (1, 4096), DEALINGS[2:]))
@@ -164,7 +170,7 @@ def compare_beside_others(tally: Tally, folder: Path) -> None:
     """The cases that are made, where workers have to share the processors with other work."""
     with busy_processors():
         for name, (_, stop) in MADE.items():
-            compare(tally, folder / f"{name}.spp", Runs(["--stop", str(stop)], (4,), (64,)))
+            compare(tally, folder / f"{name}.spp", Runs(["--stop", str(stop)], (None, 4), (64,)))
 
 
 def repeat(tally: Tally, case: Path, words: Sequence[str], wanted: Answer, times: int) -> None:
@@ -172,7 +178,7 @@ def repeat(tally: Tally, case: Path, words: Sequence[str], wanted: Answer, times
     for number in range(times):
         workers = WORKERS[number % len(WORKERS)]
         kind = KINDS[number // len(WORKERS) % len(KINDS)]
-        run = ["run", *words, "--workers", str(workers), *kind]
+        run = ["run", *words, *told(workers), *kind]
         wrong = Answer.of(run, case).differs(wanted)
         if wrong:
             name = f"run {number} of {times} in a row of {case.name}: {name_of(run)}"

@@ -8,7 +8,7 @@ from functools import partial
 from pathlib import Path
 from typing import NamedTuple
 
-from common import CASES, DISAGREE, NOTHING, REPLAYED, REPORT, STRAGGLER, Ended, Word, name_of
+from common import CASES, DISAGREE, NOTHING, REPLAYED, REPORT, STRAGGLER, Ended, Word, name_of, without_advice
 from rows import all_rows
 
 SEQ = ["seq", "--stop", "20", "--log"]
@@ -68,10 +68,13 @@ HELP = {
 # number is given.
 RANGES = {
     "seq": ["1 to 1000000000"],
-    "run": ["1 to 1000000000", "1 to 64, and 4", "1 to 4096, or else 64"],
+    "run": ["1 to 1000000000", "1 to 64, or else", "1 to 4096, or else 64"],
     "trail": ["0 to 1023", "1 to 1000000000", "0 to 1000000000"],
     "replay": ["1 to 1000000000", "1 to 64"],
 }
+
+# What is told where a word of a command line seems to name the input.
+TIP = b"tip: the input comes from standard input, as in: twarp seq --stop 20 < case.spp\n"
 
 # How often the origin handles its start and undoes it, so that many messages are on their way.
 STARTS = 400
@@ -149,6 +152,20 @@ REFUSED_STEPS = {
     "handle 0\ndeliver": "line 12 X3 Word",
 }
 
+# The beginning of a text whose last line is refused, and what a person has to be told of that line.
+ADVISED = {
+    b"spp 1\r\n": "CR LF",
+    b"\xef\xbb\xbfspp 1\n": "byte order mark",
+    b"spp 1\nnodes\t3\n": "tab",
+    b"spp 1\nnodes 3\nlink 0 1 1.5\n": "whole",
+    b"spp 1\nnodes 3 # three\n": "comments",
+    b"spp 1\nNodes 3\n": "small letters",
+    b"spp 1\nnodes 3\nlink 0 1\n": "link A B DELAY",
+    b"spp 1\nnodes 3\nlnk 0 1 1\n": "begins with nodes, link, path",
+    b"spp 1\nnodes 3\nlink 1 1 2\n": '"link 1 1 2"',
+    b"spp 1\n" + b"nodes 3 " * 20: '"' + "nodes 3 " * 10 + '"..',
+}
+
 BAD_LINES: dict[str, Sequence[Word]] = {
     "no command": [],
     "an unknown command": ["sequence"],
@@ -212,8 +229,9 @@ class Row(NamedTuple):
 
 
 def row(name: str, words: Sequence[Word], source: Path, status: int, out: bytes) -> Row:
-    """A row of which nothing is written on standard error."""
-    return Row(name, words, source, partial(differs, due=Ended(status, out, b"")))
+    """A row of which nothing is written on standard error, but for people where the input is refused."""
+    due = Ended(status, out, b"")
+    return Row(name, words, source, lambda done: differs(without_advice(done), due))
 
 
 def worked() -> Iterator[Row]:
@@ -272,6 +290,20 @@ def refused_texts(folder: Path) -> Iterator[Row]:
                 yield row(f"{name_of(words)} of {text!r}", words, file, 1, refused)
 
 
+def wrong_advice(words: str, done: Ended) -> str | None:
+    """What is wrong with what a person is told of a refused text, if anything."""
+    is_advised = done.status == 1 and not without_advice(done).err and words.encode() in done.err
+    return None if is_advised else f"it ended with {done}, and {words!r} is to be told"
+
+
+def advice(folder: Path) -> Iterator[Row]:
+    """Refused texts of which a person is told what was expected, each in a file in the folder."""
+    for number, (text, words) in enumerate(ADVISED.items()):
+        file = folder / f"advised-{number}"
+        file.write_bytes(text)
+        yield Row(f"advice on {text!r}", ["check"], file, partial(wrong_advice, words))
+
+
 def all_come(place_of: Callable[[int], int]) -> tuple[str, str]:
     """Steps behind DISAGREE, and what `replay` answers: the origin handles its start and undoes it again and again, and
     of what it has sent and taken back one message after another comes, which are all. `place_of` tells its place among
@@ -304,7 +336,8 @@ def wrong_beginning(text: bytes, done: Ended) -> str | None:
     """What is wrong with how this beginning of a case is refused, if anything."""
     refused = re.fullmatch(rb"refused line (\d+) [A-Z]\d+ \w+\n", done.out)
     is_near = refused is not None and int(refused[1]) <= text.count(b"\n") + 1
-    return None if is_near and (done.status, done.err) == (1, b"") else f"it ended with {done}"
+    is_refused = is_near and (done.status, without_advice(done).err) == (1, b"")
+    return None if is_refused else f"it ended with {done}"
 
 
 def beginnings(folder: Path) -> Iterator[Row]:
@@ -334,14 +367,16 @@ def helps() -> Iterator[Row]:
             yield Row(name_of(words), words, NOTHING, partial(wrong_help, command))
 
 
-def wrong_bad_line(done: Ended) -> str | None:
-    is_told = done.err.startswith(b"error: ") and done.err.endswith(b"\n")
+def wrong_bad_line(tip: bytes, done: Ended) -> str | None:
+    is_told = done.err.startswith(b"error: ") and done.err.endswith(b"\n" + tip)
     return None if is_told and done[:2] == (3, b"") else f"it ended with {done}"
 
 
 def bad_lines() -> Iterator[Row]:
     for name, words in BAD_LINES.items():
-        yield Row(name, words, DISAGREE, wrong_bad_line)
+        yield Row(name, words, DISAGREE, partial(wrong_bad_line, b""))
+    for words in ["seq", "--stop", "20", "case.spp"], ["check", "-"], ["check", "cases/disagree.spp"]:
+        yield Row(name_of(words), words, DISAGREE, partial(wrong_bad_line, TIP))
 
 
 def rows(folder: Path) -> Iterator[Row]:
@@ -350,6 +385,7 @@ def rows(folder: Path) -> Iterator[Row]:
     yield from worked()
     yield from refusals(folder)
     yield from refused_texts(folder)
+    yield from advice(folder)
     yield from beginnings(folder)
     yield from many_messages(folder)
     yield from helps()

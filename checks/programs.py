@@ -9,6 +9,7 @@ checks/rows.
 """
 from __future__ import annotations
 
+import errno
 import os
 import re
 import resource
@@ -19,7 +20,6 @@ from pathlib import Path
 
 from common import (
     DISAGREE,
-    NO_DEVICE,
     NO_MEMORY,
     NO_THREAD,
     NOTHING,
@@ -30,6 +30,7 @@ from common import (
     input_of,
     name_of,
     need_program,
+    no_device,
     run,
     run_program,
 )
@@ -72,7 +73,9 @@ def check_thread(tally: Tally, folder: Path) -> None:
     shutil.copy(PROGRAM, program)
     program.chmod(0o755)
     folder.chmod(0o755)
-    for words, due in (RUN, NO_THREAD), (SEQ, Ended(0, REPORT.read_bytes(), b"")):
+    whole = Ended(0, REPORT.read_bytes(), b"")
+    chosen, alone = ["run", "--stop", "20", "--log"], [*RUN[:-1], "1"]
+    for words, due in (RUN, NO_THREAD), (SEQ, whole), (chosen, whole), (alone, whole):
         done = run([program, *words], DISAGREE, preexec_fn=without_threads)
         tally.add(f"{name_of(words)} without threads", differs(done, due))
 
@@ -83,7 +86,7 @@ def check_output(tally: Tally, folder: Path) -> None:
         check_no_output(tally, words)
     with open("/dev/full", "wb") as full:
         done = run_program(["check"], NOTHING, stdout=full)
-    tally.add("a refusal on a full device", differs(done, NO_DEVICE))
+    tally.add("a refusal on a full device", differs(done, no_device("output", errno.ENOSPC)))
     check_short(tally, folder / "short")
 
 
@@ -91,14 +94,14 @@ def check_no_output(tally: Tally, words: list[str]) -> None:
     source, name = input_of(words), name_of(words)
     with open("/dev/full", "wb") as full:
         done = run_program(words, source, stdout=full)
-    tally.add(f"{name} on a full device", differs(done, NO_DEVICE))
+    tally.add(f"{name} on a full device", differs(done, no_device("output", errno.ENOSPC)))
     done = run_program(words, source, stdout=None, preexec_fn=lambda: os.close(1))
-    tally.add(f"{name} with no standard output", differs(done, NO_DEVICE))
+    tally.add(f"{name} with no standard output", differs(done, no_device("output", errno.EBADF)))
     left, right = os.pipe()
     os.close(left)
     done = run_program(words, source, stdout=right)
     os.close(right)
-    tally.add(f"{name} into a pipe that nobody reads", differs(done, NO_DEVICE))
+    tally.add(f"{name} into a pipe that nobody reads", differs(done, no_device("output", errno.EPIPE)))
 
 
 def with_short_files() -> None:
@@ -110,7 +113,7 @@ def check_short(tally: Tally, file: Path) -> None:
     """A file that holds no more than some bytes."""
     with open(file, "wb") as short:
         done = run_program(SEQ, DISAGREE, stdout=short, preexec_fn=with_short_files)
-    wrong = differs(done, NO_DEVICE)
+    wrong = differs(done, no_device("output", errno.EFBIG))
     if file.read_bytes() != REPORT.read_bytes()[:SHORT]:
         wrong = wrong or f"the file does not hold the first {SHORT} bytes of the report"
     tally.add("a device that fails within the report", wrong)
@@ -120,9 +123,9 @@ def check_input(tally: Tally) -> None:
     """Standard input that gives nothing."""
     for words in COMMANDS:
         done = run_program(words, Path("/"))
-        tally.add(f"{name_of(words)} of a folder", differs(done, NO_DEVICE))
+        tally.add(f"{name_of(words)} of a folder", differs(done, no_device("input", errno.EISDIR)))
         done = run_program(words, NOTHING, preexec_fn=lambda: os.close(0))
-        tally.add(f"{name_of(words)} with no standard input", differs(done, NO_DEVICE))
+        tally.add(f"{name_of(words)} with no standard input", differs(done, no_device("input", errno.EBADF)))
 
 
 def check_version(tally: Tally) -> None:

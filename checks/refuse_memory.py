@@ -18,9 +18,10 @@ Each command of the program runs in the same way, on DISAGREE or on the replay o
 so do its help and a line that it does not accept. Refused memory must end it with status 2 and the
 line `stopped memory`, or `stopped thread` where a thread needed it, with nothing on standard
 output; or, where the standard library then asks for less and gets it, it must end as it does with
-all its memory. Of a run by one worker the allocation that starts its thread is the only one that
-may be told as a refused thread. Of runs by 1 to 64 workers each thread is refused in turn; a worker
-without routers has none.
+all its memory. Of a run by two workers no allocation before the one that starts the first thread is
+told as a refused thread, and that one is. Of runs by 1 to 64 workers each thread is refused in turn;
+a worker without routers has none, one worker is no thread, and between two checkpoints each of three
+workers has one.
 """
 from __future__ import annotations
 
@@ -33,6 +34,7 @@ from pathlib import Path
 from typing import NamedTuple
 
 from common import (
+    CASES,
     DISAGREE,
     LIMIT,
     NO_MEMORY,
@@ -47,6 +49,7 @@ from common import (
     need_program,
     run_program,
     tests_of,
+    without_advice,
 )
 from refuser import Refuser
 
@@ -75,6 +78,7 @@ LINES = (
     ["replay", "--stop", "20", "--lazy"],
     ["upgrade"],
     ["seq", "--stop", "20", "--every", "1"],
+    ["run", "--stop", "20", "--log"],
     ["run", "--stop", "20", "--every", "1", "--workers", "2"],
     ["run", "--stop", "20", "--log", "--workers", "2"],
     ["run", "--stop", "20", "--every", "1", "--workers", "2", "--blocks", "--rotate"],
@@ -133,7 +137,9 @@ def refuse_in_test(refuser: Refuser, tests: Path, name: str) -> Outcome:
 
 def refuse_in_program(refuser: Refuser, line: list[str]) -> Outcome:
     source = input_of(line)
-    due = (NO_MEMORY, NO_THREAD, run_program(line, source))
+    whole = run_program(line, source)
+    # A person is told nothing where memory for that is refused.
+    due = (NO_MEMORY, NO_THREAD, whole, without_advice(whole))
     ends = dict(refuser.each([PROGRAM, *line], source))
     failed = [number for number, done in ends.items() if done not in due]
     if NO_MEMORY not in ends.values():
@@ -149,24 +155,36 @@ def run_by(workers: int) -> list[str]:
 
 
 def refuse_start(refuser: Refuser) -> Outcome:
-    """Which allocations of a run by one worker are told as a refused thread."""
-    words = [PROGRAM, *run_by(1)]
+    """Which is the first allocation of a run by two workers that is told as a refused thread."""
+    words = [PROGRAM, *run_by(2)]
     due = [refuser.allocations_before_threads(words, DISAGREE)]
     ends = dict(refuser.each(words, DISAGREE))
     told = [number for number, done in ends.items() if done == NO_THREAD]
-    if told == due:
+    if told[:1] == due:
         return Outcome(len(ends), None)
-    why = f"allocations {told} are told as a refused thread, and {due} are due"
+    why = f"allocations {told} are told as a refused thread, and {due} is due as the first"
     return Outcome(len(ends), why)
 
 
 def refuse_threads(refuser: Refuser, workers: int) -> Outcome:
     """Whether a run whose threads are refused in turn stops for a thread, and has as many as due."""
-    words = [PROGRAM, *run_by(workers)]
-    # A worker without routers has no thread.
-    threads = min(workers, ROUTERS_OF_DISAGREE)
+    # A worker without routers has no thread, and one worker is none.
+    threads = min(workers, ROUTERS_OF_DISAGREE) if workers > 1 else 0
+    return refuse_each(refuser, run_by(workers), DISAGREE, threads)
+
+
+def refuse_between_checkpoints(refuser: Refuser) -> Outcome:
+    """The same of a run that has something to do between each two of its checkpoints, up to the stop."""
+    segments, workers = 6, 3
+    words = ["run", "--stop", str(5 * segments), "--every", "5", "--workers", str(workers)]
+    return refuse_each(refuser, words, CASES / "bad-gadget.spp", segments * workers)
+
+
+def refuse_each(refuser: Refuser, line: list[str], case: Path, threads: int) -> Outcome:
+    """Whether a run that has so many threads stops for a thread where any of them is refused."""
+    words = [PROGRAM, *line]
     numbers = range(1, threads + 2)
-    ends = [refuser.run_without_thread(number, words, DISAGREE) for number in numbers]
+    ends = [refuser.run_without_thread(number, words, case) for number in numbers]
     due = [NO_THREAD] * threads + [None]
     wrong = None if ends == due else f"its threads refused in turn, it ended with {ends}"
     return Outcome(0, wrong)
@@ -186,6 +204,8 @@ def refuse_in_all(tests: dict[str, Path], tally: Tally) -> int:
         for workers in (1, 2, 5, 64):
             name = f"{name_of(run_by(workers))} with each thread refused"
             jobs[name] = pool.submit(refuse_threads, refuser, workers)
+        name = "a run with checkpoints with each thread refused"
+        jobs[name] = pool.submit(refuse_between_checkpoints, refuser)
         for name, job in jobs.items():
             outcome = job.result()
             refused += outcome.count

@@ -6,7 +6,7 @@ from collections.abc import Iterator
 from pathlib import Path
 from typing import NamedTuple
 
-from common import TOP, Ended
+from common import TOP, Ended, without_advice
 
 FOLDER = TOP / "checks/rows"
 COMMAND = re.compile(r"\$ twarp (.+) < (\S+)\n")
@@ -24,9 +24,13 @@ class Due(NamedTuple):
 
     def wrong(self, done: Ended) -> str | None:
         """What is wrong with how it ended, if anything."""
-        if self.is_met_by(done.out.decode()) and (done.status, done.err) == (self.status, b""):
+        if self.is_met_by(done.out.decode()) and self.ends_as_due(without_advice(done)):
             return None
         return f"it ended with {done}, and {(self.status, self.written)} is due"
+
+    def ends_as_due(self, done: Ended) -> bool:
+        # Of a refused input a person is told, and of nothing else.
+        return (done.status, done.err) == (self.status, b"")
 
     def is_met_by(self, out: str) -> bool:
         first, any_lines, last = self.written.partition(ANY_LINES)

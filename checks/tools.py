@@ -14,12 +14,16 @@ import argparse
 import unittest
 from pathlib import Path
 
+import tools_bench
 import tools_cases
+import tools_cluster
 import tools_common
 import tools_drawing
 import tools_every
+import tools_hostile
 import tools_import
 import tools_install
+import tools_package
 import tools_page
 import tools_relationships
 import tools_sweep
@@ -31,13 +35,17 @@ MODULES = (
     tools_every,
     tools_relationships,
     tools_import,
+    tools_hostile,
     tools_drawing,
     tools_page,
     tools_sweep,
+    tools_cluster,
+    tools_package,
     tools_cases,
     tools_versions,
     tools_tutorial,
     tools_install,
+    tools_bench,
 )
 
 

@@ -1,12 +1,14 @@
 """What the tests of the tools share: how a tool or the program is run, and how it should end."""
 from __future__ import annotations
 
+import resource
 import shutil
 import subprocess
 import sys
 import unittest
 from dataclasses import dataclass
 from pathlib import Path
+from typing import Any
 from xml.etree import ElementTree
 
 from common import CASES, INPUTS, PROGRAM, TOP
@@ -28,17 +30,52 @@ class Done:
     err: str
 
 
-def run(*words: object, stdin: str | bytes = "") -> Done:
+def run(*words: object, stdin: str | bytes = "", **how: Any) -> Done:
     given = stdin.encode() if isinstance(stdin, str) else stdin
     done = subprocess.run(
-        [str(word) for word in words], input=given, capture_output=True, check=False
+        [str(word) for word in words], input=given, capture_output=True, check=False, **how
     )
     return Done(done.returncode, done.stdout.decode(), done.stderr.decode())
+
+
+DEBIAN_PYTHON = "/usr/bin/python3"
+
+
+def python_with(*modules: str) -> str | None:
+    """The Python that runs this, or else Debian's, where it has these modules."""
+    asked = f"import importlib.util as u, sys; sys.exit(not all(map(u.find_spec, {modules})))"
+    for python in sys.executable, DEBIAN_PYTHON:
+        if shutil.which(python) and run(python, "-c", asked).status == 0:
+            return python
+    return None
 
 
 def tool(name: str, *words: object, stdin: str | bytes = "") -> Done:
     """Runs a tool without site packages (-S), since it needs the standard library alone."""
     return run(sys.executable, "-S", TOP / "tools" / name, *words, stdin=stdin)
+
+
+NETWORK_PYTHON = python_with("networkx", "defusedxml")
+needs_networkx = unittest.skipUnless(
+    NETWORK_PYTHON, "python3-networkx and python3-defusedxml are not installed"
+)
+
+
+def import_tool(*words: object, stdin: str | bytes = "") -> Done:
+    """Runs the tool import, which alone needs two packages."""
+    return run(NETWORK_PYTHON, TOP / "tools/import", *words, stdin=stdin)
+
+
+def run_within(
+    seconds: int, mebibytes: int, *words: object, stdin: str | bytes = b"", **how: Any
+) -> Done:
+    """Runs a command with so many seconds of processor time and so much memory at most."""
+
+    def limit() -> None:
+        resource.setrlimit(resource.RLIMIT_CPU, (seconds, seconds))
+        resource.setrlimit(resource.RLIMIT_AS, (mebibytes << 20, mebibytes << 20))
+
+    return run(*words, stdin=stdin, preexec_fn=limit, **how)
 
 
 def need_program() -> Path:

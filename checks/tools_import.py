@@ -8,9 +8,17 @@ import re
 import resource
 import tempfile
 from collections.abc import Iterator
+from itertools import permutations
 from pathlib import Path
 
-from tools_common import TOP, Done, ToolTest, tool
+from tools_common import (
+    TOP,
+    Done,
+    ToolTest,
+    import_tool,
+    needs_networkx,
+    tool,
+)
 
 LINES = 500_000
 ASES = 70_000
@@ -159,37 +167,109 @@ GRAPHML = """\
 BY_WEIGHT = "path 1 1 2 0\npath 1 1 0\npath 2 2 0\npath 2 2 1 0\n"
 BY_DISTANCE = "path 1 1 0\npath 1 1 2 0\npath 2 2 0\npath 2 2 1 0\n"
 
-# An edit of a text, the line that is refused then, and the reason.
+# An edit of a text, and what is said of it, from where it is to why.
 BAD_GML = [
-    ("Latitude 48.20849", "Latitude north", 9, "Latitude 'north': this is no number"),
-    ("Latitude 48.20849", "Latitude 98", 9, "Latitude '98': this is not between -90 and 90"),
-    ("    id 2\n", "    id 1\n", 19, "id '1': line 11 has a node of this id already"),
-    ("    id 2\n", "", 18, "this node has no id"),
-    ("target 1", "target 3", 24, "target '3': there is no node of this id"),
-    ("    source 2\n", "", 31, "this link has no source"),
-    ('"10"', '"10', 25, "this quote has no end"),
-    ("directed 0", "0 directed", 4, "a name is wanted, and no '0'"),
-    ("graph [", "graph [ [", 2, "a name is wanted, and no '['"),
-    ("  ]\n]\n", "  ]\n", 35, "the list of line 2, graph, has no end"),
-    ("graph", "grape", 36, "there is no graph"),
-    ("Creator", "graph [ ] Creator", 2, "a second graph begins here"),
+    ("Latitude 48.20849", "Latitude 98", "node '0': Latitude '98': this is not between -90 and 90"),
+    (
+        "Latitude 48.20849",
+        'Latitude "north"',
+        "node '0': Latitude 'north': this is no number",
+    ),
+    ("    id 2\n", "    id 1\n", "node id 1 is duplicated"),
+    ("    id 2\n", "", "node #2 has no 'id' attribute"),
+    ("target 1", "target 3", "edge #0 has undefined target 3"),
+    ("    source 2\n", "", "edge #2 has no 'source' attribute"),
+    ('"10"', '"10', "line 25: this quote has no end"),
+    ("directed 0", "0 directed", "line 4: expected ']', found 0"),
+    ("graph [", "graph [ [", "line 2: expected ']', found '['"),
+    ("  ]\n]\n", "  ]\n", "line 35: expected ']', found EOF"),
+    ("graph", "grape", "input contains no graph"),
+    ("Creator", "graph [ ] Creator", "input contains more than one graph"),
+    ("directed", "%" + 1000 * "x", f"line 4: this is no GML: '%{79 * 'x'}'..\n"),
 ]
 BAD_GRAPHML = [
-    (">1.2<", ">far<", 9, "distance 'far': this is no number"),
-    (">70<", ">-70<", 10, "distance '-70': this is not between 0 and "),
-    (">70<", ">2e6<", 10, "the delay of this link is 2,000,000: at most 1,000,000 can be"),
-    ('target="n1"', 'target="n4"', 9, "target 'n4': there is no node of this id"),
-    ('key="d2">70', 'key="d9">70', 10, "data of the key 'd9': no such key is declared"),
-    ("</graph>", "</graf>", 12, "this is no XML: mismatched tag"),
-    ("<node", "<nodes", 6, "this is no XML: mismatched tag"),
-    ("</graph>", "<graph/></graph>", 12, "a second graph begins here"),
-    ("utf-8", "utf-5", 1, "its encoding is not known"),
+    (">1.2<", ">far<", "link from 'n0' to 'n1': distance 'far': this is no number"),
+    (">70<", ">-70<", "link from 'n1' to 'n2': distance '-70': this is not between 0 and "),
+    (
+        ">70<",
+        ">2e6<",
+        "link from 'n1' to 'n2': its delay is 2,000,000, and at most 1,000,000 can be",
+    ),
+    ('target="n1"', 'target="n4"', "the 1. has the target 'n4', and there is no node of this id"),
+    ('target="n1"', "", "link: the 1. has no target"),
+    ('key="d2">70', 'key="d9">70', "Bad GraphML data: no key d9"),
+    ('id="n2"', 'id="n1"', "node 'n1': there is a node of this id already"),
+    ('id="n2"', "", "node: the 3. has no id"),
+    ("</graph>", "</graf>", "line 12: this is no XML: mismatched tag"),
+    ("<node", "<nodes", "line 6: this is no XML: mismatched tag"),
+    ("</graph>", "</graph><graph/>", "a second graph stands beside the first"),
+    ("graph edge", "grape edge", "line 12: this is no XML"),
+    ("utf-8", "utf-5", "line 1: its encoding is not known"),
+    (
+        "</graph>",
+        '<hyperedge id="h"><endpoint node="n0"/><endpoint node="n1"/></hyperedge></graph>',
+        "hyperedge 'h': a link has two ends, and this has 2: 'n0', 'n1'",
+    ),
+    (
+        '<node id="n2">',
+        '<node id="n2"><graph/>',
+        "node 'n2': it has a graph of its own, as only groups of yEd may",
+    ),
+    (
+        'edgedefault="undirected"',
+        'edgedefault="directed"><edge directed="false" source="n0" target="n1"/',
+        "directed=false edge found in directed graph",
+    ),
 ]
 
+# A directed network: from A to B and back with two delays, and from B to C alone.
+DIRECTED = """graph [
+  directed 1
+  node [ id 0 label "A" ]
+  node [ id 1 label "B" ]
+  node [ id 2 label "C" ]
+  edge [ source 0 target 1 delay 3 ]
+  edge [ source 1 target 0 delay 7 ]
+  edge [ source 2 target 1 delay 5 ]
+  edge [ source 0 target 2 delay 9 ]
+]
+"""
+# C goes by B, since no link leads from it to A.
+DIRECTED_CASE = """spp 2
+nodes 3
+link 0 1 3 7
+link 0 2 9 9
+link 1 2 5 5
+path 1 1 0
+path 2 2 1 0
+end
+"""
 
+# As yEd writes a label, with a key that has no name, and with a group.
+YED = """\
+<graphml xmlns="http://graphml.graphdrawing.org/xmlns" xmlns:y="http://www.yworks.com/xml/graphml">
+  <key for="node" id="d6" yfiles.type="nodegraphics"/>
+  <key attr.name="delay" attr.type="int" for="edge" id="d9"><default>4</default></key>
+  <graph edgedefault="undirected" id="G">
+    <node id="n0"><data key="d6"><y:ShapeNode><y:NodeLabel>Wien</y:NodeLabel></y:ShapeNode></data>
+    </node>
+    <node id="g" yfiles.foldertype="group"><graph edgedefault="undirected" id="g:">
+      <node id="g::n0"><data key="d6"><y:ShapeNode><y:NodeLabel>Graz</y:NodeLabel></y:ShapeNode>
+      </data></node>
+    </graph></node>
+    <edge id="e0" source="n0" target="g::n0"><data key="d9">2</data></edge>
+    <edge id="e0" source="g::n0" target="n0"/>
+    <node id="n1"/>
+    <edge id="e1" source="n1" target="n0"/>
+  </graph>
+</graphml>
+"""
+
+
+@needs_networkx
 class Import(ToolTest):
-    def make(self, *words: object, stdin: str) -> Done:
-        return self.assert_makes_a_case(tool("import", *words, stdin=stdin))
+    def make(self, *words: object, stdin: str | bytes) -> Done:
+        return self.assert_makes_a_case(import_tool(*words, stdin=stdin))
 
     def test_gml_with_places_on_the_globe(self) -> None:
         with tempfile.TemporaryDirectory() as folder:
@@ -220,7 +300,7 @@ class Import(ToolTest):
     def test_packed_it_is_the_same(self) -> None:
         out = self.make("--destination", "B", stdin=GRAPHML).out
         self.assertEqual(
-            tool("import", "--destination", "B", stdin=gzip.compress(GRAPHML.encode())).out, out
+            import_tool("--destination", "B", stdin=gzip.compress(GRAPHML.encode())).out, out
         )
 
     def test_at_most_so_many_paths(self) -> None:
@@ -229,34 +309,110 @@ class Import(ToolTest):
         # Router 2 has no other path then, since (1 0) is not permitted.
         self.assertIn("paths left out because each has at most 1: 1\n", done.err)
 
+    def test_all_paths_in_the_order_of_their_weights(self) -> None:
+        weights = {(a, b): (7 * a * a + 5 * b) % 11 + a / 4 for b in range(6) for a in range(b)}
+        links = (f"edge [ source {a} target {b} weight {w} ]\n" for (a, b), w in weights.items())
+        nodes = (f"node [ id {node} ]\n" for node in range(6))
+        text = "".join(["graph [\n", *nodes, *links, "]\n"])
+        out = self.make("--destination", 0, "--paths", 200, stdin=text).out
+
+        def order(path: tuple[int, ...]) -> tuple[float, int, tuple[int, ...]]:
+            hops = (weights[min(hop), max(hop)] for hop in zip(path, path[1:]))
+            return sum(hops), len(path), path
+
+        for router in range(1, 6):
+            others = [node for node in range(1, 6) if node != router]
+            between = (part for count in range(5) for part in permutations(others, count))
+            wanted = sorted(((router, *part, 0) for part in between), key=order)
+            found = re.findall(rf"^path {router} (.*)$", out, re.M)
+            self.assertEqual(found, [" ".join(map(str, path)) for path in wanted])
+
     def test_what_has_no_path_is_left_out(self) -> None:
         alone = GML.replace('id 2\n    label "7"', 'id 2\n    label "7"\n  ]\n  node [\n    id 3')
         done = self.make("--destination", "Vienna", stdin=alone)
         self.assertEqual(done.out, GML_CASE)
         self.assertIn("nodes left out that no path leads from: 1\n", done.err)
 
-    def test_a_bad_line_is_named(self) -> None:
+    def test_what_is_bad_is_named(self) -> None:
         for text, edits in (GML, BAD_GML), (GRAPHML, BAD_GRAPHML):
-            for old, new, line, why in edits:
+            for old, new, why in edits:
                 with self.subTest(new, why=why):
                     self.assertIn(old, text)
                     node = "0" if text is GML else "n0"
-                    done = tool("import", "--destination", node, stdin=text.replace(old, new, 1))
-                    self.assert_refused(done, f"standard input: refused line {line}: ")
+                    done = import_tool("--destination", node, stdin=text.replace(old, new, 1))
+                    self.assert_refused(done, "standard input: refused")
                     self.assertIn(why, done.err)
 
-    def test_a_node_has_at_most_64_links(self) -> None:
+    def test_a_directed_network_has_two_delays(self) -> None:
+        done = self.make("--destination", "A", stdin=DIRECTED)
+        self.assertEqual(done.out, DIRECTED_CASE)
+        self.assertIn(
+            "links that lead in one direction alone, and have its delay in both: 2\n", done.err
+        )
+        even = DIRECTED.replace("directed 1", "directed 0").replace("delay 7", "delay 3")
+        done = self.make("--destination", "A", stdin=even)
+        self.assertTrue(done.out.startswith("spp 1\n"), done.out)
+        self.assertNotIn("in one direction", done.err)
+
+    def test_labels_groups_and_defaults_of_yed(self) -> None:
+        with tempfile.TemporaryDirectory() as folder:
+            names = Path(folder) / "names"
+            done = self.make("--destination", "Wien", "--map", names, stdin=YED)
+            self.assertEqual(names.read_text(), "0 Wien\n1 Graz\n2 n1\n")
+        # Of the two links to Graz, one has the default of 4.
+        self.assertEqual(re.findall("link.*", done.out), ["link 0 1 2", "link 0 2 4"])
+        self.assertIn("a lighter or equal one: 1\n", done.err)
+
+    def test_encodings(self) -> None:
+        wanted = self.make("--destination", "Vienna", stdin=GML).out
+        letters = GML.replace("M&#252;nchen", "München")
+        for text in (
+            letters.encode(),
+            b"\xef\xbb\xbf" + letters.encode(),
+            letters.encode("utf-16"),
+            letters.encode("latin-1"),
+            letters.replace("\n", "\r\n").encode(),
+            letters.replace("München", "Mün\nchen").encode(),
+        ):
+            with self.subTest(text[:20]):
+                done = self.make("--destination", "Vienna", stdin=text)
+                self.assertEqual(done.out, wanted)
+        drawn = GRAPHML.replace(">B<", ">Köln<")
+        for name in "utf-8", "utf-16", "iso-8859-1", "iso-8859-15", "windows-1252":
+            with self.subTest(name):
+                text = drawn.replace("utf-8", name).encode(name)
+                self.assertEqual(
+                    self.make("--destination", "Köln", stdin=text).out,
+                    self.make("--destination", "B", stdin=GRAPHML).out,
+                )
+
+    def test_a_text_without_the_namespace(self) -> None:
+        text = re.sub(' xmlns="[^"]*"', "", GRAPHML)
+        self.assertEqual(
+            self.make("--destination", "B", stdin=text).out,
+            self.make("--destination", "B", stdin=GRAPHML).out,
+        )
+
+    def test_a_node_has_at_most_64_neighbours(self) -> None:
         star = "graph [\n" + "".join(f"node [ id {node} ]\n" for node in range(66))
         star += "".join(f"edge [ source 0 target {node} ]\n" for node in range(1, 66)) + "]\n"
         self.assert_refused(
-            tool("import", "--destination", 0, stdin=star),
-            "line 132: this is a 65th link of the node 0",
+            import_tool("--destination", 0, stdin=star),
+            "refused node '0': it has more than 64 neighbours",
+        )
+
+    def test_a_case_has_at_most_1024_routers(self) -> None:
+        chain = "graph [\n" + "".join(f"node [ id {node} ]\n" for node in range(1025))
+        chain += "".join(f"edge [ source {n} target {n + 1} ]\n" for n in range(1024)) + "]\n"
+        self.assert_refused(
+            import_tool("--destination", 0, stdin=chain),
+            "a path leads from 1,024 nodes, and a case has 1,024 routers at most",
         )
 
     def test_options_that_the_network_does_not_meet(self) -> None:
         for words, why in (
-            (["--destination", "Bonn"], "refused option --destination: 0 nodes are called Bonn"),
-            (["--destination", "A"], "refused option --destination: 2 nodes are called A"),
+            (["--destination", "Bonn"], "refused option --destination: 0 nodes are called 'Bonn'"),
+            (["--destination", "A"], "refused option --destination: 2 nodes are called 'A'"),
             (
                 ["--destination", "B", "--delay", "time"],
                 "refused option --delay: no link has the attribute time",
@@ -267,13 +423,22 @@ class Import(ToolTest):
             ),
         ):
             with self.subTest(words):
-                self.assert_refused(tool("import", *words, stdin=GRAPHML), why)
+                self.assert_refused(import_tool(*words, stdin=GRAPHML), why)
         self.assertEqual(
-            tool("import", "--destination", "B", "--per-tick", "0", stdin=GRAPHML).status, 3
+            import_tool("--destination", "B", "--per-tick", "0", stdin=GRAPHML).status, 3
         )
 
     def test_no_entities_of_ones_own(self) -> None:
         text = GRAPHML.replace("<graphml", '<!DOCTYPE graphml [<!ENTITY a "b">]><graphml', 1)
         self.assert_refused(
-            tool("import", "--destination", "B", stdin=text), "entities of one's own are not taken"
+            import_tool("--destination", "B", stdin=text), "entities of one's own are not taken"
         )
+
+
+class ImportWithoutPackages(ToolTest):
+    def test_it_says_how_to_get_them(self) -> None:
+        done = tool("import", "--destination", 0, stdin=GML)
+        self.assertEqual((done.status, done.out), (2, ""))
+        self.assertIn("import: stopped packages: ", done.err)
+        self.assertIn("apt-get install python3-networkx python3-defusedxml\n", done.err)
+        self.assertIn("example", self.assert_done(tool("import", "--help")))

@@ -1,12 +1,20 @@
 """Tests of ./install, the man page and the completions."""
 from __future__ import annotations
 
+import os
+import pty
 import re
+import select
+import shlex
 import shutil
+import stat
 import subprocess
+import sys
 import tempfile
 import unittest
 from pathlib import Path
+from typing import Any
+from unittest import mock
 
 import tools_common
 from tools_common import CASES, TOP, Done, ToolTest, run, tool
@@ -27,6 +35,11 @@ FILES = (
     "bin/twarp",
     *(f"bin/twarp-{name}" for name in TOOLS),
     "share/man/man1/twarp.1",
+    "share/man/man5/twarp.5",
+    "share/doc/twarp/README.md",
+    "share/doc/twarp/docs/TUTORIAL.md",
+    "share/doc/twarp/docs/pictures/disagree.svg",
+    "share/doc/twarp/cases/disagree.spp",
     "share/bash-completion/completions/twarp",
     "share/zsh/site-functions/_twarp",
     "share/fish/vendor_completions.d/twarp.fish",
@@ -37,8 +50,8 @@ def manual(kind: str) -> Done:
     return tool("manual", "--program", tools_common.need_program(), kind)
 
 
-def install(*words: object) -> Done:
-    return run(TOP / "install", *words)
+def install(*words: object, **how: Any) -> Done:
+    return run(TOP / "install", *words, **how)
 
 
 def files_of(folder: Path) -> dict[Path, bytes]:
@@ -57,8 +70,9 @@ class Installed(ToolTest):
         # A folder with a space in its name, which is not there yet.
         self.prefix = self.folder / "pre fix"
 
-    def install(self) -> None:
-        done = install("--prefix", self.prefix, "--program", tools_common.need_program())
+    def install(self, **how: Any) -> None:
+        program = tools_common.need_program()
+        done = install("--prefix", self.prefix, "--program", program, **how)
         self.assertIn("twarp is installed: ", self.assert_done(done))
 
     def test_what_is_there_works(self) -> None:
@@ -80,6 +94,21 @@ class Installed(ToolTest):
                 f"usage: twarp-{name} ", self.assert_done(run(bin_ / f"twarp-{name}", "--help"))
             )
 
+    def test_the_program_beside_is_taken_before_others(self) -> None:
+        self.install()
+        other = self.folder / "bin"
+        other.mkdir()
+        (other / "twarp").write_text("#!/bin/sh\nexit 2\n")
+        (other / "twarp").chmod(0o755)
+        environment = {name: word for name, word in os.environ.items() if name != "TWARP"}
+        environment |= {"PATH": f"{other}:{os.environ['PATH']}", "PYTHONPATH": str(self.prefix / "lib/twarp")}
+        words = ["--delays", "1", "--stop", "20", "--runs", "1", "--quiet", CASES / "disagree.spp"]
+        with mock.patch.dict(os.environ, environment, clear=True):
+            out = self.assert_done(run(self.prefix / "bin/twarp-sweep", *words))
+            self.assertRegex(out.splitlines()[1], "^1,1,1,1,open,")
+            found = run(sys.executable, "-c", "import twarp.program; print(twarp.program.need())")
+        self.assertEqual(self.assert_done(found), f"{(self.prefix / 'bin/twarp').resolve()}\n")
+
     def test_uninstalled_all_is_as_it_was(self) -> None:
         (self.prefix / "bin").mkdir(parents=True)
         (self.prefix / "bin/other").write_text("other\n")
@@ -98,6 +127,47 @@ class Installed(ToolTest):
         self.assert_refused(
             install("--prefix", self.prefix, "--uninstall"), "no twarp is installed in"
         )
+
+    def test_folders_above_are_taken_away_too(self) -> None:
+        self.prefix = self.folder / "a/b/c"
+        self.install()
+        # A further installation knows of the folders that the first one made.
+        (self.prefix / "bin/other").write_text("other\n")
+        self.install()
+        (self.prefix / "bin/other").unlink()
+        self.assert_done(install("--prefix", f"{self.prefix}//", "--uninstall"))
+        self.assertEqual(files_of(self.folder), {})
+
+    def test_below_another_root(self) -> None:
+        stage, prefix = self.folder / "stage", self.folder / "usr/local"
+        how = {"env": os.environ | {"DESTDIR": str(stage)}}
+        program = tools_common.need_program()
+        before = files_of(self.folder)
+        out = self.assert_done(install("--prefix", prefix, "--program", program, **how))
+        self.assertIn(f"{stage}{prefix}/bin/twarp", out)
+        for name in FILES:
+            self.assertTrue(Path(f"{stage}{prefix}/{name}").is_file(), name)
+        self.assert_done(install("--prefix", f"{prefix}/", "--uninstall", **how))
+        self.assertEqual(files_of(self.folder), before)
+
+    def test_what_was_made_below_another_root_is_moved(self) -> None:
+        stage = self.folder / "stage"
+        self.install(env=os.environ | {"DESTDIR": str(stage)})
+        Path(f"{stage}{self.prefix}").rename(self.prefix)
+        self.assert_done(run(self.prefix / "bin/twarp-draw", CASES / "disagree.spp"))
+        self.assert_done(install("--prefix", self.prefix, "--uninstall"))
+        self.assertFalse(self.prefix.exists())
+        # The folders above are those of where the package was made.
+        self.assertTrue(Path(f"{stage}{self.prefix.parent}").exists())
+
+    def test_it_is_for_everyone(self) -> None:
+        mask = os.umask(0o077)
+        self.addCleanup(os.umask, mask)
+        self.install()
+        for found in self.folder.rglob("*"):
+            mode = stat.S_IMODE(found.lstat().st_mode)
+            wanted = 0o755 if found.is_dir() or mode & 0o100 else 0o644
+            self.assertEqual(mode, 0o777 if found.is_symlink() else wanted, found)
 
     def test_what_was_broken_off_can_be_taken_away(self) -> None:
         # A program that is none of twarp has no help of which a man page could be made.
@@ -149,13 +219,30 @@ class ManPage(ToolTest):
         for name in OPTIONS:
             self.assertRegex(page, rf"(?m)^\.SS twarp {name}")
 
+    def test_the_page_of_formats_has_every_code(self) -> None:
+        page = self.assert_done(manual("formats"))
+        formats = (TOP / "docs/FORMATS.md").read_text()
+        codes = re.findall(r"^\| ([XISKHN][0-9]+ \w+) \|", formats, re.M)
+        self.assertGreater(len(codes), 20)
+        for code in codes:
+            self.assertIn(f"\n.TP\n{code}\n", page)
+
     @unittest.skipUnless(shutil.which("groff"), "groff is not installed")
-    def test_groff_reads_it(self) -> None:
-        shown = run("groff", "-man", "-ww", "-Tascii", stdin=self.assert_done(manual("man")))
-        self.assertEqual((shown.status, shown.err), (0, ""))
-        words = re.sub(".\b", "", re.sub("\x1b\\[[0-9;]*m", "", shown.out))
+    def test_groff_reads_them(self) -> None:
+        words = self.shown("formats")
+        for section in "NAME", "DESCRIPTION", "CASE TEXT", "EXIT STATUSES", "SEE ALSO":
+            self.assertIn(f"\n{section}\n", words)
+        self.assertRegex(words, r"\n +I2 SelfLink\n +a link.s two ends are equal\n")
+        words = self.shown("man")
         for section in "NAME", "SYNOPSIS", "DESCRIPTION", "OPTIONS", "COMMANDS", "EXIT STATUS":
             self.assertIn(f"\n{section}\n", words)
+
+
+    def shown(self, kind: str) -> str:
+        """What a reader sees of a page."""
+        shown = run("groff", "-man", "-ww", "-Tutf8", stdin=self.assert_done(manual(kind)))
+        self.assertEqual((shown.status, shown.err), (0, ""))
+        return re.sub(".\b", "", re.sub("\x1b\\[[0-9;]*m", "", shown.out))
 
 
 def completed(script: str, line: str) -> set[str]:
@@ -166,6 +253,33 @@ def completed(script: str, line: str) -> set[str]:
     done = run("bash", "--norc", "-c", "\n".join([script, given, "_twarp", shown]))
     assert (done.status, done.err) == (0, ""), done.err
     return set(done.out.split())
+
+
+def typed(script: Path, keys: str) -> str:
+    """The line that bash has in the folder of the clone, once these keys were pressed."""
+    process, terminal = pty.fork()
+    if process == 0:
+        os.chdir(TOP)
+        os.environ.update(PS1="$ ", INPUTRC=os.devnull, TERM="dumb")
+        os.execvp("bash", ["bash", "--norc", "--noprofile", "-i"])
+
+    def read(seconds: float) -> str:
+        """What the terminal shows until nothing more comes for so long."""
+        shown = b""
+        while select.select([terminal], [], [], seconds)[0]:
+            shown += os.read(terminal, 65_536)
+        return shown.decode()
+
+    read(1)
+    os.write(terminal, f". {shlex.quote(str(script))}; echo ready\n".encode())
+    shown = read(1)
+    while "\nready" not in shown:
+        shown += read(1)
+    os.write(terminal, keys.encode())
+    shown = read(2)
+    os.close(terminal)
+    os.waitpid(process, 0)
+    return shown.replace("\x07", "").replace("\r", "")
 
 
 class Completions(ToolTest):
@@ -179,6 +293,20 @@ class Completions(ToolTest):
             self.assertEqual(completed(script, f"twarp {name} "), options | HELP)
         self.assertEqual(completed(script, "twarp seq --stop "), set())
         self.assertEqual(completed(script, "twarp seq --stop 20 --e"), {"--every"})
+
+    @unittest.skipUnless(shutil.which("bash"), "bash is not installed")
+    def test_bash_completes_the_names_of_files(self) -> None:
+        with tempfile.TemporaryDirectory() as folder:
+            script = Path(folder) / "twarp"
+            script.write_text(self.assert_done(manual("bash")))
+            for keys, line in (
+                ("twarp seq < cases/bad-g\t", "twarp seq < cases/bad-gadget.spp "),
+                ("twarp seq <cases/bad-g\t", "twarp seq <cases/bad-gadget.spp "),
+                ("twarp seq --stop cas\t", "twarp seq --stop cas"),
+                ("twarp re\t--w\t", "twarp replay --workers "),
+            ):
+                with self.subTest(keys):
+                    self.assertEqual(typed(script, keys), line)
 
     def test_each_shell_knows_all_names(self) -> None:
         for shell in SHELLS:

@@ -15,8 +15,8 @@ import browser
 from rows import row_of
 from tools_common import CASES, ToolTest, case_of_a_late_failure, read, report_of, tool, twarp
 from twarp_tools.layout import distance, lay_out
-from twarp_tools.palette import DARK, LIGHT, PLACES
-from twarp_tools.report import read_report
+from twarp.palette import DARK, LIGHT, PLACES
+from twarp.report import read_report
 
 Json = dict[str, Any]
 
@@ -107,8 +107,8 @@ class Page(ToolTest):
                     report = report_of(file.stem, 20)
                     data = self.make(file.stem, report, *words)
                     states = states_at_the_end(data)
-                    for told in read_report(report.encode(), len(states)).routers:
-                        line, state = told.value, states[told.value.router]
+                    for line in read_report(report.encode(), len(states)).routers:
+                        state = states[line.router]
                         self.assertEqual(data["paths"][state["rib"]], list(line.rib))
                         self.assertEqual(
                             state["counters"],
@@ -248,6 +248,27 @@ OUT_OF_PANE = """Object.entries({
 }).filter(([name, [part, pane]]) => (name !== "time" && wayTo(part, pane, DOWN))
     || wayTo(part, pane, ACROSS))
   .map(([name]) => name)"""
+# How far the cross of the failure is from the line at the time chosen.
+PLACE_OF_FAILURE = """(() => {
+  const [mark, line] = [".area path.fail", ".cursor"].map((name) => area.parentElement
+    .querySelector(name).getBoundingClientRect());
+  return mark.x + mark.width / 2 - line.x - line.width / 2;
+})()"""
+# Messages that do not go from when they were sent to when they arrive.
+MISPLACED_MESSAGES = """(() => {
+  const place = (time) => zoomed(placeOfTime(time));
+  return [...area.querySelectorAll(".message")].map((line) => {
+    const [, sent, arrives] = line.textContent.match(/sent ([0-9]+), arrives ([0-9]+)/).map(Number);
+    return ["x1", "x2"].map((name) => Number(line.getAttribute(name)))
+      .map((x, end) => Math.abs(x - place([sent, arrives][end])));
+  }).filter(([one, other]) => one > 0.2 * view.zoom || other > 0.2 * view.zoom);
+})()"""
+# Words that are wider than their bar.
+WIDE_WORDS = """[...area.querySelectorAll("rect.bar, rect.hollow")]
+  .map((box) => [box, box.parentElement.querySelector("text")])
+  .filter(([, text]) => text && text.style.display !== "none" && text.getAttribute("display"))
+  .filter(([box, text]) => text.getBBox().width > box.getBBox().width)
+  .map(([, text]) => text.textContent)"""
 WORDS = "document.getElementById('{}').innerText"
 # The middle of what a selector finds, once it is in the window.
 CENTRE = """(() => {
@@ -380,6 +401,74 @@ class PageInBrowser(ToolTest):
             room = self.browser.run(f"network.parentElement.getBoundingClientRect().{side}")
             self.assertLessEqual(self.browser.run(f"network.getBoundingClientRect().{side}"), room)
         self.assertEqual(self.browser.run("document.documentElement.scrollWidth"), 390)
+
+    def test_the_timeline_is_drawn_wider_and_narrower(self) -> None:
+        self.browser.open(
+            self.make("failure-and-repair", read("failure-and-repair-report.txt")), 1280
+        )
+        self.browser.run("goTo(run.stops.indexOf(4))")
+        width = self.browser.run("area.getBoundingClientRect().width")
+        for buttons, share in ((["#wider", "#wider"], "400 %"), (["#narrower"] * 3, "50 %")):
+            for button in buttons:
+                self.click(button)
+            with self.subTest(share):
+                self.assertEqual(self.words("zoom"), share)
+                # What marks the failure stands at its time, at its own size, and so do messages.
+                self.assertLess(abs(self.browser.run(PLACE_OF_FAILURE)), 1)
+                self.assertEqual(self.browser.run(MISPLACED_MESSAGES), [])
+                self.assertEqual(self.browser.run(OVERLAPS), [])
+                self.assertEqual(self.browser.run(WIDE_WORDS), [])
+        self.browser.run("timeline.focus()")
+        for key, share in ("+", "100 %"), ("+", "200 %"), ("-", "100 %"):
+            self.browser.press(key)
+            self.assertEqual(self.words("zoom"), share)
+        self.assertAlmostEqual(self.browser.run("area.getBoundingClientRect().width"), width)
+        self.click("#fit")
+        self.assertLessEqual(
+            self.browser.run("timeline.scrollWidth"), self.browser.run("timeline.clientWidth") + 1
+        )
+        self.assertEqual(self.browser.faults(), [])
+
+    def test_messages_can_be_hidden(self) -> None:
+        self.browser.open(self.make("disagree", read("disagree-report.txt")), 390)
+        shown = "[...document.querySelectorAll('.area .message, #network .dot')]"
+        shown += ".filter((found) => getComputedStyle(found).display !== 'none').length"
+        self.assertEqual(self.browser.run(shown), 6 + 2)
+        self.click("#messages")
+        self.browser.run("goTo(1)")
+        self.assertEqual(self.browser.run(shown), 0)
+        self.click("#messages")
+        self.assertEqual(self.browser.run(shown), 6 + 3)
+
+    def test_a_page_of_5000_events(self) -> None:
+        report = report_of("disagree-equal-delays", 2000)
+        words = [CASES / "disagree-equal-delays.spp", "-", "--to", 1200]
+        page = self.folder / "many.html"
+        page.write_text(self.assert_done(tool("page", *words, stdin=report)))
+        self.browser.open(page, 1280)
+        self.assertGreater(self.browser.run("run.events.length"), 4_500)
+        words = "[...area.querySelectorAll('.path')]"
+        words += ".filter((text) => text.style.display === 'inline').length"
+        before = self.browser.run(words)
+        self.click("#wider")
+        self.click("#wider")
+        self.assertGreater(self.browser.run(words), before)
+        self.click("#messages")
+        self.browser.run("goTo(run.stops.length)")
+        self.assertEqual(self.words("now"), "1,200")
+        self.click("#fit")
+        self.assertEqual(self.browser.run(OVERLAPS), [])
+        self.assertEqual(self.browser.faults(), [])
+
+    def test_no_word_of_the_legend_is_cut(self) -> None:
+        page = self.make("failure-and-repair", read("failure-and-repair-report.txt"))
+        for width in 1280, 390:
+            self.browser.open(page, width)
+            self.assertIn("message", self.words("marks").split("\n"))
+            self.assertEqual(self.browser.run("document.querySelectorAll('#marks text').length"), 0)
+            cut = "[...document.querySelectorAll('#marks li')]"
+            cut += ".filter((entry) => entry.scrollWidth > entry.clientWidth).length"
+            self.assertEqual(self.browser.run(cut), 0)
 
     def test_it_plays(self) -> None:
         self.browser.open(self.make("disagree", read("disagree-report.txt")), 1280)

@@ -22,6 +22,10 @@ BAD_RELATIONSHIPS = [
 ]
 
 
+# Three peers; 6 and 7 are customers of 1, 4 of 3, and 5 of 4.
+SHAPES = "1|2|0\n2|3|0\n1|3|0\n3|4|-1\n4|5|-1\n1|6|-1\n1|7|-1\n"
+
+
 def by_ases(case: str, numbers: str) -> list[tuple[str, list[int], list[int]]]:
     """The lines of a case by AS numbers, in an order that routers' numbers do not decide.
 
@@ -129,6 +133,56 @@ class Relationships(ToolTest):
         )
         self.assertEqual((len(failed), failed.keys()), (4, repaired.keys()))
         self.assertTrue(all(1 <= failed[link] < repaired[link] <= 50 for link in failed))
+
+    def taken(self, *words: object) -> tuple[set[int], str]:
+        """The ASes that are taken of `SHAPES`, and what is told."""
+        with tempfile.TemporaryDirectory() as folder:
+            numbers = Path(folder) / "numbers"
+            done = self.make(*words, "--map", numbers, stdin=SHAPES)
+            lines = numbers.read_text().splitlines()
+        return {int(line.split()[1]) for line in lines}, done.err
+
+    def test_a_core_with_the_way_to_it(self) -> None:
+        for destination, most, ases, k in (
+            (1, 3, {1, 2, 3}, 2),
+            # 5 is below 4, and 4 below 3.
+            (5, 5, {1, 2, 3, 4, 5}, 2),
+            (5, 7, {1, 2, 3, 4, 5, 6, 7}, 1),
+        ):
+            with self.subTest(destination, most=most):
+                taken, told = self.taken("--destination", destination, "--core", most)
+                self.assertEqual(taken, ases)
+                self.assertIn(f"the {k}-core, AS {destination} and the providers above", told)
+                self.assertIn(f" it: {len(ases)} of 7 ASes\n", told)
+        # Each core is larger: the nearest ASes of the last one are taken.
+        taken, told = self.taken("--destination", 1, "--core", 2)
+        self.assertEqual(taken, {1, 2})
+        self.assertIn("2-core, AS 1 and the providers above it: 3 of 7 ASes\n", told)
+
+    def test_a_core_of_a_larger_network(self) -> None:
+        # A full mesh of six, a ring of 30 around it, and a star of 40 at one of the mesh.
+        mesh = [(a, b) for a in range(1, 7) for b in range(a + 1, 7)]
+        ring = [(node, node + 1) for node in range(100, 129)] + [(129, 100), (1, 100), (2, 115)]
+        star = [(3, leaf) for leaf in range(200, 240)]
+        lines = "".join(f"{a}|{b}|0\n" for a, b in mesh + ring)
+        lines += "".join(f"{a}|{b}|-1\n" for a, b in star)
+        for most, count, k in (6, 6, 5), (35, 6, 5), (36, 36, 2), (75, 36, 2), (76, 76, 1):
+            done = tool("relationships", "--destination", 1, "--core", most, stdin=lines)
+            whole = f"the {k}-core, AS 1 and the providers above it: {count} of 76 ASes\n"
+            self.assertIn(whole, done.err)
+
+    def test_a_customer_cone(self) -> None:
+        taken, told = self.taken("--destination", 5, "--cone", 3)
+        self.assertEqual(taken, {3, 4, 5})
+        self.assertIn("the customer cone of AS 3: 3 of 7 ASes\n", told)
+        taken, _ = self.taken("--destination", 5, "--cone", 3, "--keep-connected", 2)
+        self.assertEqual(taken, {4, 5})
+        for words, why in (
+            (["--cone", 1], "refused option --cone: AS 5 is not in the customer cone of AS 1"),
+            (["--cone", 9], "refused option --cone: the input has no AS 9"),
+        ):
+            done = tool("relationships", "--destination", 5, *words, stdin=SHAPES)
+            self.assert_refused(done, why)
 
     def test_an_order_in_which_neighbours_are_near(self) -> None:
         cases, numbers = {}, {}

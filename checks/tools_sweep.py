@@ -2,6 +2,8 @@
 from __future__ import annotations
 
 import csv
+import hashlib
+import json
 import os
 import pty
 import re
@@ -11,11 +13,23 @@ import sys
 import tempfile
 import time
 from collections import Counter
-from collections.abc import Iterator
+from collections.abc import Iterator, Mapping
 from contextlib import contextmanager
 from pathlib import Path
 
-from tools_common import CASES, INPUTS, TOP, Done, ToolTest, case_of, need_program, texts, tool
+from tools_common import (
+    CASES,
+    INPUTS,
+    TOP,
+    Done,
+    ToolTest,
+    case_of,
+    need_program,
+    run_within,
+    texts,
+    tool,
+)
+from twarp.sweeps import read_law
 
 
 def by_hand(one: int, two: int) -> dict[str, str]:
@@ -106,11 +120,16 @@ class Sweep(ToolTest):
             "--summary", CASES / "failure-and-repair.spp",
         ]
         lines = self.assert_done(self.sweep(*words)).splitlines()
-        # Wilson's interval of 10 in 10 goes down to 10 / (10 + 1.96 * 1.96).
-        self.assertEqual(
-            lines[1].split(), "1 10 100.0 % 72.2 to 100.0 % rest 8 1 (1 0) (2 1 0)".split()
-        )
-        self.assertEqual(len(lines), 2)
+        # Wilson's interval of 10 in 10 goes down to 10 / (10 + 1.96 * 1.96). The run of the case
+        # itself, whose link fails at 4, sends 6 messages.
+        rows = {
+            1: "1 10 100.0 % 72.2 to 100.0 % rest 8 1 (1 0) (2 1 0)",
+            4: "1 rest 8 8 8 8 8",
+            5: "1 messages 6 6 6 6 6",
+        }
+        for row, told in rows.items():
+            self.assertEqual(lines[row].split(), told.split())
+        self.assertEqual(len(lines), 6)
 
     def test_the_picture(self) -> None:
         with tempfile.TemporaryDirectory() as folder:
@@ -160,7 +179,7 @@ if grep -q "^link 0 1 2$" $$; then echo stopped memory >&2; exit 2; fi
         )
 
     def test_where_no_run_comes_to_an_end_nothing_is_counted(self) -> None:
-        with self.stand_in("exit 2") as start:
+        with self.stand_in('[ "$1" = check ] && exec "$TWARP" "$@"; exit 2') as start:
             picture = start.parent / "runs.svg"
             words = ["--delays", 1, "--stop", 9, "--runs", 3, "--summary", "--picture", picture]
             done = self.sweep(*words, CASES / "disagree.spp", start=start)
@@ -215,31 +234,47 @@ if grep -q "^link 0 1 2$" $$; then echo stopped memory >&2; exit 2; fi
 
     def test_an_interrupt_leaves_what_there_is(self) -> None:
         script = """
-echo >> begun
+if [ "$3" = 100 ]; then echo >> begun; fi
 if [ "$(wc -l < begun)" -gt 12 ]; then : > hangs; sleep 60; fi
 exec "$TWARP" "$@"
 """
         with self.stand_in(script) as start:
-            words = [
-                "--delays", "1-9", "--stop", "100", "--runs", "500", "--jobs", "2",
-                CASES / "disagree.spp",
-            ]
-            command = [
-                sys.executable, "-S", TOP / "tools/sweep", "--program", start, "--quiet", *words
-            ]
-            pipe = subprocess.PIPE
-            with subprocess.Popen(
-                command, stdout=pipe, stderr=pipe, text=True, preexec_fn=heed_interrupts
-            ) as process:
-                while process.poll() is None and not (start.parent / "hangs").exists():
-                    time.sleep(0.05)
-                process.send_signal(signal.SIGINT)
-                out, err = process.communicate(timeout=50)
+            for number in signal.SIGINT, signal.SIGTERM:
+                with self.subTest(number.name):
+                    for name in "begun", "hangs":
+                        (start.parent / name).unlink(missing_ok=True)
+                    self.interrupt(start, number)
+
+    def interrupt(self, start: Path, number: int) -> None:
+        kept = start.parent / "kept.csv"
+        words = [
+            "--delays", "1-9", "--stop", "100", "--runs", "500", "--jobs", "2", "--csv", kept,
+            CASES / "disagree.spp",
+        ]
+        command = [sys.executable, "-S", TOP / "tools/sweep", "--program", start, "--quiet", *words]
+        pipe = subprocess.PIPE
+        with subprocess.Popen(
+            command, stdout=pipe, stderr=pipe, text=True, preexec_fn=heed_interrupts
+        ) as process:
+            while process.poll() is None and not (start.parent / "hangs").exists():
+                time.sleep(0.05)
+            process.send_signal(number)
+            out, err = process.communicate(timeout=50)
         rows = list(csv.DictReader(out.splitlines()))
         self.assertEqual(process.returncode, 2)
         self.assertEqual(err, f"sweep: stopped interrupt: {len(rows)} of 500 runs are done\n")
         self.assertIn(len(rows), range(10, 13))
+        # Those that the other process has ended out of turn stand there too.
+        seeds = [int(row["seed"]) for row in rows]
+        self.assertEqual(seeds, sorted(set(seeds)))
         self.assertEqual({row["verdict"] for row in rows} - {"quiet", "open"}, set())
+        self.assertEqual(kept.read_text(), out)
+        # What was interrupted goes on, also where its last line was broken off.
+        kept.write_text(f"{out}77,7,")
+        words = [*words[:4], "--runs", 30, CASES / "disagree.spp"]
+        whole = self.assert_done(self.sweep(*words))
+        self.assertEqual(self.assert_done(self.sweep(*words, "--resume", kept)), whole)
+        self.assertEqual(kept.read_text(), whole)
 
     def test_progress(self) -> None:
         words = [
@@ -273,6 +308,203 @@ exec "$TWARP" "$@"
         self.assert_refused(late, "a repair would be at 1,000,000,001")
         failures = ["--failure-times", 1, "--links", "0-1"]
         both = ["--relationships", "", "--delays", 1]
-        for words in [], failures, both, ["--delays", "3-2"]:
+        two = ["--resume", "a", "--csv", "b"]
+        for words in [], failures, both, two, ["--delays", "3-2"], ["--relationships", "'"]:
             with self.subTest(words):
                 self.assertEqual(self.sweep(*words, *stop, case).status, 3)
+
+    def test_a_relative_program_is_that_file(self) -> None:
+        words = ["--delays", 1, "--stop", 9, "--runs", 1, CASES / "disagree.spp"]
+        with self.stand_in('echo run >> begun; exec "$TWARP" "$@"') as start:
+            name = f"./{start.name}"
+            for given in ["--program", name], []:
+                with self.subTest(given):
+                    environment = os.environ | {"TWARP": name if not given else "/nowhere/twarp"}
+                    done = run_at(start.parent, environment, *given, *words)
+                    self.assertEqual((done.status, len(done.out.splitlines())), (0, 2), done.err)
+            # Of each sweep one call judges the case, and two run it, the second to see what moves.
+            self.assertEqual((start.parent / "begun").read_text().count("run"), 6)
+            done = run_at(start.parent, os.environ, "--program", "./twarp", *words)
+            self.assertEqual((done.status, done.out), (2, ""))
+            self.assertIn(f"{start.parent}/twarp is no program; ./twarp --build", done.err)
+
+    def test_outputs_are_opened_before_the_first_run(self) -> None:
+        words = ["--delays", 1, "--stop", 9, "--runs", 3]
+        with self.stand_in('[ "$1" = seq ] && echo >> begun; exec "$TWARP" "$@"') as start:
+            for option in "--csv", "--json", "--picture":
+                with self.subTest(option):
+                    given = [*words, option, "/nowhere/a", CASES / "disagree.spp"]
+                    done = self.sweep(*given, start=start)
+                    self.assertEqual((done.status, done.out), (2, ""))
+            case = start.parent / "case.spp"
+            case.write_text(case_of("disagree"))
+            done = self.sweep(*words, "--csv", case, case, start=start)
+            self.assert_refused(done, "is the input")
+            other = start.parent / "a"
+            done = self.sweep(*words, "--csv", other, "--json", other, case, start=start)
+            self.assert_refused(done, "is another output")
+            self.assertEqual(case.read_text(), case_of("disagree"))
+            self.assertFalse((start.parent / "begun").exists())
+
+    def test_only_the_same_sweep_goes_on(self) -> None:
+        with tempfile.TemporaryDirectory() as folder:
+            kept = Path(folder) / "kept.csv"
+            case = CASES / "disagree.spp"
+            words = ["--delays", "1-9", "--stop", 50, "--runs", 4]
+            # One that is not there yet begins.
+            self.assert_done(self.sweep(*words, "--resume", kept, case))
+            begun = kept.read_text()
+            for change in (
+                ["--stop", 51],
+                ["--delays", "1-8"],
+                ["--seed", 2],
+                ["--every", 1],
+                ["--links", "0-1"],
+            ):
+                with self.subTest(change):
+                    done = self.sweep(*words, *change, "--resume", kept, case)
+                    self.assert_refused(done, "refused line 1: it is of ")
+            done = self.sweep(*words, "--resume", kept, CASES / "disagree-equal-delays.spp")
+            self.assert_refused(done, "refused line 1: it is of ")
+            self.assertEqual(kept.read_text(), begun)
+            # What is no CSV stays as it is.
+            kept.write_text("other")
+            done = self.sweep(*words, "--resume", kept, case)
+            self.assert_refused(done, "kept.csv: refused line 1: ")
+            self.assertEqual(kept.read_text(), "other")
+
+    def test_parts_are_merged(self) -> None:
+        with tempfile.TemporaryDirectory() as name:
+            folder, words = Path(name), [*self.TWO_DELAYS, CASES / "disagree.spp"]
+            whole = self.assert_done(self.sweep(*words, "--runs", 60))
+            for first, runs in (1, 25), (26, 35):
+                part = self.assert_done(self.sweep(*words, "--seed", first, "--runs", runs))
+                (folder / f"{first}.csv").write_text(part)
+            files = [folder / "26.csv", folder / "1.csv"]
+            self.assertEqual(self.assert_done(tool("sweep", "merge", *files)), whole)
+            self.assertEqual(
+                self.assert_done(tool("sweep", "merge", "--summary", *files)),
+                self.sweep(*words, "--runs", 60, "--summary").out,
+            )
+            twice = tool("sweep", "merge", files[0], files[0])
+            self.assert_refused(twice, "has the run with seed 26 too")
+            other = folder / "other.csv"
+            other.write_text(self.sweep(*words, "--apart", "--runs", 2, "--seed", 90).out)
+            self.assert_refused(tool("sweep", "merge", *files, other), "other.csv: it is of ")
+
+    def test_a_csv_of_others_is_refused(self) -> None:
+        row = "2,4,7,quiet,5,,,6,3,1,,(0) (1 0) (2 1 0),"
+        head = "seed,delay_0_1,delay_0_2,verdict,rest,from,period,sent,changed,outcome,moving,paths,x"
+        bad = {
+            "": 1,
+            "a,b\n": 1,
+            f"{head}\n{row}\n{row}\n": 3,
+            f"{head}\n{row}\n3,{row[2:]}\n{row}\n": 4,
+            f"{head}\n{row.replace('quiet', 'quieter')}\n": 2,
+            f"{head}\n{row.replace(',5,', f',{9 ** 99},')}\n": 2,
+            f"{head}\n{row.replace(',1,,(0)', ',1,,,(0)')}\n": 2,
+            f"{head}\n3,4,7,quiet,5,,,6,3,1,,,\n": 2,
+            f"{head}\n{'9' * 5_000_000}\n": 2,
+            f'{head}\n"{"9" * 100}\n"' * 3: 2,
+        }
+        for text, line in bad.items():
+            with self.subTest(text[-60:]), tempfile.TemporaryDirectory() as folder:
+                file = Path(folder) / "a.csv"
+                file.write_text(text)
+                self.assert_refused(tool("sweep", "merge", file), f"{file}: refused line {line}: ")
+        command = [sys.executable, "-S", TOP / "tools/sweep", "merge", "/dev/zero"]
+        self.assert_refused(run_within(20, 300, *command), "/dev/zero: refused line 1: ")
+
+    def test_laws_of_delays(self) -> None:
+        # The quantiles of the two laws, from their formulas: ln 2 of the mean is the median, and a
+        # deviation above the median is the part 0.8413 of a normal law.
+        exponential, log_normal = read_law("exponential:100"), read_law("log-normal:50:1")
+        self.assertEqual([exponential.ticks(part) for part in (0, 0.5, 0.9)], [1, 69, 230])
+        self.assertEqual([log_normal.ticks(part) for part in (0.5, 0.841345)], [50, 136])
+        self.assertEqual(read_law("exponential:1000000").ticks(1 - 2**-53), 1_000_000)
+        self.assertEqual(read_law("log-normal:9:100").ticks(0), 1)
+        bad = "exponential:0", "log-normal:5", "log-normal:0:1", "normal:5", "0-5", "5-1", "1-"
+        for words in bad:
+            done = self.sweep("--delays", words, "--stop", 9, CASES / "disagree.spp")
+            self.assertEqual(done.status, 3, words)
+        words = ["--delays", "exponential:20", "--stop", 500, "--runs", 200]
+        rows = self.rows(*words, CASES / "disagree.spp")
+        drawn = [int(row["delay_0_1"]) for row in rows]
+        # The mean of 200 draws is within four of its deviations of the law's.
+        self.assertAlmostEqual(sum(drawn) / 200, 20, delta=4 * 20 / 200**0.5)
+
+    def test_each_direction_apart(self) -> None:
+        words = ["--delays", "1-50", "--apart", "--links", "1-2", "--stop", 300, "--every", 1]
+        words.append(CASES / "disagree.spp")
+        rows = self.rows(*words, "--runs", 40)
+        self.assertGreater(len({(row["delay_1_2"], row["delay_2_1"]) for row in rows}), 30)
+        one, two = rows[0]["delay_1_2"], rows[0]["delay_2_1"]
+        self.assertEqual(
+            self.assert_done(self.sweep(*words, "--show")).splitlines()[:5],
+            ["spp 2", "nodes 3", "link 0 1 1 1", "link 0 2 5 5", f"link 1 2 {one} {two}"],
+        )
+
+    def test_which_routers_still_move(self) -> None:
+        # Two pairs of routers as in DISAGREE, of which the second has equal delays and never rests.
+        paths = ["1 2 0", "1 0", "2 1 0", "2 0", "3 4 0", "3 0", "4 3 0", "4 0"]
+        links = ["0 1 1", "0 2 5", "1 2 1", "0 3 1", "0 4 1", "3 4 1"]
+        lines = [f"link {link}" for link in links] + [f"path {path[0]} {path}" for path in paths]
+        case = "\n".join(["spp 1", "nodes 5", *lines, "end", ""])
+        words = ["--delays", "1", "--links", "0-3", "--stop", 101, "--runs", 3]
+        for every, verdict in ([], "open"), (["--every", 1], "oscillates"):
+            rows = self.rows(*words, *every, stdin=case)
+            self.assertEqual({(row["verdict"], row["moving"]) for row in rows}, {(verdict, "3 4")})
+            told = self.assert_done(self.sweep(*words, *every, "--summary", stdin=case))
+            self.assertRegex(told, rf"\n{verdict} +3  3: 3, 4: 3\n")
+
+    def test_json_tells_what_was_run_and_how_it_ended(self) -> None:
+        with tempfile.TemporaryDirectory() as folder:
+            file = Path(folder) / "a.json"
+            words = [*self.TWO_DELAYS, "--runs", 100, "--json", file, CASES / "disagree.spp"]
+            rows = list(csv.DictReader(self.assert_done(self.sweep(*words)).splitlines()))
+            told = json.loads(file.read_text())
+        text = case_of("disagree")
+        self.assertEqual(told["case"], hashlib.sha256(text.encode()).hexdigest())
+        self.assertIn("--delays 1-10 --links 0-1,2-0 --stop 100 --every 1 --seed 1", told["sweep"])
+        self.assertRegex(told["versions"]["program"], r"^twarp \d")
+        for outcome in told["outcomes"]:
+            own = [row for row in rows if outcome["outcome"] in (row["outcome"], row["verdict"])]
+            self.assertEqual(outcome["runs"], len(own))
+            key = "rest" if "rest" in outcome else "period"
+            for name, column in (key, key), ("messages", "sent"):
+                values = sorted(int(row[column]) for row in own)
+                spread = outcome[name]
+                self.assertEqual((spread["least"], spread["greatest"]), (values[0], values[-1]))
+                for percent in 50, 90, 99:
+                    # So many in a hundred are at most this value, and fewer are below it.
+                    value = spread[f"p{percent}"]
+                    wanted = len(values) * percent / 100
+                    self.assertGreaterEqual(sum(seen <= value for seen in values), wanted)
+                    self.assertLess(sum(seen < value for seen in values), wanted)
+                first, width = spread["histogram"]["first"], spread["histogram"]["width"]
+                for place, count in enumerate(spread["histogram"]["counts"]):
+                    low = first + place * width
+                    self.assertEqual(count, sum(low <= seen < low + width for seen in values))
+        winners = Counter(row["outcome"] for row in rows if row["outcome"])
+        paths = {tuple(map(tuple, row["paths"])): row for row in told["outcomes"] if "paths" in row}
+        self.assertEqual(set(paths), {((0,), (1, 0), (2, 1, 0)), ((0,), (1, 2, 0), (2, 0))})
+        runs = {row["outcome"]: row["runs"] for row in paths.values()}
+        self.assertEqual(runs, dict(winners))
+        counts = {tuple(row["path"]): row["runs"] for row in told["routers"][1]["paths"]}
+        self.assertEqual(
+            counts, {key[1]: row["runs"] for key, row in paths.items()}
+        )
+
+    def test_a_process_that_dies_loses_no_run(self) -> None:
+        script = 'echo >> begun; [ "$(wc -l < begun)" = 9 ] && kill -9 "$PPID"; exec "$TWARP" "$@"'
+        words = [*self.TWO_DELAYS, "--runs", 40, CASES / "disagree.spp"]
+        with self.stand_in(script) as start:
+            broken = self.assert_done(self.sweep(*words, "--jobs", 2, start=start))
+        self.assertEqual(broken, self.sweep(*words).out)
+
+
+def run_at(folder: Path, environment: Mapping[str, str], *words: object) -> Done:
+    """How a sweep ends in a folder."""
+    command = [sys.executable, "-S", str(TOP / "tools/sweep"), "--quiet", *map(str, words)]
+    done = subprocess.run(command, cwd=folder, env=environment, capture_output=True, text=True)
+    return Done(done.returncode, done.stdout, done.stderr)

@@ -11,9 +11,9 @@ from rows import FOLDER, all_rows, row_of
 from tools_common import CASES, ToolTest, case_of, need_program, texts, tool
 from tools_drawing import elements
 from tools_page import data_of, states_at_the_end
-from twarp_tools.case import BarScene, Case, Link, read_case
-from twarp_tools.report import read_report
-from twarp_tools.standing import reached, unstable_routers
+from twarp.case import BarScene, Case, Link, read_case
+from twarp.report import read_report
+from twarp.standing import reached, unstable_routers
 
 FORBIDDEN = CASES / "forbidden-path.spp"
 TWICE = FOLDER / "forbidden-twice.spp"

@@ -3,11 +3,15 @@ from __future__ import annotations
 
 import argparse
 import enum
+import os
+import stat
 import sys
 from collections.abc import Callable
 from dataclasses import dataclass
 from pathlib import Path
 from typing import NoReturn, TypeVar
+
+from twarp.errors import Refused, Stopped
 
 Value = TypeVar("Value")
 
@@ -25,16 +29,13 @@ class Status(enum.IntEnum):
     BAD_LINE = 3
 
 
-class Refused(Exception):
-    """Input that a tool does not take. Its text says why, and at which line."""
-
-    @classmethod
-    def at_line(cls, number: int, why: str) -> Refused:
-        return cls(f"refused line {number}: {why}")
+# How much of what is wrong stands in a message.
+MOST_QUOTED = 80
 
 
-class Stopped(Exception):
-    """Work that did not come to its end. Its text is what stands behind `stopped`."""
+def quote(text: str) -> str:
+    """A text as a message quotes it: escaped, and cut where it is long."""
+    return repr(text) if len(text) <= MOST_QUOTED else f"{text[:MOST_QUOTED]!r}.."
 
 
 STATUSES = "statuses: 0 done, 1 the input is refused, 2 stopped, 3 the command line is not accepted"
@@ -59,8 +60,9 @@ def number_between(least: int, most: int) -> Callable[[str], int]:
     """A type of arguments: a decimal number in a range."""
 
     def read(word: str) -> int:
-        if not (word.isascii() and word.isdigit() and least <= int(word) <= most):
-            raise argparse.ArgumentTypeError(f"{word!r} is no number from {least} to {most}")
+        is_number = word.isascii() and word.isdigit() and len(word) <= MOST_QUOTED
+        if not (is_number and least <= int(word) <= most):
+            raise argparse.ArgumentTypeError(f"{quote(word)} is no number from {least} to {most}")
         return int(word)
 
     return read
@@ -100,7 +102,35 @@ class Input:
         try:
             return reader(self.text)
         except Refused as fault:
-            raise Refused(f"{self.name}: {fault}") from None
+            is_option = str(fault).startswith("refused option")
+            raise fault if is_option else Refused(f"{self.name}: {fault}") from None
+
+
+def is_file_of(descriptor: int, file: str) -> bool:
+    """Whether a descriptor is open on this very file, and it is one that is written over."""
+    try:
+        found, opened = os.stat(file), os.fstat(descriptor)
+    except OSError:
+        return False
+    return stat.S_ISREG(found.st_mode) and os.path.samestat(found, opened)
+
+
+def refuse_own_input(option: str, output: str | None, source: str) -> None:
+    """Refuses a file to be written that is the input, which would be lost, or that standard output goes to."""
+    if output is None:
+        return
+    is_given = source == "-"
+    if is_file_of(STANDARD_INPUT, output) if is_given else is_same_file(source, output):
+        raise Refused(f"refused option {option}: {output} is the input")
+    if is_file_of(STANDARD_OUTPUT, output):
+        raise Refused(f"refused option {option}: {output} is where standard output goes")
+
+
+def is_same_file(one: str, other: str) -> bool:
+    try:
+        return os.path.samefile(one, other)
+    except OSError:
+        return False
 
 
 def tell(message: object) -> None:

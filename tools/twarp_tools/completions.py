@@ -26,16 +26,19 @@ _twarp() {{
         {'|'.join(manual.top.commands)}) command=${{COMP_WORDS[place]}} && break ;;
         esac
     done
-    # What follows one of these is a number.
     case ${{COMP_WORDS[COMP_CWORD - 1]}} in
-    {'|'.join(sorted(valued))}) return ;;
+    # What follows one of these is a number, and after an arrow bash completes the names of files.
+    {'|'.join(sorted(valued))})
+        compopt +o default 2>/dev/null
+        return ;;
+    '<' | '>' | '>>' | '2>') return ;;
     esac
     case $command in
     '') words='{' '.join([*manual.top.commands, *flag_names(manual.top.flags)])}' ;;
 {''.join(cases + asked)}    esac
     mapfile -t COMPREPLY < <(compgen -W "$words" -- "$word")
 }}
-complete -F _twarp twarp
+complete -o default -F _twarp twarp
 """
 
 

@@ -7,7 +7,7 @@ from collections.abc import Iterator
 from dataclasses import dataclass, field
 from pathlib import Path
 
-from twarp_tools.command import Refused
+from twarp.errors import Refused
 
 A_FLAG = re.compile(r"\s{2,6}(?:(-\w), )?(--[\w-]+)(?: <(\w+)>)?")
 AN_ENTRY = re.compile(r"  (\S+)\s+(\S.*)")

@@ -1,4 +1,4 @@
-"""The man page, in the macros of man(7)."""
+"""The man page twarp(1), in the macros of man(7)."""
 from __future__ import annotations
 
 import re
@@ -12,6 +12,7 @@ def escaped(text: str) -> str:
     """Text in which nothing is taken for a request of roff; words in backticks are bold."""
     text = text.replace("\\", "\\e").replace("-", "\\-")
     text = re.sub("`([^`]+)`", r"\\fB\1\\fR", text)
+    text = re.sub("[^\x00-\x7f]", lambda found: f"\\[u{ord(found[0]):04X}]", text)
     return f"\\&{text}" if text.startswith((".", "'")) else text
 
 
@@ -69,5 +70,11 @@ def page_lines(manual: Manual) -> Iterator[str]:
         yield from (".TP", f"\\fB{status}\\fR", escaped(meaning))
 
 
+SEE_ALSO = [
+    ".SH SEE ALSO",
+    "\\fBtwarp\\fR(5) has the texts, the codes of what is refused, and the exit statuses.",
+]
+
+
 def man_page(manual: Manual) -> str:
-    return "".join(f"{line}\n" for line in page_lines(manual))
+    return "".join(f"{line}\n" for line in [*page_lines(manual), *SEE_ALSO])

@@ -1,19 +1,27 @@
-"""The tool manual: the man page and the completions of twarp, made of what its --help says."""
+"""The tool manual: the man pages and the completions of twarp, made of what its --help and docs/FORMATS.md say."""
 from __future__ import annotations
 
 from pathlib import Path
 
 from twarp_tools.command import Parser, write_output
 from twarp_tools.completions import bash, fish, zsh
-from twarp_tools.help_text import manual_of
+from twarp_tools.formats_page import FORMATS, formats_page
+from twarp_tools.help_text import Manual, manual_of
 from twarp_tools.man_page import man_page
 from twarp_tools.tutorial import PROGRAM
 
-KINDS = {"man": man_page, "bash": bash, "zsh": zsh, "fish": fish}
+
+
+def page_of_formats(manual: Manual) -> str:
+    return formats_page(FORMATS.read_text(encoding="utf-8"), manual.version)
+
+
+KINDS = {"man": man_page, "formats": page_of_formats, "bash": bash, "zsh": zsh, "fish": fish}
 
 DESCRIPTION = """\
-Writes the man page of twarp, or its completions for a shell, on standard output. They are made of what twarp --help
-and the --help of each command say."""
+Writes a man page of twarp, or its completions for a shell, on standard output. The page twarp(1), man, and the
+completions are made of what twarp --help and the --help of each command say, the page twarp(5), formats, of
+docs/FORMATS.md."""
 EXAMPLE = """\
 example:
   tools/manual man > twarp.1 && man -l twarp.1"""

@@ -6,9 +6,10 @@ from collections.abc import Callable
 from dataclasses import dataclass
 from fractions import Fraction
 
-from twarp_tools.case import GREATEST_DELAY, MOST_LINKS
-from twarp_tools.command import Refused
-from twarp_tools.network import Item, Network
+from twarp.case import GREATEST_DELAY, MOST_LINKS
+from twarp.errors import Refused
+from twarp_tools.command import quote
+from twarp_tools.network import Network, NetworkLink
 
 # Attributes of links that are read where the command line names none, in letters of any case.
 DISTANCES = ("delay", "latency", "distance", "dist", "length")
@@ -31,13 +32,13 @@ class Choice:
 
 
 # What a link has of something, where it has it.
-Measure = Callable[[Item], Fraction | None]
+Measure = Callable[[NetworkLink], Fraction | None]
 
 
 def measure_by(names: tuple[str, ...]) -> Measure:
     """What the first of these attributes says, which is not below 0."""
 
-    def measure(link: Item) -> Fraction | None:
+    def measure(link: NetworkLink) -> Fraction | None:
         found = link.find(names)
         return found.number_between(0, GREATEST_VALUE) if found else None
 
@@ -53,8 +54,8 @@ def measure_on_globe(network: Network) -> Measure:
             return None
         return math.radians(latitude.number_between(-90, 90)), math.radians(longitude.number_between(-180, 180))
 
-    def measure(link: Item) -> Fraction | None:
-        places = [place for place in map(place_of, network.ends(link)) if place]
+    def measure(link: NetworkLink) -> Fraction | None:
+        places = [place for place in map(place_of, (link.source, link.target)) if place]
         return Fraction(round(kilometres(*places))) if len(places) == 2 else None
 
     return measure
@@ -107,19 +108,21 @@ class Measured:
 
 
 class Joined:
-    """A network whose nodes are joined by one link each at most: the lightest, and of these the quickest."""
+    """A network in which at most one link leads from a node to another: the lightest, and of these the quickest."""
 
     def __init__(self, network: Network, choice: Choice):
         self.network = network
+        # For each node those to which a link leads, and those which a link joins to it in either direction.
         self.rows: dict[str, dict[str, Measured]] = {node: {} for node in network.nodes}
+        self.peers: dict[str, dict[str, None]] = {node: {} for node in network.nodes}
         self.parallel = self.loops = self.unmeasured = 0
         self.delay = delay_measure(network, choice)
         self.weight = weight_measure(network, choice)
         for link in network.links:
             self.join(link)
 
-    def join(self, link: Item) -> None:
-        a, b = self.network.ends(link)
+    def join(self, link: NetworkLink) -> None:
+        a, b = link.source, link.target
         if a == b:
             self.loops += 1
             return
@@ -128,17 +131,22 @@ class Joined:
         if known:
             self.parallel += 1
             measured = min(known, measured, key=lambda one: (one.weight, one.delay))
-        elif max(len(self.rows[a]), len(self.rows[b])) == MOST_LINKS:
-            crowded = a if len(self.rows[a]) == MOST_LINKS else b
-            raise Refused.at_line(link.line, f"this is a 65th link of the node {self.network.name(crowded)}")
-        self.rows[a][b] = self.rows[b][a] = measured
+        self.rows[a][b] = measured
+        if not self.network.is_directed:
+            self.rows[b][a] = measured
+        for one, other in (a, b), (b, a):
+            self.peers[one][other] = None
+            if len(self.peers[one]) > MOST_LINKS:
+                raise Refused(
+                    f"refused node {quote(self.network.nodes[one].name)}: it has more than {MOST_LINKS} neighbours"
+                )
 
-    def measure(self, link: Item) -> Measured:
+    def measure(self, link: NetworkLink) -> Measured:
         delay = self.delay_of(link)
         weight = self.weight(link) if self.weight else Fraction(delay)
         return Measured(delay, Fraction(1) if weight is None else weight)
 
-    def delay_of(self, link: Item) -> int:
+    def delay_of(self, link: NetworkLink) -> int:
         if not self.delay:
             return 1
         measure, per_tick = self.delay
@@ -148,5 +156,5 @@ class Joined:
             return 1
         delay = max(1, round(distance / per_tick))
         if delay > GREATEST_DELAY:
-            raise Refused.at_line(link.line, f"the delay of this link is {delay:,}: at most {GREATEST_DELAY:,} can be")
+            raise Refused(f"refused {link.place}: its delay is {delay:,}, and at most {GREATEST_DELAY:,} can be")
         return delay

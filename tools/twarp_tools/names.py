@@ -4,8 +4,9 @@ from __future__ import annotations
 import argparse
 import re
 
-from twarp_tools.command import Input, Refused
-from twarp_tools.lines import lines_of
+from twarp.errors import Refused
+from twarp.lines import lines_of
+from twarp_tools.command import Input
 
 NAME_LINE = re.compile(r"(0|[1-9][0-9]{0,3}) (\S.*)")
 

@@ -1,27 +1,28 @@
-"""Networks as GraphML and GML have them: nodes and links with named values."""
+"""Networks with attributes: nodes, and links between them, in one direction or in both."""
 from __future__ import annotations
 
 import re
-from collections.abc import Iterable
+from collections.abc import Iterable, Mapping
 from dataclasses import dataclass, field
 from fractions import Fraction
 
-from twarp_tools.command import Refused
+from twarp.errors import Refused
+from twarp_tools.command import quote
 
 # A decimal number, also one with an exponent, of a size that stays quick to count with.
-A_DECIMAL = re.compile(r"[+-]?([0-9]{1,20}(\.[0-9]{0,20})?|\.[0-9]{1,20})([eE][+-]?[0-9]{1,2})?")
+A_DECIMAL = re.compile(r"[+-]?([0-9]{1,20}(\.[0-9]{0,20})?|\.[0-9]{1,20})([eE][+-]?[0-9]{1,3})?")
 
 
 @dataclass(frozen=True, slots=True)
 class Attribute:
-    """A value as it is written, with its name and line."""
+    """A value as it is written, with its name and what it belongs to."""
 
+    place: str
     name: str
     text: str
-    line: int
 
     def refused(self, why: str) -> Refused:
-        return Refused.at_line(self.line, f"{self.name} {self.text!r}: {why}")
+        return Refused(f"refused {self.place}: {self.name} {quote(self.text)}: {why}")
 
     def number(self) -> Fraction:
         text = self.text.strip()
@@ -36,48 +37,45 @@ class Attribute:
         return number
 
 
-@dataclass
 class Item:
-    """A node or a link: the line at which it begins, and its attributes."""
+    """A node or a link: its place in messages, and its attributes, whose names may have letters of any case."""
 
-    line: int
-    attributes: list[Attribute] = field(default_factory=list)
+    def __init__(self, place: str, attributes: Mapping[str, str]):
+        self.place = place
+        self.attributes: dict[str, Attribute] = {}
+        for name, text in attributes.items():
+            # One without a value counts as not given.
+            if text:
+                self.attributes.setdefault(name.lower(), Attribute(place, name, text))
 
     def find(self, names: Iterable[str]) -> Attribute | None:
-        """The attribute with the first of these names that there is, in letters of any case."""
-        by_name = {attribute.name.lower(): attribute for attribute in reversed(self.attributes)}
-        return next((by_name[name.lower()] for name in names if name.lower() in by_name), None)
+        """The attribute with the first of these names that there is."""
+        found = (self.attributes.get(name.lower()) for name in names)
+        return next(filter(None, found), None)
 
-    def need(self, name: str, what: str) -> Attribute:
-        found = self.find([name])
-        if not found:
-            raise Refused.at_line(self.line, f"this {what} has no {name}")
-        return found
+
+class Node(Item):
+    def __init__(self, id_: str, attributes: Mapping[str, str]):
+        super().__init__(f"node {quote(id_)}", attributes)
+        label = self.find(["label"])
+        # What it is called: its label, and its id where it has none.
+        self.name = " ".join(label.text.split()) if label else ""
+        self.name = self.name or id_
+
+
+class NetworkLink(Item):
+    """A link between two nodes, by their ids; in a directed network from `source` to `target` alone."""
+
+    def __init__(self, source: str, target: str, attributes: Mapping[str, str]):
+        super().__init__(f"link from {quote(source)} to {quote(target)}", attributes)
+        self.source = source
+        self.target = target
 
 
 @dataclass
 class Network:
     """Nodes by their ids, in the order of the file, and links between them."""
 
-    nodes: dict[str, Item] = field(default_factory=dict)
-    links: list[Item] = field(default_factory=list)
-
-    def add_node(self, node: Item) -> None:
-        name = node.need("id", "node")
-        if name.text in self.nodes:
-            raise name.refused(f"line {self.nodes[name.text].line} has a node of this id already")
-        self.nodes[name.text] = node
-
-    def ends(self, link: Item) -> tuple[str, str]:
-        """The ids of the nodes that a link joins."""
-        source, target = (link.need(name, "link") for name in ("source", "target"))
-        for end in source, target:
-            if end.text not in self.nodes:
-                raise end.refused("there is no node of this id")
-        return source.text, target.text
-
-    def name(self, node: str) -> str:
-        """What a node is called: its label, and its id where it has none."""
-        label = self.nodes[node].find(["label"])
-        words = " ".join(label.text.split()) if label else ""
-        return words or node
+    is_directed: bool
+    nodes: dict[str, Node] = field(default_factory=dict)
+    links: list[NetworkLink] = field(default_factory=list)

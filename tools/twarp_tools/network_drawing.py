@@ -3,10 +3,10 @@ from __future__ import annotations
 
 from collections.abc import Iterator, Sequence
 
-from twarp_tools.case import ORIGIN, Case
-from twarp_tools.lanes import View
+from twarp.case import ORIGIN, Case
+from twarp.lanes import View
+from twarp.lines import write_path
 from twarp_tools.layout import Point, distance, lay_out
-from twarp_tools.lines import write_path
 from twarp_tools.recording import Json
 
 # In a network of so few routers with so short paths there is room for delays, and for the paths in use.

@@ -7,19 +7,23 @@ from fractions import Fraction
 from pathlib import Path
 from typing import BinaryIO
 
-from twarp_tools.case import MOST_NODES, MOST_PATHS, MOST_ROUTERS, Case, Link
-from twarp_tools.command import Parser, Refused, number_between, tell, write_output
-from twarp_tools.gml import read_gml
-from twarp_tools.graphml import read_graphml
+from twarp.case import MOST_NODES, MOST_PATHS, MOST_ROUTERS, Case, Link
+from twarp.errors import Refused
+from twarp_tools.command import Parser, number_between, quote, refuse_own_input, tell, write_output
 from twarp_tools.measures import DISTANCES, KM_PER_TICK, WEIGHTS, Choice, Joined, Measured
 from twarp_tools.network import Network
-from twarp_tools.packed import read_stream
+from twarp_tools.network_files import read_network
+from twarp_tools.packed import add_size_limit, read_stream, read_within
 from twarp_tools.shortest import Shortest
+
+# MiB of an input, unpacked: as many nodes and links as a case has take less, with all that yEd tells of them.
+MOST_UNPACKED = 8
 
 DESCRIPTION = f"""\
 Makes a case of a network in GraphML or GML, on standard output.
 
-Both are read as the Internet Topology Zoo publishes them, also packed by gzip or bzip2. The destination becomes router
+Both are read as the Internet Topology Zoo publishes them and as yEd writes them, also packed by gzip or bzip2. It needs
+networkx and defusedxml: on Debian, apt-get install python3-networkx python3-defusedxml. The destination becomes router
 0, and the other nodes that a path leads from the routers 1, 2, .. in the order of the file.
 
 The delay of a link is its {", ".join(DISTANCES[:-1])} or {DISTANCES[-1]}, the first of these that some link has; else
@@ -29,6 +33,9 @@ the distance of its ends on the globe, of {KM_PER_TICK} km a tick, where nodes h
 All paths without a repeated node are permitted, as far as --paths goes: those of less weight first, then those of fewer
 links, then those by way of lower routers. The weight of a link is its {", ".join(WEIGHTS[:-1])} or {WEIGHTS[-1]}, the
 first of these that some link has, where a link without it has 1; else its delay.
+
+In a directed network each direction of a link has its own delay, and a path goes only where a link leads. Where one
+leads in one direction alone, messages go in both, with its delay.
 
 What is left out is told on standard error."""
 EXAMPLE = """\
@@ -51,7 +58,9 @@ def read_scale(word: str) -> Fraction:
 def command_line() -> argparse.Namespace:
     parser = Parser(DESCRIPTION, EXAMPLE)
     parser.add_argument("input", metavar="FILE", nargs="?", default="-", help="the network; - is standard input")
-    parser.add_argument("--destination", metavar="NODE", required=True, help="where all paths lead to: a label or an id")
+    parser.add_argument(
+        "--destination", metavar="NODE", required=True, help="where all paths lead to: a label or an id"
+    )
     parser.add_argument("--delay", metavar="NAME", help="read the delays from this attribute of links")
     parser.add_argument("--weight", metavar="NAME", help="rank by this attribute of links")
     parser.add_argument(
@@ -67,24 +76,18 @@ def command_line() -> argparse.Namespace:
         default=20,
         help="permit at most N paths at a router (default %(default)s)",
     )
+    add_size_limit(parser, MOST_UNPACKED)
     parser.add_argument("--map", metavar="FILE", help="write the number and the label of each router into this file")
     return parser.parse_args()
-
-
-def read_network(source: BinaryIO) -> Network:
-    """A network in XML, which begins with `<`, or in GML."""
-    text = source.read()
-    read = read_graphml if text.lstrip(b"\xef\xbb\xbf \t\r\n").startswith(b"<") else read_gml
-    return read(text.removeprefix(b"\xef\xbb\xbf"))
 
 
 def destination_of(network: Network, name: str) -> str:
     """The node of this id, or else of this label."""
     if name in network.nodes:
         return name
-    found = [node for node in network.nodes if network.name(node) == name]
+    found = [id_ for id_, node in network.nodes.items() if node.name == name]
     if len(found) != 1:
-        raise Refused(f"refused option --destination: {len(found)} nodes are called {name}")
+        raise Refused(f"refused option --destination: {len(found)} nodes are called {quote(name)}")
     return found[0]
 
 
@@ -92,27 +95,52 @@ def routers_of(joined: Joined, destination: str) -> list[str]:
     """The destination, and the nodes that a path leads from in the order of the file."""
     reached, ahead = {destination}, [destination]
     while ahead:
-        peers = [peer for peer in joined.rows[ahead.pop()] if peer not in reached]
-        reached.update(peers)
-        ahead += peers
+        node = ahead.pop()
+        before = [peer for peer in joined.peers[node] if peer not in reached and node in joined.rows[peer]]
+        reached.update(before)
+        ahead += before
     routers = [destination, *(node for node in joined.rows if node in reached and node != destination)]
     if len(routers) > MOST_ROUTERS:
-        node = joined.network.nodes[routers[MOST_ROUTERS]]
-        raise Refused.at_line(node.line, f"this is node {MOST_ROUTERS + 1:,}, and a case has {MOST_ROUTERS:,} at most")
+        raise Refused(
+            f"refused: a path leads from {len(routers) - 1:,} nodes, and a case has {MOST_ROUTERS:,} routers at most"
+        )
     return routers
 
 
-def links_of(rows: list[dict[int, Measured]]) -> Iterator[Link]:
-    for router, row in enumerate(rows):
-        yield from (Link(router, peer, row[peer].delay) for peer in sorted(row) if router < peer)
+# For each router those to which a link leads.
+Rows = list[dict[int, Measured]]
 
 
-def tell_cuts(joined: Joined, routers: list[str], shortest: Shortest, line: argparse.Namespace) -> None:
+def links_of(rows: Rows) -> Iterator[Link]:
+    """A link for each two routers that are joined; the delay of one direction alone is that of both."""
+    pairs = {(min(a, b), max(a, b)) for a, row in enumerate(rows) for b in row}
+    for a, b in sorted(pairs):
+        there = rows[a].get(b) or rows[b][a]
+        back = rows[b].get(a) or there
+        yield Link(a, b, there.delay, back.delay)
+
+
+def count_one_way(rows: Rows) -> int:
+    """How many links lead in one direction alone."""
+    return sum(a not in rows[b] for a, row in enumerate(rows) for b in row)
+
+
+def weights_toward(rows: Rows) -> list[dict[int, Fraction]]:
+    """For each router those from which a link leads to it, each with the link's weight."""
+    weights: list[dict[int, Fraction]] = [{} for _ in rows]
+    for peer, row in enumerate(rows):
+        for router in sorted(row):
+            weights[router][peer] = row[router].weight
+    return weights
+
+
+def tell_cuts(joined: Joined, rows: Rows, shortest: Shortest, line: argparse.Namespace) -> None:
     """Says on standard error what of the network is not in the case, or is there with a delay of its own."""
     counts = {
-        "nodes left out that no path leads from": len(joined.rows) - len(routers),
+        "nodes left out that no path leads from": len(joined.rows) - len(rows),
         "links left out because their ends are one node": joined.loops,
         "links left out because their ends have a lighter or equal one": joined.parallel,
+        "links that lead in one direction alone, and have its delay in both": count_one_way(rows),
         "links with the delay 1, because they have no value for it": joined.unmeasured,
         f"routers with paths left out because each has at most {line.paths}": len(shortest.crowded),
         f"routers with paths left out because these have more than {MOST_NODES} nodes": len(shortest.too_long),
@@ -124,25 +152,27 @@ def tell_cuts(joined: Joined, routers: list[str], shortest: Shortest, line: argp
 
 def names_of(network: Network, routers: list[str]) -> str:
     """A line for each router: its number and its name. A name that is a number alone would be read as an AS."""
-    names = (f"node {name}" if name.isdigit() else name for name in map(network.name, routers))
+    names = (network.nodes[router].name for router in routers)
+    names = (f"node {name}" if name.isdigit() else name for name in names)
     return "".join(f"{router} {name}\n" for router, name in enumerate(names))
 
 
 def read_joined(source: BinaryIO, line: argparse.Namespace) -> tuple[Joined, list[str]]:
     """The network and the nodes that become routers. Here too, since what is wrong is told by the file's name."""
-    network = read_network(source)
+    network = read_network(read_within(source, line.size_limit))
     joined = Joined(network, Choice(line.delay, line.weight, line.per_tick))
     return joined, routers_of(joined, destination_of(network, line.destination))
 
 
 def main() -> None:
     line = command_line()
+    refuse_own_input("--map", line.map, line.input)
     joined, routers = read_stream(line.input, lambda source: read_joined(source, line))
     numbers = {node: router for router, node in enumerate(routers)}
-    rows = [{numbers[peer]: measured for peer, measured in joined.rows[node].items()} for node in routers]
-    shortest = Shortest([{peer: row[peer].weight for peer in sorted(row)} for row in rows], line.paths)
+    rows = [{numbers[peer]: one for peer, one in joined.rows[node].items() if peer in numbers} for node in routers]
+    shortest = Shortest(weights_toward(rows), line.paths)
     paths = [path for router in range(1, len(rows)) for path in shortest.paths(router)]
-    tell_cuts(joined, routers, shortest, line)
+    tell_cuts(joined, rows, shortest, line)
     if line.map:
         Path(line.map).write_text(names_of(joined.network, routers), encoding="utf-8")
     write_output(str(Case(len(rows), [*links_of(rows)], paths)))

@@ -3,7 +3,7 @@ from __future__ import annotations
 
 from collections.abc import Collection, Sequence
 
-from twarp_tools.case import ORIGIN
+from twarp.case import ORIGIN
 
 
 def total_distance(neighbours: Sequence[Collection[int]], order: Sequence[int]) -> int:

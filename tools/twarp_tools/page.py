@@ -3,7 +3,6 @@ from __future__ import annotations
 
 import argparse
 import json
-import math
 from collections.abc import Iterator
 from html import escape
 from pathlib import Path
@@ -11,18 +10,22 @@ from string import Template
 from xml.etree import ElementTree
 from xml.etree.ElementTree import Element
 
-from twarp_tools.axis import TimeAxis
-from twarp_tools.case import Case, read_case
-from twarp_tools.command import Input, Parser, Refused, write_output
-from twarp_tools.lanes import TOP, Sample, View, draw_legend, sample_line
+from twarp.axis import DIGIT_WIDTH, FOLD_WIDTH, TimeAxis
+from twarp.case import Case, read_case
+from twarp.errors import Refused
+from twarp.event import Event
+from twarp.following import Run, follow
+from twarp.lanes import TOP, Sample, View, sample_line
+from twarp.lines import write_path
+from twarp.palette import DARK, LIGHT, PLACES
+from twarp.pictures import subtitle_of, view_of_run
+from twarp.report import Report, read_report
+from twarp.run_picture import LETTER_WIDTH, Bar, RunPicture
+from twarp.svg import DEFINITIONS, STYLE, add, attribute
+from twarp_tools.command import Input, Parser, write_output
 from twarp_tools.network_drawing import NetworkDrawing
-from twarp_tools.palette import DARK, LIGHT, PLACES
-from twarp_tools.part import add_part, subtitle_of, title_of, view_of_run
+from twarp_tools.part import add_part, part_of, title_of
 from twarp_tools.recording import Json, Recording
-from twarp_tools.report import Report, read_report
-from twarp_tools.run import Run, follow
-from twarp_tools.run_picture import RunPicture
-from twarp_tools.svg import DEFINITIONS, STYLE, add
 
 DESCRIPTION = """\
 Makes a page of the run of a case on standard output: one HTML file that needs no network.
@@ -42,6 +45,8 @@ MOST_TICKS = 2_000
 # How far the timeline goes on above its lanes, where the times stand, and beyond its ends.
 TIMES_HEIGHT = 24.0
 ABOVE, BELOW, BESIDE = 8.0, 22.0, 14.0
+# The room of a mark in the legend.
+SAMPLE_WIDTH, SAMPLE_HEIGHT = 34.0, 22.0
 
 
 def command_line() -> argparse.Namespace:
@@ -76,6 +81,57 @@ def stops_of(axis: TimeAxis, moments: set[int]) -> list[int]:
     return sorted(time for time in stops if axis.first <= time <= axis.last)
 
 
+class PagePicture(RunPicture):
+    """The picture of a run that the page's script can widen.
+
+    What keeps its width says where it stands, and each bar has its words, which are seen where there is room.
+    """
+
+    def draw_scene(self, parent: Element, scene: Event) -> None:
+        super().draw_scene(parent, scene)
+        parent[-1].set("data-at", attribute(self.axis.x(scene.time)))
+
+    def draw_bar(self, parent: Element, bar: Bar) -> None:
+        super().draw_bar(parent, bar)
+        group = parent[-1]
+        box = group.find("rect")
+        assert box is not None, "each bar has a box"
+        start = attribute(self.axis.x(max(bar.start, self.view.first)))
+        if box.get("x") != start:
+            # The path was given up at once: its bar ends where it began.
+            group.set("data-at", start)
+        elif group.find("text") is None:
+            look = {"style": f"fill:{self.places[bar.path].ink}"} if bar.path else {}
+            at = {"x": self.axis.x(max(bar.start, self.view.first)) + 4, "y": self.lanes.y(bar.router) + 3.8}
+            add(
+                group,
+                "text",
+                write_path(bar.path),
+                class_="path" if bar.path else "path quiet",
+                display="none",
+                **at,
+                **look,
+            )
+
+    def axis_json(self) -> Json:
+        """What the script has to know to write the times anew."""
+        axis = self.axis
+        return {
+            "first": axis.first,
+            "last": axis.last,
+            "left": axis.left,
+            "scale": axis.scale,
+            "folds": axis.folds,
+            "fold_width": FOLD_WIDTH,
+            "digit_width": DIGIT_WIDTH,
+            "letter_width": LETTER_WIDTH,
+            "right": self.right,
+            "top": TOP - 8,
+            "bottom": self.lanes.bottom,
+            "times": TOP - 14,
+        }
+
+
 class Page:
     """What the page of a part of a run has."""
 
@@ -83,7 +139,7 @@ class Page:
         self.view = view
         self.recording = recording
         self.network = NetworkDrawing(case, view)
-        self.picture = RunPicture(case, report, run, view)
+        self.picture = PagePicture(case, report, run, view)
         self.messages = recording.messages(run)
         moments = {message[end] for message in self.messages for end in ("sent", "arrives")}
         moments |= {event["time"] for event in recording.events}
@@ -107,6 +163,7 @@ class Page:
         return {
             **self.network.json(),
             "stops": self.stops,
+            "axis": self.picture.axis_json(),
             "xs": [round(self.picture.axis.x(time), 1) for time in self.stops],
             "places": [{"name": place.name, "fill": place.fill, "ink": place.ink} for place in PLACES],
             "paths": list(self.recording.paths),
@@ -146,12 +203,11 @@ class Page:
         return [corner, times, names, area]
 
     def marks(self) -> Iterator[str]:
-        """The legend, of the network's marks and then of the timeline's."""
-        for entry in [*NETWORK_MARKS, *self.picture.legend()]:
-            width = 40 + 6.9 * len(entry[0])
-            mark = pane("", 12, 0, width, 22)
-            draw_legend(mark, math.inf, 11, [entry])
-            yield f"<li>{written(mark)}</li>"
+        """The legend, of the network's marks and then of the timeline's: a sample of each, and what it is."""
+        for name, draw in [*NETWORK_MARKS, *self.picture.legend()]:
+            sample = pane("", 0, 0, SAMPLE_WIDTH, SAMPLE_HEIGHT)
+            draw(sample, SAMPLE_WIDTH / 2, SAMPLE_HEIGHT / 2)
+            yield f"<li>{written(sample)} {escape(name)}</li>"
 
 
 def sample_dot(look: str) -> Sample:
@@ -197,7 +253,7 @@ def main() -> None:
     case_text, report_text = Input.of(line.case), Input.of(line.report)
     case = case_text.read(read_case)
     report = report_text.read(lambda text: read_report(text, case.nodes))
-    view = view_of_run(line, case.nodes, report)
+    view = view_of_run(case, report, **part_of(line))
     refuse_crowd(len(view.routers), MOST_ROUTERS, "routers")
     recording = Recording(case, view)
     run = report_text.read(lambda _: follow(case, report, recording))

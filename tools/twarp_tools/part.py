@@ -3,13 +3,11 @@ from __future__ import annotations
 
 import argparse
 from pathlib import Path
+from typing import Any
 
-from twarp_tools.case import GREATEST_TIME, MOST_ROUTERS
-from twarp_tools.command import Parser, Refused, number_between
-from twarp_tools.lanes import View
+from twarp.case import GREATEST_TIME, MOST_ROUTERS
+from twarp_tools.command import Parser, number_between
 from twarp_tools.names import add_names, names_of
-from twarp_tools.report import Quiet, Report
-from twarp_tools.run_picture import last_time
 
 
 def read_routers(words: str) -> list[int]:
@@ -37,32 +35,10 @@ def add_part(parser: Parser, unit: str = "") -> None:
     add_names(parser)
 
 
-def view_of(line: argparse.Namespace, nodes: int, whole: range, last: int) -> View:
-    """What the line asks to see of a run of so many routers, which goes from the beginning of `whole` to `last`.
-
-    Nothing beyond `whole` is known.
-    """
-    routers = line.routers or range(nodes)
-    if max(routers) >= nodes:
-        raise Refused(f"refused option --routers: the case has no router {max(routers)}")
-    first = max(whole.start, line.first or 0)
-    last = last if line.last is None else min(line.last, whole.stop - 1)
-    if first > last:
-        raise Refused(f"refused options --from and --to: nothing is from {first:,} to {last:,}")
-    return View(first, last, routers, names_of(line.names))
-
-
-def view_of_run(line: argparse.Namespace, nodes: int, report: Report) -> View:
-    """What the line asks to see of the run that was reported."""
-    is_at_rest = isinstance(report.verdict, Quiet)
-    whole = range((GREATEST_TIME if is_at_rest else report.bound.value) + 1)
-    return view_of(line, nodes, whole, last_time(report))
+def part_of(line: argparse.Namespace) -> dict[str, Any]:
+    """What the line asks to see, as the functions of twarp.pictures take it."""
+    return {"first": line.first, "last": line.last, "routers": line.routers, "names": names_of(line.names)}
 
 
 def title_of(line: argparse.Namespace) -> str:
     return line.title or ("run" if line.case == "-" else Path(line.case).stem)
-
-
-def subtitle_of(report: Report) -> str:
-    events = len(report.events)
-    return f"{events:,} event{'' if events == 1 else 's'} below {report.stop.value:,}"

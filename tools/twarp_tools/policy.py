@@ -8,8 +8,8 @@ from __future__ import annotations
 from collections.abc import Iterator
 from itertools import islice
 
-from twarp_tools.case import MOST_NODES, ORIGIN
-from twarp_tools.lines import Nodes
+from twarp.case import MOST_NODES, ORIGIN
+from twarp.lines import Nodes
 from twarp_tools.topology import Role, Topology
 
 

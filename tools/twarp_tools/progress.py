@@ -15,18 +15,19 @@ BEGIN, CLEAR = "\r", "\x1b[K"
 
 
 class Progress:
-    """Tells how many runs of all are done, at what rate, and how long the others will take."""
+    """Tells how many runs of all are done, at what rate, and how long the others will take; `before` are no part of it."""
 
-    def __init__(self, total: int, is_quiet: bool):
+    def __init__(self, total: int, is_quiet: bool, before: int = 0):
         self.total = total
+        self.before = before
         self.is_quiet = is_quiet or sys.stderr is None
         self.is_terminal = not self.is_quiet and sys.stderr.isatty()
         self.begun = self.told = time.monotonic()
 
     def words(self, done: int, now: float) -> str:
         seconds = max(now - self.begun, 1e-9)
-        rate = done / seconds
-        left = f", {written_time((self.total - done) / rate)} left" if done else ""
+        rate = (done - self.before) / seconds
+        left = f", {written_time((self.total - done) / rate)} left" if rate else ""
         if done == self.total:
             left = f", {written_time(seconds)} in all"
         return f"{done:,} of {self.total:,} runs, {rate:,.0f} a second{left}"

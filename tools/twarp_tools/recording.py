@@ -3,12 +3,12 @@ from __future__ import annotations
 
 from typing import Any
 
-from twarp_tools.case import Case
-from twarp_tools.event import Allow, Event, Fail, Forbid, Restore, Swap, Update
-from twarp_tools.lanes import View
-from twarp_tools.lines import write_path
-from twarp_tools.protocol import Router, opening_routers
-from twarp_tools.run import Fate, Message, Run
+from twarp.case import Case
+from twarp.event import Allow, Event, Fail, Forbid, Restore, Swap, Update
+from twarp.following import Fate, Message, Run
+from twarp.lanes import View
+from twarp.lines import write_path
+from twarp.protocol import Router, opening_routers
 
 # What a page's script reads.
 Json = dict[str, Any]

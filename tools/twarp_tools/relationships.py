@@ -2,12 +2,11 @@
 from __future__ import annotations
 
 import argparse
-import random
 from collections.abc import Callable, Iterable, Iterator, Sequence
 from graphlib import CycleError, TopologicalSorter
 from pathlib import Path
 
-from twarp_tools.case import (
+from twarp.case import (
     GREATEST_DELAY,
     GREATEST_TIME,
     MOST_LINKS,
@@ -19,11 +18,17 @@ from twarp_tools.case import (
     Link,
     LinkScene,
 )
-from twarp_tools.command import Parser, Refused, number_between, range_between, tell, write_output
+from twarp.draws import share
+from twarp.errors import Refused
+from twarp_tools.command import Parser, number_between, range_between, refuse_own_input, tell, write_output
 from twarp_tools.ordering import near_order
-from twarp_tools.packed import read_stream
+from twarp_tools.packed import add_size_limit, lines_within, read_stream
 from twarp_tools.policy import Permitted
+from twarp_tools.sampling import cone_of, core_around, within
 from twarp_tools.topology import GREATEST_AS, Growth, Neighbours, Role, Topology, read_relationships
+
+# MiB of an input, unpacked: the relationships of the whole Internet are some 15.
+MOST_UNPACKED = 32
 
 DESCRIPTION = """\
 Makes a case of AS relationships, on standard output.
@@ -32,6 +37,9 @@ The input has lines as provider|customer|-1 and peer|peer|0, as CAIDA publishes 
 fourth field is let pass), and lines that begin with #. It may be packed by gzip or bzip2. The destination becomes
 router 0, and the ASes nearest to it the routers 1, 2, .., or, with --order near, in an order in which neighbours are
 near in number.
+
+Of a large input take a part: by default the nearest ASes; with --core those that are linked most closely, which keeps
+the shape of the whole; with --cone what is below one AS; with --keep-connected some by lot, which is near to a tree.
 
 A path is permitted where it has no valley: it goes up to providers, then by at most one link between peers, then down
 to customers. Paths by way of customers are better than those by way of peers, and these better than those by way of
@@ -42,7 +50,7 @@ same bytes."""
 EXAMPLE = """\
 examples:
   tools/relationships --destination 1653 tools/research-networks.txt > case.spp
-  tools/relationships --destination 1653 --keep-connected 200 --delays 1-50 --seed 7 \\
+  tools/relationships --destination 1653 --core 200 --delays 1-50 --seed 7 \\
       --failures 10 --until 5000 --map ases.txt 20260101.as-rel2.txt.bz2 > case.spp"""
 
 
@@ -76,6 +84,19 @@ def command_line(words: Sequence[str] | None = None) -> argparse.Namespace:
     taken.add_argument(
         "--keep-connected", metavar="N", type=most, help="take at most N ASes by lot, each with a path of such ASes"
     )
+    taken.add_argument(
+        "--core",
+        metavar="N",
+        type=most,
+        help="take the k-core (each AS has at least k links in it) with the least k that has at most N ASes, "
+        "with the destination and the providers above it",
+    )
+    parser.add_argument(
+        "--cone",
+        metavar="AS",
+        type=number_between(1, GREATEST_AS),
+        help="take only ASes of the customer cone of this one: itself, its customers, theirs, and so on",
+    )
     parser.add_argument(
         "--order",
         choices=["taken", "near"],
@@ -87,18 +108,11 @@ def command_line(words: Sequence[str] | None = None) -> argparse.Namespace:
     option("seed", "N", number_between(0, GREATEST_TIME), 1, "draw ASes, delays and failures by this number")
     option("failures", "N", number_between(0, MOST_SCENES // 2), 0, "let N links fail and be repaired")
     option("until", "TIME", number_between(2, GREATEST_TIME), 1000, "repair no link later than this")
+    add_size_limit(parser, MOST_UNPACKED)
     parser.add_argument(
         "--map", metavar="FILE", help="write the number and the AS number of each router into this file"
     )
     return parser.parse_args(words)
-
-
-def share(*what: object) -> float:
-    """A number from 0 to below 1, drawn for this purpose alone: it stays whatever else is drawn.
-
-    Of Python's generator only random() is promised to give the same numbers in each version.
-    """
-    return random.Random(" ".join(map(str, what))).random()
 
 
 def delay_of(link: tuple[int, int], numbers: list[int], line: argparse.Namespace) -> int:
@@ -133,9 +147,9 @@ def case_of(topology: Topology, permitted: Permitted, line: argparse.Namespace) 
 
 
 def growth_of(neighbours: Neighbours, line: argparse.Namespace) -> Growth:
-    """What the line takes of the input: the nearest ASes, or some drawn by lot."""
+    """What the line takes of its part: the nearest ASes, or some drawn by lot."""
     if line.keep_connected is None:
-        return Growth(neighbours, line.destination, line.routers)
+        return Growth(neighbours, line.destination, line.core or line.routers)
 
     def drawn(_hops: int, *ends: int) -> float:
         return share(line.seed, "part", *sorted(ends))
@@ -147,7 +161,7 @@ def tell_cuts(growth: Growth, permitted: Permitted, line: argparse.Namespace) ->
     """Says on standard error what of the input is not in the case."""
     ases, taken = len(growth.neighbours), len(growth.routers)
     crowded = len(growth.crowded - growth.routers.keys())
-    most = line.keep_connected or line.routers
+    most = line.keep_connected or line.core or line.routers
     unreached = ases - taken - crowded if taken < most else 0
     why = "being drawn" if line.keep_connected else f"nearer to AS {line.destination} being taken"
     counts = {
@@ -173,10 +187,28 @@ def tell_circle(topology: Topology) -> None:
 
 
 def read(line: argparse.Namespace) -> Neighbours:
-    """The relationships of the line's input."""
-    neighbours = read_stream(line.input, read_relationships)
-    if line.destination not in neighbours:
-        raise Refused(f"refused option --destination: the input has no AS {line.destination}")
+    """The relationships of the line's input, of the part that it names."""
+    neighbours = read_stream(line.input, lambda source: read_relationships(lines_within(source, line.size_limit)))
+    for option, number in ("--destination", line.destination), ("--cone", line.cone):
+        if number and number not in neighbours:
+            raise Refused(f"refused option {option}: the input has no AS {number}")
+    return part_of(neighbours, line)
+
+
+def part_of(neighbours: Neighbours, line: argparse.Namespace) -> Neighbours:
+    """The relationships in the customer cone, and of these in the core, where the line asks for them."""
+    if line.cone:
+        cone = cone_of(neighbours, line.cone)
+        if line.destination not in cone:
+            raise Refused(f"refused option --cone: AS {line.destination} is not in the customer cone of AS {line.cone}")
+        tell(f"the customer cone of AS {line.cone}: {len(cone):,} of {len(neighbours):,} ASes")
+        neighbours = within(neighbours, cone)
+    if line.core:
+        k, core = core_around(neighbours, line.destination, line.core)
+        tell(
+            f"the {k}-core, AS {line.destination} and the providers above it: {len(core):,} of {len(neighbours):,} ASes"
+        )
+        neighbours = within(neighbours, core)
     return neighbours
 
 
@@ -191,6 +223,7 @@ def make(neighbours: Neighbours, line: argparse.Namespace) -> tuple[Growth, Perm
 
 def main() -> None:
     line = command_line()
+    refuse_own_input("--map", line.map, line.input)
     growth, permitted, case = make(read(line), line)
     tell_cuts(growth, permitted, line)
     tell_circle(growth.topology)

@@ -2,10 +2,22 @@
 from __future__ import annotations
 
 import heapq
+import math
+from bisect import insort
+from collections.abc import Sequence
 from fractions import Fraction
 
-from twarp_tools.case import MOST_NODES, ORIGIN
-from twarp_tools.lines import Nodes
+from twarp.case import MOST_NODES, ORIGIN
+from twarp.lines import Nodes
+
+# A path with its weight and how many nodes it has, which is the order of paths.
+Found = tuple[int, int, Nodes]
+
+
+def whole(weights: Sequence[dict[int, Fraction]]) -> list[dict[int, int]]:
+    """The weights as whole numbers, in the same proportions."""
+    shares = math.lcm(*(weight.denominator for row in weights for weight in row.values()))
+    return [{peer: int(weight * shares) for peer, weight in row.items()} for row in weights]
 
 
 class Shortest:
@@ -15,28 +27,45 @@ class Shortest:
     permitted at its next router, which could not offer it otherwise.
     """
 
-    def __init__(self, weights: list[dict[int, Fraction]], most: int):
+    def __init__(self, weights: Sequence[dict[int, Fraction]], most: int):
+        self.most = most
+        self.weights = whole(weights)
         self.rows: list[list[Nodes]] = [[] for _ in weights]
+        # For each router the best of what is found until now, in order: what is behind these is never taken.
+        self.best: list[list[Found]] = [[] for _ in weights]
         # Routers at which paths are left out, because there are too many or because they are too long.
         self.crowded: set[int] = set()
         self.too_long: set[int] = set()
-        found = [(Fraction(0), 1, (ORIGIN,))]
-        while found:
-            weight, length, path = heapq.heappop(found)
-            router = path[0]
-            if len(self.rows[router]) == most:
-                self.crowded.add(router)
+        self.ahead: list[Found] = [(0, 1, (ORIGIN,))]
+        while self.ahead:
+            found = heapq.heappop(self.ahead)
+            _, _, path = found
+            if len(self.rows[path[0]]) == most:
+                self.crowded.add(path[0])
                 continue
-            self.rows[router].append(path)
-            for peer, more in weights[router].items():
-                if peer in path:
+            self.rows[path[0]].append(path)
+            self.extend(found)
+
+    def extend(self, found: Found) -> None:
+        """Offers a path to the neighbours of its first router."""
+        weight, length, path = found
+        for peer, more in self.weights[path[0]].items():
+            if peer in path:
+                continue
+            if length == MOST_NODES:
+                self.too_long.add(peer)
+                continue
+            best = self.best[peer]
+            if len(best) == self.most and weight + more > best[-1][0]:
+                self.crowded.add(peer)
+                continue
+            longer = (weight + more, length + 1, (peer, *path))
+            insort(best, longer)
+            if len(best) > self.most:
+                self.crowded.add(peer)
+                if best.pop() is longer:
                     continue
-                if length == MOST_NODES:
-                    self.too_long.add(peer)
-                elif len(self.rows[peer]) == most:
-                    self.crowded.add(peer)
-                else:
-                    heapq.heappush(found, (weight + more, length + 1, (peer, *path)))
+            heapq.heappush(self.ahead, longer)
 
     def paths(self, router: int) -> list[Nodes]:
         """A router's permitted paths, best first."""

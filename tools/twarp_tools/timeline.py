@@ -3,17 +3,11 @@ from __future__ import annotations
 
 import argparse
 
-from twarp_tools.case import read_case
+from twarp import pictures
+from twarp.case import read_case
+from twarp.report import is_replay, read_case_and_steps, read_replay, read_report
 from twarp_tools.command import Input, Parser, write_output
-from twarp_tools.machine import follow_replay
-from twarp_tools.part import add_part, subtitle_of, title_of, view_of, view_of_run
-from twarp_tools.replay_picture import ReplayPicture
-from twarp_tools.report import is_replay, read_case_and_steps, read_replay, read_report
-from twarp_tools.run import follow
-from twarp_tools.run_picture import RunPicture
-
-# How many undone steps the title names.
-MOST_TOLD = 8
+from twarp_tools.part import add_part, part_of, title_of
 
 DESCRIPTION = """\
 Draws the run of a case, or its replay, as an SVG picture on standard output.
@@ -44,23 +38,14 @@ def command_line() -> argparse.Namespace:
 def draw_run(line: argparse.Namespace, case_text: Input, report_text: Input) -> str:
     case = case_text.read(read_case)
     report = report_text.read(lambda text: read_report(text, case.nodes))
-    run = report_text.read(lambda _: follow(case, report))
-    picture = RunPicture(case, report, run, view_of_run(line, case.nodes, report))
-    return picture.draw(f"{title_of(line)}: verdict {report.verdict}", subtitle_of(report))
+    return report_text.read(lambda _: pictures.timeline(case, report, title=title_of(line), **part_of(line)))
 
 
 def draw_replay(line: argparse.Namespace, case_text: Input, replay_text: Input) -> str:
     case, steps = case_text.read(read_case_and_steps)
     replay = replay_text.read(lambda text: read_replay(text, case.nodes, len(steps)))
-    history = replay_text.read(lambda _: follow_replay(case, steps, replay))
-    last = max(1, len(steps))
-    view = view_of(line, case.nodes, range(1, last + 1), last)
-    undone = [handling for handling in history.handlings if handling.undone_at]
-    told = [f"step {handling.done_at} by step {handling.undone_at}" for handling in undone[:MOST_TOLD]]
-    told += [".."] * (len(undone) > MOST_TOLD)
-    subtitle = f"bound {replay.bound.value:,}; undone: {', '.join(told) or 'none'}"
-    title = f"{title_of(line)}: replay of {len(steps):,} steps, {len(undone):,} undone"
-    return ReplayPicture(steps, replay, history, view).draw(title, subtitle)
+    how = part_of(line) | {"title": title_of(line)}
+    return replay_text.read(lambda _: pictures.replayed(case, steps, replay, **how))
 
 
 def main() -> None:

@@ -9,12 +9,13 @@ from collections import defaultdict
 from collections.abc import Callable, Iterable, Sequence
 from dataclasses import dataclass, field
 
-from twarp_tools.case import MOST_LINKS, MOST_NODES
-from twarp_tools.command import Refused
+from twarp.case import MOST_LINKS, MOST_NODES
+from twarp.errors import Refused
+from twarp_tools.command import quote
 
 GREATEST_AS = 4_294_967_295
 AN_AS = re.compile("[0-9]{1,10}")
-A_RELATIONSHIP = re.compile(rb"\s*([0-9]{1,10})\|([0-9]{1,10})\|(-1|0)(?:\|[^|]*)?\s*")
+A_RELATIONSHIP = re.compile(rb"\s*([0-9]{1,10})\|([0-9]{1,10})\|(-1|0)(?:\s*|\|[^|]*)")
 
 
 class Role(enum.IntEnum):
@@ -31,42 +32,42 @@ RELATIONSHIPS = {b"-1": (Role.CUSTOMER, Role.PROVIDER), b"0": (Role.PEER, Role.P
 Neighbours = dict[int, dict[int, Role]]
 
 
-def read_relationships(lines: Iterable[bytes]) -> Neighbours:
-    """Reads lines as `provider|customer|-1` and `peer|peer|0`; a fourth field is let pass."""
+def read_relationships(lines: Iterable[tuple[int, bytes]]) -> Neighbours:
+    """Reads numbered lines as `provider|customer|-1` and `peer|peer|0`; a fourth field is let pass."""
     neighbours: Neighbours = defaultdict(dict)
-    # Each line's two ASes as one number, 0 where it has none, in the little room that a million lines ask for.
-    pairs = array("Q")
-    for number, line in enumerate(lines, 1):
+    # The two ASes of each relationship as one number, and its line, in the little room that a million of them ask for.
+    pairs, numbers = array("Q"), array("Q")
+    for number, line in lines:
         found = A_RELATIONSHIP.fullmatch(line)
         if not found:
             refuse_other(number, line)
-            pairs.append(0)
             continue
         a, b = int(found[1]), int(found[2])
         if a == b or not (0 < a <= GREATEST_AS and 0 < b <= GREATEST_AS):
             refuse_other(number, line)
         row = neighbours[a]
         if b in row:
-            first = 1 + min(pairs.index(pair) for pair in (a << 32 | b, b << 32 | a) if pair in pairs)
-            raise Refused.at_line(number, f"AS {a} and AS {b} stand together on line {first} already")
+            first = min(pairs.index(pair) for pair in (a << 32 | b, b << 32 | a) if pair in pairs)
+            raise Refused.at_line(number, f"AS {a} and AS {b} stand together on line {numbers[first]} already")
         row[b], neighbours[b][a] = RELATIONSHIPS[found[3]]
         pairs.append(a << 32 | b)
+        numbers.append(number)
     return neighbours
 
 
 def refuse_other(number: int, line: bytes) -> None:
     """Refuses a line that has no relationship, where it is neither empty nor a comment."""
-    content = line.decode("utf-8", "replace").strip()
-    if not content or content.startswith("#"):
+    if line.lstrip()[:1] in (b"", b"#"):
         return
+    content = line.decode("utf-8", "replace").strip()
     fields = content.split("|")
     if len(fields) not in (3, 4):
         raise Refused.at_line(number, f"there are {len(fields)} fields where 3 or 4 are wanted, with | between them")
     for word in fields[:2]:
         if not AN_AS.fullmatch(word) or not 1 <= int(word) <= GREATEST_AS:
-            raise Refused.at_line(number, f"{word!r} is no AS number")
+            raise Refused.at_line(number, f"{quote(word)} is no AS number")
     if fields[2] not in ("-1", "0"):
-        raise Refused.at_line(number, f"the relationship {fields[2]!r} is neither -1 nor 0")
+        raise Refused.at_line(number, f"the relationship {quote(fields[2])} is neither -1 nor 0")
     raise Refused.at_line(number, f"AS {int(fields[0])} is its own neighbour")
 
 

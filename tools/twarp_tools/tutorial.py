@@ -10,7 +10,8 @@ from collections.abc import Iterator
 from dataclasses import dataclass
 from pathlib import Path
 
-from twarp_tools.command import Parser, Refused
+from twarp.errors import Refused
+from twarp_tools.command import Parser
 
 ROOT = Path(__file__).resolve().parent.parent.parent
 PAGE = ROOT / "docs/TUTORIAL.md"
@@ -18,7 +19,7 @@ PICTURES = ROOT / "docs/pictures"
 PROGRAM = ROOT / "crates/twarp/out/twarp"
 
 # What the commands name of the clone, and the folder into which they write.
-NAMED = ("cases", "docs", "tools")
+NAMED = ("cases", "docs", "python", "tools")
 WRITTEN = "out"
 
 

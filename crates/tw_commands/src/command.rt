@@ -41,7 +41,8 @@ pub trait Command {
 /// Reads an input from a source and writes the command's answer to a sink, or where and why the text is
 /// refused. Nothing is written before the answer is known.
 ///
-/// Of the source the first `MOST_INPUT` bytes are read, or all where there are no more.
+/// Of the source the first `MOST_INPUT` bytes are read, or all where there are no more. It is handed them back where
+/// the command refuses.
 pub fn answer_io<C: Command, R: Source, W: Sink>(
     alloc: Global,
     command: &C,
@@ -57,7 +58,19 @@ pub fn answer_io<C: Command, R: Source, W: Sink>(
     ensures most { TakesInput (R.remaining source.old) (R.remaining source.new) }
 {
     let text = read_all(alloc, source)?;
-    answer_text(alloc, command, &text, sink)
+    let ended = answer_text(alloc, command, &text, sink);
+    hand_back(source, text, &ended);
+    ended
+}
+
+/// Hands a source back the text that was read of it, where a command refused it.
+pub fn hand_back<R: Source>(source: &mut R, text: Vec<u8>, ended: &Result<Status, Cause>)
+    ensures remaining { R.remaining source.new ≡ R.remaining source.old }
+    ensures failed { R.failed source.new ≡ R.failed source.old }
+{
+    if let Ok(Status::Refused) = ended {
+        source.take_back(text);
+    }
 }
 
 fn answer_text<C: Command, W: Sink>(

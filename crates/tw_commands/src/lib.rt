@@ -23,7 +23,7 @@ mod upgrade;
 
 pub use cause::{Cause, Status};
 pub use check::check_io;
-pub use command::{Command, answer_io};
+pub use command::{Command, answer_io, hand_back};
 pub use input::{Input, Script};
 pub use refusal::refuse;
 pub use replay::replay_io;

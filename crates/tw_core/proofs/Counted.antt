@@ -11,12 +11,17 @@ use Rattle.tw_core.proofs.Headline.{good_log}
 use Rattle.tw_core.proofs.Steps.{StepKeeps, deliver_keeps, good_opening, handle_keeps, next_keeps, step_keeps, undo_keeps}
 use Rattle.tw_core.specs.declared.refusal.Refusal.{Refusal}
 use Rattle.tw_core.specs.Good.{IsGood}
-use Rattle.tw_core.specs.Machine.{Core, IsOpening, committed}
+use Rattle.tw_core.specs.Machine.{AreCounted, Core, IsOpening, committed}
 use Rattle.tw_core.specs.Steps.{deliver, first_pending, handle, next, put, run, step, undo, with_bound, with_commit, with_release}
 use Rattle.tw_sim.proofs.Unique.{all_below}
 use Rattle.tw_sim.specs.declared.machine.Step.{Step}
 use Rattle.tw_sim.specs.declared.machine.Step.TheVariants.{Handle, Undo, Deliver, Bound, Commit, Release}
 use Rattle.tw_sim.specs.Simulation.{Simulation, IsFalling, IsLawful, IsNumbered, below}
+
+module _ {S E : Type 0} (m : Simulation S E) where
+  -- nothing is counted where nothing is handled
+  pub opening_counted : (C : Core E) → IsOpening m C → AreCounted m C
+  opening_counted C opens r = opens.past r ∙ ap (λ h. length (below m (C.done r) h)) (sym (opens.history r))
 
 module _ {S E : Type 0} (m : Simulation S E) (law : IsLawful m) where
   -- in a history that rises, the oldest events as far as all are before a time are all that are before it
@@ -45,13 +50,22 @@ module _ {S E : Type 0} (m : Simulation S E) (law : IsLawful m) where
             ])
       ]
 
-  -- as many of each router's events are counted as committed as are committed
-  abbrev pub AreCounted : Core E → Type 0
-  AreCounted C = (r : ℕ) → C.past r ≡ length (committed m C r)
+  -- a commit counts what it commits
+  pub commit_counted : (C : Core E) (r : ℕ) → IsFalling m (C.history r) → AreCounted m C → AreCounted m (with_commit m C r)
+  commit_counted C r falling counted q =
+      let soon : E → Bool = λ e. nat_lt (m.time e) C.bound in
+      elim (cases_eq q r) [
+        | inl same ↦ subst (λ p. (with_commit m C r).past p ≡ length (committed m (with_commit m C r) p)) (sym same)
+            (put_same C.past r (suffix_len soon (C.history r))
+            ∙ (oldest C.bound (C.history r) falling ∙ ap (λ t. length (below m t (C.history r))) (sym (put_same C.done r C.bound))))
+        | inr other ↦
+            put_other C.past r q (suffix_len soon (C.history r)) other
+            ∙ (counted q ∙ ap (λ t. length (below m t (C.history q))) (sym (put_other C.done r q C.bound other)))
+      ]
 
   module _ (numbered : IsNumbered m) where
     -- where no router commits, what is committed stays
-    uncommitting : (C D : Core E) → IsGood m C → StepKeeps m law C D → D.done ≡ C.done → D.past ≡ C.past → AreCounted C → AreCounted D
+    uncommitting : (C D : Core E) → IsGood m C → StepKeeps m law C D → D.done ≡ C.done → D.past ≡ C.past → AreCounted m C → AreCounted m D
     uncommitting C D good keeps done past counted r =
         let low = good.done r in
         let rises = keeps.bound in
@@ -60,19 +74,7 @@ module _ {S E : Type 0} (m : Simulation S E) (law : IsLawful m) where
         let stays : committed m D r ≡ committed m C r = ap (λ f. below m (f r) (D.history r)) done ∙ (after ∙ sym before) in
         ap (λ f. f r) past ∙ (counted r ∙ ap length (sym stays))
 
-    commit_counted : (C : Core E) (r : ℕ) → IsGood m C → AreCounted C → AreCounted (with_commit m C r)
-    commit_counted C r good counted q =
-        let soon : E → Bool = λ e. nat_lt (m.time e) C.bound in
-        elim (cases_eq q r) [
-          | inl same ↦ subst (λ p. (with_commit m C r).past p ≡ length (committed m (with_commit m C r) p)) (sym same)
-              (put_same C.past r (suffix_len soon (C.history r))
-              ∙ (oldest C.bound (C.history r) (good.part.falling r) ∙ ap (λ t. length (below m t (C.history r))) (sym (put_same C.done r C.bound))))
-          | inr other ↦
-              put_other C.past r q (suffix_len soon (C.history r)) other
-              ∙ (counted q ∙ ap (λ t. length (below m t (C.history q))) (sym (put_other C.done r q C.bound other)))
-        ]
-
-    step_counted : (C D : Core E) (x : Step) → IsGood m C → step m C x ≡ Ok D → AreCounted C → AreCounted D
+    pub step_counted : (C D : Core E) (x : Step) → IsGood m C → step m C x ≡ Ok D → AreCounted m C → AreCounted m D
     step_counted C D (Handle r) good h counted =
         let kept = handle_keeps m law C.bound C D r good.part (at_router_done m r (handle m C r (first_pending m C r)) D h) in
         uncommitting C D good (step_keeps m law C D (Handle r) good h) kept.done kept.past counted
@@ -85,26 +87,29 @@ module _ {S E : Type 0} (m : Simulation S E) (law : IsLawful m) where
         uncommitting C D good (step_keeps m law C D (Deliver (suc k)) good h) kept.done kept.past counted
     step_counted C D Bound good h counted =
         let made : with_bound m C ≡ D = cc in
-        subst AreCounted made counted
+        subst (AreCounted m) made counted
     step_counted C D (Commit r) good h counted =
         let ok = at_router_done m r (Ok (with_commit m C r)) D h in
         let made : with_commit m C r ≡ D = cc in
-        subst AreCounted made (commit_counted C r good counted)
+        subst (AreCounted m) made (commit_counted C r (good.part.falling r) counted)
     step_counted C D (Release r) good h counted =
         let ok = at_router_done m r (Ok (with_release m C r)) D h in
         let made : with_release m C r ≡ D = cc in
-        subst AreCounted made counted
+        subst (AreCounted m) made counted
 
-    next_at : (C : Core E) (o : Result (Core E) Refusal) → AreCounted C → ((D : Core E) → o ≡ Ok D → AreCounted D) → AreCounted (result_unwrap_or o C)
+    next_at : (C : Core E) (o : Result (Core E) Refusal) → AreCounted m C → ((D : Core E) → o ≡ Ok D → AreCounted m D) → AreCounted m (result_unwrap_or o C)
     next_at C (Ok D) counted done = done D refl
     next_at C (Err refusal) counted done = counted
 
-    run_counted : (C : Core E) (xs : List Step) → IsGood m C → AreCounted C → AreCounted (run m C xs)
+    pub next_counted : (C : Core E) (x : Step) → IsGood m C → AreCounted m C → AreCounted m (next m C x)
+    next_counted C x good counted = next_at C (step m C x) counted (λ D h. step_counted C D x good h counted)
+
+    pub run_counted : (C : Core E) (xs : List Step) → IsGood m C → AreCounted m C → AreCounted m (run m C xs)
     run_counted C [] good counted = counted
     run_counted C (x ∷ xs) good counted =
-        run_counted (next m C x) xs (next_keeps m law C x good).good (next_at C (step m C x) counted (λ D h. step_counted C D x good h counted))
+        run_counted (next m C x) xs (next_keeps m law C x good).good (next_counted C x good counted)
 
     -- from the opening on
-    pub always_counted : (C : Core E) → IsOpening m C → (xs : List Step) → AreCounted (run m C xs)
+    pub always_counted : (C : Core E) → IsOpening m C → (xs : List Step) → AreCounted m (run m C xs)
     always_counted C opens xs =
-        run_counted C xs (good_opening m law C opens) (λ r. opens.past r ∙ ap (λ h. length (below m (C.done r) h)) (sym (opens.history r)))
+        run_counted C xs (good_opening m law C opens) (opening_counted m C opens)

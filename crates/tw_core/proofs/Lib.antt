@@ -5,6 +5,7 @@ pub mod Delivery
 pub mod Done
 pub mod Steps
 pub mod Headline
+pub mod Cuts
 pub mod Sums
 pub mod Owners
 pub mod Parts

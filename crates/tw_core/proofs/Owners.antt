@@ -56,3 +56,13 @@ module _ {E : Type 0} (r : ℕ) where
   from_owner read nothing P base [] h = base
   from_owner read nothing P base (p ∷ parts) h =
       elim (cases_Bool (p.owns r)) [ inl b ↦ rw b h.0 | inr b ↦ rw b (from_owner read nothing P base parts h.1) ]
+
+  -- where the owner's is this, so is what is read
+  pub of_owner : {X : Type 0} (read : Core E → X) (nothing value : X) (parts : List (Part E)) → AllByRecursion (λ p. p.owns r ≡ true → read p.core ≡ value) parts → 0 < total owning parts
+      → at_owner read nothing parts r ≡ value
+  of_owner read nothing value [] each some = absurd (omega arith)
+  of_owner read nothing value (p ∷ parts) each some =
+      elim (cases_Bool (p.owns r)) [
+        | inl b ↦ rw b (each.0 b)
+        | inr b ↦ (let rest : owning p ≡ 0 = rw b refl in rw b (of_owner read nothing value parts each.1 (omega arith)))
+      ]

@@ -4,3 +4,4 @@ pub mod Good
 pub mod Run
 pub mod Parts
 pub mod RefusalNames
+pub mod Cut

@@ -58,6 +58,10 @@ module _ {S E : Type 0} (m : Simulation S E) where
   abbrev pub committed : Core E → ℕ → List E
   committed C r = below m (C.done r) (C.history r)
 
+  -- as many events of each router are counted as committed as are committed, so that it has room for just so many others as it is told
+  abbrev pub AreCounted : Core E → Type 0
+  AreCounted C = (r : ℕ) → C.past r ≡ length (committed C r)
+
   -- a machine that begins
   pub record IsOpening (C : Core E) : Type 0 where
     -- no router has handled anything

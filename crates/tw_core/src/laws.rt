@@ -3,8 +3,9 @@
 
 ghost use Rattle.std.specs.Prelude.{ℕ, ◌≡◌, ◌<◌, ◌≤◌, ◌+◌, ◌↔◌, ◌⊎◌, true, List, [], ◌∷◌, ◌++◌, Bool, Err, Ok, Some, length, slice_get};
 ghost use Rattle.tw_core.specs.declared.refusal.Refusal.TheVariants.{Nothing};
+ghost use Rattle.tw_core.specs.Cut.{IsCut};
 ghost use Rattle.tw_core.specs.Good.{IsGood, IsGoodPart, due};
-ghost use Rattle.tw_core.specs.Machine.{Core, IsOpening, committed};
+ghost use Rattle.tw_core.specs.Machine.{AreCounted, Core, IsOpening, committed};
 ghost use Rattle.tw_core.specs.Parts.{AddUp, IsOwn, KeepsPart, Part, Shared, assembled};
 ghost use Rattle.tw_core.specs.Run.{IsAtEnd, IsSeq, IsSettled};
 ghost use Rattle.tw_core.specs.Steps.{after_arrival, after_undoing, deliver, first_pending, handle, next, run, undo, with_release, with_room};
@@ -43,10 +44,14 @@ pub fn committed_stays<S, E>()
         → below m (C.done r) ((run m C xs).history r) ≡ committed m C r }
 {}
 
-/// As many events of a router are counted as committed as are committed, after every list of steps from
-/// the opening; so a router has room for just so many others as it is told.
+/// As many events of a router are counted as committed as are committed: where a machine begins, after every
+/// list of steps, and where a router got more room. So a router is refused to handle for want of room exactly
+/// where it has handled as many others as it has room for.
 pub fn committed_are_counted<S, E>()
-    ensures { (m : Simulation S E) → IsLawful m → IsNumbered m → (C : Core E) (xs : List Step) (r : ℕ) → IsOpening m C
+    ensures opens { (m : Simulation S E) (C : Core E) → IsOpening m C → AreCounted m C }
+    ensures steps { (m : Simulation S E) → IsLawful m → IsNumbered m → (C : Core E) (xs : List Step) → IsGood m C → AreCounted m C → AreCounted m (run m C xs) }
+    ensures widen { (m : Simulation S E) (C : Core E) (r : ℕ) → AreCounted m C → AreCounted m (with_room m C r) }
+    ensures always { (m : Simulation S E) → IsLawful m → IsNumbered m → (C : Core E) (xs : List Step) (r : ℕ) → IsOpening m C
         → (run m C xs).past r ≡ length (committed m (run m C xs) r) }
 {}
 
@@ -74,6 +79,15 @@ pub fn messages_are_welcome<S, E>()
 pub fn settled_is_end<S, E>()
     ensures kept { (m : Simulation S E) → IsLawful m → (C : Core E) → IsGood m C → C.flight ≡ [] → C.kept ≡ [] }
     ensures end { (m : Simulation S E) → IsLawful m → IsNumbered m → (C : Core E) → IsGood m C → IsSettled m C → IsAtEnd m C }
+{}
+
+/// A machine that stands at a cut of the one-thread run is good, whatever has brought it there, and so all that
+/// is said of good ones holds from there on. It stands at one where it is settled and its bound has come to
+/// the stop; and a machine that begins stands at the cut at time 0.
+pub fn cuts_are_good<S, E>()
+    ensures good { (m : Simulation S E) → IsLawful m → IsNumbered m → (t : ℕ) (C : Core E) → IsCut m t C → IsGood m C }
+    ensures cut { (m : Simulation S E) → IsLawful m → IsNumbered m → (C : Core E) → IsGood m C → IsSettled m C → C.bound ≡ C.stop → IsCut m C.stop C }
+    ensures opens { (m : Simulation S E) → IsLawful m → (C : Core E) → IsOpening m C → IsCut m 0 C }
 {}
 
 /// An event is asked for at most once: where it is an opening event, or sent by what some router has

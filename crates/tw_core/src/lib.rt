@@ -8,7 +8,8 @@
 //! opening state is good and every list of steps keeps it so; a good state is the one-thread run, as
 //! far as it is committed and as far as its bound; the bound never falls, and no message comes from
 //! before it; where nothing is in flight or held, what is pending at the end is what the one-thread
-//! run leaves. Not proved: that a list of steps ever commits anything. The only code is plain data.
+//! run leaves; and a state at a cut of that run is good, whatever has brought it there. Not proved: that
+//! a list of steps ever commits anything. The only code is plain data.
 #![tactic(auto)]
 
 pub mod laws;

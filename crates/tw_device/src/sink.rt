@@ -1,11 +1,11 @@
 //! Devices that take bytes.
 
-ghost use Rattle.std.specs.Prelude.{◌≡◌, ℕ, ◌<◌, ◌≤◌, Bool, false, true, List, length, Option, IfOk, OnOk, OnErr};
+ghost use Rattle.std.specs.Prelude.{◌≡◌, ℕ, ◌<◌, ◌≤◌, Bool, false, true, List, length, Option, is_some, IfOk, OnOk, OnErr};
 ghost use Rattle.std.specs.Io.KnownBytes.{WriteAppends};
 ghost use Rattle.tw_device.specs.Sink.{Device, Puts};
 
 use crate::failed::Failed;
-use std::io::{ErrorKind, Write};
+use std::io::{self, ErrorKind, Write};
 use std::marker::Model;
 
 /// A device that takes bytes until it fails. From then on it is not to be used.
@@ -49,13 +49,13 @@ pub fn put_all<S: Sink>(sink: &mut S, bytes: &[u8]) -> Result<(), Failed>
 #[derive(Drop)]
 pub struct OverWrite<W: Write> {
     writer: W,
-    failed: bool,
+    failure: Option<io::Error>,
 }
 
 impl<W: Write> Model for OverWrite<W> {
     ghost Value = { Device };
 
-    ghost view = { λ s. record { written = W.contents s.writer; failed = s.failed } };
+    ghost view = { λ s. record { written = W.contents s.writer; failed = is_some s.failure } };
 }
 
 impl<W: Write> OverWrite<W> {
@@ -65,8 +65,15 @@ impl<W: Write> OverWrite<W> {
     {
         OverWrite {
             writer,
-            failed: false,
+            failure: None,
         }
+    }
+
+    /// What it met, if it has failed.
+    pub fn failure(&self) -> Option<io::Error>
+        ensures { is_some result ≡ self.now.failed }
+    {
+        self.failure
     }
 
     /// The writer, with what it took.
@@ -83,18 +90,26 @@ impl<W: Write> Sink for OverWrite<W> {
     ghost failed = { λ s. s.failed };
 
     fn put(&mut self, bytes: &[u8]) -> Result<usize, Failed> {
+        let mut failure = io::Error::from(ErrorKind::Interrupted);
         for _ in 0..u64::MAX {
             match self.writer.write(bytes) {
                 Ok(taken) if 0 < taken || bytes.is_empty() => return Ok(taken),
+                Ok(_) => {
+                    failure = io::Error::from(ErrorKind::WriteZero);
+                    break;
+                }
                 Err(e) if e.kind() == ErrorKind::Interrupted => {}
-                _ => break,
+                Err(e) => {
+                    failure = e;
+                    break;
+                }
             }
         }
-        self.failed = true;
+        self.failure = Some(failure);
         Err(Failed)
     }
 
     fn has_failed(&self) -> bool {
-        self.failed
+        self.failure.is_some()
     }
 }

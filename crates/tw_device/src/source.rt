@@ -1,12 +1,12 @@
 //! Devices that give bytes.
 
-ghost use Rattle.std.specs.Prelude.{◌≡◌, ℕ, ◌<◌, ◌≤◌, Bool, false, true, List, length, Option, IfOk, IfErr, OnOk, OnErr};
+ghost use Rattle.std.specs.Prelude.{◌≡◌, ℕ, ◌<◌, ◌≤◌, Bool, false, true, List, length, Option, is_some, IfOk, IfErr, OnOk, OnErr};
 ghost use Rattle.std.specs.Io.KnownBytes.{ReadConsumes};
 ghost use Rattle.tw_device.specs.Source.{IsCauseOf, IsInput, LosesInput, Reader, TakesInput};
 
 use crate::failed::Failed;
 use std::alloc::Global;
-use std::io::{ErrorKind, Read};
+use std::io::{self, ErrorKind, Read};
 use std::marker::Model;
 use tw_model::OrMemory;
 use tw_model::limits::MOST_INPUT;
@@ -34,6 +34,13 @@ pub trait Source {
     /// Whether it has failed.
     fn has_failed(&self) -> bool
         ensures { result ≡ failed self.now };
+
+    /// Is handed the text that was read of it, where that is refused, so that a person can be shown the line. It
+    /// lets the text go where nothing else is said of it.
+    fn take_back(&mut self, _text: Vec<u8>)
+        ensures remaining { remaining self.new ≡ remaining self.old }
+        ensures failed { failed self.new ≡ failed self.old }
+    {}
 }
 
 /// The first `MOST_INPUT` bytes of what the source gives, or all where there are no more.
@@ -65,13 +72,14 @@ pub fn read_all<R: Source>(alloc: Global, source: &mut R) -> Result<Vec<u8>, OrM
 #[derive(Drop)]
 pub struct OverRead<R: Read> {
     reader: R,
-    failed: bool,
+    failure: Option<io::Error>,
+    refused: Option<Vec<u8>>,
 }
 
 impl<R: Read> Model for OverRead<R> {
     ghost Value = { Reader };
 
-    ghost view = { λ s. record { remaining = R.remaining s.reader; failed = s.failed } };
+    ghost view = { λ s. record { remaining = R.remaining s.reader; failed = is_some s.failure } };
 }
 
 impl<R: Read> OverRead<R> {
@@ -81,8 +89,21 @@ impl<R: Read> OverRead<R> {
     {
         OverRead {
             reader,
-            failed: false,
+            failure: None,
+            refused: None,
         }
+    }
+
+    /// What it met, if it has failed.
+    pub fn failure(&self) -> Option<io::Error>
+        ensures { is_some result ≡ self.now.failed }
+    {
+        self.failure
+    }
+
+    /// The text that was read of it, if that was refused.
+    pub fn refused(&self) -> Option<&[u8]> {
+        self.refused.as_deref()
     }
 }
 
@@ -92,18 +113,26 @@ impl<R: Read> Source for OverRead<R> {
     ghost failed = { λ s. s.failed };
 
     fn get(&mut self, into: &mut [u8]) -> Result<usize, Failed> {
+        let mut failure = io::Error::from(ErrorKind::Interrupted);
         for _ in 0..u64::MAX {
             match self.reader.read(into) {
                 Ok(taken) => return Ok(taken),
                 Err(e) if e.kind() == ErrorKind::Interrupted => {}
-                Err(_) => break,
+                Err(e) => {
+                    failure = e;
+                    break;
+                }
             }
         }
-        self.failed = true;
+        self.failure = Some(failure);
         Err(Failed)
     }
 
     fn has_failed(&self) -> bool {
-        self.failed
+        self.failure.is_some()
+    }
+
+    fn take_back(&mut self, text: Vec<u8>) {
+        self.refused = Some(text);
     }
 }

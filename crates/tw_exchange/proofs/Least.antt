@@ -1,6 +1,6 @@
 -- Least times: what passes over rows find is what the definitions say.
-use Rattle.std.proofs.Common.{arith, ℕ, ◌+◌, ◌≡◌, ◌<◌, ◌≤◌, List, [], ◌∷◌, ◌++◌, Option, None, Some, IfSome, drop, length, map, min, refl, ap, sym, ◌∙◌, get_or, zero, suc}
-use Rattle.std.proofs.lemmas.List.{at_drop_more, map-append}
+use Rattle.std.proofs.Common.{arith, ℕ, ◌+◌, ◌≡◌, ◌<◌, ◌≤◌, List, [], ◌∷◌, ◌++◌, Option, None, Some, IfSome, length, map, min, refl, ap, sym, ◌∙◌, get_or, zero, suc}
+use Rattle.std.proofs.lemmas.List.{map-append}
 use Rattle.std.proofs.lemmas.List.Sums.{fold-append}
 use Rattle.std.specs.List.{AllByRecursion, flat_map, fold, reduce}
 use Rattle.std.specs.Option.{MatchOption, option_to_list}
@@ -23,21 +23,6 @@ least_of_two a b (x ∷ xs) =
 either_order : (s : ℕ) (xs ys : List ℕ) → fold min (fold min s xs) ys ≡ fold min (fold min s ys) xs
 either_order s [] ys = refl
 either_order s (x ∷ xs) ys = either_order (min s x) xs ys ∙ ap (λ n. fold min n xs) (least_of_two s x ys)
-
--- a report, lowered by one message and then by the rest
-report_more : (report : Option ℕ) (m : Signed Event) (rest : List (Signed Event)) → least_report report (m ∷ rest) ≡ least_report (Some (lesser_time m.event.time report)) rest
-report_more None m rest = refl
-report_more (Some a) m rest = refl
-
-pub report_step : (report : Option ℕ) (messages : List (Signed Event)) (i t : ℕ) (d : Signed Event) → i < length messages → t ≡ lesser_time (get_or messages i d).event.time report
-    → least_report (Some t) (drop (i + 1) messages) ≡ least_report report (drop i messages)
-report_step report messages i t d h e =
-    let rest = drop (i + 1) messages in
-    ap (λ t. least_report (Some t) rest) e ∙ (sym (report_more report (get_or messages i d) rest) ∙ sym (at_drop_more (least_report report) messages i d h))
-
-pub report_done : (report : Option ℕ) → least_report report [] ≡ report
-report_done None = refl
-report_done (Some a) = refl
 
 -- a time, lowered report by report
 pub reports_found : (time : ℕ) (reports : List (Option ℕ)) → fold lesser_time time reports ≡ fold min time (flat_map option_to_list reports)

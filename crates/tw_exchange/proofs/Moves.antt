@@ -20,7 +20,6 @@ pub record IsGiven (a b : Inside) (r w : ℕ) : Type 0 where
   pub soonest : b.soonest.items ≡ a.soonest.items
   pub reports : b.reports.items ≡ set a.reports.items w (Some a.bound)
   pub bound : b.bound ≡ a.bound
-  pub counts : b.counts.items ≡ a.counts.items
   pub workers : b.workers ≡ a.workers
   pub stop : b.stop ≡ a.stop
   pub halted : b.halted ≡ a.halted
@@ -32,7 +31,6 @@ pub exchange_given : (a b : Inside) (r w : ℕ) (x : Board) → IsExchange a →
 exchange_given a b r w x h is p none = record {
   board = subst IsBoard (sym (board_given a b r w p)) (given_board r w (board_of a) h.board (subst (λ y. AllByRecursion (λ m. is_to r m ≡ false) (all_mail y)) (sym is) none));
   soonest = p.soonest ∙ (h.soonest ∙ ap (λ rows. map soonest_of (items rows)) (sym p.mail));
-  counts = ap length p.counts ∙ (h.counts ∙ sym p.workers);
   reports = ap length p.reports ∙ (length-set a.reports.items w (Some a.bound) ∙ (h.reports ∙ sym p.workers));
 }
 
@@ -43,7 +41,6 @@ pub record IsTaken (a b : Inside) (r w : ℕ) : Type 0 where
   pub soonest : b.soonest.items ≡ map soonest_of (items b.mail.items)
   pub reports : b.reports.items ≡ a.reports.items
   pub bound : b.bound ≡ a.bound
-  pub counts : b.counts.items ≡ a.counts.items
   pub workers : b.workers ≡ a.workers
   pub stop : b.stop ≡ a.stop
   pub halted : b.halted ≡ a.halted
@@ -57,7 +54,6 @@ pub exchange_taken : (a b : Inside) (r w : ℕ) → IsExchange a → who (board_
 exchange_taken a b r w h whose p = record {
   board = subst IsBoard (sym (board_taken a b r w h whose p)) (without_board r (board_of a) h.board);
   soonest = p.soonest;
-  counts = ap length p.counts ∙ (h.counts ∙ sym p.workers);
   reports = ap length p.reports ∙ (h.reports ∙ sym p.workers);
 }
 
@@ -75,7 +71,6 @@ taken_from a r w mail soonest long long_too is least =
       soonest = with_items_is a.soonest soonest long_too ∙ (least ∙ ap (λ m. map soonest_of (items m)) (sym rows));
       reports = refl;
       bound = refl;
-      counts = refl;
       workers = refl;
       stop = refl;
       halted = refl;
@@ -90,6 +85,5 @@ exchange_kept a mail soonest long long_too is least h =
     record {
       board = subst IsBoard (sym (λ i. record { owners = list_of a.owners; mail = same i; reports = a.reports.items; bound = a.bound; stop = a.stop; halted = a.halted })) h.board;
       soonest = with_items_is a.soonest soonest long_too ∙ (least ∙ ap (λ m. map soonest_of (items m)) (sym rows));
-      counts = h.counts;
       reports = h.reports;
     }

@@ -23,7 +23,6 @@ pub record IsPassedOn (a b : Inside) (w : ℕ) (out : List (Signed Event)) (repo
   pub soonest : b.soonest.items ≡ map soonest_of (items b.mail.items)
   pub reports : b.reports.items ≡ set a.reports.items w (least_report report (handed w out (board_of a)))
   pub bound : b.bound ≡ fold min (fold min a.stop b.soonest.items) (flat_map option_to_list b.reports.items)
-  pub counts : length b.counts.items ≡ length a.counts.items
   pub workers : b.workers ≡ a.workers
   pub stop : b.stop ≡ a.stop
   pub halted : b.halted ≡ a.halted
@@ -55,6 +54,5 @@ pub exchange_after : (a b : Inside) (w : ℕ) (out : List (Signed Event)) (repor
 exchange_after a b w out report h p end = record {
   board = subst IsBoard (sym (board_after a b w out report h p end)) (visited_board w out report (board_of a) h.board);
   soonest = p.soonest;
-  counts = p.counts ∙ (h.counts ∙ sym p.workers);
   reports = ap length p.reports ∙ (length-set a.reports.items w (least_report report (handed w out (board_of a))) ∙ (h.reports ∙ sym p.workers));
 }

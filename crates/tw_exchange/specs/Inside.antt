@@ -14,5 +14,4 @@ pub record IsExchange (a : Inside) : Type 0 where
   pub board : IsBoard (board_of a)
   -- of each mail the least time is at hand
   pub soonest : a.soonest.items ≡ map soonest_of (items a.mail.items)
-  pub counts : length a.counts.items ≡ a.workers
   pub reports : length a.reports.items ≡ a.workers

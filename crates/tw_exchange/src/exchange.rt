@@ -1,6 +1,6 @@
 //! The exchange: mail, reports and the bound.
 
-ghost use Rattle.std.specs.Prelude.{◌≡◌, ◌↔◌, ◌<◌, ◌≤◌, IfErr, IfOk, IsTrue, OnErr, OnOk, false, true, length, Err};
+ghost use Rattle.std.specs.Prelude.{◌≡◌, ◌↔◌, ◌<◌, ◌≤◌, IfErr, IfOk, IsTrue, OnErr, OnOk, [], false, true, length, Err};
 ghost use Rattle.std.specs.Result.{IsErrAnd};
 ghost use Rattle.tw_exchange.specs.Board.{IsBoard, handed, is_early, is_homeless, mail_of, opening, opening_owned, report_of, visited, workers};
 ghost use Rattle.tw_exchange.specs.Owners.{list_of};
@@ -10,11 +10,12 @@ ghost use Rattle.tw_model.specs.declared.memory.OrMemory.TheVariants as or_memor
 mod dealt;
 mod moving;
 
-use crate::mail::{NEVER, deposit, hand_out};
+use crate::mail::NEVER;
 use crate::owners::Owners;
+use crate::parcels::Parcels;
 use crate::rows::{no_mail, row};
-use crate::times::{is_early, least_of, least_report};
-use crate::visit::{Back, Visit, VisitFault};
+use crate::times::is_early;
+use crate::visit::{Back, Told, Visit, VisitFault};
 use std::alloc::{AllocError, Global};
 use std::marker::Model;
 use tw_event::Event;
@@ -31,8 +32,6 @@ pub struct Exchange {
     mail: Vec<Vec<Signed<Event>>>,
     // The least time of its mail, so that a visit need not look through what waits for others.
     soonest: Vec<u64>,
-    // How much of a deposit is for it, which is counted before the room for it is made.
-    counts: Vec<usize>,
     reports: Vec<Option<u64>>,
     bound: u64,
     stop: u64,
@@ -92,7 +91,6 @@ impl Exchange {
             owners,
             mail: no_mail(alloc, workers)?,
             soonest: row(alloc, workers, NEVER)?,
-            counts: row(alloc, workers, 0)?,
             reports: row(alloc, workers, Some(bound))?,
             bound,
             stop,
@@ -190,20 +188,18 @@ impl Exchange {
                 why: OrMemory::Fault(fault),
             });
         }
-        match self.pass_on(worker, &out, report) {
-            Ok(mail) => Ok(Visit {
+        let mut mail = Vec::new(self.alloc);
+        match self.deal_and_visit(worker, &out, report, &mut mail) {
+            Ok(told) => Ok(Visit {
                 mail,
-                bound: self.bound,
-                halted: self.halted,
+                bound: told.bound,
+                halted: told.halted,
             }),
-            Err(_) => Err(Back {
-                out,
-                why: OrMemory::Memory,
-            }),
+            Err(why) => Err(Back { out, why }),
         }
     }
 
-    /// Whether a worker may deposit these messages and report this.
+    /// Whether there is such a worker, and it may deposit these messages and report this at the bound.
     fn may_visit(
         &self,
         worker: u32,
@@ -212,49 +208,46 @@ impl Exchange {
     ) -> Result<(), VisitFault>
         ensures no_worker { result ≡ Err NoWorker ↔ (workers self.now ≤ worker) }
         ensures early { result ≡ Err Early ↔ ((worker < workers self.now) × IsTrue (is_early out.now report self.now)) }
-        ensures no_router { result ≡ Err NoRouter
-            ↔ ((worker < workers self.now) × (is_early out.now report self.now ≡ false) × IsTrue (is_homeless out.now self.now)) }
+        ensures no_router { result ≡ Err NoRouter → ⊥ }
         ensures board { IsBoard self.now }
     {
         if worker >= self.workers {
             Err(VisitFault::NoWorker)
         } else if is_early(out, report, self.bound) {
             Err(VisitFault::Early)
-        } else if self.owners.is_any_homeless(out, self.workers as usize) {
-            Err(VisitFault::NoRouter)
         } else {
             Ok(())
         }
     }
 
-    /// Deposits messages, hands out the worker's mail, and computes its report and the bound.
-    fn pass_on(
+    /// Deals messages to their workers, and visits with what is dealt.
+    fn deal_and_visit(
         &mut self,
         worker: u32,
         out: &[Signed<Event>],
         report: Option<u64>,
-    ) -> Result<Vec<Signed<Event>>, AllocError>
+        mail: &mut Vec<Signed<Event>>,
+    ) -> Result<Told, OrMemory<VisitFault>>
         requires within { worker < workers self.old }
         requires late { is_early out.now report self.old ≡ false }
-        requires home { is_homeless out.now self.old ≡ false }
+        requires empty { mail.old.items ≡ [] }
         ensures board { OnOk result (self.new ≡ visited worker out.now report self.old) }
-        ensures mail { IfOk result (λ mail. mail.items ≡ handed worker out.now self.old) }
-        ensures err { OnErr result (self.new ≡ self.old) }
+        ensures mail { OnOk result (mail.new.items ≡ handed worker out.now self.old) }
+        ensures bound { IfOk result (λ told. told.bound ≡ self.new.bound) }
+        ensures halted { IfOk result (λ told. told.halted ≡ self.old.halted) }
+        ensures no_worker { result ≡ Err (or_memory.Fault NoWorker) → ⊥ }
+        ensures early { result ≡ Err (or_memory.Fault Early) → ⊥ }
+        ensures no_router { result ≡ Err (or_memory.Fault NoRouter) ↔ IsTrue (is_homeless out.now self.old) }
         ensures wanted { OnErr result (0 < length out.now) }
+        ensures err { OnErr result (self.new ≡ self.old) }
         ensures rising { self.old.bound ≤ self.new.bound }
+        ensures whole { IsBoard self.new }
     {
-        let place = worker as usize;
-        deposit(
-            &mut self.mail,
-            &mut self.soonest,
-            &mut self.counts,
-            out,
-            &self.owners,
-        )?;
-        let mail = hand_out(&mut self.mail, &mut self.soonest, place, self.alloc);
-        self.reports[place] = least_report(report, &mail);
-        self.bound = least_of(&self.reports, &self.soonest, self.stop);
-        Ok(mail)
+        let mut parcels = Parcels::new(self.alloc);
+        match parcels.deal(&self.owners, self.workers, out) {
+            Ok(()) => self.visit_dealt(worker, &mut parcels, report, mail),
+            Err(why) => Err(why),
+        }
     }
 
     /// Tells the workers to take no further turn.

@@ -7,8 +7,7 @@ ghost use Rattle.tw_exchange.specs.Rows.{HasRoom, items, soonest_of};
 
 use crate::owners::Owners;
 use crate::times::soonest;
-use std::alloc::{AllocError, Global};
-use std::mem;
+use std::alloc::AllocError;
 use tw_event::Event;
 use tw_sim::Signed;
 
@@ -83,23 +82,6 @@ fn push_all(
         mail[worker].push_reserved(*message);
         soonest[worker] = soonest[worker].min(message.event.time);
     }
-}
-
-/// Takes out all mail of a worker.
-pub fn hand_out(
-    mail: &mut [Vec<Signed<Event>>],
-    soonest: &mut [u64],
-    worker: usize,
-    alloc: Global,
-) -> Vec<Signed<Event>>
-    requires within { worker < length mail.old }
-    requires soonest { soonest.old ≡ map soonest_of (items mail.old) }
-    ensures value { result.items ≡ slice_index_or (items mail.old) worker [] }
-    ensures rest { items mail.new ≡ slice_set (items mail.old) worker [] }
-    ensures soonest { soonest.new ≡ map soonest_of (items mail.new) }
-{
-    soonest[worker] = NEVER;
-    mem::replace(&mut mail[worker], Vec::new(alloc))
 }
 
 /// Takes out of a worker's mail what is for one router, and puts it behind `to`, or leaves both where memory is

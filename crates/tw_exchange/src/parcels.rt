@@ -4,7 +4,7 @@ ghost use Rattle.std.specs.Prelude.{ℕ, ◌≡◌, ◌↔◌, ◌<◌, ◌≤�
 ghost use Rattle.tw_exchange.specs.Board.{AreDealt, NoneDealt, any_homeless};
 ghost use Rattle.tw_exchange.specs.Owners.{list_of};
 ghost use Rattle.tw_exchange.specs.Rows.{any_early, behind, items, soonest_of};
-ghost use Rattle.tw_exchange.specs.declared.visit.VisitFault.TheVariants.{NoRouter};
+ghost use Rattle.tw_exchange.specs.declared.visit.VisitFault.TheVariants.{Early, NoRouter, NoWorker};
 ghost use Rattle.tw_model.specs.declared.memory.OrMemory.TheVariants as or_memory;
 
 use crate::joining::{clear_all, join_all, make_room_behind};
@@ -81,6 +81,8 @@ impl Parcels {
         requires some { 0 < workers }
         ensures dealt { OnOk result (AreDealt (list_of owners.now) workers messages.now self.new) }
         ensures no_router { result ≡ Err (or_memory.Fault NoRouter) ↔ IsTrue (any_homeless (list_of owners.now) workers messages.now) }
+        ensures no_worker { result ≡ Err (or_memory.Fault NoWorker) → ⊥ }
+        ensures early { result ≡ Err (or_memory.Fault Early) → ⊥ }
         ensures none { OnErr result (NoneDealt self.new) }
         ensures wanted { OnErr result (0 < length messages.now) }
     {

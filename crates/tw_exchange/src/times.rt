@@ -39,18 +39,7 @@ fn is_any_time_before(times: &[u64], bound: u64) -> bool
     times.iter().any(|time| *time < bound)
 }
 
-/// The least of the report, if there is one, and of the times of the messages.
-pub fn least_report(report: Option<u64>, messages: &[Signed<Event>]) -> Option<u64>
-    ensures { result ≡ least_report report messages.now }
-{
-    let mut least = report;
-    for message in messages {
-        least = Some(lesser(message.event.time, least));
-    }
-    least
-}
-
-/// The same, where the least time of the messages is at hand.
+/// The least of the report, if there is one, and of the times of the messages, the least of which is at hand.
 pub fn report_with(report: Option<u64>, messages: &[Signed<Event>], least: u64) -> Option<u64>
     requires { least ≡ soonest_of messages.now }
     ensures { result ≡ least_report report messages.now }

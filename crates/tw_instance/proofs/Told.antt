@@ -12,7 +12,7 @@ use Rattle.tw_model.specs.declared.rule.Rule.{Rule}
 use Rattle.tw_model.specs.PermittedPath.{PermittedPath}
 use Rattle.tw_model.specs.Net.{Net, bare_net}
 use Rattle.tw_model.specs.Rules.{path_fault}
-use Rattle.tw_instance.specs.Build.{IsRefusedAt, JudgedItem, NoneBreaks, TellsOf, judged_links, judged_paths}
+use Rattle.tw_instance.specs.Build.{IsRefusedAt, JudgedItem, LacksMemory, NoneBreaks, TellsOf, judged_links, judged_paths}
 use Rattle.tw_instance.specs.declared.refusal.At.{At}
 use Rattle.tw_instance.specs.declared.refusal.Item.{Item}
 use Rattle.tw_instance.specs.declared.refusal.Item.TheVariants.{Path}
@@ -21,12 +21,16 @@ use Rattle.tw_instance.specs.declared.refusal.Item.TheVariants.{Path}
 abbrev pub SaysRule : {T : Type 0} → Result T (OrMemory Rule) → Option Rule → Type 0
 SaysRule result broken = (r : Rule) → (result ≡ Err (Fault r)) ↔ (broken ≡ Some r)
 
--- an item that was not taken is where the build was refused
-pub refused_here : (T : Type 0) (fault : OrMemory Rule) (broken : Option Rule) (item : Item) (items : List JudgedItem)
+-- an item that breaks a rule is where the build was refused
+pub refused_by : (broken : Option Rule) (rule : Rule) (item : Item) (items : List JudgedItem) → broken ≡ Some rule → IsRefusedAt ((item, broken) ∷ items) (record { item = item; fault = Fault rule })
+refused_by broken rule item items is = rw is refl
+
+-- an item that was not taken, of a kind that takes memory, is where the build was refused
+pub refused_here : (T : Type 0) (fault : OrMemory Rule) (broken : Option Rule) (item : Item) (items : List JudgedItem) → LacksMemory item (record { item = item; fault = Memory })
     → (let e : Result T (OrMemory Rule) = Err fault in SaysRule e broken) → IsRefusedAt ((item, broken) ∷ items) (record { item = item; fault = fault })
-refused_here T (Fault r) broken item items h = let f = (h r).0 refl in rw f refl
-refused_here T Memory None item items h = inl refl
-refused_here T Memory (Some r) item items h = absurd (let e = (h r).1 refl in cc)
+refused_here T (Fault r) broken item items lacks h = refused_by broken r item items ((h r).0 refl)
+refused_here T Memory None item items lacks h = inl lacks
+refused_here T Memory (Some r) item items lacks h = absurd (let e = (h r).1 refl in cc)
 
 -- an item that was taken leaves what is told of those behind it
 pub told_after : {T : Type 0} (result : Result T At) (broken : Option Rule) (item : Item) (items : List JudgedItem) → broken ≡ None → TellsOf result items → TellsOf result ((item, broken) ∷ items)
@@ -70,10 +74,10 @@ pub covers_after : (left all items : List JudgedItem) (broken : Option Rule) (it
 covers_after left all items broken item covers is none result told = covers result (subst (TellsOf result) (sym is) (told_after result broken item items none told))
 
 -- the item of a turn was not taken
-pub covers_here : (left all items : List JudgedItem) (broken : Option Rule) (item : Item) (fault : OrMemory Rule) (at : At) → Covers left all → left ≡ (item, broken) ∷ items
+pub covers_here : (left all items : List JudgedItem) (broken : Option Rule) (item : Item) (fault : OrMemory Rule) (at : At) → LacksMemory item (record { item = item; fault = Memory }) → Covers left all → left ≡ (item, broken) ∷ items
     → (let e : Result (Unit {0}) (OrMemory Rule) = Err fault in SaysRule e broken) → at ≡ record { item = item; fault = fault } → (let e : Result (Unit {0}) At = Err at in TellsOf e all)
-covers_here left all items broken item fault at covers is says made =
-    covers (Err at) (subst (λ xs. IsRefusedAt xs at) (sym is) (subst (IsRefusedAt ((item, broken) ∷ items)) (sym made) (refused_here (Unit {0}) fault broken item items says)))
+covers_here left all items broken item fault at lacks covers is says made =
+    covers (Err at) (subst (λ xs. IsRefusedAt xs at) (sym is) (subst (IsRefusedAt ((item, broken) ∷ items)) (sym made) (refused_here (Unit {0}) fault broken item items lacks says)))
 
 -- no item is left: all were taken
 pub covers_end : (left all : List JudgedItem) → Covers left all → left ≡ [] → NoneBreaks all

@@ -59,11 +59,16 @@ judged_case version net scenes = (Start, None) ∷ judged_scenario version net s
 abbrev pub NoneBreaks : List JudgedItem → Type 0
 NoneBreaks items = All (λ item. item.1 ≡ None) items
 
+-- memory was refused for this item; to judge the whole of a case takes none
+abbrev pub LacksMemory : Item → At → Type 0
+LacksMemory Whole at = ⊥
+LacksMemory item at = at ≡ record { item = item; fault = Memory }
+
 -- a build was refused at the first item that breaks a rule, or at one before it, for which memory was refused
 abbrev pub IsRefusedAt : List JudgedItem → At → Type 0
 IsRefusedAt [] at = ⊥
 IsRefusedAt ((item, Some rule) ∷ items) at = at ≡ record { item = item; fault = Fault rule }
-IsRefusedAt ((item, None) ∷ items) at = (at ≡ record { item = item; fault = Memory }) ⊎ IsRefusedAt items at
+IsRefusedAt ((item, None) ∷ items) at = LacksMemory item at ⊎ IsRefusedAt items at
 
 -- what was returned tells of these items: none breaks a rule, or where and why the build was refused
 abbrev pub TellsOf : {T : Type 0} → Result T At → List JudgedItem → Type 0

@@ -183,13 +183,14 @@ module _ (case : Case) (is : IsCase case) where
   falls_from [] f = tt
   falls_from (x ∷ xs) f = ((λ e k. f.0 e (times_in (simulation case) same_self e xs k)), falls_from xs f.1)
 
-  same_falls : (xs ys : List Event) → Falls xs → Falls ys → ((e : Event) → In e xs → In e ys) → ((e : Event) → In e ys → In e xs) → xs ≡ ys
+  -- two falling lists of the same events are one
+  pub same_falls : (xs ys : List Event) → Falls xs → Falls ys → ((e : Event) → In e xs → In e ys) → ((e : Event) → In e ys → In e xs) → xs ≡ ys
   same_falls xs ys f g to back =
       same_falling (simulation case) (lawful case is) xs ys (falling_from xs f) (falling_from ys g)
       (λ e k. times_in (simulation case) same_self e ys (to e (in_times (simulation case) same_is e xs k)))
       (λ e k. times_in (simulation case) same_self e xs (back e (in_times (simulation case) same_is e ys k)))
 
-  falls-filter : (p : Event → Bool) (xs : List Event) → Falls xs → Falls (filter p xs)
+  pub falls-filter : (p : Event → Bool) (xs : List Event) → Falls xs → Falls (filter p xs)
   falls-filter p [] f = tt
   falls-filter p (x ∷ xs) f =
       elim (cases_Bool (p x)) [

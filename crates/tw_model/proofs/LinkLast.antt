@@ -61,7 +61,7 @@ module _ (case : Case) (is : IsCase case) (a b : ℕ) (there : has_peer case.net
       (neighbour case.net is.net a (hop case.net a (slot case.net a b)) (hop_in_hops case.net a (slot case.net a b) (ltb-true (slot case.net a b) (length (hops_of case.net a)) there))).least
 
   -- what the newest event told b
-  newest : (e : Event) (h : List Event) → IsHistory case.net a (e ∷ h)
+  pub newest : (e : Event) (h : List Event) → IsHistory case.net a (e ∷ h)
       → Tell case.net a b there e.time (state (simulation case) a h) (state (simulation case) a (e ∷ h)) ((simulation case).sends (state (simulation case) a h) e)
   newest e h his =
       subst (λ r. Tell case.net a b there e.time (state (simulation case) a h) (effect case.net r (state (simulation case) a h) e).state (effect case.net r (state (simulation case) a h) e).sends)

@@ -39,7 +39,7 @@ Says (Some found) (Seq stop every log) =
 Says (Some found) (Run stop every log workers batch lazy blocks rotate) =
     (found.0 ≡ codes "run") × IsNumberGiven (codes "stop") 1 LATEST found.1 stop
     × IsNumberIfGiven (codes "every") 1 LATEST found.1 every × Sets (codes "log") found.1 log
-    × IsNumberOr (codes "workers") 1 MOST_WORKERS 4 found.1 workers × IsNumberOr (codes "batch") 1 MOST_BATCH 64 found.1 batch
+    × IsNumberIfGiven (codes "workers") 1 MOST_WORKERS found.1 workers × IsNumberOr (codes "batch") 1 MOST_BATCH 64 found.1 batch
     × Sets (codes "lazy") found.1 lazy × Sets (codes "blocks") found.1 blocks × Sets (codes "rotate") found.1 rotate
 Says (Some found) (Trail router stop keep) =
     (found.0 ≡ codes "trail") × IsNumberGiven (codes "router") 0 (MOST_ROUTERS - 1) found.1 router

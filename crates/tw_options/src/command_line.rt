@@ -2,8 +2,9 @@
 
 ghost use Rattle.std.specs.Prelude.{Some, codes};
 ghost use Rattle.clap.specs.Words.{found_of, rows_of, subcommand_rows_of};
-ghost use Rattle.tw_options.specs.Fit.{HasReplay, HasRun, HasSeq, HasTrail, IsFit};
-ghost use Rattle.tw_options.specs.Says.{Says, Sets};
+ghost use Rattle.tw_model.specs.declared.limits.TheConstants.{MOST_WORKERS};
+ghost use Rattle.tw_options.specs.Fit.{HasNumberIfGiven, HasReplay, HasRun, HasSeq, HasTrail, IsFit};
+ghost use Rattle.tw_options.specs.Says.{IsNumberIfGiven, Says, Sets};
 
 use crate::number::{BATCH, EVERY, KEEP, ROUTER, STOP, THREADS, WORKERS};
 use clap::ArgMatches;
@@ -31,8 +32,9 @@ pub enum CommandLine {
         every: Option<u64>,
         /// Whether the report lists the events.
         log: bool,
-        /// How many workers share the routers, from 1 to 64; each is a thread.
-        workers: u32,
+        /// How many workers share the routers, from 1 to 64, each in a thread; `None` where the program is to choose
+        /// among one and up to 4.
+        workers: Option<u32>,
         /// How many events a worker handles at most between two meetings, from 1 to 4,096.
         batch: u32,
         /// Whether what an undone event has sent is taken back as late as may be.
@@ -101,12 +103,20 @@ fn run_of(given: &ArgMatches<'_>) -> CommandLine
         stop: STOP.read(given),
         every,
         log: is_set(given, "log"),
-        workers: THREADS.read_or(given, 4) as u32,
+        workers: workers_of(given),
         batch: BATCH.read_or(given, 64) as u32,
         lazy: is_set(given, "lazy"),
         blocks: is_set(given, "blocks"),
         rotate: is_set(given, "rotate"),
     }
+}
+
+fn workers_of(given: &ArgMatches<'_>) -> Option<u32>
+    requires { HasNumberIfGiven (codes "workers") 1 MOST_WORKERS (rows_of (found_of given.now)) }
+    ensures { IsNumberIfGiven (codes "workers") 1 MOST_WORKERS (rows_of (found_of given.now)) result }
+{
+    let workers = THREADS.read_if_given(given)?;
+    Some(workers as u32)
 }
 
 fn trail_of(given: &ArgMatches<'_>) -> CommandLine

@@ -64,20 +64,21 @@ pub(crate) const RUN: &str = "Does the same with several threads, and reports th
 pub(crate) const RUN_LONG: &str = "\
 Does the same as seq with several threads, and reports the same.
 
-Reads a case text from standard input. The routers are dealt out to --workers workers, each a
-thread of its own. A worker handles its routers' events below --stop ahead of the others, up to
---batch of them at a time; then it meets the others at a table, where messages change hands.
-Where a message comes late, its router rolls back. The report is that of seq, byte for byte,
-whatever the number of workers and the batch: each router's counters and path at the end of the
-run, and a verdict. `twarp seq --help` says what the verdicts mean.
+Reads a case text from standard input. With --workers W the routers are dealt out to W workers from
+the first tick to --stop, each in a thread; 1 is one thread, as with seq. Without --workers the
+program chooses among one thread and up to 4 workers, by a clock. A worker handles its routers'
+events below --stop ahead of the others, up to --batch of them at a time; then it meets the others
+at a table, where messages change hands. Where a message comes late, its router rolls back. The
+report is that of seq, byte for byte, whatever the number of workers and the batch: each router's
+counters and path at the end of the run, and a verdict. `twarp seq --help` says what the verdicts
+mean.
 
 Routers are dealt out in turn: router R goes to worker R mod W of W workers. With --blocks it goes
 to worker R * W div N of a case of N routers, so that routers whose numbers are near share a
 worker: fewer messages go from worker to worker where these are neighbours. With --rotate every
 router goes from worker V to worker V + 1 mod W at each checkpoint of --every at which the workers
-come together before --stop. Where few events happen one worker is faster than several:
-without --every all routers then go to one, until there is more to do. They also do so for a while
-where other work takes the processors. Nothing of this changes the report.
+come together before --stop. Nothing of this changes the report. Where few events happen, or other
+work takes the processors, one thread is faster than several.
 
 What an event has sent is taken back where the event is undone: at once, or, with --lazy, only
 once the router has come past it without sending the same again (lazy cancellation). The report

@@ -1,5 +1,5 @@
 -- When a path of a run changed last, by routers.
-use Rattle.std.proofs.Common.{◌≡◌, ℕ, zero, suc, ◌+◌, ◌<◌, ◌≤◌, ◌==◌, not, true, false, List, [], ◌∷◌, refl, ap, sym, subst, ◌∙◌, inl, inr, arith}
+use Rattle.std.proofs.Common.{◌≡◌, ℕ, zero, suc, ◌+◌, ◌<◌, ◌≤◌, ◌==◌, Bool, not, true, false, List, [], ◌∷◌, filter, if◌then◌else◌, refl, ap, sym, subst, ◌∙◌, inl, inr, arith}
 use Rattle.std.proofs.Math.Path.{fun_ext}
 use Rattle.std.proofs.lemmas.Bool.{cases_Bool, cases_eq, eq-eqb, ne_eqb}
 use Rattle.std.specs.List.{range_with_len}
@@ -31,6 +31,20 @@ greatest_least f from (suc n) r least most =
       | inr later ↦ (let more = greatest_least f (from + 1) n r (grind arith) (omega arith) in omega arith)
     ]
 
+-- what passes a test passes it again
+filter_twice : {X : Type 0} (p : X → Bool) (xs : List X) → filter p (filter p xs) ≡ filter p xs
+filter_twice p [] = refl
+filter_twice p (x ∷ xs) =
+    elim (cases_Bool (p x)) [
+      | inl passes ↦ (
+          let here : filter p (x ∷ xs) ≡ x ∷ filter p xs = rw passes refl in
+          let again : filter p (x ∷ filter p xs) ≡ x ∷ filter p (filter p xs) = rw passes refl in
+          ap (filter p) here ∙ (again ∙ (ap (λ ys. x ∷ ys) (filter_twice p xs) ∙ sym here)))
+      | inr fails ↦ (
+          let here : filter p (x ∷ xs) ≡ filter p xs = rw fails refl in
+          ap (filter p) here ∙ (filter_twice p xs ∙ sym here))
+    ]
+
 -- ---- the events of all routers
 
 module _ (case : Case) (is : IsCase case) where
@@ -53,6 +67,24 @@ module _ (case : Case) (is : IsCase case) where
   own_change : (e : Event) (older : List Event) → changes_path case.net e.dst e (only (simulation case) e.dst older) ≡ changes case e older
   own_change e older =
       ap (λ (s : State). not (s.rib.0 == (effect case.net e.dst s e).state.rib.0)) (known_state case e.dst (only (simulation case) e.dst older))
+
+  -- so that of a router's events the last change of a path is its own
+  pub last_own : (r : ℕ) (events : List Event) → last_change case (only (simulation case) r events) ≡ last_change_at case.net r (only (simulation case) r events)
+  last_own r [] = refl
+  last_own r (e ∷ older) =
+      let m = simulation case in
+      elim (cases_eq e.dst r) [
+        | inl mine ↦ subst (λ r. last_change case (only m r (e ∷ older)) ≡ last_change_at case.net r (only m r (e ∷ older))) mine
+            (let h = only m e.dst older in
+            let here : only m e.dst (e ∷ older) ≡ e ∷ h = rw (eq-eqb e.dst e.dst refl) refl in
+            let same : changes case e h ≡ changes_path case.net e.dst e h
+            = sym (own_change e h) ∙ ap (changes_path case.net e.dst e) (filter_twice (λ (x : Event). x.dst == e.dst) older) in
+            let more = last_own e.dst older in
+            ap (last_change case) here ∙ ((λ i. if same i then e.time else more i) ∙ sym (ap (last_change_at case.net e.dst) here)))
+        | inr others ↦ (
+            let here : only m r (e ∷ older) ≡ only m r older = rw (ne_eqb e.dst r others) refl in
+            ap (last_change case) here ∙ (last_own r older ∙ sym (ap (last_change_at case.net r) here)))
+      ]
 
   -- an event that changes no path changes none of a router
   kept_change : (e : Event) (older : List Event) (r : ℕ) → changes case e older ≡ false

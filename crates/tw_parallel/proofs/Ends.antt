@@ -8,6 +8,7 @@ use Rattle.std.specs.List.{range_with_len}
 use Rattle.tw_core.proofs.Headline.{at_end}
 use Rattle.tw_core.specs.Machine.{committed}
 use Rattle.tw_core.specs.Parts.{Part, total}
+use Rattle.tw_core.specs.Run as run
 use Rattle.tw_core.specs.Run.{IsAtEnd}
 use Rattle.tw_event.specs.declared.event.Event.{Event}
 use Rattle.tw_exchange.specs.Board.{all_mail}
@@ -155,14 +156,16 @@ none_ahead s settled =
 -- ---- what is left at the stop
 
 module _ (s : Sim) (is : IsSim s) (settled : IsSettled s) where
+  -- its machine is settled
+  pub machine_settled : run.IsSettled (simulation s.case) (machine s)
+  machine_settled = record {
+    flight = settled.flight;
+    held = settled.held;
+    pending = λ e there. let late = (good_of s is).late e (omega arith) in let last = settled.bound in omega arith;
+  }
+
   pub ended : IsAtEnd (simulation s.case) (machine s)
-  ended =
-      let good = good_of s is in
-      at_end (simulation s.case) (law s is) (numbered s.case is.ruled.is_case) (machine s) good (record {
-        flight = settled.flight;
-        held = settled.held;
-        pending = λ e there. let late = good.late e (omega arith) in let last = settled.bound in omega arith;
-      })
+  ended = at_end (simulation s.case) (law s is) (numbered s.case is.ruled.is_case) (machine s) (good_of s is) machine_settled
 
   pub all_states : states_of s ≡ states_at s.case s.board.stop
   all_states = ap (λ f. map f (range_with_len 0 s.case.net.nodes)) (fun_ext ended.states)

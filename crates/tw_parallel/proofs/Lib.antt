@@ -3,8 +3,14 @@ pub mod Shares
 pub mod Owners
 pub mod Openings
 pub mod Ends
+pub mod Cuts
 pub mod Crews
 pub mod Rounds
+pub mod SameOwners
 pub mod Moved
 pub mod Handing
 pub mod PutBack
+pub mod Leaving
+pub mod Coming
+pub mod Started
+pub mod Removing

@@ -26,7 +26,7 @@ use Rattle.tw_parallel.specs.Inside.{IsInside, sim_of}
 use Rattle.tw_parallel.specs.Sim.{AreOf, IsSim, KeepsEvents, Sim, committed_events, machine, reopened}
 use Rattle.tw_rule.proofs.Gives.{rule_reopens}
 use Rattle.tw_rule.proofs.Places.{all_at, all_in_map, get_map}
-use Rattle.tw_rule.proofs.Ruled.{done_of, good_of_rule, history_of, seq_of_rule}
+use Rattle.tw_rule.proofs.Ruled.{done_of, good_of_rule, history_of, read_of, seq_of_rule}
 use Rattle.tw_rule.specs.Place.{Place, part_of, whole}
 use Rattle.tw_rule.specs.Rule.{Stands}
 use Rattle.tw_shard.proofs.CommittedEvents.{told}
@@ -39,11 +39,12 @@ use Rattle.tw_table.specs.declared.hand.Hand.{Hand}
 use Rattle.tw_table.specs.Shares.{Share, board_of, place_of, share, shares_of}
 
 -- a shard has of a router what the whole machine has
-record Has (s : Sim) (r : ℕ) (x : Shard) : Type 0 where
+pub record Has (s : Sim) (r : ℕ) (x : Shard) : Type 0 where
   pub case : x.case ≡ s.case
   pub own : owns x r ≡ true
   pub history : (core 0 x).history r ≡ (machine s).history r
   pub done : (core 0 x).done r ≡ (machine s).done r
+  pub past : (core 0 x).past r ≡ (machine s).past r
   pub keeps : KeepsEvents s → x.keeps ≡ true
 
 module _ (s : Sim) (is : IsSim s) where
@@ -60,7 +61,7 @@ module _ (s : Sim) (is : IsSim s) where
   long = is.ruled.count
 
   -- a share that has a router
-  has_at : (r : ℕ) → r < s.case.net.nodes → (k : ℕ) (t : Share) → slice_get s.shares k ≡ Some t → owns t.shard r ≡ true → Has s r t.shard
+  pub has_at : (r : ℕ) → r < s.case.net.nodes → (k : ℕ) (t : Share) → slice_get s.shares k ≡ Some t → owns t.shard r ≡ true → Has s r t.shard
   has_at r l k t there own =
       let ps = map place_of s.shares in
       let x = board_of s.board in
@@ -70,11 +71,12 @@ module _ (s : Sim) (is : IsSim s) where
         own = own;
         history = sym (history_of (simulation s.case) law (who s.board) x ps k r (place_of t) is.ruled.rule place l own);
         done = sym (done_of (simulation s.case) law (who s.board) x ps k r (place_of t) is.ruled.rule place l own);
+        past = sym (read_of (simulation s.case) law (who s.board) (λ (C : Core Event). C.past r) 0 x ps k r (place_of t) is.ruled.rule place l own);
         keeps = λ all. all_at (λ (t : Share). t.shard.keeps ≡ true) s.shares k t there all;
       }
 
   -- the share at the place of a router's worker has it
-  own_at : (r : ℕ) → r < s.case.net.nodes → (t : Share) → slice_get s.shares (who s.board r) ≡ Some t → owns t.shard r ≡ true
+  pub own_at : (r : ℕ) → r < s.case.net.nodes → (t : Share) → slice_get s.shares (who s.board r) ≡ Some t → owns t.shard r ≡ true
   own_at r l t there =
       let k = who s.board r in
       let place = get_map place_of s.shares k t there in
@@ -112,7 +114,7 @@ module _ (a : Inside) (is : IsInside a) where
       let found = share_there ss a.hands.items (who s.board r) no_shard is.hands within in
       (within, own_at s is.sim r known (share (get_or ss (who s.board r) no_shard) found.0) found.1)
 
-  has_there : (r : ℕ) → r < s.case.net.nodes → Has s r (shard_for ss r)
+  pub has_there : (r : ℕ) → r < s.case.net.nodes → Has s r (shard_for ss r)
   has_there r known =
       let home = own_there r known in
       let at = found_at ss r (who s.board r) home.0 home.1 in

@@ -4,3 +4,6 @@ pub mod Inside
 pub mod Moving
 pub mod Settled
 pub mod Crew
+pub mod Vacancy
+pub mod Removal
+pub mod Cut

@@ -1,8 +1,8 @@
 -- Routers that move between the workers of a run (own).
-use Rattle.std.specs.Prelude.{ℕ, ◌≡◌, ◌+◌, ◌<◌, ◌≤◌, ◌==◌, ◌&&◌, ◌++◌, Bool, true, false, List, Some, filter, length, nat_lt, slice_get, slice_index_or, slice_set, vec_capacity, vec_len}
+use Rattle.std.specs.Prelude.{ℕ, ◌≡◌, ◌+◌, ◌<◌, ◌≤◌, ◌==◌, ◌&&◌, ◌++◌, ◌⊎◌, Bool, true, false, List, Some, filter, length, nat_lt, slice_get, slice_index_or, slice_set, vec_capacity, vec_len}
 use Rattle.std.specs.List.{list_all}
 use Rattle.tw_core.specs.Machine.{IsSameMachine}
-use Rattle.tw_exchange.specs.Board.{Board, IsListed, is_to, is_to_another, workers}
+use Rattle.tw_exchange.specs.Board.{Board, IsListed, is_to, is_to_another, who, workers}
 use Rattle.tw_model.specs.Case.{simulation}
 use Rattle.tw_parallel.specs.declared.moving.UnfitOwners.{UnfitOwners}
 use Rattle.tw_parallel.specs.Sim.{GoesOn, Sim, machine}
@@ -12,13 +12,21 @@ use Rattle.tw_table.specs.declared.hand.Hand.{Hand}
 use Rattle.tw_table.specs.Moving.{HasMoved, waiting}
 use Rattle.tw_table.specs.Shares.{Share}
 
+-- whether a list has one of so many workers for each of so many routers
+abbrev pub fit : ℕ → ℕ → List ℕ → Bool
+fit nodes n owners = length owners == nodes && list_all (λ w. nat_lt w n) owners
+
 -- whether a list has one of the workers for each router
 abbrev pub are_owners : Sim → List ℕ → Bool
-are_owners s owners = length owners == s.case.net.nodes && list_all (λ w. nat_lt w (workers s.board)) owners
+are_owners s owners = fit s.case.net.nodes (workers s.board) owners
 
 -- the refusal of a list that has not one of the workers for each router
 abbrev pub unfit_owners : UnfitOwners
 unfit_owners = record {}
+
+-- later each router is at the worker that it was at, or at the one that the list names for it
+abbrev pub AreOldOrNamed : List ℕ → Sim → Sim → Type 0
+AreOldOrNamed owners s t = (r : ℕ) → r < s.case.net.nodes → (who t.board r ≡ who s.board r) ⊎ (slice_get owners r ≡ Some (who t.board r))
 
 -- a list says the worker of each router
 abbrev pub AreListed : Sim → Type 0
@@ -51,7 +59,7 @@ pub record IsHanded (r : ℕ) (h k h2 k2 : Hand) : Type 0 where
   pub left : waiting h2 ≡ filter (is_to_another r) (waiting h)
   pub came : waiting k2 ≡ waiting k ++ filter (is_to r) (waiting h)
   pub next : k2.next ≡ 0
-  -- what a visit gave back stays, and so does the room
+  -- what no visit has taken stays, and so does the room
   pub out : h2.out ≡ h.out
   pub to_out : k2.out ≡ k.out
   pub room : vec_capacity k.mail ≤ vec_capacity k2.mail

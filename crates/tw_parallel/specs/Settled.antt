@@ -1,7 +1,7 @@
 -- A parallel run that is over, and what it leaves (own).
 use Rattle.std.specs.Prelude.{ℕ, ◌≡◌, ◌<◌, ◌-◌, Bool, List, [], length, map, reverse, if◌then◌else◌}
 use Rattle.std.specs.List.{range_with_len}
-use Rattle.tw_core.specs.Machine.{committed}
+use Rattle.tw_core.specs.Machine.{committed, count_ahead}
 use Rattle.tw_event.specs.declared.event.Event.{Event}
 use Rattle.tw_model.specs.Case.{Case, simulation}
 use Rattle.tw_model.specs.State.{State}
@@ -20,6 +20,10 @@ pub record IsSettled (s : Sim) : Type 0 where
   pub held : (machine s).held ≡ []
   -- and every handled event is committed
   pub committed : (r : ℕ) → r < s.case.net.nodes → committed (simulation s.case) (machine s) r ≡ (machine s).history r
+
+-- no router has an event that it could still undo
+abbrev pub HasNoRecords : Sim → Type 0
+HasNoRecords s = (r : ℕ) → r < s.case.net.nodes → count_ahead (machine s) r ≡ 0
 
 -- the one value of `NotSettled`
 abbrev pub not_settled : NotSettled

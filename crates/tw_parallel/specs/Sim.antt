@@ -4,7 +4,7 @@ use Rattle.std.specs.List.{AllByRecursion, flat_map, range_with_len}
 use Rattle.tw_core.specs.Machine.{Core, committed}
 use Rattle.tw_event.specs.declared.event.Event.{Event}
 use Rattle.tw_event.specs.Order.{event_before}
-use Rattle.tw_exchange.specs.Board.{Board, workers}
+use Rattle.tw_exchange.specs.Board.{Board, who, workers}
 use Rattle.tw_model.specs.Case.{Case, simulation}
 use Rattle.tw_model.specs.declared.limits.TheConstants.{LATEST}
 use Rattle.tw_rule.specs.Rule.{assembled}
@@ -72,3 +72,7 @@ pub record GoesOn (s t : Sim) : Type 0 where
   pub keeps : KeepsEvents s → KeepsEvents t
   pub cancels : cancels_of t ≡ cancels_of s
   pub bound : s.board.bound ≤ t.board.bound
+
+-- and each router has the worker that it had
+abbrev pub HasSameOwners : Sim → Sim → Type 0
+HasSameOwners s t = (r : ℕ) → r < s.case.net.nodes → who t.board r ≡ who s.board r

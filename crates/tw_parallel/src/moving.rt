@@ -5,7 +5,7 @@ ghost use Rattle.tw_core.specs.Machine.{IsSameMachine};
 ghost use Rattle.tw_exchange.specs.Board.{IsListed, who, workers};
 ghost use Rattle.tw_model.specs.Case.{simulation};
 ghost use Rattle.tw_model.specs.declared.memory.OrMemory.TheVariants as or_memory;
-ghost use Rattle.tw_parallel.specs.Moving.{AreEnds, AreLike, AreListed, HasHanded, HasMovedBetween, HasPassed, HasRoomFor, IsHanded, IsRearranged, MayPass, are_owners, unfit_owners};
+ghost use Rattle.tw_parallel.specs.Moving.{AreEnds, AreLike, AreListed, AreOldOrNamed, HasHanded, HasMovedBetween, HasPassed, HasRoomFor, IsHanded, IsRearranged, MayPass, are_owners, fit, unfit_owners};
 ghost use Rattle.tw_parallel.specs.Sim.{GoesOn, IsSim, machine};
 ghost use Rattle.tw_shard.specs.Moving.{HasCome, HasLeft};
 ghost use Rattle.tw_shard.specs.Shard.{owns};
@@ -34,10 +34,11 @@ impl<'a> Sim<'a> {
     /// and the messages for it in hands and in the exchange.
     ///
     /// It is refused where the list has not one of the workers for each router; then nothing has changed. For
-    /// want of memory some routers stand moved, each whole. After every answer the machine of all routers is
+    /// want of memory some routers stand moved, each whole and to the worker that is named for it. After every answer the machine of all routers is
     /// the same but for the order of its lists.
     pub fn move_to(&mut self, owners: &[u32]) -> Result<(), OrMemory<UnfitOwners>>
         ensures owners { OnOk result ((r : ℕ) → r < self.old.case.net.nodes → slice_get owners.now r ≡ Some (who self.new.board r)) }
+        ensures each { AreOldOrNamed owners.now self.old self.new }
         ensures refused { IsErrOf result (or_memory.Fault unfit_owners) ↔ (are_owners self.old owners.now ≡ false) }
         ensures unchanged { IsErrOf result (or_memory.Fault unfit_owners) → self.new ≡ self.old }
         ensures same { IsSameMachine (simulation self.old.case) (machine self.old) (machine self.new) }
@@ -57,8 +58,11 @@ impl<'a> Sim<'a> {
     fn are_owners(&self, owners: &[u32]) -> bool
         ensures { result ≡ are_owners self.now owners.now }
     {
-        let workers = self.exchange.workers();
-        owners.len() == self.case.instance().nodes() as usize && are_below(owners, workers)
+        are_fit(
+            self.case.instance().nodes(),
+            self.exchange.workers(),
+            owners,
+        )
     }
 
     /// Each router goes to its worker of the list, from router 0 on.
@@ -66,6 +70,7 @@ impl<'a> Sim<'a> {
         requires fit { are_owners self.old owners.now ≡ true }
         requires listed { AreListed self.old }
         ensures owners { OnOk result ((r : ℕ) → r < self.old.case.net.nodes → slice_get owners.now r ≡ Some (who self.new.board r)) }
+        ensures each { AreOldOrNamed owners.now self.old self.new }
         ensures rearranged { IsRearranged self.old self.new }
         ensures sim { IsSim self.new }
     {
@@ -81,6 +86,7 @@ impl<'a> Sim<'a> {
         requires there { worker < workers self.old.board }
         requires listed { AreListed self.old }
         ensures moved { OnOk result (who self.new.board router ≡ worker) }
+        ensures stays { OnErr result (who self.new.board router ≡ who self.old.board router) }
         ensures others { (r : ℕ) → (r ≡ router → ⊥) → who self.new.board r ≡ who self.old.board r }
         ensures listed { AreListed self.new }
         ensures rearranged { IsRearranged self.old self.new }
@@ -98,6 +104,13 @@ impl<'a> Sim<'a> {
             _ => Ok(()),
         }
     }
+}
+
+/// Whether a list has one of so many workers for each of so many routers.
+pub(crate) fn are_fit(nodes: u32, workers: u32, owners: &[u32]) -> bool
+    ensures { result ≡ fit nodes workers owners.now }
+{
+    owners.len() == nodes as usize && are_below(owners, workers)
 }
 
 /// Whether all of these numbers are below one.

@@ -114,7 +114,7 @@ impl Sim<'_> {
     }
 
     /// The time of the last event that changed a router's path, or 0.
-    fn last_change(&self) -> u64
+    pub(crate) fn last_change(&self) -> u64
         ensures { result ≡ greatest (λ r. change_of self.now r) (range_with_len 0 self.now.case.net.nodes) }
     {
         last_change(self.case, &self.shards)

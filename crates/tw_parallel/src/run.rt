@@ -5,7 +5,7 @@ ghost use Rattle.tw_model.specs.declared.limits.TheConstants.{LATEST};
 ghost use Rattle.tw_parallel.specs.Settled.{IsSettled};
 ghost use Rattle.tw_parallel.specs.Inside.{HasHands, sim_of_parts};
 ghost use Rattle.tw_parallel.specs.Crew.{HasRoom};
-ghost use Rattle.tw_parallel.specs.Sim.{GoesOn, IsSim};
+ghost use Rattle.tw_parallel.specs.Sim.{GoesOn, HasSameOwners, IsSim};
 ghost use Rattle.tw_threads.specs.Left.{IsFullAhead};
 ghost use Rattle.tw_threads.specs.declared.end_cause.EndCause.TheVariants as end_cause;
 
@@ -37,11 +37,11 @@ pub struct Ended<'a> {
 }
 
 /// A run goes on to a stop, in ticks, that is not below its own and at most 1,000,000,000: each of its workers
-/// takes turns in a thread of its own, and asks the gate. One without routers and messages takes its turns once the
+/// takes turns in a thread of its own, and asks the gate; each router keeps its worker. One without routers and messages takes its turns once the
 /// others have left, so that a gate shall not wait for it.
 ///
-/// Where it ends before, for want of memory or of a thread or at a full counter, the run comes back with all
-/// that is committed, its bound not lower than it was. Where the stop is refused nothing has changed.
+/// Where it ends before, for want of memory or of a thread or at a full counter, the run comes back and can go
+/// on, its bound not lower than it was. Where the stop is refused nothing has changed.
 pub fn run_until<'a, G: Gate + Sync, R: Threads + Wait + Sync>(
     rt: &R,
     sim: Sim<'a>,
@@ -52,6 +52,7 @@ pub fn run_until<'a, G: Gate + Sync, R: Threads + Wait + Sync>(
     ensures settled { IfOk result (λ s. IsSettled s) }
     ensures sim { IfOk result (λ s. IsSim s) }
     ensures goes_on { IfOk result (λ s. GoesOn sim.entry s) }
+    ensures owners { IfOk result (λ s. HasSameOwners sim.entry s) }
     ensures stop { IfOk result (λ s. s.board.stop ≡ stop) }
     ensures ended_sim { IfErr result (λ e. IsSim e.sim) }
     ensures ended { IfErr result (λ e. GoesOn sim.entry e.sim) }
@@ -78,6 +79,7 @@ fn run<'a, G: Gate + Sync, R: Threads + Wait + Sync>(
     ensures settled { IfOk result (λ s. IsSettled s) }
     ensures sim { IfOk result (λ s. IsSim s) }
     ensures goes_on { IfOk result (λ s. GoesOn sim.entry s) }
+    ensures owners { IfOk result (λ s. HasSameOwners sim.entry s) }
     ensures stop { IfOk result (λ s. s.board.stop ≡ sim.entry.board.stop) }
     ensures ended_sim { IfErr result (λ e. IsSim e.sim) }
     ensures ended { IfErr result (λ e. GoesOn sim.entry e.sim) }
@@ -123,6 +125,7 @@ fn run_once<'a, G: Gate + Sync, R: Threads + Wait + Sync>(
 ) -> (Sim<'a>, Option<EndCause>)
     ensures sim { IsSim result.0 }
     ensures goes_on { GoesOn sim.entry result.0 }
+    ensures owners { HasSameOwners sim.entry result.0 }
     ensures stop { result.0.board.stop ≡ sim.entry.board.stop }
     ensures lower { result.1 ≡ Some end_cause.StopLower → ⊥ }
     ensures full { result.1 ≡ Some end_cause.CounterFull → IsFullAhead result.0.board.stop result.0.shares }
@@ -149,6 +152,7 @@ fn run_at_table<'a, G: Gate + Sync, R: Threads + Wait + Sync>(
     ensures sim { IsSim (sim_of_parts result.0) }
     ensures hands { HasHands result.0 }
     ensures goes_on { GoesOn (sim_of_parts parts.entry) (sim_of_parts result.0) }
+    ensures owners { HasSameOwners (sim_of_parts parts.entry) (sim_of_parts result.0) }
     ensures stop { (sim_of_parts result.0).board.stop ≡ (sim_of_parts parts.entry).board.stop }
     ensures lower { result.1 ≡ Some end_cause.StopLower → ⊥ }
     ensures full { result.1 ≡ Some end_cause.CounterFull → IsFullAhead (sim_of_parts result.0).board.stop (sim_of_parts result.0).shares }

@@ -10,6 +10,7 @@ use std::alloc::Global;
 use std::sync::Wait;
 use std::sync::atomic::{AtomicBool, AtomicU64, Ordering};
 use std::thread::{self, Threads};
+use std::time::Clock;
 use tw_commands::{Cause, Status};
 use tw_event::Event;
 use tw_instance::Case;
@@ -22,7 +23,7 @@ use tw_sim::Cancel;
 use tw_table::Seat;
 
 /// How `run` to stop 20 by two workers ends on DISAGREE, with the log on this page.
-fn run_by_two<X: Threads + Wait + Sync>(
+fn run_by_two<X: Threads + Wait + Sync + Clock>(
     rt: &X,
     alloc: Global,
     page: &mut ShortPage,
@@ -42,7 +43,7 @@ fn run_by_two<X: Threads + Wait + Sync>(
         20,
         None,
         true,
-        2,
+        Some(2),
         64,
         Cancel::Aggressive,
         dealing,
@@ -51,7 +52,7 @@ fn run_by_two<X: Threads + Wait + Sync>(
 
 /// Whether `run` by two workers writes the whole log of DISAGREE. It is run once more where memory or a thread was
 /// refused and it has written nothing.
-fn writes_whole<X: Threads + Wait + Sync>(rt: &X, alloc: Global) -> bool {
+fn writes_whole<X: Threads + Wait + Sync + Clock>(rt: &X, alloc: Global) -> bool {
     for _ in 0..2 {
         let Ok(mut page) = ShortPage::new(alloc, AMPLE, AMPLE) else {
             continue;

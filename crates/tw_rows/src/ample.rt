@@ -4,6 +4,8 @@
 
 ghost use Rattle.std.specs.Prelude.{◌≡◌, ◌<◌};
 
+mod traced;
+
 use crate::cases::case;
 use crate::made::holds_of_made;
 use crate::texts::{DISAGREE, RANK_EXCHANGE};

@@ -90,14 +90,14 @@ fn a_replay_has_one_worker_where_no_number_is_given(rt: HostRuntime) {
     }
 }
 
-/// Whether a run to a stop has four workers and a batch of sixty-four, and neither log nor checkpoints, takes back at
-/// once, and deals its routers out in turn, for good.
-fn runs_by_four_workers(alloc: Global) -> bool {
+/// Whether a run to a stop is by as many workers as the program chooses, with a batch of sixty-four, and neither log nor
+/// checkpoints, takes back at once, and deals its routers out in turn, for good.
+fn chooses_its_workers(alloc: Global) -> bool {
     let line = CommandLine::Run {
         stop: 20,
         every: None,
         log: false,
-        workers: 4,
+        workers: None,
         batch: 64,
         lazy: false,
         blocks: false,
@@ -107,7 +107,7 @@ fn runs_by_four_workers(alloc: Global) -> bool {
 }
 
 /// Whether a run has all that it may be given.
-fn runs_by_sixteen_workers(alloc: Global) -> bool {
+fn runs_with_all_that_it_may_be_given(alloc: Global) -> bool {
     let words = [
         "twarp",
         "run",
@@ -128,7 +128,7 @@ fn runs_by_sixteen_workers(alloc: Global) -> bool {
         stop: 1_000_000_000,
         every: Some(2),
         log: true,
-        workers: 64,
+        workers: Some(64),
         batch: 4096,
         lazy: true,
         blocks: true,
@@ -139,6 +139,6 @@ fn runs_by_sixteen_workers(alloc: Global) -> bool {
 
 #[test]
 fn a_run_has_four_workers_and_a_batch_of_sixty_four_where_none_are_given(rt: HostRuntime) {
-    assert!(rt; runs_by_four_workers(rt.alloc()));
-    assert!(rt; runs_by_sixteen_workers(rt.alloc()));
+    assert!(rt; chooses_its_workers(rt.alloc()));
+    assert!(rt; runs_with_all_that_it_may_be_given(rt.alloc()));
 }

@@ -2,3 +2,4 @@ pub mod Board
 pub mod Place
 pub mod Rule
 pub mod Moving
+pub mod Cut

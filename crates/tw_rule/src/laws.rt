@@ -3,12 +3,14 @@
 
 ghost use Rattle.std.specs.Prelude.{ℕ, ◌≡◌, ◌<◌, ◌≤◌, ◌+◌, true, IfSome, List, [], ◌++◌, Option, Ok, Some, length, map, min, remove, slice_get, slice_set};
 ghost use Rattle.std.specs.List.{AllByRecursion, reduce};
+ghost use Rattle.tw_core.specs.Cut.{IsCut};
 ghost use Rattle.tw_core.specs.Good.{IsGood};
 ghost use Rattle.tw_core.specs.Machine.{Core, IsSameMachine, antimessages, messages};
 ghost use Rattle.tw_core.specs.Parts.{total};
 ghost use Rattle.tw_core.specs.Run.{IsAtEnd, IsSeq};
 ghost use Rattle.tw_core.specs.Steps.{IsRolledBack, after_arrival, first_pending, handle, with_commit, with_release, with_room};
 ghost use Rattle.tw_rule.specs.Board.{Board, IsBoard, IsVisit, times_among};
+ghost use Rattle.tw_rule.specs.Cut.{AreCutPlaces, IsCutBoard};
 ghost use Rattle.tw_rule.specs.Place.{IsFrom, IsPlace, IsRunBefore, Keeps, Place, Tells, after_visit, core, in_hand, report_time, with_core, with_unsent};
 ghost use Rattle.tw_rule.specs.Moving.{IsMoved};
 ghost use Rattle.tw_rule.specs.Rule.{AreOpeningPlaces, IsOpeningBoard, MayGive, Rule, Stands, assembled, owning};
@@ -29,6 +31,17 @@ pub fn running_is_seq<S, E>()
         → slice_get ps i ≡ Some p → MayGive m who x p y q → Rule m who y (slice_set ps i q) }
     ensures reopens { (m : Simulation S E) → IsLawful m → (who : ℕ → ℕ) (x : Board E) (ps : List (Place E)) (stop : ℕ) → x.stop ≤ stop → Rule m who x ps
         → Rule m who (record x { stop = stop }) ps }
+{}
+
+/// The rule holds of a board and places at a cut of the one-thread run, whichever worker has which router: of
+/// a board without mail, to which each worker has reported the cut's time, and places that have, each of its
+/// own routers, what they have handled of the run to that time, and what that run leaves for them. And the
+/// machine of all routers stands at that cut.
+pub fn cuts_are_ruled<S, E>()
+    ensures rule { (m : Simulation S E) → IsLawful m → IsNumbered m → (who : ℕ → ℕ) (t : ℕ) (x : Board E) (ps : List (Place E)) → IsCutBoard (length ps) t x
+        → AreCutPlaces m who t 0 ps → ((r : ℕ) → r < m.routers → who r < length ps) → Rule m who x ps }
+    ensures cut { (m : Simulation S E) → IsLawful m → IsNumbered m → (who : ℕ → ℕ) (t : ℕ) (x : Board E) (ps : List (Place E)) → IsCutBoard (length ps) t x
+        → AreCutPlaces m who t 0 ps → ((r : ℕ) → r < m.routers → who r < length ps) → IsCut m t (assembled x ps) }
 {}
 
 /// Each router has one owner among the places, and what that place has of it is what the whole machine

@@ -1,14 +1,17 @@
 -- Owners as `run` deals them out fit its run.
-use Rattle.std.proofs.Common.{◌≡◌, ℕ, ◌+◌, ◌*◌, ◌/◌, ◌%◌, ◌<◌, ◌≤◌, zero, suc, Bool, true, false, List, [], ◌∷◌, ◌++◌, ap₂, map, refl, subst, sym, ◌∙◌, arith}
+use Rattle.std.proofs.Common.{◌≡◌, ℕ, ◌+◌, ◌*◌, ◌/◌, ◌%◌, ◌<◌, ◌≤◌, zero, suc, Bool, true, false, List, [], ◌∷◌, ◌++◌, ap, ap₂, get_or, map, refl, slice_get, Some, subst, sym, true≢false, ◌∙◌, arith}
 use Rattle.std.proofs.Math.Nat.{div-lt_iff_lt-mul, mod-lt, mul-lt-mul_of_pos_right, mul_comm}
 use Rattle.std.proofs.lemmas.Bool.{eq-eqb, lt-ltb}
-use Rattle.std.proofs.lemmas.List.FromFn.{length-map-range_with_len, map-range_with_len_more}
+use Rattle.std.proofs.lemmas.List.FromFn.{get_or-map-range_with_len, length-map-range_with_len, map-range_with_len_more}
 use Rattle.std.specs.List.{list_all, range_with_len}
-use Rattle.std.specs.Prelude.{if◌then◌else◌, nat_lt}
-use Rattle.tw_exchange.specs.Board.{workers}
+use Rattle.std.specs.Prelude.{if◌then◌else◌, nat_lt, ◌||◌}
+use Rattle.std.proofs.lemmas.Option.{get_or_from_slice_get}
+use Rattle.tw_model.specs.Case.{Case}
+use Rattle.tw_sim.specs.Owners.{owner}
+use Rattle.tw_exchange.specs.Board.{opening, who, worker_for, workers}
 use Rattle.tw_parallel.specs.Moving.{are_owners}
-use Rattle.tw_parallel.specs.Sim.{GoesOn, Sim}
-use Rattle.tw_run.specs.Dealing.{first_owner, owner_after, owners_after}
+use Rattle.tw_parallel.specs.Sim.{GoesOn, HasSameOwners, Sim}
+use Rattle.tw_run.specs.Dealing.{AreDealt, first_owner, owner_after, owners_after}
 use Rattle.tw_run.specs.declared.dealing.Dealing.{Dealing as ADealing}
 
 -- r * workers div routers is a worker
@@ -44,15 +47,61 @@ all_in_range f most a zero within = refl
 all_in_range f most a (suc n) within =
     rw (lt-ltb (f a) most (within a (omega arith))) (all_in_range f most (a + 1) n (λ r there. within r (omega (arith, there))))
 
--- dealt out to some of the workers, they are one of the workers for each router
-pub fits : (s : Sim) (d : ADealing) (crew checkpoints : ℕ) → 0 < crew → crew ≤ workers s.board
-    → are_owners s (owners_after d crew s.case.net.nodes checkpoints) ≡ true
-fits s d crew checkpoints some few =
+-- dealt out to all workers, they are one of the workers for each router
+pub fits : (s : Sim) (d : ADealing) (checkpoints : ℕ) → 0 < workers s.board → are_owners s (owners_after d (workers s.board) s.case.net.nodes checkpoints) ≡ true
+fits s d checkpoints some =
     let nodes = s.case.net.nodes in
-    let f = owner_after d crew nodes checkpoints in
+    let f = owner_after d (workers s.board) nodes checkpoints in
     rw (length-map-range_with_len f 0 nodes, eq-eqb nodes nodes refl) (all_in_range f (workers s.board) 0 nodes (λ r there.
-    let its = owner_within d crew nodes checkpoints r some (omega (arith, there)) in omega (arith, its, few)))
+    owner_within d (workers s.board) nodes checkpoints r some (omega (arith, there))))
 
 -- nothing has changed
 pub goes_on_same : (s : Sim) → GoesOn s s
 goes_on_same s = record { case = refl; workers = refl; keeps = λ all. all; cancels = refl; bound = omega arith }
+
+-- ---- the routers are dealt out to all workers
+
+-- as a run opens, where nothing else is told
+pub dealt_opening : (d : ADealing) (s : Sim) (n : ℕ) → (d.blocks || d.rotate) ≡ false → s.board ≡ opening n 0 0 → AreDealt d 0 s
+dealt_opening d s n off begins = λ r known. go r d.blocks d.rotate off
+  where
+    in_turn : (r : ℕ) → who s.board r ≡ owner (workers s.board) r
+    in_turn r = ap (λ o. worker_for o (workers s.board) r) (ap (λ x. x.owners) begins)
+
+    first : ℕ → Bool → ℕ
+    first r b = if b then r * workers s.board / s.case.net.nodes else owner (workers s.board) r
+
+    go : (r : ℕ) (b c : Bool) → (b || c) ≡ false
+        → who s.board r ≡ (if c then ((if b then r * workers s.board / s.case.net.nodes else owner (workers s.board) r) + 0) % workers s.board else (if b then r * workers s.board / s.case.net.nodes else owner (workers s.board) r))
+    go r true c off = absurd (true≢false off)
+    go r false true off = absurd (true≢false off)
+    go r false false off = in_turn r
+
+-- where they have gone to the workers that a list names
+pub dealt_out : (d : ADealing) (k : ℕ) (s t : Sim) (list : List ℕ) → GoesOn s t → list ≡ owners_after d (workers s.board) s.case.net.nodes k
+    → ((r : ℕ) → r < s.case.net.nodes → slice_get list r ≡ Some (who t.board r)) → AreDealt d k t
+dealt_out d k s t list on is gone = λ r known.
+    let nodes : t.case.net.nodes ≡ s.case.net.nodes = ap (λ (c : Case). c.net.nodes) on.case in
+    let within : r < s.case.net.nodes = omega (arith, known, nodes) in
+    let f = owner_after d (workers s.board) s.case.net.nodes k in
+    let named : get_or list r 0 ≡ who t.board r = get_or_from_slice_get list r (who t.board r) 0 (gone r within) in
+    let dealt : get_or list r 0 ≡ f r = ap (λ l. get_or l r 0) is ∙ get_or-map-range_with_len f 0 s.case.net.nodes r r 0 within (omega arith) in
+    sym named ∙ (dealt ∙ (λ i. owner_after d (sym on.workers i) (sym nodes i) k r))
+
+-- and while the workers work
+pub still_dealt : (d : ADealing) (k : ℕ) (s t : Sim) → AreDealt d k s → GoesOn s t → HasSameOwners s t → AreDealt d k t
+still_dealt d k s t dealt on same = λ r known.
+    let nodes : t.case.net.nodes ≡ s.case.net.nodes = ap (λ (c : Case). c.net.nodes) on.case in
+    let within : r < s.case.net.nodes = omega (arith, known, nodes) in
+    same r within ∙ (dealt r within ∙ (λ i. owner_after d (sym on.workers i) (sym nodes i) k r))
+
+-- those that don't go from worker to worker are dealt out so after every checkpoint
+pub dealt_always : (d : ADealing) (k j : ℕ) (s : Sim) → d.rotate ≡ false → AreDealt d k s → AreDealt d j s
+dealt_always d k j s stays dealt = λ r known. dealt r known ∙ go r d.rotate stays
+  where
+    first : ℕ → ℕ
+    first r = first_owner d (workers s.board) s.case.net.nodes r
+
+    go : (r : ℕ) (b : Bool) → b ≡ false → (if b then (first r + k) % workers s.board else first r) ≡ (if b then (first r + j) % workers s.board else first r)
+    go r true stays = absurd (true≢false stays)
+    go r false stays = refl

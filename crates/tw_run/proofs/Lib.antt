@@ -1,4 +1,5 @@
 pub mod Dealt
 pub mod Endings
+pub mod Going
 pub mod Watching
 pub mod Stops

@@ -1,6 +1,8 @@
 -- Which worker has which router, as the options of `run` say (own).
-use Rattle.std.specs.Prelude.{ℕ, ◌+◌, ◌*◌, ◌/◌, ◌%◌, List, map, if◌then◌else◌}
+use Rattle.std.specs.Prelude.{ℕ, ◌≡◌, ◌<◌, ◌+◌, ◌*◌, ◌/◌, ◌%◌, List, map, if◌then◌else◌}
 use Rattle.std.specs.List.{range_with_len}
+use Rattle.tw_exchange.specs.Board.{who, workers}
+use Rattle.tw_parallel.specs.Sim.{Sim}
 use Rattle.tw_run.specs.declared.dealing.Dealing.{Dealing as ADealing}
 use Rattle.tw_sim.specs.Owners.{owner}
 
@@ -16,3 +18,12 @@ owner_after dealing workers routers checkpoints r =
 -- that of each router, by rising router
 abbrev pub owners_after : ADealing → ℕ → ℕ → ℕ → List ℕ
 owners_after dealing workers routers checkpoints = map (owner_after dealing workers routers checkpoints) (range_with_len 0 routers)
+
+-- the routers of a run are dealt out to all of its workers, as they are to be after so many checkpoints
+abbrev pub AreDealt : ADealing → ℕ → Sim → Type 0
+AreDealt dealing checkpoints s =
+    (r : ℕ) → r < s.case.net.nodes → who s.board r ≡ owner_after dealing (workers s.board) s.case.net.nodes checkpoints r
+
+-- the routers of a run are dealt out to all of its workers, in one of these ways
+abbrev pub AreDealtToAll : Sim → Type 0
+AreDealtToAll s = (dealing : ADealing) × (checkpoints : ℕ) × AreDealt dealing checkpoints s

@@ -1,13 +1,14 @@
 //! Which worker has which router, as the options of `run` say.
-ghost use Rattle.std.specs.Prelude.{◌≡◌, ◌<◌, ◌≤◌, IfOk};
+ghost use Rattle.std.specs.Prelude.{◌≡◌, ◌<◌, ◌≤◌, ◌||◌, true, IfOk, OnOk, replicate};
 ghost use Rattle.tw_exchange.specs.Board.{workers};
 ghost use Rattle.tw_model.specs.declared.limits.TheConstants.{LATEST};
-ghost use Rattle.tw_parallel.specs.Sim.{GoesOn};
-ghost use Rattle.tw_run.specs.Dealing.{first_owner, owner_after, owners_after};
+ghost use Rattle.tw_parallel.specs.Sim.{GoesOn, KeepsEvents, cancels_of};
+ghost use Rattle.tw_run.specs.Dealing.{AreDealt, first_owner, owner_after, owners_after};
 
 use std::alloc::{AllocError, Global};
+use tw_instance::Case;
 use tw_parallel::{OrMemory, Sim, UnfitOwners};
-use tw_sim::owner;
+use tw_sim::{Cancel, owner};
 
 /// How routers are dealt out to workers.
 #[derive(Clone, Copy, Debug)]
@@ -21,27 +22,53 @@ pub struct Dealing {
 
 impl Dealing {
     /// Whether the routers are not to stay with the workers that they have as a run opens.
-    pub(crate) fn is_told(self) -> bool {
+    pub(crate) fn is_told(self) -> bool
+        ensures { result ≡ (self.blocks || self.rotate) }
+    {
         self.blocks || self.rotate
     }
 }
 
-/// Deals the routers of a run out to the first of its workers, so many, as they are to be after so many checkpoints.
+/// A case as it begins, its routers dealt out to so many workers.
+pub(crate) fn open_dealt<'a>(
+    alloc: Global,
+    case: &'a Case,
+    crew: u32,
+    keeps: bool,
+    cancel: Cancel,
+    dealing: Dealing,
+) -> Result<Sim<'a>, AllocError>
+    requires { 0 < crew }
+    ensures case { IfOk result (λ sim. sim.case ≡ case.now) }
+    ensures workers { IfOk result (λ sim. workers sim.board ≡ crew) }
+    ensures stop { IfOk result (λ sim. sim.board.stop ≡ 0) }
+    ensures keeps { keeps ≡ true → IfOk result (λ sim. KeepsEvents sim) }
+    ensures cancels { IfOk result (λ sim. cancels_of sim ≡ replicate crew cancel) }
+    ensures dealt { IfOk result (λ sim. AreDealt dealing 0 sim) }
+{
+    let mut sim = Sim::open_with(alloc, case, crew, keeps, cancel)?;
+    if !dealing.is_told() {
+        return Ok(sim);
+    }
+    deal(alloc, &mut sim, dealing, 0)?;
+    Ok(sim)
+}
+
+/// Deals the routers of a run out to all of its workers, as they are to be after so many checkpoints.
 pub(crate) fn deal(
     alloc: Global,
     sim: &mut Sim<'_>,
     dealing: Dealing,
-    crew: u32,
     checkpoints: u64,
 ) -> Result<(), AllocError>
-    requires some { 0 < crew }
-    requires within { crew ≤ workers sim.old.board }
+    requires some { 0 < workers sim.old.board }
     requires checkpoints { checkpoints ≤ LATEST }
+    ensures dealt { OnOk result (AreDealt dealing checkpoints sim.new) }
     ensures goes_on { GoesOn sim.old sim.new }
     ensures stop { sim.new.board.stop ≡ sim.old.board.stop }
 {
     let routers = sim.case().instance().nodes();
-    let owners = owners(alloc, dealing, crew, routers, checkpoints)?;
+    let owners = owners(alloc, dealing, sim.workers(), routers, checkpoints)?;
     match sim.move_to(&owners) {
         Ok(()) => Ok(()),
         Err(OrMemory::Memory) => Err(AllocError),

@@ -10,13 +10,15 @@
 #![tactic(auto)]
 
 mod cause;
+mod chosen;
 mod dealing;
-mod naps;
 mod outcome;
 mod policy;
+#[cfg(test)]
+mod policy_rows;
+mod ran;
 mod run;
 mod segments;
-mod stretches;
 
 pub use dealing::Dealing;
 pub use run::run_io;

@@ -1,155 +1,244 @@
-//! To how many of its workers a run deals its routers out. No promise rests on this.
+//! When a run that is told no number of workers goes on by one thread, and when by several: plain functions of figures,
+//! which are ticks of the run, events, and microseconds by a clock that may stand still or go back. No promise rests on
+//! them.
 
-ghost use Rattle.std.specs.Prelude.{◌≡◌, ◌≤◌, ◌<◌};
+ghost use Rattle.std.specs.Prelude.{◌≡◌, ◌≤◌, ◌<◌, IfSome, None};
 
-use tw_instance::Instance;
+/// More workers than so many are not tried: the tables of bench/ have none that gains by more.
+pub(crate) const MOST_WORKERS_CHOSEN: u32 = 4;
 
-/// The first stretch, in ticks, behind which it is judged how much there is to do, and whether workers sleep. To go on
-/// from there costs as much as some hundred events; beside other work a tick by all workers costs as much as some
-/// ten thousand.
-const FIRST_STRETCH: u64 = 4;
+/// For so long a run goes on by one thread before several are tried. A trial costs as much again, and to open a thousand
+/// routers for it, and to start its threads, one or two thousand more; so shorter runs never pay for one.
+const BEGINNING: u64 = 4_000;
 
-/// Each stretch is so many times as long as the one before: a long run is judged a few times, and early.
-const GROWTH: u64 = 4;
+/// A lap that takes less is followed by one of twice the ticks, so that a run begins with some dozen laps, whatever
+/// happens in a tick. The clock is read once a lap.
+const SHORT_LAP: u64 = 250;
 
-/// More stretches than most runs have: behind the last one a run goes on to its stop.
-pub(crate) const STRETCHES: u32 = 256;
+/// Several workers are first tried on what took one thread so long: some ten times what it takes to start a thread.
+const FIRST_TRIAL: u64 = 500;
 
-/// A worker that sleeps once loses as much time as one worker takes for so many events. Measured on quiet and on busy
-/// processors.
-const EVENTS_FOR_EACH_NAP: u64 = 400;
+/// Where other work takes the processors, workers wait for one another far longer than they work. They are not tried any
+/// longer where the first trial took more than eight times as long as one thread, and this more for starting threads.
+const HOPELESS: u64 = 8;
 
-/// Where workers slept less often in a stretch, that is no more than the start of a thread.
-const FEW_NAPS: u64 = 32;
+const STARTING: u64 = 1_500;
 
-/// Where other work takes the processors, one worker goes on for about so many events, which take it some half a second,
-/// before it is tried again by all, and each further time for longer: with all of them such a run takes up to twenty
-/// times as long.
-const EVENTS_BY_ONE: u64 = 4_194_304;
+/// Several are tried where what is left takes one thread so long at least, and four times what went by: then a trial that
+/// is lost costs the run no more than a fifth, and less than a user sees.
+const ENOUGH: u64 = 20_000;
 
-/// Fewer events in a stretch say nothing of those in a longer one: it goes on as it was. To deal a thousand routers out
-/// anew costs as much as some ten thousand events.
-const FEW_EVENTS: u64 = 256;
+const ENOUGH_TIMES: u64 = 4;
 
-/// Where a worker has fewer events at hand than so many in the time that a message takes, one worker handles all sooner
-/// than several: these would meet after each few of them, and a meeting costs as much as some dozen events. Measured with
-/// 2 and 4 workers on sparse cases.
-const FEW_AT_HAND: u64 = 20;
+/// They go on where they took a twentieth less than one thread: less is within what a clock tells of a few milliseconds.
+const TWENTIETHS: u64 = 19;
 
-/// What the workers of a run have handled, all together.
-#[derive(Clone, Copy, Debug)]
-pub(crate) struct Handled {
-    pub(crate) events: u64,
-    // In so many ticks, counted for each worker.
+/// A stretch by several that takes less is followed by one of twice the ticks: between stretches all threads are joined
+/// and started anew, some hundredth of this. A longer one could cost much where other work comes to the processors.
+const LONG_STRETCH: u64 = 50_000;
+
+/// How far a run had come when so much time was spent on it.
+#[derive(Clone, Copy, PartialEq, Eq, Debug)]
+pub(crate) struct Mark {
     pub(crate) ticks: u64,
-    // And slept so often while they waited for one another.
-    pub(crate) naps: u64,
+    pub(crate) micros: u64,
 }
 
-impl Handled {
-    /// What was handled since the other was.
-    pub(crate) fn since(self, other: Handled) -> Handled {
-        Handled {
-            events: self.events.saturating_sub(other.events),
-            ticks: self.ticks.saturating_sub(other.ticks),
-            naps: self.naps.saturating_sub(other.naps),
-        }
-    }
-
-    /// Whether one worker would have handled this sooner than several that waited so: a worker's time went by asleep,
-    /// as it does where other work takes the processors.
-    fn is_slept_through(self) -> bool {
-        self.naps >= FEW_NAPS && self.naps.saturating_mul(EVENTS_FOR_EACH_NAP) > self.events
-    }
+/// How far a run has come by one thread, lap by lap.
+#[derive(Clone, Copy, PartialEq, Eq, Debug)]
+pub(crate) struct Beginning {
+    pub(crate) now: Mark,
+    // Behind the first lap that several workers are tried on.
+    pub(crate) first: Mark,
+    // The last lap.
+    length: u64,
+    took: u64,
 }
 
-/// How a run goes on: by how many of its workers, and how far.
-#[derive(Clone, Copy, Debug)]
-pub(crate) struct Stretch {
-    pub(crate) crew: u32,
-    /// In ticks.
-    pub(crate) length: u64,
-    // Whether it is by one worker since other work took the processors.
-    is_alone: bool,
-    // For about how many events it will be so the next time.
-    events_by_one: u64,
-}
-
-impl Stretch {
-    /// The first one, by all of so many workers.
-    pub(crate) fn first(workers: u32) -> Stretch
-        ensures { result.crew ≡ workers }
+impl Beginning {
+    /// Nothing is run yet.
+    pub(crate) fn new() -> Beginning
+        ensures now { result.now.ticks ≡ 0 }
+        ensures first { result.first.ticks ≡ 0 }
     {
-        Stretch {
-            crew: workers,
-            length: FIRST_STRETCH,
-            is_alone: false,
-            events_by_one: EVENTS_BY_ONE,
+        let opening = Mark {
+            ticks: 0,
+            micros: 0,
+        };
+        Beginning {
+            now: opening,
+            first: opening,
+            length: 1,
+            took: 0,
         }
     }
 
-    /// The one behind it, of so many workers, where this much was handled and a message takes `delay` ticks.
-    pub(crate) fn next(self, handled: Handled, delay: u64, workers: u32) -> Stretch
-        requires { 0 < workers }
-        ensures some { 0 < result.crew }
-        ensures within { result.crew ≤ workers }
+    /// Where the next lap ends, if there is to be one: behind where the run is, and not past the stop.
+    pub(crate) fn next_end(self, stop: u64) -> Option<u64>
+        ensures { IfSome result (λ end. (self.now.ticks < end) × (end ≤ stop)) }
     {
-        if self.is_alone {
-            return Stretch {
-                crew: workers,
-                length: FIRST_STRETCH,
-                is_alone: false,
-                events_by_one: self.events_by_one,
-            };
+        if self.now.ticks >= stop || self.now.micros >= BEGINNING {
+            return None;
         }
-        if self.crew > 1 && handled.is_slept_through() {
-            return Stretch {
-                crew: 1,
-                length: self.length_by_one(handled.events),
-                is_alone: true,
-                events_by_one: self.events_by_one.saturating_mul(GROWTH),
-            };
-        }
-        Stretch {
-            crew: next_crew(handled, self.crew, delay, workers),
-            length: self.length.saturating_mul(GROWTH),
-            is_alone: false,
-            events_by_one: self.events_by_one,
+        Some(end_within(self.now.ticks, self.next_length(), stop))
+    }
+
+    /// How many ticks the next lap has.
+    fn next_length(self) -> u64 {
+        if self.took < SHORT_LAP {
+            self.length.saturating_mul(2)
+        } else {
+            self.length
         }
     }
 
-    /// For how many ticks one worker goes on behind it, where it had so many events.
-    fn length_by_one(self, events: u64) -> u64 {
-        self.length.saturating_mul(self.events_by_one) / events.max(FEW_EVENTS)
+    /// Behind a lap that ended there, when so much time was spent on all laps.
+    pub(crate) fn lap(self, end: u64, micros: u64) -> Beginning
+        ensures now { result.now.ticks ≡ end }
+        ensures first { self.first.ticks ≤ end → result.first.ticks ≤ end }
+    {
+        let now = Mark { ticks: end, micros };
+        let is_before = self.first.micros < FIRST_TRIAL;
+        Beginning {
+            now,
+            first: if is_before { now } else { self.first },
+            length: end.saturating_sub(self.now.ticks),
+            took: micros.saturating_sub(self.now.micros),
+        }
+    }
+
+    /// Whether enough is left up to the stop for several workers to be tried.
+    pub(crate) fn is_worth_a_trial(self, stop: u64) -> bool {
+        let left = stop.saturating_sub(self.now.ticks);
+        let rest = in_proportion(left, self.took, self.length);
+        rest >= ENOUGH && rest >= self.now.micros.saturating_mul(ENOUGH_TIMES)
+    }
+
+    /// Whether several workers shall not be tried any longer that took so much time up to the first mark.
+    pub(crate) fn is_hopeless(self, micros: u64) -> bool {
+        micros
+            > self
+                .first
+                .micros
+                .saturating_mul(HOPELESS)
+                .saturating_add(STARTING)
+    }
+
+    /// Whether several workers go on that took so much time from the first mark to where the run is.
+    pub(crate) fn is_won(self, micros: u64) -> bool {
+        let alone = self.now.micros.saturating_sub(self.first.micros);
+        micros.saturating_mul(20) <= alone.saturating_mul(TWENTIETHS) && alone > 0
+    }
+
+    /// How several workers go on from where the run is, so many events from its beginning.
+    pub(crate) fn course(self, events: u64) -> Course
+        ensures { result.ticks ≡ self.now.ticks }
+    {
+        Course {
+            ticks: self.now.ticks,
+            events,
+            length: self.now.ticks,
+            last: Stretch {
+                ticks: 0,
+                events: 0,
+                micros: 0,
+            },
+            alone: Alone {
+                events,
+                micros: self.now.micros,
+            },
+        }
     }
 }
 
-/// To how many of so many workers routers are dealt out behind a stretch in which `crew` of them had some and
-/// handled this much, where a message takes `delay` ticks.
-fn next_crew(handled: Handled, crew: u32, delay: u64, workers: u32) -> u32
-    requires { 0 < workers }
-    ensures some { 0 < result }
-    ensures within { result ≤ workers }
+/// What one thread has handled, and for how long.
+#[derive(Clone, Copy, PartialEq, Eq, Debug)]
+struct Alone {
+    events: u64,
+    micros: u64,
+}
+
+/// What several workers did in a stretch.
+#[derive(Clone, Copy, PartialEq, Eq, Debug)]
+struct Stretch {
+    ticks: u64,
+    events: u64,
+    micros: u64,
+}
+
+/// How far a run has come by several workers, stretch by stretch, while one thread stands where they were tried.
+#[derive(Clone, Copy, PartialEq, Eq, Debug)]
+pub(crate) struct Course {
+    pub(crate) ticks: u64,
+    // Handled from the beginning on.
+    events: u64,
+    // Of the next stretch, in ticks.
+    length: u64,
+    last: Stretch,
+    alone: Alone,
+}
+
+impl Course {
+    /// Where the next stretch ends, if there is one more: behind where the run is, and not past the stop.
+    pub(crate) fn next_end(self, stop: u64) -> Option<u64>
+        ensures some { IfSome result (λ end. (self.ticks < end) × (end ≤ stop)) }
+        ensures none { result ≡ None → stop ≤ self.ticks }
+    {
+        if self.ticks >= stop {
+            return None;
+        }
+        Some(end_within(self.ticks, self.length, stop))
+    }
+
+    /// Behind a stretch that ended there, so many events from the beginning, and took so long.
+    pub(crate) fn stretch(self, end: u64, events: u64, micros: u64) -> Course
+        ensures { result.ticks ≡ end }
+    {
+        let is_long = micros >= LONG_STRETCH;
+        Course {
+            ticks: end,
+            events,
+            length: if is_long {
+                self.length
+            } else {
+                self.length.saturating_mul(2)
+            },
+            last: Stretch {
+                ticks: end.saturating_sub(self.ticks),
+                events: events.saturating_sub(self.events),
+                micros,
+            },
+            alone: self.alone,
+        }
+    }
+
+    /// Whether one thread comes to the stop sooner from where it stands than several workers from where they are, at the
+    /// pace of the last stretch: what they did since their trial it would do once more.
+    pub(crate) fn is_better_alone(self, stop: u64) -> bool {
+        let left = stop.saturating_sub(self.ticks);
+        let last = self.last;
+        let by_all = in_proportion(left, last.micros, last.ticks);
+        let events = in_proportion(left, last.events, last.ticks);
+        let again = self.events.saturating_sub(self.alone.events);
+        let by_one = in_proportion(
+            events.saturating_add(again),
+            self.alone.micros,
+            self.alone.events,
+        );
+        by_one < by_all
+    }
+}
+
+/// So many ticks behind a time, one at least, but not past the stop, which is behind it.
+fn end_within(ticks: u64, length: u64, stop: u64) -> u64
+    requires { ticks < stop }
+    ensures after { ticks < result }
+    ensures within { result ≤ stop }
 {
-    if handled.events < FEW_EVENTS {
-        return crew.clamp(1, workers);
-    }
-    // In a tick in which one of all workers has something to handle, it has one event at least.
-    let ticks = handled.ticks.saturating_mul(u64::from(workers));
-    let events = handled.events.saturating_mul(u64::from(crew)).max(ticks);
-    if events.saturating_mul(delay) < ticks.saturating_mul(FEW_AT_HAND) {
-        1
-    } else {
-        workers
-    }
+    ticks.saturating_add(length.max(1)).min(stop)
 }
 
-/// How many ticks a message takes between two routers that are linked, in the mean: 1 at least.
-pub(crate) fn mean_delay(instance: &Instance) -> u64 {
-    let links = instance.links();
-    let ticks = links.iter().fold(0, |ticks: u64, link| {
-        ticks.saturating_add(link.delay).saturating_add(link.back)
-    });
-    let ways = (links.len() as u64).saturating_mul(2);
-    (ticks / ways.max(1)).max(1)
+/// What so much takes where `of` takes `share`.
+fn in_proportion(amount: u64, share: u64, of: u64) -> u64 {
+    amount.saturating_mul(share) / of.max(1)
 }

@@ -1,52 +1,56 @@
 //! The command `run`: from the text of a case to its report.
-ghost use Rattle.std.specs.Prelude.{◌≡◌, ◌≤◌, ◌<◌, false, IfOk, IfSome, IsErrOf, OnOk};
-ghost use Rattle.tw_commands.specs.declared.cause.Cause.TheVariants as cause;
-ghost use Rattle.tw_commands.specs.Seq.{GetsStuckFor, found_to, seq_output, seq_report, shown};
+ghost use Rattle.std.specs.Prelude.{◌≡◌, ◌≤◌, ◌<◌, ℕ, false, true, IfErr, IfOk, IfSome, None, OnOk, Some};
+ghost use Rattle.tw_commands.specs.Seq.{GetsStuckFor, seq_output, seq_report};
 ghost use Rattle.tw_device.specs.Source.{LosesInput, TakesInput};
-ghost use Rattle.tw_model.specs.Summary.{summary_of};
 ghost use Rattle.tw_model.specs.declared.limits.TheConstants.{LATEST};
 ghost use Rattle.tw_run.specs.Asked.{IsReady};
-ghost use Rattle.tw_run.specs.Threaded.{AnswersThreaded, LeavesThreaded};
-ghost use Rattle.tw_seq.specs.Outcome.{outcome_of as outcome_of_run};
-ghost use Rattle.tw_seq.specs.Run.{GetsStuck, complete_run};
+ghost use Rattle.tw_run.specs.Ran.{HasRunAnew, HasStoppedBy, IsEndOr, IsRunBy, IsRunByAny, IsRunOf, MayStop, MayStopAlone, MayStopBy};
+ghost use Rattle.tw_run.specs.Threaded.{AnswersThreaded, LeavesThreaded, LeavesThreadedFor};
+ghost use Rattle.tw_run.specs.declared.ran.By.TheVariants as by;
+ghost use Rattle.tw_seq.specs.Run.{GetsStuck};
 
-use crate::dealing::Dealing;
-use crate::outcome::outcome_of;
+use crate::cause::Stopped;
+use crate::chosen::run_to_stop;
+use crate::dealing::{Dealing, open_dealt};
+use crate::ran::{By, Ran, left_alone, left_by};
 use crate::segments::run_through;
 use std::alloc::Global;
+use std::snapshot::Snapshot;
 use std::sync::Wait;
 use std::thread::Threads;
-use tw_commands::{Cause, Status, refuse, run_on_one_thread};
+use std::time::Clock;
+use tw_commands::{Cause, Status, hand_back, refuse, run_on_one_thread};
 use tw_device::{Sink, Source, read_all};
 use tw_instance::Case;
-use tw_model::{OrMemory, Outcome};
-use tw_parallel::Sim;
+use tw_model::OrMemory;
+use tw_parallel::{EndCause, Ended};
 use tw_report::write_report;
-use tw_seq::CounterFull;
-use tw_shape::{Finding, Verdict};
+use tw_seq::{LoggedRun, OneThread};
+use tw_shape::Verdict;
 use tw_sim::Cancel;
 use tw_text::read_case;
 
 /// The options of `run`.
 #[derive(Clone, Copy)]
-struct Asked {
-    stop: u64,
-    every: Option<u64>,
-    log: bool,
-    workers: u32,
-    batch: u32,
-    cancel: Cancel,
-    dealing: Dealing,
+pub(crate) struct Asked {
+    pub(crate) stop: u64,
+    pub(crate) every: Option<u64>,
+    pub(crate) log: bool,
+    pub(crate) workers: Option<u32>,
+    pub(crate) batch: u32,
+    pub(crate) cancel: Cancel,
+    pub(crate) dealing: Dealing,
 }
 
-/// Reads a case, deals its routers out to so many workers, one at least, runs it by a thread for each of them to
-/// the stop, in ticks, and writes what `seq_io` writes: the report of the one-thread run, or where and why
-/// the text is refused.
+/// Reads a case, runs it to the stop, in ticks, and writes what `seq_io` writes: the report of the one-thread run, or
+/// where and why the text is refused.
 ///
-/// A worker handles at most `batch` events between two meetings with the others, and what an undone event has
+/// Where a number of workers is told, one at least, that many run the case from its first tick to the stop, each of
+/// them in a thread; one worker has nobody to meet, and is one thread that runs it as `seq_io` does. Where none is told,
+/// one thread begins, and up to four workers go on where a clock tells that they are faster. A worker handles at most `batch` events between two meetings with the others, and what an undone event has
 /// sent is taken back at once, or as late as may be. Neither the two numbers nor this, nor which worker has
 /// which router, shows in what is written. With `every` the workers come together at checkpoints.
-pub fn run_io<X: Threads + Wait + Sync, R: Source, W: Sink>(
+pub fn run_io<X: Threads + Wait + Sync + Clock, R: Source, W: Sink>(
     rt: &X,
     alloc: Global,
     source: &mut R,
@@ -54,7 +58,7 @@ pub fn run_io<X: Threads + Wait + Sync, R: Source, W: Sink>(
     stop: u64,
     every: Option<u64>,
     log: bool,
-    workers: u32,
+    workers: Option<u32>,
     batch: u32,
     cancel: Cancel,
     dealing: Dealing,
@@ -63,7 +67,7 @@ pub fn run_io<X: Threads + Wait + Sync, R: Source, W: Sink>(
     requires sink { W.failed sink.old ≡ false }
     requires stop { stop ≤ LATEST }
     requires every { IfSome every (λ n. (0 < n) × (n ≤ LATEST)) }
-    requires workers { 0 < workers }
+    requires workers { IfSome workers (λ n. 0 < n) }
     ensures answer { AnswersThreaded result (seq_output stop every log) (GetsStuckFor stop)
         (R.remaining source.old) (W.written sink.old) (W.written sink.new) (R.failed source.new) (W.failed sink.new) }
     ensures read { OnOk result (LosesInput (R.remaining source.old) (R.remaining source.new)) }
@@ -79,10 +83,12 @@ pub fn run_io<X: Threads + Wait + Sync, R: Source, W: Sink>(
         cancel,
         dealing,
     };
-    answer_text(rt, alloc, &text, asked, sink)
+    let ended = answer_text(rt, alloc, &text, asked, sink);
+    hand_back(source, text, &ended);
+    ended
 }
 
-fn answer_text<X: Threads + Wait + Sync, W: Sink>(
+fn answer_text<X: Threads + Wait + Sync + Clock, W: Sink>(
     rt: &X,
     alloc: Global,
     text: &[u8],
@@ -91,7 +97,7 @@ fn answer_text<X: Threads + Wait + Sync, W: Sink>(
 ) -> Result<Status, Cause>
     requires open { W.failed sink.old ≡ false }
     requires ready { IsReady asked }
-    ensures { LeavesThreaded result (seq_output asked.stop asked.every asked.log text.now) (GetsStuckFor asked.stop text.now)
+    ensures { LeavesThreadedFor text.now result (seq_output asked.stop asked.every asked.log text.now) (GetsStuckFor asked.stop text.now)
         (W.written sink.old) (W.written sink.new) (W.failed sink.new) }
 {
     match read_case(alloc, text) {
@@ -102,7 +108,7 @@ fn answer_text<X: Threads + Wait + Sync, W: Sink>(
 }
 
 /// Runs a case and writes the report.
-fn answer_case<X: Threads + Wait + Sync, W: Sink>(
+fn answer_case<X: Threads + Wait + Sync + Clock, W: Sink>(
     rt: &X,
     alloc: Global,
     case: &Case,
@@ -114,46 +120,151 @@ fn answer_case<X: Threads + Wait + Sync, W: Sink>(
     ensures { LeavesThreaded result (seq_report asked.stop asked.every asked.log case.now) (GetsStuck case.now asked.stop)
         (W.written sink.old) (W.written sink.new) (W.failed sink.new) }
 {
-    let (outcome, found) = run_case(rt, alloc, case, asked)?;
-    let verdict = Verdict::of(&outcome, found);
-    write_report(sink, case.instance(), &outcome, verdict, asked.log)?;
-    Ok(Status::Done)
-}
-
-/// What a run to the stop leaves, with its events where they are to be logged, and what was found at its
-/// checkpoints. Where the workers meet a full counter, one thread runs the case anew: they run ahead, and may
-/// meet it where the one-thread run never comes to it.
-fn run_case<X: Threads + Wait + Sync>(
-    rt: &X,
-    alloc: Global,
-    case: &Case,
-    asked: Asked,
-) -> Result<(Outcome, Option<Finding>), Cause>
-    requires ready { IsReady asked }
-    ensures outcome { IfOk result (λ left. summary_of left.0 ≡ shown asked.log (outcome_of_run (complete_run case.now asked.stop))) }
-    ensures found { IfOk result (λ left. left.1 ≡ found_to case.now asked.stop asked.every) }
-    ensures device { IsErrOf result cause.Device → ⊥ }
-    ensures full { IsErrOf result cause.CounterFull → GetsStuck case.now asked.stop }
-{
-    match run_by_workers(rt, alloc, case, asked) {
-        Err(Cause::CounterFull) => run_alone(alloc, case, asked),
-        left => left,
+    match run_case(rt, alloc, case, asked) {
+        Ok(ran) => write_left(sink, case, &ran, asked),
+        Err(why) => Err(why.cause()),
     }
 }
 
-/// The same by workers.
-fn run_by_workers<X: Threads + Wait + Sync>(
+/// Writes the report of what a run of the case leaves.
+fn write_left<W: Sink>(
+    sink: &mut W,
+    case: &Case,
+    ran: &Ran<'_>,
+    asked: Asked,
+) -> Result<Status, Cause>
+    requires open { W.failed sink.old ≡ false }
+    requires ran { IsRunOf case.now asked ran.now }
+    ensures { LeavesThreaded result (seq_report asked.stop asked.every asked.log case.now) (GetsStuck case.now asked.stop)
+        (W.written sink.old) (W.written sink.new) (W.failed sink.new) }
+{
+    let verdict = Verdict::of(&ran.outcome, ran.found);
+    write_report(sink, case.instance(), &ran.outcome, verdict, asked.log)?;
+    Ok(Status::Done)
+}
+
+/// Runs a case to the stop: by as many workers as were told, where that is more than one, since one worker has nobody to
+/// meet, and is one thread. Where none were told, the program chooses.
+fn run_case<'a, X: Threads + Wait + Sync + Clock>(
     rt: &X,
     alloc: Global,
-    case: &Case,
+    case: &'a Case,
     asked: Asked,
-) -> Result<(Outcome, Option<Finding>), Cause>
+) -> Result<Ran<'a>, Stopped<'a>>
     requires ready { IsReady asked }
-    ensures outcome { IfOk result (λ left. summary_of left.0 ≡ shown asked.log (outcome_of_run (complete_run case.now asked.stop))) }
-    ensures found { IfOk result (λ left. left.1 ≡ found_to case.now asked.stop asked.every) }
-    ensures device { IsErrOf result cause.Device → ⊥ }
+    ensures ran { IfOk result (λ ran. IsRunOf case.now asked ran) }
+    ensures by_workers { (n : ℕ) → asked.workers ≡ Some n → 1 < n → IfOk result (λ ran. IsRunBy case.now asked n ran.by) }
+    ensures alone { asked.workers ≡ Some 1 → IfOk result (λ ran. ran.by ≡ by.OneThread) }
+    ensures stopped { IfErr result (λ why. MayStop case.now asked why) }
 {
-    let sim = Sim::open_with(alloc, case, asked.workers, asked.log, asked.cancel)?;
+    match asked.workers {
+        None => run_chosen(rt, alloc, case, asked),
+        Some(workers) if workers > 1 => run_by_all(rt, alloc, case, asked, workers),
+        Some(_) => run_alone(alloc, case, asked),
+    }
+}
+
+/// Runs a case to the stop by one thread or by several workers, as its policy chooses; with checkpoints by one thread.
+fn run_chosen<'a, X: Threads + Wait + Sync + Clock>(
+    rt: &X,
+    alloc: Global,
+    case: &'a Case,
+    asked: Asked,
+) -> Result<Ran<'a>, Stopped<'a>>
+    requires ready { IsReady asked }
+    ensures ran { IfOk result (λ ran. IsRunOf case.now asked ran) }
+    ensures by { IfOk result (λ ran. IsRunByAny case.now asked ran.by) }
+    ensures stopped { IfErr result (λ why. MayStopAlone case.now asked.stop why) }
+{
+    if asked.every.is_some() {
+        return run_alone(alloc, case, asked);
+    }
+    if asked.log {
+        run_logged(rt, alloc, case, asked)
+    } else {
+        run_unlogged(rt, alloc, case, asked)
+    }
+}
+
+/// The same where the events are to be logged.
+fn run_logged<'a, X: Threads + Wait + Sync + Clock>(
+    rt: &X,
+    alloc: Global,
+    case: &'a Case,
+    asked: Asked,
+) -> Result<Ran<'a>, Stopped<'a>>
+    requires ready { IsReady asked }
+    requires straight { asked.every ≡ None }
+    requires log { asked.log ≡ true }
+    ensures ran { IfOk result (λ ran. IsRunOf case.now asked ran) }
+    ensures by { IfOk result (λ ran. IsRunByAny case.now asked ran.by) }
+    ensures stopped { IfErr result (λ why. MayStopAlone case.now asked.stop why) }
+{
+    let mut run = LoggedRun::new(alloc, case)?;
+    match run_to_stop(rt, alloc, case, &mut run, asked)? {
+        Some(sim) => Ok(left_by(sim, None, asked.log)?),
+        None => Ok(left_alone(run.into_outcome()?, None)),
+    }
+}
+
+/// The same where they are not.
+fn run_unlogged<'a, X: Threads + Wait + Sync + Clock>(
+    rt: &X,
+    alloc: Global,
+    case: &'a Case,
+    asked: Asked,
+) -> Result<Ran<'a>, Stopped<'a>>
+    requires ready { IsReady asked }
+    requires straight { asked.every ≡ None }
+    requires log { asked.log ≡ false }
+    ensures ran { IfOk result (λ ran. IsRunOf case.now asked ran) }
+    ensures by { IfOk result (λ ran. IsRunByAny case.now asked ran.by) }
+    ensures stopped { IfErr result (λ why. MayStopAlone case.now asked.stop why) }
+{
+    let mut run = OneThread::new(alloc, case)?;
+    match run_to_stop(rt, alloc, case, &mut run, asked)? {
+        Some(sim) => Ok(left_by(sim, None, asked.log)?),
+        None => Ok(left_alone(run.outcome_without_events()?, None)),
+    }
+}
+
+/// Runs a case to the stop by so many workers, and on one thread only where these have met a full counter.
+fn run_by_all<'a, X: Threads + Wait + Sync>(
+    rt: &X,
+    alloc: Global,
+    case: &'a Case,
+    asked: Asked,
+    workers: u32,
+) -> Result<Ran<'a>, Stopped<'a>>
+    requires ready { IsReady asked }
+    requires some { 0 < workers }
+    ensures ran { IfOk result (λ ran. IsRunOf case.now asked ran) }
+    ensures by { IfOk result (λ ran. IsRunBy case.now asked workers ran.by) }
+    ensures stopped { IfErr result (λ why. MayStopBy case.now asked workers why) }
+{
+    match run_by_workers(rt, alloc, case, asked, workers) {
+        Ok(ran) => Ok(ran),
+        Err(Stopped::Ended(ended)) => run_anew(alloc, case, asked, ended),
+        Err(Stopped::Memory) => Err(Stopped::Memory),
+        Err(Stopped::CounterFull) => Err(Stopped::CounterFull),
+    }
+}
+
+/// Runs a case to the stop by so many workers.
+fn run_by_workers<'a, X: Threads + Wait + Sync>(
+    rt: &X,
+    alloc: Global,
+    case: &'a Case,
+    asked: Asked,
+    workers: u32,
+) -> Result<Ran<'a>, Stopped<'a>>
+    requires ready { IsReady asked }
+    requires some { 0 < workers }
+    ensures ran { IfOk result (λ ran. IsRunOf case.now asked ran) }
+    ensures by { IfOk result (λ ran. IsRunBy case.now asked workers ran.by) }
+    ensures stopped { IfErr result (λ why. HasStoppedBy case.now asked workers why) }
+{
+    let sim = open_dealt(alloc, case, workers, asked.log, asked.cancel, asked.dealing)?;
     let (sim, found) = run_through(
         rt,
         alloc,
@@ -163,20 +274,39 @@ fn run_by_workers<X: Threads + Wait + Sync>(
         asked.every,
         asked.batch,
     )?;
-    Ok((outcome_of(&sim, asked.log)?, found))
+    Ok(left_by(sim, found, asked.log)?)
 }
 
-/// The same on one thread.
-fn run_alone(alloc: Global, case: &Case, asked: Asked) -> Result<(Outcome, Option<Finding>), Cause>
+/// Runs a case to the stop on one thread, where workers have met a full counter: they run ahead, and may meet it
+/// where the one-thread run never comes to it. Where they ended for something else, so does the run.
+fn run_anew<'a>(
+    alloc: Global,
+    case: &'a Case,
+    asked: Asked,
+    ended: Ended<'a>,
+) -> Result<Ran<'a>, Stopped<'a>>
     requires ready { IsReady asked }
-    ensures outcome { IfOk result (λ left. summary_of left.0 ≡ shown asked.log (outcome_of_run (complete_run case.now asked.stop))) }
-    ensures found { IfOk result (λ left. left.1 ≡ found_to case.now asked.stop asked.every) }
-    ensures device { IsErrOf result cause.Device → ⊥ }
-    ensures full { IsErrOf result cause.CounterFull → GetsStuck case.now asked.stop }
+    ensures ran { IfOk result (λ ran. IsRunOf case.now asked ran) }
+    ensures by { IfOk result (λ ran. HasRunAnew ended.entry ran.by) }
+    ensures stopped { IfErr result (λ why. IsEndOr ended.entry (MayStopAlone case.now asked.stop) why) }
 {
-    match run_on_one_thread(alloc, case, asked.stop, asked.every, asked.log) {
-        Ok(left) => Ok(left),
-        Err(OrMemory::Memory) => Err(Cause::Memory),
-        Err(OrMemory::Fault(CounterFull)) => Err(Cause::CounterFull),
+    if ended.cause != EndCause::CounterFull {
+        return Err(Stopped::Ended(ended));
     }
+    let ran = run_alone(alloc, case, asked)?;
+    Ok(Ran {
+        by: By::OneThreadAfter(Snapshot::of(&ended.sim)),
+        ..ran
+    })
+}
+
+/// Runs a case to the stop on one thread.
+fn run_alone<'a>(alloc: Global, case: &'a Case, asked: Asked) -> Result<Ran<'a>, Stopped<'a>>
+    requires ready { IsReady asked }
+    ensures ran { IfOk result (λ ran. IsRunOf case.now asked ran) }
+    ensures by { IfOk result (λ ran. ran.by ≡ by.OneThread) }
+    ensures stopped { IfErr result (λ why. MayStopAlone case.now asked.stop why) }
+{
+    let (outcome, found) = run_on_one_thread(alloc, case, asked.stop, asked.every, asked.log)?;
+    Ok(left_alone(outcome, found))
 }

@@ -1,27 +1,50 @@
-//! A run goes on to its stop at once, or from checkpoint to checkpoint.
-ghost use Rattle.std.specs.Prelude.{◌≡◌, ◌≤◌, ◌<◌, ◌/◌, IfOk, IfSome, IsErrOf};
+//! Workers go on to a stop at once, or from checkpoint to checkpoint, all of them in each segment.
+ghost use Rattle.std.specs.Prelude.{◌≡◌, ◌≤◌, ◌<◌, ◌/◌, ℕ, false, IfErr, IfOk, IfSome};
 ghost use Rattle.tw_exchange.specs.Board.{workers};
-ghost use Rattle.tw_commands.specs.declared.cause.Cause.TheVariants as cause;
 ghost use Rattle.tw_commands.specs.Seq.{found_to};
 ghost use Rattle.tw_model.specs.declared.limits.TheConstants.{LATEST};
 ghost use Rattle.tw_parallel.specs.Settled.{IsSettled};
-ghost use Rattle.tw_parallel.specs.Sim.{GoesOn, IsSim};
+ghost use Rattle.tw_parallel.specs.Sim.{GoesOn, HasSameOwners, IsSim};
+ghost use Rattle.tw_run.specs.Dealing.{AreDealt, AreDealtToAll};
+ghost use Rattle.tw_run.specs.Stopped.{HasStopped};
 ghost use Rattle.tw_shape.specs.Shape.{shape as shape_at};
 ghost use Rattle.tw_shape.specs.Verdict.{finding};
 
+use crate::cause::Stopped;
 use crate::dealing::{Dealing, deal};
-use crate::naps::Naps;
-use crate::stretches::{run_in_stretches, run_on};
 use std::alloc::{AllocError, Global};
 use std::sync::Wait;
 use std::thread::Threads;
-use tw_commands::Cause;
-use tw_parallel::{NotSettled, OrMemory, Sim};
+use tw_parallel::{NotSettled, OpenGate, Options, OrMemory, Sim, run_until};
 use tw_shape::{Finding, Shape, Watch};
 
-/// Runs on to a stop, in ticks, which is not before that of the run. Where the run is not there yet, its routers
-/// are dealt out before as they are to be after so many checkpoints.
-fn run_to<'a, X: Threads + Wait + Sync>(
+/// The workers of a run, to all of whom its routers are dealt out, go on to a stop, in ticks, which is not before
+/// that of the run.
+fn run_on<'a, X: Threads + Wait + Sync>(
+    rt: &X,
+    sim: Sim<'a>,
+    stop: u64,
+    batch: u32,
+) -> Result<Sim<'a>, Stopped<'a>>
+    requires all { AreDealtToAll sim }
+    requires stop { sim.board.stop ≤ stop }
+    requires latest { stop ≤ LATEST }
+    ensures settled { IfOk result (λ s. IsSettled s) }
+    ensures sim { IfOk result (λ s. IsSim s) }
+    ensures goes_on { IfOk result (λ s. GoesOn sim.entry s) }
+    ensures owners { IfOk result (λ s. HasSameOwners sim.entry s) }
+    ensures stop { IfOk result (λ s. s.board.stop ≡ stop) }
+    ensures stopped { IfErr result (λ why. HasStopped sim.entry why) }
+{
+    match run_until(rt, sim, stop, Options { batch }, &OpenGate) {
+        Ok(sim) => Ok(sim),
+        Err(ended) => Err(Stopped::Ended(ended)),
+    }
+}
+
+/// Runs on to a stop, in ticks, which is not before that of the run, the routers dealt out to all workers as they are
+/// to be after so many checkpoints. They are dealt so already where they are not to go from worker to worker.
+pub(crate) fn run_to<'a, X: Threads + Wait + Sync>(
     rt: &X,
     alloc: Global,
     sim: Sim<'a>,
@@ -29,8 +52,9 @@ fn run_to<'a, X: Threads + Wait + Sync>(
     checkpoints: u64,
     stop: u64,
     batch: u32,
-) -> Result<Sim<'a>, Cause>
+) -> Result<Sim<'a>, Stopped<'a>>
     requires some { 0 < workers sim.board }
+    requires dealt { dealing.rotate ≡ false → AreDealt dealing checkpoints sim }
     requires checkpoints { checkpoints ≤ LATEST }
     requires stop { sim.board.stop ≤ stop }
     requires latest { stop ≤ LATEST }
@@ -38,14 +62,15 @@ fn run_to<'a, X: Threads + Wait + Sync>(
     ensures sim { IfOk result (λ s. IsSim s) }
     ensures goes_on { IfOk result (λ s. GoesOn sim.entry s) }
     ensures stop { IfOk result (λ s. s.board.stop ≡ stop) }
-    ensures device { IsErrOf result cause.Device → ⊥ }
+    ensures dealt { IfOk result (λ s. AreDealt dealing checkpoints s) }
+    ensures stopped { IfErr result (λ why. HasStopped sim.entry why) }
 {
-    let mut sim = sim;
-    if sim.stop() < stop && dealing.is_told() {
-        let all = sim.workers();
-        deal(alloc, &mut sim, dealing, all, checkpoints)?;
+    if !dealing.rotate {
+        return run_on(rt, sim, stop, batch);
     }
-    run_on(rt, sim, stop, batch, &Naps::none())
+    let mut sim = sim;
+    deal(alloc, &mut sim, dealing, checkpoints)?;
+    run_on(rt, sim, stop, batch)
 }
 
 /// Runs to a stop, in ticks, and answers what was found at the checkpoints, the multiples of `every`. The
@@ -58,47 +83,23 @@ pub(crate) fn run_through<'a, X: Threads + Wait + Sync>(
     stop: u64,
     every: Option<u64>,
     batch: u32,
-) -> Result<(Sim<'a>, Option<Finding>), Cause>
+) -> Result<(Sim<'a>, Option<Finding>), Stopped<'a>>
     requires some { 0 < workers sim.board }
+    requires dealt { AreDealt dealing 0 sim }
     requires opening { sim.board.stop ≡ 0 }
     requires stop { stop ≤ LATEST }
     requires every { IfSome every (λ n. (0 < n) × (n ≤ LATEST)) }
     ensures settled { IfOk result (λ left. IsSettled left.0) }
     ensures goes_on { IfOk result (λ left. GoesOn sim.entry left.0) }
     ensures stop { IfOk result (λ left. left.0.board.stop ≡ stop) }
-    ensures device { IsErrOf result cause.Device → ⊥ }
+    ensures dealt { IfOk result (λ left. (checkpoints : ℕ) × AreDealt dealing checkpoints left.0) }
     ensures found { IfOk result (λ left. left.1 ≡ found_to sim.entry.case stop every) }
+    ensures stopped { IfErr result (λ why. HasStopped sim.entry why) }
 {
     match every {
         Some(every) => run_watched(rt, alloc, sim, dealing, stop, every, batch),
-        None => Ok((run_straight(rt, alloc, sim, dealing, stop, batch)?, None)),
+        None => Ok((run_to(rt, alloc, sim, dealing, 0, stop, batch)?, None)),
     }
-}
-
-/// Runs to a stop, in ticks. The run is at its beginning.
-fn run_straight<'a, X: Threads + Wait + Sync>(
-    rt: &X,
-    alloc: Global,
-    sim: Sim<'a>,
-    dealing: Dealing,
-    stop: u64,
-    batch: u32,
-) -> Result<Sim<'a>, Cause>
-    requires some { 0 < workers sim.board }
-    requires stop { sim.board.stop ≤ stop }
-    requires latest { stop ≤ LATEST }
-    ensures settled { IfOk result (λ s. IsSettled s) }
-    ensures goes_on { IfOk result (λ s. GoesOn sim.entry s) }
-    ensures stop { IfOk result (λ s. s.board.stop ≡ stop) }
-    ensures device { IsErrOf result cause.Device → ⊥ }
-{
-    let mut sim = sim;
-    if dealing.blocks {
-        let all = sim.workers();
-        deal(alloc, &mut sim, dealing, all, 0)?;
-    }
-    let sim = run_in_stretches(rt, alloc, sim, dealing, stop, batch)?;
-    run_on(rt, sim, stop, batch, &Naps::none())
 }
 
 /// Runs to a stop, and shows a watch the shapes at the multiples of `every` up to it. The run is at its
@@ -115,8 +116,9 @@ fn run_watched<'a, X: Threads + Wait + Sync>(
     stop: u64,
     every: u64,
     batch: u32,
-) -> Result<(Sim<'a>, Option<Finding>), Cause>
+) -> Result<(Sim<'a>, Option<Finding>), Stopped<'a>>
     requires workers { 0 < workers sim.board }
+    requires dealt { AreDealt dealing 0 sim }
     requires opening { sim.board.stop ≡ 0 }
     requires stop { stop ≤ LATEST }
     requires some { 0 < every }
@@ -124,8 +126,9 @@ fn run_watched<'a, X: Threads + Wait + Sync>(
     ensures settled { IfOk result (λ left. IsSettled left.0) }
     ensures goes_on { IfOk result (λ left. GoesOn sim.entry left.0) }
     ensures stop { IfOk result (λ left. left.0.board.stop ≡ stop) }
-    ensures device { IsErrOf result cause.Device → ⊥ }
+    ensures dealt { IfOk result (λ left. (checkpoints : ℕ) × AreDealt dealing checkpoints left.0) }
     ensures found { IfOk result (λ left. left.1 ≡ finding sim.entry.case every (stop / every)) }
+    ensures stopped { IfErr result (λ why. HasStopped sim.entry why) }
 {
     let mut watch = Watch::new(alloc, every)?;
     let last = stop / every;

@@ -9,8 +9,9 @@ use Rattle.tw_sim.specs.Simulation.{IsLawful, times}
 use Rattle.tw_sim.proofs.Counts.{in_head, is_order, times-insert_all}
 use Rattle.tw_sim.proofs.Ordered.{all_counted}
 use Rattle.tw_sim.proofs.Rising.{AllSuit, suit-begin, suit-turns}
+use Rattle.tw_model.proofs.Lawful.{lawful}
 use Rattle.tw_model.proofs.Within.{suits_within}
-use Rattle.tw_seq.specs.Run.{IsBegun, Run, router_after, world}
+use Rattle.tw_seq.specs.Run.{IsBegun, IsNext, Run, router_after, world}
 use Rattle.tw_handlers.specs.Calls.{effect_at}
 use Rattle.tw_seq.proofs.Steps.{goes_on, pushed}
 
@@ -25,6 +26,11 @@ pub least_suits : (run : Run) (e : Event) (later : List Event) → IsLawful (sim
 least_suits run e later law h is =
     let m = simulation run.case in
     (all_suit run law h).pending e (subst (λ xs. 0 < times m e xs) (sym is) (in_head m law e later))
+
+-- it is for a router that is there
+pub next_home : (run : Run) (e : Event) → IsBegun run → IsNext run e → e.dst < run.case.net.nodes
+next_home run e begun next =
+    suits_within run.case.net e.dst e begun.case.net (least_suits run e next.0 (lawful run.case begun.case) begun next.1)
 
 -- what the least pending event sends
 abbrev pub sends_of : Run → Event → List Event

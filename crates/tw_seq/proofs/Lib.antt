@@ -6,6 +6,9 @@ pub mod Homes
 pub mod Next
 pub mod Fields
 pub mod Logged
+pub mod Noted
+pub mod Kept
+pub mod Resumed
 pub mod Back
 pub mod Going
 pub mod Gathered

@@ -5,7 +5,7 @@ use Rattle.std.proofs.lemmas.Bool.{and_from, le-leb}
 use Rattle.tw_event.specs.declared.event.Event.{Event}
 use Rattle.tw_model.specs.declared.limits.TheConstants.{LATEST, MOST_LINKS}
 use Rattle.tw_model.specs.Effect.{fits, suits}
-use Rattle.tw_model.specs.Quiet.{last_change}
+use Rattle.tw_model.specs.Quiet.{changes, last_change}
 use Rattle.tw_model.specs.State.{Router}
 use Rattle.tw_model.proofs.Lawful.{lawful}
 use Rattle.tw_model.proofs.Within.{suits_within}
@@ -75,6 +75,11 @@ module _ {run : Run} {routers : List Router} {e : Event} (ready : IsReady run ro
   next_routers =
       ap (λ r. set routers e.dst (after_event r e)) next_router
       ∙ (ap (λ rs. set rs e.dst (after_event (router_after run.case run.events e.dst) e)) ready.are ∙ set-routers run.case run.events e within)
+
+  -- whether the event changes a path
+  pub next_changes : (changed : Bool) → changed ≡ not ((receiver routers e).state.rib.0 == (after_event (receiver routers e) e).state.rib.0)
+      → changed ≡ changes run.case e (reverse run.events)
+  next_changes changed is = is ∙ ap (λ r. not (r.state.rib.0 == (after_event r e).state.rib.0)) next_router
 
   -- the last change afterwards
   pub next_change : (changed : Bool) → changed ≡ not ((receiver routers e).state.rib.0 == (after_event (receiver routers e) e).state.rib.0)

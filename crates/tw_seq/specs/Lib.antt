@@ -3,3 +3,4 @@ pub mod Run
 pub mod Outcome
 pub mod Thread
 pub mod Logged
+pub mod Traced

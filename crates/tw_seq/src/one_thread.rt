@@ -1,13 +1,16 @@
 //! A run that keeps no list of its events (docs/DECISIONS.md, 'One thread': its model computes them).
 
-ghost use Rattle.std.specs.Prelude.{◌≡◌, ◌≤◌, ◌<◌, [], max, IfOk, OnErr, OnOk, IsErrOf};
+ghost use Rattle.std.specs.Prelude.{◌≡◌, ◌≤◌, ◌<◌, [], max, reverse, IfOk, OnErr, OnOk, IsErrOf};
 ghost use Rattle.std.specs.Bool.{OnFalse, OnTrue};
+ghost use Rattle.tw_model.specs.Case.{simulation};
+ghost use Rattle.tw_model.specs.Quiet.{changes, last_change as last_change_of};
 ghost use Rattle.tw_model.specs.Summary.{summary_of};
 ghost use Rattle.tw_model.specs.declared.limits.TheConstants.{LATEST};
 ghost use Rattle.tw_model.specs.declared.memory.OrMemory.TheVariants as or_memory;
 ghost use Rattle.tw_handlers.specs.Calls.{counter_full};
 ghost use Rattle.tw_seq.specs.Outcome.{least, outcome_of};
-ghost use Rattle.tw_seq.specs.Run.{IsBegun, IsNext, IsNextRun, IsStuck, NoneBefore, opening_run, router_after};
+ghost use Rattle.tw_seq.specs.Run.{IsBegun, IsNext, IsNextRun, IsStuck, NoneBefore, complete_run, opening_run, router_after, routers_after};
+ghost use Rattle.tw_sim.specs.Seq.{log, rest};
 
 use crate::routers::{gather, opening_routers, router_ends};
 use crate::running::Running;
@@ -65,6 +68,66 @@ impl<'a> OneThread<'a> {
             sends: SmallVec::new(alloc),
             last_change: 0,
         })
+    }
+
+    /// The run of this case to a stop, which goes on with its routers and pending events as that run left
+    /// them, and with the time of its last event that changed a path, in ticks, or 0. A stop is at most
+    /// 1,000,000,000.
+    pub fn resume(
+        case: &'a Case,
+        stop: u64,
+        routers: Vec<Router<'a>>,
+        pending: EventList,
+        last_change: u64,
+    ) -> OneThread<'a>
+        requires stop { stop ≤ LATEST }
+        requires routers { routers.items ≡ routers_after case.now (complete_run case.now stop).events }
+        requires pending { pending.events ≡ rest (simulation case.now) stop }
+        requires homes { pending.routers ≡ case.now.net.nodes }
+        requires change { last_change ≡ last_change_of case.now (log (simulation case.now) stop) }
+        ensures value { result ≡ complete_run case.now stop }
+        ensures begun { IsBegun result }
+    {
+        // What a case keeps is told by a read of it.
+        let _ = case.instance();
+        let alloc = *routers.allocator();
+        OneThread {
+            case,
+            stop,
+            routers,
+            pending,
+            sends: SmallVec::new(alloc),
+            last_change,
+        }
+    }
+
+    /// The case that runs.
+    pub fn case(&self) -> &'a Case
+        ensures value { result.now ≡ self.now.case }
+        ensures begun { IsBegun self.now }
+    {
+        self.case
+    }
+
+    /// The greatest stop that was asked for, in ticks.
+    pub fn stop(&self) -> u64
+        ensures value { result ≡ self.now.stop }
+        ensures most { result ≤ LATEST }
+        ensures begun { IsBegun self.now }
+    {
+        self.stop
+    }
+
+    /// The routers by rising number, the pending events, and the time of the last event that changed a
+    /// path, in ticks, or 0.
+    pub fn into_parts(self) -> (Vec<Router<'a>>, EventList, u64)
+        ensures routers { result.0.items ≡ routers_after self.entry.case self.entry.events }
+        ensures pending { result.1.events ≡ self.entry.pending }
+        ensures homes { result.1.routers ≡ self.entry.case.net.nodes }
+        ensures change { result.2 ≡ last_change_of self.entry.case (reverse self.entry.events) }
+        ensures begun { IsBegun self.entry }
+    {
+        (self.routers, self.pending, self.last_change)
     }
 
     /// A router as the events handled left it.
@@ -137,11 +200,13 @@ impl<'a> OneThread<'a> {
         event.time < self.stop
     }
 
-    /// Handles the least pending event. An error leaves the run as it was.
+    /// Handles the least pending event, and tells whether that changed a path. An error leaves the run as
+    /// it was.
     #[inline(always)]
-    pub(crate) fn handle_next(&mut self, event: &Event) -> Result<(), OrMemory<CounterFull>>
+    pub(crate) fn handle_next(&mut self, event: &Event) -> Result<bool, OrMemory<CounterFull>>
         requires { IsNext self.old event.now }
         ensures ok { OnOk result (IsNextRun self.old self.new) }
+        ensures changed { IfOk result (λ changed. changed ≡ changes self.old.case event.now (reverse self.old.events)) }
         ensures err { OnErr result (self.new ≡ self.old) }
         ensures begun { IsBegun self.new }
         ensures full { IsErrOf result (or_memory.Fault counter_full) → IsStuck self.old }
@@ -158,7 +223,7 @@ impl<'a> OneThread<'a> {
         if note.changed {
             self.last_change = event.time;
         }
-        Ok(())
+        Ok(note.changed)
     }
 
     /// Why the least pending event is not handled where there is no memory for that: a full counter, or

@@ -1,4 +1,4 @@
-//! What both kinds of run do.
+//! What every kind of run does.
 
 ghost use Rattle.std.specs.Prelude.{◌≡◌, ◌≤◌, max, IfOk, OnOk, IsErrOf};
 ghost use Rattle.tw_model.specs.declared.limits.TheConstants.{LATEST};

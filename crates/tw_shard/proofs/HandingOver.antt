@@ -13,6 +13,8 @@ use Rattle.tw_queue.proofs.Events.{event_law}
 use Rattle.tw_queue.proofs.Ordered.{all-filter}
 use Rattle.tw_sim.proofs.Ordered.{rising-insert_all}
 use Rattle.tw_sim.specs.Ordered.{insert_all}
+use Rattle.tw_sim.specs.Rising.{IsRising}
+use Rattle.tw_shard.specs.Cut.{IsGone}
 use Rattle.tw_shard.specs.Inside.{HasHandledTo}
 use Rattle.tw_shard.specs.Moving.{HasCome, HasLeft}
 use Rattle.tw_shard.specs.Roster.{AreApart, IsWithout, Stands, has, place_in}
@@ -127,8 +129,10 @@ module _ (s : Shard) (r : ℕ) (whole : IsWhole s) (mine : owns s r ≡ true) (r
     terms = record { case = refl; worker = refl; workers = refl; keeps = refl; cancel = refl };
   }
 
-  pub whole_left : IsWhole after_leaving
-  whole_left = record {
+  -- with whatever waits and is held, the shard stays whole
+  whole_with : (pending kept held : List Event) → AllByRecursion (λ e. suits s.case.net e.dst e ≡ true) pending → IsRising event_before event_same held
+      → IsWhole (record s { routers = rs; timelines = ts; pending = pending; kept = kept; held = held })
+  whole_with pending kept held suit rising = record {
     case = whole.case;
     worker = whole.worker;
     apart = apart_without s.routers rs (place s r) r whole.apart there routers;
@@ -145,13 +149,32 @@ module _ (s : Shard) (r : ℕ) (whole : IsWhole s) (mine : owns s r ≡ true) (r
           case = ap (λ t. t.case) line.1 ∙ at.case;
           keeps = ap (λ t. t.keeps) line.1 ∙ at.keeps;
         };
-    pending = all-filter event_before event_same (λ e. suits s.case.net e.dst e ≡ true) (λ e. not (e.dst == r)) s.pending whole.pending;
-    held = rising_part s.case whole.case (λ e. not (e.src == r)) s.held whole.held;
+    pending = suit;
+    held = rising;
   }
+
+  pub whole_left : IsWhole after_leaving
+  whole_left =
+      whole_with (for_others r s.pending) (for_others r s.kept) (sent_by_others r s.held)
+      (all-filter event_before event_same (λ e. suits s.case.net e.dst e ≡ true) (λ e. not (e.dst == r)) s.pending whole.pending)
+      (rising_part s.case whole.case (λ e. not (e.src == r)) s.held whole.held)
 
   pub latest_left : (time : ℕ) → HasHandledTo time s → HasHandledTo time after_leaving
   latest_left time all q ours =
       subst (λ (t : Timeline). AllByRecursion (λ (e : Event). e.time ≤ time) (history t)) (sym (same_line q ours).1) (all q (owned_before q ours))
+
+  -- where what waits for it stays
+  abbrev pub after_taking : Shard
+  after_taking = record s { routers = rs; timelines = ts }
+
+  pub is_gone : IsGone r s after_taking
+  is_gone = record { routers = has_left.routers; timelines = has_left.timelines; rest = refl }
+
+  pub whole_taken : IsWhole after_taking
+  whole_taken = whole_with s.pending s.kept s.held whole.pending whole.held
+
+  pub latest_taken : (time : ℕ) → HasHandledTo time s → HasHandledTo time after_taking
+  latest_taken time all q ours = latest_left time all q ours
 
 -- ---- the shard to which it comes
 

@@ -21,3 +21,5 @@ pub mod Shares
 pub mod Steps
 pub mod Walks
 pub mod Found
+pub mod Laid
+pub mod Cuts

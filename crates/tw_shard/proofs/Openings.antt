@@ -1,14 +1,14 @@
 -- A shard as it begins.
-use Rattle.std.proofs.Common.{◌≡◌, ℕ, zero, suc, ◌<◌, ◌≤◌, ◌==◌, ◌&&◌, Bool, true, false, nat_lt, List, [], ◌∷◌, ap, sym, ◌∙◌, refl, subst, inl, inr, arith, if◌then◌else◌}
-use Rattle.std.proofs.Common.{Some, filter, get_or, length, map, slice_get}
+use Rattle.std.proofs.Common.{◌≡◌, ℕ, ◌<◌, ◌==◌, ◌&&◌, Bool, true, false, nat_lt, List, [], ◌∷◌, ap, sym, ◌∙◌, refl, subst, inl, inr, arith, if◌then◌else◌}
+use Rattle.std.proofs.Common.{filter, length, map}
 use Rattle.std.specs.List.{AllByRecursion, range_with_len}
 use Rattle.std.proofs.Math.Path.{fun_ext}
 use Rattle.std.proofs.lemmas.Bool.{cases_Bool, lt-ltb}
-use Rattle.std.proofs.lemmas.List.{length-map}
 use Rattle.tw_core.proofs.Sums.{all_map}
 use Rattle.tw_core.specs.declared.limits.TheConstants.{OPENING_ROOM}
 use Rattle.tw_event.specs.declared.event.Event.{Event}
 use Rattle.tw_event.specs.Order.{event_before, event_same}
+use Rattle.tw_shard.proofs.Laid.{IsLaid, laid, latest_laid, whole_laid}
 use Rattle.tw_model.specs.Case.{Case, IsCase, opening_events, simulation}
 use Rattle.tw_model.specs.Effect.{suits}
 use Rattle.tw_model.proofs.Lawful.{lawful}
@@ -16,13 +16,11 @@ use Rattle.tw_model.proofs.Within.{suits_within}
 use Rattle.tw_queue.proofs.Ordered.{all-filter}
 use Rattle.tw_shard.specs.Inside.{HasHandledTo}
 use Rattle.tw_shard.specs.Roster.{AreApart, Stands, has}
-use Rattle.tw_shard.specs.Shard.{IsOpeningBy, IsWhole, Shard, core, no_timeline, opening_core_by, owns, place, routers, timeline}
-use Rattle.tw_shard.proofs.Rosters.{has_own, stands}
+use Rattle.tw_shard.specs.Shard.{IsOpeningBy, IsWhole, Shard, core, opening_core_by, owns, timeline}
+use Rattle.tw_shard.proofs.Rosters.{has_own}
 use Rattle.tw_shard.specs.Timeline.{Timeline, history, opening_timeline}
-use Rattle.tw_shard.proofs.Shares.{listed}
 use Rattle.tw_sim.specs.Ordered.{insert, insert_all}
 use Rattle.tw_sim.proofs.Counts.{is_order}
-use Rattle.tw_sim.specs.Rising.{IsRising}
 use Rattle.tw_sim.proofs.Ordered.{all-insert, all_counted}
 
 -- each opening event suits its receiver
@@ -44,14 +42,8 @@ pub all_inserted : (P : Event → Type 0) (events pending : List Event) → AllB
 all_inserted P [] pending new old = old
 all_inserted P (e ∷ events) pending new old = all_inserted P events (insert event_before e pending) new.1 (all-insert event_before P e pending new.0 old)
 
--- what is read of an element that stands there
-read_there : {A B : Type 0} (f : A → B) (xs : List A) (k : ℕ) (x : A) (d : B) → slice_get xs k ≡ Some x → (k < length (map f xs)) × (get_or (map f xs) k d ≡ f x)
-read_there f [] k x d there = cc there
-read_there f (y ∷ xs) zero x d there = (omega arith, (let same : y ≡ x = cc there in ap f same))
-read_there f (y ∷ xs) (suc k) x d there = let more = read_there f xs k x d there in (let within = more.0 in omega arith, more.1)
-
 -- events of the same routers are the same
-same_filter : (p q : ℕ → Bool) (events : List Event) → AllByRecursion (λ e. p e.dst ≡ q e.dst) events → filter (λ e. p e.dst) events ≡ filter (λ e. q e.dst) events
+pub same_filter : (p q : ℕ → Bool) (events : List Event) → AllByRecursion (λ e. p e.dst ≡ q e.dst) events → filter (λ e. p e.dst) events ≡ filter (λ e. q e.dst) events
 same_filter p q [] all = refl
 same_filter p q (e ∷ events) all =
     let more = same_filter p q events all.1 in
@@ -59,6 +51,10 @@ same_filter p q (e ∷ events) all =
       | inl there ↦ (let here : p e.dst ≡ true = all.0 ∙ there in rw (here, there) (ap (λ es. e ∷ es) more))
       | inr other ↦ (let none : p e.dst ≡ false = all.0 ∙ other in rw (none, other) more)
     ]
+
+-- a list of the routers of one worker has these
+pub owned_by : (rs : List ℕ) (who : ℕ → ℕ) (k nodes : ℕ) → rs ≡ filter (λ r. who r == k) (range_with_len 0 nodes) → (r : ℕ) → has rs r ≡ (nat_lt r nodes && (who r == k))
+owned_by rs who k nodes order r = ap (λ rs. has rs r) order ∙ has_own (λ r. who r == k) nodes r
 
 -- a shard with its routers as they begin, the opening events for them, and nothing else
 pub record IsBegun (s : Shard) : Type 0 where
@@ -74,15 +70,25 @@ pub record IsBegun (s : Shard) : Type 0 where
   pub bound : s.bound ≡ 0
 
 module _ (s : Shard) (is : IsBegun s) where
-  -- there is a place for each of its routers, with that router as it begins
-  there : (r : ℕ) → owns s r ≡ true → (place s r < length s.timelines) × (timeline s r ≡ opening_timeline s.case s.keeps r)
-  there r mine =
-      subst (λ ts. (place s r < length ts) × (get_or ts (place s r) no_timeline ≡ opening_timeline s.case s.keeps r)) (sym is.timelines)
-      (read_there (opening_timeline s.case s.keeps) (routers s) (place s r) r no_timeline (listed s r mine))
+  laid_begun : IsLaid (opening_timeline s.case s.keeps) s
+  laid_begun = record {
+    case = is.case;
+    worker = is.worker;
+    known = is.known;
+    apart = is.apart;
+    timelines = is.timelines;
+    lines = λ r. record { net = refl; node = refl; done = omega arith; case = refl; keeps = refl };
+    pending =
+        let P = λ (e : Event). suits s.case.net e.dst e ≡ true in
+        let own = λ (e : Event). owns s e.dst in
+        subst (AllByRecursion P) (sym is.pending)
+        (all_inserted P (filter own (opening_events s.case.scenes)) [] (all-filter event_before event_same P own (opening_events s.case.scenes) (opening_suits s.case is.case)) tt);
+    held = is.held;
+  }
 
-  -- each of them is as it begins
+  -- each of its routers is as it begins
   pub opened : (r : ℕ) → owns s r ≡ true → timeline s r ≡ opening_timeline s.case s.keeps r
-  opened r mine = (there r mine).1
+  opened r mine = laid (opening_timeline s.case s.keeps) s laid_begun r mine
 
   -- what is read of each router is what is there where there is none
   read_opened : {A : Type 0} (read : Timeline → A) (none : A) → ((r : ℕ) → read (opening_timeline s.case s.keeps r) ≡ none)
@@ -94,36 +100,16 @@ module _ (s : Shard) (is : IsBegun s) where
       ])
 
   pub whole_begun : IsWhole s
-  whole_begun = record {
-    case = is.case;
-    worker = is.worker;
-    apart = is.apart;
-    long = ap (λ ts. length ts) is.timelines ∙ length-map s.routers (opening_timeline s.case s.keeps);
-    routers = λ r mine. record {
-      known = is.known (place s r) r (stands s.routers r mine);
-      within = (there r mine).0;
-      net = ap (λ t. t.net) (opened r mine);
-      node = ap (λ t. t.node) (opened r mine);
-      done = let done = ap (λ t. t.done) (opened r mine) in omega arith;
-      case = ap (λ t. t.case) (opened r mine);
-      keeps = ap (λ t. t.keeps) (opened r mine);
-    };
-    pending =
-        let P = λ (e : Event). suits s.case.net e.dst e ≡ true in
-        let own = λ (e : Event). owns s e.dst in
-        subst (AllByRecursion P) (sym is.pending)
-        (all_inserted P (filter own (opening_events s.case.scenes)) [] (all-filter event_before event_same P own (opening_events s.case.scenes) (opening_suits s.case is.case)) tt);
-    held = subst (IsRising event_before event_same) (sym is.held) tt;
-  }
+  whole_begun = whole_laid (opening_timeline s.case s.keeps) s laid_begun
 
   -- and none has handled anything
   pub latest_begun : HasHandledTo 0 s
-  latest_begun r mine = subst (λ (t : Timeline). AllByRecursion (λ (e : Event). e.time ≤ 0) (history t)) (sym (opened r mine)) tt
+  latest_begun = latest_laid (opening_timeline s.case s.keeps) s laid_begun 0 (λ r. tt)
 
   -- the routers are the worker's
   own_by : (who : ℕ → ℕ) → s.routers ≡ filter (λ r. who r == s.worker) (range_with_len 0 s.case.net.nodes)
       → (r : ℕ) → owns s r ≡ (nat_lt r s.case.net.nodes && (who r == s.worker))
-  own_by who order r = ap (λ rs. has rs r) order ∙ has_own (λ r. who r == s.worker) s.case.net.nodes r
+  own_by who order r = owned_by s.routers who s.worker s.case.net.nodes order r
 
   -- as a machine of its own routers it begins
   core_begun : (who : ℕ → ℕ) → s.routers ≡ filter (λ r. who r == s.worker) (range_with_len 0 s.case.net.nodes)

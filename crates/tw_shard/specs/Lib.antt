@@ -8,3 +8,5 @@ pub mod Roster
 pub mod Shard
 pub mod Timeline
 pub mod Shards
+pub mod Cut
+pub mod Vacant

@@ -14,11 +14,13 @@ mod past;
 mod receive;
 mod rejection;
 mod roster;
+mod router_at;
 mod shard;
 pub mod shards;
 mod timeline;
 
 pub use rejection::{Rejection, Returned};
-pub use shard::Shard;
+pub use router_at::RouterAt;
+pub use shard::{Shard, VacantShard};
 pub use tw_core::Refusal;
 pub use tw_model::OrMemory;

@@ -50,6 +50,37 @@ impl<'a> Past<'a> {
         }
     }
 
+    /// What this router of a case commits of its run before a time: its events, the oldest first, where they are
+    /// kept, and the newest of them.
+    pub(crate) fn at(
+        case: &'a Case,
+        node: u32,
+        keeps: bool,
+        events: Vec<Event>,
+        last: Option<Event>,
+        time: u64,
+    ) -> Past<'a>
+        requires kept { keeps ≡ true → events.items ≡ reverse (own_run case.now node time) }
+        requires newest { last ≡ slice_get (own_run case.now node time) 0 }
+        ensures { result ≡ record { case = case.now; node = node; keeps = keeps; events = own_run case.now node time; done = time } }
+    {
+        Past {
+            case,
+            node,
+            keeps,
+            events,
+            last,
+            done: time,
+        }
+    }
+
+    /// They themselves, the oldest first, where they are kept.
+    pub(crate) fn into_events(self) -> Vec<Event>
+        ensures { self.entry.keeps ≡ true → result.items ≡ reverse self.entry.events }
+    {
+        self.events
+    }
+
     /// The bound at the latest commit.
     pub(crate) fn done(&self) -> u64
         ensures { result ≡ self.now.done }

@@ -21,9 +21,11 @@ ghost use Rattle.tw_shard.specs.Timeline.{history, router_of, sends_after, signe
 
 mod commit;
 mod least;
+mod leaving;
 mod moving;
 mod open;
 mod release;
+mod vacant;
 mod widen;
 
 use crate::roster::Roster;
@@ -40,6 +42,7 @@ use tw_model::OrMemory;
 use tw_queue::{HeldSends, Pending};
 use tw_router::Router;
 use tw_sim::{Cancel, Signed};
+pub use vacant::VacantShard;
 
 /// One worker's routers, which run ahead of the others and are rolled back.
 #[derive(Drop)]

@@ -1,8 +1,9 @@
 //! All shards of a case, by rising worker: what is read of its routers, each at the shard that has it.
-ghost use Rattle.std.specs.Prelude.{◌≡◌, ◌<◌, ◌++◌, ℕ, length, reverse, slice_index_or, take, true, IfOk, OnOk};
+ghost use Rattle.std.specs.Prelude.{◌≡◌, ◌↔◌, ◌<◌, ◌++◌, ℕ, length, reverse, slice_index_or, take, true, IfOk, IsTrue, OnOk};
 ghost use Rattle.std.specs.List.{flat_map, range_with_len};
 ghost use Rattle.tw_core.specs.Machine.{committed};
 ghost use Rattle.tw_model.specs.Case.{IsCase, simulation};
+ghost use Rattle.tw_shard.specs.Cut.{NoneAhead};
 ghost use Rattle.tw_shard.specs.Shard.{IsOpeningShard, core, no_shard, owns};
 ghost use Rattle.tw_shard.specs.Shards.{HaveAll, KeepAll, committed_of_all, ahead_of_all, ends_of_all, change_of_all, oldest_in, pending_of_all, place_for, shard_for};
 
@@ -120,6 +121,19 @@ pub fn last_change(case: &Case, shards: &[Shard<'_>]) -> u64
         last = last.max(shard_for(shards, router).last_change(router));
     }
     last
+}
+
+/// Whether no router of the case has an event that it can undo.
+pub fn is_none_ahead(case: &Case, shards: &[Shard<'_>]) -> bool
+    requires { HaveAll case.now shards.now }
+    ensures { IsTrue result ↔ NoneAhead case.now shards.now }
+{
+    for router in 0..case.instance().nodes() {
+        if !shard_for(shards, router).timeline(router).has_none_ahead() {
+            return false;
+        }
+    }
+    true
 }
 
 /// How each router of the case stands.

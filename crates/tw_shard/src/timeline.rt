@@ -18,6 +18,7 @@ ghost use Rattle.tw_sim.specs.Ordered.{insert_all, times};
 ghost use Rattle.tw_shard.specs.Timeline.{history, opening_timeline, router_of as router_of_timeline, sends_after, signed};
 
 mod commit;
+mod cut;
 
 use crate::ahead::Ahead;
 use crate::past::Past;

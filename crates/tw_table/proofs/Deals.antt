@@ -89,6 +89,7 @@ pub record IsDealt (Of : Pass Board View → Type 0) (n bound stop : ℕ) (owner
   pub workers : (view p).workers ≡ n
   pub stop_is : (view p).stop ≡ stop
   pub owners_are : (view p).owners ≡ owners
+  pub halted_is : (view p).halted ≡ halted
   pub left : (view p).shares ≡ drop k all
   pub dealt : map share_at seats ≡ take k all
   pub each : AllByRecursion (IsNew Of n bound stop owners halted) seats
@@ -113,6 +114,7 @@ deals_next Of n bound stop owners halted all k p q seats s is of_q of_s others f
   workers = ap (λ (v : View). v.workers) others ∙ is.workers;
   stop_is = ap (λ (v : View). v.stop) others ∙ is.stop_is;
   owners_are = ap (λ (v : View). v.owners) others ∙ is.owners_are;
+  halted_is = ap (λ (v : View). v.halted) others ∙ is.halted_is;
   left = ap (λ (v : View). v.shares) others ∙ (ap (drop 1) is.left ∙ sym (drop_more k all));
   dealt = map_append share_at seats (s ∷ [])
       ∙ (ap (λ l. l ++ share_at s ∷ []) is.dealt
@@ -140,9 +142,9 @@ pub new_halted : (Of : Pass Board View → Type 0) (n bound stop : ℕ) (owners 
     → AllByRecursion (λ s. halted_at s ≡ halted) seats
 new_halted Of n bound stop owners halted seats new = all_map (IsNew Of n bound stop owners halted) (λ s. halted_at s ≡ halted) (λ s is. is.halted_is) seats new
 
-pub deals_none : (Of : Pass Board View → Type 0) (x : Board) (halted : Bool) (all : List Share) (p : Pass Board View) (seats : List Seat) → seats ≡ [] → Of p → view p ≡ opened all x
-    → IsDealt Of (workers x) x.bound x.stop x.owners halted all 0 p seats
-deals_none Of x halted all p seats none of_p told = record {
+pub deals_none : (Of : Pass Board View → Type 0) (x : Board) (all : List Share) (p : Pass Board View) (seats : List Seat) → seats ≡ [] → Of p → view p ≡ opened all x
+    → IsDealt Of (workers x) x.bound x.stop x.owners x.halted all 0 p seats
+deals_none Of x all p seats none of_p told = record {
   pass = of_p;
   begun = ap (λ (v : View). v.opening) told;
   empty = ap (λ (v : View). v.held) told;
@@ -150,7 +152,8 @@ deals_none Of x halted all p seats none of_p told = record {
   workers = ap (λ (v : View). v.workers) told;
   stop_is = ap (λ (v : View). v.stop) told;
   owners_are = ap (λ (v : View). v.owners) told;
+  halted_is = ap (λ (v : View). v.halted) told;
   left = ap (λ (v : View). v.shares) told ∙ sym (drop_none all);
   dealt = ap (map share_at) none ∙ sym (take_none all);
-  each = subst (AllByRecursion (IsNew Of (workers x) x.bound x.stop x.owners halted)) (sym none) tt;
+  each = subst (AllByRecursion (IsNew Of (workers x) x.bound x.stop x.owners x.halted)) (sym none) tt;
 }

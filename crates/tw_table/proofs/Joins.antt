@@ -1,5 +1,5 @@
 -- Seats that become one.
-use Rattle.std.proofs.Common.{◌≡◌, ℕ, ◌+◌, ◌<◌, ◌≤◌, false, List, [], ◌∷◌, ◌++◌, length, map, max, refl, ap, sym, ◌∙◌, subst, append_assoc, arith}
+use Rattle.std.proofs.Common.{◌≡◌, ℕ, ◌+◌, ◌<◌, ◌≤◌, ◌||◌, Bool, false, true, List, [], ◌∷◌, ◌++◌, length, map, max, refl, ap, sym, ◌∙◌, subst, append_assoc, arith}
 use Rattle.crossbeam_queue.specs.Passes.{IsPassOf, IsSamePass, Pass, view}
 use Rattle.std.proofs.lemmas.List.{length-append}
 use Rattle.std.specs.List.{AllByRecursion}
@@ -10,13 +10,17 @@ use Rattle.tw_table.proofs.Views.{nil_right}
 use Rattle.tw_table.specs.declared.rule.View.{View}
 use Rattle.tw_table.specs.declared.seat.Seat.{Seat}
 use Rattle.tw_table.specs.declared.table.Table.{Table}
-use Rattle.tw_table.specs.Seats.{IsSeatOf, bound_at, share_at, stop_at}
+use Rattle.tw_table.specs.Seats.{IsSeatOf, bound_at, halted_at, share_at, stop_at}
 use Rattle.tw_table.specs.Shares.{IsRuled, IsWhole, Share, no_share}
 use Rattle.tw_table.specs.Views.{IsMet, Knows, joined}
 
 no_more : {X : Type 0} (xs : List X) → length xs ≡ 0 → xs ≡ []
 no_more [] h = refl
 no_more (x ∷ xs) h = absurd (omega arith)
+
+or_true : (b : Bool) → (b || true) ≡ true
+or_true true = refl
+or_true false = refl
 
 -- the share of a seat is its only one
 pub only_share : (s : Seat) → (view s.pass).shares ≡ share_at s ∷ []
@@ -33,7 +37,9 @@ pub record IsJoined (t : Table) (all : List Seat) (p : Pass Board View) (left : 
   pub shares : (view p).shares ++ map share_at left ≡ map share_at all
   pub seats : AllByRecursion (IsSeatOf t) left
   pub len : length left ≡ n
-  -- it has seen the greatest bound that those have seen
+  -- it knows whether one of them has left the mark that halts the workers
+  pub halted : (b : Bool) → ((view p).halted ≡ true → b ≡ true) → AllByRecursion (λ s. halted_at s ≡ true → b ≡ true) left → AllByRecursion (λ s. halted_at s ≡ true → b ≡ true) all
+  -- and it has seen the greatest bound that those have seen
   pub seen : (b : ℕ) → (view p).seen ≤ b → AllByRecursion (λ s. bound_at s ≤ b) left → AllByRecursion (λ s. bound_at s ≤ b) all
 
 pub joins_first : (t : Table) (all : List Seat) (s : Seat) (left : List Seat) (n : ℕ) → all ≡ s ∷ left → length all ≡ n + 1 → AllByRecursion (IsSeatOf t) all
@@ -50,6 +56,7 @@ joins_first t all s left n is long seats =
       shares = ap (λ ss. ss ++ map share_at left) (only_share s) ∙ ap (map share_at) (sym is);
       seats = each.1;
       len = (let l = ap length is in omega arith);
+      halted = λ b h others. subst (AllByRecursion (λ u. halted_at u ≡ true → b ≡ true)) (sym is) ((λ told. h (s.waits.left ∙ told)), others);
       seen = λ b h others. subst (AllByRecursion (λ u. bound_at u ≤ b)) (sym is) ((let same = s.waits.seen in omega arith), others);
     }
 
@@ -69,6 +76,10 @@ joins_next t all p q s now left n m is less old same told =
           ∙ (ap (λ ss. (view p).shares ++ (ss ++ map share_at left)) (only_share s) ∙ (ap (λ l. (view p).shares ++ map share_at l) (sym is) ∙ old.shares)));
       seats = each.1;
       len = (let l = ap length is in let k = old.len in omega arith);
+      halted = λ b h others.
+          let either : (view q).halted ≡ ((view p).halted || (view s.pass).halted) = ap (λ (v : View). v.halted) told in
+          old.halted b (λ t. h (either ∙ ap (λ c. c || (view s.pass).halted) t))
+          (subst (AllByRecursion (λ u. halted_at u ≡ true → b ≡ true)) (sym is) ((λ t. h (either ∙ (ap (λ c. (view p).halted || c) (s.waits.left ∙ t) ∙ or_true (view p).halted))), others));
       seen = λ b h others.
           let both : max (view p).seen (view s.pass).seen ≤ b = subst (λ (n : ℕ). n ≤ b) (ap (λ (v : View). v.seen) told) h in
           let same = s.waits.seen in
@@ -78,6 +89,11 @@ joins_next t all p q s now left n m is less old same told =
 pub all_joined : (t : Table) (all : List Seat) (p : Pass Board View) (left : List Seat) → IsJoined t all p left 0 → (view p).shares ≡ map share_at all
 all_joined t all p [] is = sym (nil_right (view p).shares) ∙ is.shares
 all_joined t all p (s ∷ left) is = absurd (let l = is.len in omega arith)
+
+-- where one of them has left the mark that halts the workers, it knows
+pub all_halted : (t : Table) (all : List Seat) (p : Pass Board View) (left : List Seat) → IsJoined t all p left 0 → AllByRecursion (λ s. halted_at s ≡ true → (view p).halted ≡ true) all
+all_halted t all p [] is = is.halted (view p).halted (λ told. told) tt
+all_halted t all p (s ∷ left) is = absurd (let l = is.len in omega arith)
 
 -- none of them has seen a bound beyond the one that it has seen
 pub all_seen : (t : Table) (all : List Seat) (p : Pass Board View) (left : List Seat) → IsJoined t all p left 0 → AllByRecursion (λ s. bound_at s ≤ (view p).seen) all
@@ -104,6 +120,12 @@ closed_stop x t (s ∷ all) is seats = (seats.0.stop ∙ sym is, closed_stop x t
 pub closed_bound : (x : Board) (seen : ℕ) (all : List Seat) → seen ≤ x.bound → AllByRecursion (λ s. bound_at s ≤ seen) all → AllByRecursion (λ s. bound_at s ≤ x.bound) all
 closed_bound x seen [] le h = tt
 closed_bound x seen (s ∷ all) le h = ((let one : bound_at s ≤ seen = h.0 in omega arith), closed_bound x seen all le h.1)
+
+-- and it is halted where any of them has left it so
+pub closed_halted : (x : Board) (halted : Bool) (all : List Seat) → (halted ≡ true → x.halted ≡ true) → AllByRecursion (λ s. halted_at s ≡ true → halted ≡ true) all
+    → AllByRecursion (λ s. halted_at s ≡ true → x.halted ≡ true) all
+closed_halted x halted [] stays h = tt
+closed_halted x halted (s ∷ all) stays h = ((λ told. stays (h.0 told)), closed_halted x halted all stays h.1)
 
 -- the stop of a pass that stands for some workers is the exchange's
 pub met_stop : (x : Board) (v : View) (shares : List Share) (n : ℕ) → v.shares ≡ shares → length shares ≡ n → 0 < n → Knows x v → x.stop ≡ v.stop

@@ -1,5 +1,5 @@
 -- Each step at the table's queue keeps its rule.
-use Rattle.std.proofs.Common.{◌≡◌, ℕ, zero, suc, ◌<◌, ◌≤◌, false, true≢false, List, [], ◌∷◌, ◌++◌, drop, length, set, take, get_or, refl, ap, sym, ◌∙◌, subst, inl, inr, ⊎_elim, arith}
+use Rattle.std.proofs.Common.{◌≡◌, ℕ, zero, suc, ◌<◌, ◌≤◌, ◌||◌, Bool, false, true, true≢false, List, [], ◌∷◌, ◌++◌, drop, length, set, take, get_or, refl, ap, sym, ◌∙◌, subst, inl, inr, ⊎_elim, arith}
 use mathlib.Core.Option.{some, some-injective, some-ne-none}
 use lib.ListN.{get_elem?}
 use Rattle.crossbeam_queue.proofs.Lists.{at_set}
@@ -149,7 +149,7 @@ takes port v begun empty x items views (inr is) at =
             ∙ (nobody views port v w at (right_empty items (all_held views) rest) ∙ ap (λ b. b ∷ []) one);
         ruled = subst (IsRuled is.case is.board) (s.now ∙ sym (s.with w)) is.ruled;
         each = all_set (Knows is.board) views port w is.each
-            (record { begun = begun; seen = (let b = ap (λ (b : Board). b.bound) one in omega arith); workers = knows.workers; owners = knows.owners; stop = knows.stop });
+            (record { begun = begun; seen = (let b = ap (λ (b : Board). b.bound) one in omega arith); workers = knows.workers; owners = knows.owners; stop = knows.stop; halted = knows.halted });
       }),
       record {
         view = refl;
@@ -190,7 +190,7 @@ gives port v x y s t begun has mine board visited may items views room (inr is) 
     let same_owners : y.owners ≡ is.board.owners = visited.owners ∙ ap (λ (b : Board). b.owners) h.one in
     let same_stop : y.stop ≡ is.board.stop = visited.stop ∙ ap (λ (b : Board). b.stop) h.one in
     let weaker : (u : View) → Knows is.board u → Knows y u
-    = λ u k. record { begun = k.begun; seen = (let b = k.seen in omega arith); workers = λ l. k.workers l ∙ sym same; owners = λ l. k.owners l ∙ sym same_owners; stop = λ l. k.stop l ∙ sym same_stop } in (
+    = λ u k. record { begun = k.begun; seen = (let b = k.seen in omega arith); workers = λ l. k.workers l ∙ sym same; owners = λ l. k.owners l ∙ sym same_owners; stop = λ l. k.stop l ∙ sym same_stop; halted = λ t. visited.halted (ap (λ (b : Board). b.halted) h.one ∙ k.halted t) } in (
       w,
       inr (record {
         case = is.case;
@@ -198,7 +198,7 @@ gives port v x y s t begun has mine board visited may items views room (inr is) 
         one = ap (λ l. (l ++ y ∷ []) ++ all_held (set views port w)) h.items_empty ∙ ap (λ l. y ∷ l) (h.others w);
         ruled = subst (IsRuled is.case y) (sym (a.with w)) (any_order is.case y (t ∷ (a.front ++ a.rear)) (a.front ++ (t ∷ a.rear)) (to_middle a.front (t ∷ []) a.rear) new);
         each = all_set (Knows y) views port w (all_map (Knows is.board) (Knows y) weaker views is.each)
-            (record { begun = begun; seen = omega arith; workers = λ l. knows.workers one ∙ sym same; owners = λ l. knows.owners one ∙ sym same_owners; stop = λ l. knows.stop one ∙ sym same_stop });
+            (record { begun = begun; seen = omega arith; workers = λ l. knows.workers one ∙ sym same; owners = λ l. knows.owners one ∙ sym same_owners; stop = λ l. knows.stop one ∙ sym same_stop; halted = λ t. t });
       }),
       refl,
     )
@@ -219,7 +219,7 @@ lays_first port case x shares ruled items views room (inl none) at =
         board = x;
         one = ap (λ l. (l ++ x ∷ []) ++ all_held (set views port w)) none.0 ∙ ap (λ l. x ∷ all_held l) now;
         ruled = subst (IsRuled case x) (sym (ap all_shares now ∙ nil_right shares)) ruled;
-        each = subst (AllByRecursion (Knows x)) (sym now) (record { begun = refl; seen = omega arith; workers = λ l. refl; owners = λ l. refl; stop = λ l. refl }, tt);
+        each = subst (AllByRecursion (Knows x)) (sym now) (record { begun = refl; seen = omega arith; workers = λ l. refl; owners = λ l. refl; stop = λ l. refl; halted = λ t. t }, tt);
       }),
       refl,
     )
@@ -257,9 +257,14 @@ forks port v begun empty items views (inr is) at =
           (subst (IsRuled is.case is.board) s.now is.ruled));
       each = all_append (Knows is.board) (set views port l) (r ∷ [])
           (all_set (Knows is.board) views port l is.each
-          (record { begun = begun; seen = knows.seen; workers = λ n. knows.workers (fewer_left v.shares n); owners = λ n. knows.owners (fewer_left v.shares n); stop = λ n. knows.stop (fewer_left v.shares n) }))
-          (record { begun = begun; seen = knows.seen; workers = λ n. knows.workers (fewer_first v.shares n); owners = λ n. knows.owners (fewer_first v.shares n); stop = λ n. knows.stop (fewer_first v.shares n) }, tt);
+          (record { begun = begun; seen = knows.seen; workers = λ n. knows.workers (fewer_left v.shares n); owners = λ n. knows.owners (fewer_left v.shares n); stop = λ n. knows.stop (fewer_left v.shares n); halted = knows.halted }))
+          (record { begun = begun; seen = knows.seen; workers = λ n. knows.workers (fewer_first v.shares n); owners = λ n. knows.owners (fewer_first v.shares n); stop = λ n. knows.stop (fewer_first v.shares n); halted = knows.halted }, tt);
     })
+
+-- what follows from either mark
+either : {P : Type 0} (a b : Bool) → (a ≡ true → P) → (b ≡ true → P) → (a || b) ≡ true → P
+either true b f g h = f refl
+either false b f g h = g h
 
 -- a pass takes in another
 pub merges : (port : ℕ) (v : View) (other : ℕ) (u : View) → v.opening ≡ false → 0 < length v.shares → u.held ≡ [] → Merges Holds port v other u (joined v u) spent_view
@@ -297,6 +302,6 @@ merges port v other u begun more empty items views (inr is) at apart there =
       ruled = any_order is.case is.board (all_shares views) (all_shares two) same is.ruled;
       each = all_set (Knows is.board) once other spent_view
           (all_set (Knows is.board) views port w is.each
-          (record { begun = begun; seen = (let a = knows.seen in let b = also.seen in omega arith); workers = λ n. knows.workers more; owners = λ n. knows.owners more; stop = λ n. knows.stop more }))
-          (record { begun = refl; seen = omega arith; workers = λ n. absurd (omega arith); owners = λ n. absurd (omega arith); stop = λ n. absurd (omega arith) });
+          (record { begun = begun; seen = (let a = knows.seen in let b = also.seen in omega arith); workers = λ n. knows.workers more; owners = λ n. knows.owners more; stop = λ n. knows.stop more; halted = either v.halted u.halted knows.halted also.halted }))
+          (record { begun = refl; seen = omega arith; workers = λ n. absurd (omega arith); owners = λ n. absurd (omega arith); stop = λ n. absurd (omega arith); halted = λ t. absurd (true≢false (sym t)) });
     })

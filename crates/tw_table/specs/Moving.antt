@@ -17,7 +17,7 @@ pub record HasMoved (r : ℕ) (x : Board) (s t s2 t2 : Share) : Type 0 where
   pub came : HasCome r s.shard t.shard t2.shard
   pub mail_left : s2.mail ≡ filter (is_to_another r) s.mail
   pub mail_came : t2.mail ≡ (t.mail ++ filter (is_to r) s.mail) ++ filter (is_to r) (all_mail x)
-  -- what a visit did not take stays
+  -- what no visit has taken stays
   pub unsent_left : s2.unsent ≡ s.unsent
   pub unsent_came : t2.unsent ≡ t.unsent
 

@@ -42,6 +42,14 @@ bound_at s = s.bound
 abbrev pub halted_at : Seat → Bool
 halted_at s = s.halted
 
+-- whether it had been so the time before, so that the worker knew it when it took the exchange
+abbrev pub was_halted_at : Seat → Bool
+was_halted_at s = (view s.pass).was_halted
+
+-- what its worker had reported when it gave the exchange back last
+abbrev pub report_at : Seat → Option ℕ
+report_at s = (view s.pass).report
+
 -- the stop of the exchange
 abbrev pub stop_at : Seat → ℕ
 stop_at s = (view s.pass).stop
@@ -63,6 +71,10 @@ share_of h = slice_index_or (view h.pass).shares 0 no_share
 abbrev pub stop_of : Held → ℕ
 stop_of h = (view h.pass).stop
 
+-- whether it gave the exchange back halted the last time
+abbrev pub halted_of : Held → Bool
+halted_of h = (view h.pass).halted
+
 -- the exchange as it was taken
 abbrev pub taken_by : Held → Board
 taken_by h = taken (view h.pass)
@@ -76,4 +88,5 @@ pub record IsSameSeat (h k : Held) : Type 0 where
   pub share : share_of k ≡ share_of h
   pub taken : taken_by k ≡ taken_by h
   pub stop : stop_of k ≡ stop_of h
+  pub halted : halted_of k ≡ halted_of h
   pub table : (t : Table) → IsHeldOf t h → IsHeldOf t k

@@ -20,7 +20,7 @@ pub record Share : Type 0 where
   pub shard : Shard
   -- the mail that it was handed and that is not delivered
   pub mail : List (Signed Event)
-  -- what a visit did not take
+  -- what no visit has taken
   pub unsent : List (Signed Event)
 
 -- a shard and a hand

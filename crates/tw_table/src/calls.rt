@@ -1,14 +1,14 @@
 //! What workers do at a table.
-ghost use Rattle.std.specs.Prelude.{◌≡◌, ◌<◌, ◌≤◌, ◌↔◌, ℕ, Err, IfErr, IfOk, IsOk, IsTrue, OnErr, OnOk, false, List, [], ◌∷◌, drop, length, map, take, vec_len};
+ghost use Rattle.std.specs.Prelude.{◌≡◌, ◌<◌, ◌≤◌, ◌↔◌, ℕ, Err, IfErr, IfOk, IsOk, IsTrue, OnErr, OnOk, false, true, List, [], ◌∷◌, drop, length, map, take, vec_len};
 ghost use Rattle.std.specs.List.{AllByRecursion};
 ghost use Rattle.crossbeam_queue.specs.Fifo.{Learns, Pushes};
 ghost use Rattle.crossbeam_queue.specs.Passes.{IsPassOf, IsSamePass, ruled_capacity, view};
-ghost use Rattle.tw_exchange.specs.Board.{AreDealt, Board, IsBoard, NoneDealt, any_homeless, workers};
-ghost use Rattle.tw_exchange.specs.declared.visit.VisitFault.TheVariants.{NoRouter};
+ghost use Rattle.tw_exchange.specs.Board.{AreDealt, Board, IsBoard, NoneDealt, any_homeless, report_of, workers};
+ghost use Rattle.tw_exchange.specs.declared.visit.VisitFault.TheVariants.{Early, NoRouter, NoWorker};
 ghost use Rattle.tw_model.specs.Case.{Case};
 ghost use Rattle.tw_model.specs.declared.memory.OrMemory.TheVariants as or_memory;
 ghost use Rattle.tw_table.specs.declared.rule.View.{View as AView};
-ghost use Rattle.tw_table.specs.Seats.{IsHeldOf, IsSeatOf, bound_at, exchange_of, halted_at, owners_on, share_at, share_of, stop_at, stop_of, stop_on, taken_by, workers_at};
+ghost use Rattle.tw_table.specs.Seats.{IsHeldOf, IsSeatOf, bound_at, exchange_of, halted_at, halted_of, owners_on, report_at, share_at, share_of, stop_at, stop_of, stop_on, taken_by, was_halted_at, workers_at};
 ghost use Rattle.tw_table.specs.Shares.{IsRuled, IsWhole, MayBeGiven, Share as AShare, share, shares_of};
 ghost use Rattle.tw_table.specs.Views.{Holds, IsMet, Knows, first_view, given, opened, took};
 
@@ -86,7 +86,8 @@ impl Table {
     /// Takes the exchange, once it is on the table. The seat is one of this table.
     ///
     /// The exchange keeps the rule with what the seat's worker gave last and with what some others gave,
-    /// and its bound is not below the one that this seat saw last.
+    /// and its bound is not below the one that this seat saw last. Where all workers were told to take no further
+    /// turn when this seat's worker gave it back last, they still are.
     pub fn take<R: Wait>(&self, rt: &R, seat: Seat) -> Held
         requires seat { IsSeatOf self.now seat }
         ensures held { IsHeldOf self.now result }
@@ -95,10 +96,12 @@ impl Table {
         ensures met { IsMet (share_at seat ∷ []) (taken_by result) }
         ensures board { IsBoard (taken_by result) }
         ensures bound { bound_at seat ≤ (taken_by result).bound }
+        ensures halted { halted_at seat ≡ true → (taken_by result).halted ≡ true }
         ensures workers { workers (taken_by result) ≡ workers_at self.now }
         ensures owners { (taken_by result).owners ≡ owners_on self.now }
         ensures stop { (taken_by result).stop ≡ stop_at seat }
         ensures knows { stop_of result ≡ stop_at seat }
+        ensures left { halted_of result ≡ halted_at seat }
     {
         let Seat {
             worker,
@@ -126,6 +129,8 @@ impl Table {
         ensures share { share_at result ≡ share shard.now hand.now }
         ensures bound { bound_at result ≡ (exchange_of held).bound }
         ensures halted { halted_at result ≡ (exchange_of held).halted }
+        ensures was_halted { was_halted_at result ≡ halted_of held }
+        ensures report { report_at result ≡ report_of (share_of held).shard.worker (exchange_of held) }
         ensures stop { stop_at result ≡ stop_of held }
     {
         let Held {
@@ -157,6 +162,8 @@ impl Table {
     ) -> Result<(), OrMemory<VisitFault>>
         ensures dealt { OnOk result (AreDealt (owners_on self.now) (workers_at self.now) messages.now parcels.new) }
         ensures no_router { result ≡ Err (or_memory.Fault NoRouter) ↔ IsTrue (any_homeless (owners_on self.now) (workers_at self.now) messages.now) }
+        ensures no_worker { result ≡ Err (or_memory.Fault NoWorker) → ⊥ }
+        ensures early { result ≡ Err (or_memory.Fault Early) → ⊥ }
         ensures none { OnErr result (NoneDealt parcels.new) }
         ensures wanted { OnErr result (0 < length messages.now) }
     {
@@ -171,13 +178,15 @@ impl Table {
 
     /// Takes the exchange off the table for good, where all its seats are handed in: it and what the
     /// workers gave last are, put together, a good state of the machine. Its stop is the one that each seat
-    /// knows, and its bound is not below the one that any of them saw last. Else both come back.
+    /// knows, and its bound is not below the one that any of them saw last. It is halted where any of them left it
+    /// so. Else both come back.
     pub fn close<R: Wait>(rt: &R, table: Table, seats: Vec<Seat>) -> Result<Exchange, Missing>
         requires seats { AllByRecursion (IsSeatOf table) seats.items }
         ensures all { IsOk result ↔ (vec_len seats ≡ workers_at table) }
         ensures whole { IfOk result (λ x. IsWhole x (map share_at seats.items)) }
         ensures stop { IfOk result (λ x. AllByRecursion (λ s. stop_at s ≡ x.stop) seats.items) }
         ensures bound { IfOk result (λ x. AllByRecursion (λ s. bound_at s ≤ x.bound) seats.items) }
+        ensures halted { IfOk result (λ x. AllByRecursion (λ s. halted_at s ≡ true → x.halted ≡ true) seats.items) }
         ensures back { IfErr result (λ m. (m.table ≡ table) × (m.seats ≡ seats)) }
     {
         if seats.len() != table.workers as usize {
@@ -259,6 +268,7 @@ fn deal(queue: &Queue, pass: &mut Ticket, worker: u32, bound: u64, halted: bool)
     requires begun { (view pass.old).opening ≡ false }
     requires first { map (λ s. s.shard.worker) (take 1 (view pass.old).shares) ≡ worker ∷ [] }
     requires seen { (view pass.old).seen ≡ bound }
+    requires left { (view pass.old).halted ≡ halted }
     requires empty { (view pass.old).held ≡ [] }
     ensures queue { IsSamePass pass.old pass.new × IsPassOf queue.now result.pass }
     ensures others { view pass.new ≡ record (view pass.old) { shares = drop 1 (view pass.old).shares } }
@@ -286,6 +296,7 @@ fn join_all(table: &Table, seats: Vec<Seat>) -> Ticket
     ensures shares { (view result).shares ≡ map share_at seats.items }
     ensures stop { (view result).stop ≡ table.now.stop }
     ensures seen { AllByRecursion (λ s. bound_at s ≤ (view result).seen) seats.items }
+    ensures halted { AllByRecursion (λ s. halted_at s ≡ true → (view result).halted ≡ true) seats.items }
 {
     let mut seats = seats.into_iter();
     let Some(first) = seats.next() else {

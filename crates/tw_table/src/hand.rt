@@ -7,14 +7,14 @@ use std::alloc::{AllocError, Global};
 use tw_event::Event;
 use tw_sim::Signed;
 
-/// The messages that are in a worker's hand: mail that it was handed, and what a visit did not take.
+/// The messages that are in a worker's hand: mail that it was handed, and what no visit has taken.
 #[derive(Drop, Debug)]
 pub struct Hand {
     /// The mail, in the order handed out.
     pub mail: Vec<Signed<Event>>,
     /// How many of its messages are delivered, the first ones.
     pub next: usize,
-    /// What a refused visit gave back.
+    /// What its routers have sent and no visit has taken yet.
     pub out: Vec<Signed<Event>>,
 }
 
@@ -32,8 +32,8 @@ impl Hand {
         }
     }
 
-    /// The mail for one router that is not delivered goes to another hand, behind the mail there. What a visit
-    /// gave back stays. For want of memory nothing has changed; it cannot fail where there is room for all mail.
+    /// The mail for one router that is not delivered goes to another hand, behind the mail there. What no visit
+    /// has taken stays. For want of memory nothing has changed; it cannot fail where there is room for all mail.
     pub fn hand_over(&mut self, router: u32, to: &mut Hand) -> Result<(), AllocError>
         ensures came { OnOk result (waiting to.new ≡ waiting to.old ++ filter (is_to router) (waiting self.old)) }
         ensures left { OnOk result (waiting self.new ≡ filter (is_to_another router) (waiting self.old)) }

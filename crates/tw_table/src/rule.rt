@@ -48,6 +48,12 @@ pub struct View {
     pub seen: u64,
     /// The stop of the exchange, in ticks.
     pub stop: u64,
+    /// Whether it left the exchange with the mark that halts the workers.
+    pub halted: bool,
+    /// Whether it had left it so the time before.
+    pub was_halted: bool,
+    /// What its worker had reported when it left the exchange, in ticks.
+    pub report: Option<u64>,
     /// The exchange, as it was taken, while this pass has it.
     pub held: LinkedList<Laid>,
 }

@@ -15,7 +15,7 @@ pub struct Seat {
     pub(crate) bound: u64,
     pub(crate) halted: bool,
     pub(crate) pass: Ticket,
-    pub(crate) ghost waits: { IsWaiting worker bound (view pass) },
+    pub(crate) ghost waits: { IsWaiting worker bound halted (view pass) },
 }
 
 /// A worker's seat, with the exchange.

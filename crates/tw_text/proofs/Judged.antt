@@ -10,7 +10,7 @@ use Rattle.tw_model.specs.declared.rule.Rule.{Rule}
 use Rattle.tw_model.specs.Net.{Net, bare_net}
 use Rattle.tw_model.specs.PermittedPath.{PermittedPath}
 use Rattle.tw_model.specs.Rules.{IsNet, LinksFollow, PathsFollow, ScenesFollow, case_fault, link_fault, nodes_fault, path_fault, scene_fault}
-use Rattle.tw_instance.specs.Build.{IsRefusedAt, JudgedItem, NoneBreaks, judged_case, judged_instance, judged_links, judged_paths, judged_scenes}
+use Rattle.tw_instance.specs.Build.{IsRefusedAt, JudgedItem, LacksMemory, NoneBreaks, judged_case, judged_instance, judged_links, judged_paths, judged_scenes}
 use Rattle.tw_instance.specs.declared.refusal.At.{At}
 use Rattle.tw_instance.specs.declared.refusal.Item.{Item}
 use Rattle.tw_instance.specs.declared.refusal.Item.TheVariants.{Link, Nodes, Path, Scene as SceneItem, Start, Whole}
@@ -50,10 +50,18 @@ case_breaks_none c is =
     none_first Start None (scenes ++ (Whole, whole) ∷ []) refl
     (All-append (λ (item : JudgedItem). item.1 ≡ None) scenes ((Whole, whole) ∷ []) (scenes_break_none c.net 0 c.scenes is.scenes) last)
 
+lacks_memory : (item : Item) (at : At) → LacksMemory item at → at.fault ≡ Memory
+lacks_memory Nodes at h = rw h refl
+lacks_memory (Link n) at h = rw h refl
+lacks_memory (Path n) at h = rw h refl
+lacks_memory Start at h = rw h refl
+lacks_memory (SceneItem n) at h = rw h refl
+lacks_memory Whole at h = absurd h
+
 -- so a build of them is refused for want of memory alone
 pub only_memory : (items : List JudgedItem) (at : At) → NoneBreaks items → IsRefusedAt items at → at.fault ≡ Memory
 only_memory [] at none h = absurd h
-only_memory ((item, None) ∷ items) at none (inl e) = rw e refl
+only_memory ((item, None) ∷ items) at none (inl e) = lacks_memory item at e
 only_memory ((item, None) ∷ items) at none (inr h) = only_memory items at (All-tail (λ item. item.1 ≡ None) (item, None) items none) h
 only_memory ((item, Some r) ∷ items) at none h = absurd (let e = All-head (λ item. item.1 ≡ None) (item, Some r) items none in cc)
 

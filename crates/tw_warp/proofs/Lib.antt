@@ -4,6 +4,7 @@ pub mod Joined
 pub mod Moves
 pub mod Behind
 pub mod Turns
+pub mod Free
 pub mod Deliveries
 pub mod Bounds
 pub mod Walks

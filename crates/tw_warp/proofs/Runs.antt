@@ -65,6 +65,7 @@ module _ {S E : Type 0} (m : Simulation S E) where
       → IsBrokenOff m steps fault C B
   broken_off steps n C D B told fault d within far number same none left = record {
     count = n;
+    there = within;
     step = number;
     before = same ∙ far.told_is;
     left =

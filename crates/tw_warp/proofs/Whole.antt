@@ -272,6 +272,10 @@ module _ {S E : Type 0} (m : Simulation S E) where
       same_ahead : (C : Core E) (r : ℕ) → X.mine r ≡ true → count_ahead (whole X C) r ≡ count_ahead C r
       same_ahead C r own = rw own refl
 
+      -- what is held for one of the part's routers
+      pub held_at : (C : Core E) (r : ℕ) → X.mine r ≡ true → IsRising m C.held → from m r (whole X C).held ≡ from m r C.held
+      held_at C r own rising = from_part r X.held C.held (λ e here. apart.held e (ap X.mine (eqb-true (m.src e) r here) ∙ own)) rising
+
       same_room : (C : Core E) (r : ℕ) → X.mine r ≡ true → (whole X C).room r ≡ C.room r
       same_room C r own = rw own refl
 

@@ -1,5 +1,5 @@
 -- A list of steps that memory was refused to (own).
-use Rattle.std.specs.Prelude.{ℕ, ◌≡◌, ◌+◌, ◌⊎◌, List, slice_get, Some, take, Ok}
+use Rattle.std.specs.Prelude.{ℕ, ◌≡◌, ◌<◌, ◌+◌, ◌⊎◌, List, length, slice_get, Some, take, Ok}
 use Rattle.tw_core.specs.Machine.{Core}
 use Rattle.tw_core.specs.Steps.{answers, run, step as one_step}
 use Rattle.tw_sim.specs.declared.machine.Step.{Step}
@@ -11,6 +11,8 @@ use Rattle.tw_warp.specs.Warp.{IsInterrupted}
 pub record IsBrokenOff {S E : Type 0} (m : Simulation S E) (steps : List Step) (fault : RunFault) (C D : Core E) : Type 0 where
   -- how many steps were taken before it
   pub count : ℕ
+  -- there is a next one
+  pub there : count < length steps
   -- the fault names the next one, and has their answers
   pub step : fault.step ≡ count + 1
   pub before : fault.answers.items ≡ answers m C (take count steps)

@@ -1,10 +1,10 @@
 -- All routers of a case, dealt out to workers, as one machine (after Jefferson, Virtual Time, 1985).
-use Rattle.std.specs.Prelude.{ℕ, zero, suc, ◌≡◌, ◌<◌, ◌≤◌, ◌==◌, ◌&&◌, true, List, [], length, nat_lt, slice_get, slice_index_or, Option, Some, None}
-use Rattle.std.specs.List.{flat_map}
+use Rattle.std.specs.Prelude.{ℕ, zero, suc, ◌≡◌, ◌<◌, ◌≤◌, ◌==◌, ◌&&◌, true, List, [], length, nat_lt, slice_get, slice_index_or, take, Option, Some, None}
+use Rattle.std.specs.List.{AllByRecursion, flat_map}
 use Rattle.tw_core.specs.Good.{IsGood}
-use Rattle.tw_core.specs.Machine.{Core}
+use Rattle.tw_core.specs.Machine.{Core, count_ahead}
 use Rattle.tw_core.specs.Parts.{IsOwn}
-use Rattle.tw_core.specs.Steps.{next}
+use Rattle.tw_core.specs.Steps.{from, next}
 use Rattle.tw_event.specs.declared.event.Event.{Event}
 use Rattle.tw_event.specs.Order.{event_before, event_same}
 use Rattle.tw_model.specs.Case.{Case, IsCase, simulation}
@@ -126,3 +126,16 @@ module _ {S E : Type 0} (m : Simulation S E) where
   IsInterrupted Bound C D = ⊥
   IsInterrupted (Commit r) C D = D ≡ C
   IsInterrupted (Release r) C D = D ≡ C
+
+  -- the events that router r has handled and not committed, the newest first
+  abbrev pub uncommitted : Core E → ℕ → List E
+  uncommitted C r = take (count_ahead C r) (C.history r)
+
+  -- a step that takes no memory: the bound, a commit that commits nothing more, and a release where nothing is held for the router
+  abbrev pub TakesNone : Step → Core E → Type 0
+  TakesNone (Handle r) C = ⊥
+  TakesNone (Undo r) C = ⊥
+  TakesNone (Deliver place) C = ⊥
+  TakesNone Bound C = Unit {0}
+  TakesNone (Commit r) C = AllByRecursion (λ e. C.bound ≤ m.time e) (uncommitted C r)
+  TakesNone (Release r) C = from m r C.held ≡ []

@@ -3,11 +3,11 @@ ghost use Rattle.std.specs.Prelude.{◌≡◌, ◌≤◌, ◌<◌, ◌↔◌, �
 ghost use Rattle.tw_core.specs.declared.refusal.Refusal.{Refusal as ARefusal};
 ghost use Rattle.tw_model.specs.declared.limits.TheConstants.{LATEST};
 ghost use Rattle.tw_model.specs.declared.memory.OrMemory.TheVariants as or_memory;
-ghost use Rattle.tw_shard.specs.Shard.{Shard as AShard, IsSameShare, core};
+ghost use Rattle.tw_shard.specs.Shard.{Shard as AShard, IsSameShare, core, owns};
 ghost use Rattle.tw_core.specs.Steps.{after_arrival};
 ghost use Rattle.tw_model.specs.Case.{simulation};
 ghost use Rattle.tw_shard.specs.Arrival.{IsRolledBack, refusing};
-ghost use Rattle.tw_warp.specs.Calls.{calling};
+ghost use Rattle.tw_warp.specs.Calls.{FreeAt, calling};
 ghost use Rattle.tw_warp.specs.Warp.{behind, no_shard};
 
 use crate::flight::Flight;
@@ -49,6 +49,7 @@ pub(crate) fn call_on(
     ensures unsent { OnErr result (flight.new ≡ flight.old) }
     ensures outgoing { shard.new.outgoing ≡ shard.old.outgoing }
     ensures same { IsSameShare shard.old shard.new }
+    ensures free { (owns shard.old router ≡ true → FreeAt call shard.old router) → IsErrOf result or_memory.Memory → ⊥ }
 {
     flight.settle();
     shard.swap_outgoing(&mut flight.recent);
@@ -70,6 +71,7 @@ fn make(
     ensures refused { (f : ARefusal) → IsErrOf result (or_memory.Fault f) ↔ (calling call stop shard.old router ≡ Err f) }
     ensures err { OnErr result (shard.new ≡ shard.old) }
     ensures same { IsSameShare shard.old shard.new }
+    ensures free { (owns shard.old router ≡ true → FreeAt call shard.old router) → IsErrOf result or_memory.Memory → ⊥ }
 {
     match call {
         RouterCall::Handle => shard.handle_next(router, stop),

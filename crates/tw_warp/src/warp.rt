@@ -1,8 +1,8 @@
 //! The machine of all routers, step by step.
 
 ghost use Rattle.std.specs.List.{range_with_len};
-ghost use Rattle.std.specs.Prelude.{◌≡◌, ◌≤◌, ◌<◌, ◌↔◌, ℕ, Ok, Err, length, map, IsErrOf, IsOk, OnErr, OnOk, IfErr, IfOk, reverse};
-ghost use Rattle.tw_warp.specs.Calls.{outcome_of};
+ghost use Rattle.std.specs.Prelude.{◌≡◌, ◌≤◌, ◌<◌, ◌^◌, ◌↔◌, ℕ, Ok, Err, length, map, IsErrOf, IsOk, OnErr, OnOk, IfErr, IfOk, reverse};
+ghost use Rattle.tw_warp.specs.Calls.{CallTakesNone, outcome_of};
 ghost use Rattle.tw_warp.specs.Committed.{committed_events, count_ahead, end_at};
 ghost use Rattle.tw_warp.specs.Openings.{opening_machine};
 ghost use Rattle.tw_warp.specs.Runs.{IsBrokenOff};
@@ -17,7 +17,7 @@ ghost use Rattle.tw_sim.specs.declared.machine.Step.TheVariants as steps;
 ghost use Rattle.tw_sim.specs.Seq.{log};
 ghost use Rattle.tw_sim.specs.Simulation.{state};
 ghost use Rattle.tw_model.specs.declared.limits.TheConstants.{LATEST};
-ghost use Rattle.tw_warp.specs.Warp.{IsCutShort, IsInterrupted, IsSameMachine, IsShare, IsWarp, core, message_at, shard_at, worker_of};
+ghost use Rattle.tw_warp.specs.Warp.{IsCutShort, IsInterrupted, IsSameMachine, IsShare, IsWarp, TakesNone, core, message_at, shard_at, worker_of};
 
 use crate::calls::{RouterCall, call_on, deliver_on};
 use crate::flight::Flight;
@@ -141,13 +141,15 @@ impl<'a> Warp<'a> {
     /// `Release` takes back what is held for a router: antimessages go out, in the order of events, and it is held
     /// no more. It finds nothing where what undone events have sent is taken back at once.
     ///
-    /// Where memory is refused, nothing has changed; but where a message was delivered, some of the events
-    /// that its receiver has to undo for it may be undone, and the message is at its place still.
+    /// Where memory is refused, nothing has changed; but where a message was delivered, its receiver may have
+    /// undone some events that are not before it, and the message is at its place still. The bound takes
+    /// no memory, nor does a commit that commits nothing more, nor a release where nothing is held for the router.
     pub fn step(&mut self, step: Step) -> Result<(), OrMemory<Refusal>>
         ensures ok { OnOk result (core_step (simulation self.old.case) (core self.old) step ≡ Ok (core self.new)) }
         ensures refused { (f : ARefusal) → IsErrOf result (or_memory.Fault f) ↔ (core_step (simulation self.old.case) (core self.old) step ≡ Err f) }
         ensures unchanged { (f : ARefusal) → IsErrOf result (or_memory.Fault f) → self.new ≡ self.old }
         ensures memory { IsErrOf result or_memory.Memory → IsInterrupted (simulation self.old.case) step (core self.old) (core self.new) }
+        ensures free { TakesNone (simulation self.old.case) step (core self.old) → IsErrOf result or_memory.Memory → ⊥ }
         ensures same { IsSameMachine self.old self.new }
         ensures rising { self.old.bound ≤ self.new.bound }
         ensures seq { IsSeq (simulation self.new.case) (core self.new) }
@@ -208,6 +210,7 @@ impl<'a> Warp<'a> {
         ensures refused { (f : ARefusal) → IsErrOf result (or_memory.Fault f)
             ↔ (at_router (simulation self.old.case) router (Ok (with_room (simulation self.old.case) (core self.old) router)) ≡ Err f) }
         ensures err { OnErr result (self.new ≡ self.old) }
+        ensures free { (core self.old).room router < 2 ^ 63 → IsErrOf result or_memory.Memory → ⊥ }
         ensures bound { self.new.bound ≡ self.old.bound }
         ensures same { IsSameMachine self.old self.new }
         ensures seq { IsSeq (simulation self.new.case) (core self.new) }
@@ -362,6 +365,7 @@ impl<'a> Warp<'a> {
         ensures ok { OnOk result (outcome_of (simulation self.old.case) call router (core self.old) ≡ Ok (core self.new)) }
         ensures refused { (f : ARefusal) → IsErrOf result (or_memory.Fault f) ↔ (outcome_of (simulation self.old.case) call router (core self.old) ≡ Err f) }
         ensures err { OnErr result (self.new ≡ self.old) }
+        ensures free { CallTakesNone (simulation self.old.case) call router (core self.old) → IsErrOf result or_memory.Memory → ⊥ }
         ensures bound { self.new.bound ≡ self.old.bound }
         ensures same { IsSameMachine self.old self.new }
         ensures seq { IsSeq (simulation self.new.case) (core self.new) }

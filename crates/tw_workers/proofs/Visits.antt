@@ -1,12 +1,14 @@
 -- What a worker may give back to the table: after a visit, and without one.
-use Rattle.std.proofs.Common.{◌≡◌, ℕ, ◌<◌, ◌≤◌, max, min, nat_lt, not, false, List, [], ◌∷◌, ◌++◌, Option, None, Some, IfSome, map, slice_get, refl, ap, sym, ◌∙◌, subst, arith}
+use Rattle.std.proofs.Common.{◌≡◌, ℕ, ◌<◌, ◌≤◌, max, min, nat_lt, not, false, IsTrue, List, [], ◌∷◌, ◌++◌, Option, None, Some, IfSome, OnOk, Result, Ok, Err, map, slice_get, refl, ap, sym, ◌∙◌, subst, arith}
 use Rattle.std.proofs.lemmas.Bool.{lt-ltb, or_from}
+use Rattle.std.proofs.lemmas.List.{get_or-set_same}
 use Rattle.std.specs.List.{list_any, reduce}
 use Rattle.std.specs.Option.{option_map_or}
 use Rattle.tw_event.specs.declared.event.Event.{Event}
 use Rattle.tw_exchange.specs.declared.visit.VisitFault.{VisitFault}
 use Rattle.tw_exchange.specs.declared.visit.VisitFault.TheVariants.{Early, NoRouter, NoWorker}
-use Rattle.tw_exchange.specs.Board.{AreDealt, Board, IsBoard, any_homeless, handed, is_early, is_homeless, visited, who, worker_for, workers}
+use Rattle.tw_exchange.specs.Board.{least_report as least_time_of}
+use Rattle.tw_exchange.specs.Board.{AreDealt, Board, IsBoard, any_homeless, handed, is_early, is_homeless, report_of, visited, who, worker_for, workers}
 use Rattle.tw_model.proofs.Lawful.{lawful}
 use Rattle.tw_model.proofs.Within.{suits_within}
 use Rattle.tw_model.specs.declared.memory.OrMemory.{OrMemory}
@@ -19,6 +21,7 @@ use Rattle.tw_rule.specs.Board as rule
 use Rattle.tw_rule.specs.Board.{IsVisit, least_report, times_among}
 use Rattle.tw_rule.specs.Place.{IsFrom, Keeps, Place, Tells, after_visit, report_time}
 use Rattle.tw_rule.specs.Rule.{MayGive, Stands}
+use Rattle.tw_shard.specs.Shard.{Shard}
 use Rattle.tw_sim.proofs.Counts.{one_self}
 use Rattle.tw_sim.specs.declared.machine.Signed.{Signed}
 use Rattle.tw_sim.specs.Simulation.{IsLawful, Simulation, one}
@@ -134,6 +137,16 @@ pub record IsVisited (x y : Board) (s q t : Share) : Type 0 where
   pub mail : t.mail ≡ handed s.shard.worker q.unsent x
   pub unsent : t.unsent ≡ []
 
+-- its report is the least time of what then waits for its routers, is held, or is in its hand
+pub report_left : (x y : Board) (s q t : Share) → IsMet (s ∷ []) x → IsVisited x y s q t → report_of s.shard.worker y ≡ report_time (simulation t.shard.case) (place_of t)
+report_left x y s q t met is =
+    let at = here x s met in
+    let w = s.shard.worker in
+    let told = least_time_of (told_of q) (handed w q.unsent x) in
+    ap (λ b. report_of w b) is.board
+    ∙ (get_or-set_same x.reports w told None at.stands.worker
+    ∙ (λ i. least_time_of (ap (λ (s : Shard). reduce min (map (λ e. e.time) (s.pending ++ s.kept ++ s.held))) (sym is.shard) i) (sym is.mail i)))
+
 place_told : (x y : Board) (s q t : Share) → IsVisited x y s q t → q.mail ≡ []
     → after_visit (handed s.shard.worker q.unsent x) (max q.shard.bound y.bound) (place_of q) ≡ place_of t
 place_told x y s q t is none =
@@ -204,18 +217,29 @@ pub dealt_there : (x : Board) (owners : Option (List ℕ)) (n : ℕ) (out unsent
 dealt_there x owners n out unsent lists same many all is =
     subst (λ o. AreDealt o (workers x) unsent lists) (sym same) (subst (λ k. AreDealt owners k unsent lists) (sym many) (subst (λ ms. AreDealt owners n ms lists) all is))
 
+-- and what has no worker there has none on the exchange
+pub homeless_there : (x : Board) (owners : Option (List ℕ)) (n : ℕ) (out unsent : List (Signed Event)) → x.owners ≡ owners → workers x ≡ n → out ≡ unsent
+    → IsTrue (any_homeless owners n out) → IsTrue (is_homeless unsent x)
+homeless_there x owners n out unsent same many all is = subst (λ b. IsTrue b) (λ i. any_homeless (sym same i) (sym many i) (all i)) is
+
+-- what is asked where something was dealt holds where that was not refused
+pub taken_up : {T E : Type 0} (r : Result T E) (P : Type 0) → ((e : E) → r ≡ Err e → ⊥) → OnOk r P → P
+taken_up (Ok x) P none h = h
+taken_up (Err e) P none h = absurd (none e refl)
+
 -- ---- why a visit is refused
 
-pub for_memory : (why : OrMemory VisitFault) (n : ℕ) → (why ≡ Fault NoWorker → ⊥) → (why ≡ Fault Early → ⊥) → (why ≡ Fault NoRouter → ⊥) → (why ≡ Memory → 0 < n) → 0 < n
-for_memory (Fault NoWorker) n there soon home enough = absurd (there refl)
-for_memory (Fault Early) n there soon home enough = absurd (soon refl)
-for_memory (Fault NoRouter) n there soon home enough = absurd (home refl)
-for_memory Memory n there soon home enough = enough refl
+pub for_memory : (why : OrMemory VisitFault) → (why ≡ Fault NoWorker → ⊥) → (why ≡ Fault Early → ⊥) → (why ≡ Fault NoRouter → ⊥) → why ≡ Memory
+for_memory (Fault NoWorker) there soon home = absurd (there refl)
+for_memory (Fault Early) there soon home = absurd (soon refl)
+for_memory (Fault NoRouter) there soon home = absurd (home refl)
+for_memory Memory there soon home = refl
 
 pub same_seat : (h k l : Held) → IsSameSeat h k → IsSameSeat k l → IsSameSeat h l
 same_seat h k l one two = record {
   share = two.share ∙ one.share;
   taken = two.taken ∙ one.taken;
   stop = two.stop ∙ one.stop;
+  halted = two.halted ∙ one.halted;
   table = λ t is. two.table t (one.table t is);
 }

@@ -1,9 +1,13 @@
 //! A worker meets the table.
-ghost use Rattle.std.specs.Prelude.{ℕ, ◌≡◌, ◌≤◌, ◌<◌, [], ◌∷◌, ◌⊎◌, OnErr, OnOk, length, true};
-ghost use Rattle.tw_exchange.specs.Board.{AreDealt, IsBoard, workers};
+ghost use Rattle.std.specs.Prelude.{ℕ, ◌≡◌, ◌≤◌, ◌<◌, [], ◌∷◌, ◌⊎◌, Err, IsTrue, OnErr, OnOk, length, true};
+ghost use Rattle.tw_exchange.specs.Board.{AreDealt, IsBoard, is_homeless, report_of, workers};
+ghost use Rattle.tw_exchange.specs.declared.visit.VisitFault.TheVariants.{Early, NoRouter, NoWorker};
+ghost use Rattle.tw_model.specs.Case.{simulation};
+ghost use Rattle.tw_model.specs.declared.memory.OrMemory.TheVariants as or_memory;
+ghost use Rattle.tw_rule.specs.Place.{report_time};
 ghost use Rattle.tw_shard.specs.Shard.{IsSameShare, core};
-ghost use Rattle.tw_table.specs.Seats.{IsSameSeat, IsSeatOf, bound_at, exchange_of, halted_at, share_at, share_of, stop_at, taken_by};
-ghost use Rattle.tw_table.specs.Shares.{MayBeGiven, board_of, share};
+ghost use Rattle.tw_table.specs.Seats.{IsSameSeat, IsSeatOf, bound_at, exchange_of, halted_at, report_at, share_at, share_of, stop_at, taken_by, was_halted_at};
+ghost use Rattle.tw_table.specs.Shares.{MayBeGiven, board_of, place_of, share};
 ghost use Rattle.tw_table.specs.Views.{IsMet};
 ghost use Rattle.tw_workers.specs.declared.meeting.Meeting.TheVariants.{Halted, Open, Refused, Settled};
 ghost use Rattle.tw_workers.specs.Seated.{HasTurned};
@@ -32,6 +36,9 @@ impl<'a> Worker<'a> {
     /// deposits that, reports the least time of what waits for its routers, is handed its mail and told the bound,
     /// and gives the exchange back, with its shard and hand as they are then. The seat is its own, at this table, and what it gave there last
     /// has been kept since. It has delivered its hand.
+    ///
+    /// It is answered `Refused` exactly where memory was refused for what it would deposit; then it has told all
+    /// workers to take no further turn. Its visit is never refused as early, nor for a router without a worker.
     pub fn meet<R: Wait>(&mut self, rt: &R, table: &Table, seat: Seat) -> (Seat, Meeting)
         requires seat { IsSeatOf table.now seat }
         requires kept { Kept self.old.stop (share_at seat) self.old.share }
@@ -44,6 +51,9 @@ impl<'a> Worker<'a> {
         ensures held { self.new.share.shard.held ≡ self.old.share.shard.held }
         ensures told { (result.1 ≡ Refused → ⊥) → self.new.share.shard.bound ≡ bound_at result.0 }
         ensures sent { (result.1 ≡ Refused → ⊥) → self.new.share.unsent ≡ [] }
+        // It has reported the least time of all that waits for its routers, is held for them, or is in its hand.
+        ensures report { (result.1 ≡ Refused → ⊥) → report_at result.0 ≡ report_time (simulation self.new.share.shard.case) (place_of self.new.share) }
+        ensures was_halted { was_halted_at result.0 ≡ halted_at seat }
         ensures open { result.1 ≡ Open → bound_at result.0 < self.new.stop }
         ensures settled { result.1 ≡ Settled → bound_at result.0 ≡ self.new.stop }
         ensures refused { result.1 ≡ Refused → 0 < length self.old.share.unsent }
@@ -74,6 +84,7 @@ impl<'a> Worker<'a> {
         requires stop { stop_at seat ≡ self.now.stop }
         ensures turned { HasTurned table.now seat result self.now self.now }
         ensures halts { halted_at result ≡ true }
+        ensures was_halted { was_halted_at result ≡ halted_at seat }
     {
         let mut taken = table.take(rt, seat);
         halt_all(&mut taken);
@@ -101,6 +112,9 @@ fn visit(
     requires sorted { shard.old.outgoing ≡ [] }
     requires dealt { OnOk dealt (AreDealt (exchange_of held.old).owners (workers (exchange_of held.old)) hand.old.out.items parcels.old) }
     requires wanted { OnErr dealt (0 < length hand.old.out.items) }
+    requires no_router { dealt ≡ Err (or_memory.Fault NoRouter) → IsTrue (is_homeless hand.old.out.items (exchange_of held.old)) }
+    requires no_worker { dealt ≡ Err (or_memory.Fault NoWorker) → ⊥ }
+    requires early { dealt ≡ Err (or_memory.Fault Early) → ⊥ }
     ensures seat { IsSameSeat held.old held.new }
     ensures given { MayBeGiven (taken_by held.old) (share_of held.old) (exchange_of held.new) (share shard.new hand.new) }
     ensures work { IsAtWork stop (share shard.new hand.new) }
@@ -110,16 +124,19 @@ fn visit(
     ensures rises { (taken_by held.old).bound ≤ (exchange_of held.new).bound }
     ensures told { (result ≡ Refused → ⊥) → shard.new.bound ≡ (exchange_of held.new).bound }
     ensures sent { (result ≡ Refused → ⊥) → hand.new.out.items ≡ [] }
+    ensures report { (result ≡ Refused → ⊥) → report_of (share_of held.old).shard.worker (exchange_of held.new)
+        ≡ report_time (simulation shard.new.case) (place_of (share shard.new hand.new)) }
     ensures open { result ≡ Open → (exchange_of held.new).bound < stop }
     ensures settled { result ≡ Settled → (exchange_of held.new).bound ≡ stop }
     ensures refused { result ≡ Refused → 0 < length hand.old.out.items }
+    ensures wanted { OnErr dealt (result ≡ Refused) }
     ensures halts { result ≡ Refused → (exchange_of held.new).halted ≡ true }
     ensures heard { result ≡ Halted → (exchange_of held.new).halted ≡ true }
     ensures obeys { (exchange_of held.new).halted ≡ true → (result ≡ Halted) ⊎ (result ≡ Refused) }
 {
-    let Ok(()) = dealt else {
-        return refuse(held);
-    };
+    if let Err(why) = dealt {
+        return refuse(held, why);
+    }
     // The messages in it are delivered, and its memory goes round.
     hand.mail.clear();
     hand.next = 0;
@@ -129,19 +146,25 @@ fn visit(
             hand.out.clear();
             told(news.bound, news.halted, stop)
         }
-        Err(_) => refuse(held),
+        Err(why) => refuse(held, why),
     }
 }
 
-/// All workers are told to take no further turn, since memory was refused.
-fn refuse(held: &mut Held) -> Meeting
+/// All workers are told to take no further turn, since memory was refused, which alone can refuse a visit.
+fn refuse(held: &mut Held, why: OrMemory<VisitFault>) -> Meeting
+    requires memory { why ≡ or_memory.Memory }
     ensures refused { result ≡ Refused }
     ensures same { IsSameSeat held.old held.new }
     ensures board { board_of (exchange_of held.new) ≡ board_of (exchange_of held.old) }
     ensures halts { (exchange_of held.new).halted ≡ true }
 {
-    halt_all(held);
-    Meeting::Refused
+    match why {
+        OrMemory::Memory => {
+            halt_all(held);
+            Meeting::Refused
+        }
+        OrMemory::Fault(_) => unreachable!(),
+    }
 }
 
 /// All workers are told to take no further turn.

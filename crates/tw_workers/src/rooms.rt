@@ -13,7 +13,7 @@ use tw_shard::Shard;
 
 impl<'a> Worker<'a> {
     /// The router of the least of all pending events has no room for it: room is made, or the event waits. It is
-    /// answered whether the router has room then.
+    /// answered whether the worker goes on, which it does not while the event waits.
     pub(crate) fn make_room_for_least(&mut self) -> Result<bool, AllocError>
         requires { (time : ℕ) × (handling_least time self.old.share.shard ≡ Err AheadFull) }
         ensures kept { StillKeeps self.old self.new }
@@ -28,7 +28,7 @@ impl<'a> Worker<'a> {
 
     /// The router of an event, which is its first pending one and for which it has no room, commits what is
     /// before the bound. Where that makes no room and the event is at the bound, no later commit can, and it is
-    /// given more. It is answered whether it has room then.
+    /// given more. It is answered whether the worker goes on.
     fn make_room(&mut self, event: &Event) -> Result<bool, AllocError>
         requires own { owns self.old.share.shard event.now.dst ≡ true }
         ensures kept { StillKeeps self.old self.new }

@@ -2,7 +2,7 @@
 ghost use Rattle.std.specs.Prelude.{◌≡◌, ◌⊎◌, [], ℕ, Err, IfSome, IsErrOf, None, OnOk, Some, false, true};
 ghost use Rattle.tw_core.specs.declared.refusal.Refusal.TheVariants as refusal;
 ghost use Rattle.tw_shard.specs.Shard.{handling};
-ghost use Rattle.tw_table.specs.Seats.{bound_at, halted_at};
+ghost use Rattle.tw_table.specs.Seats.{bound_at, halted_at, was_halted_at};
 ghost use Rattle.tw_workers.specs.declared.meeting.Meeting.TheVariants as meetings;
 ghost use Rattle.tw_workers.specs.declared.working.Leaving.TheVariants as leaving;
 ghost use Rattle.tw_workers.specs.Seated.{HasTurned, IsSeated};
@@ -50,6 +50,7 @@ impl<'a> Worker<'a> {
         ensures released { result.1 ≡ leaving.Settled → self.new.share.shard.held ≡ [] }
         ensures halts { (result.1 ≡ leaving.Settled → ⊥) → halted_at result.0 ≡ true }
         ensures open { result.1 ≡ leaving.Settled → halted_at result.0 ≡ false }
+        ensures last { halted_at seat ≡ false → was_halted_at result.0 ≡ false }
         ensures obeys { halted_at seat ≡ true → (result.0 ≡ seat) × (result.1 ≡ leaving.Halted) × (self.new ≡ self.old) }
         ensures full { result.1 ≡ leaving.CounterFull → (r : ℕ) × (handling self.new.stop self.new.share.shard r ≡ Err refusal.CounterFull) }
     {
@@ -89,6 +90,7 @@ impl<'a> Worker<'a> {
         ensures released { result.1 ≡ Some leaving.Settled → self.new.share.shard.held ≡ [] }
         ensures halts { IfSome result.1 (λ why. (why ≡ leaving.Settled → ⊥) → halted_at result.0 ≡ true) }
         ensures goes_on { result.1 ≡ None → halted_at result.0 ≡ false }
+        ensures last { was_halted_at result.0 ≡ false }
         ensures open { result.1 ≡ Some leaving.Settled → halted_at result.0 ≡ false }
         ensures full { result.1 ≡ Some leaving.CounterFull → (r : ℕ) × (handling self.new.stop self.new.share.shard r ≡ Err refusal.CounterFull) }
     {

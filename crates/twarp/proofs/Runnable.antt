@@ -12,6 +12,10 @@ every_in : (id : Text) (rows : List Row) (every : Option ℕ) → IsNumberIfGive
 every_in id rows None h = tt
 every_in id rows (Some n) h = let low = h.low in (omega arith, h.high)
 
+told_in : (id : Text) (most : ℕ) (rows : List Row) (workers : Option ℕ) → IsNumberIfGiven id 1 most rows workers → IfSome workers (λ n. 0 < n)
+told_in id most rows None h = tt
+told_in id most rows (Some n) h = let low = h.low in omega arith
+
 some_in : (id : Text) (most default : ℕ) (rows : List Row) (n : ℕ) → 0 < default → IsNumberOr id 1 most default rows n → 0 < n
 some_in id most default rows n some (inl h) = let is = h.1 in omega arith
 some_in id most default rows n some (inr h) = let low = h.low in omega arith
@@ -20,7 +24,7 @@ pub runnable : (found : Option (Text × List Row)) (line : CommandLine) → Says
 runnable None line h = absurd h
 runnable (Some f) Check h = tt
 runnable (Some f) (Seq stop every log) h = (h.1.high, every_in _ f.1 every h.2)
-runnable (Some f) (Run stop every log workers batch lazy blocks rotate) h = (h.1.high, every_in _ f.1 every h.2, some_in _ _ _ f.1 workers (omega arith) h.4)
+runnable (Some f) (Run stop every log workers batch lazy blocks rotate) h = (h.1.high, every_in _ f.1 every h.2, told_in _ _ f.1 workers h.4)
 runnable (Some f) (Trail router stop keep) h = h.2.high
 runnable (Some f) (Replay stop workers lazy) h = (h.1.high, some_in _ _ _ f.1 workers (omega arith) h.2)
 runnable (Some f) Upgrade h = tt

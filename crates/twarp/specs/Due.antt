@@ -12,7 +12,7 @@ use Rattle.tw_commands.specs.Upgrade.{upgrade_output}
 use Rattle.tw_model.specs.declared.limits.TheConstants.{LATEST}
 use Rattle.tw_options.specs.declared.command_line.CommandLine.{CommandLine}
 use Rattle.tw_options.specs.declared.command_line.CommandLine.TheVariants.{Check, Seq, Run, Trail, Replay, Upgrade}
-use Rattle.tw_run.specs.Threaded.{LacksThread}
+use Rattle.tw_run.specs.Threaded.{LacksThreadFor}
 use Rattle.tw_sim.specs.declared.machine.Cancel.{Cancel}
 use Rattle.tw_sim.specs.declared.machine.Cancel.TheVariants.{Aggressive, Lazy}
 
@@ -20,7 +20,7 @@ use Rattle.tw_sim.specs.declared.machine.Cancel.TheVariants.{Aggressive, Lazy}
 abbrev pub IsRunnable : CommandLine → Type 0
 IsRunnable Check = Unit {0}
 IsRunnable (Seq stop every log) = (stop ≤ LATEST) × IfSome every (λ n. (0 < n) × (n ≤ LATEST))
-IsRunnable (Run stop every log workers batch lazy blocks rotate) = (stop ≤ LATEST) × IfSome every (λ n. (0 < n) × (n ≤ LATEST)) × (0 < workers)
+IsRunnable (Run stop every log workers batch lazy blocks rotate) = (stop ≤ LATEST) × IfSome every (λ n. (0 < n) × (n ≤ LATEST)) × IfSome workers (λ n. 0 < n)
 IsRunnable (Trail router stop keep) = stop ≤ LATEST
 IsRunnable (Replay stop workers lazy) = (stop ≤ LATEST) × (0 < workers)
 IsRunnable Upgrade = Unit {0}
@@ -62,8 +62,8 @@ StartsThreads (Trail router stop keep) = ⊥
 StartsThreads (Replay stop workers lazy) = ⊥
 StartsThreads Upgrade = ⊥
 
--- what the program leaves for a command line: what is due, or nothing where it starts threads and one is refused
+-- what the program leaves for a command line: what is due, or nothing where it starts threads, its input is a case and one is refused
 abbrev pub Performs : CommandLine → Result Status Cause → Option (List ℕ) → Option (List ℕ) → Option (List ℕ) → Bool → Bool → Type 0
 Performs line result known old new reader writer =
     Answers result (due line) (StopsFull line) known old new reader writer
-    ⊎ (StartsThreads line × (reader ≡ false) × LacksThread result old new writer)
+    ⊎ (StartsThreads line × LacksThreadFor result known old new reader writer)

@@ -7,20 +7,28 @@
 //! what stands on standard error; `checks/programs.py` tests both.
 #![tactic(auto)]
 
+mod advice;
+mod device;
 mod perform;
+mod tips;
 
 ghost use Rattle.std.specs.Prelude.{◌≡◌, ◌≤◌};
 ghost use Rattle.std.specs.Process.{exit_status};
 ghost use Rattle.twarp.specs.Due.{IsRunnable, status_number};
 
+use advice::{advice_on, advice_on_router};
+use device::Device;
 use perform::perform;
 use std::env;
-use std::io::{self, BufWriter, Write};
+use std::io::{self, BufWriter, IsTerminal, Write};
 use std::process::ExitCode;
 use std::sync::Wait;
 use std::thread::Threads;
-use tw_commands::{Cause, Status};
+use std::time::Clock;
+use tips::{AT_A_TERMINAL, tip_for};
+use tw_commands::{Cause, Script, Status};
 use tw_device::{OverRead, OverWrite};
+use tw_instance::Case;
 use tw_options::{CommandLine, CommandLineFault, options};
 
 /// The exit status of words that are no command line.
@@ -41,13 +49,21 @@ fn main(rt: HostRuntime) -> ExitCode {
         }
     };
     match options(rt.alloc(), words.as_slice()) {
-        Ok(line) => run(&rt, line),
+        Ok(line) => {
+            if rt.stdin().is_terminal() {
+                let _ = rt.eprintln(AT_A_TERMINAL);
+            }
+            run(&rt, line)
+        }
         Err(CommandLineFault::Help(text)) => match text.print(&rt) {
             Ok(()) => ExitCode::SUCCESS,
-            Err(_) => stop_with(&rt, Cause::Device),
+            Err(error) => stop_at(&rt, Device::Output(error)),
         },
         Err(CommandLineFault::Bad(text)) => {
             let _ = text.print(&rt);
+            if let Some(tip) = tip_for(words.as_slice()) {
+                let _ = rt.eprintln(tip);
+            }
             ExitCode::from(BAD_LINE)
         }
         Err(CommandLineFault::Memory) => stop_with(&rt, Cause::Memory),
@@ -55,45 +71,83 @@ fn main(rt: HostRuntime) -> ExitCode {
 }
 
 /// Does what the line asks, from standard input to standard output.
-fn run<R: Input + Print + Eprint + AllocGlobal + Threads + Wait + Sync>(
+fn run<R: Input + Print + Eprint + AllocGlobal + Threads + Wait + Sync + Clock>(
     rt: &R,
     line: CommandLine,
 ) -> ExitCode
     requires { IsRunnable line }
     ensures { exit_status result ≤ 2 }
 {
-    let ended = answer(rt, line);
-    exit_with(rt, ended)
+    let (ended, failed) = answer(rt, line);
+    exit_with(rt, ended, failed)
 }
 
-/// The exit status for how a command ended; where it stopped, says the cause on standard error.
-fn exit_with(rt: &impl Eprint, ended: Result<Status, Cause>) -> ExitCode
+/// The exit status for how a command ended; where it stopped, says the cause on standard error, and which device failed,
+/// if one did.
+fn exit_with(rt: &impl Eprint, ended: Result<Status, Cause>, failed: Option<Device>) -> ExitCode
     ensures { exit_status result ≡ status_number ended }
 {
-    match ended {
-        Ok(Status::Done) => ExitCode::SUCCESS,
-        Ok(Status::Refused) => ExitCode::from(1),
-        Err(cause) => stop_with(rt, cause),
+    match (ended, failed) {
+        (Ok(Status::Done), _) => ExitCode::SUCCESS,
+        (Ok(Status::Refused), _) => ExitCode::from(1),
+        (Err(_), Some(device)) => stop_at(rt, device),
+        (Err(cause), None) => stop_with(rt, cause),
     }
 }
 
-fn answer<R: Input + Print + AllocGlobal + Threads + Wait + Sync>(
+/// Reads standard input, and writes the answer to standard output. Where a device failed it is told beside that.
+fn answer<R: Input + Print + Eprint + AllocGlobal + Threads + Wait + Sync + Clock>(
     rt: &R,
     line: CommandLine,
-) -> Result<Status, Cause>
+) -> (Result<Status, Cause>, Option<Device>)
     requires { IsRunnable line }
 {
     let alloc = rt.alloc();
     let mut source = OverRead::new(rt.reader());
     let mut sink = OverWrite::new(match BufWriter::new(alloc, io::writer(rt)) {
         Ok(writer) => writer,
-        Err(_) => return Err(Cause::Memory),
+        Err(_) => return (Err(Cause::Memory), None),
     });
-    let status = perform(rt, alloc, line, &mut source, &mut sink)?;
-    match sink.into_writer().flush() {
-        Ok(()) => Ok(status),
-        Err(_) => Err(Cause::Device),
+    match perform(rt, alloc, line, &mut source, &mut sink) {
+        Ok(status) => match sink.into_writer().flush() {
+            Ok(()) => {
+                if let Some(text) = source.refused() {
+                    advise(rt, line, text);
+                }
+                (Ok(status), None)
+            }
+            Err(error) => (Err(Cause::Device), Some(Device::Output(error))),
+        },
+        Err(cause) => {
+            let input = source.failure().map(Device::Input);
+            let output = sink.failure().map(Device::Output);
+            (Err(cause), input.or(output))
+        }
     }
+}
+
+/// Tells a person, on standard error, the line for which a text is refused, and what was expected there; or which routers
+/// there are.
+fn advise<R: Eprint + AllocGlobal>(rt: &R, line: CommandLine, text: &[u8]) {
+    let advice = match line {
+        CommandLine::Trail { router, .. } => advice_on_router(rt.alloc(), text, router),
+        CommandLine::Replay { .. } => advice_on::<Script>(rt.alloc(), text),
+        _ => advice_on::<Case>(rt.alloc(), text),
+    };
+    if let Some(advice) = advice {
+        let _ = rt.eprintln(advice);
+    }
+}
+
+/// Says which device failed, and how, on standard error; but nothing where standard output is a pipe that nobody reads any
+/// more, as behind `| head`.
+fn stop_at(rt: &impl Eprint, device: Device) -> ExitCode
+    ensures { exit_status result ≡ 2 }
+{
+    if !device.is_closed_pipe() {
+        let _ = eprintln!(rt; "{}: {device}", Cause::Device);
+    }
+    ExitCode::from(2)
 }
 
 /// Says the cause on standard error.

@@ -7,6 +7,7 @@ ghost use Rattle.twarp.specs.Due.{IsRunnable, Performs, cancel_of};
 use std::alloc::Global;
 use std::sync::Wait;
 use std::thread::Threads;
+use std::time::Clock;
 use tw_commands::{Cause, Status, check_io, replay_io, seq_io, trail_io, upgrade_io};
 use tw_device::{Sink, Source};
 use tw_options::CommandLine;
@@ -15,7 +16,7 @@ use tw_sim::Cancel;
 
 /// Does what a command line asks: reads its input from the source and writes the answer that is due
 /// to the sink.
-pub(crate) fn perform<X: Threads + Wait + Sync, R: Source, W: Sink>(
+pub(crate) fn perform<X: Threads + Wait + Sync + Clock, R: Source, W: Sink>(
     rt: &X,
     alloc: Global,
     line: CommandLine,

@@ -20,9 +20,9 @@ const DOT_ASIDE = -7;
 
 const SVG = "http://www.w3.org/2000/svg";
 const byId = (id) => document.getElementById(id);
-const controls = Object.fromEntries(["time", "now", "router", "play", "whole"].map((id) => [id, byId(id)]));
+const controls = Object.fromEntries(["time", "now", "router", "play", "whole", "messages", "zoom"].map((id) => [id, byId(id)]));
 const points = new Map(run.routers.map((router) => [router.router, router]));
-const view = { stop: 0, router: (run.routers[1] ?? run.routers[0]).router };
+const view = { stop: 0, router: (run.routers[1] ?? run.routers[0]).router, zoom: 1 };
 
 function add(parent, tag, attributes = {}, text = "") {
   const isDrawn = parent instanceof SVGElement;
@@ -188,7 +188,7 @@ function showNetwork(time, states) {
   layers.dots.replaceChildren();
   states.forEach((state, router) => showRouter(router, state));
   states.forEach((state, router) => showArrow(router, state));
-  groups(messages).forEach((group) => showDot(group, time));
+  if (controls.messages.checked) groups(messages).forEach((group) => showDot(group, time));
   const down = run.links.map((link) => isDown(link, states));
   wires.forEach((wire, place) => wire.classList.toggle("down", down[place]));
   const pathless = [...states.values()].filter((state) => !state.rib).length;
@@ -278,6 +278,132 @@ const [cursor, later] = [area.querySelector(".cursor"), area.querySelector(".lat
 const [names, times] = [timeline.querySelector(".names"), timeline.querySelector(".times")];
 const lanes = new Map([...names.querySelectorAll(".name")].map((name, place) => [run.routers[place].router, name]));
 
+// The timeline is drawn wider or narrower from its left end on.
+
+const { axis } = run;
+const LEAST_ZOOM = 0.02;
+// At most so many times as wide, or so many pixels a tick.
+const GREATEST_ZOOM = Math.max(4, Math.min(64, 240 / axis.scale));
+const zoomed = (x) => axis.left + (x - axis.left) * view.zoom;
+
+/** Where a time stands in the timeline as it was made. */
+function placeOfTime(time) {
+  let [folded, widths] = [0, 0];
+  for (const [start, end] of axis.folds) {
+    const part = Math.max(0, Math.min(1, (time - start) / (end - start)));
+    folded += part * (end - start);
+    widths += part * axis.fold_width;
+  }
+  return axis.left + (time - axis.first - folded) * axis.scale + widths;
+}
+
+/** The least of 1, 2, 5, 10, 20, .. that is not below a number. */
+function niceStep(least) {
+  for (let power = 1; ; power *= 10) {
+    const found = [1, 2, 5].find((factor) => factor * power >= least);
+    if (found) return found * power;
+  }
+}
+
+const numberOf = (element, name) => Number(element.getAttribute(name));
+
+/** What moves along with the width: functions that put each thing where it belongs. */
+function movers() {
+  const isLoose = (element) => !element.closest("[data-at], defs, .grid, .cursor, .later");
+  const moveLine = (line) => {
+    const ends = ["x1", "x2"].map((name) => [name, numberOf(line, name)]);
+    return () => ends.forEach(([name, x]) => line.setAttribute(name, zoomed(x)));
+  };
+  const moveBox = (box) => {
+    const [x, width] = ["x", "width"].map((name) => numberOf(box, name));
+    const text = box.parentElement.querySelector(":scope > text");
+    const inset = text ? numberOf(text, "x") - x : 0;
+    return () => {
+      const room = width * view.zoom;
+      box.setAttribute("x", zoomed(x));
+      box.setAttribute("width", room);
+      if (!text || box.parentElement === area) return;
+      text.setAttribute("x", zoomed(x) + inset);
+      text.style.display = axis.letter_width * text.textContent.length + 6 <= room ? "inline" : "none";
+    };
+  };
+  const moveText = (text) => {
+    const x = numberOf(text, "x");
+    return () => text.setAttribute("x", zoomed(x));
+  };
+  const moveMark = (mark) => {
+    const x = numberOf(mark, "data-at");
+    return () => mark.setAttribute("transform", `translate(${zoomed(x) - x})`);
+  };
+  const all = (selector, move) => [...area.querySelectorAll(selector)].filter(isLoose).map(move);
+  const marks = [...area.querySelectorAll("[data-at]")].map(moveMark);
+  return [...all("line", moveLine), ...all("rect", moveBox), ...all(":scope > text", moveText), ...marks];
+}
+
+const moving = movers();
+const grid = document.createElementNS(SVG, "g");
+area.querySelectorAll(".grid").forEach((line) => line.remove());
+area.insertBefore(grid, area.querySelector(".lane"));
+
+/** Writes the times that have room, none within a fold. */
+function drawTimes() {
+  const room = axis.digit_width * (axis.last.toLocaleString("en").length + 1);
+  const step = niceStep((room + 2 * axis.digit_width) / (axis.scale * view.zoom));
+  let free = -Infinity;
+  const ends = [axis.first, ...axis.folds.flat(), axis.last];
+  grid.replaceChildren();
+  times.replaceChildren();
+  for (let place = 0; place < ends.length; place += 2) {
+    for (let time = Math.ceil(ends[place] / step) * step; time <= ends[place + 1]; time += step) {
+      const x = zoomed(placeOfTime(time));
+      add(grid, "line", { class: "grid", x1: x, y1: axis.top, x2: x, y2: axis.bottom });
+      if (x < free) continue;
+      add(times, "text", { class: "quiet middle", x, y: axis.times }, time.toLocaleString("en"));
+      free = x + room;
+    }
+  }
+}
+
+const widthAtFirst = numberOf(area, "width") - (axis.right - axis.left);
+
+/** Draws the timeline so many times as wide; what is at an x of the window stays there, or else the time chosen. */
+function zoomTo(factor, pointer = null) {
+  const seen = pointer ?? cursor.getBoundingClientRect().left;
+  const { x: left } = area.viewBox.baseVal;
+  const time = (left + seen - area.getBoundingClientRect().left - axis.left) / view.zoom;
+  view.zoom = Math.max(LEAST_ZOOM, Math.min(GREATEST_ZOOM, factor));
+  const width = widthAtFirst + (axis.right - axis.left) * view.zoom;
+  for (const picture of [area, times]) {
+    const { x, y, height } = picture.viewBox.baseVal;
+    picture.setAttribute("viewBox", `${x} ${y} ${width} ${height}`);
+    picture.setAttribute("width", width);
+  }
+  moving.forEach((move) => move());
+  drawTimes();
+  timeline.classList.toggle("narrow", view.zoom < 1);
+  controls.zoom.textContent = `${Number((100 * view.zoom).toPrecision(3))} %`;
+  showCursor(zoomed(run.xs[view.stop]));
+  timeline.scrollLeft += area.getBoundingClientRect().left + axis.left + time * view.zoom - left - seen;
+}
+
+/** Draws the timeline as wide as its pane. */
+function zoomToFit() {
+  zoomTo((timeline.clientWidth - names.clientWidth - widthAtFirst) / (axis.right - axis.left));
+}
+
+const ZOOM_KEYS = { "+": 2, "=": 2, "-": 0.5 };
+
+function zoomByKey(press) {
+  const factor = ZOOM_KEYS[press.key];
+  if (factor && !press.ctrlKey && !press.metaKey) zoomTo(view.zoom * factor);
+}
+
+function zoomByWheel(turn) {
+  if (!turn.ctrlKey) return;
+  turn.preventDefault();
+  zoomTo(view.zoom * 2 ** (-turn.deltaY / 200), turn.clientX);
+}
+
 function showCursor(x) {
   cursor.setAttribute("x1", x);
   cursor.setAttribute("x2", x);
@@ -291,7 +417,7 @@ function showCursor(x) {
 function goToClick(click) {
   const { x: left } = area.viewBox.baseVal;
   const x = left + click.clientX - area.getBoundingClientRect().left;
-  const distances = run.xs.map((place) => Math.abs(place - x));
+  const distances = run.xs.map((place) => Math.abs(zoomed(place) - x));
   goTo(distances.indexOf(Math.min(...distances)));
 }
 
@@ -308,7 +434,7 @@ function show() {
   showNetwork(time, states);
   showTable(time, states.get(view.router));
   showEvents(time);
-  showCursor(run.xs[view.stop]);
+  showCursor(zoomed(run.xs[view.stop]));
 }
 
 function goTo(stop) {
@@ -326,6 +452,12 @@ function choose(router) {
   pane.scrollTop += wayTo(group, pane, DOWN);
   lanes.forEach((name, lane) => name.classList.toggle("chosen", lane === router));
   timeline.scrollTop += wayTo(lanes.get(router), timeline, DOWN, times.clientHeight);
+}
+
+/** Shows messages in both pictures, or in none. */
+function showMessages() {
+  timeline.classList.toggle("bare", !controls.messages.checked);
+  show();
 }
 
 let timer = null;
@@ -359,5 +491,12 @@ controls.play.addEventListener("click", play);
 area.addEventListener("click", goToClick);
 lanes.forEach((name, router) => name.addEventListener("click", () => choose(router)));
 controls.whole.addEventListener("change", sizeNetwork);
+controls.messages.addEventListener("change", showMessages);
+byId("narrower").addEventListener("click", () => zoomTo(view.zoom / 2));
+byId("wider").addEventListener("click", () => zoomTo(view.zoom * 2));
+byId("fit").addEventListener("click", zoomToFit);
+timeline.addEventListener("keydown", zoomByKey);
+timeline.addEventListener("wheel", zoomByWheel, { passive: false });
 sizeNetwork();
+zoomTo(1);
 choose(view.router);

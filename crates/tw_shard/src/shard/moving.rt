@@ -120,7 +120,11 @@ fn hand_over_waiting(
 }
 
 /// Takes out a router with its timeline.
-fn take_out<'a>(router: u32, roster: &mut Roster, timelines: &mut Vec<Timeline<'a>>) -> Timeline<'a>
+pub(super) fn take_out<'a>(
+    router: u32,
+    roster: &mut Roster,
+    timelines: &mut Vec<Timeline<'a>>,
+) -> Timeline<'a>
     requires own { has roster.old.routers router ≡ true }
     requires long { length timelines.old.items ≡ length roster.old.routers }
     ensures timeline { result ≡ slice_index_or timelines.old.items (place_in roster.old.routers router) no_timeline }

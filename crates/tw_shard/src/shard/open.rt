@@ -145,7 +145,11 @@ fn opening_queue(alloc: Global, case: &Case, roster: &Roster) -> Result<Pending,
 }
 
 /// Adds the events that are for these routers, each in its place.
-fn insert_own(pending: &mut Pending, events: &[Event], roster: &Roster) -> Result<(), AllocError>
+pub(super) fn insert_own(
+    pending: &mut Pending,
+    events: &[Event],
+    roster: &Roster,
+) -> Result<(), AllocError>
     requires { AreFor pending.old.routers events.now }
     ensures events { OnOk result
         (pending.new.events ≡ insert_all event_before (filter (λ e. has roster.now.routers e.dst) events.now) pending.old.events) }

@@ -1,4 +1,4 @@
-use Rattle.std.proofs.Common.{inr}
+use Rattle.std.proofs.Common.{inr, ◌∙◌}
 use Rattle.std.proofs.lemmas.Result.{err_from_is_err_and}
 use Rattle.tw_commands.proofs.Unread.{some_input, unread}
 use Rattle.tw_commands.proofs.command.answer_io.Goals as goal
@@ -11,5 +11,5 @@ returns-in_err-text-clause-answer g c =
 
 pub returns-clause-answer : goal.returns-clause-answer
 returns-clause-answer g c =
-    let leaves = rw c.deref.ensures.value at c.answer_text.ensures in
-    (c.in_ok-text.text.items, c.in_ok-text.ensures.input, inr (c.in_ok-text.ensures.ok, leaves))
+    let leaves = rw c.deref.ensures.value at c.answer_text-ended.ensures in
+    (c.in_ok-text.text.items, c.in_ok-text.ensures.input, inr (c.hand_back.ensures.failed ∙ c.in_ok-text.ensures.ok, leaves))

@@ -1,10 +1,11 @@
-use Rattle.std.proofs.Common.{◌≡◌, List, length, map, ap, sym, ◌∙◌, subst, arith}
+use Rattle.std.proofs.Common.{◌≡◌, List, length, map, ap, refl, sym, ◌∙◌, subst, arith}
 use Rattle.std.proofs.lemmas.List.{length-map}
 use Rattle.std.specs.List.{AllByRecursion}
 use Rattle.tw_parallel.proofs.Crews.{all_at_work}
 use Rattle.tw_parallel.proofs.Rounds.{as_long, goes_on, long_shares, not_below, same_numbers, same_stop, still_sim}
+use Rattle.tw_parallel.proofs.SameOwners.{same_owners}
 use Rattle.tw_parallel.specs.Inside.{sim_of_parts}
-use Rattle.tw_parallel.specs.Sim.{GoesOn, IsSim}
+use Rattle.tw_parallel.specs.Sim.{GoesOn, HasSameOwners, IsSim}
 use Rattle.tw_table.specs.Seats.{share_at, stop_at}
 use Rattle.tw_table.specs.Shares.{Share, shares_of}
 use Rattle.tw_threads.specs.Left.{IsFullAhead}
@@ -83,3 +84,14 @@ returns-clause-goes_on g c =
 pub returns-clause-full : goal.returns-clause-full
 returns-clause-full g c = λ is.
     subst (IsFullAhead c.run_all-ran.result.exchange.stop) (sym c.parts_of-shards.ensures.shares) (c.run_all-ran.ensures.full is)
+
+pub returns-clause-owners : goal.returns-clause-owners
+returns-clause-owners g c =
+    let ran = c.run_all-ran.ensures in
+    let parts = c.args.parts in
+    let share : Worker → Share = λ w. w.share in
+    let new = map share c.run_all-ran.result.workers.items in
+    let same : AreSameShares (sim_of_parts parts).shares new = subst (λ ss. AreSameShares ss new) c.workers_of-workers.ensures.shares ran.same in
+    let still = still_sim (sim_of_parts parts) c.run_all-ran.result.exchange new c.requires.sim ran.whole same (returns-clause-stop g c) in
+    subst (λ (ss : List Share). HasSameOwners (sim_of_parts parts) (record { case = parts.case.now; board = c.run_all-ran.result.exchange; shares = ss })) (sym c.parts_of-shards.ensures.shares)
+    (same_owners (sim_of_parts parts) (record { case = parts.case.now; board = c.run_all-ran.result.exchange; shares = new }) c.requires.sim still refl same)

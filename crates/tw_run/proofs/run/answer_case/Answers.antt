@@ -1,33 +1,8 @@
-use Rattle.std.proofs.Common.{ap, inl, refl, subst, Err}
-use Rattle.std.specs.Io.KnownBytes.{Appends}
-use Rattle.std.proofs.lemmas.Result.{err_from_is_err_and}
-use Rattle.tw_device.specs.Sink.{Begins}
-use Rattle.tw_model.specs.Summary.{summary_of}
-use Rattle.tw_commands.proofs.Shown.{shown_paths, shown_report}
-use Rattle.tw_run.proofs.Stops.{leaves_stopped}
+use Rattle.tw_run.proofs.Stops.{leaves_told, may_tell}
 use Rattle.tw_run.proofs.run.answer_case.Goals as goal
 
-pub returns-in_err-outcome : goal.returns-in_err-outcome
-returns-in_err-outcome g c =
-    let p = err_from_is_err_and c.from_residual.result c.from_residual.ensures.1 in
-    rw (p.1, p.2) (leaves_stopped c.in_err-outcome.field-0.0 _ _ _ _ c.requires.open (λ is. c.in_err-outcome.ensures.full (ap Err is)) (λ is. c.in_err-outcome.ensures.device (ap Err is)))
+pub cause-requires : goal.cause-requires
+cause-requires g c = may_tell c.in-Err.why c.args.case.now c.args.asked c.in-Err.ensures.stopped
 
-pub write_report-requires-clause-paths : goal.write_report-requires-clause-paths
-write_report-requires-clause-paths g c =
-    rw (c.instance.ensures.value, c.in_ok-outcome.ensures.outcome) (shown_paths c.args.case.now c.instance.ensures.case c.args.asked.stop c.args.asked.log)
-
-pub returns-in_err-write_report : goal.returns-in_err-write_report
-returns-in_err-write_report g c =
-    let r = c.from_residual-in_err-write_report in
-    let p = err_from_is_err_and r.result r.ensures.1 in
-    let told = c.in_err-write_report.ensures in
-    let text = shown_report c.args.case.now c.instance.result.now c.args.asked.stop c.args.asked.every c.args.asked.log (summary_of c.in_ok-outcome.outcome) c.in_ok-outcome.found
-    c.of-verdict.result c.instance.ensures.value c.in_ok-outcome.ensures.outcome c.in_ok-outcome.ensures.found c.of-verdict.ensures in
-    rw (p.1, p.2) (inl (record { prefix = subst (Begins _ _) text told.0; closed = told.1 }))
-
-pub returns : goal.returns
-returns g c =
-    let told = c.in_ok-write_report.ensures in
-    let text = shown_report c.args.case.now c.instance.result.now c.args.asked.stop c.args.asked.every c.args.asked.log (summary_of c.in_ok-outcome.outcome) c.in_ok-outcome.found
-    c.of-verdict.result c.instance.ensures.value c.in_ok-outcome.ensures.outcome c.in_ok-outcome.ensures.found c.of-verdict.ensures in
-    inl (record { as_told = refl; whole = subst (Appends _ _) text told.0; still = told.1 })
+pub returns-in-Err : goal.returns-in-Err
+returns-in-Err g c = leaves_told c.in-Err.why c.cause.result c.args.case.now c.args.asked _ _ _ c.requires.open c.cause.ensures c.in-Err.ensures.stopped

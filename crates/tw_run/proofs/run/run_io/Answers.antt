@@ -1,4 +1,4 @@
-use Rattle.std.proofs.Common.{inl, inr}
+use Rattle.std.proofs.Common.{inl, inr, ◌∙◌}
 use Rattle.std.proofs.lemmas.Result.{err_from_is_err_and}
 use Rattle.tw_commands.proofs.Unread.{some_input, unread}
 use Rattle.tw_run.proofs.run.run_io.Goals as goal
@@ -11,8 +11,8 @@ returns-in_err-text-clause-answer g c =
 
 pub returns-clause-answer : goal.returns-clause-answer
 returns-clause-answer g c =
-    let leaves = rw c.deref.ensures.value at c.answer_text.ensures in
+    let leaves = rw c.deref.ensures.value at c.answer_text-ended.ensures in
     elim leaves [
-      | inl told ↦ inl (c.in_ok-text.text.items, c.in_ok-text.ensures.input, inr (c.in_ok-text.ensures.ok, told))
-      | inr lacks ↦ inr (c.in_ok-text.ensures.ok, lacks)
+      | inl told ↦ inl (c.in_ok-text.text.items, c.in_ok-text.ensures.input, inr (c.hand_back.ensures.failed ∙ c.in_ok-text.ensures.ok, told))
+      | inr lacks ↦ inr (record { input = c.in_ok-text.text.items; read = c.in_ok-text.ensures.input; is_case = lacks.0; source = c.hand_back.ensures.failed ∙ c.in_ok-text.ensures.ok; lacks = lacks.1 })
     ]

@@ -4,12 +4,13 @@ use Rattle.tw_seq.proofs.Checkpoints.{found_stays, left_within, seen_every}
 use Rattle.tw_shape.proofs.Seeing.{seen_early, seen_found}
 use Rattle.tw_shape.specs.Verdict.{finding}
 use Rattle.tw_parallel.proofs.Rounds.{goes_on_both}
+use Rattle.tw_run.proofs.Dealt.{dealt_always}
 use Rattle.tw_run.proofs.Watching.{on_the_way_begin, on_the_way_next}
 use Rattle.tw_run.proofs.segments.run_watched.Goals as goal
 use Rattle.tw_run.proofs.segments.run_watched.Goals.{then-loop-seen-test+else-is_none, else-loop-seen-test}
 
 pub loop-seen-init : goal.loop-seen-init
-loop-seen-init g c = (omega arith, on_the_way_begin c.args.every c.args.sim c.in_ok-watch.watch c.requires.opening c.in_ok-watch.ensures)
+loop-seen-init g c = (omega arith, on_the_way_begin c.args.every c.args.sim c.in_ok-watch.watch c.requires.opening c.in_ok-watch.ensures, (0, c.requires.dealt))
 
 pub push-seen-requires-clause-later : goal.push-seen-requires-clause-later
 push-seen-requires-clause-later g c =
@@ -31,6 +32,7 @@ loop-seen-preserved g c =
       omega (arith, told.within),
       on_the_way_next c.args.every c.loop-seen.seen c.push-seen.result c.args.sim c.loop-seen.run c.in_ok-run.run' c.loop-seen.watch c.push-seen.new.self
           c.in_ok-shape.shape c.loop-seen.invariant.1 run.goes_on run.stop c.in_ok-shape.ensures told.gap told.step,
+      (c.loop-seen.seen, run.dealt),
     )
 
 pub returns-clause-found : goal.returns-clause-found
@@ -52,3 +54,10 @@ returns-clause-found g c =
 
 pub returns-clause-goes_on : goal.returns-clause-goes_on
 returns-clause-goes_on g c = goes_on_both c.args.sim c.loop-seen.run c.in_ok-run-2.run' c.loop-seen.invariant.1.goes_on c.in_ok-run-2.ensures.goes_on
+
+pub returns-clause-dealt : goal.returns-clause-dealt
+returns-clause-dealt g c = (c.loop-seen.seen, c.in_ok-run-2.ensures.dealt)
+
+pub run_to-requires-2-clause-dealt : goal.run_to-requires-2-clause-dealt
+run_to-requires-2-clause-dealt g c κs within = λ stays.
+    dealt_always c.args.dealing c.loop-seen.invariant.2.0 c.loop-seen.seen c.loop-seen.run stays c.loop-seen.invariant.2.1

@@ -1,7 +1,7 @@
 use Rattle.std.proofs.Common.{◌≡◌, ◌∷◌, length, rules, sym, ◌∙◌, arith, subst, vec_len}
 use Rattle.std.specs.List.{AllByRecursion}
 use Rattle.std.specs.Vec.Iter.{into_iter_items, into_iter_len}
-use Rattle.tw_table.proofs.Joins.{IsJoined, all_joined, all_seen, joins_first, joins_next}
+use Rattle.tw_table.proofs.Joins.{IsJoined, all_halted, all_joined, all_seen, joins_first, joins_next}
 use Rattle.tw_table.proofs.Views.{merges}
 use Rattle.tw_table.specs.Seats.{IsSeatOf}
 use Rattle.tw_table.proofs.calls.join_all.Goals as goal
@@ -61,4 +61,10 @@ pub returns-clause-seen : goal.returns-clause-seen
 returns-clause-seen c =
     let left = into_iter_items c.loop-seat.seat-iterator in
     all_seen c.args.table.now c.args.seats.items c.loop-seat.pass left
+    (subst (IsJoined c.args.table.now c.args.seats.items c.loop-seat.pass left) c.in-None.ensures.steps.0 c.loop-seat.invariant)
+
+pub returns-clause-halted : goal.returns-clause-halted
+returns-clause-halted c =
+    let left = into_iter_items c.loop-seat.seat-iterator in
+    all_halted c.args.table.now c.args.seats.items c.loop-seat.pass left
     (subst (IsJoined c.args.table.now c.args.seats.items c.loop-seat.pass left) c.in-None.ensures.steps.0 c.loop-seat.invariant)

@@ -16,7 +16,7 @@ returns-in-Replay-clause-answer g c = inl (rw c.in-Replay.is (rw c.cancel_of.ens
 pub returns-in-Run-clause-answer : goal.returns-in-Run-clause-answer
 returns-in-Run-clause-answer g c = elim c.run_io.ensures.answer [
   | inl told ↦ inl (rw c.in-Run.is told)
-  | inr lacks ↦ inr (rw c.in-Run.is tt, lacks.0, lacks.1)
+  | inr lacks ↦ inr (rw c.in-Run.is tt, lacks)
 ]
 
 pub returns-in-Upgrade-clause-answer : goal.returns-in-Upgrade-clause-answer

@@ -21,7 +21,6 @@ kept c = record {
   board = subst IsBoard (sym (is_listed c)) (listed_board c.args.routers (board_of c.self.inside) c.self.invariant.board
       (subst (λ (x : Board). AllByRecursion (λ m. m.event.dst < c.args.routers) (all_mail x)) (sym c.self.view_is) c.requires.mail));
   soonest = c.self.invariant.soonest;
-  counts = c.self.invariant.counts;
   reports = c.self.invariant.reports;
 }
 

@@ -11,10 +11,9 @@ invariant_of-result c =
     let n = c.args.workers in
     let bound = c.args.bound in
     let mail : items c.in_ok-no_mail.field-0.items ≡ replicate n [] = c.in_ok-no_mail.ensures in
-    let reports : c.in_ok-row-3.field-0.items ≡ replicate n (Some bound) = c.in_ok-row-3.ensures in
+    let reports : c.in_ok-row-2.field-0.items ≡ replicate n (Some bound) = c.in_ok-row-2.ensures in
     record {
       board = subst IsBoard (sym (λ i. record { owners = list_of c.args.owners; mail = mail i; reports = reports i; bound = bound; stop = c.args.stop; halted = false })) (opening_board (list_of c.args.owners) n bound c.args.stop c.requires);
       soonest = c.in_ok-row.ensures ∙ (opening_soonest n ∙ ap (map soonest_of) (sym mail));
-      counts = ap length c.in_ok-row-2.ensures ∙ length-replicate n 0;
       reports = ap length reports ∙ length-replicate n (Some bound);
     }

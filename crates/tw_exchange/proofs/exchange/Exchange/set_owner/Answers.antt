@@ -10,7 +10,7 @@ abbrev after : After-self-1 → Inside
 after c = record c.self.inside { owners = c.set.new.self; reports = with_item c.self.inside.reports c.args.worker (Some c.self.inside.bound) }
 
 is_given : (c : After-self-1) → IsGiven c.self.inside (after c) c.args.router c.args.worker
-is_given c = record { owners = c.set.ensures; mail = refl; soonest = refl; reports = refl; bound = refl; counts = refl; workers = refl; stop = refl; halted = refl }
+is_given c = record { owners = c.set.ensures; mail = refl; soonest = refl; reports = refl; bound = refl; workers = refl; stop = refl; halted = refl }
 
 pub invariant_of-self : goal.invariant_of-self
 invariant_of-self c = exchange_given c.self.inside (after c) c.args.router c.args.worker c.args.self.now c.self.invariant c.self.view_is (is_given c) c.requires.no_mail

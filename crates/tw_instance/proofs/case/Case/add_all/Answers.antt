@@ -21,7 +21,7 @@ returns-in-Err-clause-told c =
     let s = get_or scenes i none in
     let next = at_drop_more (judged_scenes net i) scenes i none c.loop-i-test.true in
     let same = judged_alike c.loop-i.self net scenes i s (omega arith) c.loop-i.invariant.taken in
-    covers_here _ _ _ (scene_fault net i s) (Scene (i + 1)) c.in-Err.fault _ c.loop-i.invariant.covers next (λ r. rw same at (c.in-Err.ensures.rule r)) refl
+    covers_here _ _ _ (scene_fault net i s) (Scene (i + 1)) c.in-Err.fault _ refl c.loop-i.invariant.covers next (λ r. rw same at (c.in-Err.ensures.rule r)) refl
 
 pub returns-clause-told : goal.returns-clause-told
 returns-clause-told c =

@@ -1,12 +1,10 @@
 use Rattle.std.proofs.Common.{[], Err, refl, ap, sym, ◌∙◌}
 use Rattle.std.proofs.lemmas.Result.{err_from_is_err_and}
-use Rattle.tw_model.specs.declared.memory.OrMemory.TheVariants.{Fault}
 use Rattle.tw_model.specs.Case.{Case}
 use Rattle.tw_model.specs.Rules.{case_fault}
 use Rattle.tw_instance.specs.Build.{judged_scenes}
 use Rattle.tw_instance.specs.declared.refusal.Item.TheVariants.{Whole}
-use Rattle.tw_instance.proofs.Scenes.{says_rule}
-use Rattle.tw_instance.proofs.Told.{refused_early, refused_here, told_later}
+use Rattle.tw_instance.proofs.Told.{refused_by, refused_early, told_later}
 use Rattle.tw_instance.proofs.case.Case.fill.Goals as goal
 
 pub returns-in_err-add_all-clause-told : goal.returns-in_err-add_all-clause-told
@@ -22,5 +20,5 @@ returns-in-Err-clause-told c =
     let scenes = c.args.scenes.now in
     let seen = ap (λ (k : Case). case_fault version k.net k.scenes) (sym c.in_ok-add_all.ensures.ok) in
     let broken = seen ∙ (c.in-Err.ensures.rule c.in-Err.rule).0 refl in
-    let here = refused_here (Unit {0}) (Fault c.in-Err.rule) (case_fault version net scenes) Whole [] (says_rule (Unit {0}) _ c.in-Err.rule broken) in
+    let here = refused_by (case_fault version net scenes) c.in-Err.rule Whole [] broken in
     told_later {T = Unit {0}} (Err _) (judged_scenes net 0 scenes) _ c.in_ok-add_all.ensures.told here

@@ -17,7 +17,7 @@ returns-in-Err-clause-told c =
     let links = c.args.links.now in
     let net = c.loop-i.self in
     let next = at_drop_more (judged_links net (i + 1)) links i none c.loop-i-test.true in
-    covers_here _ _ _ (link_fault net (get_or links i none)) (Link (i + 1)) c.in-Err.fault _ c.loop-i.invariant.covers next c.in-Err.ensures.rule refl
+    covers_here _ _ _ (link_fault net (get_or links i none)) (Link (i + 1)) c.in-Err.fault _ refl c.loop-i.invariant.covers next c.in-Err.ensures.rule refl
 
 pub returns-clause-told : goal.returns-clause-told
 returns-clause-told c =

@@ -1,4 +1,4 @@
-use Rattle.std.proofs.Common.{◌≤◌, ◌+◌, ◌++◌, ℕ, length, drop, take, ap, subst, sym, ◌∙◌, arith}
+use Rattle.std.proofs.Common.{◌≤◌, ◌+◌, ◌++◌, ℕ, length, drop, take, refl, ap, subst, sym, ◌∙◌, arith}
 use Rattle.std.proofs.lemmas.List.{at_drop_all, length_push}
 use Rattle.std.proofs.lemmas.List.FromFn.{length-enumerate_from}
 use Rattle.std.proofs.lemmas.Iterator.Adapters.{YieldsList-from_vec}
@@ -19,7 +19,7 @@ returns-in-Err-clause-told c =
     let chain = YieldsList-from_enumerate {s = c.into_iter-i-iterator.result} (YieldsList-from_vec all (cc) (cc)) (cc) in
     let t = turn_of all n c.in-Some.i p (YieldsList-turn chain c.loop-i.yielded _ c.loop-i.yielded_by _ c.next.new.self (c.in-Some.i, p) c.in-Some.is c.next.ensures.steps) in
     let at = λ (i : ℕ). (let made : At = record { item = Path (i + 1); fault = c.in-Err.fault } in made) in
-    covers_here _ _ _ (path_fault net p) (Path (n + 1)) c.in-Err.fault (at c.in-Some.i) c.loop-i.invariant.covers (first_path net all n p t.0 t.2) c.in-Err.ensures.rule (ap at t.1)
+    covers_here _ _ _ (path_fault net p) (Path (n + 1)) c.in-Err.fault (at c.in-Some.i) refl c.loop-i.invariant.covers (first_path net all n p t.0 t.2) c.in-Err.ensures.rule (ap at t.1)
 
 pub returns-clause-told : goal.returns-clause-told
 returns-clause-told c =

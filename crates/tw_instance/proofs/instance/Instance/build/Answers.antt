@@ -1,4 +1,4 @@
-use Rattle.std.proofs.Common.{Ok, Err, subst}
+use Rattle.std.proofs.Common.{Ok, Err, refl, subst}
 use Rattle.std.proofs.lemmas.Result.{err_from_is_err_and}
 use Rattle.tw_model.specs.Net.{Net}
 use Rattle.tw_model.specs.Rules.{nodes_fault}
@@ -8,7 +8,7 @@ use Rattle.tw_instance.proofs.Told.{refused_early, refused_here, same_judged, sa
 use Rattle.tw_instance.proofs.instance.Instance.build.Goals as goal
 
 pub returns-in-Err-clause-told : goal.returns-in-Err-clause-told
-returns-in-Err-clause-told c = refused_here Net c.in-Err.fault (nodes_fault c.args.nodes) Nodes _ c.in-Err.ensures.rule
+returns-in-Err-clause-told c = refused_here Net c.in-Err.fault (nodes_fault c.args.nodes) Nodes _ refl c.in-Err.ensures.rule
 
 pub returns-in_err-add_links-clause-told : goal.returns-in_err-add_links-clause-told
 returns-in_err-add_links-clause-told c =

@@ -1,4 +1,5 @@
 use Rattle.std.proofs.Common.{◌≡◌, ℕ, ◌<◌, List, drop, length, ap, sym, refl, ◌∙◌, subst, arith}
+use Rattle.std.proofs.lemmas.Result.{on_err_weaker}
 use Rattle.std.specs.Vec.{with_items}
 use Rattle.tw_exchange.specs.Board.{Board, IsListed, who, worker_for, workers}
 use Rattle.tw_parallel.proofs.Moved.{all_taken, are_ends, as_many, by_result, later_is, may_pass, on_ok, sim_kept, sim_later}
@@ -88,3 +89,7 @@ returns-in-Some-clause-rearranged c = subst (λ (s : Sim). IsRearranged s (sim_o
 
 pub returns-in-Some-clause-sim : goal.returns-in-Some-clause-sim
 returns-in-Some-clause-sim c = (moved c).0
+
+pub returns-in-Some-clause-stays : goal.returns-in-Some-clause-stays
+returns-in-Some-clause-stays c =
+    on_err_weaker c.hand_over.result (λ same. ap (λ (x : Board). who x c.args.router) same ∙ ap (λ (s : Sim). who s.board c.args.router) c.self.view_is) c.hand_over.ensures.err_board

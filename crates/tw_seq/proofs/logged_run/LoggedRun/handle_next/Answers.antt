@@ -17,4 +17,4 @@ invariant_of-self-2 c =
     }
 
 pub returns-clause-stuck : goal.returns-clause-stuck
-returns-clause-stuck c = λ stuck. c.in_ok-handle_next.ensures.stuck (subst IsStuck (sym c.self.view_is) stuck)
+returns-clause-stuck c = λ stuck. absurd (cc (c.in_ok-handle_next.ensures.stuck (subst IsStuck (sym c.self.view_is) stuck)))

@@ -1,4 +1,4 @@
-use Rattle.std.proofs.Common.{◌≡◌, arith, if◌then◌else◌, drop, refl, ap, sym, ◌∙◌, subst, Err, ℕ}
+use Rattle.std.proofs.Common.{◌≡◌, arith, if◌then◌else◌, drop, refl, reverse, ap, sym, ◌∙◌, subst, Err, ℕ}
 use Rattle.std.specs.Vec.{with_items}
 use Rattle.std.proofs.lemmas.Result.{err_from_is_err_and}
 use Rattle.tw_event.specs.Order.{event_before}
@@ -6,11 +6,12 @@ use Rattle.tw_sim.specs.Ordered.{insert_all}
 use Rattle.tw_seq.specs.declared.one_thread.OneThread.TheInside.{Inside}
 use Rattle.tw_seq.specs.Run.{IsNext, IsNextRun, IsStuck}
 use Rattle.tw_seq.specs.Thread.{run_of}
+use Rattle.tw_model.specs.Quiet.{changes}
 use Rattle.tw_model.specs.declared.memory.OrMemory.TheVariants.{Fault}
 use Rattle.tw_handlers.specs.Calls.{counter_full, effect_at}
 use Rattle.tw_seq.specs.Turn.{receiver}
 use Rattle.tw_seq.proofs.Fields.{IsRenewed, from_empty, other_items, renewed_next, renewed_thread}
-use Rattle.tw_seq.proofs.Next.{IsReady, next_few, next_fits, next_full, next_homes, next_net, next_stuck, next_within}
+use Rattle.tw_seq.proofs.Next.{IsReady, next_changes, next_few, next_fits, next_full, next_homes, next_net, next_stuck, next_within}
 use Rattle.tw_seq.proofs.one_thread.OneThread.handle_next.Goals as goal
 use Rattle.tw_seq.proofs.one_thread.OneThread.handle_next.Goals.{After-deref_mut, After-skip_least, After-begin_tick}
 
@@ -111,6 +112,16 @@ returns-else-note-clause-ok c =
     let d = (goal.at.returns-else-note-clause-ok c).After-begin_tick in
     subst (λ run. IsNextRun run (run_of (fields d c.self.inside.last_change))) c.self.view_is
     (renewed_next c.self.invariant (ready (goal.at.returns-else-note-clause-ok c).After-deref_mut) (renewed d c.self.inside.last_change (rw c.if-note.false)))
+
+pub returns-then-note-clause-changed : goal.returns-then-note-clause-changed
+returns-then-note-clause-changed c =
+    subst (λ run. c.in_ok-note.note.changed ≡ changes run.case c.args.event.now (reverse run.events)) c.self.view_is
+    (next_changes (ready (goal.at.returns-then-note-clause-changed c).After-deref_mut) c.in_ok-note.note.changed c.in_ok-note.ensures.changed)
+
+pub returns-else-note-clause-changed : goal.returns-else-note-clause-changed
+returns-else-note-clause-changed c =
+    subst (λ run. c.in_ok-note.note.changed ≡ changes run.case c.args.event.now (reverse run.events)) c.self.view_is
+    (next_changes (ready (goal.at.returns-else-note-clause-changed c).After-deref_mut) c.in_ok-note.note.changed c.in_ok-note.ensures.changed)
 
 pub returns-then-note-clause-begun : goal.returns-then-note-clause-begun
 returns-then-note-clause-begun c =

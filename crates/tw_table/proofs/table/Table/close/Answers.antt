@@ -1,10 +1,10 @@
-use Rattle.std.proofs.Common.{◌≡◌, ◌≤◌, ◌∙◌, length, map, rules, sym, subst, arith, vec_len}
+use Rattle.std.proofs.Common.{◌≡◌, ◌≤◌, ◌∙◌, true, length, map, rules, sym, subst, arith, vec_len}
 use Rattle.std.specs.List.{AllByRecursion}
 use Rattle.crossbeam_queue.specs.Passes.{view}
 use Rattle.tw_table.proofs.Deals.{long_map}
-use Rattle.tw_table.proofs.Joins.{closed, closed_bound, closed_stop, met_stop}
+use Rattle.tw_table.proofs.Joins.{closed, closed_bound, closed_halted, closed_stop, met_stop}
 use Rattle.tw_exchange.specs.Board.{Board}
-use Rattle.tw_table.specs.Seats.{bound_at, share_at, stop_at}
+use Rattle.tw_table.specs.Seats.{bound_at, halted_at, share_at, stop_at}
 use Rattle.tw_table.specs.Shares.{IsWhole}
 use Rattle.tw_table.proofs.table.Table.close.Goals as goal
 
@@ -32,3 +32,8 @@ pub returns-clause-bound : goal.returns-clause-bound
 returns-clause-bound g c =
     subst (λ (x : Board). AllByRecursion (λ s. bound_at s ≤ x.bound) c.args.seats.items) (sym (c.into_inner.ensures ∙ c.exchange.view_is))
     (closed_bound c.pop.result (view c.join_all-pass.result).seen c.args.seats.items c.pop.ensures.knows.seen c.join_all-pass.ensures.seen)
+
+pub returns-clause-halted : goal.returns-clause-halted
+returns-clause-halted g c =
+    subst (λ (x : Board). AllByRecursion (λ s. halted_at s ≡ true → x.halted ≡ true) c.args.seats.items) (sym (c.into_inner.ensures ∙ c.exchange.view_is))
+    (closed_halted c.pop.result (view c.join_all-pass.result).halted c.args.seats.items c.pop.ensures.knows.halted c.join_all-pass.ensures.halted)

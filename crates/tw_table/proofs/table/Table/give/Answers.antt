@@ -1,9 +1,10 @@
-use Rattle.std.proofs.Common.{subst, sym}
+use Rattle.std.proofs.Common.{ap, subst, sym, ◌∙◌}
 use Rattle.crossbeam_queue.specs.Passes.{view}
-use Rattle.tw_exchange.specs.Board.{IsBoard, opening, workers}
+use Rattle.tw_exchange.specs.Board.{IsBoard, opening, report_of, workers}
 use Rattle.tw_table.proofs.Seats.{one_alone, one_read, worker_of}
 use Rattle.tw_table.proofs.Views.{finds_empty, gives}
-use Rattle.tw_table.specs.Seats.{share_of, taken_by}
+use Rattle.tw_table.specs.Seats.{exchange_of, share_of, taken_by}
+use Rattle.tw_table.specs.declared.rule.View.{View}
 use Rattle.tw_table.specs.Shares.{no_share, share}
 use Rattle.tw_table.specs.Views.{IsVisitedBy}
 use Rattle.tw_table.proofs.table.Table.give.Goals as goal
@@ -25,3 +26,7 @@ push-requires-clause-learns g c =
 
 pub push-requires-clause-means : goal.push-requires-clause-means
 push-requires-clause-means g c = λ v x w is. is
+
+pub returns-clause-report : goal.returns-clause-report
+returns-clause-report g c =
+    ap (λ (v : View). v.report) c.push.ensures.view ∙ ap (λ w. report_of w (exchange_of c.args.held)) c.requires.fair.worker

@@ -30,7 +30,7 @@ pub loop-shard-init : goal.loop-shard-init
 loop-shard-init g c =
     let same = c.lay.ensures.queue in
     let pass = c.in-Ok-ruled.ensures.1 in (
-      deals_none (IsPassOf c.in-Ok-ruled.queue) c.args.exchange c.args.exchange.halted (shares_of c.args.shards.now c.args.hands.now) c.lay.new.pass c.in-Ok.seats.items
+      deals_none (IsPassOf c.in-Ok-ruled.queue) c.args.exchange (shares_of c.args.shards.now c.args.hands.now) c.lay.new.pass c.in-Ok.seats.items
           c.in-Ok.ensures.items (same.0 ∙ pass.0, same.2 ∙ pass.1)
           (c.lay.ensures.view ∙ ap (opened (shares_of c.args.shards.now c.args.hands.now)) c.in-Ok-new.ensures.ok),
       search rules,

@@ -1,10 +1,12 @@
-use Rattle.std.proofs.Common.{◌≡◌, ◌↔◌, Ok, Err, ◌∙◌, subst}
+use Rattle.std.proofs.Common.{◌≡◌, ◌↔◌, true, Ok, Err, ap, sym, ◌∙◌, subst}
 use Rattle.std.specs.Prelude.{IsErrOf, OnOk}
 use Rattle.tw_model.specs.Case.{simulation}
 use Rattle.tw_model.specs.declared.memory.OrMemory.TheVariants as or_memory
-use Rattle.tw_warp.specs.Calls.{calling, outcome_of}
+use Rattle.tw_shard.specs.Shard.{owns}
+use Rattle.tw_warp.specs.Calls.{CallTakesNone, FreeAt, calling, outcome_of}
 use Rattle.tw_warp.specs.Inside.{warp_of}
-use Rattle.tw_warp.specs.Warp.{Warp, core, no_shard}
+use Rattle.tw_warp.specs.Warp.{Warp, core, no_shard, shard_at}
+use Rattle.tw_warp.proofs.Free.{free_at}
 use Rattle.tw_warp.proofs.Joined.{with_shard}
 use Rattle.tw_warp.proofs.Turns.{IsTurned, any_default, seq_of, call_outcome, turned, within_there, worker_there}
 use Rattle.tw_warp.proofs.warp.Warp.at_router.Goals as goal
@@ -37,3 +39,14 @@ returns-clause-refused c = λ f.
 
 pub returns-clause-seq : goal.returns-clause-seq
 returns-clause-seq c = seq_of _ (turn c).is
+
+pub returns-clause-free : goal.returns-clause-free
+returns-clause-free c = λ none told.
+    let w = warp_of c.self.inside in
+    let r = c.args.router in
+    let k = c.worker_of-worker.result in
+    let within = within_there w c.args.self.now k c.self.view_is c.worker_of-worker.ensures.within in
+    let mine = worker_there w c.args.self.now r k c.self.view_is c.worker_of-worker.ensures.value in
+    let there = c.index_mut.ensures.value ∙ (any_default w.shards k c.index_mut.result.now no_shard within ∙ ap (shard_at w) (sym mine)) in
+    let here : CallTakesNone (simulation w.case) c.args.call r (core w) = subst (λ (v : Warp). CallTakesNone (simulation v.case) c.args.call r (core v)) (sym c.self.view_is) none in
+    c.call_on.ensures.free (λ own. subst (λ s. owns s r ≡ true → FreeAt c.args.call s r) (sym there) (free_at w c.self.invariant r c.args.call here) own) told

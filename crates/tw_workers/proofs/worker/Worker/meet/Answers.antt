@@ -1,8 +1,9 @@
 use Rattle.std.proofs.Common.{◌∙◌, ◌<◌, ap, length, subst}
 use Rattle.std.proofs.lemmas.Result.{on_err_weaker, on_ok_weaker}
-use Rattle.tw_exchange.specs.Board.{Board, workers}
+use Rattle.tw_exchange.specs.Board.{Board, report_of, workers}
 use Rattle.tw_table.specs.Seats.{exchange_of, owners_on, workers_at}
-use Rattle.tw_workers.proofs.Visits.{dealt_there}
+use Rattle.tw_table.specs.Shares.{Share}
+use Rattle.tw_workers.proofs.Visits.{dealt_there, homeless_there}
 use Rattle.tw_workers.proofs.worker.Worker.meet.Goals as goal
 
 pub visit-meeting-requires-clause-dealt : goal.visit-meeting-requires-clause-dealt
@@ -19,3 +20,15 @@ visit-meeting-requires-clause-wanted g c =
 
 pub give-seat-requires-clause-held : goal.give-seat-requires-clause-held
 give-seat-requires-clause-held g c = c.visit-meeting.ensures.seat.table _ c.take-held.ensures.held
+
+pub visit-meeting-requires-clause-no_router : goal.visit-meeting-requires-clause-no_router
+visit-meeting-requires-clause-no_router g c = λ why.
+    let t = c.args.table.now in
+    let taken = c.take-held.ensures in
+    homeless_there (exchange_of c.take-held.result) (owners_on t) (workers_at t) c.deref.result.now c.self.inside.hand.out.items
+    (ap (λ (y : Board). y.owners) taken.exchange ∙ taken.owners) (ap (λ (y : Board). workers y) taken.exchange ∙ taken.workers) c.deref.ensures.value (c.deal-dealt.ensures.no_router.0 why)
+
+pub returns-clause-report : goal.returns-clause-report
+returns-clause-report g c = λ taken.
+    let y = exchange_of c.visit-meeting.new.held in
+    c.give-seat.ensures.report ∙ (ap (λ (s : Share). report_of s.shard.worker y) c.visit-meeting.ensures.seat.share ∙ c.visit-meeting.ensures.report taken)

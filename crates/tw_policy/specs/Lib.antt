@@ -1,0 +1,10 @@
+pub mod Stable
+pub mod Elimination
+pub mod Standing
+pub mod Left
+pub mod OneList
+pub mod DisputeWheel
+pub mod Search
+pub mod Alike
+pub mod Safe
+pub mod Gadgets

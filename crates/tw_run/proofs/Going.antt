@@ -1,0 +1,106 @@
+-- How a run by workers goes on, and why it stops.
+use Rattle.std.proofs.Common.{◌≡◌, ℕ, ◌≤◌, ◌<◌, true, replicate, refl, sym, subst, ◌∙◌, arith, Result, Ok, Err, Some}
+use Rattle.std.specs.Prelude.{IfOk}
+use Rattle.tw_exchange.specs.Board.{workers}
+use Rattle.tw_model.specs.Case.{Case}
+use Rattle.tw_parallel.proofs.Rounds.{goes_on_both}
+use Rattle.tw_parallel.specs.Settled.{IsSettled}
+use Rattle.tw_parallel.specs.Sim.{GoesOn, HasSameOwners, KeepsEvents, Sim, cancels_of}
+use Rattle.tw_run.proofs.Dealt.{still_dealt}
+use Rattle.tw_run.specs.Dealing.{AreDealt}
+use Rattle.tw_run.specs.Ran.{HasCome, HasComeTo, HasStoppedBy, HaveComeAsChosen, IsBy, IsLeftBy, IsRunBy, IsRunByAny, MayStop, MayStopAlone, MayStopBy}
+use Rattle.tw_run.specs.declared.dealing.Dealing.{Dealing as ADealing}
+use Rattle.tw_run.specs.declared.ran.By.{By}
+use Rattle.tw_run.specs.declared.ran.By.TheVariants as by
+use Rattle.tw_run.specs.declared.policy.TheConstants.{MOST_WORKERS_CHOSEN}
+use Rattle.tw_run.specs.Stopped.{HasStopped}
+use Rattle.tw_run.specs.declared.cause.Stopped.{Stopped}
+use Rattle.tw_run.specs.declared.cause.Stopped.TheVariants.{Memory, CounterFull, Ended}
+use Rattle.tw_run.specs.declared.run.Asked.{Asked as AnAsked}
+
+-- what stops a later run stops the one before it
+pub stopped_before : (s t : Sim) (why : Stopped) → GoesOn s t → HasStopped t why → HasStopped s why
+stopped_before s t Memory on h = tt
+stopped_before s t CounterFull on h = h
+stopped_before s t (Ended e) on h = record { goes_on = goes_on_both s t e.sim on h.goes_on; lower = h.lower; full = h.full }
+
+-- the workers of a run that goes on are those that it began with
+pub by_later : (case : Case) (asked : AnAsked) (n : ℕ) (s t : Sim) → IsBy case asked n s → GoesOn s t → IsBy case asked n t
+by_later case asked n s t by on = record { of_case = on.case ∙ by.of_case; workers = on.workers ∙ by.workers; cancels = on.cancels ∙ by.cancels }
+
+-- so is what stops them
+pub stopped_by : (case : Case) (asked : AnAsked) (n : ℕ) (s : Sim) (why : Stopped) → IsBy case asked n s → HasStopped s why → HasStoppedBy case asked n why
+stopped_by case asked n s Memory by h = tt
+stopped_by case asked n s CounterFull by h = h
+stopped_by case asked n s (Ended e) by h = (by_later case asked n s e.sim by h.goes_on, h.lower, h.full)
+
+-- their routers stay dealt out
+pub dealt_later : (d : ADealing) (k : ℕ) (s : Sim) (result : Result Sim Stopped) → AreDealt d k s → IfOk result (λ t. GoesOn s t) → IfOk result (λ t. HasSameOwners s t) → IfOk result (λ t. AreDealt d k t)
+dealt_later d k s (Ok t) dealt on same = still_dealt d k s t dealt on same
+dealt_later d k s (Err why) dealt on same = tt
+
+-- so these workers ran the case
+pub run_by_left : (case : Case) (asked : AnAsked) (n : ℕ) (s : Sim) (by : By) → IsLeftBy s by → HasCome case asked n s → IsRunBy case asked n by
+run_by_left case asked n s by.OneThread left come = absurd left
+run_by_left case asked n s (by.Workers t) left come = subst (HasCome case asked n) (sym left) come
+run_by_left case asked n s (by.OneThreadAfter t) left come = absurd left
+
+-- or those that were chosen
+pub any_left : (case : Case) (asked : AnAsked) (s : Sim) (by : By) → IsLeftBy s by → HaveComeAsChosen case asked s → IsRunByAny case asked by
+any_left case asked s by.OneThread left come = absurd left
+any_left case asked s (by.Workers t) left come = subst (HaveComeAsChosen case asked) (sym left) come
+any_left case asked s (by.OneThreadAfter t) left come = absurd left
+
+-- what stops one thread stops a run
+pub alone_stops : (case : Case) (asked : AnAsked) (why : Stopped) → MayStopAlone case asked.stop why → MayStop case asked why
+alone_stops case asked Memory may = tt
+alone_stops case asked CounterFull may = may
+alone_stops case asked (Ended e) may = absurd may
+
+-- and what stops the workers that were told
+pub told_stops : (case : Case) (asked : AnAsked) (n : ℕ) (why : Stopped) → 1 < n → asked.workers ≡ Some n → MayStopBy case asked n why → MayStop case asked why
+told_stops case asked n Memory many told may = tt
+told_stops case asked n CounterFull many told may = may
+told_stops case asked n (Ended e) many told may = (n, many, told, may)
+
+-- ---- workers that are tried
+
+-- they have come to a time
+pub come_to : (time : ℕ) (case : Case) (asked : AnAsked) (n : ℕ) (s t : Sim) → IsBy case asked n s → (asked.log ≡ true → KeepsEvents s) → GoesOn s t → IsSettled t → t.board.stop ≡ time
+    → AreDealt asked.dealing 0 t → HasComeTo time case asked n t
+come_to time case asked n s t by keeps on settled stop dealt = record {
+  by = by_later case asked n s t by on;
+  settled = settled;
+  stop = stop;
+  dealt = dealt;
+  keeps = λ log. on.keeps (keeps log);
+}
+
+-- and to the stop
+pub come_to_stop : (time : ℕ) (case : Case) (asked : AnAsked) (n : ℕ) (s : Sim) → time ≤ asked.stop → asked.stop ≤ time → HasComeTo time case asked n s → HasCome case asked n s
+come_to_stop time case asked n s early late come = record {
+  by = come.by;
+  settled = come.settled;
+  stop = come.stop ∙ (let same : time ≡ asked.stop = omega (arith, early, late) in same);
+  dealt = (0, come.dealt);
+  keeps = come.keeps;
+}
+
+-- those that were tried may be chosen
+pub come_as_chosen : (case : Case) (asked : AnAsked) (n : ℕ) (s t : Sim) → n ≤ MOST_WORKERS_CHOSEN → IsBy case asked n s → HasCome s.case asked (workers s.board) t → HaveComeAsChosen case asked t
+come_as_chosen case asked n s t few by come =
+    let many = come.by.workers in
+    let told = by.workers in (
+      omega (arith, few, many, told),
+      record {
+        by = record {
+          of_case = come.by.of_case ∙ by.of_case;
+          workers = refl;
+          cancels = come.by.cancels ∙ (λ i. replicate (sym many i) asked.cancel);
+        };
+        settled = come.settled;
+        stop = come.stop;
+        dealt = come.dealt;
+        keeps = come.keeps;
+      },
+    )

@@ -1,0 +1,27 @@
+use Rattle.std.proofs.Common.{ap, inl, refl, subst, Err}
+use Rattle.std.specs.Io.KnownBytes.{Appends}
+use Rattle.std.proofs.lemmas.Result.{err_from_is_err_and}
+use Rattle.tw_device.specs.Sink.{Begins}
+use Rattle.tw_model.specs.Summary.{summary_of}
+use Rattle.tw_commands.proofs.Shown.{shown_paths, shown_report}
+use Rattle.tw_run.proofs.run.write_left.Goals as goal
+
+pub write_report-requires-clause-paths : goal.write_report-requires-clause-paths
+write_report-requires-clause-paths g c =
+    rw (c.instance.ensures.value, c.requires.ran.outcome) (shown_paths c.args.case.now c.instance.ensures.case c.args.asked.stop c.args.asked.log)
+
+pub returns-in_err-write_report : goal.returns-in_err-write_report
+returns-in_err-write_report g c =
+    let r = c.from_residual in
+    let p = err_from_is_err_and r.result r.ensures.1 in
+    let told = c.in_err-write_report.ensures in
+    let text = shown_report c.args.case.now c.instance.result.now c.args.asked.stop c.args.asked.every c.args.asked.log (summary_of c.args.ran.now.outcome) c.args.ran.now.found
+    c.of-verdict.result c.instance.ensures.value c.requires.ran.outcome c.requires.ran.found c.of-verdict.ensures in
+    rw (p.1, p.2) (inl (record { prefix = subst (Begins _ _) text told.0; closed = told.1 }))
+
+pub returns : goal.returns
+returns g c =
+    let told = c.in_ok-write_report.ensures in
+    let text = shown_report c.args.case.now c.instance.result.now c.args.asked.stop c.args.asked.every c.args.asked.log (summary_of c.args.ran.now.outcome) c.args.ran.now.found
+    c.of-verdict.result c.instance.ensures.value c.requires.ran.outcome c.requires.ran.found c.of-verdict.ensures in
+    inl (record { as_told = refl; whole = subst (Appends _ _) text told.0; still = told.1 })

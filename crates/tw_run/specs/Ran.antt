@@ -1,0 +1,114 @@
+-- What a run leaves at its stop, and who ran it (own).
+use Rattle.std.specs.Prelude.{ℕ, ◌≡◌, ◌<◌, ◌≤◌, true, List, Option, Some, replicate}
+use Rattle.tw_commands.specs.Seq.{found_to, shown}
+use Rattle.tw_exchange.specs.Board.{workers}
+use Rattle.tw_model.specs.Case.{Case}
+use Rattle.tw_model.specs.Summary.{summary_of}
+use Rattle.tw_parallel.specs.Settled.{IsSettled}
+use Rattle.tw_parallel.specs.declared.run.Ended.{Ended as AnEnd}
+use Rattle.tw_parallel.specs.Sim.{KeepsEvents, Sim, cancels_of}
+use Rattle.tw_run.specs.Dealing.{AreDealt}
+use Rattle.tw_run.specs.declared.cause.Stopped.{Stopped}
+use Rattle.tw_run.specs.declared.cause.Stopped.TheVariants.{Memory, CounterFull, Ended}
+use Rattle.tw_run.specs.declared.ran.By.{By}
+use Rattle.tw_run.specs.declared.ran.By.TheVariants.{OneThread, Workers, OneThreadAfter}
+use Rattle.tw_run.specs.declared.ran.Ran.{Ran as ARun}
+use Rattle.tw_run.specs.declared.policy.TheConstants.{MOST_WORKERS_CHOSEN}
+use Rattle.tw_run.specs.declared.run.Asked.{Asked as AnAsked}
+use Rattle.tw_seq.specs.Outcome.{outcome_of}
+use Rattle.tw_seq.specs.Run.{GetsStuck, complete_run}
+use Rattle.tw_threads.specs.Left.{IsFullAhead}
+use Rattle.tw_threads.specs.declared.end_cause.EndCause.TheVariants as ended
+
+-- it leaves what the sequential run of the case leaves at the stop that was asked for
+pub record IsRunOf (case : Case) (asked : AnAsked) (ran : ARun) : Type 0 where
+  pub outcome : summary_of ran.outcome ≡ shown asked.log (outcome_of (complete_run case asked.stop))
+  pub found : ran.found ≡ found_to case asked.stop asked.every
+
+-- a run of the case by n workers, which take back what undone events have sent when it was asked for
+pub record IsBy (case : Case) (asked : AnAsked) (n : ℕ) (s : Sim) : Type 0 where
+  pub of_case : s.case ≡ case
+  pub workers : workers s.board ≡ n
+  pub cancels : cancels_of s ≡ replicate n asked.cancel
+
+-- which have come to the stop, the routers dealt out to all of them
+pub record HasCome (case : Case) (asked : AnAsked) (n : ℕ) (s : Sim) : Type 0 where
+  pub by : IsBy case asked n s
+  pub settled : IsSettled s
+  pub stop : s.board.stop ≡ asked.stop
+  pub dealt : (checkpoints : ℕ) × AreDealt asked.dealing checkpoints s
+  -- with the events where these are to be logged
+  pub keeps : asked.log ≡ true → KeepsEvents s
+
+-- or only to an earlier time, dealt out as at the beginning
+pub record HasComeTo (time : ℕ) (case : Case) (asked : AnAsked) (n : ℕ) (s : Sim) : Type 0 where
+  pub by : IsBy case asked n s
+  pub settled : IsSettled s
+  pub stop : s.board.stop ≡ time
+  pub dealt : AreDealt asked.dealing 0 s
+  pub keeps : asked.log ≡ true → KeepsEvents s
+
+-- or one of which met a full counter
+pub record HasMetFull (case : Case) (asked : AnAsked) (n : ℕ) (s : Sim) : Type 0 where
+  pub by : IsBy case asked n s
+  pub full : IsFullAhead s.board.stop s.shares
+
+-- n workers ran to the stop; or they met a full counter ahead of the run, and only then one thread ran
+abbrev pub IsRunBy : Case → AnAsked → ℕ → By → Type 0
+IsRunBy case asked n OneThread = ⊥
+IsRunBy case asked n (Workers s) = HasCome case asked n s.value
+IsRunBy case asked n (OneThreadAfter s) = HasMetFull case asked n s.value
+
+-- these workers ran
+abbrev pub IsLeftBy : Sim → By → Type 0
+IsLeftBy s OneThread = ⊥
+IsLeftBy s (Workers t) = t.value ≡ s
+IsLeftBy s (OneThreadAfter t) = ⊥
+
+-- so many at most have come to the stop
+abbrev pub HaveComeAsChosen : Case → AnAsked → Sim → Type 0
+HaveComeAsChosen case asked s = (workers s.board ≤ MOST_WORKERS_CHOSEN) × HasCome case asked (workers s.board) s
+
+-- one thread ran to the stop, or as many workers as may be chosen
+abbrev pub IsRunByAny : Case → AnAsked → By → Type 0
+IsRunByAny case asked OneThread = Unit {0}
+IsRunByAny case asked (Workers s) = HaveComeAsChosen case asked s.value
+IsRunByAny case asked (OneThreadAfter s) = ⊥
+
+-- ---- why a run did not come to its stop
+
+-- n workers who ran the case stopped for this
+abbrev pub HasStoppedBy : Case → AnAsked → ℕ → Stopped → Type 0
+HasStoppedBy case asked n Memory = Unit {0}
+HasStoppedBy case asked n CounterFull = ⊥
+HasStoppedBy case asked n (Ended e) = IsBy case asked n e.sim × (e.cause ≡ ended.StopLower → ⊥) × (e.cause ≡ ended.CounterFull → IsFullAhead e.sim.board.stop e.sim.shares)
+
+-- one thread stops for want of memory, or where the sequential run gets stuck
+abbrev pub MayStopAlone : Case → ℕ → Stopped → Type 0
+MayStopAlone case stop Memory = Unit {0}
+MayStopAlone case stop CounterFull = GetsStuck case stop
+MayStopAlone case stop (Ended e) = ⊥
+
+-- where workers had ended so, one thread ran: they met a full counter
+abbrev pub HasRunAnew : AnEnd → By → Type 0
+HasRunAnew e OneThread = ⊥
+HasRunAnew e (Workers s) = ⊥
+HasRunAnew e (OneThreadAfter s) = (s.value ≡ e.sim) × (e.cause ≡ ended.CounterFull)
+
+-- the run ended as its workers did, for no full counter; or it stopped as one thread may
+abbrev pub IsEndOr : AnEnd → (Stopped → Type 0) → Stopped → Type 0
+IsEndOr e Alone Memory = Alone Memory
+IsEndOr e Alone CounterFull = Alone CounterFull
+IsEndOr e Alone (Ended x) = (x ≡ e) × (e.cause ≡ ended.CounterFull → ⊥)
+
+-- n workers who ran the case, or one thread after them, stop for this: for no full counter but the sequential run's
+abbrev pub MayStopBy : Case → AnAsked → ℕ → Stopped → Type 0
+MayStopBy case asked n Memory = Unit {0}
+MayStopBy case asked n CounterFull = GetsStuck case asked.stop
+MayStopBy case asked n (Ended e) = IsBy case asked n e.sim × (e.cause ≡ ended.StopLower → ⊥) × (e.cause ≡ ended.CounterFull → ⊥)
+
+-- a run stops for want of memory, or where the sequential run gets stuck, or as the workers did that it was told
+abbrev pub MayStop : Case → AnAsked → Stopped → Type 0
+MayStop case asked Memory = Unit {0}
+MayStop case asked CounterFull = GetsStuck case asked.stop
+MayStop case asked (Ended e) = (n : ℕ) × (1 < n) × (asked.workers ≡ Some n) × MayStopBy case asked n (Ended e)

@@ -1,0 +1,30 @@
+"""twarp from Python: cases, runs by the proved program, sweeps over many runs, and pictures.
+
+    import twarp
+
+    case = twarp.Case(3).link(0, 1, 1).link(0, 2, 5).link(1, 2, 1)
+    case.path(1, 2, 0).path(1, 0).path(2, 1, 0).path(2, 0)
+    report = twarp.seq(case, stop=20, log=True)
+    print(report.verdict, report.routers[2].rib)
+
+The package needs Python 3.10 alone; `Case.from_networkx` and `Case.to_networkx` need networkx (Debian:
+python3-networkx), and `cluster` needs distributed (Debian: python3-distributed). `docs/TUTORIAL.md` has more.
+"""
+from twarp import pictures
+from twarp.calls import Size, check, replay, run, seq, trail, upgrade, version
+from twarp.case import BarScene, Case, Link, LinkScene, SwapScene
+from twarp.draws import Exponential, LogNormal, Uniform
+from twarp.errors import Refused, Stopped
+from twarp.event import Allow, Event, Fail, Forbid, Restore, Start, Swap, Update
+from twarp.outcomes import Outcome, Outcomes
+from twarp.report import Open, Oscillates, Quiet, Replay, Report, RouterLine, Step, Trail, Undone
+from twarp.sweeps import Sweep, cluster, sweep
+from twarp.trials import End, Failed, Trial
+
+# fmt: off
+__all__ = [
+    "Allow", "BarScene", "Case", "End", "Event", "Exponential", "Fail", "Failed", "Forbid", "Link", "LinkScene",
+    "LogNormal", "Open", "Oscillates", "Outcome", "Outcomes", "Quiet", "Refused", "Replay", "Report", "Restore",
+    "RouterLine", "Size", "Start", "Step", "Stopped", "Swap", "SwapScene", "Sweep", "Trail", "Trial", "Undone",
+    "Uniform", "Update", "check", "cluster", "pictures", "replay", "run", "seq", "sweep", "trail", "upgrade", "version",
+]

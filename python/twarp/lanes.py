@@ -1,0 +1,115 @@
+"""What the pictures of runs and of replays share: a lane for each router, and a legend of the marks."""
+from __future__ import annotations
+
+import math
+from collections.abc import Callable, Mapping, Sequence
+from dataclasses import dataclass
+from functools import cached_property
+from xml.etree.ElementTree import Element
+
+from twarp.errors import Refused
+from twarp.svg import add
+
+TOP = 104.0
+MOST_MARKS = 5_000
+MOST_LANES = 200
+
+
+@dataclass(frozen=True)
+class View:
+    """What is to be seen: times, or steps of a replay, from `first` to `last`, and the lanes of some routers."""
+
+    first: int
+    last: int
+    routers: Sequence[int]
+    names: Mapping[int, str]
+
+    @cached_property
+    def shown(self) -> frozenset[int]:
+        """The routers that have a lane."""
+        return frozenset(self.routers)
+
+    def meets(self, start: int, end: int) -> bool:
+        """Whether some of a stretch is in view."""
+        return start <= self.last and end >= self.first
+
+    def refuse_crowd(self, marks: int) -> None:
+        """Refuses a picture in which nobody could tell the marks apart."""
+        if marks > MOST_MARKS:
+            raise Refused(
+                f"there are {marks:,} marks to be drawn, and at most {MOST_MARKS:,} can be told apart: "
+                "choose some by --from, --to and --routers"
+            )
+        if len(self.routers) > MOST_LANES:
+            raise Refused(
+                f"there are {len(self.routers):,} lanes to be drawn, and at most {MOST_LANES} can be told apart: "
+                "choose some by --routers"
+            )
+
+
+class Lanes:
+    """The lanes of a view's routers, from top to bottom."""
+
+    def __init__(self, view: View):
+        self.names = {router: f"{router} {view.names.get(router, '')}".rstrip() for router in view.routers}
+        self.places = {router: place for place, router in enumerate(view.routers)}
+        self.left = 48 + 7.5 * max(map(len, self.names.values()))
+
+    @cached_property
+    def height(self) -> float:
+        """The height of a lane."""
+        return 66.0 if len(self.places) <= 12 else 48.0 if len(self.places) <= 40 else 34.0
+
+    @cached_property
+    def bar(self) -> float:
+        """The height of a bar."""
+        return 18.0 if len(self.places) <= 40 else 14.0
+
+    @cached_property
+    def bottom(self) -> float:
+        return TOP + self.height * len(self.places)
+
+    def y(self, router: int) -> float:
+        """The middle of the router's lane."""
+        return TOP + self.height * (self.places[router] + 0.5)
+
+    def edge(self, router: int, other: float) -> float:
+        """That edge of the router's bar which is nearer to the height `other`."""
+        return self.y(router) + math.copysign(self.bar / 2, other - self.y(router))
+
+    def draw(self, lines: Element, names: Element, right: float) -> None:
+        for router, name in self.names.items():
+            y = self.y(router)
+            add(lines, "line", class_="lane", x1=self.left, y1=y, x2=right, y2=y)
+            add(names, "text", name, class_="name", x=self.left - 18, y=y + 4)
+
+
+# Draws a sample of a mark around a point.
+Sample = Callable[[Element, float, float], None]
+
+
+def sample_box(**attributes: str) -> Sample:
+    def draw(parent: Element, x: float, y: float) -> None:
+        add(parent, "rect", x=x - 13, y=y - 6, width=26, height=12, rx=3, **attributes)
+
+    return draw
+
+
+def sample_line(**attributes: str) -> Sample:
+    def draw(parent: Element, x: float, y: float) -> None:
+        add(parent, "line", x1=x - 14, y1=y, x2=x + 12, y2=y, **attributes)
+
+    return draw
+
+
+def draw_legend(parent: Element, right: float, y: float, entries: list[tuple[str, Sample]]) -> float:
+    """Draws samples with their names beside them, in as many lines as they take, and gives the height below them."""
+    x = left = 16.0
+    for name, draw in entries:
+        width = 52 + 6.9 * len(name)
+        if x > left and x + width > right:
+            x, y = left, y + 22
+        draw(parent, x + 14, y)
+        add(parent, "text", name, x=x + 34, y=y + 4)
+        x += width
+    return y + 22

@@ -1,0 +1,236 @@
+"""The Time Warp machine of a replay, followed step by step along its answers.
+
+Taken from Jefferson (1985): stragglers, antimessages, annihilation in either order of arrival, aggressive cancellation;
+and from Gafni (1988): lazy cancellation.
+"""
+from __future__ import annotations
+
+import enum
+from collections.abc import Iterable
+from dataclasses import dataclass, field
+from itertools import zip_longest
+
+from twarp.case import Case
+from twarp.errors import Refused
+from twarp.event import Event, opening_events
+from twarp.protocol import Router, opening_routers
+from twarp.report import Replay, Step
+from twarp.following import compare_routers, written
+
+
+class Fate(enum.Enum):
+    """What became of a message or an antimessage."""
+
+    IN_FLIGHT = "in flight"
+    PENDING = "pending"
+    ANNIHILATED = "annihilated"
+    KEPT = "kept until its message comes"
+
+
+@dataclass(slots=True)
+class Signed:
+    """A message, or the antimessage that takes it back, with the steps that sent and delivered it."""
+
+    is_anti: bool
+    event: Event
+    sent_at: int
+    delivered_at: int | None = None
+    fate: Fate = Fate.IN_FLIGHT
+
+    @property
+    def words(self) -> str:
+        """What became of it."""
+        way = f"delivered by step {self.delivered_at}, " if self.delivered_at else ""
+        return f"{way}{self.fate.value}"
+
+
+@dataclass(slots=True)
+class Handling:
+    """One handling of an event, with the steps that did, undid and committed it."""
+
+    event: Event
+    before: Router
+    sends: list[Event]
+    done_at: int
+    undone_at: int | None = None
+    committed_at: int | None = None
+
+
+@dataclass
+class History:
+    """What the steps did, in their order; a bound stands with the step that found it."""
+
+    handlings: list[Handling] = field(default_factory=list)
+    messages: list[Signed] = field(default_factory=list)
+    bounds: list[tuple[int, int]] = field(default_factory=list)
+
+
+class Machine:
+    """Routers with what is pending, handled, in flight, kept and held. `number` is that of the step under way, from 1.
+
+    Where it `is_lazy`, what an undone event had sent is held until its router sends it again or releases it.
+
+    The run's stop is not told. The last bound is the stop where nothing loose is at it or before it, and else a time
+    before the stop, which limits the bounds found as the stop does.
+    """
+
+    def __init__(self, case: Case, last_bound: int, is_lazy: bool):
+        self.routers = opening_routers(case)
+        self.path_numbers = case.path_numbers()
+        self.pending: list[list[Event]] = [[] for _ in self.routers]
+        self.handled: list[list[Handling]] = [[] for _ in self.routers]
+        self.flight: list[Signed] = []
+        self.kept: list[Event] = []
+        self.held: list[Event] = []
+        self.is_lazy = is_lazy
+        self.bound = 0
+        self.last_bound = last_bound
+        self.is_at_stop = False
+        self.number = 0
+        self.history = History()
+        for event in opening_events(case):
+            self.pending[event.dst].append(event)
+
+    def key(self, event: Event) -> tuple[int, ...]:
+        return event.key(self.path_numbers)
+
+    def can_do(self, step: Step) -> bool:
+        """Whether there is something to handle, undo or deliver, at a router that is there."""
+        match step:
+            case Step("handle", int(router)):
+                return router < len(self.routers) and bool(self.pending[router])
+            case Step("undo", int(router)):
+                return router < len(self.routers) and bool(self.handled[router])
+            case Step("deliver", int(place)):
+                return 1 <= place <= len(self.flight)
+            case Step("commit" | "release", int(router)):
+                return router < len(self.routers)
+        return True
+
+    def do(self, step: Step) -> None:
+        """Does a step that can be done."""
+        match step:
+            case Step("handle", int(router)):
+                self.handle(router)
+            case Step("undo", int(router)):
+                self.undo_last(router)
+            case Step("deliver", int(place)):
+                self.deliver(place)
+            case Step("bound"):
+                loose = [message.event.time for message in self.flight]
+                loose += [event.time for event in self.all_pending() + self.kept + self.held]
+                self.is_at_stop |= all(time > self.last_bound for time in loose)
+                self.bound = max(self.bound, min(loose + [self.last_bound]))
+                self.history.bounds.append((self.number, self.bound))
+            case Step("commit", int(router)):
+                for handling in self.handled[router]:
+                    if handling.committed_at is None and handling.event.time < self.bound:
+                        handling.committed_at = self.number
+            case Step("release", int(router)):
+                self.release(router)
+
+    def handle(self, router: int) -> None:
+        event = min(self.pending[router], key=self.key)
+        self.pending[router].remove(event)
+        before = self.routers[router].copy()
+        handling = Handling(event, before, self.routers[router].handle(event), self.number)
+        self.handled[router].append(handling)
+        self.history.handlings.append(handling)
+        self.send(self.unheld(handling.sends), is_anti=False)
+
+    def unheld(self, sends: list[Event]) -> list[Event]:
+        """Those of what is sent that are not held; the others were sent before, and are held no more."""
+        going = []
+        for event in sends:
+            if event in self.held:
+                self.held.remove(event)
+            else:
+                going.append(event)
+        return going
+
+    def send(self, events: Iterable[Event], is_anti: bool) -> None:
+        messages = [Signed(is_anti, event, self.number) for event in events]
+        self.flight += messages
+        self.history.messages += messages
+
+    def undo_last(self, router: int) -> None:
+        handling = self.handled[router].pop()
+        handling.undone_at = self.number
+        self.routers[router] = handling.before
+        self.pending[router].append(handling.event)
+        if self.is_lazy:
+            self.held += handling.sends
+        else:
+            self.send(handling.sends, is_anti=True)
+
+    def release(self, router: int) -> None:
+        released = sorted((event for event in self.held if event.src == router), key=self.key)
+        self.held = [event for event in self.held if event.src != router]
+        self.send(released, is_anti=True)
+
+    def deliver(self, place: int) -> None:
+        message = self.flight.pop(place - 1)
+        message.delivered_at = self.number
+        receive = self.receive_anti if message.is_anti else self.receive
+        message.fate = receive(message.event)
+
+    def receive(self, event: Event) -> Fate:
+        if event in self.kept:
+            self.kept.remove(event)
+            return Fate.ANNIHILATED
+        handled = self.handled[event.dst]
+        while handled and self.key(handled[-1].event) > self.key(event):
+            self.undo_last(event.dst)
+        self.pending[event.dst].append(event)
+        return Fate.PENDING
+
+    def receive_anti(self, event: Event) -> Fate:
+        pending, handled = self.pending[event.dst], self.handled[event.dst]
+        if event not in pending and all(handling.event != event for handling in handled):
+            self.kept.append(event)
+            return Fate.KEPT
+        while event not in pending:
+            self.undo_last(event.dst)
+        pending.remove(event)
+        return Fate.ANNIHILATED
+
+    def all_pending(self) -> list[Event]:
+        return [event for row in self.pending for event in row]
+
+    def loose_line(self) -> str:
+        ahead = sum(handling.committed_at is None for row in self.handled for handling in row)
+        line = f"flight {len(self.flight)} pending {len(self.all_pending())} kept {len(self.kept)} ahead {ahead}"
+        return f"{line} held {len(self.held)}" if self.is_lazy else line
+
+    def committed(self) -> list[Event]:
+        events = [handling.event for row in self.handled for handling in row if handling.committed_at]
+        return sorted(events, key=self.key)
+
+
+def follow_replay(case: Case, steps: list[Step], replay: Replay) -> History:
+    """What the steps did; refused at the first line that is not what they lead to."""
+    machine = Machine(case, replay.bound, replay.is_lazy)
+    for machine.number, (step, refusal) in enumerate(zip(steps, replay.answers), 1):
+        if refusal is not None:
+            continue
+        if not machine.can_do(step):
+            raise Refused.at_line(machine.number + 1, f"`{step}` can't be done here")
+        machine.do(step)
+    compare(machine, replay)
+    return machine.history
+
+
+def compare(machine: Machine, replay: Replay) -> None:
+    """Refuses the first line that is not what the steps led to."""
+    latest = max((handling.event.time for handling in machine.history.handlings), default=0)
+    number = replay.bound_number
+    if machine.is_at_stop and latest >= machine.last_bound:
+        raise Refused.at_line(number, f"an event at {latest} was handled, so the bound is later")
+    if machine.bound != replay.bound:
+        raise Refused.at_line(number, f"the steps lead to `bound {machine.bound}`")
+    if machine.loose_line() != replay.loose:
+        raise Refused.at_line(number + 1, f"the steps lead to `{machine.loose_line()}`")
+    for number, (event, wanted) in enumerate(zip_longest(replay.events, machine.committed()), number + 2):
+        if event is None or event != wanted:
+            raise Refused.at_line(min(number, replay.router_number), f"the steps lead to {written(wanted)} here")
+    compare_routers(replay, machine.routers)

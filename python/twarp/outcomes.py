@@ -1,0 +1,369 @@
+"""How the runs of a sweep ended: as lines of a table, and counted by outcome."""
+from __future__ import annotations
+
+import csv
+import json
+import re
+from collections import Counter
+from collections.abc import Iterable, Iterator, Sequence
+from dataclasses import dataclass, field
+from functools import cached_property
+from math import ceil, sqrt
+from statistics import NormalDist
+from typing import Any, TextIO
+
+from twarp.axis import nice_step
+from twarp.errors import Refused
+from twarp.lines import PATH, read_path, write_path
+from twarp.report import Open, Oscillates, Quiet, Verdict
+from twarp.trials import End, Failed, Ribs, Trial
+
+# The intervals are such that 95 of 100 hold the share that infinitely many runs would have.
+DEVIATIONS = NormalDist().inv_cdf(0.975)
+# How many routers' paths tell an outcome from the others in a line, and how many lines a table of routers has.
+MOST_TOLD = 4
+MOST_LINES = 20
+MOST_COLUMNS = 40
+# More letters than the names of 65,536 delays take.
+MOST_LINE = 1 << 22
+PERCENTS = (50, 90, 99)
+
+HEAD = ["outcome", "runs", "share", "95 % interval", "time", "first seed", "paths"]
+RUN_COLUMNS = ["verdict", "rest", "from", "period", "sent", "changed", "outcome", "moving", "paths"]
+
+
+@dataclass
+class Outcome:
+    """A way in which runs end: at rest with these paths, or as the verdict's word says.
+
+    `number` counts the outcomes at rest, in the order of their first seeds.
+    """
+
+    word: str
+    first: int
+    number: int | None = None
+    ribs: Ribs | None = None
+    runs: int = 0
+    # How often which times of rest, or periods, were seen; which numbers of messages; and which routers moved.
+    times: Counter[int] = field(default_factory=Counter)
+    messages: Counter[int] = field(default_factory=Counter)
+    moving: Counter[int] = field(default_factory=Counter)
+
+    @property
+    def name(self) -> str:
+        return self.word if self.number is None else str(self.number)
+
+    @property
+    def time_word(self) -> str:
+        return "rest" if self.ribs is not None else "period"
+
+    @property
+    def rest_times(self) -> Counter[int]:
+        return Counter() if self.ribs is None else self.times
+
+    def take(self, end: End) -> None:
+        self.runs += 1
+        self.messages[end.sent] += 1
+        self.moving.update(end.moving)
+        match end.verdict:
+            case Quiet(time) | Oscillates(_, time):
+                self.times[time] += 1
+
+    def time_words(self) -> str:
+        if not self.times:
+            return ""
+        least, middle, greatest = min(self.times), percentile(self.times, 50), max(self.times)
+        if least == greatest:
+            return f"{self.time_word} {least:,}"
+        return f"{self.time_word} {least:,} to {greatest:,}, median {middle:,}"
+
+    def record(self, total: int) -> dict[str, Any]:
+        """The outcome as JSON has it."""
+        told: dict[str, Any] = {"outcome": self.name, "runs": self.runs, "share": self.runs / total}
+        told |= {"interval": interval(self.runs, total), "first_seed": self.first}
+        if self.times:
+            told[self.time_word] = spread(self.times)
+        told["messages"] = spread(self.messages)
+        if self.ribs is not None:
+            told["paths"] = self.ribs
+        else:
+            told["moving"] = [{"router": router, "runs": runs} for router, runs in sorted(self.moving.items())]
+        return told
+
+
+def percentile(counts: Counter[int], percent: int) -> int:
+    """The least value such that so many in a hundred are at most this one."""
+    wanted, seen, value = ceil(counts.total() * percent / 100), 0, 0
+    for value, count in sorted(counts.items()):
+        seen += count
+        if seen >= wanted:
+            break
+    return value
+
+
+def spread(counts: Counter[int]) -> dict[str, Any]:
+    """Percentiles and a histogram: column k counts the values from `first + k * width` on, below the next column's."""
+    width = nice_step((max(counts) + 1 - min(counts)) / MOST_COLUMNS)
+    first = min(counts) // width
+    columns = [0] * (max(counts) // width + 1 - first)
+    for value, count in counts.items():
+        columns[value // width - first] += count
+    percents = {f"p{percent}": percentile(counts, percent) for percent in PERCENTS}
+    histogram = {"first": first * width, "width": width, "counts": columns}
+    return {"least": min(counts), **percents, "greatest": max(counts), "histogram": histogram}
+
+
+class Outcomes:
+    """The outcomes of a sweep's runs, of which failed ones are no part."""
+
+    def __init__(self, trials: Iterable[Trial] = ()):
+        self.by_end: dict[Ribs | str, Outcome] = {}
+        self.total = self.failed = self.resting = 0
+        for trial in trials:
+            self.take(trial)
+
+    def take(self, trial: Trial) -> Outcome | None:
+        """Counts a run, and gives its outcome where it did not fail."""
+        if isinstance(trial.end, Failed):
+            self.failed += 1
+            return None
+        self.total += 1
+        outcome = self.outcome_of(trial.seed, trial.end)
+        outcome.take(trial.end)
+        self.__dict__.pop("differing", None)
+        return outcome
+
+    def outcome_of(self, seed: int, end: End) -> Outcome:
+        """The outcome of such an end, which is a new one where there is none yet."""
+        word = str(end.verdict).split()[0]
+        if not isinstance(end.verdict, Quiet):
+            return self.by_end.setdefault(word, Outcome(word, seed))
+        if end.ribs not in self.by_end:
+            self.resting += 1
+            self.by_end[end.ribs] = Outcome(word, seed, self.resting, end.ribs)
+        return self.by_end[end.ribs]
+
+    def ranked(self) -> list[Outcome]:
+        """The outcomes, the most frequent first; of equally frequent ones that with the lower first seed."""
+        return sorted(self.by_end.values(), key=lambda outcome: (-outcome.runs, outcome.first))
+
+    @property
+    def at_rest(self) -> list[Outcome]:
+        return [outcome for outcome in self.by_end.values() if outcome.ribs is not None]
+
+    @cached_property
+    def differing(self) -> list[int]:
+        """The routers whose paths tell the outcomes at rest apart; all but the origin where there is one outcome."""
+        rows = [outcome.ribs or () for outcome in self.at_rest]
+        routers = range(1, len(rows[0])) if rows else range(0)
+        return [router for router in routers if len(rows) == 1 or len({row[router] for row in rows}) > 1]
+
+    def path_words(self, outcome: Outcome) -> str:
+        """The paths that tell an outcome at rest from the others."""
+        if outcome.ribs is None:
+            return ""
+        words = " ".join(written(router, outcome.ribs[router]) for router in self.differing[:MOST_TOLD])
+        return more(words, len(self.differing) - MOST_TOLD)
+
+    def path_counts(self, router: int) -> Counter[tuple[int, ...]]:
+        """How many of the runs at rest end with which path of a router."""
+        counts: Counter[tuple[int, ...]] = Counter()
+        for outcome in self.at_rest:
+            counts[(outcome.ribs or ())[router]] += outcome.runs
+        return counts
+
+    def summary(self) -> str:
+        """Tables: outcomes, the most frequent first; percentiles; which routers move; who ends at which path."""
+        tables = [self.outcome_table(), self.percentile_table(), self.moving_table(), self.path_table()]
+        return "\n".join(aligned(table) for table in tables if len(table) > 1 or table[0] == HEAD)
+
+    def outcome_table(self) -> list[list[str]]:
+        rows = [HEAD]
+        for outcome in self.ranked():
+            shares = share_words(outcome.runs, self.total)
+            rows.append([outcome.name, *shares, outcome.time_words(), str(outcome.first), self.path_words(outcome)])
+        return rows
+
+    def percentile_table(self) -> list[list[str]]:
+        rows = [["outcome", "of", "least", *(f"{percent} %" for percent in PERCENTS), "greatest"]]
+        for outcome in self.ranked():
+            for words, counts in (outcome.time_word, outcome.times), ("messages", outcome.messages):
+                if counts:
+                    values = [min(counts), *(percentile(counts, percent) for percent in PERCENTS), max(counts)]
+                    rows.append([outcome.name, words, *(f"{value:,}" for value in values)])
+        return rows
+
+    def moving_table(self) -> list[list[str]]:
+        rows = [["outcome", "runs", "routers that still move, and in how many runs"]]
+        for outcome in self.ranked():
+            if outcome.moving:
+                ranked = sorted(outcome.moving.items(), key=lambda item: (-item[1], item[0]))
+                words = ", ".join(f"{router}: {runs:,}" for router, runs in ranked[:MOST_LINES])
+                rows.append([outcome.name, f"{outcome.runs:,}", more(words, len(ranked) - MOST_LINES)])
+        return rows
+
+    def path_table(self) -> list[list[str]]:
+        rows = [["router", "runs", "share", "95 % interval", "path at rest"]]
+        if len(self.at_rest) > 1:
+            resting = sum(outcome.runs for outcome in self.at_rest)
+            for router in self.differing:
+                for path, runs in self.path_counts(router).most_common():
+                    rows.append([str(router), *share_words(runs, resting), write_path(path)])
+        left = len(rows) - 1 - MOST_LINES
+        return rows[: MOST_LINES + 1] + ([["..", f"{left:,} more lines", "", "", ""]] if left > 0 else [])
+
+    def record(self) -> dict[str, Any]:
+        """The outcomes as JSON has them, with percentiles and histograms; and of each router its paths at rest."""
+        rows = [outcome.ribs or () for outcome in self.at_rest]
+        routers = [
+            {"router": router, "paths": [{"path": path, "runs": runs} for path, runs in counts.most_common()]}
+            for router, counts in ((router, self.path_counts(router)) for router in range(len(rows[0]) if rows else 0))
+        ]
+        outcomes = [outcome.record(self.total) for outcome in self.ranked()]
+        return {"runs": self.total, "failed": self.failed, "outcomes": outcomes, "routers": routers}
+
+    def to_json(self) -> str:
+        return json.dumps(self.record())
+
+
+def more(words: str, left: int) -> str:
+    return f"{words} and {left:,} more" if left > 0 else words
+
+
+def share_words(runs: int, total: int) -> list[str]:
+    low, high = interval(runs, total)
+    return [f"{runs:,}", f"{percent(runs / total)} %", f"{percent(low)} to {percent(high)} %"]
+
+
+def written(router: int, path: tuple[int, ...]) -> str:
+    """A router's path, which begins with the router unless it is empty."""
+    return write_path(path) if path else f"{router}: ()"
+
+
+def interval(count: int, total: int) -> tuple[float, float]:
+    """The 95 % interval of a share of which `count` of `total` were seen.
+
+    E. B. Wilson: Probable inference, the law of succession, and statistical inference, Journal of the American
+    Statistical Association 22(158), 1927.
+    """
+    share, square = count / total, DEVIATIONS**2
+    middle = share + square / (2 * total)
+    reach = DEVIATIONS * sqrt(share * (1 - share) / total + square / (4 * total**2))
+    return max(0.0, (middle - reach) / (1 + square / total)), min(1.0, (middle + reach) / (1 + square / total))
+
+
+def percent(share: float) -> str:
+    return f"{100 * share:.1f}"
+
+
+# Numbers, and shares and their intervals, in a table.
+NUMERIC = re.compile(r"[\d,]*|[\d.]+ %|[\d.]+ to [\d.]+ %")
+
+
+def aligned(rows: list[list[str]]) -> str:
+    """A table in columns, words to the left and numbers to the right."""
+    columns = [list(column) for column in zip(*rows)]
+    for place, column in enumerate(columns):
+        width = max(map(len, column))
+        is_number = place > 0 and all(NUMERIC.fullmatch(word) for word in column[1:])
+        columns[place] = [word.rjust(width) if is_number else word.ljust(width) for word in column]
+    return "".join("  ".join(row).rstrip() + "\n" for row in zip(*columns))
+
+
+class Table:
+    """The CSV of a sweep: a line for each run, and as its last column's name what made it."""
+
+    def __init__(self, columns: Sequence[str], made_by: str):
+        self.columns = columns
+        self.head = ["seed", *columns, *RUN_COLUMNS, made_by]
+        self.outcomes = Outcomes()
+
+    def row(self, trial: Trial) -> list[object]:
+        """The fields of a run, which is counted; what it does not have is left empty.
+
+        The paths stand in the first line of each outcome at rest.
+        """
+        outcome = self.outcomes.take(trial)
+        if outcome is None or isinstance(trial.end, Failed):
+            return [trial.seed, *trial.values, "failed", *[""] * len(RUN_COLUMNS)]
+        end, times = trial.end, ["", "", ""]
+        match end.verdict:
+            case Quiet(time):
+                times[0] = str(time)
+            case Oscillates(start, period):
+                times[1:] = str(start), str(period)
+        moving, paths = " ".join(map(str, end.moving)), ""
+        if outcome.runs == 1 and outcome.ribs is not None:
+            paths = " ".join(map(write_path, outcome.ribs))
+        ending = [outcome.word, *times, end.sent, end.changed, outcome.number or "", moving, paths, ""]
+        return [trial.seed, *trial.values, *ending]
+
+
+def rows_of(source: TextIO, is_cut: bool) -> Iterator[list[str]]:
+    """The fields of each line, none of which may be longer than those that a sweep writes."""
+    while line := source.readline(MOST_LINE):
+        if len(line) == MOST_LINE:
+            raise ValueError("the line is too long")
+        if line[-1] != "\n":
+            if is_cut:
+                return
+            raise ValueError("the line is not ended")
+        yield next(csv.reader([line], strict=True))
+
+
+def read_table(source: TextIO, is_cut: bool = False) -> tuple[Table, list[Trial]]:
+    """The CSV of a sweep that was written before: what its head says, and its runs.
+
+    Of one that `is_cut` a last line that is not ended is let pass.
+    """
+    csv.field_size_limit(MOST_LINE)
+    rows = rows_of(source, is_cut)
+    ribs: dict[str, Ribs] = {}
+    trials: list[Trial] = []
+    seeds: set[int] = set()
+    number = 1
+    try:
+        head: list[str] = next(rows, [])
+        count = len(head) - len(RUN_COLUMNS) - 2
+        if count < 0 or head[0] != "seed" or head[1 + count : -1] != RUN_COLUMNS:
+            raise ValueError("this is no head")
+        number = 2
+        for row in rows:
+            trials.append(read_row(row, count, ribs))
+            if trials[-1].seed in seeds:
+                raise ValueError("a line before has the same seed")
+            seeds.add(trials[-1].seed)
+            number += 1
+    except (ValueError, KeyError, IndexError, csv.Error) as fault:
+        raise Refused.at_line(number, f"this is no CSV of a sweep: {fault}") from None
+    return Table(head[1 : 1 + count], head[-1]), trials
+
+
+def number_of(word: str) -> int:
+    if not re.fullmatch("[0-9]{1,18}", word):
+        raise ValueError(f"{word[:80]!r} is no number")
+    return int(word)
+
+
+def read_row(row: list[str], count: int, ribs: dict[str, Ribs]) -> Trial:
+    """A run; the paths of the outcomes before are known by their numbers."""
+    seed, values = number_of(row[0]), tuple(map(number_of, row[1 : 1 + count]))
+    word, rest, start, period, sent, changed, number, moving, paths, _ = row[1 + count :]
+    verdict: Verdict
+    match word:
+        case "failed":
+            return Trial(seed, values, Failed("it failed before"))
+        case "quiet":
+            verdict = Quiet(number_of(rest))
+            if paths:
+                ribs[number] = tuple(map(read_path, re.findall(PATH, paths)))
+            if len(ribs[number]) != len(next(iter(ribs.values()))):
+                raise ValueError("the paths are those of another number of routers")
+        case "oscillates":
+            verdict = Oscillates(number_of(start), number_of(period))
+        case "open":
+            verdict = Open()
+        case _:
+            raise ValueError(f"{word[:80]!r} is no verdict")
+    moved = tuple(map(number_of, moving.split()))
+    return Trial(seed, values, End(verdict, number_of(sent), number_of(changed), ribs.get(number, ()), moved))

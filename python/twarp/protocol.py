@@ -1,0 +1,95 @@
+"""What a router does with an event, as docs/PROTOCOL.md has it."""
+from __future__ import annotations
+
+import copy
+from collections import Counter
+from dataclasses import dataclass, field
+
+from twarp.case import ORIGIN, Case
+from twarp.event import Allow, Event, Fail, Forbid, Restore, Start, Swap, Update
+from twarp.lines import Nodes
+from twarp.report import RouterLine
+
+
+@dataclass
+class Router:
+    """A router's state. `delays` has its neighbours in ascending order, `given` its paths as they were given."""
+
+    node: int
+    delays: dict[int, int]
+    given: tuple[Nodes, ...]
+    order: list[Nodes]
+    barred: set[Nodes] = field(default_factory=set)
+    rib: Nodes = ()
+    heard: dict[int, Nodes] = field(default_factory=dict)
+    down: set[int] = field(default_factory=set)
+    sessions: Counter[int] = field(default_factory=Counter)
+    sent: int = 0
+    handled: int = 0
+    dropped: int = 0
+    changed: int = 0
+
+    def handle(self, event: Event) -> list[Event]:
+        """Changes the state as the event asks, and gives the messages sent."""
+        self.handled += 1
+        match event.body:
+            case Fail(peer) if peer not in self.down:
+                self.down.add(peer)
+                self.heard.pop(peer, None)
+                return self.settle(event.time)
+            case Restore(peer) if peer in self.down:
+                self.down.remove(peer)
+                self.sessions[peer] += 1
+                return [self.update(peer, event.time)]
+            case Swap(first, second):
+                order, i, j = self.order, first - 1, second - 1
+                order[i], order[j] = order[j], order[i]
+                return self.settle(event.time)
+            case Forbid(place) if self.given[place - 1] not in self.barred:
+                self.barred.add(self.given[place - 1])
+                return self.settle(event.time)
+            case Allow(place) if self.given[place - 1] in self.barred:
+                self.barred.remove(self.given[place - 1])
+                return self.settle(event.time)
+            case Update(_, session) if event.src in self.down or session != self.sessions[event.src]:
+                self.dropped += 1
+            case Update(path):
+                self.heard[event.src] = path
+                return self.settle(event.time)
+            case Start():
+                return self.settle(event.time)
+        return []
+
+    def settle(self, time: int) -> list[Event]:
+        best = self.best()
+        if self.rib == best:
+            return []
+        self.rib = best
+        self.changed += 1
+        return [self.update(peer, time) for peer in self.delays if peer not in self.down]
+
+    def best(self) -> Nodes:
+        if self.node == ORIGIN:
+            return (ORIGIN,)
+        allowed = (path for path in self.order if path not in self.barred)
+        return next((path for path in allowed if self.heard.get(path[1]) == path[1:]), ())
+
+    def update(self, peer: int, time: int) -> Event:
+        seq = self.sent
+        self.sent += 1
+        return Event(time + self.delays[peer], peer, self.node, seq, Update(self.rib, self.sessions[peer]))
+
+    def line(self) -> RouterLine:
+        return RouterLine(self.node, self.sent, self.handled, self.dropped, self.changed, self.rib)
+
+    def copy(self) -> Router:
+        """A router that later events of this one leave as it is."""
+        other = copy.copy(self)
+        other.order, other.barred, other.heard = self.order.copy(), self.barred.copy(), self.heard.copy()
+        other.down, other.sessions = self.down.copy(), self.sessions.copy()
+        return other
+
+
+def opening_routers(case: Case) -> list[Router]:
+    rows = zip(case.delays(), case.orders())
+    return [Router(node, delays, tuple(order), order) for node, (delays, order) in enumerate(rows)]

@@ -1,0 +1,124 @@
+"""Sweeps: a case run many times over what is not known of it."""
+from __future__ import annotations
+
+import contextlib
+import re
+import tempfile
+import zipfile
+from collections.abc import Iterator, Sequence
+from concurrent.futures import Executor
+from pathlib import Path
+
+from twarp.case import GREATEST_DELAY, GREATEST_TIME, Case
+from twarp.draws import CaseSource, DelayDraws, Ends, Exponential, FailureDraws, Law, LogNormal, Uniform
+from twarp.errors import Stopped
+from twarp.program import HERE, File, need
+from twarp.trials import Batches, Given, Local, Plan, Trial, processors
+
+
+def read_range(words: str, least: int, greatest: int) -> Uniform:
+    """Two numbers as 1-20, the first at most the last; one number stands for both."""
+    if found := re.fullmatch("([0-9]{1,10})(?:-([0-9]{1,10}))?", words):
+        low, high = int(found[1]), int(found[2] or found[1])
+        if least <= low <= high <= greatest:
+            return Uniform(low, high)
+    raise ValueError(f"{words[:80]!r} is no range from {least} to {greatest}, as {least}-20")
+
+
+def read_law(words: str) -> Law:
+    """The law of delays that is written 1-20, exponential:MEAN, or log-normal:MEDIAN:SIGMA."""
+    number = r"([0-9]{1,7}(?:\.[0-9]{1,9})?)"
+    found = re.fullmatch(rf"exponential:{number}|log-normal:{number}:{number}", words)
+    if not found:
+        return read_range(words, 1, GREATEST_DELAY)
+    mean, median, sigma = (float(part or "1") for part in found.groups())
+    if 0 in (mean, median):
+        raise ValueError(f"{words!r} has a delay of 0")
+    return Exponential(mean) if found[1] else LogNormal(median, sigma)
+
+
+class Sweep(Iterator[Trial]):
+    """The runs of a sweep. `columns` names what each run's `values` are, and `words` says what is drawn."""
+
+    def __init__(self, plan: Plan, seeds: range, workers: Local | Given):
+        self.columns, self.words = plan.source.columns, plan.source.words
+        self.trials = (trial for trial in Batches(plan, seeds, workers) if trial is not None)
+
+    def __next__(self) -> Trial:
+        return next(self.trials)
+
+    def close(self) -> None:
+        """Gives up the runs that are left, and ends their processes."""
+        self.trials.close()
+
+
+def sweep(
+    case: Case,
+    *,
+    stop: int,
+    every: int | None = None,
+    runs: int = 1_000,
+    seed: int = 1,
+    delays: Law | str | None = None,
+    links: Sequence[Ends] | None = None,
+    apart: bool = False,
+    failure_times: Uniform | str | None = None,
+    check: bool = False,
+    jobs: int | None = None,
+    executor: Executor | None = None,
+    program: File | None = None,
+) -> Sweep:
+    """The runs of a case with the seeds `seed`, `seed` + 1, .., in this order, as they end.
+
+    Drawn are the delays, by a law as "1-10", "exponential:5" or "log-normal:5:0.5", of all links or of those named,
+    with `apart` for each direction of its own; and the times of failures, from a range as "0-50". What is drawn depends
+    on the seed alone. The runs go to `jobs` processes (one for each processor), or to an executor, where `jobs` says how
+    many workers it has; its workers need the program.
+    """
+    draws: list[DelayDraws | FailureDraws] = []
+    if delays is not None:
+        law = read_law(delays) if isinstance(delays, str) else delays
+        draws.append(
+            DelayDraws(case, law, None if links is None else [(min(link), max(link)) for link in links], apart)
+        )
+    if failure_times is not None:
+        times = read_range(failure_times, 0, GREATEST_TIME) if isinstance(failure_times, str) else failure_times
+        draws.append(FailureDraws(case, times))
+    file = str(program) if executor and program else str(need(program))
+    plan = Plan(CaseSource(case, draws), file, stop, every, check)
+    jobs = jobs or processors()
+    workers: Given | Local = Given(plan, executor, jobs) if executor else Local(plan, jobs)
+    return Sweep(plan, range(seed, seed + runs), workers)
+
+
+@contextlib.contextmanager
+def cluster(address: str) -> Iterator[tuple[Executor, int]]:
+    """The executor of the Dask cluster whose scheduler has this address, and how many threads its workers have.
+
+    Its workers get the package from here.
+    """
+    try:
+        from distributed import Client
+    except ImportError:
+        raise Stopped("scheduler: Python's package distributed is missing (Debian: python3-distributed)") from None
+    with contextlib.ExitStack() as stack:
+        try:
+            client = stack.enter_context(Client(address, timeout=10))  # type: ignore[no-untyped-call]
+            archive = Path(stack.enter_context(tempfile.TemporaryDirectory())) / "twarp-package.zip"
+            pack(archive)
+            client.upload_file(str(archive))
+        except (OSError, ValueError, TimeoutError) as fault:
+            raise Stopped(f"scheduler: {address} does not answer: {fault}") from None
+        threads = sum(client.nthreads().values())
+        if not threads:
+            raise Stopped(f"scheduler: {address} has no workers")
+        yield client.get_executor(pure=False), threads
+
+
+def pack(archive: Path) -> None:
+    """Puts the package, and the tools' modules where they are beside it, into a file that Python can import from."""
+    folders = [HERE.parent, HERE.parents[1] / "twarp_tools", HERE.parents[2] / "tools/twarp_tools"]
+    with zipfile.ZipFile(archive, "w") as packed:
+        for folder in folders:
+            for module in sorted(folder.glob("*.py")):
+                packed.write(module, f"{folder.name}/{module.name}")

@@ -1,0 +1,375 @@
+"""The runs of a sweep: the built program on many cases, in batches that an executor runs."""
+from __future__ import annotations
+
+import os
+import pickle
+import signal
+import subprocess
+import threading
+import time
+from collections.abc import Iterator, Sequence
+from concurrent.futures import (
+    FIRST_COMPLETED,
+    BrokenExecutor,
+    CancelledError,
+    Executor,
+    Future,
+    ProcessPoolExecutor,
+    wait,
+)
+from contextlib import suppress
+from dataclasses import dataclass
+from functools import lru_cache
+from multiprocessing import get_context
+
+from twarp.case import Case
+from twarp.draws import Source
+from twarp.errors import Refused, Stopped
+from twarp.lines import Nodes
+from twarp.report import Open, Oscillates, Quiet, Report, Verdict, read_report
+from twarp.standing import reached, unstable_routers
+
+# How long, in seconds, a batch should take, and how many runs it has at most.
+BATCH_TIME = 0.25
+MOST_BATCH = 256
+# How long, in seconds, a stop may wait until it is seen.
+MOST_WAIT = 0.2
+# How often a run is begun whose executor ends in it.
+MOST_TRIES = 5
+
+# Each router's path.
+Ribs = tuple[Nodes, ...]
+
+
+@dataclass(frozen=True, slots=True)
+class End:
+    """How a run ended: verdict, messages sent and paths changed by all routers together, and each router's path.
+
+    `moving` are the routers that still change their paths: in the period of an oscillation, and where the verdict is
+    open in the last half of the time up to the stop. `fault` says what is not stable, where that was looked for.
+    """
+
+    verdict: Verdict
+    sent: int
+    changed: int
+    ribs: Ribs
+    moving: tuple[int, ...] = ()
+    fault: str | None = None
+
+
+@dataclass(frozen=True, slots=True)
+class Failed:
+    """Why a run has no report."""
+
+    why: str
+
+
+@dataclass(frozen=True, slots=True)
+class Trial:
+    """A run of a sweep: its seed, what was drawn for it, and how it ended."""
+
+    seed: int
+    values: tuple[int, ...]
+    end: End | Failed
+
+
+class Ended(Exception):
+    """The sweep is stopped, and with it the run."""
+
+
+class Runner:
+    """Runs the program until the sweep is stopped."""
+
+    def __init__(self) -> None:
+        # A signal that stops it may come while it has the lock.
+        self.lock = threading.RLock()
+        self.running: set[subprocess.Popen[bytes]] = set()
+        self.is_stopped = False
+
+    def run(self, command: list[str], text: bytes) -> tuple[int, bytes, bytes]:
+        """Status and outputs of a run, in a session of its own, where an INT of the terminal does not reach it."""
+        pipe = subprocess.PIPE
+        with self.lock:
+            if self.is_stopped:
+                raise Ended
+            try:
+                child = subprocess.Popen(command, stdin=pipe, stdout=pipe, stderr=pipe, start_new_session=True)
+            except OSError as error:
+                raise Stopped(f"program: {command[0]} does not start: {error.strerror}") from None
+            self.running.add(child)
+        with child:
+            out, err = child.communicate(text)
+        with self.lock:
+            self.running.discard(child)
+        if self.is_stopped and child.returncode < 0:
+            raise Ended
+        return child.returncode, out, err
+
+    def stop(self) -> None:
+        """Ends what is running, with all that it started, and starts nothing more."""
+        with self.lock:
+            self.is_stopped = True
+            for child in self.running:
+                if child.poll() is None:
+                    with suppress(ProcessLookupError):
+                        os.killpg(child.pid, signal.SIGKILL)
+
+    def end(self, *_: object) -> None:
+        """Ends this process too."""
+        self.stop()
+        os._exit(1)
+
+
+# That of this process.
+RUNNER = Runner()
+
+
+@dataclass(frozen=True)
+class Plan:
+    """What is run: a source's cases, by a program, to this stop. `is_checked` asks whether paths at rest are stable."""
+
+    source: Source
+    program: str
+    stop: int
+    every: int | None = None
+    is_checked: bool = False
+
+    def trial(self, seed: int) -> Trial:
+        """The run with this seed."""
+        draw = self.source.draw(seed)
+        try:
+            report = self.report(draw.case, self.stop)
+            return Trial(seed, draw.values, self.end(draw.case, report))
+        except Refused as fault:
+            return Trial(seed, draw.values, Failed(str(fault)))
+
+    def report(self, case: Case, stop: int) -> Report:
+        every = ["--every", str(self.every)] if self.every else []
+        status, out, err = RUNNER.run([self.program, "seq", "--stop", str(stop), *every], str(case).encode())
+        if status:
+            why = (err or out).decode("utf-8", "replace").strip()
+            raise Refused(f"status {status}: {why}" if why else f"status {status}")
+        try:
+            return read_report(out, case.nodes)
+        except Refused as fault:
+            raise Refused(f"its report is none: {fault}") from None
+
+    def end(self, case: Case, report: Report) -> End:
+        lines = report.routers
+        sent, changed = sum(line.sent for line in lines), sum(line.changed for line in lines)
+        ribs, moving = tuple(line.rib for line in lines), self.moving(case, report)
+        return End(report.verdict, sent, changed, ribs, moving, self.fault(case, report))
+
+    def moving(self, case: Case, report: Report) -> tuple[int, ...]:
+        """The routers that change paths from the beginning of a period, or from half of the stop, up to the stop."""
+        match report.verdict:
+            case Quiet():
+                return ()
+            case Oscillates(start, _):
+                since = start
+            case Open():
+                since = self.stop // 2
+        before = [line.changed for line in self.report(case, since).routers] if since else [0] * case.nodes
+        return tuple(line.router for line, count in zip(report.routers, before) if line.changed > count)
+
+    def fault(self, case: Case, report: Report) -> str | None:
+        if not (self.is_checked and isinstance(report.verdict, Quiet)):
+            return None
+        try:
+            unstable = next(unstable_routers(reached(case, report)), None)
+        except Refused as fault:
+            return str(fault)
+        return str(unstable) if unstable else None
+
+    def batch(self, seeds: Sequence[int]) -> tuple[list[Trial], float]:
+        """The runs with these seeds, up to where the sweep is stopped, and how many seconds they took."""
+        begun, trials = time.monotonic(), []
+        with suppress(Ended):
+            for seed in seeds:
+                trials.append(self.trial(seed))
+        return trials, time.monotonic() - begun
+
+
+Work = Future[tuple[list[Trial], float]]
+
+
+class Local:
+    """Processes of this machine. Where one of them dies all are begun anew."""
+
+    # In a process the plan that it follows, which it has from its beginning.
+    plan: Plan
+
+    def __init__(self, plan: Plan, jobs: int):
+        self.jobs = jobs
+        # Each process sees that the other end of this pipe is closed, by a stop or since its owner is gone.
+        self.ends = os.pipe()
+        self.is_stopped = False
+        self.begin_with = (plan, self.ends, os.getpid())
+        self.executor = self.begin()
+
+    def begin(self) -> Executor:
+        return ProcessPoolExecutor(self.jobs, get_context("fork"), initializer=self.heed, initargs=self.begin_with)
+
+    @classmethod
+    def heed(cls, plan: Plan, ends: tuple[int, int], parent: int) -> None:
+        """In a new process: ends what it runs once the sweep is stopped, or the sweep's own process is gone."""
+        cls.plan = plan
+        os.close(ends[1])
+        signal.signal(signal.SIGINT, signal.SIG_IGN)
+        signal.signal(signal.SIGTERM, RUNNER.end)
+
+        def watch() -> None:
+            os.read(ends[0], 1)
+            RUNNER.stop()
+            while os.getppid() == parent:
+                time.sleep(MOST_WAIT)
+            RUNNER.end()
+
+        threading.Thread(target=watch, daemon=True).start()
+
+    @classmethod
+    def batch(cls, seeds: Sequence[int]) -> tuple[list[Trial], float]:
+        return cls.plan.batch(seeds)
+
+    def submit(self, seeds: Sequence[int]) -> Work:
+        try:
+            return self.executor.submit(self.batch, seeds)
+        except BrokenExecutor:
+            self.executor.shutdown()
+            self.executor = self.begin()
+            return self.executor.submit(self.batch, seeds)
+
+    def stop(self) -> None:
+        if not self.is_stopped:
+            self.is_stopped = True
+            os.close(self.ends[1])
+
+    def end(self) -> None:
+        self.stop()
+        self.executor.shutdown(cancel_futures=True)
+        os.close(self.ends[0])
+
+
+class Given:
+    """An executor that is there already, with so many workers, as that of a Dask cluster."""
+
+    def __init__(self, plan: Plan, executor: Executor, jobs: int):
+        self.plan = pickle.dumps(plan)
+        self.executor = executor
+        self.jobs = jobs
+        self.begun: list[Work] = []
+
+    def submit(self, seeds: Sequence[int]) -> Work:
+        self.begun = [work for work in self.begun if not work.done()]
+        self.begun.append(self.executor.submit(batch_of, self.plan, seeds))
+        return self.begun[-1]
+
+    def stop(self) -> None:
+        for work in self.begun:
+            work.cancel()
+
+    end = stop
+
+
+@lru_cache(1)
+def plan_of(pickled: bytes) -> Plan:
+    """The plan that was sent to a worker, which gets it with each batch and so need not keep it."""
+    plan: Plan = pickle.loads(pickled)
+    return plan
+
+
+def batch_of(pickled: bytes, seeds: Sequence[int]) -> tuple[list[Trial], float]:
+    return plan_of(pickled).batch(seeds)
+
+
+def processors() -> int:
+    """How many processors there are for this process."""
+    return len(os.sched_getaffinity(0)) if hasattr(os, "sched_getaffinity") else os.cpu_count() or 1
+
+
+@dataclass(frozen=True)
+class Batch:
+    """Runs that go to one process, and how often they were begun."""
+
+    seeds: Sequence[int]
+    tries: int = 1
+
+
+class Batches:
+    """The runs of a sweep, dealt out in batches of such a size that each takes some time, and put in order again."""
+
+    def __init__(self, plan: Plan, seeds: Sequence[int], workers: Local | Given):
+        self.plan = plan
+        self.workers = workers
+        self.seeds = self.left = seeds
+        self.pending: dict[Work, Batch] = {}
+        self.done: dict[int, list[Trial]] = {}
+        self.size = 1
+        self.is_stopped = False
+
+    def stop(self) -> None:
+        """Ends the runs that are not done."""
+        self.is_stopped = True
+        self.workers.stop()
+
+    def begin(self, batch: Batch) -> None:
+        self.pending[self.workers.submit(batch.seeds)] = batch
+
+    def fill(self) -> None:
+        """Begins batches until each worker has one and another one waits for it; small ones at the end."""
+        most = 2 * self.workers.jobs
+        while self.left and not self.is_stopped and len(self.pending) < most:
+            size = max(1, min(self.size, len(self.left) // most))
+            self.begin(Batch(self.left[:size]))
+            self.left = self.left[size:]
+
+    def take(self, work: Work) -> None:
+        """Takes what a batch has done. One that its process did not survive is begun again, in halves."""
+        batch = self.pending.pop(work)
+        try:
+            trials, seconds = work.result()
+        except Stopped:
+            raise
+        except CancelledError:
+            if not self.is_stopped:
+                raise Stopped("executor: it has cancelled runs") from None
+        except Exception as fault:
+            if not self.is_stopped:
+                self.try_again(batch, fault)
+        else:
+            if trials:
+                self.done[batch.seeds[0]] = trials
+            wanted = round(BATCH_TIME * len(trials) / max(seconds, 1e-6))
+            self.size = max(1, min(wanted, MOST_BATCH, 4 * self.size))
+
+    def try_again(self, batch: Batch, fault: Exception) -> None:
+        seeds, half = batch.seeds, len(batch.seeds) // 2
+        if half:
+            self.begin(Batch(seeds[:half]))
+            self.begin(Batch(seeds[half:]))
+        elif batch.tries < MOST_TRIES:
+            self.begin(Batch(seeds, batch.tries + 1))
+        else:
+            values = self.plan.source.draw(seeds[0]).values
+            why = f"its process ended in each of {MOST_TRIES} tries: {fault}"
+            self.done[seeds[0]] = [Trial(seeds[0], values, Failed(why))]
+
+    def __iter__(self) -> Iterator[Trial | None]:
+        """The runs by their seeds, and None now and then. After a stop those that ended out of turn come last."""
+        place = 0
+        try:
+            self.fill()
+            while self.pending:
+                wait(self.pending, MOST_WAIT, FIRST_COMPLETED)
+                for work in [work for work in self.pending if work.done()]:
+                    self.take(work)
+                self.fill()
+                yield None
+                while place < len(self.seeds) and self.seeds[place] in self.done:
+                    trials = self.done.pop(self.seeds[place])
+                    place += len(trials)
+                    yield from trials
+            for _, trials in sorted(self.done.items()):
+                yield from trials
+        finally:
+            self.workers.end()
