@@ -5,7 +5,8 @@
 //! have sent (`specs/Shard`); `core` of that record is a Time Warp machine (`tw_core`) of these routers.
 //! Proved: a shard opens as that machine does; `handle_next`, `undo_last`, `receive` and `commit` are its
 //! steps, refusals among them; a refusal changes nothing, nor does want of memory, but that a `receive`
-//! may have undone some of what it has to undo. `laws` tells what good states are for every case.
+//! may have undone some events that are not before its message. `laws` tells what good states are for
+//! every case.
 #![tactic(auto)]
 
 mod ahead;

@@ -32,8 +32,8 @@ impl<'a> Shard<'a> {
     ///
     /// It is refused, and comes back, as `NotMine` where its receiver is none of the shard's routers, as
     /// `Late` where it lies before the bound, and as `Foreign` where it does not suit its receiver; then
-    /// nothing has changed. It also comes back where memory was refused; then some of the events that
-    /// are to be undone may be undone, and nothing else has changed.
+    /// nothing has changed. It also comes back where memory was refused; then its receiver may have undone
+    /// some events that are not before it, and nothing else has changed.
     pub fn receive(&mut self, message: Signed<Event>) -> Result<(), Returned>
         ensures ok { (stop : ℕ) → OnOk result (receiving stop self.old message ≡ Ok (core stop self.new)) }
         ensures refused { (stop : ℕ) (f : ARejection) → IsErrOf result (record { message = message; why = or_memory.Fault f })
@@ -59,8 +59,8 @@ impl<'a> Shard<'a> {
     }
 
     /// A message, or an antimessage, that may come comes to one of its routers, as [`Shard::receive`] has it, without
-    /// a test of whether it may. It fails for want of memory alone; then some of the events that are to be undone
-    /// may be undone, and nothing else has changed.
+    /// a test of whether it may. It fails for want of memory alone; then its receiver may have undone some events
+    /// that are not before it, and nothing else has changed.
     #[inline(always)]
     pub fn receive_welcome(&mut self, message: &Signed<Event>) -> Result<(), AllocError>
         requires { refusing self.old message.now.event ≡ Ok tt }
