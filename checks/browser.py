@@ -19,14 +19,21 @@ from typing import Any
 NAMES = ("chromium", "chromium-browser", "google-chrome")
 PROGRAM = next(filter(None, map(shutil.which, NAMES)), None)
 OPTIONS = (
-    "--headless=new", "--no-sandbox", "--disable-gpu", "--no-first-run", "--hide-scrollbars"
+    "--headless=new", "--no-sandbox", "--disable-gpu", "--disable-dev-shm-usage", "--no-first-run",
+    "--hide-scrollbars",
 )
 
-# Seconds without a word after which the browser is given up.
-LIMIT = 60
+# Seconds without a word after which the browser is given up: it begins slowly beside other work.
+LIMIT = 300
 
 # Keys by the names that DevTools has for them, with their codes.
 KEYS = {"ArrowLeft": 37, "ArrowRight": 39, "Home": 36, "End": 35, "Tab": 9, "Enter": 13, " ": 32, "+": 187, "-": 189}
+
+
+def is_loaded(event: dict[str, Any], loader: str) -> bool:
+    """Whether this event tells that what this loader loads is there. A page before may tell so of itself, and late."""
+    told = event.get("params", {})
+    return event.get("method") == "Page.lifecycleEvent" and (told["loaderId"], told["name"]) == (loader, "load")
 
 
 class Browser:
@@ -57,12 +64,20 @@ class Browser:
         os.close(told)
         self.rest, self.number, self.session = b"", 0, ""
         self.events: list[dict[str, Any]] = []
+        try:
+            self.begin()
+        except BaseException:
+            self.end()
+            raise
+        return self
+
+    def begin(self) -> None:
         target = self.ask("Target.createTarget", url="about:blank")["targetId"]
         attached = self.ask("Target.attachToTarget", targetId=target, flatten=True)
         self.session = attached["sessionId"]
         for domain in "Page", "Runtime", "Network", "Log":
             self.ask(f"{domain}.enable")
-        return self
+        self.ask("Page.setLifecycleEventsEnabled", enabled=True)
 
     def __exit__(
         self,
@@ -70,6 +85,9 @@ class Browser:
         value: BaseException | None,
         at: TracebackType | None,
     ) -> None:
+        self.end()
+
+    def end(self) -> None:
         os.close(self.told)
         os.close(self.heard)
         os.killpg(self.process.pid, signal.SIGKILL)
@@ -118,8 +136,8 @@ class Browser:
             mobile=width < 600,
         )
         self.events = []
-        self.ask("Page.navigate", url=page.resolve().as_uri())
-        while not any(event.get("method") == "Page.loadEventFired" for event in self.events):
+        loader = self.ask("Page.navigate", url=page.resolve().as_uri())["loaderId"]
+        while not any(is_loaded(event, loader) for event in self.events):
             self.events.append(self.next_message())
 
     def run(self, script: str) -> Any:

@@ -30,7 +30,7 @@ ROWS = (
 sys.path += [str(TOP / folder) for folder in ("bench", "tools", "python")]
 
 # Seconds after which a run is ended, and counts as failed.
-LIMIT = 60
+LIMIT = 300
 
 Word = str | bytes | Path
 

@@ -6,8 +6,8 @@
 What both write has to be the same, where what undone events have sent is taken back at once and
 where it is taken back as late as may be, and however routers are dealt out to workers and go on
 from one to the next. Some run beside processes that keep the processors busy. Each run is ended
-after a minute, and counts as failed: workers that wait for one another without end are found by
-that. A proof can say nothing of it.
+after five minutes, and counts as failed: workers that wait for one another without end are found
+by that. A proof can say nothing of it.
 """
 from __future__ import annotations
 

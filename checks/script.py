@@ -72,7 +72,7 @@ ALL = ["rattle tw_low", "rattle tw_high", "rattle twarp", "link"]
 NO_TOOLCHAIN = "/usr/bin:/bin"
 
 # Seconds after which the script is given up.
-LIMIT = 60
+LIMIT = 300
 
 
 class ScriptTest(unittest.TestCase):

@@ -2,6 +2,7 @@
 from __future__ import annotations
 
 import json
+import os
 import subprocess
 import tempfile
 import time
@@ -9,11 +10,13 @@ import unittest
 from collections.abc import Iterator
 from contextlib import ExitStack, contextmanager
 from pathlib import Path
+from unittest import mock
 
 from tools_common import CASES, TOP, Done, ToolTest, need_program, python_with, run
 
 PYTHON = python_with("distributed")
-SECONDS = 60
+# How long, in seconds, a scheduler and its workers may take to begin.
+SECONDS = 300
 WORKERS = 2
 
 
@@ -87,8 +90,10 @@ class Cluster(ToolTest):
         with cluster(self.folder) as address:
             for words in self.WORDS, made:
                 given = ["--program", need_program(), *words]
-                far = self.assert_done(self.sweep("--scheduler", address, *given))
-                self.assertEqual(far, self.assert_done(self.sweep(*given)))
+                # Dask says on standard error where something takes it long.
+                far = self.sweep("--scheduler", address, *given)
+                here = self.assert_done(self.sweep(*given))
+                self.assertEqual((far.status, far.out), (0, here), far.err)
             done = self.sweep("--scheduler", address, "--program", "/nowhere/twarp", *self.WORDS)
         self.assertEqual(done.status, 2)
         self.assertIn("stopped program: /nowhere/twarp does not start", done.err)
@@ -108,12 +113,12 @@ class Cluster(ToolTest):
         self.assertEqual(left.out, f"{WORKERS - 1}\n")
         whole = self.sweep("--program", need_program(), *self.WORDS)
         # Dask says on standard error what it does again.
-        self.assertEqual((done.status, done.out), (0, self.assert_done(whole)))
+        self.assertEqual((done.status, done.out), (0, self.assert_done(whole)), done.err)
 
     def test_a_scheduler_that_is_not_there(self) -> None:
-        done = self.sweep(
-            "--scheduler", "tcp://127.0.0.1:9", "--program", need_program(), *self.WORDS
-        )
+        words = ["--scheduler", "tcp://127.0.0.1:9", "--program", need_program(), *self.WORDS]
+        with mock.patch.dict(os.environ, {"DASK_DISTRIBUTED__COMM__TIMEOUTS__CONNECT": "2s"}):
+            done = self.sweep(*words)
         self.assertEqual((done.status, done.out), (2, ""))
         self.assertIn("stopped scheduler: tcp://127.0.0.1:9 does not answer", done.err)
 

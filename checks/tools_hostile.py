@@ -23,7 +23,7 @@ from tools_common import (
 
 MIB = 1 << 20
 # Limits on a tool's processor time and memory, those of the machine's other work let aside.
-SECONDS = 60
+SECONDS = 120
 MEBIBYTES = 300
 # networkx alone takes some of it.
 NETWORK_MEBIBYTES = 900

@@ -22,7 +22,7 @@ from tools_common import (
 
 LINES = 500_000
 ASES = 70_000
-MOST_SECONDS = 10
+MOST_SECONDS = 60
 MOST_KILOBYTES = 500_000
 
 

@@ -5,7 +5,6 @@ import os
 import pty
 import re
 import select
-import shlex
 import shutil
 import stat
 import subprocess
@@ -29,6 +28,8 @@ OPTIONS = {
     "upgrade": set(),
 }
 HELP = {"-h", "--help"}
+# How long a shell may take for a key.
+SECONDS = 300
 TOOLS = ("relationships", "import", "draw", "timeline", "page", "sweep")
 SHELLS = ("bash", "zsh", "fish")
 FILES = (
@@ -255,31 +256,37 @@ def completed(script: str, line: str) -> set[str]:
     return set(done.out.split())
 
 
+# Has bash show the line that it has once it has heeded all keys before this one, and a prompt that is known.
+SHOW = "\x07"
+READY = """
+bind -x '"\\C-g": printf "[%s]" "$READLINE_LINE"'
+PS1='ready> '
+"""
+
+
 def typed(script: Path, keys: str) -> str:
     """The line that bash has in the folder of the clone, once these keys were pressed."""
     process, terminal = pty.fork()
     if process == 0:
         os.chdir(TOP)
-        os.environ.update(PS1="$ ", INPUTRC=os.devnull, TERM="dumb")
-        os.execvp("bash", ["bash", "--norc", "--noprofile", "-i"])
+        os.environ.update(INPUTRC=os.devnull, TERM="dumb")
+        os.execvp("bash", ["bash", "--noprofile", "--rcfile", str(script), "-i"])
+    try:
+        shown_with("ready> ", terminal)
+        os.write(terminal, f"{keys}{SHOW}".encode())
+        return shown_with(r"\[(.*)\]", terminal)[1]
+    finally:
+        os.close(terminal)
+        os.waitpid(process, 0)
 
-    def read(seconds: float) -> str:
-        """What the terminal shows until nothing more comes for so long."""
-        shown = b""
-        while select.select([terminal], [], [], seconds)[0]:
-            shown += os.read(terminal, 65_536)
-        return shown.decode()
 
-    read(1)
-    os.write(terminal, f". {shlex.quote(str(script))}; echo ready\n".encode())
-    shown = read(1)
-    while "\nready" not in shown:
-        shown += read(1)
-    os.write(terminal, keys.encode())
-    shown = read(2)
-    os.close(terminal)
-    os.waitpid(process, 0)
-    return shown.replace("\x07", "").replace("\r", "")
+def shown_with(wanted: str, terminal: int) -> re.Match[str]:
+    """Waits until a terminal has shown this."""
+    shown = ""
+    while not (found := re.search(wanted, shown)):
+        assert select.select([terminal], [], [], SECONDS)[0], f"bash shows nothing more after {shown!r}"
+        shown += os.read(terminal, 65_536).decode()
+    return found
 
 
 class Completions(ToolTest):
@@ -298,7 +305,7 @@ class Completions(ToolTest):
     def test_bash_completes_the_names_of_files(self) -> None:
         with tempfile.TemporaryDirectory() as folder:
             script = Path(folder) / "twarp"
-            script.write_text(self.assert_done(manual("bash")))
+            script.write_text(self.assert_done(manual("bash")) + READY)
             for keys, line in (
                 ("twarp seq < cases/bad-g\t", "twarp seq < cases/bad-gadget.spp "),
                 ("twarp seq <cases/bad-g\t", "twarp seq <cases/bad-gadget.spp "),

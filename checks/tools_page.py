@@ -270,6 +270,18 @@ WIDE_WORDS = """[...area.querySelectorAll("rect.bar, rect.hollow")]
   .filter(([box, text]) => text.getBBox().width > box.getBBox().width)
   .map(([, text]) => text.textContent)"""
 WORDS = "document.getElementById('{}').innerText"
+# Notes what the page shows at each step of playing, pauses at the second one, and waits whether there is a third.
+PLAYED = """window.played = new Promise((done) => {
+  const [now, play] = ["now", "play"].map((name) => document.getElementById(name));
+  const seen = [];
+  new MutationObserver(() => {
+    seen.push(`${now.innerText} ${play.innerText}`);
+    if (seen.length !== 2) return;
+    play.click();
+    setTimeout(() => done([...seen, play.innerText]), 2000);
+  }).observe(now, {childList: true});
+});
+0"""
 # The middle of what a selector finds, once it is in the window.
 CENTRE = """(() => {
   const found = document.querySelector('SELECTOR');
@@ -472,12 +484,9 @@ class PageInBrowser(ToolTest):
 
     def test_it_plays(self) -> None:
         self.browser.open(self.make("disagree", read("disagree-report.txt")), 1280)
+        self.browser.run(PLAYED)
         self.click("#play")
-        self.assertEqual(self.words("play"), "Pause")
-        self.browser.run("new Promise((done) => setTimeout(done, 1000))")
-        self.assertEqual(self.words("now"), "1")
-        self.click("#play")
-        self.assertEqual(self.words("play"), "Play")
+        self.assertEqual(self.browser.run("played"), ["1 Pause", "2 Pause", "Play"])
 
     def test_every_case_on_wide_and_narrow_screens_light_and_dark(self) -> None:
         for file in sorted(CASES.glob("*.spp")):

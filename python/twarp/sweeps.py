@@ -95,7 +95,8 @@ def sweep(
 def cluster(address: str) -> Iterator[tuple[Executor, int]]:
     """The executor of the Dask cluster whose scheduler has this address, and how many threads its workers have.
 
-    Its workers get the package from here.
+    Its workers get the package from here. How long an answer is waited for is set by Dask's own
+    `distributed.comm.timeouts.connect`.
     """
     try:
         from distributed import Client
@@ -103,7 +104,7 @@ def cluster(address: str) -> Iterator[tuple[Executor, int]]:
         raise Stopped("scheduler: Python's package distributed is missing (Debian: python3-distributed)") from None
     with contextlib.ExitStack() as stack:
         try:
-            client = stack.enter_context(Client(address, timeout=10))  # type: ignore[no-untyped-call]
+            client = stack.enter_context(Client(address))  # type: ignore[no-untyped-call]
             archive = Path(stack.enter_context(tempfile.TemporaryDirectory())) / "twarp-package.zip"
             pack(archive)
             client.upload_file(str(archive))
