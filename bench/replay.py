@@ -34,7 +34,7 @@ class Schedule:
     """Draws steps that the machine can do, and does them."""
 
     def __init__(self, case: Case, draw: Random, flight: int) -> None:
-        self.machine = Machine(case, STOP)
+        self.machine = Machine(case, STOP, is_lazy=False)
         self.routers = range(len(self.machine.routers))
         self.draw = draw
         self.flight = flight

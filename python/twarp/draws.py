@@ -2,6 +2,7 @@
 from __future__ import annotations
 
 import random
+import re
 from collections.abc import Iterator, Sequence
 from dataclasses import dataclass, replace
 from math import exp, log
@@ -88,6 +89,32 @@ class LogNormal:
 Law = Uniform | Exponential | LogNormal
 
 
+def read_range(words: str, least: int, greatest: int) -> Uniform:
+    """Two numbers as 1-20, the first at most the last; one number stands for both."""
+    if found := re.fullmatch("([0-9]{1,10})(?:-([0-9]{1,10}))?", words):
+        low, high = int(found[1]), int(found[2] or found[1])
+        if least <= low <= high <= greatest:
+            return Uniform(low, high)
+    raise ValueError(f"{words[:80]!r} is no range from {least} to {greatest}, as {least}-20")
+
+
+def read_times(words: str) -> Uniform:
+    """A range of times."""
+    return read_range(words, 0, GREATEST_TIME)
+
+
+def read_law(words: str) -> Law:
+    """The law of delays that is written 1-20, exponential:MEAN, or log-normal:MEDIAN:SIGMA."""
+    number = r"([0-9]{1,7}(?:\.[0-9]{1,9})?)"
+    found = re.fullmatch(rf"exponential:{number}|log-normal:{number}:{number}", words)
+    if not found:
+        return read_range(words, 1, GREATEST_DELAY)
+    mean, median, sigma = (float(part or "1") for part in found.groups())
+    if 0 in (mean, median):
+        raise ValueError(f"{words!r} has a delay of 0")
+    return Exponential(mean) if found[1] else LogNormal(median, sigma)
+
+
 def whole(delay: float) -> int:
     """The nearest delay that a link can have."""
     return min(max(1, round(delay)), GREATEST_DELAY)
@@ -102,11 +129,11 @@ class DelayDraws:
 
     def __init__(self, case: Case, law: Law, named: Sequence[Ends] | None = None, apart: bool = False):
         known = {ends_of(link): link for link in case.links}
-        for ends in named or ():
-            if ends not in known:
-                raise Refused(f"refused option --links: the case has no link {ends[0]}-{ends[1]}")
+        chosen = [*known] if named is None else [*dict.fromkeys((min(ends), max(ends)) for ends in named)]
+        for a, b in chosen:
+            if (a, b) not in known:
+                raise Refused(f"refused option --links: the case has no link {a}-{b}")
         self.law = law
-        chosen = list(known) if named is None else list(dict.fromkeys(named))
         # The directions for each of which a delay is drawn.
         self.ways = [way for a, b in chosen for way in ([(a, b), (b, a)] if apart else [(a, b)])]
         self.columns = [f"delay_{a}_{b}" for a, b in self.ways]
@@ -201,3 +228,19 @@ class CaseSource:
             case = draw.change(case, new)
             values += new
         return Draw(case, tuple(values))
+
+
+def case_source(
+    case: Case,
+    delays: Law | str | None = None,
+    links: Sequence[Ends] | None = None,
+    apart: bool = False,
+    failure_times: Uniform | str | None = None,
+) -> CaseSource:
+    """The case with delays by a law and times of failures from a range, as far as they are named."""
+    draws: list[DelayDraws | FailureDraws] = []
+    if delays is not None:
+        draws.append(DelayDraws(case, read_law(delays) if isinstance(delays, str) else delays, links, apart))
+    if failure_times is not None:
+        draws.append(FailureDraws(case, read_times(failure_times) if isinstance(failure_times, str) else failure_times))
+    return CaseSource(case, draws)

@@ -57,6 +57,9 @@ def record(value: Any) -> dict[str, Any]:
 
 Body = Start | Fail | Restore | Swap | Forbid | Allow | Update
 CLASSES = (Start, Fail, Restore, Swap, Forbid, Allow, Update)
+WORDS = {kind: kind.__name__.lower() for kind in CLASSES}
+LINKS: dict[str, type[Fail | Restore]] = {"fail": Fail, "restore": Restore}
+BARS: dict[str, type[Forbid | Allow]] = {"forbid": Forbid, "allow": Allow}
 
 
 @dataclass(frozen=True, slots=True)
@@ -70,20 +73,16 @@ class Event:
     def __str__(self) -> str:
         match self.body:
             case Start():
-                rest = "start"
-            case Fail(peer):
-                rest = f"fail {peer} {self.seq}"
-            case Restore(peer):
-                rest = f"restore {peer} {self.seq}"
+                rest = ""
+            case Fail(peer) | Restore(peer):
+                rest = f" {peer} {self.seq}"
             case Swap(first, second):
-                rest = f"swap {self.seq} {first} {second}"
-            case Forbid(place):
-                rest = f"forbid {self.seq} {place}"
-            case Allow(place):
-                rest = f"allow {self.seq} {place}"
+                rest = f" {self.seq} {first} {second}"
+            case Forbid(place) | Allow(place):
+                rest = f" {self.seq} {place}"
             case Update(path, session):
-                rest = f"update {self.src} {self.seq} {session} {write_path(path)}"
-        return f"event {self.time} {self.dst} {rest}"
+                rest = f" {self.src} {self.seq} {session} {write_path(path)}"
+        return f"event {self.time} {self.dst} {WORDS[type(self.body)]}{rest}"
 
     def record(self) -> dict[str, Any]:
         """The event's fields, as JSON has them."""
@@ -120,16 +119,12 @@ def read_event(text: str) -> Event | None:
     match found["word"], [int(word) for word in found["numbers"].split()], found["path"]:
         case "start", [], None:
             return Event(time, dst, dst, 0, Start())
-        case "fail", [peer, seq], None:
-            return Event(time, dst, dst, seq, Fail(peer))
-        case "restore", [peer, seq], None:
-            return Event(time, dst, dst, seq, Restore(peer))
+        case ("fail" | "restore") as word, [peer, seq], None:
+            return Event(time, dst, dst, seq, LINKS[word](peer))
         case "swap", [seq, first, second], None:
             return Event(time, dst, dst, seq, Swap(first, second))
-        case "forbid", [seq, place], None:
-            return Event(time, dst, dst, seq, Forbid(place))
-        case "allow", [seq, place], None:
-            return Event(time, dst, dst, seq, Allow(place))
+        case ("forbid" | "allow") as word, [seq, place], None:
+            return Event(time, dst, dst, seq, BARS[word](place))
         case "update", [src, seq, session], str(path):
             return Event(time, dst, src, seq, Update(read_path(path), session))
     return None
@@ -140,13 +135,10 @@ def opening_events(case: Case) -> list[Event]:
     events = [Event(0, 0, 0, 0, Start())]
     for seq, scene in enumerate(case.scenes, 1):
         match scene:
-            case LinkScene("fail", time, a, b):
-                events += [Event(time, a, a, seq, Fail(b)), Event(time, b, b, seq, Fail(a))]
-            case LinkScene(_, time, a, b):
-                events += [Event(time, a, a, seq, Restore(b)), Event(time, b, b, seq, Restore(a))]
+            case LinkScene(word, time, a, b):
+                events += [Event(time, a, a, seq, LINKS[word](b)), Event(time, b, b, seq, LINKS[word](a))]
             case SwapScene(time, router, first, second):
                 events.append(Event(time, router, router, seq, Swap(first, second)))
             case BarScene(word, time, router, place):
-                body: Body = Forbid(place) if word == "forbid" else Allow(place)
-                events.append(Event(time, router, router, seq, body))
+                events.append(Event(time, router, router, seq, BARS[word](place)))
     return events

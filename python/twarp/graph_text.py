@@ -1,15 +1,16 @@
 """A case, and where a run of it stands, as Graphviz text."""
 from __future__ import annotations
 
-from collections import defaultdict, deque
-from collections.abc import Iterator, Mapping
+from collections import defaultdict
+from collections.abc import Iterator, Mapping, Sequence
 from dataclasses import dataclass
 from html import escape
 
 from twarp.case import ORIGIN, Case, Link
+from twarp.hops import hops_from
 from twarp.lines import Nodes, write_path
 from twarp.palette import place_of
-from twarp.standing import Standing
+from twarp.protocol import Router
 
 HEAD = """\
 digraph {{
@@ -25,11 +26,10 @@ PATH_ROW = '<TR><TD ALIGN="LEFT"{ground}><FONT FACE="monospace" POINT-SIZE="11" 
 Uses = Mapping[tuple[int, int], list[int]]
 
 
-def uses_by_ribs(standing: Standing) -> Uses:
+def uses_by_ribs(routers: Sequence[Router]) -> Uses:
     """The first step of each router's path."""
-    return {
-        (rib[0], rib[1]): [order.index(rib)] for order, rib in zip(standing.orders, standing.ribs or []) if len(rib) > 1
-    }
+    used = [router for router in routers if len(router.rib) > 1]
+    return {(router.node, router.rib[1]): [router.order.index(router.rib)] for router in used}
 
 
 def uses_by_paths(order: list[Nodes]) -> Uses:
@@ -43,15 +43,7 @@ def uses_by_paths(order: list[Nodes]) -> Uses:
 
 def distances(case: Case) -> list[int]:
     """How many links each router is from the origin; for one without a way there, the number of routers."""
-    found = {ORIGIN: 0}
-    queue = deque(found)
-    neighbours = case.delays()
-    while queue:
-        node = queue.popleft()
-        for peer in neighbours[node]:
-            if peer not in found:
-                found[peer] = found[node] + 1
-                queue.append(peer)
+    found = hops_from(ORIGIN, case.delays().__getitem__)
     return [found.get(node, case.nodes) for node in range(case.nodes)]
 
 
@@ -64,20 +56,21 @@ def delay_words(link: Link) -> str:
 
 @dataclass
 class Drawing:
-    """What is to be drawn: at most so many paths at a router, and those of one router only where that is asked for."""
+    """What is to be drawn: at most so many paths at a router, and those of one router only where that is asked for.
+
+    Without a run the routers use no paths yet.
+    """
 
     case: Case
-    standing: Standing
+    routers: Sequence[Router]
+    has_run: bool
     names: Mapping[int, str]
     most: int
     only: int | None
 
     def text(self, title: str) -> str:
         lines = [self.box(router) for router in range(self.case.nodes)]
-        if self.only is None:
-            uses = uses_by_ribs(self.standing)
-        else:
-            uses = uses_by_paths(self.standing.orders[self.only])
+        uses = uses_by_ribs(self.routers) if self.only is None else uses_by_paths(self.routers[self.only].order)
         depth = distances(self.case)
         for link in self.case.links:
             lines += self.edges(link, uses, depth)
@@ -87,27 +80,25 @@ class Drawing:
         name = escape(f"{router} {self.names[router]}" if router in self.names else str(router))
         rows = [NAME_ROW.format(name=name, ground="#d9d9d9" if router == ORIGIN else "#eeeeee")]
         if self.only in (None, router):
-            rows += self.path_rows(router)
+            rows += self.path_rows(self.routers[router])
         return f"{router} [label=<{BOX.format(''.join(rows))}>]"
 
-    def path_rows(self, router: int) -> Iterator[str]:
+    def path_rows(self, router: Router) -> Iterator[str]:
         """A row for each path, coloured where the router uses it or where its paths alone are shown."""
-        order = self.standing.orders[router]
-        rib = self.standing.ribs[router] if self.standing.ribs else None
-        for number, path in enumerate(order):
-            is_coloured = path == rib if self.only is None else True
+        for number, path in enumerate(router.order):
+            is_coloured = path == router.rib if self.only is None else True
             if number >= self.most and not is_coloured:
                 continue
             place = place_of(number)
             ground = f' BGCOLOR="{place.fill}"' if is_coloured else ""
             ink, words = place.ink if is_coloured else "#222222", write_path(path)
-            if path in self.standing.barred:
+            if path in router.barred:
                 ink, words = "#c1121f", f"<S>{words}</S>"
             yield PATH_ROW.format(ground=ground, ink=ink, words=words)
-        more = sum(path != rib for path in order[self.most :]) if self.only is None else 0
+        more = sum(path != router.rib for path in router.order[self.most :]) if self.only is None else 0
         if more:
             yield PATH_ROW.format(ground="", ink="#777777", words=f"and {more} more")
-        if rib == ():
+        if self.has_run and not router.rib:
             yield PATH_ROW.format(ground="", ink="#c1121f", words="uses no path")
 
     def edges(self, link: Link, uses: Uses, depth: list[int]) -> Iterator[str]:
@@ -118,7 +109,7 @@ class Drawing:
         otherwise.
         """
         tail, head = sorted((link.a, link.b), key=lambda node: (-depth[node], node))
-        is_level, is_down = depth[tail] == depth[head], frozenset((tail, head)) in self.standing.down
+        is_level, is_down = depth[tail] == depth[head], head in self.routers[tail].down
         words = f"{delay_words(link)}{' down' if is_down else ''}"
         label = f'xlabel="{words}", ' if is_level else f'label=" {words} ", '
         level = ", constraint=false" if is_level else ""

@@ -35,16 +35,13 @@ class View:
 
     def refuse_crowd(self, marks: int) -> None:
         """Refuses a picture in which nobody could tell the marks apart."""
-        if marks > MOST_MARKS:
-            raise Refused(
-                f"there are {marks:,} marks to be drawn, and at most {MOST_MARKS:,} can be told apart: "
-                "choose some by --from, --to and --routers"
-            )
-        if len(self.routers) > MOST_LANES:
-            raise Refused(
-                f"there are {len(self.routers):,} lanes to be drawn, and at most {MOST_LANES} can be told apart: "
-                "choose some by --routers"
-            )
+        refuse_crowd(marks, MOST_MARKS, "marks to be drawn, and one can tell apart")
+        refuse_crowd(len(self.routers), MOST_LANES, "lanes to be drawn, and one can tell apart")
+
+
+def refuse_crowd(count: int, most: int, what: str) -> None:
+    if count > most:
+        raise Refused(f"there are {count:,} {what} at most {most:,}: choose some by --from, --to and --routers")
 
 
 class Lanes:

@@ -94,40 +94,37 @@ class Machine:
     def key(self, event: Event) -> tuple[int, ...]:
         return event.key(self.path_numbers)
 
-    def can_do(self, step: Step) -> bool:
-        """Whether there is something to handle, undo or deliver, at a router that is there."""
+    def do(self, step: Step) -> bool:
+        """Does a step, where it is at a router that is there, and there is something to handle, undo or deliver."""
+        is_there = step.number is not None and step.number < len(self.routers)
         match step:
-            case Step("handle", int(router)):
-                return router < len(self.routers) and bool(self.pending[router])
-            case Step("undo", int(router)):
-                return router < len(self.routers) and bool(self.handled[router])
-            case Step("deliver", int(place)):
-                return 1 <= place <= len(self.flight)
-            case Step("commit" | "release", int(router)):
-                return router < len(self.routers)
+            case Step("handle", int(router)) if is_there and self.pending[router]:
+                self.handle(router)
+            case Step("undo", int(router)) if is_there and self.handled[router]:
+                self.undo_last(router)
+            case Step("deliver", int(place)) if 1 <= place <= len(self.flight):
+                self.deliver(place)
+            case Step("commit", int(router)) if is_there:
+                self.commit(router)
+            case Step("release", int(router)) if is_there:
+                self.release(router)
+            case Step("bound"):
+                self.find_bound()
+            case _:
+                return False
         return True
 
-    def do(self, step: Step) -> None:
-        """Does a step that can be done."""
-        match step:
-            case Step("handle", int(router)):
-                self.handle(router)
-            case Step("undo", int(router)):
-                self.undo_last(router)
-            case Step("deliver", int(place)):
-                self.deliver(place)
-            case Step("bound"):
-                loose = [message.event.time for message in self.flight]
-                loose += [event.time for event in self.all_pending() + self.kept + self.held]
-                self.is_at_stop |= all(time > self.last_bound for time in loose)
-                self.bound = max(self.bound, min(loose + [self.last_bound]))
-                self.history.bounds.append((self.number, self.bound))
-            case Step("commit", int(router)):
-                for handling in self.handled[router]:
-                    if handling.committed_at is None and handling.event.time < self.bound:
-                        handling.committed_at = self.number
-            case Step("release", int(router)):
-                self.release(router)
+    def find_bound(self) -> None:
+        loose = [message.event.time for message in self.flight]
+        loose += [event.time for event in self.all_pending() + self.kept + self.held]
+        self.is_at_stop |= all(time > self.last_bound for time in loose)
+        self.bound = max(self.bound, min(loose + [self.last_bound]))
+        self.history.bounds.append((self.number, self.bound))
+
+    def commit(self, router: int) -> None:
+        for handling in self.handled[router]:
+            if handling.committed_at is None and handling.event.time < self.bound:
+                handling.committed_at = self.number
 
     def handle(self, router: int) -> None:
         event = min(self.pending[router], key=self.key)
@@ -211,11 +208,8 @@ def follow_replay(case: Case, steps: list[Step], replay: Replay) -> History:
     """What the steps did; refused at the first line that is not what they lead to."""
     machine = Machine(case, replay.bound, replay.is_lazy)
     for machine.number, (step, refusal) in enumerate(zip(steps, replay.answers), 1):
-        if refusal is not None:
-            continue
-        if not machine.can_do(step):
+        if refusal is None and not machine.do(step):
             raise Refused.at_line(machine.number + 1, f"`{step}` can't be done here")
-        machine.do(step)
     compare(machine, replay)
     return machine.history
 

@@ -8,7 +8,7 @@ from xml.etree.ElementTree import Element
 
 from twarp.axis import DIGIT_WIDTH, nice_step
 from twarp.lanes import TOP, Sample, draw_legend, sample_box
-from twarp.outcomes import MOST_COLUMNS, Outcome, Outcomes, interval, percent
+from twarp.outcomes import MOST_COLUMNS, Outcome, Outcomes, in_columns, interval, percent
 from twarp.palette import place_of
 from twarp.svg import Picture, add
 
@@ -127,11 +127,11 @@ class OutcomePicture:
         first, last = min(whole) // width, max(whole) // width
         pixels = min(WIDEST_COLUMN, (WIDTH + NOTE) / (last + 1 - first))
         columns = Columns(word, first, last, width, self.left, pixels)
-        tallest = max(columns.counts(whole).values())
+        tallest = max(in_columns(whole, width).values())
         self.draw_counts(parent, tallest, columns.right, base)
         heights: Counter[int] = Counter()
         for lane, counts in rows:
-            for number, runs in sorted(columns.counts(counts).items()):
+            for number, runs in sorted(in_columns(counts, width).items()):
                 heights[number] += runs
                 group = add(parent, "g", "", f"{columns.words(number)}: {runs:,} runs, {words_of(lane)}")
                 box = {"x": columns.x(number), "y": base - HEIGHT * heights[number] / tallest, "width": pixels}
@@ -173,13 +173,6 @@ class Columns:
     def words(self, number: int) -> str:
         start = number * self.width
         return f"{self.word} {start:,}" if self.width == 1 else f"{self.word} {start:,} to {start + self.width - 1:,}"
-
-    def counts(self, counts: Counter[int]) -> Counter[int]:
-        """How many stand in each column."""
-        columns: Counter[int] = Counter()
-        for value, runs in counts.items():
-            columns[value // self.width] += runs
-        return columns
 
     def told(self) -> range:
         """The columns whose times are written, so far apart that they don't touch."""

@@ -2,6 +2,7 @@
 from __future__ import annotations
 
 import csv
+import io
 import json
 import re
 from collections import Counter
@@ -104,13 +105,19 @@ def percentile(counts: Counter[int], percent: int) -> int:
 def spread(counts: Counter[int]) -> dict[str, Any]:
     """Percentiles and a histogram: column k counts the values from `first + k * width` on, below the next column's."""
     width = nice_step((max(counts) + 1 - min(counts)) / MOST_COLUMNS)
-    first = min(counts) // width
-    columns = [0] * (max(counts) // width + 1 - first)
-    for value, count in counts.items():
-        columns[value // width - first] += count
+    first, columns = min(counts) // width, in_columns(counts, width)
+    numbers = [columns[number] for number in range(first, max(counts) // width + 1)]
     percents = {f"p{percent}": percentile(counts, percent) for percent in PERCENTS}
-    histogram = {"first": first * width, "width": width, "counts": columns}
+    histogram = {"first": first * width, "width": width, "counts": numbers}
     return {"least": min(counts), **percents, "greatest": max(counts), "histogram": histogram}
+
+
+def in_columns(counts: Counter[int], width: int) -> Counter[int]:
+    """How many values stand in each column of a histogram."""
+    columns: Counter[int] = Counter()
+    for value, count in counts.items():
+        columns[value // width] += count
+    return columns
 
 
 class Outcomes:
@@ -276,16 +283,17 @@ class Table:
     def __init__(self, columns: Sequence[str], made_by: str):
         self.columns = columns
         self.head = ["seed", *columns, *RUN_COLUMNS, made_by]
+        self.head_line = line_of(self.head)
         self.outcomes = Outcomes()
 
-    def row(self, trial: Trial) -> list[object]:
-        """The fields of a run, which is counted; what it does not have is left empty.
+    def line(self, trial: Trial) -> str:
+        """The line of a run, which is counted; what it does not have is left empty.
 
         The paths stand in the first line of each outcome at rest.
         """
         outcome = self.outcomes.take(trial)
         if outcome is None or isinstance(trial.end, Failed):
-            return [trial.seed, *trial.values, "failed", *[""] * len(RUN_COLUMNS)]
+            return line_of([trial.seed, *trial.values, "failed", *[""] * len(RUN_COLUMNS)])
         end, times = trial.end, ["", "", ""]
         match end.verdict:
             case Quiet(time):
@@ -296,7 +304,13 @@ class Table:
         if outcome.runs == 1 and outcome.ribs is not None:
             paths = " ".join(map(write_path, outcome.ribs))
         ending = [outcome.word, *times, end.sent, end.changed, outcome.number or "", moving, paths, ""]
-        return [trial.seed, *trial.values, *ending]
+        return line_of([trial.seed, *trial.values, *ending])
+
+
+def line_of(fields: Iterable[object]) -> str:
+    text = io.StringIO()
+    csv.writer(text, lineterminator="\n").writerow(fields)
+    return text.getvalue()
 
 
 def rows_of(source: TextIO, is_cut: bool) -> Iterator[list[str]]:

@@ -14,10 +14,11 @@ from twarp.lanes import View
 from twarp.machine import follow_replay
 from twarp.outcome_picture import OutcomePicture
 from twarp.outcomes import Outcomes
+from twarp.protocol import opening_routers
 from twarp.replay_picture import ReplayPicture
 from twarp.report import Quiet, Replay, Report, Step
 from twarp.run_picture import RunPicture, last_time
-from twarp.standing import opening, reached
+from twarp.standing import reached
 from twarp.trials import Trial
 
 # How many undone steps the title of a replay names.
@@ -38,14 +39,14 @@ def network_text(
 
     With `paths_of` the permitted paths of this router alone are shown.
     """
-    standing = reached(case, report) if report else opening(case)
+    routers = reached(case, report) if report else opening_routers(case)
     if report:
         title += f": verdict {report.verdict}"
     if paths_of is not None:
         if paths_of >= case.nodes:
             raise Refused(f"refused option --paths-of: the case has no router {paths_of}")
         title += f": paths of {paths_of}"
-    return Drawing(case, standing, names, most, paths_of).text(title)
+    return Drawing(case, routers, report is not None, names, most, paths_of).text(title)
 
 
 def network(case: Case, report: Report | None = None, **how: Any) -> str:
@@ -61,10 +62,10 @@ def view_of(
     nodes: int,
     whole: range,
     end: int,
-    first: int | None,
-    last: int | None,
-    routers: Sequence[int] | None,
-    names: Mapping[int, str],
+    first: int | None = None,
+    last: int | None = None,
+    routers: Sequence[int] | None = None,
+    names: Mapping[int, str] = NO_NAMES,
 ) -> View:
     """A part of a run of so many routers, from the beginning of `whole` to `end`; nothing beyond `whole` is known."""
     routers = routers or range(nodes)
@@ -77,18 +78,11 @@ def view_of(
     return View(first, last, routers, names)
 
 
-def view_of_run(
-    case: Case,
-    report: Report,
-    first: int | None = None,
-    last: int | None = None,
-    routers: Sequence[int] | None = None,
-    names: Mapping[int, str] = NO_NAMES,
-) -> View:
-    """A part of the run that was reported."""
+def view_of_run(case: Case, report: Report, **part: Any) -> View:
+    """A part of the run that was reported, as `view_of` takes it."""
     is_at_rest = isinstance(report.verdict, Quiet)
     whole = range((GREATEST_TIME if is_at_rest else report.bound) + 1)
-    return view_of(case.nodes, whole, last_time(report), first, last, routers, names)
+    return view_of(case.nodes, whole, last_time(report), **part)
 
 
 def subtitle_of(report: Report) -> str:
@@ -110,7 +104,7 @@ def timeline(
 
     Refused where the report is not that of the run of the case with its events, at the first line that differs.
     """
-    view = view_of_run(case, report, first, last, routers, names)
+    view = view_of_run(case, report, first=first, last=last, routers=routers, names=names)
     picture = RunPicture(case, report, follow(case, report), view)
     return picture.draw(f"{title}: verdict {report.verdict}", subtitle_of(report))
 

@@ -221,17 +221,19 @@ class RunPicture:
             start -= MOMENT
         y, words = self.lanes.y(bar.router), write_path(bar.path)
         box = {"x": start, "y": y - self.lanes.bar / 2, "width": end - start, "height": self.lanes.bar, "rx": 3}
-        group = add(parent, "g", "", bar.tooltip)
+        look, ink = {"class_": "hollow"}, {"class_": "path quiet"}
         if bar.path:
-            add(group, "rect", class_="bar", fill=self.places[bar.path].fill, **box)
-        else:
-            add(group, "rect", class_="hollow", **box)
-        if LETTER_WIDTH * len(words) + 6 <= end - start:
-            at = {"x": start + 4, "y": y + 3.8}
-            if bar.path:
-                add(group, "text", words, class_="path", style=f"fill:{self.places[bar.path].ink}", **at)
-            else:
-                add(group, "text", words, class_="path quiet", **at)
+            place = self.places[bar.path]
+            look, ink = {"class_": "bar", "fill": place.fill}, {"class_": "path", "style": f"fill:{place.ink}"}
+        group = add(parent, "g", "", bar.tooltip)
+        add(group, "rect", **look, **box)
+        if bar.start != bar.end:
+            has_room = LETTER_WIDTH * len(words) + 6 <= end - start
+            self.draw_words(group, words, ink, {"x": start + 4, "y": y + 3.8}, has_room)
+
+    def draw_words(self, bar: Element, words: str, look: dict[str, str], at: dict[str, float], has_room: bool) -> None:
+        if has_room:
+            add(bar, "text", words, **look, **at)
 
     def ban_height(self, router: int, level: int) -> float:
         """Where a path's time of being forbidden is drawn, below the router's bar."""

@@ -2,39 +2,17 @@
 from __future__ import annotations
 
 import contextlib
-import re
 import tempfile
 import zipfile
 from collections.abc import Iterator, Sequence
 from concurrent.futures import Executor
 from pathlib import Path
 
-from twarp.case import GREATEST_DELAY, GREATEST_TIME, Case
-from twarp.draws import CaseSource, DelayDraws, Ends, Exponential, FailureDraws, Law, LogNormal, Uniform
+from twarp.case import Case
+from twarp.draws import Ends, Law, Uniform, case_source
 from twarp.errors import Stopped
 from twarp.program import HERE, File, need
 from twarp.trials import Batches, Given, Local, Plan, Trial, processors
-
-
-def read_range(words: str, least: int, greatest: int) -> Uniform:
-    """Two numbers as 1-20, the first at most the last; one number stands for both."""
-    if found := re.fullmatch("([0-9]{1,10})(?:-([0-9]{1,10}))?", words):
-        low, high = int(found[1]), int(found[2] or found[1])
-        if least <= low <= high <= greatest:
-            return Uniform(low, high)
-    raise ValueError(f"{words[:80]!r} is no range from {least} to {greatest}, as {least}-20")
-
-
-def read_law(words: str) -> Law:
-    """The law of delays that is written 1-20, exponential:MEAN, or log-normal:MEDIAN:SIGMA."""
-    number = r"([0-9]{1,7}(?:\.[0-9]{1,9})?)"
-    found = re.fullmatch(rf"exponential:{number}|log-normal:{number}:{number}", words)
-    if not found:
-        return read_range(words, 1, GREATEST_DELAY)
-    mean, median, sigma = (float(part or "1") for part in found.groups())
-    if 0 in (mean, median):
-        raise ValueError(f"{words!r} has a delay of 0")
-    return Exponential(mean) if found[1] else LogNormal(median, sigma)
 
 
 class Sweep(Iterator[Trial]):
@@ -75,17 +53,8 @@ def sweep(
     on the seed alone. The runs go to `jobs` processes (one for each processor), or to an executor, where `jobs` says how
     many workers it has; its workers need the program.
     """
-    draws: list[DelayDraws | FailureDraws] = []
-    if delays is not None:
-        law = read_law(delays) if isinstance(delays, str) else delays
-        draws.append(
-            DelayDraws(case, law, None if links is None else [(min(link), max(link)) for link in links], apart)
-        )
-    if failure_times is not None:
-        times = read_range(failure_times, 0, GREATEST_TIME) if isinstance(failure_times, str) else failure_times
-        draws.append(FailureDraws(case, times))
     file = str(program) if executor and program else str(need(program))
-    plan = Plan(CaseSource(case, draws), file, stop, every, check)
+    plan = Plan(case_source(case, delays, links, apart, failure_times), file, stop, every, check)
     jobs = jobs or processors()
     workers: Given | Local = Given(plan, executor, jobs) if executor else Local(plan, jobs)
     return Sweep(plan, range(seed, seed + runs), workers)

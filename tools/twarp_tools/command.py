@@ -9,7 +9,7 @@ import sys
 from collections.abc import Callable
 from dataclasses import dataclass
 from pathlib import Path
-from typing import NoReturn, TypeVar
+from typing import Any, NoReturn, TypeVar
 
 from twarp.errors import Refused, Stopped
 
@@ -38,18 +38,46 @@ def quote(text: str) -> str:
     return repr(text) if len(text) <= MOST_QUOTED else f"{text[:MOST_QUOTED]!r}.."
 
 
-STATUSES = "statuses: 0 done, 1 the input is refused, 2 stopped, 3 the command line is not accepted"
+CLOSING = """
+
+statuses: 0 done, 1 the input is refused, 2 stopped, 3 the command line is not accepted
+tools/README.md tells more; where twarp is installed it stands in share/doc/twarp"""
 
 
 class Parser(argparse.ArgumentParser):
     """Reads a command line; one that it does not take ends with the status that twarp has for it."""
 
     def __init__(self, description: str, example: str):
-        super().__init__(
-            description=description,
-            epilog=f"{example}\n\n{STATUSES}",
-            formatter_class=argparse.RawDescriptionHelpFormatter,
-        )
+        how = argparse.RawDescriptionHelpFormatter
+        super().__init__(description=description, epilog=example + CLOSING, formatter_class=how)
+
+    def option(
+        self,
+        name: str,
+        metavar: str,
+        told: str,
+        kind: Callable[[str], object] = str,
+        default: object = None,
+        group: argparse._MutuallyExclusiveGroup | None = None,
+        **how: Any,
+    ) -> None:
+        """Adds an option with a value; where a word is none, the ValueError of `kind` is told."""
+
+        def read(word: str) -> object:
+            try:
+                return kind(word)
+            except ValueError as fault:
+                raise argparse.ArgumentTypeError(str(fault)) from None
+
+        told += "" if default is None else " (default %(default)s)"
+        (group or self).add_argument(name, metavar=metavar, type=read, default=default, help=told, **how)
+
+    def parse_pair(self) -> argparse.Namespace:
+        """The command line, in which one alone of CASE and REPORT can be standard input."""
+        line = self.parse_args()
+        if line.case == line.report == "-":
+            self.error("only one of CASE and REPORT can be standard input")
+        return line
 
     def error(self, message: str) -> NoReturn:
         self.print_usage(sys.stderr)
@@ -57,29 +85,20 @@ class Parser(argparse.ArgumentParser):
 
 
 def number_between(least: int, most: int) -> Callable[[str], int]:
-    """A type of arguments: a decimal number in a range."""
+    """Reads a decimal number in a range."""
 
     def read(word: str) -> int:
         is_number = word.isascii() and word.isdigit() and len(word) <= MOST_QUOTED
         if not (is_number and least <= int(word) <= most):
-            raise argparse.ArgumentTypeError(f"{quote(word)} is no number from {least} to {most}")
+            raise ValueError(f"{quote(word)} is no number from {least} to {most}")
         return int(word)
 
     return read
 
 
-def range_between(least: int, most: int) -> Callable[[str], tuple[int, int]]:
-    """A type of arguments: two numbers in a range as 1-20, the first at most the last; one number stands for both."""
-    number = number_between(least, most)
-
-    def read(word: str) -> tuple[int, int]:
-        first, dash, last = word.partition("-")
-        low, high = number(first), number(last if dash else first)
-        if low > high:
-            raise argparse.ArgumentTypeError(f"{low} is more than {high}")
-        return low, high
-
-    return read
+def title_of(title: str | None, file: str, unnamed: str = "case") -> str:
+    """What a picture's title begins with: what was asked for, or else the name of the case."""
+    return title or (unnamed if file == "-" else Path(file).stem)
 
 
 @dataclass(frozen=True)

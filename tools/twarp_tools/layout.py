@@ -9,11 +9,12 @@ Everything is made of sums, products, quotients and roots, so that a network has
 from __future__ import annotations
 
 import random
-from collections import deque
 from collections.abc import Iterator, Sequence
 from dataclasses import dataclass
 from itertools import combinations
 from math import sqrt
+
+from twarp.hops import hops_from
 
 # The number of the routers that a router is linked to, for each router.
 Neighbours = Sequence[Sequence[int]]
@@ -44,22 +45,9 @@ def distance(one: Point, other: Point) -> float:
     return sqrt(x * x + y * y)
 
 
-def hops_from(start: int, neighbours: Neighbours) -> dict[int, int]:
-    """How many links each router is from `start`, where there is a way."""
-    found = {start: 0}
-    queue = deque(found)
-    while queue:
-        node = queue.popleft()
-        for peer in neighbours[node]:
-            if peer not in found:
-                found[peer] = found[node] + 1
-                queue.append(peer)
-    return found
-
-
 def wanted_distances(neighbours: Neighbours) -> list[tuple[int, int, int]]:
     """Each two routers with how far apart they should be, in links; the farthest are those without a way."""
-    rows = [hops_from(node, neighbours) for node in range(len(neighbours))]
+    rows = [hops_from(node, neighbours.__getitem__) for node in range(len(neighbours))]
     far = 1 + max(max(row.values()) for row in rows)
     return [(a, b, rows[a].get(b, far)) for a, b in combinations(range(len(rows)), 2)]
 

@@ -35,11 +35,11 @@ class Choice:
 Measure = Callable[[NetworkLink], Fraction | None]
 
 
-def measure_by(names: tuple[str, ...]) -> Measure:
-    """What the first of these attributes says, which is not below 0."""
+def measure_by(name: str) -> Measure:
+    """What this attribute says, which is not below 0."""
 
     def measure(link: NetworkLink) -> Fraction | None:
-        found = link.find(names)
+        found = link.find(name)
         return found.number_between(0, GREATEST_VALUE) if found else None
 
     return measure
@@ -49,7 +49,7 @@ def measure_on_globe(network: Network) -> Measure:
     """The kilometres between a link's ends, where both have their place."""
 
     def place_of(node: str) -> tuple[float, float] | None:
-        latitude, longitude = (network.nodes[node].find([name]) for name in ("latitude", "longitude"))
+        latitude, longitude = (network.nodes[node].find(name) for name in ("latitude", "longitude"))
         if not latitude or not longitude:
             return None
         return math.radians(latitude.number_between(-90, 90)), math.radians(longitude.number_between(-180, 180))
@@ -72,31 +72,26 @@ def kilometres(one: tuple[float, float], other: tuple[float, float]) -> float:
 
 def delay_measure(network: Network, choice: Choice) -> tuple[Measure, Fraction] | None:
     """How links' delays are found, and how much of it is a tick; none where all are 1."""
-    if choice.delay:
-        names = known_names(network, (choice.delay,))
-        if not names:
-            raise Refused(f"refused option --delay: no link has the attribute {choice.delay}")
-        return measure_by(names), choice.per_tick or Fraction(1)
-    if names := known_names(network, DISTANCES):
-        return measure_by(names), choice.per_tick or Fraction(1)
-    if any(node.find(["latitude"]) and node.find(["longitude"]) for node in network.nodes.values()):
+    name = known_name(network, "--delay", choice.delay, DISTANCES)
+    if name is None and any(node.find("latitude") and node.find("longitude") for node in network.nodes.values()):
         return measure_on_globe(network), choice.per_tick or Fraction(KM_PER_TICK)
-    if names := known_names(network, WEIGHTS):
-        return measure_by(names), choice.per_tick or Fraction(1)
-    return None
+    name = name or known_name(network, "", None, WEIGHTS)
+    return (measure_by(name), choice.per_tick or Fraction(1)) if name else None
 
 
 def weight_measure(network: Network, choice: Choice) -> Measure | None:
     """How links' weights are found; none where they are the delays."""
-    names = known_names(network, (choice.weight,) if choice.weight else WEIGHTS)
-    if choice.weight and not names:
-        raise Refused(f"refused option --weight: no link has the attribute {choice.weight}")
-    return measure_by(names) if names else None
+    name = known_name(network, "--weight", choice.weight, WEIGHTS)
+    return measure_by(name) if name else None
 
 
-def known_names(network: Network, names: tuple[str, ...]) -> tuple[str, ...]:
-    """The first of these names that is one of some link's attributes, where there is one."""
-    return next(((name,) for name in names if any(link.find([name]) for link in network.links)), ())
+def known_name(network: Network, option: str, named: str | None, usual: tuple[str, ...]) -> str | None:
+    """The attribute that an option names, or else the first of the usual ones, that some link has."""
+    names = (named,) if named else usual
+    known = next((name for name in names if any(link.find(name) for link in network.links)), None)
+    if named and known is None:
+        raise Refused(f"refused option {option}: no link has the attribute {named}")
+    return known
 
 
 @dataclass(frozen=True, slots=True)

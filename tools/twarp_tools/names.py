@@ -1,22 +1,17 @@
 """Names of routers, as `relationships --map` writes them."""
 from __future__ import annotations
 
-import argparse
 import re
 
 from twarp.errors import Refused
 from twarp.lines import lines_of
-from twarp_tools.command import Input
+from twarp_tools.command import Input, Parser
 
 NAME_LINE = re.compile(r"(0|[1-9][0-9]{0,3}) (\S.*)")
 
 
-def add_names(parser: argparse.ArgumentParser) -> None:
-    parser.add_argument(
-        "--names",
-        metavar="FILE",
-        help="names of routers: lines of a number and a name, as relationships --map writes them",
-    )
+def add_names(parser: Parser) -> None:
+    parser.option("--names", "FILE", "names of routers: lines of a number and a name, as relationships --map writes")
 
 
 def names_of(file: str | None) -> dict[int, str]:

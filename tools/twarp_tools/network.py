@@ -2,7 +2,7 @@
 from __future__ import annotations
 
 import re
-from collections.abc import Iterable, Mapping
+from collections.abc import Mapping
 from dataclasses import dataclass, field
 from fractions import Fraction
 
@@ -24,15 +24,11 @@ class Attribute:
     def refused(self, why: str) -> Refused:
         return Refused(f"refused {self.place}: {self.name} {quote(self.text)}: {why}")
 
-    def number(self) -> Fraction:
+    def number_between(self, least: int, most: int) -> Fraction:
         text = self.text.strip()
         if not A_DECIMAL.fullmatch(text):
             raise self.refused("this is no number")
-        return Fraction(text)
-
-    def number_between(self, least: int, most: int) -> Fraction:
-        number = self.number()
-        if not least <= number <= most:
+        if not least <= (number := Fraction(text)) <= most:
             raise self.refused(f"this is not between {least} and {most:,}")
         return number
 
@@ -48,16 +44,14 @@ class Item:
             if text:
                 self.attributes.setdefault(name.lower(), Attribute(place, name, text))
 
-    def find(self, names: Iterable[str]) -> Attribute | None:
-        """The attribute with the first of these names that there is."""
-        found = (self.attributes.get(name.lower()) for name in names)
-        return next(filter(None, found), None)
+    def find(self, name: str) -> Attribute | None:
+        return self.attributes.get(name.lower())
 
 
 class Node(Item):
     def __init__(self, id_: str, attributes: Mapping[str, str]):
         super().__init__(f"node {quote(id_)}", attributes)
-        label = self.find(["label"])
+        label = self.find("label")
         # What it is called: its label, and its id where it has none.
         self.name = " ".join(label.text.split()) if label else ""
         self.name = self.name or id_

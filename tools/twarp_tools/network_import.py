@@ -2,6 +2,7 @@
 from __future__ import annotations
 
 import argparse
+import re
 from collections.abc import Iterator
 from fractions import Fraction
 from pathlib import Path
@@ -9,6 +10,7 @@ from typing import BinaryIO
 
 from twarp.case import MOST_NODES, MOST_PATHS, MOST_ROUTERS, Case, Link
 from twarp.errors import Refused
+from twarp.hops import hops_from
 from twarp_tools.command import Parser, number_between, quote, refuse_own_input, tell, write_output
 from twarp_tools.measures import DISTANCES, KM_PER_TICK, WEIGHTS, Choice, Joined, Measured
 from twarp_tools.network import Network
@@ -22,22 +24,10 @@ MOST_UNPACKED = 8
 DESCRIPTION = f"""\
 Makes a case of a network in GraphML or GML, on standard output.
 
-Both are read as the Internet Topology Zoo publishes them and as yEd writes them, also packed by gzip or bzip2. It needs
-networkx and defusedxml: on Debian, apt-get install python3-networkx python3-defusedxml. The destination becomes router
-0, and the other nodes that a path leads from the routers 1, 2, .. in the order of the file.
-
-The delay of a link is its {", ".join(DISTANCES[:-1])} or {DISTANCES[-1]}, the first of these that some link has; else
-the distance of its ends on the globe, of {KM_PER_TICK} km a tick, where nodes have Latitude and Longitude; else its
-{", ".join(WEIGHTS[:-1])} or {WEIGHTS[-1]}; else 1. A tick is the least delay, and a link without the value has 1.
-
-All paths without a repeated node are permitted, as far as --paths goes: those of less weight first, then those of fewer
-links, then those by way of lower routers. The weight of a link is its {", ".join(WEIGHTS[:-1])} or {WEIGHTS[-1]}, the
-first of these that some link has, where a link without it has 1; else its delay.
-
-In a directed network each direction of a link has its own delay, and a path goes only where a link leads. Where one
-leads in one direction alone, messages go in both, with its delay.
-
-What is left out is told on standard error."""
+It may be packed by gzip or bzip2. The destination becomes router 0. The delay of a link is the first that some link has
+of {", ".join(DISTANCES)}; else the distance of its ends on the globe; else the first of {", ".join(WEIGHTS)}; else 1.
+All paths without a repeated node are permitted, as far as --paths goes, those of less weight first. What is left out is
+told on standard error. It needs networkx and defusedxml (Debian: python3-networkx, python3-defusedxml)."""
 EXAMPLE = """\
 example:
   tools/import --destination Vienna --map nodes.txt Geant2012.graphml > case.spp
@@ -46,38 +36,22 @@ example:
 
 def read_scale(word: str) -> Fraction:
     """A positive number, as 1000 or 0.5."""
-    try:
-        scale = Fraction(word) if len(word) <= 20 and "e" not in word.lower() else Fraction(0)
-    except (ValueError, ZeroDivisionError):
-        scale = Fraction(0)
-    if scale <= 0:
-        raise argparse.ArgumentTypeError(f"{word!r} is no number above 0")
+    if not re.fullmatch(r"[0-9]{1,10}(\.[0-9]{1,10})?", word) or not (scale := Fraction(word)):
+        raise ValueError(f"{quote(word)} is no number above 0")
     return scale
 
 
 def command_line() -> argparse.Namespace:
     parser = Parser(DESCRIPTION, EXAMPLE)
     parser.add_argument("input", metavar="FILE", nargs="?", default="-", help="the network; - is standard input")
-    parser.add_argument(
-        "--destination", metavar="NODE", required=True, help="where all paths lead to: a label or an id"
-    )
-    parser.add_argument("--delay", metavar="NAME", help="read the delays from this attribute of links")
-    parser.add_argument("--weight", metavar="NAME", help="rank by this attribute of links")
-    parser.add_argument(
-        "--per-tick",
-        metavar="NUMBER",
-        type=read_scale,
-        help=f"how much of a distance or a weight is a tick (default {KM_PER_TICK} on the globe, else 1)",
-    )
-    parser.add_argument(
-        "--paths",
-        metavar="N",
-        type=number_between(1, MOST_PATHS),
-        default=20,
-        help="permit at most N paths at a router (default %(default)s)",
-    )
+    parser.option("--destination", "NODE", "where all paths lead to: a label or an id", required=True)
+    parser.option("--delay", "NAME", "read the delays from this attribute of links")
+    parser.option("--weight", "NAME", "rank by this attribute of links")
+    scale = f"how much of a distance or a weight is a tick (default {KM_PER_TICK} km on the globe, else 1)"
+    parser.option("--per-tick", "NUMBER", scale, read_scale)
+    parser.option("--paths", "N", "permit at most N paths at a router", number_between(1, MOST_PATHS), 20)
     add_size_limit(parser, MOST_UNPACKED)
-    parser.add_argument("--map", metavar="FILE", help="write the number and the label of each router into this file")
+    parser.option("--map", "FILE", "write the number and the label of each router into this file")
     return parser.parse_args()
 
 
@@ -93,12 +67,7 @@ def destination_of(network: Network, name: str) -> str:
 
 def routers_of(joined: Joined, destination: str) -> list[str]:
     """The destination, and the nodes that a path leads from in the order of the file."""
-    reached, ahead = {destination}, [destination]
-    while ahead:
-        node = ahead.pop()
-        before = [peer for peer in joined.peers[node] if peer not in reached and node in joined.rows[peer]]
-        reached.update(before)
-        ahead += before
+    reached = hops_from(destination, lambda node: [peer for peer in joined.peers[node] if node in joined.rows[peer]])
     routers = [destination, *(node for node in joined.rows if node in reached and node != destination)]
     if len(routers) > MOST_ROUTERS:
         raise Refused(

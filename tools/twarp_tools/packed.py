@@ -1,7 +1,6 @@
 """Files as they are published: plain, or packed by gzip or bzip2, read as a stream, and no further than is allowed."""
 from __future__ import annotations
 
-import argparse
 import bz2
 import gzip
 import io
@@ -11,7 +10,7 @@ from contextlib import contextmanager
 from typing import BinaryIO
 
 from twarp.errors import Refused
-from twarp_tools.command import STANDARD_INPUT, Value, number_between
+from twarp_tools.command import STANDARD_INPUT, Parser, Value, number_between
 
 # How what each of them packs begins.
 UNPACKERS = {b"\x1f\x8b": gzip.open, b"BZh": bz2.open}
@@ -22,29 +21,13 @@ LONGEST_LINE = MIB
 MOST_MIB = 1_048_576
 
 
-def add_size_limit(parser: argparse.ArgumentParser, default: int) -> None:
-    parser.add_argument(
-        "--size-limit",
-        metavar="MIB",
-        type=number_between(1, MOST_MIB),
-        default=default,
-        help="read an input of at most so many MiB, unpacked (default %(default)s)",
-    )
+def add_size_limit(parser: Parser, default: int) -> None:
+    size = number_between(1, MOST_MIB)
+    parser.option("--size-limit", "MIB", "read an input of at most so many MiB, unpacked", size, default)
 
 
 def too_large(limit: int) -> str:
     return f"the input has more than {limit:,} MiB, unpacked: --size-limit allows more"
-
-
-def chunks_within(source: BinaryIO, limit: int) -> Iterator[bytes]:
-    """The bytes of a stream of at most so many MiB; where it has more, an empty chunk is the last."""
-    left = limit * MIB
-    while chunk := source.read(ROOM):
-        left -= len(chunk)
-        if left < 0:
-            yield b""
-            return
-        yield chunk
 
 
 def lines_within(source: BinaryIO, limit: int) -> Iterator[tuple[int, bytes]]:
@@ -52,19 +35,17 @@ def lines_within(source: BinaryIO, limit: int) -> Iterator[tuple[int, bytes]]:
 
     None is longer than `LONGEST_LINE`, and the stream has at most so many MiB.
     """
-    number, rest = 0, b""
-    for chunk in chunks_within(source, limit):
-        if not chunk:
-            raise Refused.at_line(number + 1, too_large(limit))
-        *lines, rest = (rest + chunk).split(b"\n")
-        for line in lines:
-            number += 1
-            if line:
-                yield number, line
-        if len(rest) > LONGEST_LINE:
-            raise Refused.at_line(number + 1, f"it has more than {LONGEST_LINE:,} bytes")
-    if rest:
-        yield number + 1, rest
+    number, left = 0, limit * MIB
+    while line := source.readline(LONGEST_LINE + 1):
+        number, left = number + 1, left - len(line)
+        if left < 0:
+            raise Refused.at_line(number, too_large(limit))
+        if line[-1:] == b"\n":
+            line = line[:-1]
+        elif len(line) > LONGEST_LINE:
+            raise Refused.at_line(number, f"it has more than {LONGEST_LINE:,} bytes")
+        if line:
+            yield number, line
 
 
 def read_within(source: BinaryIO, limit: int) -> bytes:

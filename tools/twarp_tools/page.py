@@ -1,7 +1,6 @@
 """The tool page: the run of a case as one page to look at."""
 from __future__ import annotations
 
-import argparse
 import json
 from collections.abc import Iterator
 from html import escape
@@ -12,26 +11,24 @@ from xml.etree.ElementTree import Element
 
 from twarp.axis import DIGIT_WIDTH, FOLD_WIDTH, TimeAxis
 from twarp.case import Case, read_case
-from twarp.errors import Refused
 from twarp.event import Event
 from twarp.following import Run, follow
-from twarp.lanes import TOP, Sample, View, sample_line
+from twarp.lanes import TOP, Sample, View, refuse_crowd, sample_line
 from twarp.lines import write_path
 from twarp.palette import DARK, LIGHT, PLACES
 from twarp.pictures import subtitle_of, view_of_run
 from twarp.report import Report, read_report
 from twarp.run_picture import LETTER_WIDTH, Bar, RunPicture
 from twarp.svg import DEFINITIONS, STYLE, add, attribute
-from twarp_tools.command import Input, Parser, write_output
+from twarp_tools.command import Input, title_of, write_output
 from twarp_tools.network_drawing import NetworkDrawing
-from twarp_tools.part import add_part, part_of, title_of
+from twarp_tools.part import command_line, part_of
 from twarp_tools.recording import Json, Recording
 
 DESCRIPTION = """\
-Makes a page of the run of a case on standard output: one HTML file that needs no network.
-
-It has the drawing of the network, the timeline, a slider of time that moves both, and each router's table. The report
-has to be one with --log. A page has at most 300 routers and 5,000 events; of more, choose a part."""
+Makes a page of the run of a case on standard output, one HTML file that needs no network: the network, the timeline, a
+slider of time that moves both, and each router's table. The report has to be one with --log. A page has at most 300
+routers and 5,000 events; of more, choose a part."""
 EXAMPLE = """\
 example:
   ./twarp seq --stop 20 --every 1 --log < cases/bad-gadget.spp | tools/page cases/bad-gadget.spp > bad-gadget.html"""
@@ -47,27 +44,6 @@ TIMES_HEIGHT = 24.0
 ABOVE, BELOW, BESIDE = 8.0, 22.0, 14.0
 # The room of a mark in the legend.
 SAMPLE_WIDTH, SAMPLE_HEIGHT = 34.0, 22.0
-
-
-def command_line() -> argparse.Namespace:
-    parser = Parser(DESCRIPTION, EXAMPLE)
-    parser.add_argument("case", metavar="CASE", help="the case; - is standard input")
-    parser.add_argument(
-        "report", metavar="REPORT", nargs="?", default="-", help="the report; standard input where none is given"
-    )
-    add_part(parser)
-    line = parser.parse_args()
-    if line.case == line.report == "-":
-        parser.error("only one of CASE and REPORT can be standard input")
-    return line
-
-
-def refuse_crowd(count: int, most: int, what: str) -> None:
-    if count > most:
-        raise Refused(
-            f"there are {count:,} {what} to be shown, and a page has at most {most:,}: "
-            "choose some by --from, --to and --routers"
-        )
 
 
 def stops_of(axis: TimeAxis, moments: set[int]) -> list[int]:
@@ -93,25 +69,14 @@ class PagePicture(RunPicture):
 
     def draw_bar(self, parent: Element, bar: Bar) -> None:
         super().draw_bar(parent, bar)
-        group = parent[-1]
-        box = group.find("rect")
-        assert box is not None, "each bar has a box"
-        start = attribute(self.axis.x(max(bar.start, self.view.first)))
-        if box.get("x") != start:
+        if bar.start == bar.end:
             # The path was given up at once: its bar ends where it began.
-            group.set("data-at", start)
-        elif group.find("text") is None:
-            look = {"style": f"fill:{self.places[bar.path].ink}"} if bar.path else {}
-            at = {"x": self.axis.x(max(bar.start, self.view.first)) + 4, "y": self.lanes.y(bar.router) + 3.8}
-            add(
-                group,
-                "text",
-                write_path(bar.path),
-                class_="path" if bar.path else "path quiet",
-                display="none",
-                **at,
-                **look,
-            )
+            parent[-1].set("data-at", attribute(self.axis.x(bar.start)))
+
+    def draw_words(self, bar: Element, words: str, look: dict[str, str], at: dict[str, float], has_room: bool) -> None:
+        super().draw_words(bar, words, look, at, has_room)
+        if not has_room:
+            add(bar, "text", words, **{"class_": "", "display": "none", **at, **look})
 
     def axis_json(self) -> Json:
         """What the script has to know to write the times anew."""
@@ -249,14 +214,14 @@ def style() -> str:
 
 
 def main() -> None:
-    line = command_line()
+    line = command_line(DESCRIPTION, EXAMPLE)
     case_text, report_text = Input.of(line.case), Input.of(line.report)
     case = case_text.read(read_case)
     report = report_text.read(lambda text: read_report(text, case.nodes))
     view = view_of_run(case, report, **part_of(line))
-    refuse_crowd(len(view.routers), MOST_ROUTERS, "routers")
+    refuse_crowd(len(view.routers), MOST_ROUTERS, "routers to be shown, and a page has")
     recording = Recording(case, view)
     run = report_text.read(lambda _: follow(case, report, recording))
-    refuse_crowd(len(recording.events), MOST_EVENTS, "events")
+    refuse_crowd(len(recording.events), MOST_EVENTS, "events to be shown, and a page has")
     page = Page(case, report, run, view, recording)
-    write_output(page.html(f"{title_of(line)}: verdict {report.verdict}", subtitle_of(report)))
+    write_output(page.html(f"{title_of(line.title, line.case, 'run')}: verdict {report.verdict}", subtitle_of(report)))

@@ -2,7 +2,6 @@
 from __future__ import annotations
 
 import argparse
-from pathlib import Path
 from typing import Any
 
 from twarp.case import GREATEST_TIME, MOST_ROUTERS
@@ -18,27 +17,25 @@ def read_routers(words: str) -> list[int]:
         first, dash, last = word.partition("-")
         row = range(number(first), number(last if dash else first) + 1)
         if not row:
-            raise argparse.ArgumentTypeError(f"{word!r} goes downwards")
+            raise ValueError(f"{word!r} goes downwards")
         routers |= dict.fromkeys(row)
     return list(routers)
 
 
-def add_part(parser: Parser, unit: str = "") -> None:
-    """The options that choose a part and name it; `unit` says what else than times is counted."""
+def command_line(description: str, example: str, case: str = "the case", unit: str = "") -> argparse.Namespace:
+    """A case, its report and a part of it, with names; `unit` says what else than times is counted."""
+    parser = Parser(description, example)
+    parser.add_argument("case", metavar="CASE", help=f"{case}; - is standard input")
+    parser.add_argument("report", metavar="REPORT", nargs="?", default="-", help="the report; else standard input")
     time = number_between(0, GREATEST_TIME)
-    parser.add_argument("--from", dest="first", type=time, metavar="TIME", help=f"leave out what is earlier{unit}")
-    parser.add_argument("--to", dest="last", type=time, metavar="TIME", help=f"leave out what is later{unit}")
-    parser.add_argument(
-        "--routers", type=read_routers, metavar="LIST", help="draw these routers' lanes alone, as in 0,2,5-9"
-    )
-    parser.add_argument("--title", help="what the title begins with (default: the case's name)")
+    parser.option("--from", "TIME", f"leave out what is earlier{unit}", time, dest="first")
+    parser.option("--to", "TIME", f"leave out what is later{unit}", time, dest="last")
+    parser.option("--routers", "LIST", "draw these routers' lanes alone, as in 0,2,5-9", read_routers)
+    parser.option("--title", "TITLE", "what the title begins with (default: the case's name)")
     add_names(parser)
+    return parser.parse_pair()
 
 
 def part_of(line: argparse.Namespace) -> dict[str, Any]:
     """What the line asks to see, as the functions of twarp.pictures take it."""
     return {"first": line.first, "last": line.last, "routers": line.routers, "names": names_of(line.names)}
-
-
-def title_of(line: argparse.Namespace) -> str:
-    return line.title or ("run" if line.case == "-" else Path(line.case).stem)

@@ -3,6 +3,7 @@ from __future__ import annotations
 
 import sys
 import time
+from datetime import timedelta
 from pathlib import Path
 
 from twarp_tools.command import tell
@@ -61,11 +62,5 @@ class Progress:
 
 
 def written_time(seconds: float) -> str:
-    """A stretch of time in words: seconds, or minutes and hours beside what is less."""
-    if seconds < 9.95:
-        return f"{seconds:.1f} s"
-    minutes, rest = divmod(round(seconds), 60)
-    hours, minutes = divmod(minutes, 60)
-    if hours:
-        return f"{hours} h {minutes} min"
-    return f"{minutes} min {rest} s" if minutes else f"{rest} s"
+    """A stretch of time in words: seconds, or also minutes and hours as in 1:02:03."""
+    return f"{seconds:.1f} s" if seconds < 59.95 else str(timedelta(seconds=round(seconds)))

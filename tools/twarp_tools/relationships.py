@@ -2,7 +2,7 @@
 from __future__ import annotations
 
 import argparse
-from collections.abc import Callable, Iterable, Iterator, Sequence
+from collections.abc import Iterable, Iterator, Sequence
 from graphlib import CycleError, TopologicalSorter
 from pathlib import Path
 
@@ -18,9 +18,9 @@ from twarp.case import (
     Link,
     LinkScene,
 )
-from twarp.draws import share
+from twarp.draws import Uniform, read_range, share
 from twarp.errors import Refused
-from twarp_tools.command import Parser, number_between, range_between, refuse_own_input, tell, write_output
+from twarp_tools.command import Parser, number_between, refuse_own_input, tell, write_output
 from twarp_tools.ordering import near_order
 from twarp_tools.packed import add_size_limit, lines_within, read_stream
 from twarp_tools.policy import Permitted
@@ -33,23 +33,13 @@ MOST_UNPACKED = 32
 DESCRIPTION = """\
 Makes a case of AS relationships, on standard output.
 
-The input has lines as provider|customer|-1 and peer|peer|0, as CAIDA publishes them (serial-1, and serial-2, whose
-fourth field is let pass), and lines that begin with #. It may be packed by gzip or bzip2. The destination becomes
-router 0, and the ASes nearest to it the routers 1, 2, .., or, with --order near, in an order in which neighbours are
-near in number.
-
-Of a large input take a part: by default the nearest ASes; with --core those that are linked most closely, which keeps
-the shape of the whole; with --cone what is below one AS; with --keep-connected some by lot, which is near to a tree.
-
-A path is permitted where it has no valley: it goes up to providers, then by at most one link between peers, then down
-to customers. Paths by way of customers are better than those by way of peers, and these better than those by way of
-providers (Gao and Rexford 2001); then the shorter path is better, then the one whose next AS has the lower number.
-
-What the program's limits, --routers and --paths cut off is told on standard error. The same input and options give the
-same bytes."""
+The input has lines as provider|customer|-1 and peer|peer|0, as CAIDA publishes them, packed or not. The destination
+becomes router 0. A path is permitted where it has no valley; paths by way of customers are better than those by way of
+peers, and these better than those by way of providers (Gao and Rexford 2001). What is cut off is told on standard
+error. Of a large input take a part; --core keeps the shape of the whole."""
 EXAMPLE = """\
 examples:
-  tools/relationships --destination 1653 tools/research-networks.txt > case.spp
+  tools/relationships --destination 2603 tools/examples/research-networks.txt > case.spp
   tools/relationships --destination 1653 --core 200 --delays 1-50 --seed 7 \\
       --failures 10 --until 5000 --map ases.txt 20260101.as-rel2.txt.bz2 > case.spp"""
 
@@ -59,68 +49,33 @@ def command_line(words: Sequence[str] | None = None) -> argparse.Namespace:
     parser = Parser(DESCRIPTION, EXAMPLE)
     if words is not None:
         parser.prog = "relationships"
-
-    def option(name: str, metavar: str, kind: Callable[[str], object], default: object, words: str) -> None:
-        words = f"{words} (default %(default)s)"
-        parser.add_argument(f"--{name}", metavar=metavar, type=kind, default=default, help=words)
-
+    number, most = number_between(1, GREATEST_AS), number_between(1, MOST_ROUTERS)
     parser.add_argument("input", metavar="FILE", nargs="?", default="-", help="the relationships; - is standard input")
-    parser.add_argument(
-        "--destination",
-        metavar="AS",
-        type=number_between(1, GREATEST_AS),
-        required=True,
-        help="where all paths lead to",
-    )
-    taken = parser.add_mutually_exclusive_group()
-    most = number_between(1, MOST_ROUTERS)
-    taken.add_argument(
-        "--routers",
-        metavar="N",
-        type=most,
-        default=MOST_ROUTERS,
-        help="take at most N ASes, the nearest (default %(default)s)",
-    )
-    taken.add_argument(
-        "--keep-connected", metavar="N", type=most, help="take at most N ASes by lot, each with a path of such ASes"
-    )
-    taken.add_argument(
-        "--core",
-        metavar="N",
-        type=most,
-        help="take the k-core (each AS has at least k links in it) with the least k that has at most N ASes, "
-        "with the destination and the providers above it",
-    )
-    parser.add_argument(
-        "--cone",
-        metavar="AS",
-        type=number_between(1, GREATEST_AS),
-        help="take only ASes of the customer cone of this one: itself, its customers, theirs, and so on",
-    )
-    parser.add_argument(
-        "--order",
-        choices=["taken", "near"],
-        default="taken",
-        help="number routers as they are taken, or such that neighbours are near in number (default %(default)s)",
-    )
-    option("paths", "N", number_between(1, MOST_PATHS), 20, "permit at most N paths at a router")
-    option("delays", "LOW-HIGH", range_between(1, GREATEST_DELAY), "1-10", "draw the delays of links from this range")
-    option("seed", "N", number_between(0, GREATEST_TIME), 1, "draw ASes, delays and failures by this number")
-    option("failures", "N", number_between(0, MOST_SCENES // 2), 0, "let N links fail and be repaired")
-    option("until", "TIME", number_between(2, GREATEST_TIME), 1000, "repair no link later than this")
+    parser.option("--destination", "AS", "where all paths lead to", number, required=True)
+    part = parser.add_mutually_exclusive_group()
+    parser.option("--routers", "N", "take at most N ASes, the nearest", most, MOST_ROUTERS, part)
+    parser.option("--keep-connected", "N", "take at most N ASes by lot, each with a path of such", most, group=part)
+    parser.option("--core", "N", "take the k-core with the least k that has at most N ASes", most, group=part)
+    parser.option("--cone", "AS", "take only ASes of the customer cone of this one", number)
+    near = "number routers as they are taken, or such that neighbours are near in number"
+    parser.option("--order", "taken|near", near, default="taken", choices=["taken", "near"])
+    parser.option("--paths", "N", "permit at most N paths at a router", number_between(1, MOST_PATHS), 20)
+    parser.option("--delays", "LOW-HIGH", "draw the delays of links from this range", read_delays, "1-10")
+    parser.option("--seed", "N", "draw ASes, delays and failures by this number", number_between(0, GREATEST_TIME), 1)
+    parser.option("--failures", "N", "let N links fail and be repaired", number_between(0, MOST_SCENES // 2), 0)
+    parser.option("--until", "TIME", "repair no link later than this", number_between(2, GREATEST_TIME), 1000)
     add_size_limit(parser, MOST_UNPACKED)
-    parser.add_argument(
-        "--map", metavar="FILE", help="write the number and the AS number of each router into this file"
-    )
+    parser.option("--map", "FILE", "write the number and the AS number of each router into this file")
     return parser.parse_args(words)
 
 
+def read_delays(words: str) -> Uniform:
+    return read_range(words, 1, GREATEST_DELAY)
+
+
 def delay_of(link: tuple[int, int], numbers: list[int], line: argparse.Namespace) -> int:
-    least: int
-    greatest: int
-    least, greatest = line.delays
-    ends = sorted(numbers[end] for end in link)
-    return least + int(share(line.seed, "delay", *ends) * (greatest - least + 1))
+    delays: Uniform = line.delays
+    return delays.ticks(share(line.seed, "delay", *sorted(numbers[end] for end in link)))
 
 
 def failures(used: Iterable[tuple[int, int]], numbers: list[int], line: argparse.Namespace) -> Iterator[LinkScene]:

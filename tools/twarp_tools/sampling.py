@@ -3,6 +3,7 @@ from __future__ import annotations
 
 from collections.abc import Container
 
+from twarp.hops import hops_from
 from twarp_tools.topology import Neighbours, Role
 
 
@@ -44,17 +45,13 @@ def coreness(neighbours: Neighbours) -> dict[int, int]:
     return found
 
 
+def in_role(row: dict[int, Role], wanted: Role) -> list[int]:
+    return [peer for peer, role in row.items() if role is wanted]
+
+
 def above(neighbours: Neighbours, number: int, kept: Container[int]) -> set[int]:
     """The AS, its providers, theirs, and so on, up to those that are kept anyway."""
-    found, ahead = {number}, [number]
-    while ahead:
-        now = ahead.pop()
-        if now in kept:
-            continue
-        providers = {peer for peer, role in neighbours[now].items() if role is Role.PROVIDER} - found
-        found |= providers
-        ahead += providers
-    return found
+    return {*hops_from(number, lambda now: () if now in kept else in_role(neighbours[now], Role.PROVIDER))}
 
 
 def core_around(neighbours: Neighbours, destination: int, most: int) -> tuple[int, set[int]]:
@@ -81,9 +78,4 @@ def cone_of(neighbours: Neighbours, top: int) -> set[int]:
     M. Luckie, B. Huffaker, A. Dhamdhere, V. Giotsas, kc claffy: AS relationships, customer cones, and validation,
     Internet Measurement Conference, 2013.
     """
-    found, ahead = {top}, [top]
-    while ahead:
-        customers = {peer for peer, role in neighbours[ahead.pop()].items() if role is Role.CUSTOMER} - found
-        found |= customers
-        ahead += customers
-    return found
+    return {*hops_from(top, lambda now: in_role(neighbours[now], Role.CUSTOMER))}

@@ -3,9 +3,7 @@ from __future__ import annotations
 
 import argparse
 import contextlib
-import csv
 import hashlib
-import io
 import json
 import os
 import platform
@@ -13,21 +11,22 @@ import re
 import shlex
 import signal
 import sys
-from collections.abc import Callable, Iterable, Iterator, Sequence
+import threading
+from collections.abc import Callable, Iterable, Iterator, Mapping, Sequence
 from pathlib import Path
 from typing import TextIO
 
 from twarp import program
 from twarp.calls import version
 from twarp.case import GREATEST_TIME, MOST_ROUTERS, read_case
-from twarp.draws import CaseSource, DelayDraws, Draw, Ends, FailureDraws, Source
+from twarp.draws import Draw, Ends, Source, case_source, read_law, read_times
 from twarp.errors import Refused, Stopped
 from twarp.outcome_picture import OutcomePicture
-from twarp.outcomes import Outcomes, Table, read_table
-from twarp.sweeps import cluster, read_law, read_range
-from twarp.trials import Batches, End, Failed, Given, Local, Plan, Trial, processors
+from twarp.outcomes import Table, read_table
+from twarp.sweeps import cluster
+from twarp.trials import Batches, Failed, Given, Local, Plan, Trial, processors
 from twarp_tools import relationships
-from twarp_tools.command import Input, Parser, is_same_file, number_between, refuse_own_input, write_output
+from twarp_tools.command import Input, Parser, is_same_file, number_between, refuse_own_input, title_of, write_output
 from twarp_tools.progress import Progress
 
 MOST_RUNS = 1_000_000
@@ -37,13 +36,10 @@ DESCRIPTION = """\
 Runs a case many times, each time with other delays, other times of its failures, or both, and tells how the runs end.
 
 A line for each run is written on standard output, as CSV; with --summary tables of the outcomes stand there instead.
-An outcome is the paths with which runs came to rest, or that they oscillate, or that neither was found by the stop.
+What is drawn for a run depends on its seed alone, so the same options write the same bytes, however many runs go on
+side by side. INT or TERM ends the sweep with what there is; --resume goes on.
 
-The runs have the seeds SEED, SEED + 1, .. What is drawn for a run depends on its seed alone, so the same options write
-the same bytes, however many runs go on side by side. INT or TERM ends the sweep with what there is; --resume goes on.
-
-sweep merge A.csv B.csv .. writes one CSV, or with --summary, --picture and --json what these tell, of several sweeps
-with the same case and options and with other seeds."""
+sweep merge A.csv B.csv .. puts several sweeps with one case and the same options, and with other seeds, together."""
 EXAMPLE = """\
 examples:
   tools/sweep --delays 1-10 --links 0-1,0-2 --stop 100 --every 1 --summary cases/disagree.spp
@@ -54,14 +50,11 @@ examples:
 NAMED = ("delays", "links", "apart", "failure_times", "relationships", "stop", "every", "seed")
 
 
-def written_as(read: Callable[[str], object]) -> Callable[[str], str]:
-    """A type of arguments that are kept as they are written, where they can be read."""
+def as_written(read: Callable[[str], object]) -> Callable[[str], str]:
+    """Gives words as they are written, where they can be read."""
 
     def check(words: str) -> str:
-        try:
-            read(words)
-        except ValueError as fault:
-            raise argparse.ArgumentTypeError(str(fault)) from None
+        read(words)
         return words
 
     return check
@@ -74,23 +67,36 @@ def read_links(words: str) -> list[Ends]:
         found = re.fullmatch("([0-9]{1,4})-([0-9]{1,4})", word)
         if not found or max(a := int(found[1]), b := int(found[2])) >= MOST_ROUTERS:
             raise ValueError(f"{word[:80]!r} is no link as 0-1")
-        links.append((min(a, b), max(a, b)))
+        links.append((a, b))
     return links
-
-
-def read_times(words: str) -> object:
-    return read_range(words, 0, GREATEST_TIME)
 
 
 def command_line() -> argparse.Namespace:
     parser = Parser(DESCRIPTION, EXAMPLE)
-    time = number_between(1, GREATEST_TIME)
-    parser.add_argument("case", metavar="CASE", nargs="?", default="-", help="the case; - is standard input")
-    add_draws(parser)
-    parser.add_argument("--stop", type=time, required=True, metavar="TIME", help="run each case to this time")
-    parser.add_argument("--every", type=time, metavar="N", help="look for oscillation each N ticks, as twarp does")
+    flag, option, time = parser.add_argument, parser.option, number_between(1, GREATEST_TIME)
+    count, seed = number_between(1, MOST_RUNS), number_between(0, GREATEST_TIME - MOST_RUNS)
+    flag("case", metavar="CASE", nargs="?", default="-", help="the case; - is standard input")
+    law = "draw delays, in whole ticks, by LOW-HIGH, exponential:MEAN, or log-normal:MEDIAN:SIGMA"
+    option("--delays", "LAW", law, as_written(read_law))
+    option("--links", "LIST", "draw the delays of these links alone, as 0-1,0-2", as_written(read_links))
+    flag("--apart", action="store_true", help="draw a delay for each direction of a link")
+    option("--failure-times", "LOW-HIGH", "draw each failure's time; its repair moves with it", as_written(read_times))
+    made = "CASE has AS relationships: make a case for each run, by tools/relationships with these options and the seed"
+    option("--relationships", "OPTIONS", made, as_written(shlex.split))
+    option("--runs", "N", "how many runs", count, 1_000)
+    option("--seed", "N", "the first run's seed", seed, 1)
+    option("--stop", "TIME", "run each case to this time", time, required=True)
+    option("--every", "N", "look for oscillation each N ticks, as twarp does", time)
     add_outputs(parser)
-    add_running(parser)
+    option("--resume", "FILE", "run what is missing in this CSV of the same case, options and seed, and write into it")
+    check = "see whether each run at rest has stable paths; if one has not, write its case and end with status 1"
+    flag("--check", choices=["stable"], help=check)
+    flag("--show", action="store_true", help="write the case of the first run, and run nothing")
+    jobs = "so many runs side by side (default: one for each processor, or thread of the cluster's workers)"
+    option("--jobs", "N", jobs, number_between(1, MOST_JOBS))
+    option("--scheduler", "ADDRESS", "run on the Dask cluster with this scheduler, as tcp://HOST:8786")
+    flag("--quiet", action="store_true", help="do not tell how far it is")
+    option("--program", "FILE", "the built program (default: $TWARP, the clone's, the installed one, or on the PATH)")
     line = parser.parse_args()
     if not (line.delays or line.failure_times or line.relationships is not None):
         parser.error("one of --delays, --failure-times and --relationships has to say what is drawn")
@@ -103,75 +109,13 @@ def command_line() -> argparse.Namespace:
     return line
 
 
-def add_draws(parser: Parser) -> None:
-    """The options that say what is drawn, and how often."""
-    parser.add_argument(
-        "--delays",
-        type=written_as(read_law),
-        metavar="LAW",
-        help="draw delays, in whole ticks, by this law: LOW-HIGH, exponential:MEAN, or log-normal:MEDIAN:SIGMA",
-    )
-    parser.add_argument(
-        "--links", type=written_as(read_links), metavar="LIST", help="draw the delays of these links alone, as 0-1,0-2"
-    )
-    parser.add_argument("--apart", action="store_true", help="draw a delay for each direction of a link")
-    parser.add_argument(
-        "--failure-times",
-        type=written_as(read_times),
-        metavar="LOW-HIGH",
-        help="draw the time of each failure from this range; its repair moves with it",
-    )
-    parser.add_argument(
-        "--relationships",
-        type=written_as(shlex.split),
-        metavar="OPTIONS",
-        help="CASE has AS relationships: make a case of them for each run, by tools/relationships with these options "
-        "and the run's seed",
-    )
-    count, seed = number_between(1, MOST_RUNS), number_between(0, GREATEST_TIME - MOST_RUNS)
-    parser.add_argument("--runs", type=count, default=1_000, metavar="N", help="how many runs (default %(default)s)")
-    parser.add_argument("--seed", type=seed, default=1, metavar="N", help="the first run's seed (default %(default)s)")
-
-
 def add_outputs(parser: Parser) -> None:
     """The options that say what is written."""
     parser.add_argument("--summary", action="store_true", help="write tables of the outcomes in place of the CSV")
-    parser.add_argument("--csv", metavar="FILE", help="write the CSV into this file too, as the runs end")
-    parser.add_argument("--json", metavar="FILE", help="write into this file what was run, and the outcomes, as JSON")
-    parser.add_argument("--picture", metavar="FILE", help="draw outcomes, times and messages into this file, as SVG")
-    parser.add_argument("--title", help="what the picture's title begins with (default: the case's name)")
-
-
-def add_running(parser: Parser) -> None:
-    """The options that say how it is run."""
-    parser.add_argument(
-        "--resume",
-        metavar="FILE",
-        help="run what is missing in this CSV of the same case, options and seed, and write into it",
-    )
-    parser.add_argument(
-        "--check",
-        choices=["stable"],
-        help="see whether each run at rest has stable paths; if one has not, write its case and end with status 1",
-    )
-    parser.add_argument("--show", action="store_true", help="write the case of the first run, and run nothing")
-    parser.add_argument(
-        "--jobs",
-        type=number_between(1, MOST_JOBS),
-        metavar="N",
-        help="so many runs side by side (default: one for each processor, or thread of the cluster's workers)",
-    )
-    parser.add_argument(
-        "--scheduler",
-        metavar="ADDRESS",
-        help="run on the Dask cluster with this scheduler, as tcp://HOST:8786; its workers need the program",
-    )
-    parser.add_argument("--quiet", action="store_true", help="do not tell how far it is")
-    parser.add_argument(
-        "--program",
-        metavar="FILE",
-        help="the built program (default: $TWARP, the clone's, that installed with this tool, or that on the PATH)",
-    )
+    parser.option("--csv", "FILE", "write the CSV into this file too, as the runs end")
+    parser.option("--json", "FILE", "write into this file what was run, and the outcomes, as JSON")
+    parser.option("--picture", "FILE", "draw outcomes, times and messages into this file, as SVG")
+    parser.option("--title", "TITLE", "what the picture's title begins with (default: the case's name)")
 
 
 class RelationshipsSource:
@@ -194,22 +138,17 @@ class RelationshipsSource:
 
 def source_of(line: argparse.Namespace) -> tuple[Source, str]:
     """Where the cases come from, and a checksum: of the case's text, or of that of seed 0."""
-    source: Source
     if line.relationships is not None:
-        source = RelationshipsSource(shlex.split(line.relationships), line.case)
-        text = str(source.draw(0).case)
-    else:
-        named = None if line.scheduler else line.program
-        case = Input.of(line.case).read(lambda text: read_case(text, named))
-        text = str(case)
-        draws: list[DelayDraws | FailureDraws] = []
-        if line.delays:
-            links = read_links(line.links) if line.links else None
-            draws.append(DelayDraws(case, read_law(line.delays), links, line.apart))
-        if line.failure_times:
-            draws.append(FailureDraws(case, read_range(line.failure_times, 0, GREATEST_TIME)))
-        source = CaseSource(case, draws)
-    return source, hashlib.sha256(text.encode()).hexdigest()
+        made = RelationshipsSource(shlex.split(line.relationships), line.case)
+        return made, checksum_of(str(made.draw(0).case))
+    named = None if line.scheduler else line.program
+    case = Input.of(line.case).read(lambda text: read_case(text, named))
+    links = read_links(line.links) if line.links else None
+    return case_source(case, line.delays, links, line.apart, line.failure_times), checksum_of(str(case))
+
+
+def checksum_of(text: str) -> str:
+    return hashlib.sha256(text.encode()).hexdigest()
 
 
 def made_by(line: argparse.Namespace, checksum: str) -> str:
@@ -218,119 +157,111 @@ def made_by(line: argparse.Namespace, checksum: str) -> str:
     return f"sweep {checksum[:16]} {shlex.join(program.words_of(given))}"
 
 
-class Interruption:
+@contextlib.contextmanager
+def interruption() -> Iterator[threading.Event]:
     """Within it INT and TERM are noted. A second one ends the tool at once."""
+    has_come = threading.Event()
+    before = {number: signal.getsignal(number) for number in (signal.SIGINT, signal.SIGTERM)}
 
-    def __init__(self) -> None:
-        self.has_come = False
-
-    def __enter__(self) -> Interruption:
-        self.before = {number: signal.getsignal(number) for number in (signal.SIGINT, signal.SIGTERM)}
-        for number, handler in self.before.items():
-            if handler is not signal.SIG_IGN:
-                signal.signal(number, self.note)
-        return self
-
-    def note(self, number: int, _: object) -> None:
-        self.has_come = True
+    def note(number: int, _: object) -> None:
+        has_come.set()
         signal.signal(number, signal.SIG_DFL)
 
-    def __exit__(self, *_: object) -> None:
-        for number, handler in self.before.items():
+    for number, handler in before.items():
+        if handler is not signal.SIG_IGN:
+            signal.signal(number, note)
+    try:
+        yield has_come
+    finally:
+        for number, handler in before.items():
             signal.signal(number, handler)
+
+
+def refuse_clashes(names: Mapping[str, str], inputs: Iterable[str]) -> None:
+    """Refuses, of options with the files that they name to be written, one that names an input or another's file."""
+    seen: list[str] = []
+    for option, name in names.items():
+        for source in inputs:
+            refuse_own_input(option, name, source)
+        if any(os.path.realpath(name) == os.path.realpath(other) or is_same_file(name, other) for other in seen):
+            raise Refused(f"refused option {option}: {name} is another output")
+        seen.append(name)
 
 
 class Outputs:
     """What a sweep writes. The files are opened before the first run, and the lines of the CSV written as runs end."""
 
-    def __init__(self, line: argparse.Namespace, table: Table, inputs: Iterable[str], resumed: TextIO | None = None):
+    def __init__(self, line: argparse.Namespace, table: Table, inputs: Iterable[str]):
         self.line = line
         self.table = table
         # Else standard output may have to hold something in place of these lines, or them in another order.
-        self.is_handed_on = not (getattr(line, "check", None) or getattr(line, "resume", None))
-        options = {"--csv": line.csv, "--json": line.json, "--picture": line.picture}
-        self.files: dict[str, TextIO] = {}
-        for option, name in options.items():
-            if name:
-                for source in inputs:
-                    refuse_own_input(option, name, source)
-                if any(is_same_file(name, other) for other in [*self.files, getattr(line, "resume", None)] if other):
-                    raise Refused(f"refused option {option}: {name} is another output")
-                self.files[name] = open(name, "a", newline="")
-        if line.csv:
-            self.files[line.csv].truncate(0)
-        self.text = io.StringIO()
-        new = [self.files[line.csv]] if line.csv else []
-        self.whole = [] if line.summary else [self.text]
-        self.lines = [*new, *self.whole]
-        self.write(table.head)
-        if resumed:
-            self.lines.append(resumed)
+        self.is_handed_on = not (line.check or line.resume)
+        names = {"--resume": line.resume, "--csv": line.csv, "--json": line.json, "--picture": line.picture}
+        names = {option: name for option, name in names.items() if name}
+        refuse_clashes(names, inputs)
+        # The lines for standard output that are not written yet, and the runs that the resumed CSV has.
+        self.lines = [] if line.summary else [table.head_line]
+        self.known: list[Trial] = []
+        resumed = self.resume(names.pop("--resume")) if line.resume else None
+        self.files = {option: open(name, "w", newline="") for option, name in names.items()}
+        self.csv = resumed or self.files.get("--csv")
+        if "--csv" in self.files:
+            self.files["--csv"].write(table.head_line)
+        for trial in self.known:
+            self.take(trial, is_new=False)
 
-    def write(self, fields: Iterable[object], only: Iterable[TextIO] | None = None) -> None:
-        for output in self.lines if only is None else only:
-            csv.writer(output, lineterminator="\n").writerow(fields)
+    def resume(self, name: str) -> TextIO:
+        """The CSV to go on with, behind its last whole line; refused where it is not of the same case and options."""
+        file = open(name, "a+", newline="")
+        if not file.tell():
+            file.write(self.table.head_line)
+            return file
+        file.seek(0)
+        found, self.known = read_csv(name, file, is_cut=True)
+        if found.head != self.table.head:
+            made, wanted = found.head[-1][:200], self.table.head[-1]
+            raise Refused(f"{name}: refused line 1: it is of `{made}`, this one of `{wanted}`")
+        # A line that was broken off is run again.
+        file.truncate(Path(name).read_bytes().rfind(b"\n") + 1)
+        file.seek(0, os.SEEK_END)
+        return file
 
     def take(self, trial: Trial, is_new: bool = True) -> None:
         """Counts a run and writes its line, of one that is in the resumed CSV already only on standard output."""
-        self.write(self.table.row(trial), None if is_new else self.whole)
+        text = self.table.line(trial)
+        if self.csv and is_new:
+            self.csv.write(text)
+        if not self.line.summary:
+            self.lines.append(text)
 
     def flush(self) -> None:
         """Hands on what is written."""
-        for output in self.lines:
-            output.flush()
+        if self.csv:
+            self.csv.flush()
         if self.is_handed_on:
-            write_output(self.text.getvalue())
-            self.text.seek(0)
-            self.text.truncate()
+            write_output("".join(self.lines))
+            self.lines.clear()
 
-    def put_in_order(self, file: str) -> None:
-        """Writes a CSV whose lines stand out of turn anew, in the order of their seeds."""
-        with open(file, newline="") as source, open(f"{file}.new", "w", newline="") as ordered:
+    def put_in_order(self) -> None:
+        """Writes the resumed CSV, whose lines stand out of turn, anew in the order of their seeds."""
+        with open(self.line.resume, newline="") as source:
             _, trials = read_table(source)
-            self.table = Table(self.table.columns, self.table.head[-1])
-            self.text.seek(0)
-            self.text.truncate()
-            self.lines = [ordered, *self.whole]
-            self.write(self.table.head)
-            for trial in sorted(trials, key=lambda trial: trial.seed):
-                self.take(trial)
-        os.replace(f"{file}.new", file)
-        self.lines = []
+        self.table = Table(self.table.columns, self.table.head[-1])
+        lines = [self.table.head_line, *map(self.table.line, sorted(trials, key=lambda trial: trial.seed))]
+        Path(f"{self.line.resume}.new").write_text("".join(lines))
+        os.replace(f"{self.line.resume}.new", self.line.resume)
+        self.lines = [] if self.line.summary else lines
 
-    def end(self, title: str, drawn: str, told: dict[str, object]) -> None:
+    def end(self, title: str, drawn: str, told: Mapping[str, object]) -> None:
         """Writes what is told of all runs together."""
         outcomes = self.table.outcomes
-        if self.line.picture:
-            self.replace(self.line.picture, OutcomePicture(outcomes).draw(title, drawn))
-        if self.line.json:
-            self.replace(self.line.json, json.dumps(told | outcomes.record(), indent=1) + "\n")
-        write_output(outcomes.summary() if self.line.summary else self.text.getvalue())
-
-    def replace(self, name: str, text: str) -> None:
-        file = self.files[name]
-        file.truncate(0)
-        file.write(text)
-        file.flush()
-
-
-@contextlib.contextmanager
-def resumed(line: argparse.Namespace, head: Sequence[str]) -> Iterator[tuple[TextIO | None, list[Trial]]]:
-    """The CSV to go on with, and the runs that are in it; refused where it is not of the same case and options."""
-    if not (line.resume and os.path.exists(line.resume) and os.path.getsize(line.resume)):
-        if line.resume:
-            line.csv = line.resume
-        yield None, []
-        return
-    with open(line.resume, "r+", newline="") as file:
-        table, trials = read_csv(line.resume, file, is_cut=True)
-        if table.head != list(head):
-            raise Refused(f"{line.resume}: refused line 1: it is of `{table.head[-1][:200]}`, this one of `{head[-1]}`")
-        # A line that was broken off is run again.
-        end = Path(line.resume).read_bytes().rfind(b"\n") + 1
-        file.truncate(end)
-        file.seek(end)
-        yield file, trials
+        if file := self.files.get("--picture"):
+            file.write(OutcomePicture(outcomes).draw(title, drawn))
+        if file := self.files.get("--json"):
+            file.write(json.dumps({**told, **outcomes.record()}, indent=1) + "\n")
+        for file in self.files.values():
+            file.flush()
+        write_output(outcomes.summary() if self.line.summary else "".join(self.lines))
 
 
 def read_csv(name: str, source: TextIO, is_cut: bool = False) -> tuple[Table, list[Trial]]:
@@ -343,9 +274,9 @@ def read_csv(name: str, source: TextIO, is_cut: bool = False) -> tuple[Table, li
 def run_all(line: argparse.Namespace, plan: Plan, batches: Batches, outputs: Outputs, done: int) -> int:
     """Runs until all runs are done, or INT or TERM comes, and gives how many are."""
     progress = Progress(line.runs, line.quiet, done)
-    with Interruption() as interruption:
+    with interruption() as has_come:
         for trial in batches:
-            if interruption.has_come and not batches.is_stopped:
+            if has_come.is_set() and not batches.is_stopped:
                 batches.stop()
             if trial is None:
                 outputs.flush()
@@ -363,10 +294,6 @@ def run_all(line: argparse.Namespace, plan: Plan, batches: Batches, outputs: Out
     return done
 
 
-def title_of(line: argparse.Namespace, file: str) -> str:
-    return line.title or ("case" if file == "-" else Path(file).stem)
-
-
 def main() -> None:
     if sys.argv[1:2] == ["merge"]:
         return merge()
@@ -376,8 +303,6 @@ def main() -> None:
         write_output(str(source.draw(line.seed).case))
         return
     with contextlib.ExitStack() as stack:
-        table = Table(source.columns, made_by(line, checksum))
-        file, trials = stack.enter_context(resumed(line, table.head))
         where = str((program.find(line.program) or "twarp") if line.scheduler else program.need(line.program))
         plan = Plan(source, where, line.stop, line.every, line.check == "stable")
         if line.scheduler:
@@ -385,22 +310,20 @@ def main() -> None:
             workers: Given | Local = Given(plan, executor, line.jobs or threads)
         else:
             workers = Local(plan, line.jobs or processors())
-        outputs = Outputs(line, table, [line.case], file)
-        for trial in trials:
-            outputs.take(trial, is_new=False)
-        known = {trial.seed for trial in trials}
+        outputs = Outputs(line, Table(source.columns, made_by(line, checksum)), [line.case])
+        known = {trial.seed for trial in outputs.known}
         seeds = [seed for seed in range(line.seed, line.seed + line.runs) if seed not in known]
         try:
             done = run_all(line, plan, Batches(plan, seeds, workers), outputs, line.runs - len(seeds))
         finally:
             outputs.flush()
         if seeds and known and min(seeds) < max(known):
-            outputs.put_in_order(line.resume)
-        record: dict[str, object] = {"sweep": table.head[-1], "case": checksum, "first_seed": line.seed}
+            outputs.put_in_order()
+        record: dict[str, object] = {"sweep": outputs.table.head[-1], "case": checksum, "first_seed": line.seed}
         if line.json:
             told = executor.submit(version_of, where).result() if line.scheduler else version_of(where)
             record["versions"] = {"program": told, "python": platform.python_version()}
-        outputs.end(title_of(line, line.case), source.words, record)
+        outputs.end(title_of(line.title, line.case), source.words, record)
     if done < line.runs:
         raise Stopped(f"interrupt: {done:,} of {line.runs:,} runs are done")
     if failed := outputs.table.outcomes.failed:
@@ -426,6 +349,7 @@ def merge() -> None:
     parser.prog += " merge"
     parser.add_argument("files", metavar="FILE", nargs="+", help="a CSV of sweep")
     add_outputs(parser)
+    parser.set_defaults(resume=None, check=None)
     line = parser.parse_args(sys.argv[2:])
     runs: dict[int, Trial] = {}
     table: Table | None = None
@@ -447,4 +371,4 @@ def merge() -> None:
     for _, trial in sorted(runs.items()):
         outputs.take(trial)
     outputs.flush()
-    outputs.end(title_of(line, line.files[0]), made, {"sweep": made, "first_seed": first})
+    outputs.end(title_of(line.title, line.files[0]), made, {"sweep": made, "first_seed": first})

@@ -84,20 +84,15 @@ def follow(page: str, folder: Path, program: Path) -> Iterator[tuple[Command, st
 DESCRIPTION = """\
 Makes the pictures of docs/TUTORIAL.md again: runs the page's commands in a folder of their own, sees that each writes
 what the page says, and keeps the pictures that the page shows in docs/pictures."""
-EXAMPLE = """\
-example:
-  tools/pictures"""
+
+
+def add_program(parser: Parser) -> None:
+    parser.option("--program", "FILE", "the built program", Path, PROGRAM)
 
 
 def main() -> None:
-    parser = Parser(DESCRIPTION, EXAMPLE)
-    parser.add_argument(
-        "--program",
-        type=Path,
-        default=PROGRAM,
-        metavar="FILE",
-        help="the built program (default crates/twarp/out/twarp)",
-    )
+    parser = Parser(DESCRIPTION, "example:\n  tools/pictures")
+    add_program(parser)
     line = parser.parse_args()
     page = PAGE.read_text()
     with tempfile.TemporaryDirectory() as name:
