@@ -1,10 +1,14 @@
 """Tests of what all tools do: help, statuses, and how a case that is refused is told."""
 from __future__ import annotations
 
+import io
+import os
 import subprocess
+from contextlib import redirect_stderr
 
 import tools_common
 from tools_common import CASES, TOP, ToolTest, run, tool, twarp
+from twarp_tools import command
 
 
 class EveryTool(ToolTest):
@@ -39,7 +43,27 @@ class EveryTool(ToolTest):
                 check=False,
             )
         self.assertEqual(done.returncode, 2)
-        self.assertRegex(done.stderr.decode(), r"^draw: stopped device: .*\n$")
+        self.assertEqual(done.stderr, b"draw: stopped device: No space left on device\n")
+
+    def test_a_pipe_that_nobody_reads_stops_the_tool_without_a_word(self) -> None:
+        here, there = os.pipe()
+        os.close(here)
+        with open(there, "wb") as pipe:
+            words = [TOP / "tools/draw", CASES / "disagree.spp"]
+            done = subprocess.run(words, stdout=pipe, stderr=subprocess.PIPE, check=False)
+        self.assertEqual((done.returncode, done.stderr), (2, b""))
+
+    def test_a_file_that_is_not_there_is_named(self) -> None:
+        told = "draw: stopped device: no-such-file: No such file or directory\n"
+        self.assertEqual(tool("draw", "no-such-file").err, told)
+
+    def test_an_interrupt_is_told(self) -> None:
+        def interrupted() -> None:
+            raise KeyboardInterrupt
+
+        with redirect_stderr(io.StringIO()) as told:
+            self.assertEqual(command.run(interrupted), 2)
+        self.assertTrue(told.getvalue().endswith(": stopped interrupt\n"))
 
 
 # The beginning of a case, also in version 2, and cases with what is repeated up to a limit: a star,

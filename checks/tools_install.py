@@ -91,9 +91,9 @@ class Installed(ToolTest):
         page = self.assert_done(run(bin_ / "twarp-page", case, stdin=report))
         self.assertIn("</html>", page)
         for name in TOOLS:
-            self.assertIn(
-                f"usage: twarp-{name} ", self.assert_done(run(bin_ / f"twarp-{name}", "--help"))
-            )
+            told = self.assert_done(run(bin_ / f"twarp-{name}", "--help"))
+            self.assertIn(f"usage: twarp-{name} ", told)
+            self.assertRegex(told, rf"examples?:\n.*\btwarp-{name} ")
 
     def test_the_program_beside_is_taken_before_others(self) -> None:
         self.install()

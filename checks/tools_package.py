@@ -5,6 +5,7 @@ import inspect
 import json
 import os
 import re
+import shutil
 import tempfile
 from pathlib import Path
 from unittest import mock
@@ -73,10 +74,12 @@ class Package(ToolTest):
                 twarp.Case.from_text(text)
             told = raised.exception
             self.assertEqual((told.line, f"{told.code} {told.name}"), (line, fault))
+            # What the program tells people beside that.
+            self.assertRegex(str(told), rf"\nline {line} is ")
         with self.assertRaises(twarp.Refused) as raised:
             twarp.trail(self.disagree(), 3, stop=9, keep=0)
         self.assertEqual((raised.exception.line, raised.exception.code), (None, "N1"))
-        with self.assertRaises(ValueError):
+        with self.assertRaisesRegex(ValueError, "^invalid value '0' for '--stop [^\\n]*$"):
             twarp.seq(self.disagree(), stop=0)
 
     def test_reports_say_what_the_program_says(self) -> None:
@@ -164,6 +167,9 @@ class Package(ToolTest):
             other = twarp.Case.from_text(case_of("disagree-equal-delays"))
             twarp.pictures.timeline(other, report)
         self.assertEqual(raised.exception.line, 6)
+        for routers in [3], [-1], [0, 3]:
+            with self.assertRaisesRegex(twarp.Refused, f"the case has no router {routers[-1]}"):
+                twarp.pictures.timeline(self.disagree(), report, routers=routers)
 
     def test_sweeps_are_those_of_the_tool(self) -> None:
         how = {"stop": 100, "every": 1, "runs": 30, "delays": "1-10"}
@@ -230,6 +236,24 @@ class Package(ToolTest):
             self.assertTrue(inspect.getdoc(getattr(twarp, name)), name)
         text = (TOP / "python/pyproject.toml").read_text()
         self.assertEqual(twarp.version(), f"twarp {re.search('^version = .(.*).$', text, re.M)[1]}")
+
+
+class InstalledByPip(ToolTest):
+    def test_it_is_installed_without_a_network(self) -> None:
+        python = python_with("pip", "setuptools", "wheel")
+        if python is None:
+            self.skipTest("pip, setuptools and wheel are not installed")
+        with tempfile.TemporaryDirectory() as folder:
+            source, target = Path(folder) / "source", Path(folder) / "target"
+            shutil.copytree(TOP / "python", source)
+            words = ["--quiet", "--no-index", "--no-build-isolation", "--target", target, source]
+            done = run(python, "-m", "pip", "install", *words)
+            self.assertEqual(done.status, 0, done.err)
+            with mock.patch.dict(os.environ, {"PYTHONPATH": str(target)}):
+                shown = "import twarp; print(twarp.__file__, twarp.Case(1))"
+                out = self.assert_done(run(python, "-c", shown, cwd=folder))
+            self.assertEqual(out, f"{target}/twarp/__init__.py spp 1\nnodes 1\nend\n\n")
+            self.assertTrue((target / "twarp/py.typed").exists())
 
 
 class WithoutProgram(ToolTest):

@@ -22,9 +22,9 @@ class Refused(Exception):
         return fault
 
     @classmethod
-    def told(cls, words: str) -> Refused:
-        """What twarp says on standard output where it refuses its input or an option."""
-        fault = cls(words)
+    def told(cls, words: str, advice: str) -> Refused:
+        """What twarp says on standard output where it refuses its input or an option, and to people beside that."""
+        fault = cls(f"{words}\n{advice}".rstrip())
         if found := re.fullmatch(r"refused (?:line (\d+)|option) ([A-Z]\d+) (\w+)", words):
             fault.line = int(found[1]) if found[1] else None
             fault.code, fault.name = found[2], found[3]

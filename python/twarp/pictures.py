@@ -43,7 +43,7 @@ def network_text(
     if report:
         title += f": verdict {report.verdict}"
     if paths_of is not None:
-        if paths_of >= case.nodes:
+        if paths_of not in range(case.nodes):
             raise Refused(f"refused option --paths-of: the case has no router {paths_of}")
         title += f": paths of {paths_of}"
     return Drawing(case, routers, report is not None, names, most, paths_of).text(title)
@@ -69,8 +69,9 @@ def view_of(
 ) -> View:
     """A part of a run of so many routers, from the beginning of `whole` to `end`; nothing beyond `whole` is known."""
     routers = routers or range(nodes)
-    if max(routers) >= nodes:
-        raise Refused(f"refused option --routers: the case has no router {max(routers)}")
+    for router in routers:
+        if router not in range(nodes):
+            raise Refused(f"refused option --routers: the case has no router {router}")
     first = max(whole.start, first or 0)
     last = end if last is None else min(last, whole.stop - 1)
     if first > last:

@@ -32,11 +32,10 @@ def find(named: File | None = None) -> Path | None:
 def need(named: File | None = None) -> Path:
     """The program; stopped where it is not there."""
     file = find(named)
-    if file is None:
-        raise Stopped("program: no twarp is here; ./twarp --build, at the root of a clone, makes one")
-    if not (file.is_file() and os.access(file, os.X_OK)):
-        raise Stopped(f"program: {file} is no program; ./twarp --build, at the root of a clone, makes one")
-    return file
+    if file and file.is_file() and os.access(file, os.X_OK):
+        return file
+    what = f"{file} is no program" if file else "no twarp is here, and the variable TWARP names none"
+    raise Stopped(f"program: {what}; ./twarp --build, at the root of a clone, makes one")
 
 
 def words_of(options: Options) -> list[str]:
@@ -60,7 +59,9 @@ def answer(file: Path, words: list[str], text: bytes) -> bytes:
     if done.returncode == 0:
         return done.stdout
     if done.returncode == 1 and out.startswith("refused "):
-        raise Refused.told(out.splitlines()[0])
+        raise Refused.told(out.splitlines()[0], err)
     if done.returncode == 3:
-        raise ValueError(err)
-    raise Stopped(err.removeprefix("stopped ") or f"status {done.returncode}")
+        raise ValueError(err.removeprefix("error: ").partition("\n")[0])
+    if err.startswith("stopped "):
+        raise Stopped(err.removeprefix("stopped "))
+    raise Stopped(f"program: {file} ends with status {done.returncode}: {err[:200]}")

@@ -2,6 +2,7 @@
 from __future__ import annotations
 
 import contextlib
+import sys
 import tempfile
 import zipfile
 from collections.abc import Iterator, Sequence
@@ -70,7 +71,8 @@ def cluster(address: str) -> Iterator[tuple[Executor, int]]:
     try:
         from distributed import Client
     except ImportError:
-        raise Stopped("scheduler: Python's package distributed is missing (Debian: python3-distributed)") from None
+        why = f"Python's package distributed is missing for {sys.executable}"
+        raise Stopped(f"scheduler: {why} (Debian: python3-distributed, for /usr/bin/python3)") from None
     with contextlib.ExitStack() as stack:
         try:
             client = stack.enter_context(Client(address))  # type: ignore[no-untyped-call]

@@ -4,6 +4,7 @@ from __future__ import annotations
 import argparse
 import enum
 import os
+import re
 import stat
 import sys
 from collections.abc import Callable
@@ -49,6 +50,9 @@ class Parser(argparse.ArgumentParser):
 
     def __init__(self, description: str, example: str):
         how = argparse.RawDescriptionHelpFormatter
+        if Path(sys.argv[0]).name.startswith("twarp-"):
+            # Where twarp is installed its tools have these names.
+            example = re.sub(r"tools/(?=\w+ )", "twarp-", example).replace("./twarp", "twarp")
         super().__init__(description=description, epilog=example + CLOSING, formatter_class=how)
 
     def option(
@@ -176,7 +180,14 @@ def run(main: Callable[[], None]) -> Status:
     except MemoryError:
         tell("stopped memory")
         return Status.STOPPED
+    except KeyboardInterrupt:
+        tell("stopped interrupt")
+        return Status.STOPPED
+    except BrokenPipeError:
+        # Who reads a part alone has met no error.
+        return Status.STOPPED
     except OSError as error:
-        tell(f"stopped device: {error}")
+        where = f"{error.filename}: " if error.filename else ""
+        tell(f"stopped device: {where}{error.strerror or error}")
         return Status.STOPPED
     return Status.DONE

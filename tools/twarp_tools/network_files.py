@@ -19,6 +19,7 @@ MISSING = f"""\
 packages: networkx and defusedxml are needed, and not there for {sys.executable}
 Debian has them as python3-networkx and python3-defusedxml, for its own /usr/bin/python3:
     apt-get install python3-networkx python3-defusedxml
+    /usr/bin/python3 {sys.argv[0]} ..
 any other Python gets them by
     {sys.executable} -m pip install networkx defusedxml"""
 
