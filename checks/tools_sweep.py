@@ -267,6 +267,9 @@ exec "$TWARP" "$@"
         ) as process:
             while process.poll() is None and not (start.parent / "hangs").exists():
                 time.sleep(0.05)
+            for option in "--resume", "--csv":
+                done = self.sweep(*words[:4], option, kept, CASES / "disagree.spp")
+                self.assert_refused(done, "another sweep writes into it")
             process.send_signal(number)
             out, err = process.communicate(timeout=300)
         rows = list(csv.DictReader(out.splitlines()))
@@ -279,7 +282,7 @@ exec "$TWARP" "$@"
         self.assertEqual({row["verdict"] for row in rows} - {"quiet", "open"}, set())
         self.assertEqual(kept.read_text(), out)
         # What was interrupted goes on, also where its last line was broken off.
-        kept.write_text(f"{out}77,7,")
+        kept.write_bytes(f"{out}77,7,".encode() + b"\xff\x00")
         words = [*words[:4], "--runs", 30, CASES / "disagree.spp"]
         whole = self.assert_done(self.sweep(*words))
         self.assertEqual(self.assert_done(self.sweep(*words, "--resume", kept)), whole)

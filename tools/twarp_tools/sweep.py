@@ -3,6 +3,7 @@ from __future__ import annotations
 
 import argparse
 import contextlib
+import fcntl
 import hashlib
 import json
 import os
@@ -188,6 +189,28 @@ def refuse_clashes(names: Mapping[str, str], inputs: Iterable[str]) -> None:
         seen.append(name)
 
 
+def open_alone(name: str, mode: str) -> TextIO:
+    """Opens a file to be written; refused where another sweep writes into it."""
+    file = open(name, mode, newline="", errors="replace")
+    try:
+        if os.path.isfile(name):
+            fcntl.flock(file, fcntl.LOCK_EX | fcntl.LOCK_NB)
+    except BlockingIOError:
+        raise Refused(f"{name}: refused: another sweep writes into it") from None
+    except OSError:
+        # Not every file system has locks.
+        pass
+    return file
+
+
+def open_new(name: str) -> TextIO:
+    """Opens a file to be written from its beginning on."""
+    file = open_alone(name, "a")
+    if os.path.isfile(name):
+        file.truncate(0)
+    return file
+
+
 class Outputs:
     """What a sweep writes. The files are opened before the first run, and the lines of the CSV written as runs end."""
 
@@ -203,7 +226,7 @@ class Outputs:
         self.lines = [] if line.summary else [table.head_line]
         self.known: list[Trial] = []
         resumed = self.resume(names.pop("--resume")) if line.resume else None
-        self.files = {option: open(name, "w", newline="") for option, name in names.items()}
+        self.files = {option: open_new(name) for option, name in names.items()}
         self.csv = resumed or self.files.get("--csv")
         if "--csv" in self.files:
             self.files["--csv"].write(table.head_line)
@@ -212,7 +235,7 @@ class Outputs:
 
     def resume(self, name: str) -> TextIO:
         """The CSV to go on with, behind its last whole line; refused where it is not of the same case and options."""
-        file = open(name, "a+", newline="")
+        file = open_alone(name, "a+")
         if not file.tell():
             file.write(self.table.head_line)
             return file
@@ -354,7 +377,7 @@ def merge() -> None:
     runs: dict[int, Trial] = {}
     table: Table | None = None
     for name in line.files:
-        with open(name, newline="") as source:
+        with open(name, newline="", errors="replace") as source:
             other, trials = read_csv(name, source)
         table = table or other
         if [*map(without_seed, other.head)] != [*map(without_seed, table.head)]:
