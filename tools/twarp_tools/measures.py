@@ -22,15 +22,6 @@ KM_PER_TICK = 200
 GREATEST_VALUE = 10**15
 
 
-@dataclass(frozen=True)
-class Choice:
-    """What the command line says of delays and weights: names of attributes, and how much is a tick."""
-
-    delay: str | None
-    weight: str | None
-    per_tick: Fraction | None
-
-
 # What a link has of something, where it has it.
 Measure = Callable[[NetworkLink], Fraction | None]
 
@@ -48,40 +39,36 @@ def measure_by(name: str) -> Measure:
 def measure_on_globe(network: Network) -> Measure:
     """The kilometres between a link's ends, where both have their place."""
 
-    def place_of(node: str) -> tuple[float, float] | None:
+    def place_of(node: str) -> tuple[float, float, float] | None:
+        """On a globe of radius 1."""
         latitude, longitude = (network.nodes[node].find(name) for name in ("latitude", "longitude"))
         if not latitude or not longitude:
             return None
-        return math.radians(latitude.number_between(-90, 90)), math.radians(longitude.number_between(-180, 180))
+        up, round_ = math.radians(latitude.number_between(-90, 90)), math.radians(longitude.number_between(-180, 180))
+        return math.cos(up) * math.cos(round_), math.cos(up) * math.sin(round_), math.sin(up)
 
     def measure(link: NetworkLink) -> Fraction | None:
-        places = [place for place in map(place_of, (link.source, link.target)) if place]
-        return Fraction(round(kilometres(*places))) if len(places) == 2 else None
+        one, other = place_of(link.source), place_of(link.target)
+        if not one or not other:
+            return None
+        # The arc of a great circle, by its chord.
+        return Fraction(round(2 * EARTH_RADIUS_KM * math.asin(min(1.0, math.dist(one, other) / 2))))
 
     return measure
 
 
-def kilometres(one: tuple[float, float], other: tuple[float, float]) -> float:
-    """The length of the great circle's arc, by the haversine formula."""
-    (latitude, longitude), (other_latitude, other_longitude) = one, other
-    height = math.sin((latitude - other_latitude) / 2) ** 2
-    width = math.sin((longitude - other_longitude) / 2) ** 2
-    share = height + math.cos(latitude) * math.cos(other_latitude) * width
-    return 2 * EARTH_RADIUS_KM * math.asin(math.sqrt(min(1.0, share)))
-
-
-def delay_measure(network: Network, choice: Choice) -> tuple[Measure, Fraction] | None:
+def delay_measure(network: Network, named: str | None, per_tick: Fraction | None) -> tuple[Measure, Fraction] | None:
     """How links' delays are found, and how much of it is a tick; none where all are 1."""
-    name = known_name(network, "--delay", choice.delay, DISTANCES)
+    name = known_name(network, "--delay", named, DISTANCES)
     if name is None and any(node.find("latitude") and node.find("longitude") for node in network.nodes.values()):
-        return measure_on_globe(network), choice.per_tick or Fraction(KM_PER_TICK)
+        return measure_on_globe(network), per_tick or Fraction(KM_PER_TICK)
     name = name or known_name(network, "", None, WEIGHTS)
-    return (measure_by(name), choice.per_tick or Fraction(1)) if name else None
+    return (measure_by(name), per_tick or Fraction(1)) if name else None
 
 
-def weight_measure(network: Network, choice: Choice) -> Measure | None:
+def weight_measure(network: Network, named: str | None) -> Measure | None:
     """How links' weights are found; none where they are the delays."""
-    name = known_name(network, "--weight", choice.weight, WEIGHTS)
+    name = known_name(network, "--weight", named, WEIGHTS)
     return measure_by(name) if name else None
 
 
@@ -105,14 +92,14 @@ class Measured:
 class Joined:
     """A network in which at most one link leads from a node to another: the lightest, and of these the quickest."""
 
-    def __init__(self, network: Network, choice: Choice):
+    def __init__(self, network: Network, delay: str | None, weight: str | None, per_tick: Fraction | None):
         self.network = network
         # For each node those to which a link leads, and those which a link joins to it in either direction.
         self.rows: dict[str, dict[str, Measured]] = {node: {} for node in network.nodes}
         self.peers: dict[str, dict[str, None]] = {node: {} for node in network.nodes}
         self.parallel = self.loops = self.unmeasured = 0
-        self.delay = delay_measure(network, choice)
-        self.weight = weight_measure(network, choice)
+        self.delay = delay_measure(network, delay, per_tick)
+        self.weight = weight_measure(network, weight)
         for link in network.links:
             self.join(link)
 

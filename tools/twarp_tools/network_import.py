@@ -12,7 +12,7 @@ from twarp.case import MOST_NODES, MOST_PATHS, MOST_ROUTERS, Case, Link
 from twarp.errors import Refused
 from twarp.hops import hops_from
 from twarp_tools.command import Parser, number_between, quote, refuse_own_input, tell, write_output
-from twarp_tools.measures import DISTANCES, KM_PER_TICK, WEIGHTS, Choice, Joined, Measured
+from twarp_tools.measures import DISTANCES, KM_PER_TICK, WEIGHTS, Joined, Measured
 from twarp_tools.network import Network
 from twarp_tools.network_files import read_network
 from twarp_tools.packed import add_size_limit, read_stream, read_within
@@ -129,7 +129,7 @@ def names_of(network: Network, routers: list[str]) -> str:
 def read_joined(source: BinaryIO, line: argparse.Namespace) -> tuple[Joined, list[str]]:
     """The network and the nodes that become routers. Here too, since what is wrong is told by the file's name."""
     network = read_network(read_within(source, line.size_limit))
-    joined = Joined(network, Choice(line.delay, line.weight, line.per_tick))
+    joined = Joined(network, line.delay, line.weight, line.per_tick)
     return joined, routers_of(joined, destination_of(network, line.destination))
 
 

@@ -25,31 +25,20 @@ class Progress:
         self.is_terminal = not self.is_quiet and sys.stderr.isatty()
         self.begun = self.told = time.monotonic()
 
-    def words(self, done: int, now: float) -> str:
-        seconds = max(now - self.begun, 1e-9)
+    def show(self, done: int, is_end: bool = False) -> None:
+        """Tells how far it is, where that is due, and at the end."""
+        now = time.monotonic()
+        is_due = is_end or now - self.told >= (REDRAW if self.is_terminal else NOW_AND_THEN)
+        if self.is_quiet or not is_due:
+            return
+        self.told, seconds = now, max(now - self.begun, 1e-9)
         rate = (done - self.before) / seconds
         left = f", {written_time((self.total - done) / rate)} left" if rate else ""
         if done == self.total:
             left = f", {written_time(seconds)} in all"
-        return f"{done:,} of {self.total:,} runs, {rate:,.0f} a second{left}"
-
-    def show(self, done: int) -> None:
-        """Tells how far it is, where that is due."""
-        now = time.monotonic()
-        if not self.is_quiet and now - self.told >= (REDRAW if self.is_terminal else NOW_AND_THEN):
-            self.told = now
-            self.write(self.words(done, now))
-
-    def end(self, done: int) -> None:
-        """Tells how far it came."""
-        if not self.is_quiet:
-            self.write(self.words(done, time.monotonic()))
-            if self.is_terminal:
-                sys.stderr.write("\n")
-
-    def write(self, words: str) -> None:
+        words = f"{done:,} of {self.total:,} runs, {rate:,.0f} a second{left}"
         if self.is_terminal:
-            sys.stderr.write(f"{BEGIN}{Path(sys.argv[0]).name}: {words}{CLEAR}")
+            sys.stderr.write(f"{BEGIN}{Path(sys.argv[0]).name}: {words}{CLEAR}" + "\n" * is_end)
             sys.stderr.flush()
         else:
             tell(words)

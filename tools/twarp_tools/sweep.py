@@ -15,7 +15,7 @@ import sys
 import threading
 from collections.abc import Callable, Iterable, Iterator, Mapping, Sequence
 from pathlib import Path
-from typing import TextIO
+from typing import Literal, TextIO
 
 from twarp import program
 from twarp.calls import version
@@ -189,7 +189,7 @@ def refuse_clashes(names: Mapping[str, str], inputs: Iterable[str]) -> None:
         seen.append(name)
 
 
-def open_alone(name: str, mode: str) -> TextIO:
+def open_alone(name: str, mode: Literal["a", "a+"]) -> TextIO:
     """Opens a file to be written; refused where another sweep writes into it."""
     file = open(name, mode, newline="", errors="replace")
     try:
@@ -313,7 +313,7 @@ def run_all(line: argparse.Namespace, plan: Plan, batches: Batches, outputs: Out
             outputs.take(trial)
             done += 1
     outputs.flush()
-    progress.end(done)
+    progress.show(done, is_end=True)
     return done
 
 
