@@ -175,11 +175,13 @@ class Bench:
                 for _ in range(processors()):
                     with open(case, "rb") as source:
                         children.append(subprocess.Popen(words, stdin=source, stdout=nothing))
-                for _ in children:
+                running = {child.pid: child for child in children}
+                while running:
                     # In whichever order they end.
                     pid, _ = os.wait()
-                    sample.seconds.append(time.perf_counter() - begin)
-                    next(child for child in children if child.pid == pid).returncode = 0
+                    if child := running.pop(pid, None):
+                        sample.seconds.append(time.perf_counter() - begin)
+                        child.returncode = 0
         print(f"  {len(children)} side by side: {sample}", flush=True)
         return sample
 

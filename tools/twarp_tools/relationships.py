@@ -54,7 +54,7 @@ def command_line(words: Sequence[str] | None = None) -> argparse.Namespace:
     parser.option("--destination", "AS", "where all paths lead to", number, required=True)
     part = parser.add_mutually_exclusive_group()
     parser.option("--routers", "N", "take at most N ASes, the nearest", most, MOST_ROUTERS, part)
-    parser.option("--keep-connected", "N", "take at most N ASes by lot, each with a path of such", most, group=part)
+    parser.option("--keep-connected", "N", "take at most N ASes by lot, with paths among these", most, group=part)
     parser.option("--core", "N", "take the k-core with the least k that has at most N ASes", most, group=part)
     parser.option("--cone", "AS", "take only ASes of the customer cone of this one", number)
     near = "number routers as they are taken, or such that neighbours are near in number"
