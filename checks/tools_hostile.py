@@ -12,6 +12,7 @@ import tempfile
 from pathlib import Path
 
 from tools_common import (
+    CASES,
     NETWORK_PYTHON,
     TOP,
     Done,
@@ -136,6 +137,20 @@ class Import(ToolTest):
             done = self.run_tool(stdin=text)
             self.assertEqual((done.status, done.out), (1, ""), done.err)
             self.assertLess(len(done.err), 500)
+
+
+class Drawing(ToolTest):
+    def test_inputs_without_end(self) -> None:
+        case = CASES / "disagree.spp"
+        for name, words, size in (
+            ("draw", ["/dev/zero"], 64),
+            ("timeline", [case, "/dev/zero"], 256),
+            ("page", [case, "/dev/zero"], 256),
+        ):
+            with self.subTest(words):
+                line = [sys.executable, "-S", TOP / "tools" / name, *words]
+                done = run_within(SECONDS, NETWORK_MEBIBYTES, *line)
+                self.assert_refused(done, f"/dev/zero: refused: it has more than {size} MiB\n")
 
 
 class Map(ToolTest):

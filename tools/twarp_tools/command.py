@@ -30,6 +30,9 @@ class Status(enum.IntEnum):
     BAD_LINE = 3
 
 
+# The program reads no more of a case. A report of this size has some five million events, which take 3 GB here.
+MOST_OF_CASE, MOST_OF_REPORT = 64 << 20, 256 << 20
+
 # How much of what is wrong stands in a message.
 MOST_QUOTED = 80
 
@@ -113,12 +116,15 @@ class Input:
     text: bytes
 
     @classmethod
-    def of(cls, file: str) -> Input:
-        """The whole of a file, or of standard input where it is `-`."""
-        if file == "-":
-            with open(STANDARD_INPUT, "rb", closefd=False) as source:
-                return cls("standard input", source.read())
-        return cls(file, Path(file).read_bytes())
+    def of(cls, file: str, most: int = MOST_OF_CASE) -> Input:
+        """The whole of a file, or of standard input where it is `-`; refused where it has more bytes than this."""
+        is_given = file == "-"
+        name = "standard input" if is_given else file
+        with open(STANDARD_INPUT if is_given else file, "rb", closefd=not is_given) as source:
+            text = source.read(most + 1)
+        if len(text) > most:
+            raise Refused(f"{name}: refused: it has more than {most >> 20} MiB")
+        return cls(name, text)
 
     def read(self, reader: Callable[[bytes], Value]) -> Value:
         """What a reader makes of the text."""

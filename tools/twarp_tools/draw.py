@@ -6,7 +6,7 @@ import argparse
 from twarp import pictures
 from twarp.case import MOST_PATHS, MOST_ROUTERS, read_case
 from twarp.report import read_report
-from twarp_tools.command import Input, Parser, number_between, title_of, write_output
+from twarp_tools.command import MOST_OF_REPORT, Input, Parser, number_between, title_of, write_output
 from twarp_tools.names import add_names, names_of
 
 DESCRIPTION = """\
@@ -38,7 +38,7 @@ def main() -> None:
     how = {"names": names_of(line.names), "most": line.most, "paths_of": line.paths_of}
     how["title"] = title_of(line.title, line.case)
     if line.report:
-        report = (report_text := Input.of(line.report)).read(lambda text: read_report(text, case.nodes))
+        report = (report_text := Input.of(line.report, MOST_OF_REPORT)).read(lambda text: read_report(text, case.nodes))
         write_output(report_text.read(lambda _: pictures.network_text(case, report, **how)))
     else:
         write_output(pictures.network_text(case, **how))

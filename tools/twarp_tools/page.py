@@ -20,7 +20,7 @@ from twarp.pictures import subtitle_of, view_of_run
 from twarp.report import Report, read_report
 from twarp.run_picture import LETTER_WIDTH, Bar, RunPicture
 from twarp.svg import DEFINITIONS, STYLE, add, attribute
-from twarp_tools.command import Input, title_of, write_output
+from twarp_tools.command import MOST_OF_REPORT, Input, title_of, write_output
 from twarp_tools.network_drawing import NetworkDrawing
 from twarp_tools.part import command_line, part_of
 from twarp_tools.recording import Json, Recording
@@ -215,7 +215,7 @@ def style() -> str:
 
 def main() -> None:
     line = command_line(DESCRIPTION, EXAMPLE)
-    case_text, report_text = Input.of(line.case), Input.of(line.report)
+    case_text, report_text = Input.of(line.case), Input.of(line.report, MOST_OF_REPORT)
     case = case_text.read(read_case)
     report = report_text.read(lambda text: read_report(text, case.nodes))
     view = view_of_run(case, report, **part_of(line))

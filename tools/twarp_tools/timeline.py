@@ -6,7 +6,7 @@ from typing import Any
 from twarp import pictures
 from twarp.case import read_case
 from twarp.report import is_replay, read_case_and_steps, read_replay, read_report
-from twarp_tools.command import Input, title_of, write_output
+from twarp_tools.command import MOST_OF_REPORT, Input, title_of, write_output
 from twarp_tools.part import command_line, part_of
 
 DESCRIPTION = """\
@@ -32,6 +32,6 @@ def draw_replay(case_text: Input, replay_text: Input, how: dict[str, Any]) -> st
 
 def main() -> None:
     line = command_line(DESCRIPTION, EXAMPLE, "the case, or what was replayed", " (of a replay: steps)")
-    case_text, report_text = Input.of(line.case), Input.of(line.report)
+    case_text, report_text = Input.of(line.case), Input.of(line.report, MOST_OF_REPORT)
     draw = draw_replay if is_replay(report_text.text) else draw_run
     write_output(draw(case_text, report_text, part_of(line) | {"title": title_of(line.title, line.case, "run")}))
