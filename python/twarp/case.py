@@ -21,6 +21,8 @@ MOST_NODES = 32
 MOST_SCENES = 4_096
 GREATEST_DELAY = 1_000_000
 GREATEST_TIME = 1_000_000_000
+# The program reads no more of a case text.
+MOST_BYTES = 67_108_864
 
 ORIGIN = 0
 
@@ -119,7 +121,7 @@ class Case:
     def from_file(cls, file: program.File) -> Case:
         """The case in a file; Refused where the program refuses it, with line and code."""
         with open(file, "rb") as source:
-            return read_case(source.read())
+            return read_case(source.read(MOST_BYTES))
 
     @classmethod
     def from_networkx(

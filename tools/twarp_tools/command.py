@@ -12,6 +12,7 @@ from dataclasses import dataclass
 from pathlib import Path
 from typing import Any, NoReturn, TypeVar
 
+from twarp.case import MOST_BYTES
 from twarp.errors import Refused, Stopped
 
 Value = TypeVar("Value")
@@ -30,8 +31,8 @@ class Status(enum.IntEnum):
     BAD_LINE = 3
 
 
-# The program reads no more of a case. A report of this size has some five million events, which take 3 GB here.
-MOST_OF_CASE, MOST_OF_REPORT = 64 << 20, 256 << 20
+# A report of this size has some five million events, which take 3 GB here.
+MOST_OF_REPORT = 256 << 20
 
 # How much of what is wrong stands in a message.
 MOST_QUOTED = 80
@@ -116,7 +117,7 @@ class Input:
     text: bytes
 
     @classmethod
-    def of(cls, file: str, most: int = MOST_OF_CASE) -> Input:
+    def of(cls, file: str, most: int = MOST_BYTES) -> Input:
         """The whole of a file, or of standard input where it is `-`; refused where it has more bytes than this."""
         is_given = file == "-"
         name = "standard input" if is_given else file
