@@ -16,8 +16,8 @@ by proportion. Times are the least of three runs.
 of workers and each batch how long `twarp run` takes, how many times that of `seq` this is, events
 per second, and the greatest memory. It stops where the two reports differ. Times are the least of
 five runs in turns. With `--lazy` each run is also measured with lazy cancellation; `--case` takes
-a file in place of the cases by name. Where crates/tw_bench is built (`rt run` there), a further run
-is counted: turns of all workers, and events undone for each event that is committed.
+a file in place of the cases by name. A further run with `--stats` tells how often workers met, and
+events undone for each event that is committed.
 """
 from __future__ import annotations
 
@@ -30,9 +30,8 @@ from typing import NamedTuple
 
 from at_scale import MAKERS, text_of
 from compare import main as compare_programs
-from measuring import CRATES, Measured, least, measure, measure_once, parser_of, stored
+from measuring import Measured, least, measure, measure_once, parser_of, stored
 
-COUNTER = CRATES / "tw_bench/out/tw_bench"
 MOST_STOP = 2**29
 RUNS_IN_TURNS = 5
 LAZY = "--lazy"
@@ -95,16 +94,16 @@ def per_second(count: int, whole: Measured) -> str:
     return f"{count / whole.seconds / 1e6:.2f} million per second"
 
 
-def counted(case: Path, words: Sequence[str], committed: int) -> str:
-    """What the workers of a run do; nothing where the program that counts it is not there."""
-    if words[0] != "run" or not COUNTER.exists():
+def counted(program: str, case: Path, words: Sequence[str]) -> str:
+    """What the workers of a run do, as one more run tells."""
+    if words[0] != "run":
         return ""
     with open(case, "rb") as source:
-        # The numbers of the stop, the workers and the batch.
-        line = [str(COUNTER), *words[2:7:2], *(["lazy"] if LAZY in words else [])]
+        line = [program, *words, "--stats"]
         done = subprocess.run(line, stdin=source, capture_output=True, check=True, text=True)
-    turns, _handled, undone = map(int, re.findall(r"\d+", done.stdout))
-    return f", {turns} turns, {undone / committed:.3f} undone"
+    told = dict(line.split() for line in done.stderr.splitlines())
+    undone = int(told["undone"]) / int(told["committed"])
+    return f", {told['meetings']} meetings, {undone:.3f} undone"
 
 
 def lines_of(stop: str, asked: Asked) -> list[list[str]]:
@@ -137,7 +136,7 @@ def compare(name: str, case: Path, stop: str, asked: Asked) -> None:
         print(
             f"{name}: {count} events, {' '.join(words)}: {whole.seconds:.3f} s, "
             f"{whole.seconds / seq.seconds:.2f} times seq, {per_second(count, whole)}, "
-            f"{whole.mebibytes:.0f} MiB{counted(case, words, count)}",
+            f"{whole.mebibytes:.0f} MiB{counted(asked.program, case, words)}",
             flush=True,
         )
 

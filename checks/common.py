@@ -60,6 +60,15 @@ def without_advice(done: Ended) -> Ended:
     return done._replace(err=b"") if done.status == 1 and is_advised else done
 
 
+# What a run tells of how far it is: its time, its stop, and how many events it has handled.
+PROGRESS = re.compile(rb"time (\d+) of (\d+): (\d+) events, \d+ a second\n")
+
+
+def without_progress(done: Ended) -> Ended:
+    """How a command ended, without the lines that tell how far a run is."""
+    return done._replace(err=PROGRESS.sub(b"", done.err))
+
+
 def no_device(stream: str, number: int) -> Ended:
     """How a command ends whose standard input or output met this error of the system, and where nothing was written. A
     pipe that nobody reads is no matter for a person."""

@@ -35,6 +35,7 @@ from common import (
 
 # Where they are is known from common.
 from at_scale import gadgets, hierarchy, mesh
+from stats import wrong_figures
 from twarp.case import BarScene, Case, Link
 
 WORKERS = (None, 1, 2, 3, 4, 8, 64)
@@ -157,6 +158,33 @@ def compare_made(tally: Tally, folder: Path) -> None:
         compare(tally, case, Runs(logged, (3,), (1, 4096), DEALINGS[2:]))
 
 
+def count_moved(case: Path, workers: int) -> int:
+    """How many routers of a case have another of so many workers in blocks than dealt out in turn."""
+    nodes = int(case.read_text().splitlines()[1].split()[1])
+    return sum(router % workers != router * workers // nodes for router in range(nodes))
+
+
+def count_in(tally: Tally, case: Path, words: Sequence[str], moved: int | None = 0) -> None:
+    """A run whose workers are counted."""
+    plain, done = run_program(words, case), run_program([*words, "--stats"], case)
+    tally.add(f"{name_of(words)} --stats of {case.name}", wrong_figures(words, plain, done, moved))
+
+
+def count_made(tally: Tally, folder: Path) -> None:
+    """The cases that are made, with what their workers count."""
+    for name, (_, stop) in MADE.items():
+        case = folder / f"{name}.spp"
+        sizes = ["--stop", str(stop // 4)]
+        count_in(tally, case, ["seq", *sizes])
+        count_in(tally, case, ["run", *sizes], None)
+        every = ["--every", str(max(1, stop // 40)), "--rotate"]
+        for workers, kind in product((2, 4), KINDS):
+            words = ["run", *sizes, "--workers", str(workers), *kind]
+            count_in(tally, case, words)
+            count_in(tally, case, [*words, "--blocks"], count_moved(case, workers))
+            count_in(tally, case, [*words, *every], None)
+
+
 @contextlib.contextmanager
 def busy_processors() -> Iterator[None]:
     """Other processes keep the processors busy."""
@@ -194,6 +222,7 @@ def main() -> None:
         folder = Path(room)
         compare_stored(tally)
         compare_made(tally, folder)
+        count_made(tally, folder)
         compare_beside_others(tally, folder)
         words, wanted = ["--stop", "20", "--log"], Answer(0, REPORT.read_bytes())
         repeat(tally, DISAGREE, words, wanted, SMALL_RUNS)

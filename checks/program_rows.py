@@ -8,7 +8,20 @@ from functools import partial
 from pathlib import Path
 from typing import NamedTuple
 
-from common import CASES, DISAGREE, NOTHING, REPLAYED, REPORT, STRAGGLER, Ended, Word, name_of, without_advice
+from common import (
+    CASES,
+    DISAGREE,
+    NOTHING,
+    PROGRESS,
+    REPLAYED,
+    REPORT,
+    STRAGGLER,
+    Ended,
+    Word,
+    name_of,
+    without_advice,
+    without_progress,
+)
 from rows import all_rows
 
 SEQ = ["seq", "--stop", "20", "--log"]
@@ -34,7 +47,7 @@ HELP = {
         "  3  ",
     ],
     "check": ["Usage: twarp check", "Exit status:"],
-    "seq": ["Usage: twarp seq ", "      --stop <TICKS>", "      --log", "Exit status:"],
+    "seq": ["Usage: twarp seq ", "      --stop <TICKS>", "      --log", "      --progress", "      --stats", "Exit status:"],
     "run": [
         "Usage: twarp run ",
         "      --stop <TICKS>",
@@ -45,6 +58,8 @@ HELP = {
         "      --lazy",
         "      --blocks",
         "      --rotate",
+        "      --progress",
+        "      --stats",
         "Exit status:",
     ],
     "trail": [
@@ -199,6 +214,10 @@ BAD_LINES: dict[str, Sequence[Word]] = {
     "a batch of 0": ["run", "--stop", "20", "--batch", "0"],
     "a batch past its limit": ["run", "--stop", "20", "--batch", "4097"],
     "a batch of one thread": ["seq", "--stop", "20", "--batch", "64"],
+    "figures of a replay": ["replay", "--stop", "20", "--stats"],
+    "figures by a number": ["seq", "--stop", "20", "--stats", "1"],
+    "the progress of a trail": ["trail", "--router", "1", "--stop", "20", "--keep", "0", "--progress"],
+    "the progress of a replay": ["replay", "--stop", "20", "--progress"],
     "a word that is no UTF-8": ["seq", "--stop", b"\xff"],
 }
 
@@ -256,6 +275,37 @@ def answers() -> Iterator[Row]:
     for count in "1", "2", "64":
         words = ["replay", "--stop", "20", "--workers", count]
         yield row(name_of(words), words, STRAGGLER, 0, replayed)
+
+
+def wrong_progress(due: Ended, stop: int, done: Ended) -> str | None:
+    """What is wrong with how a run ended that tells how far it is, beside the report that is due, if anything: its last
+    line has to tell of the stop, and of the events that the routers of the report have handled."""
+    if (done.status, done.out) != (due.status, due.out):
+        return f"it ended with {done}, and {due} is due"
+    told = [tuple(map(int, found)) for found in PROGRESS.findall(done.err)]
+    handled = sum(map(int, re.findall(rb"^router .* handled (\d+) ", due.out, re.M)))
+    is_told = not without_progress(done).err and told == sorted(told) and told[-1:] == [(stop, stop, handled)]
+    return None if is_told else f"it told {done.err!r}, and {handled} events at time {stop} are due last"
+
+
+def progresses() -> Iterator[Row]:
+    """Runs that are asked to tell how far they are; whose input is refused has nothing to tell."""
+    report = Ended(0, REPORT.read_bytes(), b"")
+    for words in (
+        SEQ,
+        RUN,
+        ["run", "--stop", "20", "--log"],
+        ["run", "--stop", "20", "--log", "--workers", "1"],
+        ["run", "--stop", "20", "--log", "--workers", "3", "--batch", "1", "--blocks", "--rotate", "--lazy"],
+    ):
+        words = [*words, "--progress"]
+        yield Row(name_of(words), words, DISAGREE, partial(wrong_progress, report, 20))
+        yield row(f"{name_of(words)} of nothing", words, NOTHING, 1, b"refused line 1 X6 End\n")
+    for due in all_rows():
+        if "--every" in due.words and due.source == CASES / "disagree-equal-delays.spp" and "--lazy" not in due.words:
+            words, stop = [*due.words, "--progress"], int(due.words[due.words.index("--stop") + 1])
+            end = Ended(due.status, due.written.encode(), b"")
+            yield Row(name_of(words), words, due.source, partial(wrong_progress, end, stop))
 
 
 def refusals(folder: Path) -> Iterator[Row]:
@@ -383,6 +433,7 @@ def rows(folder: Path) -> Iterator[Row]:
     """All rows, whose own inputs are put into the folder."""
     yield from answers()
     yield from worked()
+    yield from progresses()
     yield from refusals(folder)
     yield from refused_texts(folder)
     yield from advice(folder)

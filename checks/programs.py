@@ -9,8 +9,10 @@ checks/rows.
 """
 from __future__ import annotations
 
+import contextlib
 import errno
 import os
+import pty
 import re
 import resource
 import shutil
@@ -19,11 +21,13 @@ import tempfile
 from pathlib import Path
 
 from common import (
+    CASES,
     DISAGREE,
     NO_MEMORY,
     NO_THREAD,
     NOTHING,
     PROGRAM,
+    PROGRESS,
     REPORT,
     Ended,
     Tally,
@@ -36,12 +40,27 @@ from common import (
 )
 from program_rows import COMMANDS, RUN, SEQ, differs, rows
 from refuser import Refuser
+from stats import wrong_figures
 
 # A user that has no process of its own.
 NOBODY = 54321
 
+# Runs of DISAGREE of which `--stats` is asked for.
+STATS = (
+    SEQ,
+    ["seq", "--stop", "20", "--every", "1"],
+    ["run", "--stop", "20", "--log"],
+    [*RUN[:-1], "1"],
+    RUN,
+    [*RUN, "--lazy", "--batch", "1"],
+    [*RUN[:-1], "64"],
+)
+
 # The bytes that a file of check_short holds.
 SHORT = 100
+
+# A case that never comes to rest.
+BAD_GADGET = CASES / "bad-gadget.spp"
 
 
 def check_rows(tally: Tally, folder: Path) -> None:
@@ -128,6 +147,70 @@ def check_input(tally: Tally) -> None:
         tally.add(f"{name_of(words)} with no standard input", differs(done, no_device("input", errno.EBADF)))
 
 
+def check_stats(tally: Tally, folder: Path) -> None:
+    """What is told behind a report, and that nothing is where there is no report."""
+    for words in STATS:
+        plain, done = run_program(words, DISAGREE), run_program([*words, "--stats"], DISAGREE)
+        tally.add(f"{name_of(words)} --stats", wrong_figures(words, plain, done))
+    bad = folder / "no-case.spp"
+    bad.write_text("spp 1\nnodes 0\nend\n")
+    for words in SEQ, RUN:
+        plain, done = run_program(words, bad), run_program([*words, "--stats"], bad)
+        tally.add(f"{name_of(words)} --stats of no case", differs(done, plain))
+        with open("/dev/full", "wb") as full:
+            done = run_program([*words, "--stats"], DISAGREE, stdout=full)
+        wrong = differs(done, no_device("output", errno.ENOSPC))
+        tally.add(f"{name_of(words)} --stats on a full device", wrong)
+
+
+def check_errors(tally: Tally) -> None:
+    """Standard error that takes nothing changes nothing of a run that tells there how far it is."""
+    due = Ended(0, REPORT.read_bytes(), b"")
+    for words in [*SEQ, "--progress"], [*RUN, "--progress"]:
+        name = name_of(words)
+        with open("/dev/full", "wb") as full:
+            done = run_program(words, DISAGREE, stderr=full)
+        tally.add(f"{name} with standard error on a full device", differs(done, due))
+        done = run_program(words, DISAGREE, stderr=None, preexec_fn=lambda: os.close(2))
+        tally.add(f"{name} with no standard error", differs(done, due))
+        left, right = os.pipe()
+        os.close(left)
+        done = run_program(words, DISAGREE, stderr=right)
+        os.close(right)
+        tally.add(f"{name} with standard error into a pipe that nobody reads", differs(done, due))
+
+
+def written_at_a_terminal(words: list[str], source: Path) -> tuple[Ended, bytes]:
+    """How a command ends whose standard error is a terminal, and what it writes there."""
+    terminal, other_end = pty.openpty()
+    done = run_program(words, source, stderr=other_end)
+    os.set_blocking(terminal, False)
+    written = b""
+    # What is written there waits; behind the last of it reading says that nothing does.
+    with contextlib.suppress(OSError):
+        while more := os.read(terminal, 4096):
+            written += more
+    os.close(other_end)
+    os.close(terminal)
+    return done, written
+
+
+def check_terminal(tally: Tally) -> None:
+    """On a terminal a run that takes its time has one line, which is gone in the end, and says the same on standard output."""
+    line = PROGRESS.pattern.removesuffix(rb"\n")
+    anew = re.compile(rb"(?:\r" + line + rb"\x1b\[K)+\r\x1b\[K")
+    # Eighteen million events, which take a second or two.
+    for words in ["seq", "--stop", "2000000"], ["run", "--stop", "2000000"]:
+        done, written = written_at_a_terminal(words, BAD_GADGET)
+        wrong = differs(done, run_program(words, BAD_GADGET))
+        tally.add(f"{name_of(words)} at a terminal", wrong or (None if anew.fullmatch(written) else f"it wrote {written!r}"))
+    for words in COMMANDS:
+        done, written = written_at_a_terminal(words, input_of(words))
+        wrong = differs(done, run_program(words, input_of(words)))
+        is_told = words[0] in ("seq", "run") and anew.fullmatch(written)
+        tally.add(f"{name_of(words)} at a terminal", wrong or (f"it wrote {written!r}" if written and not is_told else None))
+
+
 def check_version(tally: Tally) -> None:
     for word in "--version", "-V":
         done = run_program([word], NOTHING)
@@ -145,7 +228,10 @@ def main() -> None:
         check_memory(tally, folder)
         check_thread(tally, folder)
         check_output(tally, folder)
+        check_stats(tally, folder)
     check_input(tally)
+    check_errors(tally)
+    check_terminal(tally)
     check_version(tally)
     tally.end()
 

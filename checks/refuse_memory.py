@@ -50,8 +50,10 @@ from common import (
     run_program,
     tests_of,
     without_advice,
+    without_progress,
 )
 from refuser import Refuser
+from stats import without_figures
 
 LONG = (
     "programs::a_sink_that_fails_has_a_prefix",
@@ -71,6 +73,7 @@ LINES = (
     ["check"],
     ["seq", "--stop", "20"],
     ["seq", "--stop", "20", "--log"],
+    ["seq", "--stop", "20", "--stats"],
     ["trail", "--router", "1", "--stop", "20", "--keep", "0"],
     ["trail", "--router", "3", "--stop", "20", "--keep", "0"],
     ["replay", "--stop", "20"],
@@ -81,7 +84,10 @@ LINES = (
     ["run", "--stop", "20", "--log"],
     ["run", "--stop", "20", "--every", "1", "--workers", "2"],
     ["run", "--stop", "20", "--log", "--workers", "2"],
+    ["run", "--stop", "20", "--workers", "2", "--stats"],
     ["run", "--stop", "20", "--every", "1", "--workers", "2", "--blocks", "--rotate"],
+    ["seq", "--stop", "20", "--log", "--progress"],
+    ["run", "--stop", "20", "--log", "--workers", "2", "--progress"],
     ["--help"],
     ["seq", "--stop", "0"],
 )
@@ -137,11 +143,11 @@ def refuse_in_test(refuser: Refuser, tests: Path, name: str) -> Outcome:
 
 def refuse_in_program(refuser: Refuser, line: list[str]) -> Outcome:
     source = input_of(line)
-    whole = run_program(line, source)
+    whole = without_progress(without_figures(run_program(line, source)))
     # A person is told nothing where memory for that is refused.
     due = (NO_MEMORY, NO_THREAD, whole, without_advice(whole))
     ends = dict(refuser.each([PROGRAM, *line], source))
-    failed = [number for number, done in ends.items() if done not in due]
+    failed = [number for number, done in ends.items() if without_progress(without_figures(done)) not in due]
     if NO_MEMORY not in ends.values():
         return Outcome(len(ends), "no refused allocation stopped it")
     if failed:

@@ -284,7 +284,7 @@ class ScheduleTest(unittest.TestCase):
         self.assertEqual(schedule.below(self.GRAPH, "top"), below)
         self.assertEqual(self.CHAIN, {"top": 1, "left": 4, "right": 6, "low": 8, "side": 5})
         graph = schedule.graph_of((TOP / "crates.txt").read_text())
-        self.assertFalse({"tw_rows", "tw_bench"} & {*schedule.below(graph, "twarp")})
+        self.assertFalse({"tw_rows", "tw_program_rows"} & {*schedule.below(graph, "twarp")})
 
     def test_the_longest_chain_comes_first(self) -> None:
         self.assertEqual(self.choose([], [], 1), {"low": 1})

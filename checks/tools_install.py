@@ -21,8 +21,8 @@ from tools_common import CASES, TOP, Done, ToolTest, run, tool
 # The commands and options of twarp, from docs/FORMATS.md.
 OPTIONS = {
     "check": set(),
-    "seq": {"--stop", "--every", "--log"},
-    "run": {"--stop", "--every", "--log", "--workers", "--batch", "--lazy", "--blocks", "--rotate"},
+    "seq": {"--stop", "--every", "--log", "--progress", "--stats"},
+    "run": {"--stop", "--every", "--log", "--workers", "--batch", "--lazy", "--blocks", "--rotate", "--progress", "--stats"},
     "trail": {"--router", "--stop", "--keep"},
     "replay": {"--stop", "--workers", "--lazy"},
     "upgrade": set(),

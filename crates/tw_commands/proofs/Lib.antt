@@ -8,4 +8,5 @@ pub mod Counting
 pub mod Undoing
 pub mod Followed
 pub mod Never
+pub mod Pieces
 pub mod ReplayPaths

@@ -13,6 +13,9 @@ ghost use Rattle.tw_seq.specs.Run.{GetsStuck, complete_run, opening_run};
 
 use crate::cause::{Cause, Status};
 use crate::command::{Command, answer_io};
+use crate::progress::Progress;
+use crate::stages::Stages;
+use crate::told::Told;
 use std::alloc::Global;
 use tw_device::{Sink, Source};
 use tw_instance::Case;
@@ -22,14 +25,15 @@ use tw_seq::{CounterFull, LoggedRun, OneThread, Running, run_watched};
 use tw_shape::{Finding, Verdict};
 
 /// The command `seq`: runs a case on one thread to the stop and reports the run.
-#[derive(Clone, Copy)]
-struct Seq {
+#[derive(Drop)]
+struct Seq<'o, O> {
     stop: u64,
     every: Option<u64>,
     log: bool,
+    observer: &'o O,
 }
 
-impl Command for Seq {
+impl<O: Progress + Stages> Command for Seq<'_, O> {
     type Input = Case;
 
     ghost ready = { λ seq. (seq.stop ≤ LATEST) × IfSome seq.every (λ every. (0 < every) × (every ≤ LATEST)) };
@@ -39,7 +43,18 @@ impl Command for Seq {
     ghost stuck = { λ seq case. GetsStuck case seq.stop };
 
     fn answer<W: Sink>(&self, alloc: Global, case: &Case, sink: &mut W) -> Result<Status, Cause> {
-        let (outcome, found) = run_on_one_thread(alloc, case, self.stop, self.every, self.log)?;
+        let Seq {
+            stop,
+            every,
+            log,
+            observer,
+        } = *self;
+        observer.has_read();
+        observer.goes_alone();
+        let ran = run_on_one_thread(alloc, case, stop, every, log, observer);
+        observer.ended();
+        let (outcome, found) = ran?;
+        observer.has_run(&outcome);
         let verdict = Verdict::of(&outcome, found);
         write_report(sink, case.instance(), &outcome, verdict, self.log)?;
         Ok(Status::Done)
@@ -51,12 +66,13 @@ impl Command for Seq {
 ///
 /// It is refused as `CounterFull` where the run gets stuck before the stop, since a counter of a router would
 /// pass its limit.
-pub fn run_on_one_thread(
+pub fn run_on_one_thread<P: Progress>(
     alloc: Global,
     case: &Case,
     stop: u64,
     every: Option<u64>,
     log: bool,
+    progress: &P,
 ) -> Result<(Outcome, Option<Finding>), OrMemory<CounterFull>>
     requires stop { stop ≤ LATEST }
     requires every { IfSome every (λ n. (0 < n) × (n ≤ LATEST)) }
@@ -65,13 +81,13 @@ pub fn run_on_one_thread(
     ensures full { IsErrOf result (or_memory.Fault counter_full) → GetsStuck case.now stop }
 {
     if log {
-        let mut run = LoggedRun::new(alloc, case)?;
-        let found = run_to_stop(alloc, &mut run, stop, every)?;
-        Ok((run.into_outcome()?, found))
+        let mut told = Told::new(LoggedRun::new(alloc, case)?, stop, progress);
+        let found = run_to_stop(alloc, &mut told, stop, every)?;
+        Ok((told.into_run().into_outcome()?, found))
     } else {
-        let mut run = OneThread::new(alloc, case)?;
-        let found = run_to_stop(alloc, &mut run, stop, every)?;
-        Ok((run.outcome_without_events()?, found))
+        let mut told = Told::new(OneThread::new(alloc, case)?, stop, progress);
+        let found = run_to_stop(alloc, &mut told, stop, every)?;
+        Ok((told.into_run().outcome_without_events()?, found))
     }
 }
 
@@ -102,14 +118,16 @@ fn run_to_stop<R: Running>(
 /// a line for each event where `log` says so; or writes where and why the text is refused.
 ///
 /// Where `every` is given, 1 to 1,000,000,000 ticks, the verdict says from when and with which period
-/// the run repeats, if two checkpoints show it; the checkpoints are the multiples of `every`.
-pub fn seq_io<R: Source, W: Sink>(
+/// the run repeats, if two checkpoints show it; the checkpoints are the multiples of `every`. The
+/// observer is told each stage of the run as it is reached, and how far it is.
+pub fn seq_io<R: Source, W: Sink, O: Progress + Stages>(
     alloc: Global,
     source: &mut R,
     sink: &mut W,
     stop: u64,
     every: Option<u64>,
     log: bool,
+    observer: &O,
 ) -> Result<Status, Cause>
     requires source { R.failed source.old ≡ false }
     requires sink { W.failed sink.old ≡ false }
@@ -120,5 +138,11 @@ pub fn seq_io<R: Source, W: Sink>(
     ensures read { OnOk result (LosesInput (R.remaining source.old) (R.remaining source.new)) }
     ensures most { TakesInput (R.remaining source.old) (R.remaining source.new) }
 {
-    answer_io(alloc, &Seq { stop, every, log }, source, sink)
+    let seq = Seq {
+        stop,
+        every,
+        log,
+        observer,
+    };
+    answer_io(alloc, &seq, source, sink)
 }

@@ -59,10 +59,10 @@ first_given false rest h = cc
 
 module _ (words : List Text) where
   seq_stop_fits : AllByRecursion (FitsRule (option_rule (codes "stop") true 1 LATEST)) (leaf seq_app.top).rules
-  seq_stop_fits = (((λ _. refl), tt), (((λ e. cc), tt), (((λ e. cc), tt), (((λ e. cc), tt), tt))))
+  seq_stop_fits = (((λ _. refl), tt), (((λ e. cc), tt), (((λ e. cc), tt), (((λ e. cc), tt), (((λ e. cc), tt), (((λ e. cc), tt), tt))))))
 
   every_fits : AllByRecursion (FitsRule (option_rule (codes "every") false 1 LATEST)) (leaf seq_app.top).rules
-  every_fits = (((λ e. cc), tt), (((λ _. refl), tt), (((λ e. cc), tt), (((λ e. cc), tt), tt))))
+  every_fits = (((λ e. cc), tt), (((λ _. refl), tt), (((λ e. cc), tt), (((λ e. cc), tt), (((λ e. cc), tt), (((λ e. cc), tt), tt))))))
 
   seq_level : level_fault (leaf seq_app.top) [] nothing_held words false [] ≡ []
       → HasSeq (rows_after (leaf seq_app.top).rules [] words)
@@ -76,16 +76,16 @@ module _ (words : List Text) where
       }
 
   run_stop_fits : AllByRecursion (FitsRule (option_rule (codes "stop") true 1 LATEST)) (leaf run_app.top).rules
-  run_stop_fits = (((λ _. refl), tt), (((λ e. cc), tt), (((λ e. cc), tt), (((λ e. cc), tt), (((λ e. cc), tt), (((λ e. cc), tt), (((λ e. cc), tt), (((λ e. cc), tt), (((λ e. cc), tt), tt)))))))))
+  run_stop_fits = (((λ _. refl), tt), (((λ e. cc), tt), (((λ e. cc), tt), (((λ e. cc), tt), (((λ e. cc), tt), (((λ e. cc), tt), (((λ e. cc), tt), (((λ e. cc), tt), (((λ e. cc), tt), (((λ e. cc), tt), (((λ e. cc), tt), tt)))))))))))
 
   run_every_fits : AllByRecursion (FitsRule (option_rule (codes "every") false 1 LATEST)) (leaf run_app.top).rules
-  run_every_fits = (((λ e. cc), tt), (((λ _. refl), tt), (((λ e. cc), tt), (((λ e. cc), tt), (((λ e. cc), tt), (((λ e. cc), tt), (((λ e. cc), tt), (((λ e. cc), tt), (((λ e. cc), tt), tt)))))))))
+  run_every_fits = (((λ e. cc), tt), (((λ _. refl), tt), (((λ e. cc), tt), (((λ e. cc), tt), (((λ e. cc), tt), (((λ e. cc), tt), (((λ e. cc), tt), (((λ e. cc), tt), (((λ e. cc), tt), (((λ e. cc), tt), (((λ e. cc), tt), tt)))))))))))
 
   run_workers_fits : AllByRecursion (FitsRule (option_rule (codes "workers") false 1 MOST_WORKERS)) (leaf run_app.top).rules
-  run_workers_fits = (((λ e. cc), tt), (((λ e. cc), tt), (((λ e. cc), tt), (((λ _. refl), tt), (((λ e. cc), tt), (((λ e. cc), tt), (((λ e. cc), tt), (((λ e. cc), tt), (((λ e. cc), tt), tt)))))))))
+  run_workers_fits = (((λ e. cc), tt), (((λ e. cc), tt), (((λ e. cc), tt), (((λ _. refl), tt), (((λ e. cc), tt), (((λ e. cc), tt), (((λ e. cc), tt), (((λ e. cc), tt), (((λ e. cc), tt), (((λ e. cc), tt), (((λ e. cc), tt), tt)))))))))))
 
   run_batch_fits : AllByRecursion (FitsRule (option_rule (codes "batch") false 1 MOST_BATCH)) (leaf run_app.top).rules
-  run_batch_fits = (((λ e. cc), tt), (((λ e. cc), tt), (((λ e. cc), tt), (((λ e. cc), tt), (((λ _. refl), tt), (((λ e. cc), tt), (((λ e. cc), tt), (((λ e. cc), tt), (((λ e. cc), tt), tt)))))))))
+  run_batch_fits = (((λ e. cc), tt), (((λ e. cc), tt), (((λ e. cc), tt), (((λ e. cc), tt), (((λ _. refl), tt), (((λ e. cc), tt), (((λ e. cc), tt), (((λ e. cc), tt), (((λ e. cc), tt), (((λ e. cc), tt), (((λ e. cc), tt), tt)))))))))))
 
   run_level : level_fault (leaf run_app.top) [] nothing_held words false [] ≡ []
       → HasRun (rows_after (leaf run_app.top).rules [] words)

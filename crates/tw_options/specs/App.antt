@@ -44,6 +44,14 @@ blocks_rule = flag_rule (codes "blocks")
 abbrev pub rotate_rule : Rule
 rotate_rule = flag_rule (codes "rotate")
 
+-- `--progress`: how far the run is, on standard error
+abbrev pub progress_rule : Rule
+progress_rule = flag_rule (codes "progress")
+
+-- `--stats`: what was counted and how long it took is told behind the report
+abbrev pub stats_rule : Rule
+stats_rule = flag_rule (codes "stats")
+
 -- `--router R`: the router whose last events are undone
 abbrev pub router_rule : Rule
 router_rule = number_rule (codes "router") true 0 (MOST_ROUTERS - 1)
@@ -64,11 +72,15 @@ batch_rule = number_rule (codes "batch") false 1 MOST_BATCH
 abbrev pub check_app : App
 check_app = new_app (codes "check")
 
--- `twarp seq --stop N [--every T] [--log]`
-abbrev pub seq_app : App
-seq_app = with_rule (with_rule (with_rule (new_app (codes "seq")) stop_rule) every_rule) log_rule
+-- `twarp seq` with the options that say which run it is, and what of it is reported
+abbrev pub seq_app_alone : App
+seq_app_alone = with_rule (with_rule (with_rule (new_app (codes "seq")) stop_rule) every_rule) log_rule
 
--- `twarp run` with the options of `seq`
+-- `twarp seq --stop N [--every T] [--log] [--progress] [--stats]`
+abbrev pub seq_app : App
+seq_app = with_rule (with_rule seq_app_alone progress_rule) stats_rule
+
+-- `twarp run` with those options of `seq` that say which run it is, and what of it is reported
 abbrev pub run_app_alone : App
 run_app_alone = with_rule (with_rule (with_rule (new_app (codes "run")) stop_rule) every_rule) log_rule
 
@@ -76,9 +88,9 @@ run_app_alone = with_rule (with_rule (with_rule (new_app (codes "run")) stop_rul
 abbrev pub run_app_by_workers : App
 run_app_by_workers = with_rule (with_rule (with_rule run_app_alone workers_rule) batch_rule) lazy_rule
 
--- `twarp run --stop N [--every T] [--log] [--workers W] [--batch B] [--lazy] [--blocks] [--rotate]`
+-- `twarp run --stop N [--every T] [--log] [--workers W] [--batch B] [--lazy] [--blocks] [--rotate] [--progress] [--stats]`
 abbrev pub run_app : App
-run_app = with_rule (with_rule run_app_by_workers blocks_rule) rotate_rule
+run_app = with_rule (with_rule (with_rule (with_rule run_app_by_workers blocks_rule) rotate_rule) progress_rule) stats_rule
 
 -- `twarp trail --router R --stop S --keep K`
 abbrev pub trail_app : App

@@ -33,14 +33,16 @@ Sets id rows b = IsTrue b ↔ (one_of id rows ≡ Some (codes "true"))
 abbrev pub Says : Option (Text × List Row) → CommandLine → Type 0
 Says None command = ⊥
 Says (Some found) Check = found.0 ≡ codes "check"
-Says (Some found) (Seq stop every log) =
+Says (Some found) (Seq stop every log progress stats) =
     (found.0 ≡ codes "seq") × IsNumberGiven (codes "stop") 1 LATEST found.1 stop
-    × IsNumberIfGiven (codes "every") 1 LATEST found.1 every × Sets (codes "log") found.1 log
-Says (Some found) (Run stop every log workers batch lazy blocks rotate) =
+    × IsNumberIfGiven (codes "every") 1 LATEST found.1 every × Sets (codes "log") found.1 log × Sets (codes "progress") found.1 progress
+    × Sets (codes "stats") found.1 stats
+Says (Some found) (Run stop every log workers batch lazy blocks rotate progress stats) =
     (found.0 ≡ codes "run") × IsNumberGiven (codes "stop") 1 LATEST found.1 stop
     × IsNumberIfGiven (codes "every") 1 LATEST found.1 every × Sets (codes "log") found.1 log
     × IsNumberIfGiven (codes "workers") 1 MOST_WORKERS found.1 workers × IsNumberOr (codes "batch") 1 MOST_BATCH 64 found.1 batch
     × Sets (codes "lazy") found.1 lazy × Sets (codes "blocks") found.1 blocks × Sets (codes "rotate") found.1 rotate
+    × Sets (codes "progress") found.1 progress × Sets (codes "stats") found.1 stats
 Says (Some found) (Trail router stop keep) =
     (found.0 ≡ codes "trail") × IsNumberGiven (codes "router") 0 (MOST_ROUTERS - 1) found.1 router
     × IsNumberGiven (codes "stop") 1 LATEST found.1 stop × IsNumberGiven (codes "keep") 0 LATEST found.1 keep

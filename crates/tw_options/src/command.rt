@@ -3,7 +3,7 @@
 ghost use Rattle.std.specs.Prelude.{IfOk, ◌≡◌, false};
 ghost use Rattle.clap.specs.Words.{app_of, rule_of};
 ghost use Rattle.clap.specs.declared.builder.command.Command.TheViews.{out-Command as fields_of};
-ghost use Rattle.tw_options.specs.App.{check_app, blocks_rule, lazy_rule, log_rule, replay_app, report_app, rotate_rule, run_app, run_app_alone, run_app_by_workers, seq_app, top_app, trail_app, twarp_app, upgrade_app};
+ghost use Rattle.tw_options.specs.App.{check_app, blocks_rule, lazy_rule, log_rule, progress_rule, replay_app, report_app, rotate_rule, run_app, run_app_alone, run_app_by_workers, seq_app, seq_app_alone, stats_rule, top_app, trail_app, twarp_app, upgrade_app};
 
 use crate::help;
 use crate::number::{BATCH, EVERY, KEEP, ROUTER, STOP, THREADS, WORKERS};
@@ -57,6 +57,14 @@ fn seq<'a>(alloc: Global) -> Result<Command<'a>, AllocError>
     ensures app { IfOk result (λ command. app_of command ≡ seq_app) }
     ensures local { IfOk result (λ command. (fields_of command).has_globals ≡ false) }
 {
+    seq_alone(alloc)?.arg(progress(alloc))?.arg(stats(alloc))
+}
+
+/// `seq` with the options that say which run it is, and what of it is reported.
+fn seq_alone<'a>(alloc: Global) -> Result<Command<'a>, AllocError>
+    ensures app { IfOk result (λ command. app_of command ≡ seq_app_alone) }
+    ensures local { IfOk result (λ command. (fields_of command).has_globals ≡ false) }
+{
     Command::new(alloc, "seq")
         .about(help::SEQ)
         .long_about(help::SEQ_LONG)
@@ -72,7 +80,9 @@ fn run<'a>(alloc: Global) -> Result<Command<'a>, AllocError>
 {
     run_by_workers(alloc)?
         .arg(blocks(alloc))?
-        .arg(rotate(alloc))
+        .arg(rotate(alloc))?
+        .arg(progress(alloc))?
+        .arg(stats(alloc))
 }
 
 /// `run` with the options that say how workers go on.
@@ -86,7 +96,7 @@ fn run_by_workers<'a>(alloc: Global) -> Result<Command<'a>, AllocError>
         .arg(lazy(alloc))
 }
 
-/// `run` with the options that it shares with `seq`.
+/// `run` with those options of `seq` that say which run it is, and what of it is reported.
 fn run_alone<'a>(alloc: Global) -> Result<Command<'a>, AllocError>
     ensures app { IfOk result (λ command. app_of command ≡ run_app_alone) }
     ensures local { IfOk result (λ command. (fields_of command).has_globals ≡ false) }
@@ -109,6 +119,7 @@ fn log<'a>(alloc: Global) -> Arg<'a>
         .long("log")
         .action(ArgAction::SetTrue)
         .help("Report each event of the run too")
+        .long_help(help::LOG_LONG)
 }
 
 fn lazy<'a>(alloc: Global) -> Arg<'a>
@@ -139,6 +150,27 @@ fn rotate<'a>(alloc: Global) -> Arg<'a>
         .long("rotate")
         .action(ArgAction::SetTrue)
         .help("Hand every router on to the next worker at each checkpoint of --every")
+}
+
+fn progress<'a>(alloc: Global) -> Arg<'a>
+    ensures rule { rule_of result ≡ progress_rule }
+    ensures local { result.global ≡ false }
+{
+    Arg::new(alloc, "progress")
+        .long("progress")
+        .action(ArgAction::SetTrue)
+        .help("Tell standard error how far the run is, also where it is no terminal")
+        .long_help(help::PROGRESS_LONG)
+}
+
+fn stats<'a>(alloc: Global) -> Arg<'a>
+    ensures rule { rule_of result ≡ stats_rule }
+    ensures local { result.global ≡ false }
+{
+    Arg::new(alloc, "stats")
+        .long("stats")
+        .action(ArgAction::SetTrue)
+        .help("Tell what was counted and how long it took, on standard error")
 }
 
 fn trail<'a>(alloc: Global) -> Result<Command<'a>, AllocError>

@@ -23,6 +23,10 @@ pub enum CommandLine {
         every: Option<u64>,
         /// Whether the report lists the events.
         log: bool,
+        /// Whether standard error is told how far the run is, also where it is no terminal.
+        progress: bool,
+        /// Whether what was counted and how long it took is told behind the report.
+        stats: bool,
     },
     /// The same report, by workers that run ahead of one another.
     Run {
@@ -32,7 +36,7 @@ pub enum CommandLine {
         every: Option<u64>,
         /// Whether the report lists the events.
         log: bool,
-        /// How many workers share the routers, from 1 to 64, each in a thread; `None` where the program is to choose
+        /// How many workers share the routers, from 1 to 64, each that has some in a thread; `None` where the program is to choose
         /// among one and up to 4.
         workers: Option<u32>,
         /// How many events a worker handles at most between two meetings, from 1 to 4,096.
@@ -43,6 +47,10 @@ pub enum CommandLine {
         blocks: bool,
         /// Whether the routers go to the next worker at each checkpoint.
         rotate: bool,
+        /// As of `Seq`.
+        progress: bool,
+        /// As of `Seq`.
+        stats: bool,
     },
     /// One router's events of the run of a case below `stop`, the last ones undone.
     Trail {
@@ -91,6 +99,8 @@ fn seq_of(given: &ArgMatches<'_>) -> CommandLine
         stop: STOP.read(given),
         every: EVERY.read_if_given(given),
         log: is_set(given, "log"),
+        progress: is_set(given, "progress"),
+        stats: is_set(given, "stats"),
     }
 }
 
@@ -108,6 +118,8 @@ fn run_of(given: &ArgMatches<'_>) -> CommandLine
         lazy: is_set(given, "lazy"),
         blocks: is_set(given, "blocks"),
         rotate: is_set(given, "rotate"),
+        progress: is_set(given, "progress"),
+        stats: is_set(given, "stats"),
     }
 }
 

@@ -54,7 +54,8 @@ The report has each router's counters and path at the end of the run, and a verd
   oscillates from A period P  they never will: from time A on the run repeats every P ticks
   open                        neither is known
 
-An oscillation is looked for where --every is given.
+An oscillation is looked for where --every is given. With --stats the run is told in numbers on
+standard error, behind the report: the events, the seconds, and the events a second.
 
 Example:
   twarp seq --stop 20 --every 1 --log < case.txt";
@@ -65,7 +66,7 @@ pub(crate) const RUN_LONG: &str = "\
 Does the same as seq with several threads, and reports the same.
 
 Reads a case text from standard input. With --workers W the routers are dealt out to W workers from
-the first tick to --stop, each in a thread; 1 is one thread, as with seq. Without --workers the
+the first tick to --stop, who run in threads; 1 is one thread, as with seq. Without --workers the
 program chooses among one thread and up to 4 workers, by a clock. A worker handles its routers'
 events below --stop ahead of the others, up to --batch of them at a time; then it meets the others
 at a table, where messages change hands. Where a message comes late, its router rolls back. The
@@ -87,6 +88,9 @@ is the same.
 An oscillation is looked for where --every is given. The workers then come together at
 each checkpoint, so that a small --every makes them wait for one another often.
 
+With --stats the run is told in numbers on standard error, behind the report: who ran it, events
+handled, undone and committed, rollbacks, antimessages, meetings, seconds, and each worker's share.
+
 Example:
   twarp run --stop 20 --workers 2 --log < case.txt";
 
@@ -101,6 +105,22 @@ run repeats for ever: the verdict is `oscillates`, from the earlier checkpoint o
 
 1 finds the least period, up to 64 ticks. A greater number N finds the least period that
 is a multiple of N, up to 64 times N. Without --every the verdict is `quiet` or `open`.";
+
+pub(crate) const PROGRESS_LONG: &str = "\
+Tell standard error how far the run is, also where it is no terminal
+
+Where standard error is a terminal, one line there says so from the first third of a second
+on, at most three times a second, and is gone when the run has ended: the time that the run
+has reached, --stop, how many events it has handled, and how many a second on average so
+far. Elsewhere nothing is said, or, with --progress, a line each time and one at the end.
+Standard output stays the same. `2> /dev/null` keeps the line off a terminal.";
+
+pub(crate) const LOG_LONG: &str = "\
+Report each event of the run too
+
+The report is written once the run has ended. Until then its events are kept in memory: a
+million take 40 megabytes, and 80 where several workers run, since each of them keeps those
+of its routers, and in the end one list has all.";
 
 pub(crate) const TRAIL: &str = "Runs a case, and undoes one router's last events";
 

@@ -71,7 +71,7 @@ pub(crate) const WORKERS: NumberOption = NumberOption {
 };
 
 pub(crate) const THREADS: NumberOption = NumberOption {
-    help: "How many workers share the routers, each in a thread: 1 to 64, or else what is faster, up to 4",
+    help: "How many workers share the routers, in threads: 1 to 64, or else what is faster, up to 4",
     ..WORKERS
 };
 

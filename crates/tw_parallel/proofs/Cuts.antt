@@ -7,7 +7,7 @@ use Rattle.std.specs.Prelude.{replicate}
 use Rattle.tw_core.proofs.Cuts.{cut_at_stop}
 use Rattle.tw_core.proofs.Owners.{of_owner}
 use Rattle.tw_core.specs.Cut.{IsCut}
-use Rattle.tw_core.specs.Machine.{Core}
+use Rattle.tw_core.specs.Machine.{AreCounted, Core, committed}
 use Rattle.tw_core.specs.Parts.{Part}
 use Rattle.tw_event.specs.declared.event.Event.{Event}
 use Rattle.tw_event.specs.Order.{event_before}
@@ -21,12 +21,12 @@ use Rattle.tw_parallel.proofs.Owners.{good_of, law, pending_of}
 use Rattle.tw_parallel.specs.Cut.{AreSharesAt, IsExchangeAt, IsShareAt, StandAt}
 use Rattle.tw_parallel.specs.Hands.{IsEmptyHand}
 use Rattle.tw_parallel.specs.Inside.{IsInside, sim_of}
-use Rattle.tw_parallel.specs.Settled.{IsSettled}
+use Rattle.tw_parallel.specs.Settled.{HasNoRecords, IsSettled}
 use Rattle.tw_parallel.specs.Sim.{AreOf, IsSim, Sim, machine}
 use Rattle.tw_parallel.specs.declared.sim.Sim.TheInside.{Inside}
 use Rattle.tw_rule.proofs.Cuts.{machine_at_cut, none_beyond, rule_at_cut, run_at}
 use Rattle.tw_rule.proofs.Places.{all_at, all_in_map, get_map, total_map}
-use Rattle.tw_rule.proofs.Ruled.{handled_of, owners_once}
+use Rattle.tw_rule.proofs.Ruled.{counted_of_rule, handled_of, owners_once}
 use Rattle.tw_rule.specs.Cut.{AreCutPlaces, IsCutBoard, IsCutPlace}
 use Rattle.tw_rule.specs.Place.{Place, part_of}
 use Rattle.tw_shard.specs.Cut.{IsShardAt}
@@ -43,6 +43,14 @@ use Rattle.tw_sim.specs.Simulation.{Simulation, below, only, times}
 use Rattle.tw_table.proofs.Deals.{long_map}
 use Rattle.tw_table.specs.declared.hand.Hand.{Hand}
 use Rattle.tw_table.specs.Shares.{IsRuled, Share, board_of, place_of, shares_of}
+
+-- all that a router has handled of the run to a time is before it
+run_below : (case : Case) → IsCase case → (r time : ℕ) → below (simulation case) time (own_run case r time) ≡ own_run case r time
+run_below case is r time =
+    let m = simulation case in
+    let law = lawful case is in
+    let run = run_at m law (numbered case is) time in
+    all_below m law time (own_run case r time) (λ e there. run.soon e (in_filter m law (λ x. x.dst == r) e (log m time) there).1)
 
 -- ---- shares at a time
 
@@ -88,6 +96,18 @@ module _ (case : Case) (is : IsCase case) (whose : ℕ → ℕ) (time : ℕ) (ke
         | inr other ↦ (let here : (core 0 t.shard).done r ≡ 0 = rw other refl in omega arith)
       ]
 
+  -- as many events are counted as committed as are committed: all that it has handled
+  counted_at : (k r : ℕ) (t : Share) → IsShareAt case whose time k keeps cancel t → (core 0 t.shard).past r ≡ length (below m ((core 0 t.shard).done r) ((core 0 t.shard).history r))
+  counted_at k r t at =
+      elim (cases_Bool (owns t.shard r)) [
+        | inl own ↦ (
+            let counted : (core 0 t.shard).past r ≡ length (own_run case r time) = rw own (ap (λ (t : Timeline). length t.past) (at.shard.routers r own)) in
+            let same : length (below m ((core 0 t.shard).done r) ((core 0 t.shard).history r)) ≡ length (below m time (own_run case r time))
+            = λ i. length (below m (own_done k r t at own i) (own_history k r t at own i)) in
+            counted ∙ sym (same ∙ ap length (run_below case is r time)))
+        | inr other ↦ rw other refl
+      ]
+
   pending_at : (k : ℕ) (t : Share) → IsShareAt case whose time k keeps cancel t → (e : Event) → times m e t.shard.pending ≡ cond (whose e.dst == k) (times m e (rest m time)) 0
   pending_at k t at e =
       ap (times m e) at.shard.pending
@@ -107,6 +127,7 @@ module _ (case : Case) (is : IsCase case) (whose : ℕ → ℕ) (time : ℕ) (ke
     outgoing = at.shard.outgoing;
     held = at.shard.held;
     done = λ r. done_at k r t at;
+    counted = λ r. counted_at k r t at;
     bound = at.shard.bound;
     mail = at.mail;
     unsent = at.unsent;
@@ -231,14 +252,24 @@ module _ (case : Case) (time : ℕ) (keeps : Bool) (cancel : Cancel) (x : Board)
     held = machine_at.held;
     committed = λ r known.
         let m = simulation case in
-        let law = lawful case at.is_case in
-        let run = run_at m law (numbered case at.is_case) time in
         ap (λ t. below m t ((machine sim).history r)) (all_done r known)
-        ∙ (ap (below m time) (machine_at.history r)
-        ∙ (all_below m law time (only m r (log m time)) (λ e there. run.soon e (in_filter m law (λ x. x.dst == r) e (log m time) there).1) ∙ sym (machine_at.history r)));
+        ∙ (ap (below m time) (machine_at.history r) ∙ (run_below case at.is_case r time ∙ sym (machine_at.history r)));
   }
 
+-- ---- what is committed
+
+-- is what is counted as committed
+pub counted_of : (s : Sim) → IsSim s → AreCounted (simulation s.case) (machine s)
+counted_of s is = counted_of_rule (simulation s.case) (law s is) (who s.board) (board_of s.board) (map place_of s.shares) is.ruled.rule
+
 -- ---- a run that is over
+
+-- all that its routers have handled is committed
+pub no_records : (s : Sim) → IsSim s → IsSettled s → HasNoRecords s
+no_records s is settled r known =
+    let counted = counted_of s is r in
+    let all : length (committed (simulation s.case) (machine s) r) ≡ length ((machine s).history r) = ap length (settled.committed r known) in
+    omega arith
 
 -- its machine stands at a cut
 pub over_is_a_cut : (s : Sim) → IsSim s → IsSettled s → IsCut (simulation s.case) s.board.stop (machine s)

@@ -48,6 +48,7 @@ module _ (case : Case) (is : IsCase case) (n : ℕ) (keeps : Bool) (cancel : Can
     outgoing = ap (λ (C : Core Event). C.flight) (at.core_is 0);
     held = ap (λ (C : Core Event). C.held) (at.core_is 0);
     done = λ r. ap (λ (C : Core Event). C.done r) (at.core_is 0);
+    past = λ r. ap (λ (C : Core Event). C.past r) (at.core_is 0);
     bound = ap (λ (C : Core Event). C.bound) (at.core_is 0);
     mail = λ i. drop (empty.next i) (empty.mail i);
     unsent = empty.out;
@@ -74,14 +75,7 @@ module _ (case : Case) (is : IsCase case) (n : ℕ) (keeps : Bool) (cancel : Can
             (places_open (k + 1) ss hs (later k s ss each) empty.1 (omega arith)),
       )
 
-  -- none of them has committed anything, and each router has the room that it begins with
-  nothing_past : (r k : ℕ) (ss : List Shard) (hs : List Hand) → Begin k ss → length hs ≡ length ss
-      → AllByRecursion (λ (p : Place Event). p.past r ≡ 0) (map place_of (shares_of ss hs))
-  nothing_past r k [] hs each same = tt
-  nothing_past r k (s ∷ ss) [] each same = absurd (omega arith)
-  nothing_past r k (s ∷ ss) (h ∷ hs) each same =
-      (ap (λ (C : Core Event). C.past r) ((first k s ss each).core_is 0), nothing_past r (k + 1) ss hs (later k s ss each) (omega arith))
-
+  -- each of their routers has the room that it begins with
   opening_rooms : (r k : ℕ) (ss : List Shard) (hs : List Hand) → Begin k ss → length hs ≡ length ss
       → AllByRecursion (λ (p : Place Event). p.room r ≡ OPENING_ROOM) (map place_of (shares_of ss hs))
   opening_rooms r k [] hs each same = tt
@@ -135,12 +129,12 @@ module _ {S E : Type 0} (m : Simulation S E) (who : ℕ → ℕ) (stop : ℕ) wh
         | inr other ↦ rw other (none_done r (suc k) ps h.1)
       ]
 
-  none_past : (r : ℕ) (ps : List (Place E)) → AllByRecursion (λ (p : Place E). p.past r ≡ 0) ps → at_owner (λ (C : Core E). C.past r) 0 (map (part_of stop) ps) r ≡ 0
-  none_past r [] h = refl
-  none_past r (p ∷ ps) h =
+  none_past : (r k : ℕ) (ps : List (Place E)) → AreOpeningPlaces m who k ps → at_owner (λ (C : Core E). C.past r) 0 (map (part_of stop) ps) r ≡ 0
+  none_past r k [] h = refl
+  none_past r k (p ∷ ps) h =
       elim (cases_Bool (p.owns r)) [
-        | inl own ↦ rw own h.0
-        | inr other ↦ rw other (none_past r ps h.1)
+        | inl own ↦ rw own (h.0.past r)
+        | inr other ↦ rw other (none_past r (suc k) ps h.1)
       ]
 
   first_room : (r : ℕ) (ps : List (Place E)) → AllByRecursion (λ (p : Place E). p.room r ≡ OPENING_ROOM) ps
@@ -221,7 +215,7 @@ module _ (case : Case) (is : IsCase case) (n : ℕ) (keeps : Bool) (cancel : Can
         flight = λ i. no_mail n i ++ none_flies m (owner n) 0 0 ps new_places i;
         held = none_held m (owner n) 0 0 ps new_places;
         done = λ r. none_done m (owner n) 0 r 0 ps new_places;
-        past = λ r. none_past m (owner n) 0 r ps (nothing_past case is n keeps cancel r 0 ss hs from_zero same);
+        past = λ r. none_past m (owner n) 0 r 0 ps new_places;
         bound = refl;
         room = λ r. first_room m (owner n) 0 r ps (opening_rooms case is n keeps cancel r 0 ss hs from_zero same);
       }

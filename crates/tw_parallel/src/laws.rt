@@ -1,14 +1,14 @@
-//! Laws of a parallel run at a cut of the one-thread run, over its definitions alone. Each function does nothing;
-//! its contract is the law.
+//! Laws of a parallel run, over its definitions alone. Each function does nothing; its contract is the law.
 
 ghost use Rattle.std.specs.Prelude.{ℕ, ◌≡◌, ◌<◌, ◌≤◌, Bool, List, length};
 ghost use Rattle.tw_core.specs.Cut.{IsCut};
+ghost use Rattle.tw_core.specs.Machine.{AreCounted};
 ghost use Rattle.tw_core.specs.Run.{IsAtEnd};
 ghost use Rattle.tw_exchange.specs.Board.{Board};
 ghost use Rattle.tw_model.specs.Case.{Case, simulation};
 ghost use Rattle.tw_model.specs.declared.limits.TheConstants.{LATEST};
 ghost use Rattle.tw_parallel.specs.Cut.{StandAt};
-ghost use Rattle.tw_parallel.specs.Settled.{IsSettled};
+ghost use Rattle.tw_parallel.specs.Settled.{HasNoRecords, IsSettled};
 ghost use Rattle.tw_parallel.specs.Sim.{IsSim, Sim, machine};
 ghost use Rattle.tw_sim.specs.declared.machine.Cancel.{Cancel};
 ghost use Rattle.tw_table.specs.Shares.{IsRuled, Share};
@@ -31,4 +31,12 @@ pub fn at_a_cut()
 pub fn over_is_a_cut()
     ensures cut { (s : Sim) → IsSim s → IsSettled s → IsCut (simulation s.case) s.board.stop (machine s) }
     ensures end { (s : Sim) → IsSim s → IsSettled s → IsAtEnd (simulation s.case) (machine s) }
+{}
+
+/// As many events of a router are counted as committed as are committed, in every parallel run: so a router is
+/// refused to handle for want of room exactly where it has handled as many others as it has room for. And in a
+/// settled run no router has an event that it could still undo.
+pub fn committed_are_counted()
+    ensures counted { (s : Sim) → IsSim s → AreCounted (simulation s.case) (machine s) }
+    ensures settled { (s : Sim) → IsSim s → IsSettled s → HasNoRecords s }
 {}

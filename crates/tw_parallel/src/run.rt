@@ -1,5 +1,5 @@
 //! A parallel run goes on to a stop, with a thread for each worker that has something to do.
-ghost use Rattle.std.specs.Prelude.{◌≡◌, ◌↔◌, ◌<◌, ◌⊎◌, IfErr, IfOk, Some, length};
+ghost use Rattle.std.specs.Prelude.{◌≡◌, ◌↔◌, ◌<◌, ◌⊎◌, IfErr, IfOk, Some, length, true};
 ghost use Rattle.std.specs.Result.{IsErrAnd};
 ghost use Rattle.tw_model.specs.declared.limits.TheConstants.{LATEST};
 ghost use Rattle.tw_parallel.specs.Settled.{IsSettled};
@@ -15,6 +15,7 @@ use std::sync::Wait;
 use std::thread::Threads;
 use tw_table::Table;
 use tw_threads::{EndCause, Gate, run_all};
+use tw_workers::Worker;
 use tw_workers::laws::shares_are_at_work;
 
 /// How the workers of a run work.
@@ -41,7 +42,8 @@ pub struct Ended<'a> {
 /// others have left, so that a gate shall not wait for it.
 ///
 /// Where it ends before, for want of memory or of a thread or at a full counter, the run comes back and can go
-/// on, its bound not lower than it was. Where the stop is refused nothing has changed.
+/// on, its bound not lower than it was; that a thread was refused is told only where all workers were told to take no
+/// further turn. Where the stop is refused nothing has changed.
 pub fn run_until<'a, G: Gate + Sync, R: Threads + Wait + Sync>(
     rt: &R,
     sim: Sim<'a>,
@@ -61,6 +63,7 @@ pub fn run_until<'a, G: Gate + Sync, R: Threads + Wait + Sync>(
     ensures lower { IsErrAnd result (λ e. e.cause ≡ end_cause.StopLower) ↔ ((stop < sim.entry.board.stop) ⊎ (LATEST < stop)) }
     ensures unchanged { IfErr result (λ e. e.cause ≡ end_cause.StopLower → e.sim ≡ sim.entry) }
     ensures full { IfErr result (λ e. e.cause ≡ end_cause.CounterFull → IsFullAhead e.sim.board.stop e.sim.shares) }
+    ensures thread { IfErr result (λ e. e.cause ≡ end_cause.NoThread → e.sim.board.halted ≡ true) }
 {
     let mut sim = sim;
     if sim.raise_stop(stop).is_err() {
@@ -87,6 +90,7 @@ fn run<'a, G: Gate + Sync, R: Threads + Wait + Sync>(
     ensures bound { IfErr result (λ e. e.bound ≡ e.sim.board.bound) }
     ensures lower { IsErrAnd result (λ e. e.cause ≡ end_cause.StopLower) → ⊥ }
     ensures full { IfErr result (λ e. e.cause ≡ end_cause.CounterFull → IsFullAhead e.sim.board.stop e.sim.shares) }
+    ensures thread { IfErr result (λ e. e.cause ≡ end_cause.NoThread → e.sim.board.halted ≡ true) }
 {
     let mut sim = sim;
     for _ in rt.forever() {
@@ -129,6 +133,7 @@ fn run_once<'a, G: Gate + Sync, R: Threads + Wait + Sync>(
     ensures stop { result.0.board.stop ≡ sim.entry.board.stop }
     ensures lower { result.1 ≡ Some end_cause.StopLower → ⊥ }
     ensures full { result.1 ≡ Some end_cause.CounterFull → IsFullAhead result.0.board.stop result.0.shares }
+    ensures thread { result.1 ≡ Some end_cause.NoThread → result.0.board.halted ≡ true }
 {
     let parts = sim.into_parts();
     let Ok(room) = room_for(*parts.shards.allocator(), parts.shards.len()) else {
@@ -156,6 +161,7 @@ fn run_at_table<'a, G: Gate + Sync, R: Threads + Wait + Sync>(
     ensures stop { (sim_of_parts result.0).board.stop ≡ (sim_of_parts parts.entry).board.stop }
     ensures lower { result.1 ≡ Some end_cause.StopLower → ⊥ }
     ensures full { result.1 ≡ Some end_cause.CounterFull → IsFullAhead (sim_of_parts result.0).board.stop (sim_of_parts result.0).shares }
+    ensures thread { result.1 ≡ Some end_cause.NoThread → (sim_of_parts result.0).board.halted ≡ true }
 {
     let Parts {
         case,
@@ -180,6 +186,7 @@ fn run_at_table<'a, G: Gate + Sync, R: Threads + Wait + Sync>(
     shares_are_at_work();
     let workers = workers_of(shards, hands, stop, batch, room.workers);
     let ran = run_all(rt, alloc, table, workers, seats, gate);
+    tell_all(&ran.workers, gate);
     let (shards, hands) = parts_of(ran.workers, room.shards, room.hands);
     let parts = Parts {
         case,
@@ -188,4 +195,11 @@ fn run_at_table<'a, G: Gate + Sync, R: Threads + Wait + Sync>(
         hands,
     };
     (parts, ran.cause)
+}
+
+/// Tells a gate what each of these workers has done, who have left.
+fn tell_all<G: Gate>(workers: &[Worker<'_>], gate: &G) {
+    for worker in workers {
+        worker.tell(gate);
+    }
 }

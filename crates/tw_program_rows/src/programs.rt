@@ -5,7 +5,7 @@ ghost use Rattle.std.specs.Prelude.{◌≡◌, false};
 use crate::devices::{AMPLE, Endless, ShortPage, Tape};
 use crate::texts::{DISAGREE_LOG, DISAGREE_UPGRADED};
 use std::alloc::Global;
-use tw_commands::{Cause, Status, check_io, seq_io, upgrade_io};
+use tw_commands::{Cause, Status, Untold, check_io, seq_io, upgrade_io};
 use tw_rows::texts::{ALONE, DISAGREE};
 
 /// A program, with its options.
@@ -28,7 +28,7 @@ fn run(
 {
     match asked {
         Asked::Check => check_io(alloc, tape, page),
-        Asked::Seq { stop } => seq_io(alloc, tape, page, u64::from(stop), None, true),
+        Asked::Seq { stop } => seq_io(alloc, tape, page, u64::from(stop), None, true, &Untold),
         Asked::Upgrade => upgrade_io(alloc, tape, page),
     }
 }

@@ -2,75 +2,20 @@
 
 ghost use Rattle.std.specs.Prelude.{◌≡◌, false};
 
-use crate::devices::{AMPLE, ShortPage, Tape};
 use crate::events::events;
 use crate::parallel::{committed, sim};
-use crate::texts::DISAGREE_LOG;
 use std::alloc::Global;
 use std::sync::Wait;
 use std::sync::atomic::{AtomicBool, AtomicU64, Ordering};
 use std::thread::{self, Threads};
-use std::time::Clock;
-use tw_commands::{Cause, Status};
 use tw_event::Event;
 use tw_instance::Case;
 use tw_parallel::{EndCause, Ended, Gate, OpenGate, Options, Sim, run_until};
 use tw_rows::cases::case;
 use tw_rows::made::holds_of_made;
 use tw_rows::texts::DISAGREE;
-use tw_run::{Dealing, run_io};
 use tw_sim::Cancel;
 use tw_table::Seat;
-
-/// How `run` to stop 20 by two workers ends on DISAGREE, with the log on this page.
-fn run_by_two<X: Threads + Wait + Sync + Clock>(
-    rt: &X,
-    alloc: Global,
-    page: &mut ShortPage,
-) -> Result<Status, Cause>
-    requires { page.old.failed ≡ false }
-{
-    let mut tape = Tape::new(DISAGREE.as_bytes(), usize::MAX);
-    let dealing = Dealing {
-        blocks: false,
-        rotate: false,
-    };
-    run_io(
-        rt,
-        alloc,
-        &mut tape,
-        page,
-        20,
-        None,
-        true,
-        Some(2),
-        64,
-        Cancel::Aggressive,
-        dealing,
-    )
-}
-
-/// Whether `run` by two workers writes the whole log of DISAGREE. It is run once more where memory or a thread was
-/// refused and it has written nothing.
-fn writes_whole<X: Threads + Wait + Sync + Clock>(rt: &X, alloc: Global) -> bool {
-    for _ in 0..2 {
-        let Ok(mut page) = ShortPage::new(alloc, AMPLE, AMPLE) else {
-            continue;
-        };
-        match run_by_two(rt, alloc, &mut page) {
-            Err(Cause::Memory | Cause::NoThread) if page.bytes().is_empty() => {}
-            ended => {
-                return ended == Ok(Status::Done) && page.bytes() == DISAGREE_LOG.as_bytes();
-            }
-        }
-    }
-    false
-}
-
-#[test]
-fn a_report_refused_once_is_written_whole(rt: HostRuntime) {
-    assert!(rt; writes_whole(&rt, rt.alloc()));
-}
 
 /// Runs on to a stop, once more where memory or a thread was refused.
 pub(crate) fn run_on<'a, X: Threads + Wait + Sync>(

@@ -42,16 +42,29 @@ fn runs_by_its_numbers(alloc: Global) -> bool {
         stop: 20,
         every: None,
         log: true,
+        progress: false,
+        stats: false,
     };
     let every_second = CommandLine::Seq {
         stop: 20,
         every: Some(2),
         log: false,
+        progress: true,
+        stats: true,
     };
     asks_for(alloc, &["twarp", "seq", "--log", "--stop", "20"], logged)
         && asks_for(
             alloc,
-            &["twarp", "seq", "--stop", "20", "--every", "2"],
+            &[
+                "twarp",
+                "seq",
+                "--progress",
+                "--stop",
+                "20",
+                "--stats",
+                "--every",
+                "2",
+            ],
             every_second,
         )
 }
@@ -102,6 +115,8 @@ fn chooses_its_workers(alloc: Global) -> bool {
         lazy: false,
         blocks: false,
         rotate: false,
+        progress: false,
+        stats: false,
     };
     asks_for(alloc, &["twarp", "run", "--stop", "20"], line)
 }
@@ -115,6 +130,8 @@ fn runs_with_all_that_it_may_be_given(alloc: Global) -> bool {
         "--lazy",
         "--blocks",
         "--rotate",
+        "--progress",
+        "--stats",
         "--batch",
         "4096",
         "--workers",
@@ -133,6 +150,8 @@ fn runs_with_all_that_it_may_be_given(alloc: Global) -> bool {
         lazy: true,
         blocks: true,
         rotate: true,
+        progress: true,
+        stats: true,
     };
     asks_for(alloc, &words, line)
 }

@@ -1,7 +1,8 @@
 -- What each call at a place keeps.
-use Rattle.std.proofs.Common.{◌≡◌, ℕ, suc, zero, ◌+◌, ◌<◌, ◌≤◌, true, false, List, [], ◌∷◌, ◌++◌, map, append_assoc, Ok, Some, remove, slice_get, refl, ap, sym, ◌∙◌, subst, inl, inr, arith}
+use Rattle.std.proofs.Common.{◌≡◌, ℕ, suc, zero, ◌+◌, ◌<◌, ◌≤◌, ◌==◌, true, false, List, [], ◌∷◌, ◌++◌, length, map, append_assoc, Ok, Some, remove, slice_get, refl, ap, sym, ◌∙◌, subst, inl, inr, arith}
 use Rattle.std.proofs.lemmas.Bool.{cases_Bool, cases_lt}
 use Rattle.tw_sim.proofs.Counts.{in_head}
+use Rattle.tw_core.proofs.Counted.{commit_counted}
 use Rattle.tw_core.proofs.Counts.{antimessages-append, antimessages-remove, in_flight, messages-append, messages-remove}
 use Rattle.tw_core.proofs.Delivery.{delivered, part_loose}
 use Rattle.tw_core.proofs.Done.{handle_done}
@@ -9,13 +10,14 @@ use Rattle.tw_core.proofs.Own.{own_arrival, own_handle, own_release, own_undoing
 use Rattle.tw_core.proofs.Steps.{keeps_handling, may_handle, release_keeps, undoing_keeps, widen_keeps}
 use Rattle.tw_core.proofs.Wording.{arrival-front}
 use Rattle.tw_core.specs.Good.{IsGoodPart}
-use Rattle.tw_core.specs.Machine.{Core, antimessages, messages, times_loose}
-use Rattle.tw_core.specs.Parts.{IsOwn, KeepsPart}
-use Rattle.tw_core.specs.Steps.{after_arrival, after_delivery, after_handling, after_undoing, antimessage, first_pending, from, handle, message, sent_back, to_send, with_release, with_room, AreUndone, IsRolledBack}
+use Rattle.tw_core.specs.Machine.{AreCounted, Core, antimessages, messages, times_loose}
+use Rattle.tw_core.specs.Parts.{IsOwn, KeepsPart, SameSurplus}
+use Rattle.tw_core.specs.Steps.{after_arrival, after_delivery, after_handling, after_undoing, antimessage, first_pending, from, handle, message, sent_back, to_send, with_commit, with_release, with_room, AreUndone, IsRolledBack}
+use Rattle.tw_rule.proofs.Before.{same_before}
 use Rattle.tw_rule.specs.Board.{times_among}
-use Rattle.tw_rule.specs.Place.{IsPlace, Keeps, Place, core, in_hand, whole, with_core, with_unsent}
+use Rattle.tw_rule.specs.Place.{IsFrom, IsPlace, Keeps, Place, core, in_hand, whole, with_core, with_unsent}
 use Rattle.tw_sim.specs.declared.machine.Signed.{Signed}
-use Rattle.tw_sim.specs.Simulation.{Simulation, IsLawful, state, times}
+use Rattle.tw_sim.specs.Simulation.{Simulation, IsLawful, below, state, times}
 
 -- ---- lists
 
@@ -69,6 +71,15 @@ module _ {S E : Type 0} (m : Simulation S E) where
   own_routers stop p place = record { history = place.history; waiting = λ e h. place.waiting e (omega arith); held = place.held }
 
   module _ (law : IsLawful m) where
+    -- where nothing is committed, what was committed stays, and so it is counted
+    uncommitting : (stop : ℕ) (p q : Place E) → IsPlace m stop p → IsGoodPart m 0 (whole stop q) → ((t : ℕ) → IsFrom m t p → IsFrom m t q) → SameSurplus m (whole 0 p) (whole 0 q)
+        → q.done ≡ p.done → q.past ≡ p.past → AreCounted m (core stop q)
+    uncommitting stop p q place good late surplus done past r =
+        let from : IsFrom m (p.done r) p = λ e loose. (let low = place.done r in let far = place.late e loose in omega arith) in
+        let stays : below m (q.done r) (q.history r) ≡ below m (p.done r) (p.history r) = ap (λ f. below m (f r) (q.history r)) done
+        ∙ sym (same_before m law stop (p.done r) p q place.good good from (late (p.done r) from) surplus (p.done r) (omega arith) r) in
+        ap (λ f. f r) past ∙ (place.counted r ∙ ap length (sym stays))
+
     -- what a call at its routers keeps, while the rest of the hand is on its way
     kept : (stop : ℕ) (p : Place E) (mail : List (Signed E)) (D : Core E) → IsPlace m stop p → ((e : E) → times_among m e mail ≤ times_among m e p.mail) → IsOwn m p.owns D
         → ((t : ℕ) → IsGoodPart m t (whole stop p) → KeepsPart m t (whole stop p) (behind (mail ++ p.unsent) D))
@@ -79,11 +90,13 @@ module _ {S E : Type 0} (m : Simulation S E) where
         let same : behind (mail ++ p.unsent) D ≡ whole stop q = ap (λ s. record (behind (mail ++ p.unsent) D) { stop = s }) first.stop in
         let bound : D.bound ≡ p.bound = first.bound in
         let done : (r : ℕ) → D.done r ≡ p.done r = λ r. ap (λ f. f r) first.done in
+        let still : (t : ℕ) → IsFrom m t p → IsFrom m t q = λ t from. (call t (part_from t (whole stop p) place.good from)).part.late in
+        let good : IsGoodPart m 0 (whole stop q) = subst (IsGoodPart m 0) same first.part in
         record {
           worker = refl;
           owns = refl;
           place = record {
-            good = subst (IsGoodPart m 0) same first.part;
+            good = good;
             history = own.history;
             waiting = λ e h. elim (cases_lt 0 (times m e D.pending + times m e D.kept)) [
               | inl l ↦ own.waiting e l
@@ -91,8 +104,10 @@ module _ {S E : Type 0} (m : Simulation S E) where
             ];
             held = own.held;
             done = λ r. (let old = place.done r in let now = done r in omega arith);
+            late = subst (λ b. IsFrom m b q) (sym bound) (still p.bound place.late);
+            counted = uncommitting stop p q place good still first.surplus first.done first.past;
           };
-          late = λ t from. (call t (part_from t (whole stop p) place.good from)).part.late;
+          late = still;
           surplus = first.surplus;
           done = λ r. (let now = done r in omega arith);
           bound = bound;
@@ -117,6 +132,40 @@ module _ {S E : Type 0} (m : Simulation S E) where
         let made : with_release m (whole stop p) r ≡ behind front D = ap (λ f. record (behind front D) { flight = f }) (append_assoc front p.outgoing (map antimessage (from m r p.held))) in
         kept stop p p.mail D place (λ e. omega arith) (own_release m law p.owns (core stop p) r (own_routers stop p place))
         (λ t good. subst (KeepsPart m t (whole stop p)) made (release_keeps m law t (whole stop p) r good))
+
+    -- a router commits
+    pub keeps_commit : (stop r : ℕ) (p : Place E) → IsPlace m stop p → Keeps m stop p (with_core (with_commit m (core stop p) r) p)
+    keeps_commit stop r p place = record {
+      worker = refl;
+      owns = refl;
+      place = record {
+        good = record {
+          falling = place.good.falling;
+          home = place.good.home;
+          soon = place.good.soon;
+          late = place.good.late;
+          ahead = place.good.ahead;
+          alone = place.good.alone;
+          suit = place.good.suit;
+        };
+        history = place.history;
+        waiting = place.waiting;
+        held = place.held;
+        done = λ q. elim (cases_Bool (q == r)) [
+          | inl same ↦ rw same (omega arith)
+          | inr other ↦ rw other (place.done q)
+        ];
+        late = place.late;
+        counted = commit_counted m law (core stop p) r (place.good.falling r) place.counted;
+      };
+      late = λ t loose. loose;
+      surplus = λ e. refl;
+      done = λ q. elim (cases_Bool (q == r)) [
+        | inl same ↦ rw same (place.done q)
+        | inr other ↦ rw other (omega arith)
+      ];
+      bound = refl;
+    }
 
     -- a router gets more room
     pub keeps_widen : (stop r : ℕ) (p : Place E) → IsPlace m stop p → Keeps m stop p (with_core (with_room m (core stop p) r) p)
@@ -240,6 +289,8 @@ module _ {S E : Type 0} (m : Simulation S E) where
             waiting = place.waiting;
             held = place.held;
             done = place.done;
+            late = λ e h. place.late e (let a = same_messages e in let b = same_antimessages e in omega arith);
+            counted = place.counted;
           };
           late = λ t from e h. from e (let a = same_messages e in let b = same_antimessages e in omega arith);
           surplus = λ e. (let a = same_messages e in let b = same_antimessages e in omega arith);

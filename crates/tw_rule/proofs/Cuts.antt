@@ -12,7 +12,7 @@ use Rattle.tw_core.proofs.Parts.{sent_some, times-flat_map}
 use Rattle.tw_core.proofs.Wording.{total_same, total_scale}
 use Rattle.tw_core.specs.Cut.{IsCut}
 use Rattle.tw_core.specs.Good.{times_there}
-use Rattle.tw_core.specs.Machine.{Core, antimessages, messages}
+use Rattle.tw_core.specs.Machine.{Core, antimessages, messages, times_loose}
 use Rattle.tw_core.specs.Parts.{Part, times_wanted, total}
 use Rattle.tw_rule.proofs.Places.{all_in_map, total_map}
 use Rattle.tw_rule.proofs.Ruled.{owners_once}
@@ -156,6 +156,10 @@ module _ {S E : Type 0} (m : Simulation S E) (law : IsLawful m) where
           let f : antimessages m e p.outgoing ≡ 0 = ap (antimessages m e) new.outgoing in
           omega arith
 
+      -- what is loose is left by the run
+      loose_here : (e : E) → 0 < times_loose m (whole 0 p) e → 0 < times m e v.rest
+      loose_here e h = (waits_here e (let a = none_kept e in let d = none_held e in let b = no_messages e in let c = no_antimessages e in omega arith)).1
+
       place_at_cut : (stop : ℕ) → t ≤ stop → IsPlace m stop p
       place_at_cut stop le = record {
         good = record {
@@ -181,6 +185,8 @@ module _ {S E : Type 0} (m : Simulation S E) (law : IsLawful m) where
             new.owns (m.dst e) (law.receiver e (run.suit.pending e here.1)) ∙ eq-eqb (who (m.dst e)) w here.0;
         held = λ e h. absurd (let a = none_held e in omega arith);
         done = λ r. (let a = new.done r in let b = new.bound in omega arith);
+        late = λ e h. (let a = run.late e (loose_here e h) in let b = new.bound in omega arith);
+        counted = new.counted;
       }
 
       stands_at_cut : (n : ℕ) (x : Board E) → w < n → IsCutBoard n t x → Stands m who x p
@@ -192,7 +198,7 @@ module _ {S E : Type 0} (m : Simulation S E) (law : IsLawful m) where
             owns = λ r k. new.owns r k ∙ ap (λ k. who r == k) (sym new.worker);
             place = place_at_cut x.stop board.stop;
             reported = λ e h. subst (λ o. IsSomeAnd o (λ time. time ≤ m.time e)) (sym told)
-                (run.late e (waits_here e (let a = none_kept e in let d = none_held e in let b = no_messages e in let c = no_antimessages e in omega arith)).1);
+                (run.late e (loose_here e h));
             bound = (let a = new.bound in let b = board.bound in omega arith);
           }
 

@@ -58,6 +58,8 @@ module _ {S E : Type 0} (m : Simulation S E) (who : ℕ → ℕ) where
     waiting = place.waiting;
     held = place.held;
     done = place.done;
+    late = place.late;
+    counted = place.counted;
   }
 
   stands_further : (x : Board E) (stop : ℕ) → x.stop ≤ stop → (p : Place E) → Stands m who x p → Stands m who (record x { stop = stop }) p

@@ -1,20 +1,20 @@
 -- The rule is kept where a router goes from one place to another.
-use Rattle.std.proofs.Common.{◌≡◌, ℕ, suc, zero, ◌+◌, ◌<◌, ◌≤◌, ◌==◌, cond, true, false, List, [], ◌∷◌, ◌++◌, Some, set, slice_get, refl, ap, sym, ◌∙◌, subst, inl, inr, arith}
+use Rattle.std.proofs.Common.{◌≡◌, ℕ, suc, zero, ◌+◌, ◌<◌, ◌≤◌, ◌==◌, cond, true, false, List, [], ◌∷◌, ◌++◌, length, Some, set, slice_get, refl, ap, sym, ◌∙◌, subst, inl, inr, arith}
 use Rattle.std.proofs.lemmas.Bool.{cases_eq, cases_lt, eq-eqb, ne_eqb}
 use Rattle.std.specs.Option.{IsSomeAnd}
 use Rattle.std.specs.Prelude.{IfSome}
 use Rattle.tw_core.proofs.Counts.{antimessages-append, messages-append}
 use Rattle.tw_core.specs.Good.{IsGoodPart, times_there}
-use Rattle.tw_core.specs.Machine.{antimessages, messages, times_handled, times_loose}
+use Rattle.tw_core.specs.Machine.{AreCounted, antimessages, messages, times_handled, times_loose}
 use Rattle.tw_core.specs.Parts.{times_wanted, total}
 use Rattle.tw_rule.proofs.Places.{all_at, each_set, total_set}
 use Rattle.tw_rule.proofs.Visits.{stands_from}
 use Rattle.tw_rule.specs.Board.{Board, IsBoard, report_of, times_among}
 use Rattle.tw_rule.specs.Moving.{HaveGone, IsMoved}
-use Rattle.tw_rule.specs.Place.{IsPlace, Place, in_hand, whole}
+use Rattle.tw_rule.specs.Place.{IsFrom, IsPlace, Place, core, in_hand, whole}
 use Rattle.tw_rule.specs.Rule.{Rule, Stands, is_at}
 use Rattle.tw_sim.proofs.Counts.{in_head}
-use Rattle.tw_sim.specs.Simulation.{Simulation, IsFalling, IsLawful, sent, times}
+use Rattle.tw_sim.specs.Simulation.{Simulation, IsFalling, IsLawful, below, sent, times}
 
 -- a place of a list stays where another is replaced
 pub get_beside : {X : Type 0} (xs : List X) (i j : ℕ) (x y : X) → (i ≡ j → ⊥) → slice_get xs j ≡ Some x → slice_get (set xs i y) j ≡ Some x
@@ -154,8 +154,15 @@ module _ {S E : Type 0} (m : Simulation S E) (law : IsLawful m) where
       suit = λ e h. (let a = handled_from e in let b = loose_from e in good.suit e (omega arith));
     }
 
-    place_from : (stop : ℕ) → IsPlace m stop p → IsPlace m stop p2
-    place_from stop place = record {
+    -- as many are counted as are committed
+    counted_from : (stop : ℕ) → AreCounted m (core stop p) → AreCounted m (core stop p2)
+    counted_from stop counted k = elim (cases_eq k r) [
+      | inl is ↦ ap p2.past is ∙ (moved.past_left ∙ sym (ap (λ i. length (below m (p2.done i) (p2.history i))) is ∙ ap (λ h. length (below m (p2.done r) h)) moved.history_left))
+      | inr ne ↦ moved.past.stays_from k ne ∙ (counted k ∙ sym (λ i. length (below m (moved.done.stays_from k ne i) (moved.history_from k ne i))))
+    ]
+
+    place_from : (stop : ℕ) → IsFrom m x.bound p → IsPlace m stop p → IsPlace m stop p2
+    place_from stop from place = record {
       good = good_from stop place.good;
       history = λ k e h. elim (cases_eq k r) [
         | inl is ↦ (let none : times m e (p2.history k) ≡ 0 = ap (λ i. times m e (p2.history i)) is ∙ ap (times m e) moved.history_left in absurd (omega arith))
@@ -180,6 +187,8 @@ module _ {S E : Type 0} (m : Simulation S E) (law : IsLawful m) where
         | inr ne ↦ (let a = moved.held.stays_from e ne in moved.owns_from (m.src e) ne ∙ place.held e (omega arith))
       ];
       done = moved.done_from;
+      late = λ e h. (let a = loose_from e in let b = from e (omega arith) in let c = moved.bound_from in omega arith);
+      counted = counted_from stop place.counted;
     }
 
     stands_moved_from : Stands m who x p → Stands m later y p2
@@ -189,7 +198,7 @@ module _ {S E : Type 0} (m : Simulation S E) (law : IsLawful m) where
         | inl is ↦ ap p2.owns is ∙ (moved.left ∙ sym (ne_eqb (later k) p2.worker (λ h. other (sym moved.worker_from ∙ (sym h ∙ (ap later is ∙ is_now))))))
         | inr ne ↦ moved.owns_from k ne ∙ (stands.owns k l ∙ (ap (λ w. w == p.worker) (sym (same k ne)) ∙ ap (λ w. later k == w) (sym moved.worker_from)))
       ];
-      place = subst (λ s. IsPlace m s p2) (sym moved.stop) (place_from x.stop stands.place);
+      place = subst (λ s. IsPlace m s p2) (sym moved.stop) (place_from x.stop (stands_from m law who x p board stands) stands.place);
       reported = λ e h. subst (λ o. IsSomeAnd o (λ time. time ≤ m.time e)) (sym (ap (λ w. report_of w y) moved.worker_from ∙ moved.reports p.worker other))
           (stands.reported e (let a = loose_from e in omega arith));
       bound = (let a = moved.bound_from in let b = moved.bound in omega arith);
@@ -296,6 +305,22 @@ module _ {S E : Type 0} (m : Simulation S E) (law : IsLawful m) where
             ];
           }
 
+      late_to : (e : E) → 0 < times_loose m (whole 0 q2) e → x.bound ≤ m.time e
+      late_to e h = elim (cases_lt 0 (times_loose m (whole 0 p) e)) [
+        | inl l ↦ stands_from m law who x p board stands_p e l
+        | inr ge ↦ elim (cases_lt 0 (times_loose m (whole 0 q) e)) [
+          | inl l ↦ stands_from m law who x q board stands_q e l
+          | inr ge2 ↦ (let a = loose_to e in board.late e (omega arith))
+        ]
+      ]
+
+      counted_to : AreCounted m (core x.stop q2)
+      counted_to k = elim (cases_eq k r) [
+        | inl is ↦ ap q2.past is ∙ (moved.past.came ∙ (stands_p.place.counted r
+            ∙ sym (ap (λ i. length (below m (q2.done i) (q2.history i))) is ∙ (λ i. length (below m (moved.done.came i) (moved.history_came i))))))
+        | inr ne ↦ moved.past.stays_to k ne ∙ (stands_q.place.counted k ∙ sym (λ i. length (below m (moved.done.stays_to k ne i) (moved.history_to k ne i))))
+      ]
+
       place_to : IsPlace m x.stop q2
       place_to = record {
         good = good_to;
@@ -317,16 +342,9 @@ module _ {S E : Type 0} (m : Simulation S E) (law : IsLawful m) where
           | inr ne ↦ (let a = moved.held.stays_to e ne in moved.owns_to (m.src e) ne ∙ stands_q.place.held e (omega arith))
         ];
         done = moved.done_to;
+        late = λ e h. (let a = late_to e h in let b = moved.bound_to in omega arith);
+        counted = counted_to;
       }
-
-      late_to : (e : E) → 0 < times_loose m (whole 0 q2) e → x.bound ≤ m.time e
-      late_to e h = elim (cases_lt 0 (times_loose m (whole 0 p) e)) [
-        | inl l ↦ stands_from m law who x p board stands_p e l
-        | inr ge ↦ elim (cases_lt 0 (times_loose m (whole 0 q) e)) [
-          | inl l ↦ stands_from m law who x q board stands_q e l
-          | inr ge2 ↦ (let a = loose_to e in board.late e (omega arith))
-        ]
-      ]
 
       stands_moved_to : Stands m later y q2
       stands_moved_to = record {

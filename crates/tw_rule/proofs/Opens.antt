@@ -8,7 +8,7 @@ use Rattle.tw_rule.specs.Rule.{AreOpeningPlaces, IsOpeningBoard, IsOpeningPlace,
 use Rattle.tw_sim.proofs.Counts.{times-insert_all}
 use Rattle.tw_sim.proofs.Rising.{suit-begin}
 use Rattle.tw_sim.specs.Seq.{begin}
-use Rattle.tw_sim.specs.Simulation.{Simulation, IsLawful}
+use Rattle.tw_sim.specs.Simulation.{Simulation, IsLawful, below}
 
 module _ {S E : Type 0} (m : Simulation S E) (law : IsLawful m) where
   -- a run begins with what opens
@@ -36,6 +36,7 @@ module _ {S E : Type 0} (m : Simulation S E) (law : IsLawful m) where
       outgoing = new.outgoing;
       held = new.held;
       done = λ r. (let zero = new.done r in omega arith);
+      counted = λ r. new.past r ∙ ap (λ h. length (below m (p.done r) h)) (sym (new.history r));
       bound = new.bound;
       mail = new.mail;
       unsent = new.unsent;

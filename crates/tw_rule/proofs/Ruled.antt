@@ -1,6 +1,6 @@
 -- What the rule gives: the machine put together is good.
-use Rattle.std.proofs.Common.{◌≡◌, ℕ, ◌<◌, ◌≤◌, cond, true, List, [], ◌∷◌, ◌++◌, map, Some, flat_map, slice_get, refl, ap, sym, ◌∙◌, subst, inl, inr, arith}
-use Rattle.std.proofs.lemmas.Bool.{cases_eq, eq-eqb, ne_eqb}
+use Rattle.std.proofs.Common.{◌≡◌, ℕ, ◌<◌, ◌≤◌, cond, true, List, [], ◌∷◌, ◌++◌, length, map, Some, flat_map, slice_get, refl, ap, sym, ◌∙◌, subst, inl, inr, arith}
+use Rattle.std.proofs.lemmas.Bool.{cases_Bool, cases_eq, eq-eqb, ne_eqb}
 use Rattle.std.specs.List.{AllByRecursion}
 use Rattle.std.specs.Option.{option_map_or}
 use Rattle.tw_core.proofs.Headline.{at_end, good_is_seq, good_log}
@@ -8,14 +8,14 @@ use Rattle.tw_core.proofs.Owners.{owner_is}
 use Rattle.tw_core.proofs.Parts.{good_assembled}
 use Rattle.tw_core.proofs.Sums.{all_map}
 use Rattle.tw_core.specs.Good.{IsGood, times_there}
-use Rattle.tw_core.specs.Machine.{Core}
+use Rattle.tw_core.specs.Machine.{AreCounted, Core}
 use Rattle.tw_core.specs.Parts.{AddUp, IsPart, Part, at_owner, owner, times_wanted, total}
 use Rattle.tw_core.specs.Run.{IsAtEnd, IsSeq, IsSettled}
 use Rattle.tw_rule.proofs.Calls.{part_from}
 use Rattle.tw_rule.proofs.Places.{all_at, all_in_map, get_map, total_map}
 use Rattle.tw_rule.proofs.Visits.{stands_from}
 use Rattle.tw_rule.specs.Board.{Board, IsBoard}
-use Rattle.tw_rule.specs.Place.{IsRunBefore, Place, in_hand, part_of, whole}
+use Rattle.tw_rule.specs.Place.{IsRunBefore, Place, core, in_hand, part_of, whole}
 use Rattle.tw_rule.specs.Rule.{Rule, Stands, assembled, is_at, owning, shared}
 use Rattle.tw_sim.proofs.Unique.{all_below}
 use Rattle.tw_sim.specs.Seq.{log}
@@ -66,6 +66,21 @@ module _ {S E : Type 0} (m : Simulation S E) (law : IsLawful m) (who : ℕ → �
   -- the machine put together is good
   pub good_of_rule : (x : Board E) (ps : List (Place E)) → Rule m who x ps → IsGood m (assembled x ps)
   good_of_rule x ps rule = good_assembled m law (shared x) (parts x ps) (adds_up x ps rule)
+
+  -- and as many events of its routers are counted as committed as are committed
+  counted_together : (r stop : ℕ) (ps : List (Place E)) → AllByRecursion (λ p. AreCounted m (core stop p)) ps
+      → at_owner (λ (C : Core E). C.past r) 0 (map (part_of stop) ps) r
+      ≡ length (below m (at_owner (λ (C : Core E). C.done r) 0 (map (part_of stop) ps) r) (at_owner (λ (C : Core E). C.history r) [] (map (part_of stop) ps) r))
+  counted_together r stop [] counted = refl
+  counted_together r stop (p ∷ ps) counted =
+      elim (cases_Bool (p.owns r)) [
+        | inl own ↦ rw own (counted.0 r)
+        | inr other ↦ rw other (counted_together r stop ps counted.1)
+      ]
+
+  pub counted_of_rule : (x : Board E) (ps : List (Place E)) → Rule m who x ps → AreCounted m (assembled x ps)
+  counted_of_rule x ps rule r =
+      counted_together r x.stop ps (all_map (Stands m who x) (λ p. AreCounted m (core x.stop p)) (λ p stands. stands.place.counted) ps rule.each)
 
   -- ---- what a place has is what that machine has
 

@@ -1,17 +1,17 @@
 -- The machine of all routers is the same where a router goes from one place to another.
-use Rattle.std.proofs.Common.{◌≡◌, ℕ, suc, zero, ◌+◌, ◌<◌, cond, true, false, List, [], ◌∷◌, ◌++◌, Some, flat_map, map, set, slice_get, refl, ap, sym, ◌∙◌, subst, inl, inr, arith}
+use Rattle.std.proofs.Common.{◌≡◌, ℕ, suc, zero, ◌+◌, ◌<◌, true, false, List, [], ◌∷◌, Some, flat_map, map, set, slice_get, refl, ap, sym, ◌∙◌, inl, inr, arith}
 use Rattle.std.proofs.lemmas.Bool.{cases_Bool, cases_eq, ne_eqb}
 use Rattle.tw_core.proofs.Counts.{antimessages-append, messages-append}
 use Rattle.tw_core.proofs.Parts.{antimessages-flat_map, messages-flat_map, times-flat_map}
 use Rattle.tw_core.specs.declared.limits.TheConstants.{OPENING_ROOM}
-use Rattle.tw_core.specs.Machine.{Core, IsSameMachine, antimessages, messages}
+use Rattle.tw_core.specs.Machine.{IsSameMachine, antimessages, messages}
 use Rattle.tw_core.specs.Parts.{Part, total}
 use Rattle.tw_rule.proofs.Moved.{both, get_beside, hand_minus, hand_plus, minus_both, plus_both, rule_moves}
 use Rattle.tw_rule.proofs.Places.{all_at, total_map, total_set}
 use Rattle.tw_rule.proofs.Ruled.{owners_once, read_of}
 use Rattle.tw_rule.specs.Board.{Board}
 use Rattle.tw_rule.specs.Moving.{HasFollowed, IsMoved}
-use Rattle.tw_rule.specs.Place.{Place, in_hand, part_of, whole}
+use Rattle.tw_rule.specs.Place.{Place, in_hand, part_of}
 use Rattle.tw_rule.specs.Rule.{Rule, Stands, assembled, owning}
 use Rattle.tw_sim.specs.Simulation.{Simulation, IsLawful, times}
 

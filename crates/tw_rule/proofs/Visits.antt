@@ -168,20 +168,6 @@ module _ {S E : Type 0} (m : Simulation S E) (law : IsLawful m) (who : ℕ → �
         ];
       }
 
-      place_after : IsPlace m x.stop z
-      place_after = record {
-        good = good_after;
-        history = keeps.place.history;
-        waiting = λ e h. elim (cases_lt 0 (times_among m e mail)) [
-          | inl l ↦
-              let there = law.receiver e (passed_on e (omega arith)).1 in
-              ap (λ f. f (m.dst e)) keeps.owns ∙ (stands.owns (m.dst e) there ∙ eq-eqb (who (m.dst e)) p.worker (visit.home e l))
-          | inr ge ↦ keeps.place.waiting e (let a = messages-append m e q.mail mail in let b = antimessages-append m e q.mail mail in omega arith)
-        ];
-        held = keeps.place.held;
-        done = λ r. (let old = keeps.place.done r in omega arith);
-      }
-
       reported_after : (e : E) → 0 < times_loose m (whole 0 z) e → IsSomeAnd (report_of p.worker y) (λ time. time ≤ m.time e)
       reported_after e h =
           subst (λ o. IsSomeAnd o (λ time. time ≤ m.time e)) (sym mine)
@@ -198,6 +184,22 @@ module _ {S E : Type 0} (m : Simulation S E) (law : IsLawful m) (who : ℕ → �
                 let none_back : antimessages m e q.outgoing ≡ 0 = ap (antimessages m e) empty in
                 omega arith))
           ])
+
+      place_after : IsPlace m x.stop z
+      place_after = record {
+        good = good_after;
+        history = keeps.place.history;
+        waiting = λ e h. elim (cases_lt 0 (times_among m e mail)) [
+          | inl l ↦
+              let there = law.receiver e (passed_on e (omega arith)).1 in
+              ap (λ f. f (m.dst e)) keeps.owns ∙ (stands.owns (m.dst e) there ∙ eq-eqb (who (m.dst e)) p.worker (visit.home e l))
+          | inr ge ↦ keeps.place.waiting e (let a = messages-append m e q.mail mail in let b = antimessages-append m e q.mail mail in omega arith)
+        ];
+        held = keeps.place.held;
+        done = λ r. (let old = keeps.place.done r in omega arith);
+        late = λ e h. (let after = reported_from y.bound (report_of p.worker y) (m.time e) (board_after.reported p.worker) (reported_after e h) in omega arith);
+        counted = keeps.place.counted;
+      }
 
       pub may_visit : MayGive m who x p y z
       may_visit = record {

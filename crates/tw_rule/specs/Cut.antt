@@ -1,7 +1,8 @@
 -- The board and the places of all workers at a cut of the one-thread run (own, after Chandy, Lamport, Distributed snapshots, 1985).
 use Rattle.std.specs.Prelude.{ℕ, suc, ◌≡◌, ◌<◌, ◌≤◌, ◌==◌, cond, List, [], ◌∷◌, Some, replicate}
+use Rattle.tw_core.specs.Machine.{AreCounted}
 use Rattle.tw_rule.specs.Board.{Board}
-use Rattle.tw_rule.specs.Place.{Place}
+use Rattle.tw_rule.specs.Place.{Place, core}
 use Rattle.tw_sim.specs.Seq.{log, rest}
 use Rattle.tw_sim.specs.Simulation.{Simulation, only, times}
 
@@ -14,7 +15,7 @@ pub record IsCutBoard {E : Type 0} (n t : ℕ) (x : Board E) : Type 0 where
 
 module _ {S E : Type 0} (m : Simulation S E) where
   -- worker w's place, where of those events that are handled it has those of its routers, and of those that are left it has those
-  -- for them, pending; no commit is beyond time t, which is the bound that it knows
+  -- for them, pending; no commit is beyond time t, which is the bound that it knows, and as many are counted as committed as are
   pub record HasOwn (handled left : List E) (who : ℕ → ℕ) (t w : ℕ) (p : Place E) : Type 0 where
     pub worker : p.worker ≡ w
     pub owns : (r : ℕ) → r < m.routers → p.owns r ≡ (who r == w)
@@ -24,6 +25,7 @@ module _ {S E : Type 0} (m : Simulation S E) where
     pub outgoing : p.outgoing ≡ []
     pub held : p.held ≡ []
     pub done : (r : ℕ) → p.done r ≤ t
+    pub counted : AreCounted m (core t p)
     pub bound : p.bound ≡ t
     pub mail : p.mail ≡ []
     pub unsent : p.unsent ≡ []

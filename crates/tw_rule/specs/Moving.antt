@@ -50,8 +50,9 @@ module _ {S E : Type 0} (m : Simulation S E) where
     pub history_came : q2.history r ≡ p.history r
     pub history_from : (k : ℕ) → (k ≡ r → ⊥) → p2.history k ≡ p.history k
     pub history_to : (k : ℕ) → (k ≡ r → ⊥) → q2.history k ≡ q.history k
-    -- what they have committed, and their room
+    -- what they have committed, and their room; at the first one nothing is counted for r
     pub done : HasFollowed r p.done q.done p2.done q2.done
+    pub past_left : p2.past r ≡ 0
     pub past : HasFollowed r p.past q.past p2.past q2.past
     pub room : HasFollowed r p.room q.room p2.room q2.room
     -- with what waits for r, and with what is held that r has sent

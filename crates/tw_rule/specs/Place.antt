@@ -3,7 +3,7 @@ use Rattle.std.specs.Prelude.{ℕ, ◌+◌, ◌≡◌, ◌<◌, ◌≤◌, Bool,
 use Rattle.std.specs.List.{reduce}
 use Rattle.std.specs.Option.{IsSomeAnd}
 use Rattle.tw_core.specs.Good.{IsGoodPart}
-use Rattle.tw_core.specs.Machine.{Core, times_loose}
+use Rattle.tw_core.specs.Machine.{AreCounted, Core, times_loose}
 use Rattle.tw_core.specs.Parts.{Part, SameSurplus}
 use Rattle.tw_rule.specs.Board.{least_report, times_among}
 use Rattle.tw_sim.specs.declared.machine.Cancel.{Cancel}
@@ -91,6 +91,10 @@ module _ {E : Type 0} where
   after_visit mail bound p = record p { mail = p.mail ++ mail; unsent = []; bound = bound }
 
 module _ {S E : Type 0} (m : Simulation S E) where
+  -- nothing loose at a place is before t
+  abbrev pub IsFrom : ℕ → Place E → Type 0
+  IsFrom t p = (e : E) → 0 < times_loose m (whole 0 p) e → t ≤ m.time e
+
   -- what a worker keeps at its place, to this stop
   pub record IsPlace (stop : ℕ) (p : Place E) : Type 0 where
     -- it is good as a part by itself
@@ -101,12 +105,11 @@ module _ {S E : Type 0} (m : Simulation S E) where
     pub waiting : (e : E) → 0 < times m e p.pending + times m e p.kept + times_among m e p.mail → p.owns (m.dst e) ≡ true
     -- nor is anything held here that another sent
     pub held : (e : E) → 0 < times m e p.held → p.owns (m.src e) ≡ true
-    -- no commit was beyond the bound that it knows
+    -- no commit was beyond the bound that it knows, and nothing loose is before that
     pub done : (r : ℕ) → p.done r ≤ p.bound
-
-  -- nothing loose at a place is before t
-  abbrev pub IsFrom : ℕ → Place E → Type 0
-  IsFrom t p = (e : E) → 0 < times_loose m (whole 0 p) e → t ≤ m.time e
+    pub late : IsFrom p.bound p
+    -- as many events of each router are counted as committed as are committed, so that it has room for just so many others as it is told
+    pub counted : AreCounted m (core stop p)
 
   -- before t, the routers of a place have handled what the one-thread run has
   abbrev pub IsRunBefore : ℕ → Place E → Type 0

@@ -94,6 +94,7 @@ module _ {S E : Type 0} (m : Simulation S E) where
     pub outgoing : p.outgoing ≡ []
     pub held : p.held ≡ []
     pub done : (r : ℕ) → p.done r ≡ 0
+    pub past : (r : ℕ) → p.past r ≡ 0
     pub bound : p.bound ≡ 0
     pub mail : p.mail ≡ []
     pub unsent : p.unsent ≡ []

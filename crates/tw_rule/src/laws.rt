@@ -5,7 +5,7 @@ ghost use Rattle.std.specs.Prelude.{ℕ, ◌≡◌, ◌<◌, ◌≤◌, ◌+◌,
 ghost use Rattle.std.specs.List.{AllByRecursion, reduce};
 ghost use Rattle.tw_core.specs.Cut.{IsCut};
 ghost use Rattle.tw_core.specs.Good.{IsGood};
-ghost use Rattle.tw_core.specs.Machine.{Core, IsSameMachine, antimessages, messages};
+ghost use Rattle.tw_core.specs.Machine.{AreCounted, Core, IsSameMachine, antimessages, messages};
 ghost use Rattle.tw_core.specs.Parts.{total};
 ghost use Rattle.tw_core.specs.Run.{IsAtEnd, IsSeq};
 ghost use Rattle.tw_core.specs.Steps.{IsRolledBack, after_arrival, first_pending, handle, with_commit, with_release, with_room};
@@ -56,6 +56,15 @@ pub fn routers_have_owners<S, E>()
         → slice_get ps i ≡ Some p → r < m.routers → p.owns r ≡ true → below m (p.done r) (p.history r) ≡ only m r (log m (p.done r)) }
     ensures before { (m : Simulation S E) → IsLawful m → IsNumbered m → (who : ℕ → ℕ) (x : Board E) (ps : List (Place E)) (i t : ℕ) (p : Place E) → Rule m who x ps
         → slice_get ps i ≡ Some p → t ≤ x.bound → IsRunBefore m t p }
+{}
+
+/// As many events of a router are counted as committed as are committed, at each place and in the machine of
+/// all routers, whatever the workers have done. So a worker's router is refused to handle for want of room
+/// exactly where it has handled as many others as it has room for.
+pub fn committed_are_counted<S, E>()
+    ensures place { (m : Simulation S E) → IsLawful m → (who : ℕ → ℕ) (x : Board E) (ps : List (Place E)) (i : ℕ) (p : Place E) → Rule m who x ps
+        → slice_get ps i ≡ Some p → AreCounted m (core x.stop p) }
+    ensures all { (m : Simulation S E) → IsLawful m → (who : ℕ → ℕ) (x : Board E) (ps : List (Place E)) → Rule m who x ps → AreCounted m (assembled x ps) }
 {}
 
 /// Where there is no mail, every hand is empty, nothing is held and the bound is the stop, the places are

@@ -1,22 +1,27 @@
 -- How a run by workers goes on, and why it stops.
-use Rattle.std.proofs.Common.{◌≡◌, ℕ, ◌≤◌, ◌<◌, true, replicate, refl, sym, subst, ◌∙◌, arith, Result, Ok, Err, Some}
+use Rattle.std.proofs.Common.{◌≡◌, ℕ, ◌≤◌, ◌<◌, List, false, true, true≢false, replicate, refl, slice_get, sym, subst, ◌∙◌, arith, Result, Ok, Err, Some}
 use Rattle.std.specs.Prelude.{IfOk}
-use Rattle.tw_exchange.specs.Board.{workers}
+use Rattle.tw_exchange.specs.Board.{who, workers}
+use Rattle.tw_handlers.specs.Calls.{counter_full}
+use Rattle.tw_handlers.specs.declared.fault.CounterFull.{CounterFull as AFullCounter}
 use Rattle.tw_model.specs.Case.{Case}
+use Rattle.tw_model.specs.declared.memory.OrMemory.{OrMemory}
+use Rattle.tw_model.specs.declared.memory.OrMemory.TheVariants as or_memory
 use Rattle.tw_parallel.proofs.Rounds.{goes_on_both}
 use Rattle.tw_parallel.specs.Settled.{IsSettled}
-use Rattle.tw_parallel.specs.Sim.{GoesOn, HasSameOwners, KeepsEvents, Sim, cancels_of}
-use Rattle.tw_run.proofs.Dealt.{still_dealt}
-use Rattle.tw_run.specs.Dealing.{AreDealt}
+use Rattle.tw_parallel.specs.Sim.{GoesOn, HasSameOwners, Sim, cancels_of}
+use Rattle.tw_run.proofs.Dealt.{dealt_out, goes_on_same, still_dealt}
+use Rattle.tw_run.specs.Dealing.{AreDealt, owners_after}
 use Rattle.tw_run.specs.Ran.{HasCome, HasComeTo, HasStoppedBy, HaveComeAsChosen, IsBy, IsLeftBy, IsRunBy, IsRunByAny, MayStop, MayStopAlone, MayStopBy}
 use Rattle.tw_run.specs.declared.dealing.Dealing.{Dealing as ADealing}
 use Rattle.tw_run.specs.declared.ran.By.{By}
 use Rattle.tw_run.specs.declared.ran.By.TheVariants as by
 use Rattle.tw_run.specs.declared.policy.TheConstants.{MOST_WORKERS_CHOSEN}
-use Rattle.tw_run.specs.Stopped.{HasStopped}
+use Rattle.tw_run.specs.Stopped.{HasStopped, stopped_alone}
 use Rattle.tw_run.specs.declared.cause.Stopped.{Stopped}
 use Rattle.tw_run.specs.declared.cause.Stopped.TheVariants.{Memory, CounterFull, Ended}
 use Rattle.tw_run.specs.declared.run.Asked.{Asked as AnAsked}
+use Rattle.tw_seq.specs.Run.{GetsStuck}
 
 -- what stops a later run stops the one before it
 pub stopped_before : (s t : Sim) (why : Stopped) → GoesOn s t → HasStopped t why → HasStopped s why
@@ -63,44 +68,48 @@ told_stops case asked n Memory many told may = tt
 told_stops case asked n CounterFull many told may = may
 told_stops case asked n (Ended e) many told may = (n, many, told, may)
 
--- ---- workers that are tried
+-- ---- workers that are chosen
 
--- they have come to a time
-pub come_to : (time : ℕ) (case : Case) (asked : AnAsked) (n : ℕ) (s t : Sim) → IsBy case asked n s → (asked.log ≡ true → KeepsEvents s) → GoesOn s t → IsSettled t → t.board.stop ≡ time
-    → AreDealt asked.dealing 0 t → HasComeTo time case asked n t
-come_to time case asked n s t by keeps on settled stop dealt = record {
-  by = by_later case asked n s t by on;
-  settled = settled;
-  stop = stop;
-  dealt = dealt;
-  keeps = λ log. on.keeps (keeps log);
-}
+-- they have come to a later time
+pub come_later : (time : ℕ) (case : Case) (asked : AnAsked) (s t : Sim) → HasComeTo s.board.stop case asked s → GoesOn s t → IsSettled t → t.board.stop ≡ time → AreDealt asked.dealing 0 t
+    → HasComeTo time case asked t
+come_later time case asked s t come on settled stop dealt =
+    let many = on.workers in
+    record {
+      some = (let some = come.some in omega (arith, some, many));
+      few = (let few = come.few in omega (arith, few, many));
+      by = (let by = by_later case asked (workers s.board) s t come.by on in record { of_case = by.of_case; workers = refl; cancels = by.cancels ∙ (λ i. replicate (sym many i) asked.cancel) });
+      settled = settled;
+      stop = stop;
+      dealt = dealt;
+    }
 
 -- and to the stop
-pub come_to_stop : (time : ℕ) (case : Case) (asked : AnAsked) (n : ℕ) (s : Sim) → time ≤ asked.stop → asked.stop ≤ time → HasComeTo time case asked n s → HasCome case asked n s
-come_to_stop time case asked n s early late come = record {
-  by = come.by;
-  settled = come.settled;
-  stop = come.stop ∙ (let same : time ≡ asked.stop = omega (arith, early, late) in same);
-  dealt = (0, come.dealt);
-  keeps = come.keeps;
+pub come_to_stop : (time : ℕ) (case : Case) (asked : AnAsked) (s : Sim) → time ≤ asked.stop → asked.stop ≤ time → asked.log ≡ false → HasComeTo time case asked s → HaveComeAsChosen case asked s
+come_to_stop time case asked s early late log come = (
+  come.few,
+  record {
+    by = come.by;
+    settled = come.settled;
+    stop = come.stop ∙ (let same : time ≡ asked.stop = omega (arith, early, late) in same);
+    dealt = (0, come.dealt);
+    keeps = λ logged. absurd (true≢false (sym logged ∙ log));
+  },
+)
+
+-- as they begin
+pub come_begun : (case : Case) (asked : AnAsked) (s : Sim) (n time : ℕ) (list : List ℕ) → 0 < n → n ≤ MOST_WORKERS_CHOSEN → s.case ≡ case → workers s.board ≡ n → cancels_of s ≡ replicate n asked.cancel → IsSettled s → s.board.stop ≡ time
+    → list ≡ owners_after asked.dealing n case.net.nodes 0 → ((r : ℕ) → r < s.case.net.nodes → slice_get list r ≡ Some (who s.board r)) → HasComeTo time case asked s
+come_begun case asked s n time list some few is many cancels settled stop dealt owners = record {
+  some = omega (arith, some, many);
+  few = omega (arith, few, many);
+  by = record { of_case = is; workers = refl; cancels = cancels ∙ (λ i. replicate (sym many i) asked.cancel) };
+  settled = settled;
+  stop = stop;
+  dealt = dealt_out asked.dealing 0 s s list (goes_on_same s) (dealt ∙ (λ i. owners_after asked.dealing (sym many i) (sym is i).net.nodes 0)) owners;
 }
 
--- those that were tried may be chosen
-pub come_as_chosen : (case : Case) (asked : AnAsked) (n : ℕ) (s t : Sim) → n ≤ MOST_WORKERS_CHOSEN → IsBy case asked n s → HasCome s.case asked (workers s.board) t → HaveComeAsChosen case asked t
-come_as_chosen case asked n s t few by come =
-    let many = come.by.workers in
-    let told = by.workers in (
-      omega (arith, few, many, told),
-      record {
-        by = record {
-          of_case = come.by.of_case ∙ by.of_case;
-          workers = refl;
-          cancels = come.by.cancels ∙ (λ i. replicate (sym many i) asked.cancel);
-        };
-        settled = come.settled;
-        stop = come.stop;
-        dealt = come.dealt;
-        keeps = come.keeps;
-      },
-    )
+-- what stops one thread is told as it is
+pub told_alone : (case : Case) (stop : ℕ) (fault : OrMemory AFullCounter) → (fault ≡ or_memory.Fault counter_full → GetsStuck case stop) → MayStopAlone case stop (stopped_alone fault)
+told_alone case stop (or_memory.Fault full) stuck = stuck refl
+told_alone case stop or_memory.Memory stuck = tt

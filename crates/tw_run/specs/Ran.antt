@@ -9,6 +9,10 @@ use Rattle.tw_parallel.specs.declared.run.Ended.{Ended as AnEnd}
 use Rattle.tw_parallel.specs.Sim.{KeepsEvents, Sim, cancels_of}
 use Rattle.tw_run.specs.Dealing.{AreDealt}
 use Rattle.tw_run.specs.declared.cause.Stopped.{Stopped}
+use Rattle.tw_run.specs.declared.chosen.Come.{Come}
+use Rattle.tw_run.specs.declared.chosen.Come.TheVariants as come
+use Rattle.tw_run.specs.declared.chosen.Tried.{Tried}
+use Rattle.tw_run.specs.declared.chosen.Tried.TheVariants as tried
 use Rattle.tw_run.specs.declared.cause.Stopped.TheVariants.{Memory, CounterFull, Ended}
 use Rattle.tw_run.specs.declared.ran.By.{By}
 use Rattle.tw_run.specs.declared.ran.By.TheVariants.{OneThread, Workers, OneThreadAfter}
@@ -40,13 +44,14 @@ pub record HasCome (case : Case) (asked : AnAsked) (n : ℕ) (s : Sim) : Type 0 
   -- with the events where these are to be logged
   pub keeps : asked.log ≡ true → KeepsEvents s
 
--- or only to an earlier time, dealt out as at the beginning
-pub record HasComeTo (time : ℕ) (case : Case) (asked : AnAsked) (n : ℕ) (s : Sim) : Type 0 where
-  pub by : IsBy case asked n s
+-- or to a time, as many as may be chosen
+pub record HasComeTo (time : ℕ) (case : Case) (asked : AnAsked) (s : Sim) : Type 0 where
+  pub some : 0 < workers s.board
+  pub few : workers s.board ≤ MOST_WORKERS_CHOSEN
+  pub by : IsBy case asked (workers s.board) s
   pub settled : IsSettled s
   pub stop : s.board.stop ≡ time
   pub dealt : AreDealt asked.dealing 0 s
-  pub keeps : asked.log ≡ true → KeepsEvents s
 
 -- or one of which met a full counter
 pub record HasMetFull (case : Case) (asked : AnAsked) (n : ℕ) (s : Sim) : Type 0 where
@@ -68,6 +73,18 @@ IsLeftBy s (OneThreadAfter t) = ⊥
 -- so many at most have come to the stop
 abbrev pub HaveComeAsChosen : Case → AnAsked → Sim → Type 0
 HaveComeAsChosen case asked s = (workers s.board ≤ MOST_WORKERS_CHOSEN) × HasCome case asked (workers s.board) s
+
+-- one thread has come to the stop, or as many workers as may be chosen; or workers have ended before
+abbrev pub IsComeTo : Case → AnAsked → Come → Type 0
+IsComeTo case asked (come.Alone run) = run.run ≡ complete_run case asked.stop
+IsComeTo case asked (come.ByAll s) = HaveComeAsChosen case asked s
+IsComeTo case asked come.Ended = Unit {0}
+
+-- workers that took over at a time have come to the stop; or one thread took over from them, not before that time; or they have ended
+abbrev pub IsTried : Case → AnAsked → ℕ → Tried → Type 0
+IsTried case asked time (tried.Come s) = HaveComeAsChosen case asked s
+IsTried case asked time (tried.Over run alone) = (run.run ≡ complete_run case alone.ticks) × (time ≤ alone.ticks) × (alone.ticks ≤ asked.stop)
+IsTried case asked time tried.Ended = Unit {0}
 
 -- one thread ran to the stop, or as many workers as may be chosen
 abbrev pub IsRunByAny : Case → AnAsked → By → Type 0

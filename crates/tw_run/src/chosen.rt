@@ -1,194 +1,256 @@
 //! A run that is told no number of workers: it begins on one thread, and goes on by several where a clock tells that
-//! these are faster. One thread stands where they were tried, and goes on where they lose, so that it never ends for
-//! want of what several would take.
-ghost use Rattle.std.specs.Prelude.{◌≡◌, ◌≤◌, ◌<◌, IfOk, IfSome, IsErrOf, MatchOption, OnOk};
-ghost use Rattle.tw_exchange.specs.Board.{workers};
+//! these are faster. Both take it over where the other has come to a time with all events before it.
+ghost use Rattle.std.specs.Prelude.{◌≡◌, ◌≤◌, ◌<◌, ℕ, false, IfErr, IfOk, IfSome, IsErrOf};
 ghost use Rattle.tw_handlers.specs.Calls.{counter_full};
 ghost use Rattle.tw_model.specs.declared.limits.TheConstants.{LATEST};
 ghost use Rattle.tw_model.specs.declared.memory.OrMemory.TheVariants as or_memory;
 ghost use Rattle.tw_run.specs.Asked.{IsReady};
-ghost use Rattle.tw_parallel.specs.Settled.{IsSettled};
-ghost use Rattle.tw_parallel.specs.Sim.{GoesOn};
-ghost use Rattle.tw_run.specs.Dealing.{AreDealt};
-ghost use Rattle.tw_run.specs.Ran.{HasCome, HasComeTo, HaveComeAsChosen};
-ghost use Rattle.tw_seq.specs.Run.{GetsStuck, complete_run, opening_run};
+ghost use Rattle.tw_run.specs.Ran.{HasComeTo, IsComeTo, IsTried, MayStopAlone};
+ghost use Rattle.tw_seq.specs.Run.{GetsStuck, complete_run};
 
-use crate::dealing::open_dealt;
-use crate::policy::{Beginning, Course, MOST_WORKERS_CHOSEN};
+use crate::cause::Stopped;
+use crate::dealing::owners;
+use crate::policy::{Alone, Course, MOST_WORKERS_CHOSEN};
 use crate::run::Asked;
-use crate::segments::run_to;
+use crate::segments::{handled_by, run_to};
 use std::alloc::Global;
 use std::sync::Wait;
 use std::thread::Threads;
 use std::time::Clock;
+use tw_commands::{Progress, Stages};
 use tw_instance::Case;
 use tw_model::OrMemory;
-use tw_parallel::Sim;
-use tw_seq::{CounterFull, Running};
+use tw_parallel::{Gate, Sim};
+use tw_seq::{CounterFull, Running, TracedRun};
 
-/// A one-thread run that is at its beginning comes to the stop; or, in its place, the run by several workers that is
-/// answered.
-pub(crate) fn run_to_stop<'a, X: Threads + Wait + Sync + Clock, R: Running>(
+/// Tells how far a run is on its way to a stop, in ticks.
+#[derive(Drop)]
+struct Teller<'o, O> {
+    observer: &'o O,
+    stop: u64,
+    due: u64,
+}
+
+impl<O: Progress> Teller<'_, O> {
+    /// Whether it is to be told that the run has come to a time, in ticks.
+    fn is_due(&self, time: u64) -> bool {
+        self.due <= time
+    }
+
+    /// The run has come to a time, in ticks, and handled so many events.
+    fn tell(&mut self, time: u64, events: u64) {
+        let ticks = self.observer.reached(time, self.stop, events);
+        self.due = time.saturating_add(ticks);
+    }
+}
+
+/// A run that has come to its stop.
+#[derive(Drop)]
+pub(crate) enum Come<'a> {
+    /// On one thread.
+    Alone(TracedRun<'a>),
+    /// By several workers.
+    ByAll(Sim<'a>),
+    /// It has not: workers ended before.
+    Ended,
+}
+
+/// What became of workers that were tried.
+#[derive(Drop)]
+enum Tried<'a> {
+    /// They have come to the stop.
+    Come(Sim<'a>),
+    /// One thread goes on from where they have come.
+    Over(TracedRun<'a>, Alone),
+    /// They ended before their stop.
+    Ended,
+}
+
+/// Runs a case to the stop on one thread, or by several workers while these are faster.
+pub(crate) fn run_to_stop<'a, X: Threads + Wait + Sync + Clock, O: Progress + Stages + Gate + Sync>(
     rt: &X,
     alloc: Global,
     case: &'a Case,
-    run: &mut R,
     asked: Asked,
-) -> Result<Option<Sim<'a>>, OrMemory<CounterFull>>
+    observer: &O,
+) -> Result<Come<'a>, Stopped<'a>>
     requires ready { IsReady asked }
-    requires opening { R.run run.old ≡ opening_run case.now }
-    ensures ok { IfOk result (λ left. MatchOption left (R.run run.new ≡ complete_run case.now asked.stop) (HaveComeAsChosen case.now asked)) }
-    ensures full { IsErrOf result (or_memory.Fault counter_full) → GetsStuck case.now asked.stop }
+    requires log { asked.log ≡ false }
+    ensures come { IfOk result (λ come. IsComeTo case.now asked come) }
+    ensures stopped { IfErr result (λ why. MayStopAlone case.now asked.stop why) }
 {
-    let begun = begin_alone(rt, run, asked.stop)?;
-    if begun.is_worth_a_trial(asked.stop) {
-        if let Some(sim) = run_by_all(rt, alloc, case, asked, begun) {
-            return Ok(Some(sim));
+    let mut run = TracedRun::new(alloc, case, false)?;
+    let mut alone = Alone::new();
+    let mut teller = Teller {
+        observer,
+        stop: asked.stop,
+        due: 0,
+    };
+    while alone.ticks < asked.stop {
+        alone = go_on_alone(rt, &mut run, asked.stop, alone, &mut teller)?;
+        if alone.ticks < asked.stop {
+            match try_all(rt, alloc, run, asked, alone, &mut teller) {
+                Tried::Come(sim) => return Ok(Come::ByAll(sim)),
+                Tried::Over(later, from) => {
+                    run = later;
+                    alone = from;
+                }
+                Tried::Ended => return Ok(Come::Ended),
+            }
         }
     }
     run.run_to(asked.stop)?;
-    Ok(None)
+    teller.tell(asked.stop, run.count_events());
+    Ok(Come::Alone(run))
 }
 
-/// A run goes on for some milliseconds on one thread.
-fn begin_alone<X: Clock, R: Running>(
+/// A run goes on by one thread, lap by lap, until several workers are to be tried; or to the stop.
+fn go_on_alone<X: Clock, O: Progress + Stages>(
     clock: &X,
-    run: &mut R,
+    run: &mut TracedRun<'_>,
     stop: u64,
-) -> Result<Beginning, OrMemory<CounterFull>>
-    requires opening { R.run run.old ≡ opening_run (R.run run.old).case }
-    requires stop { stop ≤ LATEST }
-    ensures case { (R.run run.new).case ≡ (R.run run.old).case }
-    ensures within { OnOk result ((R.run run.new).stop ≤ stop) }
-    ensures ticks { IfOk result (λ begun. begun.now.ticks ≤ stop) }
-    ensures first { IfOk result (λ begun. begun.first.ticks ≤ begun.now.ticks) }
-    ensures full { IsErrOf result (or_memory.Fault counter_full) → GetsStuck (R.run run.old).case stop }
+    alone: Alone,
+    teller: &mut Teller<'_, O>,
+) -> Result<Alone, OrMemory<CounterFull>>
+    requires begun { run.old.run.stop ≤ alone.ticks }
+    requires before { alone.ticks < stop }
+    requires latest { stop ≤ LATEST }
+    ensures run { IfOk result (λ later. run.new.run ≡ complete_run run.old.run.case later.ticks) }
+    ensures further { IfOk result (λ later. alone.ticks < later.ticks) }
+    ensures within { IfOk result (λ later. later.ticks ≤ stop) }
+    ensures full { IsErrOf result (or_memory.Fault counter_full) → GetsStuck run.old.run.case stop }
 {
-    let mut begun = Beginning::new();
+    teller.observer.goes_alone();
+    let mut now = go_on_to(clock, run, alone.next_end(stop), alone)?;
+    while now.ticks < stop && !now.is_trial_due(stop) {
+        if teller.is_due(now.ticks) {
+            teller.tell(now.ticks, run.count_events());
+        }
+        now = go_on_to(clock, run, now.next_end(stop), now)?;
+    }
+    Ok(now)
+}
+
+/// A run goes on by one thread to a time, in ticks.
+fn go_on_to<X: Clock>(
+    clock: &X,
+    run: &mut TracedRun<'_>,
+    end: u64,
+    alone: Alone,
+) -> Result<Alone, OrMemory<CounterFull>>
+    requires begun { run.old.run.stop ≤ end }
+    requires latest { end ≤ LATEST }
+    ensures run { IfOk result (λ _. run.new.run ≡ complete_run run.old.run.case end) }
+    ensures ticks { IfOk result (λ later. later.ticks ≡ end) }
+    ensures full { (stop : ℕ) → end ≤ stop → IsErrOf result (or_memory.Fault counter_full) → GetsStuck run.old.run.case stop }
+{
     let start = micros(clock);
-    while let Some(end) = begun.next_end(stop) {
-        run.run_to(end)?;
-        begun = begun.lap(end, micros(clock).saturating_sub(start));
-    }
-    Ok(begun)
+    run.run_to(end)?;
+    Ok(alone.lap(end, micros(clock).saturating_sub(start)))
 }
 
-/// Several workers run the case from its beginning, and go on to the stop, if they are faster than one thread was so
-/// far. It is none where they are slower, or ended before.
-fn run_by_all<'a, X: Threads + Wait + Sync + Clock>(
+/// Several workers take over a run that one thread has brought so far. They go on to the stop, or to where one thread is
+/// faster.
+fn try_all<'a, X: Threads + Wait + Sync + Clock, O: Progress + Stages + Gate + Sync>(
     rt: &X,
     alloc: Global,
-    case: &'a Case,
+    run: TracedRun<'a>,
     asked: Asked,
-    begun: Beginning,
-) -> Option<Sim<'a>>
+    alone: Alone,
+    teller: &mut Teller<'_, O>,
+) -> Tried<'a>
     requires ready { IsReady asked }
-    requires ticks { begun.now.ticks ≤ asked.stop }
-    requires first { begun.first.ticks ≤ begun.now.ticks }
-    ensures { IfSome result (λ sim. HaveComeAsChosen case.now asked sim) }
+    requires log { asked.log ≡ false }
+    requires complete { run.run ≡ complete_run run.run.case alone.ticks }
+    requires within { alone.ticks ≤ asked.stop }
+    ensures { IsTried run.entry.run.case asked alone.ticks result }
 {
-    let workers = case.instance().nodes().clamp(1, MOST_WORKERS_CHOSEN);
-    let Some((sim, course)) = try_all(rt, alloc, case, asked, begun, workers) else {
-        return None;
+    let start = micros(rt);
+    let sim = match open_all(alloc, run, asked) {
+        Ok(sim) => sim,
+        Err(run) => return Tried::Over(run, alone.again()),
     };
-    go_on_by_all(rt, alloc, sim, asked, course)
+    let events = handled_by(&sim);
+    let Some((sim, starting)) = go_on(rt, alloc, sim, asked, alone.ticks, teller.observer) else {
+        return Tried::Ended;
+    };
+    let opening = micros(rt).saturating_sub(start);
+    let course = Course::new(alone, events, opening, starting);
+    go_on_by_all(rt, alloc, sim, asked, course, teller)
 }
 
-/// So many workers run the case to where one thread has come, if they are faster than it was.
-fn try_all<'a, X: Threads + Wait + Sync + Clock>(
-    rt: &X,
-    alloc: Global,
-    case: &'a Case,
-    asked: Asked,
-    begun: Beginning,
-    workers: u32,
-) -> Option<(Sim<'a>, Course)>
-    requires ready { IsReady asked }
-    requires some { 0 < workers }
-    requires ticks { begun.now.ticks ≤ asked.stop }
-    requires first { begun.first.ticks ≤ begun.now.ticks }
-    ensures ticks { IfSome result (λ tried. tried.1.ticks ≤ asked.stop) }
-    ensures tried { IfSome result (λ tried. HasComeTo tried.1.ticks case.now asked workers tried.0) }
+/// Several workers take over a run on one thread, if there is memory for that.
+fn open_all<'a>(alloc: Global, run: TracedRun<'a>, asked: Asked) -> Result<Sim<'a>, TracedRun<'a>>
+    requires log { asked.log ≡ false }
+    requires complete { run.run ≡ complete_run run.run.case run.run.stop }
+    ensures ok { IfOk result (λ sim. HasComeTo run.entry.run.stop run.entry.run.case asked sim) }
+    ensures err { IfErr result (λ same. same ≡ run.entry) }
 {
-    let Ok(sim) = open_dealt(alloc, case, workers, asked.log, asked.cancel, asked.dealing) else {
-        return None;
+    let nodes = run.run().case().instance().nodes();
+    let workers = nodes.clamp(1, MOST_WORKERS_CHOSEN);
+    let Ok(owners) = owners(alloc, asked.dealing, workers, nodes, 0) else {
+        return Err(run);
     };
-    let Some((sim, took)) = go_on(rt, alloc, sim, asked, begun.first.ticks) else {
-        return None;
-    };
-    if begun.is_hopeless(took) {
-        return None;
+    match Sim::of_run(alloc, run, workers, &owners, asked.cancel) {
+        Ok(sim) => Ok(sim),
+        Err(still) => Err(still.run),
     }
-    let Some((sim, took)) = go_on(rt, alloc, sim, asked, begun.now.ticks) else {
-        return None;
-    };
-    if !begun.is_won(took) {
-        return None;
-    }
-    let course = begun.course(handled_by(&sim));
-    Some((sim, course))
 }
 
-/// Workers go on to the stop, unless one thread would come there sooner.
-fn go_on_by_all<'a, X: Threads + Wait + Sync + Clock>(
+/// Workers go on to the stop, or to where one thread is faster.
+fn go_on_by_all<'a, X: Threads + Wait + Sync + Clock, O: Progress + Stages + Gate + Sync>(
     rt: &X,
     alloc: Global,
     sim: Sim<'a>,
     asked: Asked,
     course: Course,
-) -> Option<Sim<'a>>
+    teller: &mut Teller<'_, O>,
+) -> Tried<'a>
     requires ready { IsReady asked }
-    requires some { 0 < workers sim.board }
-    requires tried { HasComeTo course.ticks sim.case asked (workers sim.board) sim }
-    requires ticks { course.ticks ≤ asked.stop }
-    ensures { IfSome result (λ later. HasCome sim.entry.case asked (workers sim.entry.board) later) }
+    requires log { asked.log ≡ false }
+    requires come { HasComeTo course.ticks sim.case asked sim }
+    requires within { course.ticks ≤ asked.stop }
+    ensures { IsTried sim.entry.case asked course.ticks result }
 {
     let mut course = course;
     let mut run = sim;
     while let Some(end) = course.next_end(asked.stop) {
-        let Some((next, took)) = go_on(rt, alloc, run, asked, end) else {
-            return None;
+        if course.is_over() {
+            match run.into_run() {
+                Ok(alone) => return Tried::Over(alone, course.go_on_alone()),
+                Err(still) => run = still.sim,
+            }
+        }
+        let Some((next, took)) = go_on(rt, alloc, run, asked, end, teller.observer) else {
+            return Tried::Ended;
         };
         run = next;
-        course = course.stretch(end, handled_by(&run), took);
-        if course.is_better_alone(asked.stop) {
-            return None;
-        }
+        let events = handled_by(&run);
+        teller.tell(end, events);
+        course = course.stretch(end, events, took);
     }
-    Some(run)
+    Tried::Come(run)
 }
 
 /// Workers go on to a time, in ticks; in how many microseconds.
-fn go_on<'a, X: Threads + Wait + Sync + Clock>(
+fn go_on<'a, X: Threads + Wait + Sync + Clock, O: Stages + Gate + Sync>(
     rt: &X,
     alloc: Global,
     sim: Sim<'a>,
     asked: Asked,
     end: u64,
+    observer: &O,
 ) -> Option<(Sim<'a>, u64)>
-    requires some { 0 < workers sim.board }
-    requires dealt { AreDealt asked.dealing 0 sim }
+    requires come { HasComeTo sim.board.stop sim.case asked sim }
     requires end { sim.board.stop ≤ end }
     requires latest { end ≤ LATEST }
-    ensures settled { IfSome result (λ later. IsSettled later.0) }
-    ensures goes_on { IfSome result (λ later. GoesOn sim.entry later.0) }
-    ensures stop { IfSome result (λ later. later.0.board.stop ≡ end) }
-    ensures dealt { IfSome result (λ later. AreDealt asked.dealing 0 later.0) }
+    ensures { IfSome result (λ later. HasComeTo end sim.entry.case asked later.0) }
 {
     let start = micros(rt);
-    let Ok(sim) = run_to(rt, alloc, sim, asked.dealing, 0, end, asked.batch) else {
+    let Ok(sim) = run_to(rt, alloc, sim, asked.dealing, 0, end, asked.batch, observer) else {
         return None;
     };
     Some((sim, micros(rt).saturating_sub(start)))
-}
-
-/// How many events the workers of a run have handled.
-fn handled_by(sim: &Sim<'_>) -> u64 {
-    let mut events: u64 = 0;
-    for router in 0..sim.case().instance().nodes() {
-        events = events.saturating_add(sim.router(router).counters().handled);
-    }
-    events
 }
 
 /// What a clock shows, in microseconds; a clock that cannot be read stands still.

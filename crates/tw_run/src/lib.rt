@@ -22,4 +22,7 @@ mod segments;
 
 pub use dealing::Dealing;
 pub use run::run_io;
-pub use tw_commands::{Cause, Status};
+pub use tw_commands::{Cause, Stages, Status};
+pub use tw_parallel::Gate;
+pub use tw_shard::Tally;
+pub use tw_table::Seat;

@@ -10,22 +10,21 @@ ghost use Rattle.tw_run.specs.declared.ran.By.TheVariants as by;
 ghost use Rattle.tw_seq.specs.Run.{GetsStuck};
 
 use crate::cause::Stopped;
-use crate::chosen::run_to_stop;
+use crate::chosen::{Come, run_to_stop};
 use crate::dealing::{Dealing, open_dealt};
 use crate::ran::{By, Ran, left_alone, left_by};
-use crate::segments::run_through;
+use crate::segments::{handled_by, run_through};
 use std::alloc::Global;
 use std::snapshot::Snapshot;
 use std::sync::Wait;
 use std::thread::Threads;
 use std::time::Clock;
-use tw_commands::{Cause, Status, hand_back, refuse, run_on_one_thread};
+use tw_commands::{Cause, Progress, Stages, Status, hand_back, refuse, run_on_one_thread};
 use tw_device::{Sink, Source, read_all};
 use tw_instance::Case;
 use tw_model::OrMemory;
-use tw_parallel::{EndCause, Ended};
+use tw_parallel::{EndCause, Ended, Gate};
 use tw_report::write_report;
-use tw_seq::{LoggedRun, OneThread};
 use tw_shape::Verdict;
 use tw_sim::Cancel;
 use tw_text::read_case;
@@ -45,12 +44,18 @@ pub(crate) struct Asked {
 /// Reads a case, runs it to the stop, in ticks, and writes what `seq_io` writes: the report of the one-thread run, or
 /// where and why the text is refused.
 ///
-/// Where a number of workers is told, one at least, that many run the case from its first tick to the stop, each of
-/// them in a thread; one worker has nobody to meet, and is one thread that runs it as `seq_io` does. Where none is told,
+/// Where a number of workers is told, one at least, that many run the case from its first tick to the stop, each that
+/// has routers or messages in a thread; one worker has nobody to meet, and is one thread that runs it as `seq_io` does. Where none is told,
 /// one thread begins, and up to four workers go on where a clock tells that they are faster. A worker handles at most `batch` events between two meetings with the others, and what an undone event has
 /// sent is taken back at once, or as late as may be. Neither the two numbers nor this, nor which worker has
-/// which router, shows in what is written. With `every` the workers come together at checkpoints.
-pub fn run_io<X: Threads + Wait + Sync + Clock, R: Source, W: Sink>(
+/// which router, shows in what is written. With `every` the workers come together at checkpoints, and where `observer`
+/// asks for it, between them.
+pub fn run_io<
+    X: Threads + Wait + Sync + Clock,
+    R: Source,
+    W: Sink,
+    O: Progress + Stages + Gate + Sync,
+>(
     rt: &X,
     alloc: Global,
     source: &mut R,
@@ -62,6 +67,7 @@ pub fn run_io<X: Threads + Wait + Sync + Clock, R: Source, W: Sink>(
     batch: u32,
     cancel: Cancel,
     dealing: Dealing,
+    observer: &O,
 ) -> Result<Status, Cause>
     requires source { R.failed source.old ≡ false }
     requires sink { W.failed sink.old ≡ false }
@@ -83,17 +89,18 @@ pub fn run_io<X: Threads + Wait + Sync + Clock, R: Source, W: Sink>(
         cancel,
         dealing,
     };
-    let ended = answer_text(rt, alloc, &text, asked, sink);
+    let ended = answer_text(rt, alloc, &text, asked, sink, observer);
     hand_back(source, text, &ended);
     ended
 }
 
-fn answer_text<X: Threads + Wait + Sync + Clock, W: Sink>(
+fn answer_text<X: Threads + Wait + Sync + Clock, W: Sink, O: Progress + Stages + Gate + Sync>(
     rt: &X,
     alloc: Global,
     text: &[u8],
     asked: Asked,
     sink: &mut W,
+    observer: &O,
 ) -> Result<Status, Cause>
     requires open { W.failed sink.old ≡ false }
     requires ready { IsReady asked }
@@ -101,27 +108,34 @@ fn answer_text<X: Threads + Wait + Sync + Clock, W: Sink>(
         (W.written sink.old) (W.written sink.new) (W.failed sink.new) }
 {
     match read_case(alloc, text) {
-        Ok(case) => answer_case(rt, alloc, &case, asked, sink),
+        Ok(case) => answer_case(rt, alloc, &case, asked, sink, observer),
         Err(OrMemory::Fault(fault)) => refuse(sink, fault),
         Err(OrMemory::Memory) => Err(Cause::Memory),
     }
 }
 
 /// Runs a case and writes the report.
-fn answer_case<X: Threads + Wait + Sync + Clock, W: Sink>(
+fn answer_case<X: Threads + Wait + Sync + Clock, W: Sink, O: Progress + Stages + Gate + Sync>(
     rt: &X,
     alloc: Global,
     case: &Case,
     asked: Asked,
     sink: &mut W,
+    observer: &O,
 ) -> Result<Status, Cause>
     requires open { W.failed sink.old ≡ false }
     requires ready { IsReady asked }
     ensures { LeavesThreaded result (seq_report asked.stop asked.every asked.log case.now) (GetsStuck case.now asked.stop)
         (W.written sink.old) (W.written sink.new) (W.failed sink.new) }
 {
-    match run_case(rt, alloc, case, asked) {
-        Ok(ran) => write_left(sink, case, &ran, asked),
+    observer.has_read();
+    let ran = run_case(rt, alloc, case, asked, observer);
+    observer.ended();
+    match ran {
+        Ok(ran) => {
+            observer.has_run(&ran.outcome);
+            write_left(sink, case, &ran, asked)
+        }
         Err(why) => Err(why.cause()),
     }
 }
@@ -145,11 +159,12 @@ fn write_left<W: Sink>(
 
 /// Runs a case to the stop: by as many workers as were told, where that is more than one, since one worker has nobody to
 /// meet, and is one thread. Where none were told, the program chooses.
-fn run_case<'a, X: Threads + Wait + Sync + Clock>(
+fn run_case<'a, X: Threads + Wait + Sync + Clock, O: Progress + Stages + Gate + Sync>(
     rt: &X,
     alloc: Global,
     case: &'a Case,
     asked: Asked,
+    observer: &O,
 ) -> Result<Ran<'a>, Stopped<'a>>
     requires ready { IsReady asked }
     ensures ran { IfOk result (λ ran. IsRunOf case.now asked ran) }
@@ -158,83 +173,47 @@ fn run_case<'a, X: Threads + Wait + Sync + Clock>(
     ensures stopped { IfErr result (λ why. MayStop case.now asked why) }
 {
     match asked.workers {
-        None => run_chosen(rt, alloc, case, asked),
-        Some(workers) if workers > 1 => run_by_all(rt, alloc, case, asked, workers),
-        Some(_) => run_alone(alloc, case, asked),
+        None => run_chosen(rt, alloc, case, asked, observer),
+        Some(workers) if workers > 1 => run_by_all(rt, alloc, case, asked, workers, observer),
+        Some(_) => run_alone(alloc, case, asked, observer),
     }
 }
 
-/// Runs a case to the stop by one thread or by several workers, as its policy chooses; with checkpoints by one thread.
-fn run_chosen<'a, X: Threads + Wait + Sync + Clock>(
+/// Runs a case to the stop by one thread or by several workers, as its policy chooses; by one thread where checkpoints or
+/// the events are asked for, since a check of shapes, or writing events, takes longer than what workers could spare.
+fn run_chosen<'a, X: Threads + Wait + Sync + Clock, O: Progress + Stages + Gate + Sync>(
     rt: &X,
     alloc: Global,
     case: &'a Case,
     asked: Asked,
+    observer: &O,
 ) -> Result<Ran<'a>, Stopped<'a>>
     requires ready { IsReady asked }
     ensures ran { IfOk result (λ ran. IsRunOf case.now asked ran) }
     ensures by { IfOk result (λ ran. IsRunByAny case.now asked ran.by) }
     ensures stopped { IfErr result (λ why. MayStopAlone case.now asked.stop why) }
 {
-    if asked.every.is_some() {
-        return run_alone(alloc, case, asked);
+    if asked.every.is_some() || asked.log {
+        return run_alone(alloc, case, asked, observer);
     }
-    if asked.log {
-        run_logged(rt, alloc, case, asked)
-    } else {
-        run_unlogged(rt, alloc, case, asked)
-    }
-}
-
-/// The same where the events are to be logged.
-fn run_logged<'a, X: Threads + Wait + Sync + Clock>(
-    rt: &X,
-    alloc: Global,
-    case: &'a Case,
-    asked: Asked,
-) -> Result<Ran<'a>, Stopped<'a>>
-    requires ready { IsReady asked }
-    requires straight { asked.every ≡ None }
-    requires log { asked.log ≡ true }
-    ensures ran { IfOk result (λ ran. IsRunOf case.now asked ran) }
-    ensures by { IfOk result (λ ran. IsRunByAny case.now asked ran.by) }
-    ensures stopped { IfErr result (λ why. MayStopAlone case.now asked.stop why) }
-{
-    let mut run = LoggedRun::new(alloc, case)?;
-    match run_to_stop(rt, alloc, case, &mut run, asked)? {
-        Some(sim) => Ok(left_by(sim, None, asked.log)?),
-        None => Ok(left_alone(run.into_outcome()?, None)),
-    }
-}
-
-/// The same where they are not.
-fn run_unlogged<'a, X: Threads + Wait + Sync + Clock>(
-    rt: &X,
-    alloc: Global,
-    case: &'a Case,
-    asked: Asked,
-) -> Result<Ran<'a>, Stopped<'a>>
-    requires ready { IsReady asked }
-    requires straight { asked.every ≡ None }
-    requires log { asked.log ≡ false }
-    ensures ran { IfOk result (λ ran. IsRunOf case.now asked ran) }
-    ensures by { IfOk result (λ ran. IsRunByAny case.now asked ran.by) }
-    ensures stopped { IfErr result (λ why. MayStopAlone case.now asked.stop why) }
-{
-    let mut run = OneThread::new(alloc, case)?;
-    match run_to_stop(rt, alloc, case, &mut run, asked)? {
-        Some(sim) => Ok(left_by(sim, None, asked.log)?),
-        None => Ok(left_alone(run.outcome_without_events()?, None)),
+    match run_to_stop(rt, alloc, case, asked, observer)? {
+        Come::Alone(run) => Ok(left_alone(run.run().outcome_without_events()?, None)),
+        Come::ByAll(sim) => Ok(left_by(sim, None, asked.log)?),
+        Come::Ended => {
+            observer.begins_anew();
+            run_alone(alloc, case, asked, observer)
+        }
     }
 }
 
 /// Runs a case to the stop by so many workers, and on one thread only where these have met a full counter.
-fn run_by_all<'a, X: Threads + Wait + Sync>(
+fn run_by_all<'a, X: Threads + Wait + Sync, O: Progress + Stages + Gate + Sync>(
     rt: &X,
     alloc: Global,
     case: &'a Case,
     asked: Asked,
     workers: u32,
+    observer: &O,
 ) -> Result<Ran<'a>, Stopped<'a>>
     requires ready { IsReady asked }
     requires some { 0 < workers }
@@ -242,21 +221,22 @@ fn run_by_all<'a, X: Threads + Wait + Sync>(
     ensures by { IfOk result (λ ran. IsRunBy case.now asked workers ran.by) }
     ensures stopped { IfErr result (λ why. MayStopBy case.now asked workers why) }
 {
-    match run_by_workers(rt, alloc, case, asked, workers) {
+    match run_by_workers(rt, alloc, case, asked, workers, observer) {
         Ok(ran) => Ok(ran),
-        Err(Stopped::Ended(ended)) => run_anew(alloc, case, asked, ended),
+        Err(Stopped::Ended(ended)) => run_anew(alloc, case, asked, ended, observer),
         Err(Stopped::Memory) => Err(Stopped::Memory),
         Err(Stopped::CounterFull) => Err(Stopped::CounterFull),
     }
 }
 
 /// Runs a case to the stop by so many workers.
-fn run_by_workers<'a, X: Threads + Wait + Sync>(
+fn run_by_workers<'a, X: Threads + Wait + Sync, O: Progress + Stages + Gate + Sync>(
     rt: &X,
     alloc: Global,
     case: &'a Case,
     asked: Asked,
     workers: u32,
+    observer: &O,
 ) -> Result<Ran<'a>, Stopped<'a>>
     requires ready { IsReady asked }
     requires some { 0 < workers }
@@ -273,17 +253,20 @@ fn run_by_workers<'a, X: Threads + Wait + Sync>(
         asked.stop,
         asked.every,
         asked.batch,
+        observer,
     )?;
+    let _ = observer.reached(asked.stop, asked.stop, handled_by(&sim));
     Ok(left_by(sim, found, asked.log)?)
 }
 
 /// Runs a case to the stop on one thread, where workers have met a full counter: they run ahead, and may meet it
 /// where the one-thread run never comes to it. Where they ended for something else, so does the run.
-fn run_anew<'a>(
+fn run_anew<'a, O: Progress + Stages>(
     alloc: Global,
     case: &'a Case,
     asked: Asked,
     ended: Ended<'a>,
+    observer: &O,
 ) -> Result<Ran<'a>, Stopped<'a>>
     requires ready { IsReady asked }
     ensures ran { IfOk result (λ ran. IsRunOf case.now asked ran) }
@@ -293,7 +276,8 @@ fn run_anew<'a>(
     if ended.cause != EndCause::CounterFull {
         return Err(Stopped::Ended(ended));
     }
-    let ran = run_alone(alloc, case, asked)?;
+    observer.begins_anew();
+    let ran = run_alone(alloc, case, asked, observer)?;
     Ok(Ran {
         by: By::OneThreadAfter(Snapshot::of(&ended.sim)),
         ..ran
@@ -301,12 +285,24 @@ fn run_anew<'a>(
 }
 
 /// Runs a case to the stop on one thread.
-fn run_alone<'a>(alloc: Global, case: &'a Case, asked: Asked) -> Result<Ran<'a>, Stopped<'a>>
+fn run_alone<'a, O: Progress + Stages>(
+    alloc: Global,
+    case: &'a Case,
+    asked: Asked,
+    observer: &O,
+) -> Result<Ran<'a>, Stopped<'a>>
     requires ready { IsReady asked }
     ensures ran { IfOk result (λ ran. IsRunOf case.now asked ran) }
     ensures by { IfOk result (λ ran. ran.by ≡ by.OneThread) }
     ensures stopped { IfErr result (λ why. MayStopAlone case.now asked.stop why) }
 {
-    let (outcome, found) = run_on_one_thread(alloc, case, asked.stop, asked.every, asked.log)?;
+    let Asked {
+        stop,
+        every,
+        log,
+        ..
+    } = asked;
+    observer.goes_alone();
+    let (outcome, found) = run_on_one_thread(alloc, case, stop, every, log, observer)?;
     Ok(left_alone(outcome, found))
 }

@@ -15,16 +15,18 @@ use crate::dealing::{Dealing, deal};
 use std::alloc::{AllocError, Global};
 use std::sync::Wait;
 use std::thread::Threads;
-use tw_parallel::{NotSettled, OpenGate, Options, OrMemory, Sim, run_until};
+use tw_commands::{Progress, Stages};
+use tw_parallel::{Gate, NotSettled, Options, OrMemory, Sim, run_until};
 use tw_shape::{Finding, Shape, Watch};
 
 /// The workers of a run, to all of whom its routers are dealt out, go on to a stop, in ticks, which is not before
 /// that of the run.
-fn run_on<'a, X: Threads + Wait + Sync>(
+fn run_on<'a, X: Threads + Wait + Sync, O: Stages + Gate + Sync>(
     rt: &X,
     sim: Sim<'a>,
     stop: u64,
     batch: u32,
+    observer: &O,
 ) -> Result<Sim<'a>, Stopped<'a>>
     requires all { AreDealtToAll sim }
     requires stop { sim.board.stop ≤ stop }
@@ -36,7 +38,8 @@ fn run_on<'a, X: Threads + Wait + Sync>(
     ensures stop { IfOk result (λ s. s.board.stop ≡ stop) }
     ensures stopped { IfErr result (λ why. HasStopped sim.entry why) }
 {
-    match run_until(rt, sim, stop, Options { batch }, &OpenGate) {
+    observer.goes_by_all(sim.workers());
+    match run_until(rt, sim, stop, Options { batch }, observer) {
         Ok(sim) => Ok(sim),
         Err(ended) => Err(Stopped::Ended(ended)),
     }
@@ -44,7 +47,7 @@ fn run_on<'a, X: Threads + Wait + Sync>(
 
 /// Runs on to a stop, in ticks, which is not before that of the run, the routers dealt out to all workers as they are
 /// to be after so many checkpoints. They are dealt so already where they are not to go from worker to worker.
-pub(crate) fn run_to<'a, X: Threads + Wait + Sync>(
+pub(crate) fn run_to<'a, X: Threads + Wait + Sync, O: Stages + Gate + Sync>(
     rt: &X,
     alloc: Global,
     sim: Sim<'a>,
@@ -52,6 +55,7 @@ pub(crate) fn run_to<'a, X: Threads + Wait + Sync>(
     checkpoints: u64,
     stop: u64,
     batch: u32,
+    observer: &O,
 ) -> Result<Sim<'a>, Stopped<'a>>
     requires some { 0 < workers sim.board }
     requires dealt { dealing.rotate ≡ false → AreDealt dealing checkpoints sim }
@@ -66,16 +70,66 @@ pub(crate) fn run_to<'a, X: Threads + Wait + Sync>(
     ensures stopped { IfErr result (λ why. HasStopped sim.entry why) }
 {
     if !dealing.rotate {
-        return run_on(rt, sim, stop, batch);
+        return run_on(rt, sim, stop, batch, observer);
     }
     let mut sim = sim;
     deal(alloc, &mut sim, dealing, checkpoints)?;
-    run_on(rt, sim, stop, batch)
+    run_on(rt, sim, stop, batch, observer)
+}
+
+/// Does the same in pieces, and tells between them how far the run is on its way to the stop of the whole, in ticks.
+fn run_in_pieces<'a, X: Threads + Wait + Sync, O: Progress + Stages + Gate + Sync>(
+    rt: &X,
+    alloc: Global,
+    sim: Sim<'a>,
+    dealing: Dealing,
+    checkpoints: u64,
+    time: u64,
+    stop: u64,
+    batch: u32,
+    observer: &O,
+) -> Result<Sim<'a>, Stopped<'a>>
+    requires some { 0 < workers sim.board }
+    requires dealt { dealing.rotate ≡ false → AreDealt dealing checkpoints sim }
+    requires checkpoints { checkpoints ≤ LATEST }
+    requires time { sim.board.stop ≤ time }
+    requires latest { time ≤ LATEST }
+    ensures settled { IfOk result (λ s. IsSettled s) }
+    ensures sim { IfOk result (λ s. IsSim s) }
+    ensures goes_on { IfOk result (λ s. GoesOn sim.entry s) }
+    ensures stop { IfOk result (λ s. s.board.stop ≡ time) }
+    ensures dealt { IfOk result (λ s. AreDealt dealing checkpoints s) }
+    ensures stopped { IfErr result (λ why. HasStopped sim.entry why) }
+{
+    let mut run = sim;
+    while let Some(end) = end_of_piece(&run, time, stop, observer) {
+        run = run_to(rt, alloc, run, dealing, checkpoints, end, batch, observer)?;
+    }
+    run_to(rt, alloc, run, dealing, checkpoints, time, batch, observer)
+}
+
+/// Tells how far a run is on its way to a stop, and answers where its next piece ends, if it ends before a time.
+fn end_of_piece<O: Progress>(sim: &Sim<'_>, before: u64, stop: u64, observer: &O) -> Option<u64>
+    ensures { IfSome result (λ end. (sim.now.board.stop < end) × (end < before)) }
+{
+    let time = sim.stop();
+    let ticks = observer.reached(time, stop, handled_by(sim)).max(1);
+    let end = time.saturating_add(ticks);
+    if end < before { Some(end) } else { None }
+}
+
+/// How many events the workers of a run have handled.
+pub(crate) fn handled_by(sim: &Sim<'_>) -> u64 {
+    let mut events: u64 = 0;
+    for router in 0..sim.case().instance().nodes() {
+        events = events.saturating_add(sim.router(router).counters().handled);
+    }
+    events
 }
 
 /// Runs to a stop, in ticks, and answers what was found at the checkpoints, the multiples of `every`. The
 /// run is at its beginning.
-pub(crate) fn run_through<'a, X: Threads + Wait + Sync>(
+pub(crate) fn run_through<'a, X: Threads + Wait + Sync, O: Progress + Stages + Gate + Sync>(
     rt: &X,
     alloc: Global,
     sim: Sim<'a>,
@@ -83,6 +137,7 @@ pub(crate) fn run_through<'a, X: Threads + Wait + Sync>(
     stop: u64,
     every: Option<u64>,
     batch: u32,
+    observer: &O,
 ) -> Result<(Sim<'a>, Option<Finding>), Stopped<'a>>
     requires some { 0 < workers sim.board }
     requires dealt { AreDealt dealing 0 sim }
@@ -97,8 +152,11 @@ pub(crate) fn run_through<'a, X: Threads + Wait + Sync>(
     ensures stopped { IfErr result (λ why. HasStopped sim.entry why) }
 {
     match every {
-        Some(every) => run_watched(rt, alloc, sim, dealing, stop, every, batch),
-        None => Ok((run_to(rt, alloc, sim, dealing, 0, stop, batch)?, None)),
+        Some(every) => run_watched(rt, alloc, sim, dealing, stop, every, batch, observer),
+        None => {
+            let run = run_in_pieces(rt, alloc, sim, dealing, 0, stop, stop, batch, observer)?;
+            Ok((run, None))
+        }
     }
 }
 
@@ -108,7 +166,7 @@ pub(crate) fn run_through<'a, X: Threads + Wait + Sync>(
 /// Workers come together at a checkpoint only where something was handled since the one before it, and at none
 /// once something is found, since the first finding decides. Going on from there each router has the worker
 /// that is due after all the checkpoints so far.
-fn run_watched<'a, X: Threads + Wait + Sync>(
+fn run_watched<'a, X: Threads + Wait + Sync, O: Progress + Stages + Gate + Sync>(
     rt: &X,
     alloc: Global,
     sim: Sim<'a>,
@@ -116,6 +174,7 @@ fn run_watched<'a, X: Threads + Wait + Sync>(
     stop: u64,
     every: u64,
     batch: u32,
+    observer: &O,
 ) -> Result<(Sim<'a>, Option<Finding>), Stopped<'a>>
     requires workers { 0 < workers sim.board }
     requires dealt { AreDealt dealing 0 sim }
@@ -136,11 +195,11 @@ fn run_watched<'a, X: Threads + Wait + Sync>(
     let mut seen = 0;
     while seen < last && watch.finding().is_none() {
         let time = (seen + 1) * every;
-        run = run_to(rt, alloc, run, dealing, seen, time, batch)?;
+        run = run_in_pieces(rt, alloc, run, dealing, seen, time, stop, batch, observer)?;
         let shape = shape_of(&run)?;
         seen += watch.push(time, shape, last - seen);
     }
-    let run = run_to(rt, alloc, run, dealing, seen, stop, batch)?;
+    let run = run_in_pieces(rt, alloc, run, dealing, seen, stop, stop, batch, observer)?;
     Ok((run, watch.finding()))
 }
 

@@ -9,6 +9,7 @@ pub mod Logged
 pub mod Noted
 pub mod Kept
 pub mod Resumed
+pub mod Measured
 pub mod Back
 pub mod Going
 pub mod Gathered

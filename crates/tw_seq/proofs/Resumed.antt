@@ -17,11 +17,15 @@ use Rattle.tw_seq.proofs.Next.{IsReady, next_routers, next_within}
 use Rattle.tw_seq.proofs.Steps.{goes_on}
 
 -- the run to this stop that has come to this world
-abbrev at_world : Case → ℕ → World Event → Run
+abbrev pub at_world : Case → ℕ → World Event → Run
 at_world case stop w = record { case = case; stop = stop; events = reverse w.log; pending = w.rest }
 
-same_world : (case : Case) (stop : ℕ) (w : World Event) → world (at_world case stop w) ≡ w
+pub same_world : (case : Case) (stop : ℕ) (w : World Event) → world (at_world case stop w) ≡ w
 same_world case stop w = λ i. record { log = reverse-reverse w.log i; rest = w.rest }
+
+-- it has come there on its way to the stop
+pub begun_turns : (case : Case) → IsCase case → (stop n : ℕ) → IsBegun (at_world case stop (turns (simulation case) n stop (begin (simulation case))))
+begun_turns case is stop n = record { case = is; turns = (n, sym (same_world case stop (turns (simulation case) n stop (begin (simulation case))))) }
 
 -- it has come there in as many turns as its routers have counted events
 abbrev IsCounted : Case → World Event → Type 0
@@ -51,9 +55,6 @@ module _ (case : Case) (is : IsCase case) (stop : ℕ) (early : stop ≤ LATEST)
       goes_on m n 1 LATEST (world run) new (counted ∙ sym (same_world case stop w)) (next_world run e later LATEST refl in_all) in
       subst (IsCounted case) (sym turned) (ap (world_after case) count ∙ reached)
 
-  begun_turns : (n : ℕ) → IsBegun (at_world case stop (turns (simulation case) n stop (begin (simulation case))))
-  begun_turns n = record { case = is; turns = (n, sym (same_world case stop (turns (simulation case) n stop (begin (simulation case))))) }
-
   counted_turns : (n : ℕ) → IsCounted case (turns (simulation case) n stop (begin (simulation case)))
   counted_turns zero = counted_begin
   counted_turns (suc n) =
@@ -61,14 +62,14 @@ module _ (case : Case) (is : IsCase case) (stop : ℕ) (early : stop ≤ LATEST)
       let w = turns m n stop (begin m) in
       let one_more : n + 1 ≡ suc n = omega arith in
       let more : turn m stop w.log w.rest ≡ turns m (suc n) stop (begin m) = turns-add m n 1 stop (begin m) ∙ ap (λ k. turns m k stop (begin m)) one_more in
-      subst (IsCounted case) more (counted_turn w (begun_turns n) (counted_turns n) (ends m stop w))
+      subst (IsCounted case) more (counted_turn w (begun_turns case is stop n) (counted_turns n) (ends m stop w))
 
   all_turns : turns (simulation case) (weight (simulation case) stop (begin (simulation case)).rest) stop (begin (simulation case)) ≡ seq (simulation case) stop
   unfolding finished
   all_turns = refl
 
   pub begun_complete : IsBegun (complete_run case stop)
-  begun_complete = subst (λ w. IsBegun (at_world case stop w)) all_turns (begun_turns (weight (simulation case) stop (begin (simulation case)).rest))
+  begun_complete = subst (λ w. IsBegun (at_world case stop w)) all_turns (begun_turns case is stop (weight (simulation case) stop (begin (simulation case)).rest))
 
   counted_complete : IsCounted case (seq (simulation case) stop)
   counted_complete = subst (IsCounted case) all_turns (counted_turns (weight (simulation case) stop (begin (simulation case)).rest))

@@ -121,6 +121,10 @@ impl Running for LoggedRun<'_> {
         Ok(())
     }
 
+    fn count_events(&self) -> u64 {
+        self.events.len() as u64
+    }
+
     fn shape(&self) -> Result<Shape, AllocError> {
         self.run.shape()
     }

@@ -12,7 +12,7 @@ ghost use Rattle.tw_seq.specs.Outcome.{least, outcome_of};
 ghost use Rattle.tw_seq.specs.Run.{IsBegun, IsNext, IsNextRun, IsStuck, NoneBefore, complete_run, opening_run, router_after, routers_after};
 ghost use Rattle.tw_sim.specs.Seq.{log, rest};
 
-use crate::routers::{gather, opening_routers, router_ends};
+use crate::routers::{count_handled, gather, opening_routers, router_ends};
 use crate::running::Running;
 use crate::turn::{fault_at, handle_at, move_each, opening_queue};
 use smallvec::SmallVec;
@@ -252,6 +252,10 @@ impl Running for OneThread<'_> {
             self.handle_next(&event)?;
         }
         Ok(())
+    }
+
+    fn count_events(&self) -> u64 {
+        count_handled(&self.routers)
     }
 
     fn shape(&self) -> Result<Shape, AllocError> {

@@ -1,9 +1,11 @@
 //! All routers of an instance.
 
-ghost use Rattle.std.specs.Prelude.{◌≡◌, ◌+◌, ◌-◌, ◌^◌, ◌++◌, length, map, min, IfOk, OnOk};
+ghost use Rattle.std.specs.Prelude.{◌≡◌, ◌≤◌, ◌+◌, ◌-◌, ◌^◌, ◌++◌, length, map, min, IfOk, OnOk};
 ghost use Rattle.std.specs.List.{fold, range_with_len};
 ghost use Rattle.tw_model.specs.State.{opening};
+ghost use Rattle.tw_model.specs.declared.limits.TheConstants.{MOST_ROUTERS};
 ghost use Rattle.tw_model.specs.Summary.{end_of};
+ghost use Rattle.tw_seq.specs.Thread.{count_of};
 ghost use Rattle.tw_shape.specs.Shape.{bare};
 
 use std::alloc::{AllocError, Global};
@@ -40,6 +42,18 @@ pub(crate) fn router_ends(
         ends.push(router.end())?;
     }
     Ok(ends)
+}
+
+/// How many events the routers have handled.
+pub(crate) fn count_handled(routers: &[Router<'_>]) -> u64
+    requires { length routers.now ≤ MOST_ROUTERS }
+    ensures { result ≡ count_of routers.now }
+{
+    let mut count = 0;
+    for router in routers {
+        count += router.counters().handled;
+    }
+    count
 }
 
 /// How many rows the routers keep, or the greatest number where that is more.

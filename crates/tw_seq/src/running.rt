@@ -1,6 +1,6 @@
 //! What every kind of run does.
 
-ghost use Rattle.std.specs.Prelude.{◌≡◌, ◌≤◌, max, IfOk, OnOk, IsErrOf};
+ghost use Rattle.std.specs.Prelude.{◌≡◌, ◌≤◌, length, max, IfOk, OnOk, IsErrOf};
 ghost use Rattle.tw_model.specs.declared.limits.TheConstants.{LATEST};
 ghost use Rattle.tw_model.specs.declared.memory.OrMemory.TheVariants as or_memory;
 ghost use Rattle.tw_handlers.specs.Calls.{counter_full};
@@ -33,6 +33,10 @@ pub trait Running {
         ensures begun { IsBegun (run self.new) }
         ensures full { IsErrOf result (or_memory.Fault counter_full) → IsStuck (run self.new) }
         ensures stuck { IsStuck (run self.new) → IsErrOf result (or_memory.Fault counter_full) };
+
+    /// How many events the run has handled.
+    fn count_events(&self) -> u64
+        ensures { result ≡ length (run self.now).events };
 
     /// The shape of the run at its stop, when all events before it are handled.
     fn shape(&self) -> Result<Shape, AllocError>

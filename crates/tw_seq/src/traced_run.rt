@@ -147,6 +147,10 @@ impl Running for TracedRun<'_> {
         Ok(())
     }
 
+    fn count_events(&self) -> u64 {
+        self.run.count_events()
+    }
+
     fn shape(&self) -> Result<Shape, AllocError> {
         self.run.shape()
     }

@@ -14,6 +14,7 @@ use Rattle.tw_model.specs.Effect.{suits}
 use Rattle.tw_queue.specs.Queue.{Queue}
 use Rattle.tw_shard.specs.declared.shard.Shard.TheInside.{Inside}
 use Rattle.tw_shard.specs.Inside.{IsShard}
+use Rattle.tw_shard.specs.declared.tally.Tally.{Tally}
 
 -- a shard with another list of what is pending
 pub pending_shard : (a : Inside) (q : Queue) → IsShard a → q.routers ≡ a.pending.routers
@@ -34,6 +35,10 @@ pending_shard a q is routers suit = record {
   held = is.held;
   latest = is.latest;
 }
+
+-- a shard that has counted something
+pub counted : (a : Inside) (tally : Tally) → IsShard a → IsShard (record a { tally = tally })
+counted a tally is = record { whole = is.whole; roster = is.roster; pending = is.pending; kept = is.kept; held = is.held; latest = is.latest }
 
 -- ---- what a timeline has handled
 

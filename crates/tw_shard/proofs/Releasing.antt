@@ -16,7 +16,7 @@ use Rattle.tw_sim.specs.Rising.{IsRising}
 use Rattle.tw_sim.proofs.Rising.{rising-filter}
 
 -- a shard with other lists of what is sent and held
-pub sent_shard : (a b : Inside) → IsShard a → b ≡ record a { outgoing = b.outgoing; held = b.held } → b.held.routers ≡ a.held.routers
+pub sent_shard : (a b : Inside) → IsShard a → b ≡ record a { outgoing = b.outgoing; held = b.held; tally = b.tally } → b.held.routers ≡ a.held.routers
     → IsRising event_before event_same b.held.events → IsShard b
 sent_shard a b is same routers rising = subst IsShard (sym same) (record {
   whole = record {

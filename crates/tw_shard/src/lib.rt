@@ -18,10 +18,12 @@ mod roster;
 mod router_at;
 mod shard;
 pub mod shards;
+mod tally;
 mod timeline;
 
 pub use rejection::{Rejection, Returned};
 pub use router_at::RouterAt;
 pub use shard::{Shard, VacantShard};
+pub use tally::Tally;
 pub use tw_core::Refusal;
 pub use tw_model::OrMemory;

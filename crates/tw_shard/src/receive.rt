@@ -178,9 +178,11 @@ impl<'a> Shard<'a> {
         ensures kept { self.new.kept ≡ self.old.kept }
         ensures same { IsSameShare self.old self.new }
     {
+        let before = self.undone();
         while self.must_undo(event, reach) {
             self.step_back(event.dst)?;
         }
+        self.count_rollback(before);
         Ok(())
     }
 

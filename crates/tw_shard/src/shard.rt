@@ -20,6 +20,7 @@ ghost use Rattle.tw_shard.specs.Shard.{IsSameShare, IsUndone, IsWhole, IsNext, c
 ghost use Rattle.tw_shard.specs.Timeline.{history, router_of, sends_after, signed};
 
 mod commit;
+mod counting;
 mod least;
 mod leaving;
 mod moving;
@@ -29,6 +30,7 @@ mod vacant;
 mod widen;
 
 use crate::roster::Roster;
+use crate::tally::Tally;
 use crate::timeline::Timeline;
 use smallvec::SmallVec;
 use std::alloc::{AllocError, Global};
@@ -61,6 +63,8 @@ pub struct Shard<'a> {
     latest: u64,
     // How often the least event was after all that were handled before.
     ticks: u64,
+    // What its routers have undone. Messages that are held count as matched.
+    tally: Tally,
     bound: u64,
     keeps: bool,
     cancel: Cancel,
@@ -358,7 +362,9 @@ impl<'a> Shard<'a> {
         ensures without { self.new ≡ record self.old { pending = take_out event_same event.now self.old.pending } }
         ensures none { result ≡ false → self.new ≡ self.old }
     {
-        self.pending.remove_one(event)
+        let is_taken = self.pending.remove_one(event);
+        self.tally.count_pending(is_taken);
+        is_taken
     }
 
     /// An antimessage is kept.
@@ -377,7 +383,9 @@ impl<'a> Shard<'a> {
         ensures without { self.new ≡ record self.old { kept = take_out event_same event.now self.old.kept } }
         ensures none { result ≡ false → self.new ≡ self.old }
     {
-        self.kept.remove_one(event)
+        let is_taken = self.kept.remove_one(event);
+        self.tally.count_kept(is_taken);
+        is_taken
     }
 
     /// Whether a message can only become pending: no antimessage is kept, and what its router has handled is before
@@ -431,6 +439,8 @@ impl<'a> Shard<'a> {
     {
         self.pending.reserve(1)?;
         let place = self.place(router);
+        let sent = self.outgoing.len();
+        let held = self.held.len();
         let event = undo_at(
             &mut self.timelines,
             place,
@@ -440,6 +450,9 @@ impl<'a> Shard<'a> {
             &mut self.outgoing,
         )?;
         self.pending.insert(event).unwrap();
+        let sent = self.outgoing.len().saturating_sub(sent);
+        let held = self.held.len().saturating_sub(held);
+        self.tally.count_undone(sent, held);
         Ok(())
     }
 }

@@ -278,6 +278,7 @@ module _ (case : Case) (is : IsCase case) (r : ℕ) (x : Board) (s t s2 t2 : Sha
         history_from = (follows history []).stays_from;
         history_to = (follows history []).stays_to;
         done = follows (λ l. l.done) 0;
+        past_left = none_left (λ l. length l.past) 0 r s.shard s2.shard gone;
         past = follows (λ l. length l.past) 0;
         room = follows (λ l. l.room) OPENING_ROOM;
         pending = have_gone (λ e. e.dst) s.shard.pending t.shard.pending s2.shard.pending t2.shard.pending moved.left.pending moved.came.pending;

@@ -58,6 +58,7 @@ module _ (case : Case) (is : IsCase case) (n : ℕ) where
     outgoing = ap (λ (C : Core Event). C.flight) (new.core_is 0);
     held = ap (λ (C : Core Event). C.held) (new.core_is 0);
     done = λ r. ap (λ (C : Core Event). C.done r) (new.core_is 0);
+    past = λ r. ap (λ (C : Core Event). C.past r) (new.core_is 0);
     bound = ap (λ (C : Core Event). C.bound) (new.core_is 0);
     mail = new.mail;
     unsent = new.unsent;

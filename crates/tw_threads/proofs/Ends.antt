@@ -1,15 +1,15 @@
 -- What is so once all workers have left.
-use Rattle.std.proofs.Common.{◌≡◌, ℕ, suc, zero, ◌≤◌, List, [], ◌∷◌, Some, length, map, refl, ap, sym, ◌∙◌, subst, arith, slice_get}
+use Rattle.std.proofs.Common.{◌≡◌, ℕ, suc, zero, ◌≤◌, Bool, true, List, [], ◌∷◌, Some, length, map, refl, ap, sym, ◌∙◌, subst, arith, slice_get}
 use Rattle.std.proofs.lemmas.Option.{none-some, same_Some, slice_get-map}
 use Rattle.std.specs.List.{AllByRecursion, AllZip}
 use Rattle.std.specs.Option.{option_map}
 use Rattle.tw_shard.specs.Shard.{IsSameShare}
-use Rattle.tw_table.specs.Seats.{IsSeatOf, bound_at, share_at, stop_at, workers_at}
+use Rattle.tw_table.specs.Seats.{IsSeatOf, bound_at, halted_at, share_at, stop_at, workers_at}
 use Rattle.tw_table.specs.Shares.{Share}
 use Rattle.tw_table.specs.declared.seat.Seat.{Seat}
 use Rattle.tw_table.specs.declared.table.Table.{Table}
 use Rattle.tw_threads.specs.Left.{HasLeft, IsFull, IsFullAhead}
-use Rattle.tw_threads.specs.Started.{IsSomeFull}
+use Rattle.tw_threads.specs.Started.{IsSomeFull, IsSomeHalted}
 use Rattle.tw_workers.specs.Seated.{HasTurned, IsSeated}
 use Rattle.tw_workers.specs.Work.{AreSameShares, Worker}
 
@@ -79,6 +79,10 @@ full_after share stop after are now stops h =
       there = slice_get-map share_at after h.at ∙ ap (option_map share_at) h.there;
       full = subst (λ n. IsFull n (share_at h.seat).shard) same h.full;
     }
+
+-- where some seat was left halted, so is the exchange
+pub halted_after : (halted : Bool) (seats : List Seat) → AllByRecursion (λ s. halted_at s ≡ true → halted ≡ true) seats → IsSomeHalted seats → halted ≡ true
+halted_after halted seats all h = all_get (λ s. halted_at s ≡ true → halted ≡ true) seats h.at h.seat all h.there h.halted
 
 -- as many have left as the table has workers
 pub all_left : (t : Table) (before after : List Seat) (n : ℕ) → AllZip (HasLeft t) before after → length before ≡ n → n ≡ workers_at t → length after ≡ workers_at t

@@ -4,12 +4,12 @@ use Rattle.std.proofs.lemmas.List.{append-nil, map-append}
 use Rattle.std.proofs.lemmas.Option.{none-some, same_Some}
 use Rattle.std.specs.List.{AllByRecursion, AllZip}
 use Rattle.tw_shard.specs.Shard.{IsSameShare, Shard}
-use Rattle.tw_table.specs.Seats.{IsSeatOf, share_at}
+use Rattle.tw_table.specs.Seats.{IsSeatOf, halted_at, share_at}
 use Rattle.tw_table.specs.Shares.{Share}
 use Rattle.tw_table.specs.declared.seat.Seat.{Seat}
 use Rattle.tw_table.specs.declared.table.Table.{Table}
 use Rattle.tw_threads.specs.Left.{HasLeft, IsLeft}
-use Rattle.tw_threads.specs.Started.{HaveLeft, IsSomeFull, IsStarted, MaySit}
+use Rattle.tw_threads.specs.Started.{HaveLeft, IsSomeFull, IsSomeHalted, IsStarted, MaySit}
 use Rattle.tw_threads.specs.declared.end_cause.EndCause.{EndCause}
 use Rattle.tw_threads.specs.declared.end_cause.EndCause.TheVariants as cause
 use Rattle.tw_threads.specs.declared.start.Started.{Started}
@@ -56,14 +56,14 @@ module _ {X : Type 0} where
 other_cause : cause.Memory ≡ cause.CounterFull → ⊥
 other_cause e = grind (arith, e)
 
-one_cause : cause.NoThread ≡ cause.CounterFull → ⊥
+one_cause : cause.Memory ≡ cause.NoThread → ⊥
 one_cause e = grind (arith, e)
 
 no_memory : cause.Memory ≡ cause.StopLower → ⊥
 no_memory e = grind (arith, e)
 
-no_thread : cause.NoThread ≡ cause.StopLower → ⊥
-no_thread e = grind (arith, e)
+halted_only : leaving.Halted ≡ leaving.Settled → ⊥
+halted_only e = grind (arith, e)
 
 module _ {W : Type 0} (share : W → Share) (stop : W → ℕ) where
   -- these workers are still to be joined, and those before them have left
@@ -73,6 +73,7 @@ module _ {W : Type 0} (share : W → Share) (stop : W → ℕ) where
     pub left : (more : List Seat) → AllZip (HasLeft t) waiting more → AllZip (HasLeft t) before (seats ++ more)
     pub shares : map share_at seats ≡ map share workers
     pub full : why ≡ Some cause.CounterFull → IsSomeFull seats
+    pub thread : why ≡ Some cause.NoThread → IsSomeHalted seats
     pub lower : why ≡ Some cause.StopLower → ⊥
 
   may_sit : (t : Table) (s : Seat) (one : Started W) → IsStarted share stop t s one → MaySit share stop t one
@@ -94,6 +95,7 @@ module _ {W : Type 0} (share : W → Share) (stop : W → ℕ) where
     left = λ more h. h;
     shares = refl;
     full = λ e. absurd (none-some _ e);
+    thread = λ e. absurd (none-some _ e);
     lower = λ e. absurd (none-some _ e);
   }
 
@@ -110,19 +112,34 @@ module _ {W : Type 0} (share : W → Share) (stop : W → ℕ) where
         | inr e ↦ record { at = length seats; seat = seat; there = get_last seats seat; full = is.full e }
       ]
 
+  -- and so with one that was halted
+  more_halted : (seats more : List Seat) → IsSomeHalted seats → IsSomeHalted (seats ++ more)
+  more_halted seats more h = record { at = h.at; seat = h.seat; there = get_left seats more h.at h.seat h.there; halted = h.halted }
+
+  next_halted : (t : Table) (before : Seat) (seats : List Seat) (s : Share) (seat : Seat) (reason : Leaving) (why later : Option EndCause) → IsLeft s t before seat reason
+      → (later ≡ Some cause.NoThread → (why ≡ Some cause.NoThread) ⊎ (reason ≡ leaving.Halted))
+      → (why ≡ Some cause.NoThread → IsSomeHalted seats) → later ≡ Some cause.NoThread → IsSomeHalted (seats ++ seat ∷ [])
+  next_halted t before seats s seat reason why later is told halted now =
+      elim (told now) [
+        | inl e ↦ more_halted seats (seat ∷ []) (halted e)
+        | inr e ↦ record { at = length seats; seat = seat; there = get_last seats seat; halted = is.halts (λ settled. halted_only (sym e ∙ settled)) }
+      ]
+
   next_joined : (t : Table) (before waiting : List Seat) (one : Started W) (rest : List (Started W)) (workers : List W) (seats : List Seat) (why : Option EndCause)
       (w : W) (seat : Seat) (reason : Leaving) (later : Option EndCause)
       → AllZip (IsStarted share stop t) waiting (one ∷ rest)
       → ((more : List Seat) → AllZip (HasLeft t) waiting more → AllZip (HasLeft t) before (seats ++ more))
       → map share_at seats ≡ map share workers
       → (why ≡ Some cause.CounterFull → IsSomeFull seats)
+      → (why ≡ Some cause.NoThread → IsSomeHalted seats)
       → (why ≡ Some cause.StopLower → ⊥)
       → ((s : Seat) → IsStarted share stop t s one → IsLeft (share w) t s seat reason)
       → (later ≡ Some cause.CounterFull → (why ≡ Some cause.CounterFull) ⊎ (reason ≡ leaving.CounterFull))
+      → (later ≡ Some cause.NoThread → (why ≡ Some cause.NoThread) ⊎ (reason ≡ leaving.Halted))
       → (later ≡ Some cause.StopLower → why ≡ Some cause.StopLower)
       → AreJoined t before rest (workers ++ w ∷ []) (seats ++ seat ∷ []) later
-  next_joined t before [] one rest workers seats why w seat reason later each left shares full lower is told none = absurd each
-  next_joined t before (s ∷ waiting) one rest workers seats why w seat reason later each left shares full lower is told none =
+  next_joined t before [] one rest workers seats why w seat reason later each left shares full thread lower is told refused none = absurd each
+  next_joined t before (s ∷ waiting) one rest workers seats why w seat reason later each left shares full thread lower is told refused none =
       let mine : IsLeft (share w) t s seat reason = is s each.0 in
       record {
         waiting = waiting;
@@ -130,6 +147,7 @@ module _ {W : Type 0} (share : W → Share) (stop : W → ℕ) where
         left = λ more h. subst (AllZip (HasLeft t) before) (sym (append_assoc seats (seat ∷ []) more)) (left (seat ∷ more) (mine.left, h));
         shares = map-append share_at seats (seat ∷ []) ∙ ((λ i. shares i ++ mine.share i ∷ []) ∙ sym (map-append share workers (w ∷ [])));
         full = next_full t s seats (share w) seat reason why later mine told full;
+        thread = next_halted t s seats (share w) seat reason why later mine refused thread;
         lower = λ e. lower (none e);
       }
 
@@ -139,12 +157,13 @@ module _ {W : Type 0} (share : W → Share) (stop : W → ℕ) where
       → next ≡ workers ++ w ∷ [] → after ≡ seats ++ seat ∷ []
       → ((s : Seat) → IsStarted share stop t s one → IsLeft (share w) t s seat reason)
       → (later ≡ Some cause.CounterFull → (why ≡ Some cause.CounterFull) ⊎ (reason ≡ leaving.CounterFull))
+      → (later ≡ Some cause.NoThread → (why ≡ Some cause.NoThread) ⊎ (reason ≡ leaving.Halted))
       → (later ≡ Some cause.StopLower → why ≡ Some cause.StopLower)
       → AreJoined t before rest next after later
-  one_joined t before one rest workers next seats after why w seat reason later h to too is told none =
+  one_joined t before one rest workers next seats after why w seat reason later h to too is told refused none =
       subst (λ ws. AreJoined t before rest ws after later) (sym to)
       (subst (λ ss. AreJoined t before rest (workers ++ w ∷ []) ss later) (sym too)
-      (next_joined t before h.waiting one rest workers seats why w seat reason later h.each h.left h.shares h.full h.lower is told none))
+      (next_joined t before h.waiting one rest workers seats why w seat reason later h.each h.left h.shares h.full h.thread h.lower is told refused none))
 
   all_waited : (t : Table) (before waiting seats : List Seat) → AllZip (IsStarted share stop t) waiting []
       → ((more : List Seat) → AllZip (HasLeft t) waiting more → AllZip (HasLeft t) before (seats ++ more)) → AllZip (HasLeft t) before seats
@@ -153,7 +172,7 @@ module _ {W : Type 0} (share : W → Share) (stop : W → ℕ) where
 
   pub all_joined : (t : Table) (before : List Seat) (workers : List W) (seats : List Seat) (why : Option EndCause) → AreJoined t before [] workers seats why
       → HaveLeft share t before seats workers why
-  all_joined t before workers seats why h = record { left = all_waited t before h.waiting seats h.each h.left; shares = h.shares; full = h.full; lower = h.lower }
+  all_joined t before workers seats why h = record { left = all_waited t before h.waiting seats h.each h.left; shares = h.shares; full = h.full; thread = h.thread; lower = h.lower }
 
 module _ {W : Type 0} (share : W → Share) where
   stay : (t : Table) (seats : List Seat) → AllByRecursion (IsSeatOf t) seats → AllZip (HasLeft t) seats seats
@@ -167,16 +186,6 @@ module _ {W : Type 0} (share : W → Share) where
     left = subst (AllZip (HasLeft t) before) (sym seats) (stay t before mine);
     shares = ap (map share_at) seats ∙ (shares ∙ ap (map share) (sym workers));
     full = λ e. absurd (other_cause (same_Some _ _ (sym is ∙ e)));
+    thread = λ e. absurd (one_cause (same_Some _ _ (sym is ∙ e)));
     lower = λ e. no_memory (same_Some _ _ (sym is ∙ e));
   }
-
-  -- a run that lacks a thread tells nothing else
-  with_no_thread : (t : Table) (before after : List Seat) (workers : List W) (why : Option EndCause) → HaveLeft share t before after workers why
-      → HaveLeft share t before after workers (Some cause.NoThread)
-  with_no_thread t before after workers why h = record { left = h.left; shares = h.shares; full = λ e. absurd (one_cause (same_Some _ _ e)); lower = λ e. no_thread (same_Some _ _ e) }
-
-  pub with_cause : (t : Table) (before after : List Seat) (workers : List W) (why told : Option EndCause) (refused : Bool) → HaveLeft share t before after workers why
-      → (refused ≡ true → told ≡ Some cause.NoThread) → (refused ≡ false → told ≡ why) → HaveLeft share t before after workers told
-  with_cause t before after workers why told true h thread other =
-      subst (HaveLeft share t before after workers) (sym (thread refl)) (with_no_thread t before after workers why h)
-  with_cause t before after workers why told false h thread other = subst (HaveLeft share t before after workers) (sym (other refl)) h

@@ -1,7 +1,7 @@
 -- Workers that were started, and what all of them leave (own).
-use Rattle.std.specs.Prelude.{ℕ, ◌≡◌, ⊤, List, Option, Some, map, slice_get}
+use Rattle.std.specs.Prelude.{ℕ, ◌≡◌, ⊤, Bool, false, true, List, Option, Some, map, slice_get}
 use Rattle.std.specs.List.{AllByRecursion, AllZip}
-use Rattle.tw_table.specs.Seats.{IsSeatOf, share_at, stop_at}
+use Rattle.tw_table.specs.Seats.{IsSeatOf, halted_at, share_at, stop_at}
 use Rattle.tw_table.specs.Shares.{Share}
 use Rattle.tw_table.specs.declared.seat.Seat.{Seat}
 use Rattle.tw_table.specs.declared.table.Table.{Table}
@@ -18,6 +18,19 @@ pub record IsSomeFull (seats : List Seat) : Type 0 where
   pub seat : Seat
   pub there : slice_get seats at ≡ Some seat
   pub full : IsFull (stop_at seat) (share_at seat).shard
+
+-- some of these seats is of a worker that has told all workers to take no further turn, or was told so
+pub record IsSomeHalted (seats : List Seat) : Type 0 where
+  pub at : ℕ
+  pub seat : Seat
+  pub there : slice_get seats at ≡ Some seat
+  pub halted : halted_at seat ≡ true
+
+-- whether a worker's thread was refused
+abbrev pub was_refused : {W : Type 0} → Started W → Bool
+was_refused (Running h) = false
+was_refused (Here l) = true
+was_refused (Aside worker seat) = false
 
 module _ {W : Type 0} (share : W → Share) (stop : W → ℕ) where
   -- these seats are of one table and of these workers, in their order, each with its worker's share and stop
@@ -44,5 +57,6 @@ module _ {W : Type 0} (share : W → Share) where
     pub left : AllZip (HasLeft t) before after
     pub shares : map share_at after ≡ map share workers
     pub full : why ≡ Some cause.CounterFull → IsSomeFull after
+    pub thread : why ≡ Some cause.NoThread → IsSomeHalted after
     -- no worker refuses a stop
     pub lower : why ≡ Some cause.StopLower → ⊥

@@ -37,7 +37,8 @@ pub struct Ran<W> {
 /// are all those of the table, one for each worker, in their order, and a worker has what it gave there last.
 ///
 /// Memory is taken before the first thread alone. Where it is refused, no thread is started. Where a thread
-/// is refused, its worker and those that have not begun take no turn, and the others take no further one.
+/// is refused, its worker and those that have not begun take no turn, and the others take no further one. The
+/// cause is that of the first worker in order that has one.
 pub fn run_all<W: Work + Send + Drop, G: Gate + Sync, R: Threads + Wait + Sync>(
     rt: &R,
     alloc: Global,
@@ -54,6 +55,7 @@ pub fn run_all<W: Work + Send + Drop, G: Gate + Sync, R: Threads + Wait + Sync>(
     ensures bound { AllByRecursion (λ s. bound_at s ≤ result.exchange.bound) seats.items }
     ensures lower { result.cause ≡ Some cause.StopLower → ⊥ }
     ensures full { result.cause ≡ Some cause.CounterFull → IsFullAhead result.exchange.stop (map W.share result.workers.items) }
+    ensures thread { result.cause ≡ Some cause.NoThread → result.exchange.halted ≡ true }
 {
     let gathered = gather(rt, alloc, &table, workers, seats, gate);
     let Gathered {
@@ -106,21 +108,7 @@ fn gather<W: Work + Send + Drop, G: Gate + Sync, R: Threads + Wait + Sync>(
             ensures started { AllZip (IsStarted W.share W.stop table.entry.now) seats.items result.items }
         { start_all(scope, rt, table, gate, told, workers, seats, started) },
     );
-    let mut gathered = join_all(rt, table, gate, told, started, back, left);
-    gathered.cause = cause_of(refused.into_inner(), gathered.cause);
-    gathered
-}
-
-/// Why workers ended that told this, where a thread was refused or none was.
-fn cause_of(refused: bool, told: Option<EndCause>) -> Option<EndCause>
-    ensures thread { refused ≡ true → result ≡ Some cause.NoThread }
-    ensures told { refused ≡ false → result ≡ told }
-{
-    if refused {
-        Some(EndCause::NoThread)
-    } else {
-        told
-    }
+    join_all(rt, table, gate, told, started, back, left)
 }
 
 /// Workers that take no turn, for want of memory.

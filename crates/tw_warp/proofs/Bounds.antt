@@ -7,7 +7,7 @@ use Rattle.std.proofs.Math.ListN.{get_or-map}
 use Rattle.std.proofs.lemmas.Bool.{cases_Bool, cases_eq}
 use Rattle.std.proofs.lemmas.List.{length-map, map-append}
 use Rattle.std.specs.declared.vec.Vec.{Vec}
-use Rattle.tw_core.specs.Machine.{Core, antimessages, messages}
+use Rattle.tw_core.specs.Machine.{AreCounted, Core, antimessages, messages}
 use Rattle.tw_core.specs.Steps.{least_loose, least_time, with_bound}
 use Rattle.tw_core.specs.Good.{IsGood}
 use Rattle.tw_sim.specs.declared.machine.Signed.{Signed}
@@ -200,6 +200,7 @@ module _ (w : Warp) (is : IsWarp w) (bound : ℕ) where
               own = own;
             });
         good = subst (IsGood m) (sym reached) (next_keeps m (moves.law w is) (core w) Bound is.good).good;
+        counted = subst (AreCounted m) (sym reached) is.counted;
         stop = is.stop;
       }
 

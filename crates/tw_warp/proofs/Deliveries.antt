@@ -6,21 +6,23 @@ use Rattle.std.proofs.lemmas.Option.{slice_get_within}
 use Rattle.std.specs.Result.{result_unwrap_or}
 use Rattle.tw_core.specs.declared.refusal.Refusal.TheVariants.{Committed, NoMessage, NotMine}
 use Rattle.tw_core.specs.Good.{IsGood}
-use Rattle.tw_core.specs.Machine.{Core}
+use Rattle.tw_core.specs.Machine.{AreCounted, Core}
 use Rattle.tw_core.specs.Parts.{IsOwn}
 use Rattle.tw_core.specs.Steps.{after_antimessage, after_arrival, after_message, after_undoing, after_undoing_while, deliver, next, sent_back, step, undo}
+use Rattle.tw_core.proofs.Counted.{next_counted, step_counted}
 use Rattle.tw_core.proofs.Own.{own_arrival, own_undoing}
 use Rattle.tw_core.proofs.Steps.{next_keeps, step_keeps}
 use Rattle.tw_core.proofs.Steps as core_steps
 use Rattle.tw_core.proofs.Wording.{arrival-front}
 use Rattle.tw_event.specs.declared.event.Event.{Event}
+use Rattle.tw_model.proofs.Lawful.{numbered}
 use Rattle.tw_model.specs.Case.{simulation}
 use Rattle.tw_shard.specs.Arrival.{AreUndone, IsRolledBack, refusing}
 use Rattle.tw_shard.specs.Shard.{IsSameShare, Shard}
 use Rattle.tw_shard.specs.Shard as share
 use Rattle.tw_sim.specs.declared.machine.Signed.{Signed}
 use Rattle.tw_sim.specs.declared.machine.Step.TheVariants.{Deliver, Undo}
-use Rattle.tw_sim.specs.Simulation.{Simulation, IsLawful, state, times}
+use Rattle.tw_sim.specs.Simulation.{Simulation, IsLawful, IsNumbered, state, times}
 use Rattle.tw_sim.proofs.Counts.{in_head}
 use Rattle.tw_sim.proofs.Rising.{IsRising}
 use Rattle.tw_warp.specs.Warp.{IsWarp, Warp, IsCutShort, after_undos, behind, core, lent, message_at, shard_at, worker_of}
@@ -87,6 +89,13 @@ module _ {S E : Type 0} (m : Simulation S E) (law : IsLawful m) where
         );
       })
 
+  -- undo steps leave the machine good, and it counts right
+  undos_counted : IsNumbered m → (n r : ℕ) (C : Core E) → IsGood m C → AreCounted m C → IsGood m (after_undos m n r C) × AreCounted m (after_undos m n r C)
+  undos_counted unique zero r C good counted = (good, counted)
+  undos_counted unique (suc n) r C good counted =
+      let old = undos_counted unique n r C good counted in
+      ((next_keeps m law (after_undos m n r C) (Undo r) old.0).good, next_counted m law unique (after_undos m n r C) (Undo r) old.0 old.1)
+
   while_bound : (test : E → Bool) (r : ℕ) (xs : List E) (C : Core E) → (after_undoing_while m test r xs C).bound ≡ C.bound
   while_bound test r [] C = refl
   while_bound test r (e ∷ older) C =
@@ -138,10 +147,11 @@ module _ (w : Warp) (is : IsWarp w) (k : ℕ) (within : k < length w.shards) whe
 
   -- the machine with that shard
   next_good : (s : Shard) (flight : List (Signed Event)) → IsBackFrom s → s.bound ≡ w.bound → IsRising (simulation w.case) s.held → IsOwn (simulation w.case) (λ r. worker_of w r == k) (share.core w.stop s)
-      → IsGood (simulation w.case) (core (with_shard w k s flight)) → IsWarp (with_shard w k s flight)
-  next_good s flight back bound rising own good =
+      → IsGood (simulation w.case) (core (with_shard w k s flight)) → AreCounted (simulation w.case) (core (with_shard w k s flight)) → IsWarp (with_shard w k s flight)
+  next_good s flight back bound rising own good counted =
       let bare : with_shard w k (record s { outgoing = [] }) flight ≡ with_shard w k s flight = λ i. with_shard w k (record s { outgoing = sym back.none i }) flight in
-      subst IsWarp bare (next_is w is k s flight within back.same bound rising own (subst (λ v. IsGood (simulation w.case) (core v)) (sym bare) good))
+      subst IsWarp bare (next_is w is k s flight within back.same bound rising own (subst (λ v. IsGood (simulation w.case) (core v)) (sym bare) good)
+      (subst (λ v. AreCounted (simulation w.case) (core v)) (sym bare) counted))
 
   -- the message has come, and leaves the flight
   pub record IsDelivered (place j : ℕ) (s : Shard) (flight : List (Signed Event)) : Type 0 where
@@ -162,7 +172,8 @@ module _ (w : Warp) (is : IsWarp w) (k : ℕ) (within : k < length w.shards) whe
       let rising = subst (λ (D : Core Event). IsRising m D.held) came (rising_arrival m (law w is) C x (is.shares k within).held) in
       record {
         did = did;
-        good = next_good s (remove flight j) back bound rising own (step_keeps m (law w is) (core w) (core (with_shard w k s (remove flight j))) (Deliver (suc j)) is.good did).good;
+        good = next_good s (remove flight j) back bound rising own (step_keeps m (law w is) (core w) (core (with_shard w k s (remove flight j))) (Deliver (suc j)) is.good did).good
+            (step_counted m (law w is) (numbered w.case is.case) (core w) (core (with_shard w k s (remove flight j))) (Deliver (suc j)) is.good did is.counted);
       }
 
   pub delivered : (place j : ℕ) → suc j ≡ place → (x : Signed Event) (s : Shard) (flight : List (Signed Event)) → message_at w.flight place ≡ Some x → worker_of w x.event.dst ≡ k
@@ -188,6 +199,8 @@ module _ (w : Warp) (is : IsWarp w) (k : ℕ) (within : k < length w.shards) whe
       let bound : s.bound ≡ w.bound = to.bound ∙ (is.shares k within).bound in
       let own : IsOwn m (λ r. worker_of w r == k) (share.core w.stop s) = record { history = to.own.history; waiting = to.own.waiting; held = to.own.held } in
       let reached : core (with_shard w k s flight) ≡ whole m (rest w k) (share.core w.stop (behind s flight)) = joined w is.case k within s flight bound (same_cancel s back) in
+      let undone = reached ∙ (to.whole_is ∙ ap (after_undos m h.0 x.event.dst) (sym (now w is k within))) in
+      let counted = undos_counted m (law w is) (numbered w.case is.case) h.0 x.event.dst (core w) is.good is.counted in
       let stays : slice_get flight j ≡ Some x = ap (λ f. slice_get f j) to.sent.1 ∙ (before_others w.flight to.sent.0 j (slice_get_within w.flight j x there) ∙ there) in
       record {
         cut = record {
@@ -195,9 +208,9 @@ module _ (w : Warp) (is : IsWarp w) (k : ℕ) (within : k < length w.shards) whe
           count = h.0;
           there = there;
           stays = stays;
-          undone = reached ∙ (to.whole_is ∙ ap (after_undos m h.0 x.event.dst) (sym (now w is k within)));
+          undone = undone;
         };
-        good = next_good s flight back bound to.held own (subst (IsGood m) (sym reached) to.good);
+        good = next_good s flight back bound to.held own (subst (IsGood m) (sym reached) to.good) (subst (AreCounted m) (sym undone) counted.1);
       }
 
   came_from : (at s : Shard) → at ≡ shard_at w k → IsSameShare at s → s.outgoing ≡ at.outgoing → IsBackFrom s

@@ -7,7 +7,7 @@ use Rattle.std.proofs.lemmas.Option.{slice_get_within}
 use Rattle.tw_core.specs.declared.refusal.Refusal.{Refusal}
 use Rattle.tw_core.specs.declared.refusal.Refusal.TheVariants.{NotMine}
 use Rattle.tw_core.specs.Good.{IsGood, IsGoodPart}
-use Rattle.tw_core.specs.Machine.{Core}
+use Rattle.tw_core.specs.Machine.{AreCounted, Core}
 use Rattle.tw_core.specs.Parts.{IsOwn}
 use Rattle.tw_core.specs.Steps.{after_arrival, at_router, deliver, first_pending, handle, step, undo, with_commit, with_release, with_room}
 use Rattle.tw_core.proofs.Wording.{arrival-front}
@@ -194,13 +194,14 @@ module _ (w : Warp) (is : IsWarp w) where
 pub own_as : (case : Case) (j n p : ℕ) (C : Core Event) → n ≡ p → IsOwn (simulation case) (λ r. owner n r == j) C → IsOwn (simulation case) (λ r. owner p r == j) C
 own_as case j n p C is own = subst (λ q. IsOwn (simulation case) (λ r. owner q r == j) C) is own
 
--- the machine with another shard of worker k, which has what is for its routers, is one again where it is good
+-- the machine with another shard of worker k, which has what is for its routers, is one again where it is good and counts right
 pub next_is : (w : Warp) (is : IsWarp w) (k : ℕ) (s : Shard) (flight : List (Signed Event)) → k < length w.shards → IsSameShare (shard_at w k) s → s.bound ≡ w.bound
     → IsRising event_before event_same s.held
     → IsOwn (simulation w.case) (λ r. worker_of w r == k) (share.core w.stop s)
     → IsGood (simulation w.case) (core (with_shard w k (record s { outgoing = [] }) flight))
+    → AreCounted (simulation w.case) (core (with_shard w k (record s { outgoing = [] }) flight))
     → IsWarp (with_shard w k (record s { outgoing = [] }) flight)
-next_is w is k s flight within same bound held own good =
+next_is w is k s flight within same bound held own good counted =
     let next : Shard = record s { outgoing = [] } in
     let count = length-set w.shards k next in
     record {
@@ -238,5 +239,6 @@ next_is w is k s flight within same bound held own good =
             }))
       ];
       good = good;
+      counted = counted;
       stop = is.stop;
     }

@@ -3,6 +3,7 @@ use Rattle.std.proofs.Common.{◌≡◌, ℕ, suc, ◌+◌, ◌<◌, ◌≤◌, 
 use Rattle.std.proofs.lemmas.Bool.{cases_Bool, cases_eq, eq-eqb, ne_eqb}
 use Rattle.tw_core.specs.Machine.{Core, IsOpening}
 use Rattle.tw_core.specs.Parts.{IsOwn}
+use Rattle.tw_core.proofs.Counted.{opening_counted}
 use Rattle.tw_core.proofs.Steps.{good_opening}
 use Rattle.tw_event.specs.declared.event.Event.{Event}
 use Rattle.tw_event.specs.Order.{event_before, event_same}
@@ -150,6 +151,7 @@ module _ (w : Warp) (is : IsCase w.case) (some : 0 < length w.shards) (each : (k
               });
             };
         good = good_opening m (lawful w.case is) (core w) opens;
+        counted = opening_counted m (core w) opens;
         stop = most;
       }
 

@@ -5,11 +5,12 @@ use Rattle.tw_core.specs.declared.refusal.Refusal.{Refusal}
 use Rattle.tw_model.specs.declared.memory.OrMemory.{OrMemory}
 use Rattle.tw_model.specs.declared.memory.OrMemory.TheVariants as or_memory
 use Rattle.tw_core.specs.declared.refusal.Refusal.TheVariants.{NotMine}
-use Rattle.tw_core.specs.Machine.{Core}
+use Rattle.tw_core.specs.Machine.{AreCounted, Core}
 use Rattle.tw_core.specs.Parts.{IsOwn}
 use Rattle.tw_core.specs.Good.{IsGood}
 use Rattle.tw_core.specs.Steps.{at_router, first_pending, handle, step, undo, with_commit, with_release, with_room}
 use Rattle.tw_core.specs.Run.{IsSeq}
+use Rattle.tw_core.proofs.Counted.{step_counted}
 use Rattle.tw_core.proofs.Headline.{good_is_seq}
 use Rattle.tw_core.proofs.Own.{own_handle, own_release, own_undo}
 use Rattle.tw_core.proofs.Steps.{good_further, handle_keeps, step_keeps, undo_keeps, widen_keeps}
@@ -67,9 +68,9 @@ widen_good : {S E : Type 0} (m : Simulation S E) → IsLawful m → (C : Core E)
 widen_good m law C r good = record { part = (widen_keeps m law C.bound C r good.part).part; balance = good.balance; done = good.done; bound = good.bound }
 
 module _ (w : Warp) (is : IsWarp w) (k : ℕ) (within : k < length w.shards) where
-  -- a call that was made leaves the machine good
-  pub done : (t : Shard) → IsCalled w k t → IsGood (simulation w.case) (core (given_back w k t)) → IsWarp (given_back w k t)
-  done t called good = next_is w is k t t.outgoing within called.same called.bound called.held called.own good
+  -- a call that was made leaves the machine good, and it counts right
+  pub done : (t : Shard) → IsCalled w k t → IsGood (simulation w.case) (core (given_back w k t)) → AreCounted (simulation w.case) (core (given_back w k t)) → IsWarp (given_back w k t)
+  done t called good counted = next_is w is k t t.outgoing within called.same called.bound called.held called.own good counted
 
   pub handled : (t : Shard) (r : ℕ) → IsSameShare (shard_at w k) t → handling w.stop (lent w k) r ≡ Ok (share.core w.stop t) → IsCalled w k t
   handled t r same went =
@@ -173,10 +174,11 @@ pub record IsTurned (w : Warp) (k : ℕ) (make : Core Event → Result (Core Eve
   pub refused : (f : Refusal) → IsErrOf result (or_memory.Fault f) ↔ (make (core w) ≡ Err f)
 
 module _ (w : Warp) (is : IsWarp w) (k : ℕ) (within : k < length w.shards) where
-  -- the outcome of a call at the part is what it makes of the machine, which stays good
+  -- the outcome of a call at the part is what it makes of the machine, which stays good and counts right
   pub record IsOutcome (make : Core Event → Result (Core Event) Refusal) (outcome : Result (Core Event) Refusal) : Type 0 where
     pub made : make (core w) ≡ lift (simulation w.case) (rest w k) outcome
     pub good : (D : Core Event) → make (core w) ≡ Ok D → IsGood (simulation w.case) D
+    pub counted : (D : Core Event) → make (core w) ≡ Ok D → AreCounted (simulation w.case) D
     pub called : (t : Shard) → IsSameShare (shard_at w k) t → outcome ≡ Ok (share.core w.stop t) → IsCalled w k t
 
   -- the shard and the messages on their way after such a call at a shard
@@ -217,19 +219,21 @@ module _ (w : Warp) (is : IsWarp w) (k : ℕ) (within : k < length w.shards) whe
     go : (result : Result (Unit {0}) (OrMemory Refusal)) → IsBack call (shard_at w k) s flight result → IsWarp (with_shard w k s flight)
     go (Ok u) back = subst IsWarp (sym (back_again w is k within s flight none))
         (done w is k within (behind s flight) (outcome.called (behind s flight) (here back.same) back.ok)
-        (outcome.good (core (given_back w k (behind s flight))) (did back.same back.ok)))
+        (outcome.good (core (given_back w k (behind s flight))) (did back.same back.ok))
+        (outcome.counted (core (given_back w k (behind s flight))) (did back.same back.ok)))
     go (Err e) back = subst IsWarp (sym (same_again w is k within s flight back.err back.unsent)) is
 
     went : (result : Result (Unit {0}) (OrMemory Refusal)) → IsBack call (shard_at w k) s flight result → OnOk result (make (core w) ≡ Ok (core (with_shard w k s flight)))
     went (Ok u) back = did back.same back.ok ∙ ap (λ v. Ok (core v)) (sym (back_again w is k within s flight none))
     went (Err e) back = tt
 
-  -- what a step makes is good
+  -- what a step makes is good, and it counts right
   steps_on : (x : Step) (outcome : Result (Core Event) Refusal) → step (simulation w.case) (core w) x ≡ lift (simulation w.case) (rest w k) outcome
       → ((t : Shard) → IsSameShare (shard_at w k) t → outcome ≡ Ok (share.core w.stop t) → IsCalled w k t) → IsOutcome (λ C. step (simulation w.case) C x) outcome
   steps_on x outcome made called = record {
     made = made;
     good = λ D did. (step_keeps (simulation w.case) (law w is) (core w) D x is.good did).good;
+    counted = λ D did. step_counted (simulation w.case) (law w is) (numbered w.case is.case) (core w) D x is.good did is.counted;
     called = called;
   }
 
@@ -240,6 +244,7 @@ module _ (w : Warp) (is : IsWarp w) (k : ℕ) (within : k < length w.shards) whe
       record {
         made = widen_step w is k within r mine;
         good = λ D did. subst (IsGood m) (at_router_done m r (Ok (with_room m (core w) r)) (with_room m (core w) r) D refl did) (widen_good m (law w is) (core w) r is.good);
+        counted = λ D did. subst (AreCounted m) (at_router_done m r (Ok (with_room m (core w) r)) (with_room m (core w) r) D refl did) is.counted;
         called = λ t same went. widens w is k within t r same went;
       }
 
@@ -278,5 +283,6 @@ later_stop w stop is rises most = record {
     own = record { history = old.own.history; waiting = old.own.waiting; held = old.own.held };
   });
   good = good_further (simulation w.case) (law w is) (core w) stop rises is.good;
+  counted = is.counted;
   stop = most;
 }

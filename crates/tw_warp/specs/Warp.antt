@@ -2,7 +2,7 @@
 use Rattle.std.specs.Prelude.{ℕ, zero, suc, ◌≡◌, ◌<◌, ◌≤◌, ◌==◌, ◌&&◌, true, List, [], length, nat_lt, slice_get, slice_index_or, take, Option, Some, None}
 use Rattle.std.specs.List.{AllByRecursion, flat_map}
 use Rattle.tw_core.specs.Good.{IsGood}
-use Rattle.tw_core.specs.Machine.{Core, count_ahead}
+use Rattle.tw_core.specs.Machine.{AreCounted, Core, count_ahead}
 use Rattle.tw_core.specs.Parts.{IsOwn}
 use Rattle.tw_core.specs.Steps.{from, next}
 use Rattle.tw_event.specs.declared.event.Event.{Event}
@@ -82,6 +82,8 @@ pub record IsWarp (w : Warp) : Type 0 where
   pub workers : 0 < length w.shards
   pub shares : (k : ℕ) → k < length w.shards → IsShare w k (shard_at w k)
   pub good : IsGood (simulation w.case) (core w)
+  -- as many events of each router are counted as committed as are committed, so that it has room for just so many others as it is told
+  pub counted : AreCounted (simulation w.case) (core w)
   pub stop : w.stop ≤ LATEST
 
 -- a shard that sends behind these messages

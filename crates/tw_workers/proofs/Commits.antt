@@ -6,48 +6,16 @@ use Rattle.tw_core.proofs.Sums.{all_map}
 use Rattle.tw_core.specs.declared.refusal.Refusal.{Refusal}
 use Rattle.tw_core.specs.declared.refusal.Refusal.TheVariants.{NotMine}
 use Rattle.tw_core.specs.Steps.{put, with_commit}
+use Rattle.tw_model.proofs.Lawful.{lawful}
 use Rattle.tw_model.specs.Case.{simulation}
-use Rattle.tw_rule.specs.Place as place
-use Rattle.tw_rule.specs.Place.{IsPlace, Keeps, Place, with_core}
+use Rattle.tw_rule.proofs.Calls.{keeps_commit}
+use Rattle.tw_rule.specs.Place.{Keeps, with_core}
 use Rattle.tw_shard.specs.Commit.{committing}
 use Rattle.tw_shard.proofs.Shares.{listed}
 use Rattle.tw_shard.specs.Shard.{HasRun, IsSameShare, Shard, core, owns, place, routers}
-use Rattle.tw_sim.specs.Simulation.{Simulation}
 use Rattle.tw_table.specs.Shares.{Share, place_of}
 use Rattle.tw_workers.proofs.Places.{place_after}
 use Rattle.tw_workers.specs.Work.{IsAtWork, Kept}
-
-module _ {S E : Type 0} (m : Simulation S E) where
-  keeps_commit : (stop r : ℕ) (p : Place E) → IsPlace m stop p → Keeps m stop p (with_core (with_commit m (place.core stop p) r) p)
-  keeps_commit stop r p is = record {
-    worker = refl;
-    owns = refl;
-    place = record {
-      good = record {
-        falling = is.good.falling;
-        home = is.good.home;
-        soon = is.good.soon;
-        late = is.good.late;
-        ahead = is.good.ahead;
-        alone = is.good.alone;
-        suit = is.good.suit;
-      };
-      history = is.history;
-      waiting = is.waiting;
-      held = is.held;
-      done = λ q. elim (cases_Bool (q == r)) [
-        | inl same ↦ rw same (omega arith)
-        | inr other ↦ rw other (is.done q)
-      ];
-    };
-    late = λ t from. from;
-    surplus = λ e. refl;
-    done = λ q. elim (cases_Bool (q == r)) [
-      | inl same ↦ rw same (is.done q)
-      | inr other ↦ rw other (omega arith)
-    ];
-    bound = refl;
-  }
 
 pub kept_committed : (stop r : ℕ) (s : Share) (t : Shard) → IsAtWork stop s → IsSameShare s.shard t → core stop t ≡ with_commit (simulation s.shard.case) (core stop s.shard) r
     → Kept stop s (record s { shard = t })
@@ -55,7 +23,7 @@ kept_committed stop r s t work same own =
     let m = simulation s.shard.case in
     let made : with_core (with_commit m (core stop s.shard) r) (place_of s) ≡ place_of (record s { shard = t })
     = (λ i. with_core (sym own i) (place_of s)) ∙ sym (place_after stop s (record s { shard = t }) same refl refl) in
-    record { case = same.case; workers = same.workers; routers = same.routers; keeping = same.keeps; cancel = same.cancel; place = subst (Keeps m stop (place_of s)) made (keeps_commit m stop r (place_of s) work.place) }
+    record { case = same.case; workers = same.workers; routers = same.routers; keeping = same.keeps; cancel = same.cancel; place = subst (Keeps m stop (place_of s)) made (keeps_commit m (lawful s.shard.case work.case) stop r (place_of s) work.place) }
 
 -- what one of its routers has handled before the bound is the run
 pub has_run : (stop : ℕ) (s : Share) → IsAtWork stop s → (r : ℕ) → owns s.shard r ≡ true → r < s.shard.case.net.nodes → HasRun s.shard r

@@ -109,6 +109,8 @@ module _ {S E : Type 0} (m : Simulation S E) (law : IsLawful m) where
           ];
           held = place.held;
           done = place.done;
+          late = λ e h. place.late e (let a = same_messages e in let b = same_antimessages e in omega arith);
+          counted = place.counted;
         };
         late = λ t from e h. from e (let a = same_messages e in let b = same_antimessages e in omega arith);
         surplus = λ e. (let a = same_messages e in let b = same_antimessages e in omega arith);

@@ -13,7 +13,7 @@ use Rattle.tw_model.specs.Case.{Case, IsCase, simulation}
 use Rattle.tw_model.specs.Effect.{suits}
 use Rattle.tw_rule.proofs.Before.{kept_before}
 use Rattle.tw_rule.proofs.Calls.{hand_is_loose, hand_is_own, keeps_handle, keeps_receive, keeps_release, keeps_roll_back, keeps_widen}
-use Rattle.tw_rule.specs.Place.{IsFrom, IsPlace, IsRunBefore, Keeps, with_core}
+use Rattle.tw_rule.specs.Place.{IsPlace, IsRunBefore, Keeps, with_core}
 use Rattle.std.specs.Option.{option_map_or}
 use Rattle.std.specs.Result.{result_and}
 use Rattle.tw_shard.proofs.Leasts.{one_told}
@@ -90,18 +90,15 @@ run_kept stop s t work kept =
     let m = simulation s.shard.case in
     subst (λ b. IsRunBefore m b (place_of t)) (sym kept.place.bound)
     (λ r l mine.
-    kept_before m (lawful s.shard.case work.case) stop s.shard.bound (place_of s) (place_of t) work.place work.late kept.place r
+    kept_before m (lawful s.shard.case work.case) stop s.shard.bound (place_of s) (place_of t) work.place work.place.late kept.place r
     ∙ work.run r l (sym (ap (λ owns. owns r) kept.place.owns) ∙ mine))
 
 -- a worker stays at work
 pub work_kept : (stop : ℕ) (s t : Share) → IsAtWork stop s → Kept stop s t → IsAtWork stop t
 work_kept stop s t work kept =
-    let m = simulation s.shard.case in
-    let late : IsFrom m t.shard.bound (place_of t) = subst (λ b. IsFrom m b (place_of t)) (sym kept.place.bound) (kept.place.late s.shard.bound work.late) in
     record {
       case = subst IsCase (sym kept.case) work.case;
       place = subst (λ (c : Case). IsPlace (simulation c) stop (place_of t)) (sym kept.case) kept.place.place;
-      late = subst (λ (c : Case). IsFrom (simulation c) t.shard.bound (place_of t)) (sym kept.case) late;
       run = subst (λ (c : Case). IsRunBefore (simulation c) t.shard.bound (place_of t)) (sym kept.case) (run_kept stop s t work kept);
     }
 
@@ -136,7 +133,7 @@ welcome stop s x rest work first =
     let there : slice_get s.mail 0 ≡ Some x = ap (λ l. slice_get l 0) first in
     let own : owns s.shard x.event.dst ≡ true = hand_is_own m law stop (place_of s) 0 x work.place there in
     let loose = hand_is_loose m law (place_of s) 0 x there in
-    let late : s.shard.bound ≤ x.event.time = work.late x.event loose in
+    let late : s.shard.bound ≤ x.event.time = work.place.late x.event loose in
     let suit : suits s.shard.case.net x.event.dst x.event ≡ true = work.place.good.suit x.event (omega arith) in
     let not_late : nat_lt x.event.time s.shard.bound ≡ false = before_no x.event.time s.shard.bound late in
     rw own (rw not_late (rw suit refl))

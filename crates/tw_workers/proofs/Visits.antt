@@ -186,9 +186,6 @@ visited_given x y stop s q t met board same kept none sorted rises is =
     let whole = visited_whole x y stop s q t met board same kept none sorted rises is in
     own_part x y s t whole.case whole.give
 
-sooner : {S : Type 0} (m : Simulation S Event) (a b : ℕ) (p : Place Event) → b ≤ a → IsFrom m a p → IsFrom m b p
-sooner m a b p le from e h = let old = from e h in omega arith
-
 -- ---- each worker of a table is at work
 
 pub at_work : (case : Case) (x : Board) (shares : List Share) (i : ℕ) (s : Share) → IsRuled case x shares → slice_get shares i ≡ Some s → IsAtWork x.stop s
@@ -196,11 +193,9 @@ at_work case x shares i s ruled place =
     let same = all_at (λ (t : Share). t.shard.case ≡ case) shares i s place ruled.cases in
     let stands = all_at (Stands (simulation case) (who x) (board_of x)) (map place_of shares) i (place_of s) (get_map place_of shares i s place) ruled.rule.each in
     let at = here_at case x s same ruled.is_case ruled.rule.board stands ruled.rule.routers in
-    let m = simulation s.shard.case in
     record {
       case = at.is_case;
       place = at.stands.place;
-      late = sooner m x.bound s.shard.bound (place_of s) at.stands.bound (stands_from m (lawful s.shard.case at.is_case) (who x) (board_of x) (place_of s) at.board at.stands);
       run = run_before case x shares i s.shard.bound s ruled place at.stands.bound;
     }
 

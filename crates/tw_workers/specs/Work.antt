@@ -3,7 +3,7 @@ use Rattle.std.specs.Prelude.{ℕ, ◌≡◌, ◌<◌, [], true, List}
 use Rattle.std.specs.List.{AllZip}
 use Rattle.tw_event.specs.declared.event.Event.{Event}
 use Rattle.tw_model.specs.Case.{IsCase, simulation}
-use Rattle.tw_rule.specs.Place.{IsFrom, IsPlace, IsRunBefore, Keeps}
+use Rattle.tw_rule.specs.Place.{IsPlace, IsRunBefore, Keeps}
 use Rattle.tw_shard.specs.Shard.{IsSameShare, Shard, core, owns}
 use Rattle.tw_sim.specs.Simulation.{times}
 use Rattle.tw_table.specs.Shares.{Share, place_of}
@@ -19,9 +19,7 @@ pub record Worker : Type 0 where
 pub record IsAtWork (stop : ℕ) (s : Share) : Type 0 where
   pub case : IsCase s.shard.case
   pub place : IsPlace (simulation s.shard.case) stop (place_of s)
-  -- nothing of its own that is loose is before the bound that it knows
-  pub late : IsFrom (simulation s.shard.case) s.shard.bound (place_of s)
-  -- and before it, its routers have handled what the one-thread run has
+  -- before the bound that it knows, its routers have handled what the one-thread run has
   pub run : IsRunBefore (simulation s.shard.case) s.shard.bound (place_of s)
 
 -- what calls at a worker, to this stop, keep of its share

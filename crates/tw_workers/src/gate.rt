@@ -1,6 +1,7 @@
 //! What is told of each turn of a worker, and may hold it.
 
 use std::sync::Wait;
+use tw_shard::Tally;
 use tw_table::Seat;
 
 /// What is told of the turns of each worker, and may hold a worker between them. Turns are numbered from 1.
@@ -14,6 +15,9 @@ pub trait Gate {
     /// handled once more.
     fn worked(&self, _worker: u32, _handled: u64, _undone: u64) {}
 
+    /// The worker has nothing to do, and is about to wait.
+    fn waiting(&self, _worker: u32) {}
+
     /// The worker has waited for something to do, and has slept so often meanwhile: for some 20 microseconds each time,
     /// and longer where other work has its processor.
     fn waited(&self, _worker: u32, _naps: u32) {}
@@ -23,6 +27,11 @@ pub trait Gate {
 
     /// The worker has given the exchange back, and has this seat.
     fn turned(&self, seat: &Seat, turn: u64);
+
+    /// The worker has left the table, and takes no further turn there. Since it sat down it has handled so many events.
+    /// What its routers have undone, and what came of that, is counted since it left the table before, or from the
+    /// beginning of the run.
+    fn left(&self, _worker: u32, _handled: u64, _tally: &Tally) {}
 }
 
 /// A gate that never holds a worker.

@@ -197,6 +197,11 @@ impl Pace {
         self.tick.saturating_add(1)
     }
 
+    /// How many events were handled so far.
+    pub(crate) fn handled(&self) -> u64 {
+        self.handled
+    }
+
     /// What was done since the latest meeting.
     pub(crate) fn turn(&self) -> Work {
         Work {

@@ -46,6 +46,7 @@ impl<'a> Worker<'a> {
         if !self.has_work(known) {
             let worker = self.shard.worker();
             let longest = longest_nap(self.shard.router_count());
+            gate.waiting(worker);
             let naps = wait_for_news(rt, table, worker, self.idle_bound(), longest);
             gate.waited(worker, naps);
         }

@@ -4,6 +4,7 @@ ghost use Rattle.tw_model.specs.declared.limits.TheConstants.{LATEST};
 ghost use Rattle.tw_table.specs.Shares.{share};
 ghost use Rattle.tw_workers.specs.Work.{IsAtWork};
 
+use crate::gate::Gate;
 use crate::policy::{Pace, least_window};
 use std::marker::Model;
 use tw_event::Event;
@@ -57,11 +58,19 @@ impl<'a> Worker<'a> {
         }
     }
 
-    /// Its shard and its hand, as they are.
+    /// Its shard and its hand, as they are. The shard counts anew.
     pub fn into_parts(self) -> (Shard<'a>, Hand)
         ensures { share result.0 result.1 ≡ self.entry.share }
     {
-        (self.shard, self.hand)
+        let mut shard = self.shard;
+        shard.count_anew();
+        (shard, self.hand)
+    }
+
+    /// Tells a gate that it has left, and what it has done.
+    pub fn tell<G: Gate>(&self, gate: &G) {
+        let tally = self.shard.tally();
+        gate.left(self.shard.worker(), self.pace.handled(), &tally);
     }
 
     /// Its routers.

@@ -23,8 +23,8 @@ some_in id most default rows n some (inr h) = let low = h.low in omega arith
 pub runnable : (found : Option (Text × List Row)) (line : CommandLine) → Says found line → IsRunnable line
 runnable None line h = absurd h
 runnable (Some f) Check h = tt
-runnable (Some f) (Seq stop every log) h = (h.1.high, every_in _ f.1 every h.2)
-runnable (Some f) (Run stop every log workers batch lazy blocks rotate) h = (h.1.high, every_in _ f.1 every h.2, told_in _ _ f.1 workers h.4)
+runnable (Some f) (Seq stop every log progress stats) h = (h.1.high, every_in _ f.1 every h.2)
+runnable (Some f) (Run stop every log workers batch lazy blocks rotate progress stats) h = (h.1.high, every_in _ f.1 every h.2, told_in _ _ f.1 workers h.4)
 runnable (Some f) (Trail router stop keep) h = h.2.high
 runnable (Some f) (Replay stop workers lazy) h = (h.1.high, some_in _ _ _ f.1 workers (omega arith) h.2)
 runnable (Some f) Upgrade h = tt

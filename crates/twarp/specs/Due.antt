@@ -19,8 +19,8 @@ use Rattle.tw_sim.specs.declared.machine.Cancel.TheVariants.{Aggressive, Lazy}
 -- its stop and its checkpoints are within their limits, and there is a worker
 abbrev pub IsRunnable : CommandLine → Type 0
 IsRunnable Check = Unit {0}
-IsRunnable (Seq stop every log) = (stop ≤ LATEST) × IfSome every (λ n. (0 < n) × (n ≤ LATEST))
-IsRunnable (Run stop every log workers batch lazy blocks rotate) = (stop ≤ LATEST) × IfSome every (λ n. (0 < n) × (n ≤ LATEST)) × IfSome workers (λ n. 0 < n)
+IsRunnable (Seq stop every log progress stats) = (stop ≤ LATEST) × IfSome every (λ n. (0 < n) × (n ≤ LATEST))
+IsRunnable (Run stop every log workers batch lazy blocks rotate progress stats) = (stop ≤ LATEST) × IfSome every (λ n. (0 < n) × (n ≤ LATEST)) × IfSome workers (λ n. 0 < n)
 IsRunnable (Trail router stop keep) = stop ≤ LATEST
 IsRunnable (Replay stop workers lazy) = (stop ≤ LATEST) × (0 < workers)
 IsRunnable Upgrade = Unit {0}
@@ -32,8 +32,8 @@ cancel_of lazy = if lazy then Lazy else Aggressive
 -- what is written for this input, and how the program ends
 abbrev pub due : CommandLine → List ℕ → Output
 due Check = check_output
-due (Seq stop every log) = seq_output stop every log
-due (Run stop every log workers batch lazy blocks rotate) = seq_output stop every log
+due (Seq stop every log progress stats) = seq_output stop every log
+due (Run stop every log workers batch lazy blocks rotate progress stats) = seq_output stop every log
 due (Trail router stop keep) = trail_output router stop keep
 due (Replay stop workers lazy) = replay_output stop (cancel_of lazy)
 due Upgrade = upgrade_output
@@ -47,8 +47,8 @@ status_number (Err cause) = 2
 -- for this input a router's counter would pass its limit
 abbrev pub StopsFull : CommandLine → List ℕ → Type 0
 StopsFull Check input = ⊥
-StopsFull (Seq stop every log) input = GetsStuckFor stop input
-StopsFull (Run stop every log workers batch lazy blocks rotate) input = GetsStuckFor stop input
+StopsFull (Seq stop every log progress stats) input = GetsStuckFor stop input
+StopsFull (Run stop every log workers batch lazy blocks rotate progress stats) input = GetsStuckFor stop input
 StopsFull (Trail router stop keep) input = TrailGetsStuck router stop input
 StopsFull (Replay stop workers lazy) input = ⊥
 StopsFull Upgrade input = ⊥
@@ -56,8 +56,8 @@ StopsFull Upgrade input = ⊥
 -- it starts threads
 abbrev pub StartsThreads : CommandLine → Type 0
 StartsThreads Check = ⊥
-StartsThreads (Seq stop every log) = ⊥
-StartsThreads (Run stop every log workers batch lazy blocks rotate) = Unit {0}
+StartsThreads (Seq stop every log progress stats) = ⊥
+StartsThreads (Run stop every log workers batch lazy blocks rotate progress stats) = Unit {0}
 StartsThreads (Trail router stop keep) = ⊥
 StartsThreads (Replay stop workers lazy) = ⊥
 StartsThreads Upgrade = ⊥

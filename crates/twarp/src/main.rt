@@ -4,11 +4,16 @@
 //! where it is done, 1 where it refused its input, 2 where it stopped, 3 where the line is no command
 //! line. Proved: what `perform` writes is what is due for the command line, for any source and sink,
 //! and each way in which a command ends has its exit status. Not proved: where status 3 comes, and
-//! what stands on standard error; `checks/programs.py` tests both.
+//! what stands on standard error, also while a run goes on; `checks/programs.py` tests both.
 #![tactic(auto)]
 
 mod advice;
+mod clock;
+mod counts;
 mod device;
+mod figures;
+mod meter;
+mod observer;
 mod perform;
 mod tips;
 
@@ -18,6 +23,8 @@ ghost use Rattle.twarp.specs.Due.{IsRunnable, status_number};
 
 use advice::{advice_on, advice_on_router};
 use device::Device;
+use meter::{Meter, Shown};
+use observer::Observer;
 use perform::perform;
 use std::env;
 use std::io::{self, BufWriter, IsTerminal, Write};
@@ -53,7 +60,7 @@ fn main(rt: HostRuntime) -> ExitCode {
             if rt.stdin().is_terminal() {
                 let _ = rt.eprintln(AT_A_TERMINAL);
             }
-            run(&rt, line)
+            run(&rt, line, Shown::of(line, rt.stderr().is_terminal()))
         }
         Err(CommandLineFault::Help(text)) => match text.print(&rt) {
             Ok(()) => ExitCode::SUCCESS,
@@ -70,15 +77,16 @@ fn main(rt: HostRuntime) -> ExitCode {
     }
 }
 
-/// Does what the line asks, from standard input to standard output.
+/// Does what the line asks, from standard input to standard output, and shows how far it is.
 fn run<R: Input + Print + Eprint + AllocGlobal + Threads + Wait + Sync + Clock>(
     rt: &R,
     line: CommandLine,
+    shown: Shown,
 ) -> ExitCode
     requires { IsRunnable line }
     ensures { exit_status result ≤ 2 }
 {
-    let (ended, failed) = answer(rt, line);
+    let (ended, failed) = answer(rt, line, shown);
     exit_with(rt, ended, failed)
 }
 
@@ -99,20 +107,27 @@ fn exit_with(rt: &impl Eprint, ended: Result<Status, Cause>, failed: Option<Devi
 fn answer<R: Input + Print + Eprint + AllocGlobal + Threads + Wait + Sync + Clock>(
     rt: &R,
     line: CommandLine,
+    shown: Shown,
 ) -> (Result<Status, Cause>, Option<Device>)
     requires { IsRunnable line }
 {
     let alloc = rt.alloc();
+    let Ok(observer) = Observer::new(alloc, rt, asks_stats(line), Meter::new(rt, shown)) else {
+        return (Err(Cause::Memory), None);
+    };
     let mut source = OverRead::new(rt.reader());
     let mut sink = OverWrite::new(match BufWriter::new(alloc, io::writer(rt)) {
         Ok(writer) => writer,
         Err(_) => return (Err(Cause::Memory), None),
     });
-    match perform(rt, alloc, line, &mut source, &mut sink) {
+    match perform(rt, alloc, line, &mut source, &mut sink, &observer) {
         Ok(status) => match sink.into_writer().flush() {
             Ok(()) => {
                 if let Some(text) = source.refused() {
                     advise(rt, line, text);
+                }
+                if status == Status::Done {
+                    tell(rt, &observer);
                 }
                 (Ok(status), None)
             }
@@ -123,6 +138,21 @@ fn answer<R: Input + Print + Eprint + AllocGlobal + Threads + Wait + Sync + Cloc
             let output = sink.failure().map(Device::Output);
             (Err(cause), input.or(output))
         }
+    }
+}
+
+/// Whether a command line asks for what is counted.
+fn asks_stats(line: CommandLine) -> bool {
+    match line {
+        CommandLine::Seq { stats, .. } | CommandLine::Run { stats, .. } => stats,
+        _ => false,
+    }
+}
+
+/// Tells what was counted of a run, on standard error, where that was asked for.
+fn tell<R: Eprint + Clock>(rt: &R, observer: &Observer<'_, R>) {
+    if let Some(figures) = observer.figures() {
+        let _ = rt.eprint(figures);
     }
 }
 

@@ -8,20 +8,28 @@ use std::alloc::Global;
 use std::sync::Wait;
 use std::thread::Threads;
 use std::time::Clock;
-use tw_commands::{Cause, Status, check_io, replay_io, seq_io, trail_io, upgrade_io};
+use tw_commands::{
+    Cause, Progress, Stages, Status, check_io, replay_io, seq_io, trail_io, upgrade_io,
+};
 use tw_device::{Sink, Source};
 use tw_options::CommandLine;
-use tw_run::{Dealing, run_io};
+use tw_run::{Dealing, Gate, run_io};
 use tw_sim::Cancel;
 
 /// Does what a command line asks: reads its input from the source and writes the answer that is due
-/// to the sink.
-pub(crate) fn perform<X: Threads + Wait + Sync + Clock, R: Source, W: Sink>(
+/// to the sink. Of a run the observer is told each stage as it is reached, how far it is, and what each worker does.
+pub(crate) fn perform<
+    X: Threads + Wait + Sync + Clock,
+    R: Source,
+    W: Sink,
+    O: Progress + Stages + Gate + Sync,
+>(
     rt: &X,
     alloc: Global,
     line: CommandLine,
     source: &mut R,
     sink: &mut W,
+    observer: &O,
 ) -> Result<Status, Cause>
     requires line { IsRunnable line }
     requires source { R.failed source.old ≡ false }
@@ -33,7 +41,12 @@ pub(crate) fn perform<X: Threads + Wait + Sync + Clock, R: Source, W: Sink>(
 {
     match line {
         CommandLine::Check => check_io(alloc, source, sink),
-        CommandLine::Seq { stop, every, log } => seq_io(alloc, source, sink, stop, every, log),
+        CommandLine::Seq {
+            stop,
+            every,
+            log,
+            ..
+        } => seq_io(alloc, source, sink, stop, every, log, observer),
         CommandLine::Run {
             stop,
             every,
@@ -43,11 +56,13 @@ pub(crate) fn perform<X: Threads + Wait + Sync + Clock, R: Source, W: Sink>(
             lazy,
             blocks,
             rotate,
+            ..
         } => {
             let cancel = cancel_of(lazy);
             let dealing = Dealing { blocks, rotate };
             run_io(
                 rt, alloc, source, sink, stop, every, log, workers, batch, cancel, dealing,
+                observer,
             )
         }
         CommandLine::Trail { router, stop, keep } => {

@@ -60,6 +60,7 @@ impl<'a> Shard<'a> {
     {
         to.roster.reserve_one()?;
         to.timelines.reserve(1)?;
+        let held = to.held.len();
         hand_over_waiting(
             router,
             &mut self.pending,
@@ -74,6 +75,9 @@ impl<'a> Shard<'a> {
         to.timelines.push_reserved(timeline);
         to.latest = to.latest.max(self.latest);
         to.bound = to.bound.max(self.bound);
+        let held = to.held.len().saturating_sub(held);
+        self.tally.count_leaving(held);
+        to.tally.count_coming(held);
         Ok(())
     }
 }

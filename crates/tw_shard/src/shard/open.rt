@@ -13,6 +13,7 @@ ghost use Rattle.tw_sim.specs.Ordered.{insert, insert_all};
 
 use super::Shard;
 use crate::roster::Roster;
+use crate::tally::Tally;
 use crate::timeline::Timeline;
 use smallvec::SmallVec;
 use std::alloc::{AllocError, Global};
@@ -109,6 +110,7 @@ impl<'a> Shard<'a> {
             sends: SmallVec::new(alloc),
             latest: 0,
             ticks: 0,
+            tally: Tally::default(),
             bound: 0,
             keeps,
             cancel,

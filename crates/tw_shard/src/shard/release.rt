@@ -44,6 +44,7 @@ impl<'a> Shard<'a> {
         }
         self.outgoing.reserve(count)?;
         self.held.release(router, &mut self.outgoing);
+        self.tally.count_released(count);
         Ok(())
     }
 }

@@ -16,6 +16,7 @@ use super::open::insert_own;
 use crate::ahead::Ahead;
 use crate::roster::Roster;
 use crate::router_at::RouterAt;
+use crate::tally::Tally;
 use crate::timeline::Timeline;
 use smallvec::SmallVec;
 use std::alloc::{AllocError, Global};
@@ -135,6 +136,7 @@ impl<'a> VacantShard<'a> {
             // What its routers have handled is before the time.
             latest: self.time.saturating_sub(1),
             ticks: 0,
+            tally: Tally::default(),
             bound: self.time,
             keeps: self.keeps,
             cancel: self.cancel,

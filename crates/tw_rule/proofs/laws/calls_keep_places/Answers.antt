@@ -1,5 +1,5 @@
 use Rattle.tw_rule.proofs.Before.{kept_before}
-use Rattle.tw_rule.proofs.Calls.{keeps_handle, keeps_receive, keeps_release, keeps_roll_back, keeps_unsent, keeps_widen}
+use Rattle.tw_rule.proofs.Calls.{keeps_commit, keeps_handle, keeps_receive, keeps_release, keeps_roll_back, keeps_unsent, keeps_widen}
 use Rattle.tw_rule.proofs.laws.calls_keep_places.Goals as goal
 
 pub returns-clause-handle : goal.returns-clause-handle
@@ -16,6 +16,9 @@ returns-clause-unsent c = λ start m law stop p unsent outgoing place plus minus
 
 pub returns-clause-before : goal.returns-clause-before
 returns-clause-before c = λ start m law stop t p q place from keeps. kept_before m law stop t p q place from keeps
+
+pub returns-clause-commit : goal.returns-clause-commit
+returns-clause-commit c = λ start m law stop r p place. keeps_commit m law stop r p place
 
 pub returns-clause-release : goal.returns-clause-release
 returns-clause-release c = λ start m law stop r p place. keeps_release m law stop r p place

@@ -1,12 +1,12 @@
 use Rattle.std.proofs.Common.{◌≤◌, ◌-◌}
-use Rattle.tw_exchange.specs.Board.{workers}
 use Rattle.tw_run.specs.Ran.{HasComeTo}
 use Rattle.tw_run.proofs.chosen.go_on_by_all.Given as goal
 
 -- the workers have come to the end of the last stretch
 abbrev pub invariant-loop-end : goal.invariant-loop-end
 invariant-loop-end g l = record {
-  come : HasComeTo l.course.ticks l.fn.sim.case l.asked (workers l.fn.sim.board) l.run;
+  come : HasComeTo l.course.ticks l.fn.sim.case l.asked l.run;
+  later : l.fn.course.ticks ≤ l.course.ticks;
   ticks : l.course.ticks ≤ l.asked.stop;
 }
 

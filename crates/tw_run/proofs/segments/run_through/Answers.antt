@@ -1,4 +1,4 @@
 use Rattle.tw_run.proofs.segments.run_through.Goals as goal
 
-pub returns-in_ok-run_to-in-None-clause-dealt : goal.returns-in_ok-run_to-in-None-clause-dealt
-returns-in_ok-run_to-in-None-clause-dealt g c = (0, c.in_ok-run_to-in-None.ensures.dealt)
+pub returns-in_ok-run-in-None-clause-dealt : goal.returns-in_ok-run-in-None-clause-dealt
+returns-in_ok-run-in-None-clause-dealt g c = (0, c.in_ok-run-in-None.ensures.dealt)

@@ -58,6 +58,10 @@ returns-clause-goes_on g c = goes_on_both c.args.sim c.loop-seen.run c.in_ok-run
 pub returns-clause-dealt : goal.returns-clause-dealt
 returns-clause-dealt g c = (c.loop-seen.seen, c.in_ok-run-2.ensures.dealt)
 
-pub run_to-requires-2-clause-dealt : goal.run_to-requires-2-clause-dealt
-run_to-requires-2-clause-dealt g c κs within = λ stays.
+pub run_in_pieces-requires-2-clause-dealt : goal.run_in_pieces-requires-2-clause-dealt
+run_in_pieces-requires-2-clause-dealt g c κs within = λ stays.
+    dealt_always c.args.dealing c.loop-seen.invariant.2.0 c.loop-seen.seen c.loop-seen.run stays c.loop-seen.invariant.2.1
+
+pub run_in_pieces-requires-clause-dealt : goal.run_in_pieces-requires-clause-dealt
+run_in_pieces-requires-clause-dealt g c κs within = λ stays.
     dealt_always c.args.dealing c.loop-seen.invariant.2.0 c.loop-seen.seen c.loop-seen.run stays c.loop-seen.invariant.2.1

@@ -1,5 +1,5 @@
 use Rattle.std.proofs.Common.{◌≡◌, true≢false, length, rules, sym, ◌∙◌, vec_len}
-use Rattle.tw_threads.proofs.Ends.{all_left, all_same, bounds_before, full_after, seats_after, stops_before}
+use Rattle.tw_threads.proofs.Ends.{all_left, all_same, bounds_before, full_after, halted_after, seats_after, stops_before}
 use Rattle.tw_threads.proofs.run.run_all.Goals as goal
 
 pub close-requires : goal.close-requires
@@ -27,3 +27,6 @@ pub returns-clause-full : goal.returns-clause-full
 returns-clause-full g c = λ is.
     let h = c.gather-gathered.ensures in
     full_after g.W.Work.share _ _ _ h.shares c.in-Ok.ensures.stop (h.full is)
+
+pub returns-clause-thread : goal.returns-clause-thread
+returns-clause-thread g c = λ is. halted_after _ _ c.in-Ok.ensures.halted (c.gather-gathered.ensures.thread is)

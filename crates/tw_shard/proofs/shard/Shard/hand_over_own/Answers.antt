@@ -5,28 +5,28 @@ use Rattle.tw_shard.specs.Shard.{IsWhole, Shard, owns}
 use Rattle.tw_shard.proofs.HandingOver.{after_coming, after_leaving, has_come, has_left, latest_come, latest_left, whole_come, whole_left}
 use Rattle.tw_shard.proofs.shard.Shard.hand_over_own.Goals as goal
 
-mine : (c : goal.After-to-2-1) → owns (shard_of c.self.inside) c.args.router ≡ true
+mine : (c : goal.After-count_coming) → owns (shard_of c.self.inside) c.args.router ≡ true
 mine c = ap (λ s. owns s c.args.router) c.self.view_is ∙ c.requires.own
 
-new : (c : goal.After-to-2-1) → owns (shard_of c.to.inside) c.args.router ≡ false
+new : (c : goal.After-count_coming) → owns (shard_of c.to.inside) c.args.router ≡ false
 new c = ap (λ s. owns s c.args.router) c.to.view_is ∙ c.requires.new
 
-same_case : (c : goal.After-to-2-1) → (shard_of c.to.inside).case ≡ (shard_of c.self.inside).case
+same_case : (c : goal.After-count_coming) → (shard_of c.to.inside).case ≡ (shard_of c.self.inside).case
 same_case c = ap (λ s. s.case) c.to.view_is ∙ (c.requires.case ∙ ap (λ s. s.case) (sym c.self.view_is))
 
-same_keeps : (c : goal.After-to-2-1) → (shard_of c.to.inside).keeps ≡ (shard_of c.self.inside).keeps
+same_keeps : (c : goal.After-count_coming) → (shard_of c.to.inside).keeps ≡ (shard_of c.self.inside).keeps
 same_keeps c = ap (λ s. s.keeps) c.to.view_is ∙ (c.requires.keeps ∙ ap (λ s. s.keeps) (sym c.self.view_is))
 
-abbrev left : goal.After-to-2-1 → Shard
+abbrev left : goal.After-count_coming → Shard
 left c =
     after_leaving (shard_of c.self.inside) c.args.router c.self.invariant.whole (mine c) c.take_out-timeline.new.roster.routers c.take_out-timeline.new.timelines.items
     c.take_out-timeline.ensures.routers c.take_out-timeline.ensures.timelines
 
-abbrev come : goal.After-to-2-1 → Shard
+abbrev come : goal.After-count_coming → Shard
 come c =
     after_coming (shard_of c.self.inside) (shard_of c.to.inside) c.args.router c.self.invariant.whole (mine c) c.to.invariant.whole (new c) (same_case c) (same_keeps c)
 
-abbrev self_now : goal.After-to-2-1 → Shard
+abbrev self_now : goal.After-count_coming → Shard
 self_now c = record {
   case = c.self.inside.case.now;
   worker = c.self.inside.worker;
@@ -42,7 +42,7 @@ self_now c = record {
   cancel = c.self.inside.cancel;
 }
 
-abbrev to_now : goal.After-to-2-1 → Shard
+abbrev to_now : goal.After-count_coming → Shard
 to_now c = record {
   case = c.to.inside.case.now;
   worker = c.to.inside.worker;
@@ -58,7 +58,7 @@ to_now c = record {
   cancel = c.to.inside.cancel;
 }
 
-left_is : (c : goal.After-to-2-1) → left c ≡ self_now c
+left_is : (c : goal.After-count_coming) → left c ≡ self_now c
 left_is c =
     let s = shard_of c.self.inside in
     let given = c.in_ok-hand_over_waiting.ensures in
@@ -77,7 +77,7 @@ left_is c =
       cancel = s.cancel;
     }
 
-come_is : (c : goal.After-to-2-1) → come c ≡ to_now c
+come_is : (c : goal.After-count_coming) → come c ≡ to_now c
 come_is c =
     let s = shard_of c.self.inside in
     let t = shard_of c.to.inside in

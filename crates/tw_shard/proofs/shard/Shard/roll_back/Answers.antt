@@ -1,5 +1,5 @@
 use Rattle.std.proofs.Common.{ap, sym, ◌∙◌, subst, refl}
-use Rattle.tw_shard.specs.Shard.{IsSameShare}
+use Rattle.tw_shard.specs.Shard.{IsSameShare, core}
 use Rattle.tw_shard.proofs.RollBack.{fewer_left, rolled_so_far, rolling_done, rolling_more, rolling_none}
 use Rattle.tw_shard.proofs.shard.Shard.roll_back.Goals as goal
 
@@ -33,16 +33,17 @@ returns-in_err-step_back-clause-same c =
     subst (IsSameShare c.args.self.now) (sym c.in_err-step_back.ensures.err) c.loop-reach.invariant.share
 
 pub returns-clause-ok : goal.returns-clause-ok
-returns-clause-ok c =
-    rolling_done c.args.reach c.args.event.now c.args.self.now c.loop-reach.self c.must_undo.ensures.whole c.loop-reach.invariant c.requires.own c.requires.late
-    (sym c.must_undo.ensures.value ∙ c.loop-reach-test.false) c.must_undo.ensures.past
+returns-clause-ok c = λ stop.
+    ap (core stop) c.count_rollback.ensures
+    ∙ rolling_done c.args.reach c.args.event.now c.args.self.now c.loop-reach.self c.must_undo.ensures.whole c.loop-reach.invariant c.requires.own c.requires.late
+    (sym c.must_undo.ensures.value ∙ c.loop-reach-test.false) c.must_undo.ensures.past stop
 
 pub returns-clause-undone : goal.returns-clause-undone
 returns-clause-undone c =
-    rolled_so_far c.args.reach c.args.event.now c.args.self.now c.loop-reach.self c.loop-reach.self c.loop-reach.invariant refl
+    rolled_so_far c.args.reach c.args.event.now c.args.self.now c.loop-reach.self c.count_rollback.new.self c.loop-reach.invariant c.count_rollback.ensures
 
 pub returns-clause-kept : goal.returns-clause-kept
-returns-clause-kept c = c.loop-reach.invariant.kept
+returns-clause-kept c = ap (λ s. s.kept) c.count_rollback.ensures ∙ c.loop-reach.invariant.kept
 
 pub returns-clause-same : goal.returns-clause-same
-returns-clause-same c = c.loop-reach.invariant.share
+returns-clause-same c = subst (IsSameShare c.args.self.now) (sym c.count_rollback.ensures) c.loop-reach.invariant.share

@@ -89,6 +89,7 @@ returns-clause-ok c =
       sends = c.undo_at.new.sends;
       latest = a.latest;
       ticks = a.ticks;
+      tally = c.count_undone.new.self;
       bound = a.bound;
       keeps = a.keeps;
       cancel = a.cancel;

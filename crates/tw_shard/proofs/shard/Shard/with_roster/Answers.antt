@@ -12,7 +12,7 @@ opening_timelines-requires c =
     all_standing (λ r. r < c.args.case.now.net.nodes) c.routers.result.now
     (λ k r at. subst (λ n. r < n) c.requires.count (c.routers.ensures.roster.known k r (subst (λ rs. Stands rs k r) rs at)))
 
-abbrev shard_of : goal.After-new-4 → Shard
+abbrev shard_of : goal.After-default → Shard
 shard_of c = record {
   case = c.args.case.now;
   worker = c.args.worker;
@@ -28,7 +28,7 @@ shard_of c = record {
   cancel = c.args.cancel;
 }
 
-is_begun : (c : goal.After-new-4) → IsBegun (shard_of c)
+is_begun : (c : goal.After-default) → IsBegun (shard_of c)
 is_begun c = record {
   case = c.instance-instance.ensures.case;
   worker = c.requires.worker;

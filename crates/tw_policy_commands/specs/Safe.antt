@@ -1,0 +1,53 @@
+-- What `safe` writes (own).
+use Rattle.std.specs.Prelude.{ℕ, ◌==◌, List, [], ◌∷◌, ◌++◌, codes, length, map, if◌then◌else◌}
+use Rattle.std.specs.declared.vec.Vec.{Vec}
+use Rattle.std.specs.Fmt.{decimal}
+use Rattle.std.specs.List.{flat_map, range_with_len}
+use Rattle.tw_commands.specs.declared.cause.Status.TheVariants.{Done}
+use Rattle.tw_commands.specs.ForCase.{for_case}
+use Rattle.tw_commands.specs.Output.{Output}
+use Rattle.tw_elimination.specs.Bound.{is_solved, rests_before}
+use Rattle.tw_elimination.specs.Rounds.{left_in, rounds_of}
+use Rattle.tw_event.specs.declared.event.PathNo.{PathNo}
+use Rattle.tw_model.specs.Case.{Case}
+use Rattle.tw_model.specs.Net.{Net, path}
+use Rattle.tw_report.specs.declared.words.Word.{Word}
+use Rattle.tw_report.specs.Words.{line, path_text, word_text}
+use Rattle.tw_text.specs.Reading.{case_of}
+
+-- the words of router v before so many paths
+abbrev pub head_words : ℕ → ℕ → List (List ℕ)
+head_words v count = codes "router" ∷ decimal v ∷ (if count == 1 then codes "uses" ∷ [] else codes "may" ∷ codes "use" ∷ [])
+
+-- router v, with the paths that it has left
+abbrev pub left_words : Net → ℕ → List PathNo → List (List ℕ)
+left_words net v left = head_words v (length left) ++ map (λ q. path_text (path net q)) left
+
+-- the texts of each of these lists of words
+abbrev pub texts : {Z : Type 0} → List (Vec Word Z) → List (List (List ℕ))
+texts lines = map (λ words. map word_text words.items) lines
+
+-- that the case rests before this time
+abbrev pub safe_lines : ℕ → List ℕ
+safe_lines time = line (codes "rests" ∷ codes "before" ∷ decimal time ∷ []) ++ line (codes "verdict" ∷ codes "safe" ∷ [])
+
+-- the verdict after n rounds, and from when on the case rests, where each router has one path left
+abbrev pub verdict_lines : Case → ℕ → List ℕ
+verdict_lines case n = if is_solved case n then safe_lines (rests_before case n) else line (codes "verdict" ∷ codes "wheel" ∷ [])
+
+-- the name of the format, the number of rounds, the routers, and the verdict
+unfoldable pub answer_text : ℕ → List (List (List ℕ)) → List ℕ → List ℕ
+answer_text n routers verdict =
+    line (codes "spp-safe" ∷ codes "1" ∷ []) ++ (line (codes "rounds" ∷ decimal n ∷ []) ++ (flat_map line routers ++ verdict))
+
+-- what elimination leaves after n rounds
+abbrev pub safe_text : Case → ℕ → List ℕ
+safe_text case n = answer_text n (map (λ v. left_words case.net v (left_in case n v)) (range_with_len 0 case.net.nodes)) (verdict_lines case n)
+
+-- what it leaves at the halt
+abbrev pub safety_of : Case → Output
+safety_of case = record { status = Done; text = safe_text case (rounds_of case) }
+
+-- the same for the case of a text, or why it has none
+abbrev pub safe_output : List ℕ → Output
+safe_output input = for_case safety_of (case_of input)
