@@ -5,7 +5,9 @@
 
 What is known of the cases is from the literature (`cases/README.md`). Where the program tells that
 a case is safe, twarp runs it to the time told: nothing may be pending then, and each router has to
-use the path told. What is left then must hold for other delays too.
+use the path told. What is left then must hold for other delays too. Each dispute wheel that is told
+is judged by its definition, also on random policies, and robust must be what has a topological
+order, each path after the better ones of its router and after the one that it goes on with.
 """
 from __future__ import annotations
 
@@ -13,18 +15,19 @@ import random
 import re
 import sys
 import tempfile
+from graphlib import CycleError, TopologicalSorter
 from pathlib import Path
 
 from common import CASES, NOTHING, PROGRAM, TOP, Ended, Tally, need, run
 
 POLICY = TOP / "crates/twarp_policy/out/twarp_policy"
 
-# Where elimination leaves each router one path, and where there is a dispute wheel.
+# Where there is no dispute wheel, and where there is one by how the routers stand once the script is over.
 KNOWN = {
-    "good-gadget": "safe",
-    "failure-and-repair": "safe",
-    "shortest-1": "safe",
-    "shortest-2": "safe",
+    "good-gadget": "robust",
+    "failure-and-repair": "robust",
+    "shortest-1": "robust",
+    "shortest-2": "robust",
     "disagree": "wheel",
     "naughty-gadget": "wheel",
     "bad-gadget": "wheel",
@@ -34,22 +37,73 @@ KNOWN = {
     "wedgie": "wheel",
 }
 
-# DISAGREE, by hand: one round takes the empty path, since the origin always offers its own.
+# DISAGREE, by hand: one round takes the empty path, since the origin always offers its own. Its dispute
+# wheel is that of Griffin, Shepherd and Wilfong 2002.
 DISAGREE = """\
 spp-safe 1
 rounds 1
 router 0 uses (0)
 router 1 may use (1 2 0) (1 0)
 router 2 may use (2 1 0) (2 0)
+wheel 1 (1 0) (1 2 0)
+wheel 2 (2 0) (2 1 0)
 verdict wheel
 """
 
+# How many stable assignments there are.
+STABLE = {
+    "good-gadget": 1,
+    "failure-and-repair": 1,
+    "shortest-1": 1,
+    "shortest-2": 1,
+    "disagree": 2,
+    "naughty-gadget": 1,
+    "bad-gadget": 0,
+    "bad-backup": 0,
+    "one-violation": 0,
+    "ring-of-three": 0,
+    "wedgie": 2,
+}
+
+# The two stable assignments of DISAGREE, by hand: one router has the way by the other.
+DISAGREE_STABLE = """\
+spp-stable 1
+assignment 1
+router 0 rib (0)
+router 1 rib (1 2 0)
+router 2 rib (2 0)
+assignment 2
+router 0 rib (0)
+router 1 rib (1 0)
+router 2 rib (2 1 0)
+verdict stable 2
+"""
+
 USES = re.compile(r"router (\d+) uses (\([\d ]*\))")
+PATH = re.compile(r"^path \d+ ([\d ]+)$", re.M)
+WHEEL = re.compile(r"^wheel (\d+) \(([\d ]+)\) \(([\d ]+)\)$", re.M)
 LATEST = 1_000_000_000
+RANDOM_POLICIES = 100
+
+Nodes = tuple[int, ...]
 
 
 def judge(source: Path) -> Ended:
     return run([POLICY, "safe"], source)
+
+
+def list_stable(source: Path, *options: str) -> Ended:
+    return run([POLICY, "stable", *options], source)
+
+
+def pairs(count: int) -> str:
+    """So many DISAGREEs beside one another: each pair of routers has two ways to agree."""
+    lines = ["spp 1", f"nodes {2 * count + 1}"]
+    ends = [(2 * k + 1, 2 * k + 2) for k in range(count)]
+    lines += [f"link 0 {v} 1" for v in range(1, 2 * count + 1)] + [f"link {a} {b} 1" for a, b in ends]
+    for a, b in ends:
+        lines += [f"path {a} {a} {b} 0", f"path {a} {a} 0", f"path {b} {b} {a} 0", f"path {b} {b} 0"]
+    return "\n".join([*lines, "end", ""])
 
 
 def with_other_delays(text: str, seed: int) -> str:
@@ -70,12 +124,87 @@ def wrong_run(told: str, source: Path) -> str | None:
     return None if ribs == dict(USES.findall(told)) else "the run ends with other paths"
 
 
+def nodes_of(words: str) -> Nodes:
+    return tuple(map(int, words.split()))
+
+
+def orders_of(text: str) -> dict[int, list[Nodes]]:
+    """The paths of each router, best first, of a case that exchanges no ranks."""
+    orders: dict[int, list[Nodes]] = {}
+    for words in PATH.findall(text):
+        nodes = nodes_of(words)
+        orders.setdefault(nodes[0], []).append(nodes)
+    return orders
+
+
+def wrong_pivot(orders: dict[int, list[Nodes]], router: int, spoke: Nodes, rim: Nodes, following: Nodes) -> str | None:
+    """What is wrong with a pivot whose rim path has to go on with the spoke that follows."""
+    ranks = orders[router]
+    if spoke not in ranks or rim not in ranks or ranks.index(spoke) <= ranks.index(rim):
+        return f"router {router} would not rather have {rim} than {spoke}"
+    tails = [rim[hop:] for hop in range(1, len(rim))]
+    if following not in tails:
+        return f"{rim} does not go on with {following}"
+    way = tails[: tails.index(following) + 1]
+    return None if all(tail in orders[tail[0]] for tail in way) else f"{rim} leads by a path that is not ranked"
+
+
+def wrong_wheel(told: str, text: str) -> str | None:
+    """What is wrong with the dispute wheel told, by the definition of Griffin, Shepherd and Wilfong 2002."""
+    orders = orders_of(text)
+    pivots = [(int(router), nodes_of(spoke), nodes_of(rim)) for router, spoke, rim in WHEEL.findall(told)]
+    if not pivots:
+        return "no pivot is told"
+    ring = zip(pivots, pivots[1:] + pivots[:1])
+    return next(filter(None, (wrong_pivot(orders, *pivot, following[1]) for pivot, following in ring)), None)
+
+
+def has_one_list(text: str) -> bool:
+    """Whether all paths have a topological order, each after the better ones of its router and after the one that it goes on with."""
+    orders = orders_of(text)
+    before = {path: {*ranks[:place], path[1:]} for ranks in orders.values() for place, path in enumerate(ranks)}
+    try:
+        TopologicalSorter(before).prepare()
+    except CycleError:
+        return False
+    return True
+
+
+def random_policy(seed: int) -> str:
+    """A case without a script: all routers are neighbours, and rank some paths and their rests at random."""
+    lot = random.Random(seed)
+    nodes = lot.randint(3, 8)
+    lines = ["spp 1", f"nodes {nodes}"]
+    lines += [f"link {first} {second} {lot.randint(1, 9)}" for first in range(nodes) for second in range(first + 1, nodes)]
+    drawn = [(*lot.sample(range(1, nodes), lot.randint(1, min(4, nodes - 1))), 0) for _ in range(2 * nodes)]
+    paths = sorted({path[hop:] for path in drawn for hop in range(len(path) - 1)})
+    lines += [f"path {path[0]} {' '.join(map(str, path))}" for path in lot.sample(paths, len(paths))]
+    return "\n".join([*lines, "end", ""])
+
+
+def check_random(tally: Tally, folder: Path) -> None:
+    """Random policies: each wheel told is one, and what is safe comes to rest with the paths told."""
+    for seed in range(RANDOM_POLICIES):
+        source = folder / "random.spp"
+        text = random_policy(seed)
+        source.write_text(text)
+        done = judge(source)
+        told = done.out.decode()
+        verdict = told.split()[-1]
+        wrong = wrong_wheel(told, text) if verdict == "wheel" else wrong_run(told, source)
+        if (verdict == "robust") != has_one_list(text):
+            wrong = f"the verdict is {verdict}"
+        tally.add(f"random policy {seed}", wrong if done.status == 0 else told)
+
+
 def check_case(tally: Tally, name: str, verdict: str, folder: Path) -> None:
     source = CASES / f"{name}.spp"
     done = judge(source)
     told = done.out.decode()
     tally.add(f"verdict on {name}", None if done.status == 0 and told.endswith(f"verdict {verdict}\n") else told)
-    if verdict == "safe":
+    if verdict == "wheel":
+        tally.add(f"wheel of {name}", wrong_wheel(told, source.read_text()))
+    else:
         tally.add(f"run of {name}", wrong_run(told, source))
     for seed in range(5):
         other = folder / "other.spp"
@@ -83,18 +212,61 @@ def check_case(tally: Tally, name: str, verdict: str, folder: Path) -> None:
         again = judge(other).out.decode()
         same = re.sub(r"rests before \d+", "", again) == re.sub(r"rests before \d+", "", told)
         tally.add(f"other delays of {name}", None if same else again)
-        if verdict == "safe":
+        if verdict != "wheel":
             tally.add(f"run of {name} by other delays", wrong_run(again, other))
+
+
+def check_failure(tally: Tally, folder: Path) -> None:
+    """DISAGREE without its link from 0 to 1: router 1 has the way by 2 alone. So it is safe, and not robust."""
+    source = folder / "failure.spp"
+    source.write_text((CASES / "disagree.spp").read_text().replace("end\n", "fail 3 0 1\nend\n"))
+    told = judge(source).out.decode()
+    tally.add("DISAGREE after a failure", None if told.endswith("verdict safe\n") else told)
+    tally.add("run of DISAGREE after a failure", wrong_run(told, source))
+
+
+def random_relationships(seed: int) -> str:
+    """Forty ASes, each but the first a customer of one or two before it, and some of them peers."""
+    lot = random.Random(seed)
+    providers = {(provider, customer) for customer in range(2, 41) for provider in lot.choices(range(1, customer), k=2)}
+    peers = {tuple(sorted(lot.sample(range(1, 41), 2))) for _ in range(20)} - providers
+    return "\n".join([*(f"{one}|{two}|-1" for one, two in sorted(providers)), *(f"{one}|{two}|0" for one, two in sorted(peers)), ""])
+
+
+def check_hierarchies(tally: Tally, folder: Path) -> None:
+    """Policies by the conditions of Gao and Rexford 2001 have no dispute wheel."""
+    source = folder / "hierarchy.spp"
+    for seed in range(5):
+        source.write_text(random_relationships(seed))
+        source.write_bytes(run([TOP / "tools/relationships", "--destination", "40"], source).out)
+        told = judge(source).out.decode()
+        tally.add(f"hierarchy {seed}", None if told.endswith("verdict robust\n") else told[-200:])
+
+
+def check_stable(tally: Tally, folder: Path) -> None:
+    """How many stable assignments there are, and what is told where the splits do not suffice."""
+    for name, count in STABLE.items():
+        told = list_stable(CASES / f"{name}.spp").out.decode()
+        tally.add(f"stable assignments of {name}", None if told.endswith(f"verdict stable {count}\n") else told)
+    done = list_stable(CASES / "disagree.spp")
+    tally.add("stable assignments of DISAGREE by hand", None if done == Ended(0, DISAGREE_STABLE.encode(), b"") else f"{done}")
+    source = folder / "pairs.spp"
+    source.write_text(pairs(6))
+    # Each of the 6 pairs doubles the assignments: 64 at the ends of 63 splits.
+    for splits, verdict in [(63, "stable 64"), (62, "stable at least 62"), (6, "stable at least 2"), (0, "stable at least 0")]:
+        told = list_stable(source, "--splits", str(splits)).out.decode()
+        ends = told.endswith(f"verdict {verdict}\n") and told.count("assignment") == int(verdict.split()[-1])
+        tally.add(f"six pairs by {splits} splits", None if ends else told[-60:])
 
 
 def check_line(tally: Tally) -> None:
     """The command line, and a text that is refused."""
     tally.add("DISAGREE by hand", None if judge(CASES / "disagree.spp") == Ended(0, DISAGREE.encode(), b"") else "another answer")
     tally.add("no case", None if judge(NOTHING) == Ended(1, b"refused line 1 X6 End\n", b"") else "another answer")
-    for words in [["--help"], ["--version"], ["safe", "--help"]]:
+    for words in [["--help"], ["--version"], ["safe", "--help"], ["stable", "--help"]]:
         done = run([POLICY, *words], NOTHING)
         tally.add(" ".join(words), None if done.status == 0 and done.out and not done.err else f"{done}")
-    for words in [[], ["safe", "--stop"], ["seq"], ["safe", "case.spp"]]:
+    for words in [[], ["safe", "--stop"], ["seq"], ["safe", "case.spp"], ["stable", "--splits"], ["stable", "--splits", "x"], ["stable", "--splits=1000000001"]]:
         done = run([POLICY, *words], NOTHING)
         tally.add(f"no command line: {words}", None if done.status == 3 and not done.out and done.err else f"{done}")
 
@@ -106,6 +278,10 @@ def main() -> None:
     with tempfile.TemporaryDirectory() as name:
         for case, verdict in KNOWN.items():
             check_case(tally, case, verdict, Path(name))
+        check_failure(tally, Path(name))
+        check_hierarchies(tally, Path(name))
+        check_random(tally, Path(name))
+        check_stable(tally, Path(name))
     check_line(tally)
     tally.end()
 

@@ -1,5 +1,5 @@
 #!/usr/bin/env python3
-"""Tests the script twarp with stand-ins for rt and rattle: nothing is proved or built.
+"""Tests the scripts twarp and twarp-policy with stand-ins for rt and rattle: nothing is proved or built.
 
     script.py                        takes some seconds
 """
@@ -15,6 +15,7 @@ import time
 import unittest
 from collections.abc import Collection, Iterator
 from pathlib import Path
+from typing import Any
 
 from common import TOP, run_tests
 from tools_common import Done
@@ -66,10 +67,11 @@ while [ "$1" != -o ]; do shift; done
 printf '#!/bin/sh\necho proved "$@"\nexit 3\n' >"$2"
 chmod +x "$2"
 """
-CRATES = "# the crates\ntw_low:\ntw_high: tw_low\ntwarp: clap tw_low tw_high # the program\ntw_rows: tw_low\n"
+CRATES = "# the crates\ntw_low:\ntw_high: tw_low\ntwarp: clap tw_low tw_high # the program\ntwarp_policy: tw_low\ntw_rows: tw_low\n"
 # The calls of a build where nothing is kept.
 ALL = ["rattle tw_low", "rattle tw_high", "rattle twarp", "link"]
 NO_TOOLCHAIN = "/usr/bin:/bin"
+SCRIPTS = "twarp", "twarp-policy"
 
 # Seconds after which the script is given up.
 LIMIT = 300
@@ -81,9 +83,10 @@ class ScriptTest(unittest.TestCase):
         self.addCleanup(folder.cleanup)
         self.clone, self.kit = Path(folder.name, "clone"), Path(folder.name, "kit")
         shutil.copytree(TOP / "tools", self.clone / "tools")
-        shutil.copy(TOP / "twarp", self.clone)
+        for name in SCRIPTS:
+            shutil.copy(TOP / name, self.clone, follow_symlinks=False)
         (self.clone / "crates.txt").write_text(CRATES)
-        for crate in "tw_low", "tw_high", "twarp":
+        for crate in "tw_low", "tw_high", "twarp", "twarp_policy":
             for part in "src", "specs", "proofs":
                 (self.clone / "crates" / crate / part).mkdir(parents=True)
         (self.kit / "bin").mkdir(parents=True)
@@ -103,11 +106,11 @@ class ScriptTest(unittest.TestCase):
 
     @contextlib.contextmanager
     def start(
-        self, *words: str, path: str | None = None, stdin: int = subprocess.DEVNULL
+        self, *words: str, name: str = "twarp", path: str | None = None, stdin: int = subprocess.DEVNULL
     ) -> Iterator[subprocess.Popen[bytes]]:
-        """The script, which is ended where a test gives it up."""
+        """A script, which is ended where a test gives it up."""
         with subprocess.Popen(
-            [self.clone / "twarp", *words],
+            [self.clone / name, *words],
             env={"PATH": path or f"{self.kit / 'bin'}:{NO_TOOLCHAIN}", "TMPDIR": str(self.room)},
             stdin=stdin,
             stdout=subprocess.PIPE,
@@ -118,8 +121,8 @@ class ScriptTest(unittest.TestCase):
             finally:
                 script.kill()
 
-    def run_script(self, *words: str, path: str | None = None) -> Done:
-        with self.start(*words, path=path) as script:
+    def run_script(self, *words: str, **how: Any) -> Done:
+        with self.start(*words, **how) as script:
             out, err = script.communicate(timeout=LIMIT)
         return Done(script.returncode, out.decode(), err.decode())
 
@@ -135,10 +138,26 @@ class ScriptTest(unittest.TestCase):
         self.assertEqual((done.status, done.out), (status, out), done.err)
 
     def test_help_builds_nothing(self) -> None:
-        done = self.run_script("--help")
-        self.assertEqual((done.status, done.err, self.calls()), (0, "", []))
-        for word in "--build", "--try", "1 MiB", "a minute":
-            self.assertIn(word, done.out)
+        for name in SCRIPTS:
+            done = self.run_script("--help", name=name)
+            self.assertEqual((done.status, done.err, self.calls()), (0, "", []))
+            for word in f"{name} --build", f"{name} --try", "1 MiB", "a minute":
+                self.assertIn(word, done.out)
+
+    def test_each_program_has_its_own_script(self) -> None:
+        self.assert_ended(self.run_script("--build"), 0, "")
+        self.assertEqual(self.calls(), ALL)
+        done = self.run_script("safe", "x", name="twarp-policy")
+        self.assert_ended(done, 3, "proved safe x\n")
+        self.assertRegex(done.err, r"^twarp-policy: proving and building the program: 2 crates")
+        # What the build of twarp has proved is not proved again.
+        self.assertEqual(self.calls(), ["rattle twarp_policy", "link"])
+        self.assertEqual(self.run_script("safe", name="twarp-policy"), Done(3, "proved safe\n", ""))
+        self.assertEqual(self.run_script("seq"), Done(3, "proved seq\n", ""))
+        self.assertEqual(self.calls(), [])
+        done = self.run_script("--try", "check", name="twarp-policy")
+        self.assert_ended(done, 0, "words check\n")
+        self.assertRegex(done.err, r"^twarp-policy: this run is not proved.*\./twarp-policy --build")
 
     def test_a_run_without_proofs_has_the_programs_ends(self) -> None:
         done = self.run_script("--try", "check", "a  b", "")

@@ -1,10 +1,10 @@
 #!/usr/bin/env python3
 """Tests the programs in tools/ and the commands of docs/TUTORIAL.md, on the built program.
 
-    checks/tools.py [--program FILE] [WORD ..]     once `rt ci`, or `./twarp --build`, has built it
-    checks/tools.py --no-program [WORD ..]         leaves out what needs the program
+    checks/tools.py [--program FILE] [--policy FILE] [WORD ..]    once `rt ci`, or `./twarp --build`, has built it
+    checks/tools.py --no-program [WORD ..]                        leaves out what needs the programs
 
-WORD picks the tests whose names have it. The last line is 'N passed, M failed'; what needs
+--policy names twarp-policy; what needs it is left out where it is not there. WORD picks the tests whose names have it. The last line is 'N passed, M failed'; what needs
 Graphviz or Chromium is left out where that is not installed, and a line says so. The inputs are in
 checks/inputs.
 """
@@ -25,6 +25,7 @@ import tools_import
 import tools_install
 import tools_package
 import tools_page
+import tools_policy
 import tools_relationships
 import tools_sweep
 import tools_tutorial
@@ -43,6 +44,7 @@ MODULES = (
     tools_package,
     tools_cases,
     tools_versions,
+    tools_policy,
     tools_tutorial,
     tools_install,
     tools_bench,
@@ -63,11 +65,15 @@ def main() -> None:
     )
     parser.add_argument("words", metavar="WORD", nargs="*")
     parser.add_argument("--program", type=Path, default=tools_common.program)
+    parser.add_argument("--policy", type=Path, default=tools_common.policy)
     parser.add_argument("--no-program", dest="program", action="store_const", const=None)
     line = parser.parse_args()
     tools_common.program = line.program and line.program.absolute()
+    tools_common.policy = line.program and line.policy and line.policy.absolute()
     if line.program:
         need(line.program, "./twarp --build")
+    if tools_common.policy:
+        need(tools_common.policy, "./twarp-policy --build")
     run_tests(all_tests(line.words))
 
 

@@ -170,9 +170,10 @@ class CasesOfTheLiterature(ToolTest):
         told = re.findall(r"`((?:\./twarp|sed) [^`]+)`[^`]* says `(?:verdict )?([^`]+)`", page)
         self.assertGreaterEqual(len(told), len(re.findall("^### ", page, re.M)) - 1)
         with tempfile.TemporaryDirectory() as name:
-            folder, program = Path(name), tools_common.need_program()
-            tutorial.lay_out(folder, program)
+            folder = Path(name)
+            programs = tutorial.Programs(tools_common.need_program(), tools_common.need_policy())
+            tutorial.lay_out(folder, programs)
             for command, verdict in told:
                 with self.subTest(command):
-                    output = tutorial.run(tutorial.Command(0, command), folder, program)
+                    output = tutorial.run(tutorial.Command(0, command), folder, programs)
                     self.assertEqual(output.splitlines()[-1], f"verdict {verdict}")

@@ -1,6 +1,7 @@
 """What the tests of the tools share: how a tool or the program is run, and how it should end."""
 from __future__ import annotations
 
+import os
 import resource
 import shutil
 import subprocess
@@ -16,9 +17,13 @@ from common import CASES, INPUTS, PROGRAM, TOP
 HAS_GRAPHVIZ = shutil.which("dot") is not None
 needs_graphviz = unittest.skipUnless(HAS_GRAPHVIZ, "Graphviz is not installed")
 
-# The built program, where the command line of the tests names no other; None where what needs it
-# is left out.
+# The built programs, where the command line of the tests names no others; None where what needs
+# them is left out.
 program: Path | None = PROGRAM
+POLICY = TOP / "crates/twarp_policy/out/twarp_policy"
+policy: Path | None = POLICY if POLICY.exists() else None
+# Tests that do not name twarp-policy are the same where it is built.
+os.environ["TWARP_POLICY"] = os.devnull
 
 
 @dataclass(frozen=True)
@@ -82,6 +87,12 @@ def need_program() -> Path:
     if program is None:
         raise unittest.SkipTest("it needs the program")
     return program
+
+
+def need_policy() -> Path:
+    if policy is None:
+        raise unittest.SkipTest("it needs the program twarp-policy")
+    return policy
 
 
 def twarp(*words: object, stdin: str) -> str:

@@ -251,7 +251,8 @@ def completed(script: str, line: str) -> set[str]:
     words = line.split(" ")
     given = f"COMP_WORDS=({' '.join(map(repr, words))}); COMP_CWORD={len(words) - 1}"
     shown = 'printf "%s\\n" "${COMPREPLY[@]}"'
-    done = run("bash", "--norc", "-c", "\n".join([script, given, "_twarp", shown]))
+    function = f"_{words[0].replace('-', '_')}"
+    done = run("bash", "--norc", "-c", "\n".join([script, given, function, shown]))
     assert (done.status, done.err) == (0, ""), done.err
     return set(done.out.split())
 

@@ -196,7 +196,7 @@ class PageDrawing(ToolTest):
                 points = lay_out(neighbours, 80, 50, 0)
                 self.assertEqual(points, lay_out(neighbours, 80, 50, 0))
                 self.assertEqual(
-                    (min(point.x for point in points), min(point.y for point in points)), (0, 0)
+                    (min(point.real for point in points), min(point.imag for point in points)), (0, 0)
                 )
                 self.assertTrue(all(distance(a, b) >= 49.8 for a, b in combinations(points, 2)))
 
@@ -205,7 +205,7 @@ class PageDrawing(ToolTest):
         lengths = [distance(a, b) for a, b in combinations(points, 2)]
         for length, wanted in zip(lengths, (100, 200, 300, 100, 200, 100)):
             self.assertAlmostEqual(length, wanted, delta=4)
-        self.assertEqual(max(points, key=lambda point: point.y), points[0])
+        self.assertEqual(max(points, key=lambda point: point.imag), points[0])
 
     def test_colours_have_contrast(self) -> None:
         for place in PLACES:

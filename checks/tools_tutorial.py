@@ -5,16 +5,16 @@ import tempfile
 from pathlib import Path
 from xml.etree import ElementTree
 
-from tools_common import HAS_GRAPHVIZ, ToolTest, need_program
+from tools_common import HAS_GRAPHVIZ, ToolTest, need_policy, need_program
 from twarp_tools import tutorial
 
 
 class Tutorial(ToolTest):
     def test_its_commands_and_pictures(self) -> None:
-        page = tutorial.PAGE.read_text()
+        page, programs = tutorial.PAGE.read_text(), tutorial.Programs(need_program(), need_policy())
         with tempfile.TemporaryDirectory() as name:
             folder = Path(name)
-            for command, output in tutorial.follow(page, folder, need_program()):
+            for command, output in tutorial.follow(page, folder, programs):
                 if HAS_GRAPHVIZ or "| dot " not in command.text:
                     with self.subTest(command.text, line=command.line):
                         self.assertEqual(output, command.output)

@@ -24,6 +24,9 @@ try:
 except twarp.Refused as fault:
     print(fault.line, fault.code, fault.name)
 
+# Whatever the delays: a dispute wheel, and how many stable assignments there are.
+print(twarp.safe(case), len(twarp.stable(case).assignments))
+
 # Over unknown delays of the origin's links: who wins how often, and how late?
 trials = list(twarp.sweep(case, stop=100, every=1, delays="1-10", links=[(0, 1), (0, 2)], runs=100))
 print(trials[1].seed, trials[1].values, trials[1].end.verdict)

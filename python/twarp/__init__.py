@@ -17,6 +17,7 @@ from twarp.draws import Exponential, LogNormal, Uniform
 from twarp.errors import Refused, Stopped
 from twarp.event import Allow, Event, Fail, Forbid, Restore, Start, Swap, Update
 from twarp.outcomes import Outcome, Outcomes
+from twarp.policy import Pivot, Safety, Stable, safe, stable
 from twarp.report import Open, Oscillates, Quiet, Replay, Report, RouterLine, Step, Trail, Undone
 from twarp.sweeps import Sweep, cluster, sweep
 from twarp.trials import End, Failed, Trial
@@ -24,7 +25,8 @@ from twarp.trials import End, Failed, Trial
 # fmt: off
 __all__ = [
     "Allow", "BarScene", "Case", "End", "Event", "Exponential", "Fail", "Failed", "Forbid", "Link", "LinkScene",
-    "LogNormal", "Open", "Oscillates", "Outcome", "Outcomes", "Quiet", "Refused", "Replay", "Report", "Restore",
-    "RouterLine", "Size", "Start", "Step", "Stopped", "Swap", "SwapScene", "Sweep", "Trail", "Trial", "Undone",
-    "Uniform", "Update", "check", "cluster", "pictures", "replay", "run", "seq", "sweep", "trail", "upgrade", "version",
+    "LogNormal", "Open", "Oscillates", "Outcome", "Outcomes", "Pivot", "Quiet", "Refused", "Replay", "Report",
+    "Restore", "RouterLine", "Safety", "Size", "Stable", "Start", "Step", "Stopped", "Swap", "SwapScene", "Sweep",
+    "Trail", "Trial", "Undone", "Uniform", "Update", "check", "cluster", "pictures", "replay", "run", "safe", "seq",
+    "stable", "sweep", "trail", "upgrade", "version",
 ]

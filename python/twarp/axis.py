@@ -1,5 +1,4 @@
 """The time axis of a picture: where a time stands, and the marks on it."""
-from __future__ import annotations
 
 from collections.abc import Iterable, Iterator
 from dataclasses import dataclass

@@ -3,7 +3,6 @@
 All raise Refused where the program refuses the case or an option, Stopped where it stops, and ValueError where it does
 not take an option. `program` names the file of the program; else it is looked for (`twarp.program.find`).
 """
-from __future__ import annotations
 
 from collections.abc import Sequence
 from dataclasses import dataclass

@@ -9,7 +9,7 @@ from typing import TYPE_CHECKING, Any
 
 from twarp import program
 from twarp.errors import Refused
-from twarp.lines import Line, Nodes, lines_of
+from twarp.lines import Nodes, lines_of, quote
 
 if TYPE_CHECKING:
     import networkx
@@ -205,9 +205,9 @@ class Case:
         self.scenes.append(BarScene("allow", time, router, place))
         return self
 
-    def take(self, line: Line) -> None:
+    def take(self, line: str) -> None:
         """Adds what a line of a case text says; ValueError or TypeError where it says nothing."""
-        word, *rest = line.words
+        word, *rest = line.split(" ")
         match word, list(map(int, rest)):
             case "spp", [1 | 2 as version]:
                 self.version = version
@@ -273,6 +273,9 @@ WHICH = "which rule is broken is told by the program, which is not here"
 AFTER_END = f"the text goes on after its line `end`; {WHICH}"
 
 
+NumberedLine = tuple[int, str]
+
+
 @cache
 def path_line(path: Nodes) -> str:
     """The line of a permitted path, which is kept since a sweep writes each of them many times."""
@@ -283,27 +286,27 @@ def read_case(text: bytes, named: program.File | None = None) -> Case:
     """The case of a case text; refused as the program refuses it. Where there is none the text alone is looked at."""
     case, rest = case_and_rest(text, ["check"], named)
     if rest:
-        raise Refused.at_line(rest[0].number, AFTER_END)
+        raise Refused.at_line(rest[0][0], AFTER_END)
     return case
 
 
-def case_and_rest(text: bytes, words: list[str], named: program.File | None = None) -> tuple[Case, list[Line]]:
+def case_and_rest(text: bytes, words: list[str], named: program.File | None = None) -> tuple[Case, list[NumberedLine]]:
     """The case with which a text begins and the lines behind it. With these words the program judges the whole."""
     file = program.find(named)
     if file:
         program.answer(program.need(file), words, text)
     case = Case()
-    lines = lines_of(text)
+    lines = enumerate(lines_of(text), 1)
     number = 0
-    for number, line in enumerate(lines, 1):
-        if line.text == "end" and line.is_ended:
+    for number, line in lines:
+        if line == "end\n":
             break
         try:
-            case.take(line)
+            case.take(line.removesuffix("\n"))
         except (ValueError, TypeError):
-            raise Refused.at_line(number, f"{line.text[:80]!r} is no line of a case; {WHICH}") from None
+            raise Refused.at_line(number, f"{quote(line)} is no line of a case; {WHICH}") from None
     else:
         raise Refused.at_line(number + 1, f"the text ends before its line `end`; {WHICH}")
     if not case.has_all():
         raise Refused(f"a line names a router, a link or a path that is not there; {WHICH}")
-    return case, list(lines)
+    return case, [*lines]

@@ -1,5 +1,4 @@
 """The cases of a sweep: a run's seed alone decides what is drawn for it."""
-from __future__ import annotations
 
 import random
 import re
@@ -99,7 +98,6 @@ def read_range(words: str, least: int, greatest: int) -> Uniform:
 
 
 def read_times(words: str) -> Uniform:
-    """A range of times."""
     return read_range(words, 0, GREATEST_TIME)
 
 

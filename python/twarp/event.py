@@ -1,9 +1,8 @@
 """Events, and the lines in which twarp writes them."""
-from __future__ import annotations
 
 import re
-from dataclasses import asdict, dataclass
-from typing import Any
+from dataclasses import astuple, dataclass
+from typing import Any, NamedTuple
 
 from twarp.case import BarScene, Case, LinkScene, SwapScene
 from twarp.lines import NUMBER, PATH, Nodes, read_path, write_path
@@ -44,26 +43,27 @@ class Allow:
     place: int
 
 
-@dataclass(frozen=True, slots=True)
-class Update:
+class Update(NamedTuple):
+    """A named tuple, as an event is, since a log has many."""
+
     path: Nodes
     session: int
 
 
 def record(value: Any) -> dict[str, Any]:
     """The fields of one of several kinds of things, with its kind, as JSON has it."""
-    return {"kind": type(value).__name__.lower(), **asdict(value)}
+    return {"kind": type(value).__name__.lower(), **{name: getattr(value, name) for name in value.__match_args__}}
 
 
 Body = Start | Fail | Restore | Swap | Forbid | Allow | Update
-CLASSES = (Start, Fail, Restore, Swap, Forbid, Allow, Update)
+# The classes of bodies, each with its place in the order of events.
+CLASSES = {kind: place for place, kind in enumerate((Start, Fail, Restore, Swap, Forbid, Allow, Update))}
+UPDATES = CLASSES[Update]
 WORDS = {kind: kind.__name__.lower() for kind in CLASSES}
-LINKS: dict[str, type[Fail | Restore]] = {"fail": Fail, "restore": Restore}
-BARS: dict[str, type[Forbid | Allow]] = {"forbid": Forbid, "allow": Allow}
+KINDS: dict[str, Any] = {word: kind for kind, word in WORDS.items()}
 
 
-@dataclass(frozen=True, slots=True)
-class Event:
+class Event(NamedTuple):
     time: int
     dst: int
     src: int
@@ -71,18 +71,17 @@ class Event:
     body: Body
 
     def __str__(self) -> str:
+        rest: tuple[object, ...]
         match self.body:
-            case Start():
-                rest = ""
-            case Fail(peer) | Restore(peer):
-                rest = f" {peer} {self.seq}"
-            case Swap(first, second):
-                rest = f" {self.seq} {first} {second}"
-            case Forbid(place) | Allow(place):
-                rest = f" {self.seq} {place}"
             case Update(path, session):
-                rest = f" {self.src} {self.seq} {session} {write_path(path)}"
-        return f"event {self.time} {self.dst} {WORDS[type(self.body)]}{rest}"
+                rest = self.src, self.seq, session, write_path(path)
+            case Start():
+                rest = ()
+            case Fail(peer) | Restore(peer):
+                rest = peer, self.seq
+            case body:
+                rest = self.seq, *astuple(body)
+        return " ".join(map(str, ("event", self.time, self.dst, WORDS[type(self.body)], *rest)))
 
     def record(self) -> dict[str, Any]:
         """The event's fields, as JSON has them."""
@@ -90,43 +89,35 @@ class Event:
 
     def key(self, path_numbers: dict[Nodes, int]) -> tuple[int, ...]:
         """By this key the events of a case are ordered."""
-        body: tuple[int, ...]
-        match self.body:
-            case Start():
-                body = ()
-            case Fail(peer) | Restore(peer):
-                body = (peer,)
-            case Swap(first, second):
-                body = (first, second)
-            case Forbid(place) | Allow(place):
-                body = (place,)
-            case Update(path, session):
-                body = (path_numbers[path], session)
-        return (self.time, self.dst, CLASSES.index(type(self.body)), self.src, self.seq, *body)
+        body = self.body
+        if type(body) is Update:
+            return self.time, self.dst, UPDATES, self.src, self.seq, path_numbers[body.path], body.session
+        return (self.time, self.dst, CLASSES[type(body)], self.src, self.seq, *astuple(body))
 
 
-EVENT_LINE = re.compile(
-    rf"event (?P<time>{NUMBER}) (?P<dst>{NUMBER}) (?P<word>[a-z]+)(?P<numbers>(?: {NUMBER})*)(?: (?P<path>{PATH}))?"
-)
+# Of most events a log has many, so these are read in one pass.
+UPDATE_LINE = re.compile(rf"event ({NUMBER}) ({NUMBER}) update ({NUMBER}) ({NUMBER}) ({NUMBER}) ({PATH})\n")
+OTHER_LINE = re.compile(rf"event ({NUMBER}) ({NUMBER}) ([a-z]+)((?: {NUMBER})*)\n")
 
 
 def read_event(text: str) -> Event | None:
-    """The event of an event line."""
-    found = EVENT_LINE.fullmatch(text)
+    """The event of an event line with its end."""
+    if found := UPDATE_LINE.fullmatch(text):
+        time, dst, src, seq, session = map(int, found.groups()[:5])
+        return Event(time, dst, src, seq, Update(read_path(found[6]), session))
+    found = OTHER_LINE.fullmatch(text)
     if not found:
         return None
-    time, dst = int(found["time"]), int(found["dst"])
-    match found["word"], [int(word) for word in found["numbers"].split()], found["path"]:
-        case "start", [], None:
+    time, dst = int(found[1]), int(found[2])
+    match found[3], [*map(int, found[4].split())]:
+        case "start", []:
             return Event(time, dst, dst, 0, Start())
-        case ("fail" | "restore") as word, [peer, seq], None:
-            return Event(time, dst, dst, seq, LINKS[word](peer))
-        case "swap", [seq, first, second], None:
+        case ("fail" | "restore") as word, [peer, seq]:
+            return Event(time, dst, dst, seq, KINDS[word](peer))
+        case "swap", [seq, first, second]:
             return Event(time, dst, dst, seq, Swap(first, second))
-        case ("forbid" | "allow") as word, [seq, place], None:
-            return Event(time, dst, dst, seq, BARS[word](place))
-        case "update", [src, seq, session], str(path):
-            return Event(time, dst, src, seq, Update(read_path(path), session))
+        case ("forbid" | "allow") as word, [seq, place]:
+            return Event(time, dst, dst, seq, KINDS[word](place))
     return None
 
 
@@ -136,9 +127,9 @@ def opening_events(case: Case) -> list[Event]:
     for seq, scene in enumerate(case.scenes, 1):
         match scene:
             case LinkScene(word, time, a, b):
-                events += [Event(time, a, a, seq, LINKS[word](b)), Event(time, b, b, seq, LINKS[word](a))]
+                events += [Event(time, end, end, seq, KINDS[word](peer)) for end, peer in ((a, b), (b, a))]
             case SwapScene(time, router, first, second):
                 events.append(Event(time, router, router, seq, Swap(first, second)))
             case BarScene(word, time, router, place):
-                events.append(Event(time, router, router, seq, BARS[word](place)))
+                events.append(Event(time, router, router, seq, KINDS[word](place)))
     return events

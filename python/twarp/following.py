@@ -1,5 +1,4 @@
 """A run, followed event by event along the log of its report."""
-from __future__ import annotations
 
 import enum
 import heapq
@@ -48,8 +47,9 @@ class Change:
 
 @dataclass
 class Run:
-    """What happened, in the order of the run."""
+    """What happened, in the order of the run, and the routers in the end."""
 
+    routers: list[Router]
     changes: list[Change] = field(default_factory=list)
     messages: list[Message] = field(default_factory=list)
     scenes: list[Event] = field(default_factory=list)
@@ -59,9 +59,9 @@ class Follower:
     """The one-thread run of a case, as far as it was followed."""
 
     def __init__(self, case: Case):
-        self.routers = opening_routers(case)
+        self.run = Run(opening_routers(case))
+        self.routers = self.run.routers
         self.path_numbers = case.path_numbers()
-        self.run = Run()
         self.pending: list[tuple[tuple[int, ...], Event, Message | None]] = []
         for event in opening_events(case):
             self.expect(event, None)
@@ -70,27 +70,26 @@ class Follower:
         heapq.heappush(self.pending, (event.key(self.path_numbers), event, message))
 
     def least(self) -> Event | None:
-        """The least pending event."""
         return self.pending[0][1] if self.pending else None
 
     def handle_least(self) -> None:
         _, event, message = heapq.heappop(self.pending)
         router = self.routers[event.dst]
-        before = router.line()
+        changed, dropped = router.changed, router.dropped
         for send in router.handle(event):
             sent = Message(event.time, send)
             self.run.messages.append(sent)
             self.expect(send, sent)
-        if router.changed > before.changed:
+        if router.changed > changed:
             self.run.changes.append(Change(event.time, router.node, router.rib))
         if message is None:
             self.run.scenes.append(event)
         else:
-            message.fate = Fate.DROPPED if router.dropped > before.dropped else Fate.HEARD
+            message.fate = Fate.DROPPED if router.dropped > dropped else Fate.HEARD
 
 
-# Sees an event and its router, which has handled it.
-Witness = Callable[[Event, Router], None]
+# Sees an event that is to be handled, and the routers before it.
+Witness = Callable[[Event, list[Router]], None]
 
 
 def follow(case: Case, report: Report, witness: Witness | None = None) -> Run:
@@ -103,9 +102,9 @@ def follow(case: Case, report: Report, witness: Witness | None = None) -> Run:
         least = follower.least()
         if event != least:
             raise Refused.at_line(number, f"in the run of this case {written(least)} stands here")
-        follower.handle_least()
         if witness:
-            witness(event, follower.routers[event.dst])
+            witness(event, follower.routers)
+        follower.handle_least()
     least = follower.least()
     if least and least.time < report.bound:
         raise Refused.at_line(report.router_number, f"in the run of this case {written(least)} stands here")

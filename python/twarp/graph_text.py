@@ -1,5 +1,4 @@
 """A case, and where a run of it stands, as Graphviz text."""
-from __future__ import annotations
 
 from collections import defaultdict
 from collections.abc import Iterator, Mapping, Sequence
@@ -14,11 +13,12 @@ from twarp.protocol import Router
 
 HEAD = """\
 digraph {{
-  graph [label=<<B>{title}</B>>, labelloc=t, fontname="Helvetica", fontsize=15, nodesep=0.8, ranksep=0.6]
+  graph [label=<<B>{title}</B>{note}>, labelloc=t, fontname="Helvetica", fontsize=15, nodesep=0.8, ranksep=0.6]
   node [shape=plain, fontname="Helvetica", fontsize=12]
   edge [dir=none, color="#8a95a1", fontname="Helvetica", fontsize=11, fontcolor="#555555"]
 """
 BOX = '<TABLE BORDER="1" CELLBORDER="0" CELLSPACING="0" CELLPADDING="3" BGCOLOR="white" COLOR="#555555">{}</TABLE>'
+NOTE = '<BR/><FONT POINT-SIZE="11">{}</FONT>'
 NAME_ROW = '<TR><TD BGCOLOR="{ground}"><B>{name}</B></TD></TR>'
 PATH_ROW = '<TR><TD ALIGN="LEFT"{ground}><FONT FACE="monospace" POINT-SIZE="11" COLOR="{ink}">{words}</FONT></TD></TR>'
 
@@ -54,6 +54,24 @@ def delay_words(link: Link) -> str:
     return f"{link.a} to {link.b}: {link.delay}\\n{link.b} to {link.a}: {link.back}"
 
 
+def ends_of_edge(link: Link, depth: list[int]) -> tuple[int, int]:
+    """An edge goes from the end that is farther from the origin, so that the origin is at the bottom."""
+    tail, head = sorted((link.a, link.b), key=lambda node: (-depth[node], node))
+    return tail, head
+
+
+def label_of(link: Link, depth: list[int], is_down: bool) -> tuple[str, str]:
+    """What an edge says of its label, and of its ends.
+
+    Between ends at the same distance it moves neither, and its label is placed afterwards, since dot fails on such labels
+    otherwise.
+    """
+    words = f"{delay_words(link)}{' down' if is_down else ''}"
+    if depth[link.a] == depth[link.b]:
+        return f'xlabel="{words}", ', ", constraint=false"
+    return f'label=" {words} ", ', ""
+
+
 @dataclass
 class Drawing:
     """What is to be drawn: at most so many paths at a router, and those of one router only where that is asked for.
@@ -67,6 +85,7 @@ class Drawing:
     names: Mapping[int, str]
     most: int
     only: int | None
+    note: str = ""
 
     def text(self, title: str) -> str:
         lines = [self.box(router) for router in range(self.case.nodes)]
@@ -74,14 +93,19 @@ class Drawing:
         depth = distances(self.case)
         for link in self.case.links:
             lines += self.edges(link, uses, depth)
-        return HEAD.format(title=escape(title)) + "".join(f"  {line}\n" for line in lines) + "}\n"
+        note = NOTE.format(escape(self.note)) if self.note else ""
+        return HEAD.format(title=escape(title), note=note) + "".join(f"  {line}\n" for line in lines) + "}\n"
 
     def box(self, router: int) -> str:
         name = escape(f"{router} {self.names[router]}" if router in self.names else str(router))
-        rows = [NAME_ROW.format(name=name, ground="#d9d9d9" if router == ORIGIN else "#eeeeee")]
+        rows = [NAME_ROW.format(name=name, ground=self.ground(router))]
         if self.only in (None, router):
             rows += self.path_rows(self.routers[router])
         return f"{router} [label=<{BOX.format(''.join(rows))}>]"
+
+    def ground(self, router: int) -> str:
+        """The colour behind a router's name."""
+        return "#d9d9d9" if router == ORIGIN else "#eeeeee"
 
     def path_rows(self, router: Router) -> Iterator[str]:
         """A row for each path, coloured where the router uses it or where its paths alone are shown."""
@@ -102,17 +126,10 @@ class Drawing:
             yield PATH_ROW.format(ground="", ink="#c1121f", words="uses no path")
 
     def edges(self, link: Link, uses: Uses, depth: list[int]) -> Iterator[str]:
-        """An arrow for each direction in which the link is used, or else a line.
-
-        An edge goes from the end that is farther from the origin, so that the origin is at the bottom. Between ends at
-        the same distance it moves neither, and its label is placed afterwards, since dot fails on such labels
-        otherwise.
-        """
-        tail, head = sorted((link.a, link.b), key=lambda node: (-depth[node], node))
-        is_level, is_down = depth[tail] == depth[head], head in self.routers[tail].down
-        words = f"{delay_words(link)}{' down' if is_down else ''}"
-        label = f'xlabel="{words}", ' if is_level else f'label=" {words} ", '
-        level = ", constraint=false" if is_level else ""
+        """An arrow for each direction in which the link is used, or else a line."""
+        tail, head = ends_of_edge(link, depth)
+        is_down = head in self.routers[tail].down
+        label, level = label_of(link, depth, is_down)
         used = [(hop, arrow) for hop, arrow in (((tail, head), "forward"), ((head, tail), "back")) if hop in uses]
         for hop, arrow in used:
             colours = ":".join(dict.fromkeys(place_of(place).fill for place in uses[hop]))

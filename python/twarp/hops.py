@@ -1,5 +1,4 @@
 """How far nodes are from one another."""
-from __future__ import annotations
 
 from collections import deque
 from collections.abc import Callable, Iterable

@@ -1,5 +1,4 @@
 """What the pictures of runs and of replays share: a lane for each router, and a legend of the marks."""
-from __future__ import annotations
 
 import math
 from collections.abc import Callable, Mapping, Sequence
@@ -54,12 +53,10 @@ class Lanes:
 
     @cached_property
     def height(self) -> float:
-        """The height of a lane."""
         return 66.0 if len(self.places) <= 12 else 48.0 if len(self.places) <= 40 else 34.0
 
     @cached_property
     def bar(self) -> float:
-        """The height of a bar."""
         return 18.0 if len(self.places) <= 40 else 14.0
 
     @cached_property
@@ -81,22 +78,30 @@ class Lanes:
             add(names, "text", name, class_="name", x=self.left - 18, y=y + 4)
 
 
-# Draws a sample of a mark around a point.
-Sample = Callable[[Element, float, float], None]
+# Draws a mark, or a sample of it, around a point.
+Sample = Callable[[Element, float, float], Element]
 
 
-def sample_box(**attributes: str) -> Sample:
-    def draw(parent: Element, x: float, y: float) -> None:
-        add(parent, "rect", x=x - 13, y=y - 6, width=26, height=12, rx=3, **attributes)
-
-    return draw
+def sample_box(**attributes: object) -> Sample:
+    return lambda parent, x, y: add(parent, "rect", x=x - 13, y=y - 6, width=26, height=12, rx=3, **attributes)
 
 
 def sample_line(**attributes: str) -> Sample:
-    def draw(parent: Element, x: float, y: float) -> None:
-        add(parent, "line", x1=x - 14, y1=y, x2=x + 12, y2=y, **attributes)
+    return lambda parent, x, y: add(parent, "line", x1=x - 14, y1=y, x2=x + 12, y2=y, **attributes)
 
-    return draw
+
+def sample_square(look: str, side: float) -> Sample:
+    box = {"width": side, "height": side}
+    return lambda parent, x, y: add(parent, "rect", class_=look, x=x - side / 2, y=y - side / 2, **box)
+
+
+def sample_circle(look: str, radius: float) -> Sample:
+    return lambda parent, x, y: add(parent, "circle", class_=look, cx=x, cy=y, r=radius)
+
+
+def sample_path(left: float, up: float, way: str, **attributes: object) -> Sample:
+    """A path that begins so far to the left and above the point, and goes on as `way` says."""
+    return lambda parent, x, y: add(parent, "path", **attributes, d=f"M{x - left:.1f} {y - up:.1f}{way}")
 
 
 def draw_legend(parent: Element, right: float, y: float, entries: list[tuple[str, Sample]]) -> float:

@@ -1,41 +1,34 @@
-"""A text as numbered lines, and the words that its lines share."""
-from __future__ import annotations
+"""The lines of a text, and the words that they share."""
 
-import re
-from collections.abc import Iterator
-from dataclasses import dataclass
+import io
+from functools import cache
 
 # As a path is written between brackets, and a number in any text that twarp writes.
 NUMBER = r"(?:0|[1-9][0-9]{0,19})"
 PATH = rf"\((?:{NUMBER}(?: {NUMBER})*)?\)"
 
+# How much of what is wrong stands in a message.
+MOST_QUOTED = 80
+
 # The nodes of a path, the owner first; the empty path has none.
 Nodes = tuple[int, ...]
 
 
-@dataclass(frozen=True, slots=True)
-class Line:
-    number: int
-    text: str
-    is_ended: bool
-
-    @property
-    def words(self) -> list[str]:
-        return self.text.split(" ")
+def lines_of(text: bytes) -> list[str]:
+    """The text's lines with their ends. What follows the last end is a line where it is not empty."""
+    return [*io.StringIO(text.decode("utf-8", "replace"), newline="\n")]
 
 
-def lines_of(text: bytes) -> Iterator[Line]:
-    """The text's lines, without their ends. What follows the last end is a line where it is not empty."""
-    *ended, rest = text.decode("utf-8", "replace").split("\n")
-    for number, line in enumerate(ended, 1):
-        yield Line(number, line, True)
-    if rest:
-        yield Line(len(ended) + 1, rest, False)
+def quote(text: str) -> str:
+    """A text, or a line without its end, as a message quotes it: escaped, and cut where it is long."""
+    text = text.removesuffix("\n")
+    return repr(text) if len(text) <= MOST_QUOTED else f"{text[:MOST_QUOTED]!r}.."
 
 
+@cache
 def read_path(text: str) -> Nodes:
-    """The nodes of a path in brackets."""
-    return tuple(map(int, re.findall(NUMBER, text)))
+    """The nodes of a path in brackets, which are kept since a log has most paths many times."""
+    return tuple(map(int, text[1:-1].split()))
 
 
 def write_path(nodes: Nodes) -> str:

@@ -3,7 +3,6 @@
 Taken from Jefferson (1985): stragglers, antimessages, annihilation in either order of arrival, aggressive cancellation;
 and from Gafni (1988): lazy cancellation.
 """
-from __future__ import annotations
 
 import enum
 from collections.abc import Iterable

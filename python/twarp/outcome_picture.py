@@ -1,5 +1,4 @@
 """The picture of a sweep: how its runs ended, and when they came to rest."""
-from __future__ import annotations
 
 from collections import Counter
 from collections.abc import Callable, Sequence
@@ -7,7 +6,7 @@ from dataclasses import dataclass
 from xml.etree.ElementTree import Element
 
 from twarp.axis import DIGIT_WIDTH, nice_step
-from twarp.lanes import TOP, Sample, draw_legend, sample_box
+from twarp.lanes import TOP, Sample, draw_legend, sample_box, sample_path
 from twarp.outcomes import MOST_COLUMNS, Outcome, Outcomes, in_columns, interval, percent
 from twarp.palette import place_of
 from twarp.svg import Picture, add
@@ -80,7 +79,7 @@ class OutcomePicture:
         for place, lane in enumerate(self.lanes):
             self.draw_lane(picture.root, lane, TOP + LANE * (place + 0.5))
         entries: list[tuple[str, Sample]] = [(words_of(lane), sample_box(**lane.look)) for lane in self.lanes]
-        entries.append(("95 % interval", draw_whisker))
+        entries.append(("95 % interval", sample_path(12, 4, "v8m0 -4h24m0 -4v8", **WHISKER)))
         times = [(lane, counted(lane, lambda outcome: outcome.rest_times)) for lane in self.lanes]
         messages = [(lane, counted(lane, lambda outcome: outcome.messages)) for lane in self.lanes]
         base = self.draw_histogram(picture.root, self.bottom + GAP, "rest at", times, "no run came to rest")
@@ -195,7 +194,3 @@ def words_of(lane: Lane) -> str:
 
 def shortened(words: str) -> str:
     return words if len(words) <= MOST_LETTERS else f"{words[:MOST_LETTERS]} .."
-
-
-def draw_whisker(parent: Element, x: float, y: float) -> None:
-    add(parent, "path", d=f"M{x - 12:.1f} {y - 4:.1f}v8m0 -4h24m0 -4v8", **WHISKER)

@@ -1,12 +1,11 @@
 """How the runs of a sweep ended: as lines of a table, and counted by outcome."""
-from __future__ import annotations
 
 import csv
 import io
 import json
 import re
 from collections import Counter
-from collections.abc import Iterable, Iterator, Sequence
+from collections.abc import Iterable, Iterator, Mapping, Sequence
 from dataclasses import dataclass, field
 from functools import cached_property
 from math import ceil, sqrt
@@ -28,6 +27,7 @@ MOST_COLUMNS = 40
 # More letters than the names of 65,536 delays take.
 MOST_LINE = 1 << 22
 PERCENTS = (50, 90, 99)
+NOTHING: Mapping[Any, Any] = {}
 
 HEAD = ["outcome", "runs", "share", "95 % interval", "time", "first seed", "paths"]
 RUN_COLUMNS = ["verdict", "rest", "from", "period", "sent", "changed", "outcome", "moving", "paths"]
@@ -37,7 +37,7 @@ RUN_COLUMNS = ["verdict", "rest", "from", "period", "sent", "changed", "outcome"
 class Outcome:
     """A way in which runs end: at rest with these paths, or as the verdict's word says.
 
-    `number` counts the outcomes at rest, in the order of their first seeds.
+    `number` counts the outcomes at rest, in the order of their first seeds where nothing else names them.
     """
 
     word: str
@@ -79,7 +79,6 @@ class Outcome:
         return f"{self.time_word} {least:,} to {greatest:,}, median {middle:,}"
 
     def record(self, total: int) -> dict[str, Any]:
-        """The outcome as JSON has it."""
         told: dict[str, Any] = {"outcome": self.name, "runs": self.runs, "share": self.runs / total}
         told |= {"interval": interval(self.runs, total), "first_seed": self.first}
         if self.times:
@@ -123,11 +122,23 @@ def in_columns(counts: Counter[int], width: int) -> Counter[int]:
 class Outcomes:
     """The outcomes of a sweep's runs, of which failed ones are no part."""
 
-    def __init__(self, trials: Iterable[Trial] = ()):
+    def __init__(
+        self, trials: Iterable[Trial] = (), numbers: Mapping[Ribs, int] = NOTHING, notes: Mapping[str, str] = NOTHING
+    ):
+        """`numbers` has the numbers of some outcomes at rest; others have those behind them, in the order of first seeds.
+
+        `notes` has what is known of outcomes that are not at rest, by the verdict's word.
+        """
         self.by_end: dict[Ribs | str, Outcome] = {}
-        self.total = self.failed = self.resting = 0
+        self.given, self.numbers, self.notes = numbers, dict(numbers), notes
+        self.last_number = max(self.numbers.values(), default=0)
+        self.total = self.failed = 0
         for trial in trials:
             self.take(trial)
+
+    def anew(self) -> "Outcomes":
+        """The same before any run was counted."""
+        return Outcomes(numbers=self.given, notes=self.notes)
 
     def take(self, trial: Trial) -> Outcome | None:
         """Counts a run, and gives its outcome where it did not fail."""
@@ -146,8 +157,9 @@ class Outcomes:
         if not isinstance(end.verdict, Quiet):
             return self.by_end.setdefault(word, Outcome(word, seed))
         if end.ribs not in self.by_end:
-            self.resting += 1
-            self.by_end[end.ribs] = Outcome(word, seed, self.resting, end.ribs)
+            number = self.numbers.setdefault(end.ribs, self.last_number + 1)
+            self.last_number = max(self.last_number, number)
+            self.by_end[end.ribs] = Outcome(word, seed, number, end.ribs)
         return self.by_end[end.ribs]
 
     def ranked(self) -> list[Outcome]:
@@ -166,9 +178,9 @@ class Outcomes:
         return [router for router in routers if len(rows) == 1 or len({row[router] for row in rows}) > 1]
 
     def path_words(self, outcome: Outcome) -> str:
-        """The paths that tell an outcome at rest from the others."""
+        """The paths that tell an outcome at rest from the others, or what is known of one that is not at rest."""
         if outcome.ribs is None:
-            return ""
+            return self.notes.get(outcome.word, "")
         words = " ".join(written(router, outcome.ribs[router]) for router in self.differing[:MOST_TOLD])
         return more(words, len(self.differing) - MOST_TOLD)
 
@@ -280,11 +292,11 @@ def aligned(rows: list[list[str]]) -> str:
 class Table:
     """The CSV of a sweep: a line for each run, and as its last column's name what made it."""
 
-    def __init__(self, columns: Sequence[str], made_by: str):
+    def __init__(self, columns: Sequence[str], made_by: str, outcomes: Outcomes | None = None):
         self.columns = columns
         self.head = ["seed", *columns, *RUN_COLUMNS, made_by]
         self.head_line = line_of(self.head)
-        self.outcomes = Outcomes()
+        self.outcomes = outcomes or Outcomes()
 
     def line(self, trial: Trial) -> str:
         """The line of a run, which is counted; what it does not have is left empty.
@@ -350,7 +362,8 @@ def read_table(source: TextIO, is_cut: bool = False) -> tuple[Table, list[Trial]
             number += 1
     except (ValueError, KeyError, IndexError, csv.Error) as fault:
         raise Refused.at_line(number, f"this is no CSV of a sweep: {fault}") from None
-    return Table(head[1 : 1 + count], head[-1]), trials
+    numbers = {paths: number_of(name) for name, paths in ribs.items()}
+    return Table(head[1 : 1 + count], head[-1], Outcomes(numbers=numbers)), trials
 
 
 def number_of(word: str) -> int:

@@ -1,5 +1,4 @@
 """The colours of pictures: all have the same for a path at the same place of its router's order."""
-from __future__ import annotations
 
 from dataclasses import dataclass
 

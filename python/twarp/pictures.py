@@ -1,5 +1,4 @@
 """Pictures of runs, of replays and of sweeps, as SVG."""
-from __future__ import annotations
 
 import shutil
 import subprocess
@@ -14,10 +13,12 @@ from twarp.lanes import View
 from twarp.machine import follow_replay
 from twarp.outcome_picture import OutcomePicture
 from twarp.outcomes import Outcomes
+from twarp.policy import Safety
 from twarp.protocol import opening_routers
 from twarp.replay_picture import ReplayPicture
 from twarp.report import Quiet, Replay, Report, Step
 from twarp.run_picture import RunPicture, last_time
+from twarp.safety_text import SafetyDrawing, standing
 from twarp.standing import reached
 from twarp.trials import Trial
 
@@ -34,11 +35,17 @@ def network_text(
     names: Mapping[int, str] = NO_NAMES,
     most: int = 8,
     paths_of: int | None = None,
+    safety: Safety | None = None,
 ) -> str:
     """A network as Graphviz text: each router with at most so many of its paths, and, with a report, those in use.
 
-    With `paths_of` the permitted paths of this router alone are shown.
+    With `paths_of` the permitted paths of this router alone are shown; with `safety` what holds for all timings: the paths
+    that each router may still use, and a dispute wheel, or the paths with which every run comes to rest.
     """
+    if safety:
+        routers = standing(case, safety)
+        drawing = SafetyDrawing(case, routers, True, names, most, None, safety=safety)
+        return drawing.text(f"{title}: verdict {safety}")
     routers = reached(case, report) if report else opening_routers(case)
     if report:
         title += f": verdict {report.verdict}"

@@ -1,10 +1,9 @@
-"""The built program: where it is, and calls of it."""
-from __future__ import annotations
+"""The built programs: where they are, and calls of them."""
 
 import os
 import shutil
 import subprocess
-from collections.abc import Mapping
+from collections.abc import Iterable, Mapping
 from pathlib import Path
 
 from twarp.errors import Refused, Stopped
@@ -25,17 +24,44 @@ def find(named: File | None = None) -> Path | None:
     if named or (named := os.environ.get("TWARP")):
         return Path(named).absolute()
     beside = [BUILT, *([INSTALLED.parents[2] / "bin/twarp"] if INSTALLED.exists() else [])]
-    on_path = shutil.which("twarp")
-    return next((file for file in beside if file.exists()), Path(on_path) if on_path else None)
+    return first_of(beside, "twarp")
+
+
+def find_policy(named: File | None = None, twarp: File | None = None) -> Path | None:
+    """The twarp-policy that is named, here or by $TWARP_POLICY; or the one beside twarp, or on the PATH."""
+    if named or (named := os.environ.get("TWARP_POLICY")):
+        return Path(named).absolute()
+    twarp = find(twarp)
+    return first_of(policies_beside(twarp) if twarp else [], "twarp-policy")
+
+
+def policies_beside(twarp: Path) -> list[Path]:
+    """Where twarp-policy may be to this twarp: in the same folder, or in the same clone."""
+    return [twarp.with_name("twarp-policy"), twarp.parent / "../../twarp_policy/out/twarp_policy"]
+
+
+def first_of(files: Iterable[Path], name: str) -> Path | None:
+    """The first of these that is there, or else the program of this name on the PATH."""
+    on_path = shutil.which(name)
+    return next((file for file in files if file.is_file()), Path(on_path) if on_path else None)
 
 
 def need(named: File | None = None) -> Path:
     """The program; stopped where it is not there."""
-    file = find(named)
+    return runnable(find(named), "twarp", "TWARP")
+
+
+def need_policy(named: File | None = None, twarp: File | None = None) -> Path:
+    """The program twarp-policy; stopped where it is not there."""
+    return runnable(find_policy(named, twarp), "twarp-policy", "TWARP_POLICY")
+
+
+def runnable(file: Path | None, name: str, variable: str) -> Path:
+    """The file, where it can be run; stopped, with how the program of this name is made, where it can't."""
     if file and file.is_file() and os.access(file, os.X_OK):
         return file
-    what = f"{file} is no program" if file else "no twarp is here, and the variable TWARP names none"
-    raise Stopped(f"program: {what}; ./twarp --build, at the root of a clone, makes one")
+    what = f"{file} is no program" if file else f"no {name} is here, and the variable {variable} names none"
+    raise Stopped(f"program: {what}; ./{name} --build, at the root of a clone, makes one")
 
 
 def words_of(options: Options) -> list[str]:

@@ -2,7 +2,7 @@
 from __future__ import annotations
 
 import copy
-from collections import Counter
+from collections import defaultdict
 from dataclasses import dataclass, field
 
 from twarp.case import ORIGIN, Case
@@ -23,7 +23,7 @@ class Router:
     rib: Nodes = ()
     heard: dict[int, Nodes] = field(default_factory=dict)
     down: set[int] = field(default_factory=set)
-    sessions: Counter[int] = field(default_factory=Counter)
+    sessions: dict[int, int] = field(default_factory=lambda: defaultdict(int))
     sent: int = 0
     handled: int = 0
     dropped: int = 0
@@ -33,6 +33,11 @@ class Router:
         """Changes the state as the event asks, and gives the messages sent."""
         self.handled += 1
         match event.body:
+            case Update(path, session) if event.src not in self.down and session == self.sessions[event.src]:
+                self.heard[event.src] = path
+                return self.settle(event.time)
+            case Update():
+                self.dropped += 1
             case Fail(peer) if peer not in self.down:
                 self.down.add(peer)
                 self.heard.pop(peer, None)
@@ -51,11 +56,6 @@ class Router:
             case Allow(place) if self.given[place - 1] in self.barred:
                 self.barred.remove(self.given[place - 1])
                 return self.settle(event.time)
-            case Update(_, session) if event.src in self.down or session != self.sessions[event.src]:
-                self.dropped += 1
-            case Update(path):
-                self.heard[event.src] = path
-                return self.settle(event.time)
             case Start():
                 return self.settle(event.time)
         return []
@@ -71,8 +71,11 @@ class Router:
     def best(self) -> Nodes:
         if self.node == ORIGIN:
             return (ORIGIN,)
-        allowed = (path for path in self.order if path not in self.barred)
-        return next((path for path in allowed if self.heard.get(path[1]) == path[1:]), ())
+        offered = {(self.node, *path) for path in self.heard.values()}
+        for path in self.order:
+            if path in offered and path not in self.barred:
+                return path
+        return ()
 
     def update(self, peer: int, time: int) -> Event:
         seq = self.sent

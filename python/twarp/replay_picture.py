@@ -1,9 +1,9 @@
 """The picture of a replay: a lane for each router, steps to the right, and which of them were undone."""
-from __future__ import annotations
 
 from xml.etree.ElementTree import Element
 
-from twarp.lanes import TOP, Lanes, Sample, View, draw_legend, sample_box, sample_line
+from twarp.lanes import TOP, Lanes, Sample, View, draw_legend
+from twarp.lanes import sample_box, sample_circle, sample_line, sample_path
 from twarp.machine import Fate, Handling, History, Signed
 from twarp.report import Replay, Step
 from twarp.svg import Picture, add, clipped
@@ -151,9 +151,5 @@ def message_look(message: Signed) -> str:
     return f"message{fate}"
 
 
-def draw_commit(parent: Element, x: float, y: float) -> None:
-    add(parent, "path", class_="commit", d=f"M{x - 6:.1f} {y:.1f}l4 5l8 -10")
-
-
-def draw_kept(parent: Element, x: float, y: float) -> None:
-    add(parent, "circle", class_="fail", cx=x, cy=y, r=5)
+draw_commit = sample_path(6, 0, "l4 5l8 -10", class_="commit")
+draw_kept = sample_circle("fail", 5)

@@ -1,5 +1,4 @@
 """What twarp writes: reports of runs and of replays, and the steps of a replay."""
-from __future__ import annotations
 
 import json
 import re
@@ -8,7 +7,7 @@ from dataclasses import asdict, dataclass
 from twarp.case import WHICH, Case, case_and_rest
 from twarp.errors import Refused
 from twarp.event import Event, read_event, record
-from twarp.lines import NUMBER, PATH, Line, Nodes, lines_of, read_path, write_path
+from twarp.lines import NUMBER, PATH, Nodes, lines_of, quote, read_path, write_path
 
 
 @dataclass(frozen=True, slots=True)
@@ -142,40 +141,39 @@ class Cursor:
 
     def __init__(self, text: bytes, header: str):
         self.lines = lines_of(text)
-        self.number = 0
-        self.line: Line | None = None
-        self.advance()
+        self.number = 1
         self.take(header, f"`{header}`")
-
-    def advance(self) -> None:
-        self.number += 1
-        self.line = next(self.lines, None)
 
     def take(self, pattern: str, wanted: str) -> re.Match[str]:
         """How the next line matches; refused where it is not there, not whole or does not match."""
-        if self.line is None:
-            raise Refused.at_line(self.number, f"the text ends where {wanted} should stand")
-        found = re.fullmatch(pattern, self.line.text)
+        number, line = self.number, self.next_line()
+        if not line:
+            raise Refused.at_line(number, f"the text ends where {wanted} should stand")
+        found = re.fullmatch(pattern, line.removesuffix("\n"))
         if not found:
-            raise misplaced(self.number, self.line.text, wanted)
-        if not self.line.is_ended:
-            raise Refused.at_line(self.number, "the line is not ended")
-        self.advance()
+            raise misplaced(number, line, wanted)
+        if line[-1] != "\n":
+            raise Refused.at_line(number, "the line is not ended")
+        self.number += 1
         return found
 
+    def next_line(self) -> str:
+        """The next line with its end; nothing at the end of the text."""
+        return self.lines[self.number - 1] if self.number <= len(self.lines) else ""
+
     def take_number(self, word: str) -> int:
-        """The number of a line that is a word and a number."""
         return int(self.take(rf"{word} ({NUMBER})", f"`{word}` and a number")[1])
 
     def take_events(self, word: str = "") -> list[Event]:
         """The event lines that come next, each behind this word."""
-        events = []
-        while self.line and self.line.is_ended and self.line.text.startswith(word):
-            event = read_event(self.line.text[len(word) :])
+        events: list[Event] = []
+        for place in range(self.number - 1, len(self.lines)):
+            line = self.lines[place]
+            event = read_event(line[len(word) :]) if line.startswith(word) else None
             if event is None:
                 break
             events.append(event)
-            self.advance()
+        self.number += len(events)
         return events
 
     def take_router(self, router: int, wanted: str) -> RouterLine:
@@ -207,13 +205,13 @@ class Cursor:
         return self.take(ANSWER_LINE.format(step=step), f"the answer to step {step}")[1]
 
     def take_end(self) -> None:
-        if self.line is not None:
-            raise Refused.at_line(self.number, f"{self.line.text[:80]!r} stands where the text should end")
+        if line := self.next_line():
+            raise misplaced(self.number, line, "the text", "end")
 
 
-def misplaced(number: int, text: str, wanted: str) -> Refused:
+def misplaced(number: int, line: str, wanted: str, verb: str = "stand") -> Refused:
     """What is wrong with a line that is not the one wanted."""
-    return Refused.at_line(number, f"{text[:80]!r} stands where {wanted} should stand")
+    return Refused.at_line(number, f"{quote(line)} stands where {wanted} should {verb}")
 
 
 def read_report(text: bytes, nodes: int) -> Report:
@@ -257,17 +255,17 @@ def is_replay(text: bytes) -> bool:
 STEP_LINE = rf"(handle|undo|deliver|commit|release) ({NUMBER})|bound"
 
 
-def read_step(line: Line) -> Step:
+def read_step(number: int, line: str) -> Step:
     """The step of a line of a step text."""
-    found = re.fullmatch(STEP_LINE, line.text)
-    if not (found and line.is_ended):
-        raise Refused.at_line(line.number, f"{line.text[:80]!r} is no step; {WHICH}")
+    found = re.fullmatch(rf"(?:{STEP_LINE})\n", line)
+    if not found:
+        raise Refused.at_line(number, f"{quote(line)} is no step; {WHICH}")
     return Step(found[1], int(found[2])) if found[1] else Step("bound")
 
 
 def read_case_and_steps(text: bytes) -> tuple[Case, list[Step]]:
     """The case and the steps of a replay text, which is refused as the program refuses it."""
     case, rest = case_and_rest(text, ["replay", "--stop", "1"])
-    if not rest or rest[-1] != Line(rest[-1].number, "end", True):
+    if not rest or rest[-1][1] != "end\n":
         raise Refused(f"refused: the text ends before the line `end` of its steps; {WHICH}")
-    return case, [read_step(line) for line in rest[:-1]]
+    return case, [read_step(*line) for line in rest[:-1]]

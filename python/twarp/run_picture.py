@@ -1,5 +1,4 @@
 """The picture of a run: a lane for each router, time to the right."""
-from __future__ import annotations
 
 from collections.abc import Iterator
 from dataclasses import dataclass
@@ -9,7 +8,8 @@ from xml.etree.ElementTree import Element
 from twarp.axis import TimeAxis, fit
 from twarp.case import Case
 from twarp.event import Allow, Event, Fail, Forbid, Restore, Start, Swap
-from twarp.lanes import TOP, Lanes, Sample, View, draw_legend, sample_box, sample_line
+from twarp.lanes import TOP, Lanes, Sample, View, draw_legend
+from twarp.lanes import sample_box, sample_circle, sample_line, sample_path, sample_square
 from twarp.lines import Nodes, write_path
 from twarp.palette import PLACES, place_of
 from twarp.report import Oscillates, Quiet, Report
@@ -39,55 +39,39 @@ MESSAGES = {
 
 @dataclass(frozen=True, slots=True)
 class Bar:
-    """A router's path while it stays; `end` is None where it stays until the run's end."""
+    """A router's path while it stays, in use or forbidden; `end` is None where it stays until the run's end.
 
-    router: int
-    start: int
-    end: int | None
-    path: Nodes
-
-    def is_seen(self, view: View) -> bool:
-        """Whether the router uses the path at some time in view."""
-        last = view.last if self.end is None else max(self.start, self.end - 1)
-        return self.router in view.shown and view.meets(self.start, last)
-
-    @property
-    def tooltip(self) -> str:
-        until = "on" if self.end is None else f"to {self.end}"
-        return f"router {self.router}: path {write_path(self.path)} from {self.start} {until}"
-
-
-def bars_of(run: Run) -> Iterator[Bar]:
-    """A bar for each change of a rib."""
-    latest: dict[int, Change] = {}
-    for change in run.changes:
-        if earlier := latest.get(change.router):
-            yield Bar(change.router, earlier.time, change.time, earlier.path)
-        latest[change.router] = change
-    for change in latest.values():
-        yield Bar(change.router, change.time, None, change.path)
-
-
-@dataclass(frozen=True, slots=True)
-class Ban:
-    """The time in which a path is forbidden at a router; `end` is None where it stays so until the run's end.
-
-    At `level`, from 0, it is drawn: no two of a router that meet have the same one.
+    A path that is forbidden is drawn at `level`, from 0: no two of a router that meet have the same one.
     """
 
     router: int
     path: Nodes
     start: int
     end: int | None
-    level: int
+    level: int | None = None
 
     def is_seen(self, view: View) -> bool:
-        return self.router in view.shown and view.meets(self.start, view.last if self.end is None else self.end)
+        """Whether the path stays at some time in view; one that is forbidden does so at its end too."""
+        last = view.last if self.end is None else self.end
+        if self.level is None and last == self.end:
+            last = max(self.start, last - 1)
+        return self.router in view.shown and view.meets(self.start, last)
 
     @property
     def tooltip(self) -> str:
         until = "on" if self.end is None else f"to {self.end}"
-        return f"router {self.router}: path {write_path(self.path)} forbidden from {self.start} {until}"
+        state = "" if self.level is None else " forbidden"
+        return f"router {self.router}: path {write_path(self.path)}{state} from {self.start} {until}"
+
+
+def bars_of(run: Run) -> Iterator[Bar]:
+    latest: dict[int, Change] = {}
+    for change in run.changes:
+        if earlier := latest.get(change.router):
+            yield Bar(change.router, earlier.path, earlier.time, change.time)
+        latest[change.router] = change
+    for change in latest.values():
+        yield Bar(change.router, change.path, change.time, None)
 
 
 class Bans:
@@ -95,7 +79,7 @@ class Bans:
 
     def __init__(self, case: Case, run: Run):
         self.given = case.orders()
-        self.all: list[Ban] = []
+        self.all: list[Bar] = []
         # The level at which each event that forbids or allows is drawn.
         self.levels: dict[Event, int] = {}
         # For each router the paths forbidden now, by their levels, each with the time from which on it is.
@@ -103,7 +87,7 @@ class Bans:
         for scene in run.scenes:
             self.take(scene)
         for router, row in self.now.items():
-            self.all += [Ban(router, path, start, None, level) for level, (path, start) in row.items()]
+            self.all += [Bar(router, path, start, None, level) for level, (path, start) in row.items()]
 
     def path(self, scene: Event) -> Nodes:
         """The path that an event forbids or allows."""
@@ -123,7 +107,7 @@ class Bans:
         self.levels[scene] = level
         if isinstance(scene.body, Allow):
             _, start = row.pop(level)
-            self.all.append(Ban(scene.dst, path, start, scene.time, level))
+            self.all.append(Bar(scene.dst, path, start, scene.time, level))
 
 
 def last_time(report: Report) -> int:
@@ -144,7 +128,7 @@ class RunPicture:
         self.messages = [
             message
             for message in run.messages
-            if message.event.dst in view.shown and view.meets(message.sent, message.event.time)
+            if view.meets(message.sent, message.event.time) and message.event.dst in view.shown
         ]
         self.scenes = [scene for scene in run.scenes if scene.dst in view.shown and view.meets(scene.time, scene.time)]
         self.known_bans = Bans(case, run)
@@ -214,9 +198,13 @@ class RunPicture:
         x, height = self.axis.x(start), self.lanes.bottom - TOP + 8
         add(parent, "rect", "", tooltip, class_=look, x=x, y=TOP - 8, width=self.axis.x(end) - x, height=height)
 
-    def draw_bar(self, parent: Element, bar: Bar) -> None:
-        start = self.axis.x(max(bar.start, self.view.first))
+    def ends(self, bar: Bar) -> tuple[float, float]:
+        """Where it begins and ends, as far as it is in view."""
         end = self.right if bar.end is None or bar.end > self.view.last else self.axis.x(bar.end)
+        return self.axis.x(max(bar.start, self.view.first)), end
+
+    def draw_bar(self, parent: Element, bar: Bar) -> None:
+        start, end = self.ends(bar)
         if start == end:
             start -= MOMENT
         y, words = self.lanes.y(bar.router), write_path(bar.path)
@@ -239,10 +227,8 @@ class RunPicture:
         """Where a path's time of being forbidden is drawn, below the router's bar."""
         return self.lanes.y(router) + self.lanes.bar / 2 + BAN_BELOW + BAN_STEP * min(level, MOST_BANS - 1)
 
-    def draw_ban(self, parent: Element, ban: Ban) -> None:
-        start = self.axis.x(max(ban.start, self.view.first))
-        end = self.right if ban.end is None or ban.end > self.view.last else self.axis.x(ban.end)
-        y = self.ban_height(ban.router, ban.level)
+    def draw_ban(self, parent: Element, ban: Bar) -> None:
+        (start, end), y = self.ends(ban), self.ban_height(ban.router, ban.level or 0)
         add(parent, "line", "", ban.tooltip, class_="ban", x1=start, y1=y, x2=end, y2=y)
 
     def draw_message(self, parent: Element, message: Message) -> None:
@@ -260,40 +246,39 @@ class RunPicture:
 
     def draw_scene(self, parent: Element, scene: Event) -> None:
         x, y = self.axis.x(scene.time), self.lanes.y(scene.dst)
+        _, draw = SCENES[type(scene.body)]
         match scene.body:
             case Fail(peer) | Restore(peer):
-                self.draw_link_scene(parent, scene, x, peer)
+                self.draw_link_scene(parent, scene, draw, x, peer)
             case Swap(first, second):
                 tooltip = f"{scene.time}: router {scene.dst} exchanges places {first} and {second} of its order"
-                draw_swap(add(parent, "g", "", tooltip), x, y - self.lanes.bar / 2 - 7)
+                draw(add(parent, "g", "", tooltip), x, y - self.lanes.bar / 2 - 7)
             case Forbid() | Allow():
-                self.draw_bar_scene(parent, scene, x)
+                self.draw_bar_scene(parent, scene, draw, x)
             case _:
-                draw_start(add(parent, "g", "", f"{scene.time}: start"), x - 5, y)
+                draw(add(parent, "g", "", f"{scene.time}: start"), x - 5, y)
 
-    def draw_bar_scene(self, parent: Element, scene: Event, x: float) -> None:
+    def draw_bar_scene(self, parent: Element, scene: Event, draw: Sample, x: float) -> None:
         """A mark where a path is forbidden or allowed. Words stand at the highest one of those that forbid alone."""
         path, level = write_path(self.known_bans.path(scene)), self.known_bans.levels[scene]
         y = self.ban_height(scene.dst, level)
-        words, draw = ("forbidden", draw_forbid) if isinstance(scene.body, Forbid) else ("allowed", draw_allow)
+        words = "forbidden" if isinstance(scene.body, Forbid) else "allowed"
         group = add(parent, "g", "", f"{scene.time}: path {path} is {words} at router {scene.dst}")
         draw(group, x, y)
-        if draw is draw_forbid and level == 0 and len(self.scenes) <= MOST_NOTES:
+        if words == "forbidden" and level == 0 and len(self.scenes) <= MOST_NOTES:
             note = f"{path} {words}"
             # At the end of the picture the words stand before the mark.
             is_last = x + 8 + LETTER_WIDTH * len(note) > self.right
             at = {"x": x - 8, "text_anchor": "end"} if is_last else {"x": x + 8}
             add(group, "text", note, class_="note failnote", y=y + 15, **at)
 
-    def draw_link_scene(self, parent: Element, scene: Event, x: float, peer: int) -> None:
+    def draw_link_scene(self, parent: Element, scene: Event, draw: Sample, x: float, peer: int) -> None:
         """A mark at this end of a link, and once for both ends the link between them and what happens to it."""
         here = self.lanes.y(scene.dst)
         is_whole = peer in self.lanes.places
         there = self.lanes.y(peer) if is_whole else here - 2 * self.lanes.bar
         toward = 1 if there > here else -1
-        look, words, draw = (
-            ("fail", "fails", draw_failure) if isinstance(scene.body, Fail) else ("repair", "is repaired", draw_repair)
-        )
+        look, words = ("fail", "fails") if isinstance(scene.body, Fail) else ("repair", "is repaired")
         group = add(parent, "g", "", f"{scene.time}: link {scene.dst} {peer} {words}")
         draw(group, x, here + toward * (self.lanes.bar / 2 + 7))
         if is_whole and scene.dst > peer:
@@ -314,7 +299,7 @@ class RunPicture:
         looks = set(map(message_look, self.messages))
         entries += [(name, sample_line(class_=look)) for look, name in MESSAGES.items() if look in looks]
         bodies = {type(scene.body) for scene in self.scenes}
-        entries += [(name, draw) for body, name, draw in SCENES if body in bodies]
+        entries += [mark for body, mark in SCENES.items() if body in bodies]
         if self.bans:
             entries.append(("while it is forbidden", sample_line(class_="ban")))
         if isinstance(self.verdict, Oscillates):
@@ -333,35 +318,12 @@ def message_look(message: Message) -> str:
     return "message" if message.update.path else "message withdrawal"
 
 
-def draw_start(parent: Element, x: float, y: float) -> None:
-    add(parent, "path", class_="start", d=f"M{x - 4:.1f} {y - 6:.1f}l8 6l-8 6z")
-
-
-def draw_failure(parent: Element, x: float, y: float) -> None:
-    add(parent, "path", class_="fail", d=f"M{x - 4:.1f} {y - 4:.1f}l8 8m0 -8l-8 8")
-
-
-def draw_repair(parent: Element, x: float, y: float) -> None:
-    add(parent, "circle", class_="repair", cx=x, cy=y, r=4)
-
-
-def draw_swap(parent: Element, x: float, y: float) -> None:
-    add(parent, "path", class_="swap", d=f"M{x:.1f} {y - 6:.1f}l5 6l-5 6l-5 -6z")
-
-
-def draw_forbid(parent: Element, x: float, y: float) -> None:
-    add(parent, "rect", class_="forbid", x=x - 4, y=y - 4, width=8, height=8)
-
-
-def draw_allow(parent: Element, x: float, y: float) -> None:
-    add(parent, "rect", class_="allow", x=x - 4, y=y - 4, width=8, height=8)
-
-
-SCENES = [
-    (Start, "start", draw_start),
-    (Fail, "link fails", draw_failure),
-    (Restore, "link is repaired", draw_repair),
-    (Swap, "ranks exchanged", draw_swap),
-    (Forbid, "path forbidden", draw_forbid),
-    (Allow, "path allowed again", draw_allow),
-]
+# What the marks of the scenario are called, and how they are drawn.
+SCENES: dict[type, tuple[str, Sample]] = {
+    Start: ("start", sample_path(4, 6, "l8 6l-8 6z", class_="start")),
+    Fail: ("link fails", sample_path(4, 4, "l8 8m0 -8l-8 8", class_="fail")),
+    Restore: ("link is repaired", sample_circle("repair", 4)),
+    Swap: ("ranks exchanged", sample_path(0, 6, "l5 6l-5 6l-5 -6z", class_="swap")),
+    Forbid: ("path forbidden", sample_square("forbid", 8)),
+    Allow: ("path allowed again", sample_square("allow", 8)),
+}

@@ -1,5 +1,4 @@
 """Where a run stands, and whether its paths are stable there."""
-from __future__ import annotations
 
 from collections.abc import Iterator, Sequence
 from dataclasses import dataclass, replace
@@ -22,6 +21,14 @@ def reached(case: Case, report: Report) -> list[Router]:
         if line.rib and line.rib not in router.order:
             raise Refused.at_line(number, f"{write_path(line.rib)} is no path of this router in the case")
         router.rib = line.rib
+    return routers
+
+
+def after_script(case: Case) -> list[Router]:
+    """How the routers stand when the script is over, each after its own scripted events alone, and without what was heard."""
+    routers = opening_routers(case)
+    for scene in sorted(opening_events(case), key=lambda scene: scene.key({})):
+        routers[scene.dst].handle(scene)
     return routers
 
 

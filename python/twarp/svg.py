@@ -1,5 +1,4 @@
 """SVG pictures, and the colours and marks that all of them share."""
-from __future__ import annotations
 
 from string import Template
 from xml.etree import ElementTree

@@ -1,5 +1,4 @@
 """Sweeps: a case run many times over what is not known of it."""
-from __future__ import annotations
 
 import contextlib
 import sys
@@ -12,7 +11,8 @@ from pathlib import Path
 from twarp.case import Case
 from twarp.draws import Ends, Law, Uniform, case_source
 from twarp.errors import Stopped
-from twarp.program import HERE, File, need
+from twarp.program import HERE, File, need, need_policy
+from twarp.resting import AtRest
 from twarp.trials import Batches, Given, Local, Plan, Trial, processors
 
 
@@ -34,7 +34,7 @@ class Sweep(Iterator[Trial]):
 def sweep(
     case: Case,
     *,
-    stop: int,
+    stop: int | None = None,
     every: int | None = None,
     runs: int = 1_000,
     seed: int = 1,
@@ -46,16 +46,19 @@ def sweep(
     jobs: int | None = None,
     executor: Executor | None = None,
     program: File | None = None,
+    policy: File | None = None,
 ) -> Sweep:
     """The runs of a case with the seeds `seed`, `seed` + 1, .., in this order, as they end.
 
     Drawn are the delays, by a law as "1-10", "exponential:5" or "log-normal:5:0.5", of all links or of those named,
     with `apart` for each direction of its own; and the times of failures, from a range as "0-50". What is drawn depends
     on the seed alone. The runs go to `jobs` processes (one for each processor), or to an executor, where `jobs` says how
-    many workers it has; its workers need the program.
+    many workers it has; its workers need the program. Without a stop each run of a case that is safe ends where it is at
+    rest whatever its delays, as twarp-policy tells (the file `policy`, or where it is found), and others fail.
     """
     file = str(program) if executor and program else str(need(program))
-    plan = Plan(case_source(case, delays, links, apart, failure_times), file, stop, every, check)
+    end = stop or AtRest(str(policy) if executor and policy else str(need_policy(policy, program)))
+    plan = Plan(case_source(case, delays, links, apart, failure_times), file, end, every, check)
     jobs = jobs or processors()
     workers: Given | Local = Given(plan, executor, jobs) if executor else Local(plan, jobs)
     return Sweep(plan, range(seed, seed + runs), workers)

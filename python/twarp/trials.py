@@ -1,5 +1,4 @@
 """The runs of a sweep: the built program on many cases, in batches that an executor runs."""
-from __future__ import annotations
 
 import os
 import pickle
@@ -7,16 +6,9 @@ import signal
 import subprocess
 import threading
 import time
-from collections.abc import Iterator, Sequence
-from concurrent.futures import (
-    FIRST_COMPLETED,
-    BrokenExecutor,
-    CancelledError,
-    Executor,
-    Future,
-    ProcessPoolExecutor,
-    wait,
-)
+from collections.abc import Callable, Iterator, Sequence
+from concurrent.futures import FIRST_COMPLETED, Executor, Future, ProcessPoolExecutor, wait
+from concurrent.futures import BrokenExecutor, CancelledError
 from contextlib import suppress
 from dataclasses import dataclass
 from functools import lru_cache
@@ -25,7 +17,7 @@ from multiprocessing import get_context
 from twarp.case import Case
 from twarp.draws import Source
 from twarp.errors import Refused, Stopped
-from twarp.lines import Nodes
+from twarp.policy import Ribs
 from twarp.report import Open, Oscillates, Quiet, Report, Verdict, read_report
 from twarp.standing import reached, unstable_routers
 
@@ -36,9 +28,6 @@ MOST_BATCH = 256
 MOST_WAIT = 0.2
 # How often a run is begun whose executor ends in it.
 MOST_TRIES = 5
-
-# Each router's path.
-Ribs = tuple[Nodes, ...]
 
 
 @dataclass(frozen=True, slots=True)
@@ -126,19 +115,22 @@ RUNNER = Runner()
 
 @dataclass(frozen=True)
 class Plan:
-    """What is run: a source's cases, by a program, to this stop. `is_checked` asks whether paths at rest are stable."""
+    """What is run: a source's cases, by a program, to this stop, or to that which is told for a case.
+
+    `is_checked` asks whether paths at rest are stable.
+    """
 
     source: Source
     program: str
-    stop: int
+    stop: int | Callable[[Case], int]
     every: int | None = None
     is_checked: bool = False
 
     def trial(self, seed: int) -> Trial:
-        """The run with this seed."""
         draw = self.source.draw(seed)
         try:
-            report = self.report(draw.case, self.stop)
+            stop = self.stop if isinstance(self.stop, int) else self.stop(draw.case)
+            report = self.report(draw.case, stop)
             return Trial(seed, draw.values, self.end(draw.case, report))
         except Refused as fault:
             return Trial(seed, draw.values, Failed(str(fault)))
@@ -168,7 +160,7 @@ class Plan:
             case Oscillates(start, _):
                 since = start
             case Open():
-                since = self.stop // 2
+                since = report.stop // 2
         before = [line.changed for line in self.report(case, since).routers] if since else [0] * case.nodes
         return tuple(line.router for line, count in zip(report.routers, before) if line.changed > count)
 
@@ -283,7 +275,6 @@ def batch_of(pickled: bytes, seeds: Sequence[int]) -> tuple[list[Trial], float]:
 
 
 def processors() -> int:
-    """How many processors there are for this process."""
     return len(os.sched_getaffinity(0)) if hasattr(os, "sched_getaffinity") else os.cpu_count() or 1
 
 

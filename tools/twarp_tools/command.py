@@ -7,13 +7,14 @@ import os
 import re
 import stat
 import sys
-from collections.abc import Callable
+from collections.abc import Callable, Mapping
 from dataclasses import dataclass
 from pathlib import Path
 from typing import Any, NoReturn, TypeVar
 
 from twarp.case import MOST_BYTES
 from twarp.errors import Refused, Stopped
+from twarp.lines import MOST_QUOTED, quote
 
 Value = TypeVar("Value")
 
@@ -33,15 +34,6 @@ class Status(enum.IntEnum):
 
 # A report of this size has some five million events, which take 3 GB here.
 MOST_OF_REPORT = 256 << 20
-
-# How much of what is wrong stands in a message.
-MOST_QUOTED = 80
-
-
-def quote(text: str) -> str:
-    """A text as a message quotes it: escaped, and cut where it is long."""
-    return repr(text) if len(text) <= MOST_QUOTED else f"{text[:MOST_QUOTED]!r}.."
-
 
 CLOSING = """
 
@@ -83,8 +75,10 @@ class Parser(argparse.ArgumentParser):
     def parse_pair(self) -> argparse.Namespace:
         """The command line, in which one alone of CASE and REPORT can be standard input."""
         line = self.parse_args()
-        if line.case == line.report == "-":
-            self.error("only one of CASE and REPORT can be standard input")
+        names = {"CASE": line.case, "REPORT": line.report, "--policy": getattr(line, "policy", None)}
+        given = [name for name, file in names.items() if file == "-"]
+        if len(given) > 1:
+            self.error(f"only one of {' and '.join(given)} can be standard input")
         return line
 
     def error(self, message: str) -> NoReturn:
@@ -168,33 +162,47 @@ def tell(message: object) -> None:
     print(f"{Path(sys.argv[0]).name}: {message}", file=sys.stderr)
 
 
+def tell_counts(counts: Mapping[str, int]) -> None:
+    """Says on standard error of what there is how many."""
+    for what, count in counts.items():
+        if count:
+            tell(f"{what}: {count:,}")
+
+
 def write_output(text: str) -> None:
     """Writes the whole text, also where Python's own standard output has no buffer and takes a part at a time."""
     with open(STANDARD_OUTPUT, "wb", closefd=False) as output:
         output.write(text.encode())
 
 
+def reason(why: BaseException) -> str:
+    """What stands behind `stopped`."""
+    match why:
+        case MemoryError():
+            return "memory"
+        case KeyboardInterrupt():
+            return "interrupt"
+        case OSError():
+            where = f"{why.filename}: " if why.filename else ""
+            return f"device: {where}{why.strerror or why}"
+    return str(why)
+
+
 def run(main: Callable[[], None]) -> Status:
-    """Runs a tool and gives its exit status."""
     try:
         main()
     except Refused as fault:
         tell(fault)
         return Status.REFUSED
-    except Stopped as why:
-        tell(f"stopped {why}")
-        return Status.STOPPED
-    except MemoryError:
-        tell("stopped memory")
-        return Status.STOPPED
-    except KeyboardInterrupt:
-        tell("stopped interrupt")
-        return Status.STOPPED
     except BrokenPipeError:
         # Who reads a part alone has met no error.
         return Status.STOPPED
-    except OSError as error:
-        where = f"{error.filename}: " if error.filename else ""
-        tell(f"stopped device: {where}{error.strerror or error}")
+    except (Stopped, MemoryError, KeyboardInterrupt, OSError) as why:
+        tell(f"stopped {reason(why)}")
         return Status.STOPPED
     return Status.DONE
+
+
+def start(main: Callable[[], None]) -> NoReturn:
+    """Runs a tool, and ends with its status."""
+    sys.exit(run(main))

@@ -1,9 +1,13 @@
 """Completions for bash, zsh and fish: the commands and options that the help has."""
-from __future__ import annotations
 
 from collections.abc import Iterator
 
 from twarp_tools.help_text import Flag, Manual
+
+
+def function_of(manual: Manual) -> str:
+    """The name of the function that completes the program's words."""
+    return f"_{manual.name.replace('-', '_')}"
 
 
 def flag_names(flags: list[Flag]) -> list[str]:
@@ -15,10 +19,13 @@ def bash(manual: Manual) -> str:
     cases = [
         f"    {name}) words='{' '.join(flag_names(page.flags))}' ;;\n" for name, page in manual.commands.items()
     ]
+    # What follows one of these is a number.
+    numbers = [f"    {'|'.join(sorted(valued))})\n        compopt +o default 2>/dev/null\n        return ;;\n"] if valued else []
+    function = function_of(manual)
     asked = [f"    help) words='{' '.join(manual.commands)}' ;;\n"] if "help" in manual.top.commands else []
     return f"""\
-# bash completion for twarp
-_twarp() {{
+# bash completion for {manual.name}
+{function}() {{
     local word=${{COMP_WORDS[COMP_CWORD]}} command='' words='' place
     COMPREPLY=()
     for ((place = 1; place < COMP_CWORD; place++)); do
@@ -27,10 +34,7 @@ _twarp() {{
         esac
     done
     case ${{COMP_WORDS[COMP_CWORD - 1]}} in
-    # What follows one of these is a number, and after an arrow bash completes the names of files.
-    {'|'.join(sorted(valued))})
-        compopt +o default 2>/dev/null
-        return ;;
+{''.join(numbers)}    # After an arrow bash completes the names of files.
     '<' | '>' | '>>' | '2>') return ;;
     esac
     case $command in
@@ -38,7 +42,7 @@ _twarp() {{
 {''.join(cases + asked)}    esac
     mapfile -t COMPREPLY < <(compgen -W "$words" -- "$word")
 }}
-complete -o default -F _twarp twarp
+complete -o default -F {function} {manual.name}
 """
 
 
@@ -66,13 +70,13 @@ def zsh(manual: Manual) -> str:
     top = [f"        {zsh_flag(flag)} \\\n" for flag in manual.top.flags]
     cases = []
     for name, page in manual.commands.items():
-        flags = " \\\n            ".join(map(zsh_flag, page.flags))
-        cases.append(f"        {name}) _arguments \\\n            {flags} ;;\n")
+        flags = " \\\n            ".join(["_arguments", *map(zsh_flag, page.flags)]) if page.flags else ":"
+        cases.append(f"        {name}) {flags} ;;\n")
     if "help" in manual.top.commands:
         cases.append(f"        help) _values command {' '.join(manual.commands)} ;;\n")
     return f"""\
-#compdef twarp
-_twarp() {{
+#compdef {manual.name}
+{function_of(manual)}() {{
     local context state state_descr line
     typeset -A opt_args
     local -a commands
@@ -89,28 +93,30 @@ _twarp() {{
         ;;
     esac
 }}
-_twarp "$@"
+{function_of(manual)} "$@"
 """
 
 
-def fish_flag(condition: str, flag: Flag) -> str:
+def fish_flag(name: str, condition: str, flag: Flag) -> str:
     short = f" -s {flag.short[1:]}" if flag.short else ""
     value = " -x" if flag.value else ""
-    return f"complete -c twarp -n {quoted_for_fish(condition)}{short} -l {flag.long[2:]}{value} -d {quoted_for_fish(flag.summary)}"
+    words = f"{short} -l {flag.long[2:]}{value} -d {quoted_for_fish(flag.summary)}"
+    return f"complete -c {name} -n {quoted_for_fish(condition)}{words}"
 
 
 def fish_lines(manual: Manual) -> Iterator[str]:
-    yield "# fish completion for twarp"
-    yield "complete -c twarp -f"
+    program = manual.name
+    yield f"# fish completion for {program}"
+    yield f"complete -c {program} -f"
     for name, summary in manual.top.commands.items():
-        yield f"complete -c twarp -n __fish_use_subcommand -a {name} -d {quoted_for_fish(summary)}"
+        yield f"complete -c {program} -n __fish_use_subcommand -a {name} -d {quoted_for_fish(summary)}"
     for flag in manual.top.flags:
-        yield fish_flag("__fish_use_subcommand", flag)
+        yield fish_flag(program, "__fish_use_subcommand", flag)
     for name, page in manual.commands.items():
         for flag in page.flags:
-            yield fish_flag(f"__fish_seen_subcommand_from {name}; and not __fish_seen_subcommand_from help", flag)
+            yield fish_flag(program, f"__fish_seen_subcommand_from {name}; and not __fish_seen_subcommand_from help", flag)
     if "help" in manual.top.commands:
-        yield f"complete -c twarp -n '__fish_seen_subcommand_from help' -a {quoted_for_fish(' '.join(manual.commands))}"
+        yield f"complete -c {program} -n '__fish_seen_subcommand_from help' -a {quoted_for_fish(' '.join(manual.commands))}"
 
 
 def fish(manual: Manual) -> str:

@@ -1,5 +1,4 @@
-"""What `twarp --help` says, read as clap writes it: usage, commands, options and exit statuses."""
-from __future__ import annotations
+"""What the --help of twarp or twarp-policy says, read as clap writes it: usage, commands, options and exit statuses."""
 
 import re
 import subprocess
@@ -9,7 +8,7 @@ from pathlib import Path
 
 from twarp.errors import Refused
 
-A_FLAG = re.compile(r"\s{2,6}(?:(-\w), )?(--[\w-]+)(?: <(\w+)>)?")
+A_FLAG = re.compile(r"\s{2,6}(?:(-\w), )?(--[\w-]+)(?: <(\w+)>)?(?:\s{2,}(\S.*))?")
 AN_ENTRY = re.compile(r"  (\S+)\s+(\S.*)")
 A_SECTION = re.compile(r"(\w[\w ]*):")
 
@@ -94,7 +93,7 @@ def flags_of(lines: list[str]) -> list[Flag]:
     for line in lines:
         found = A_FLAG.fullmatch(line)
         if found:
-            flags.append(Flag(found[1], found[2], found[3]))
+            flags.append(Flag(found[1], found[2], found[3], [found[4]] if found[4] else []))
         elif flags:
             flags[-1].lines.append(line.strip())
     return flags
@@ -107,6 +106,11 @@ class Manual:
     version: str
     top: Help
     commands: dict[str, Help]
+
+    @property
+    def name(self) -> str:
+        """The name of the program, with which its version begins."""
+        return self.version.split()[0]
 
 
 def ask(program: Path, *words: str) -> str:

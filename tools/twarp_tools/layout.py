@@ -6,11 +6,9 @@ Computer Graphics 25(9), 2019. Then routers that are too near to one another, or
 
 Everything is made of sums, products, quotients and roots, so that a network has the same drawing on each machine.
 """
-from __future__ import annotations
 
 import random
-from collections.abc import Iterator, Sequence
-from dataclasses import dataclass
+from collections.abc import Sequence
 from itertools import combinations
 from math import sqrt
 
@@ -30,19 +28,16 @@ MOST_ROUNDS = 60
 MOST_CLEARED = 10_000
 
 
-@dataclass(slots=True)
-class Point:
-    x: float
-    y: float
+# Where something stands: a number whose real part goes to the right and whose imaginary part goes down.
+Point = complex
 
-    def move(self, x: float, y: float) -> None:
-        self.x += x
-        self.y += y
+
+def length_of(way: Point) -> float:
+    return sqrt(way.real * way.real + way.imag * way.imag)
 
 
 def distance(one: Point, other: Point) -> float:
-    x, y = other.x - one.x, other.y - one.y
-    return sqrt(x * x + y * y)
+    return length_of(other - one)
 
 
 def wanted_distances(neighbours: Neighbours) -> list[tuple[int, int, int]]:
@@ -55,18 +50,17 @@ def wanted_distances(neighbours: Neighbours) -> list[tuple[int, int, int]]:
 def pull(points: list[Point], pairs: list[tuple[int, int, int]], step: float) -> None:
     """Moves each two routers toward the distance that they should have, near ones more than far ones."""
     for a, b, hops in pairs:
-        one, other = points[a], points[b]
-        x, y = other.x - one.x, other.y - one.y
-        length = sqrt(x * x + y * y) or 1e-9
+        way = points[b] - points[a]
+        length = length_of(way) or 1e-9
         share = min(1.0, step / (hops * hops)) * (length - hops) / (2 * length)
-        x, y = share * x, share * y
-        one.x, one.y, other.x, other.y = one.x + x, one.y + y, other.x - x, other.y - y
+        points[a] += share * way
+        points[b] -= share * way
 
 
 def place_by_hops(neighbours: Neighbours) -> list[Point]:
     """The routers' places where a link has the length 1."""
     draw = random.Random(FIRST_SEED)
-    points = [Point(draw.random(), draw.random()) for _ in neighbours]
+    points = [complex(draw.random(), draw.random()) for _ in neighbours]
     pairs = wanted_distances(neighbours)
     step = float(max((hops * hops for _, _, hops in pairs), default=1))
     smaller = SMALLER_OF_FEW if len(pairs) <= FEW_PAIRS else SMALLER
@@ -77,51 +71,47 @@ def place_by_hops(neighbours: Neighbours) -> list[Point]:
     return points
 
 
-def near_pairs(points: list[Point], least: float) -> Iterator[tuple[Point, Point, float]]:
-    """Each two points that are nearer to one another than `least`, the left one first, with their distance."""
-    row = sorted(points, key=lambda point: (point.x, point.y))
-    for place, left in enumerate(row):
-        for right in row[place + 1 :]:
-            x, y = right.x - left.x, right.y - left.y
-            if x >= least:
-                break
-            length = sqrt(x * x + y * y)
-            if length < least:
-                yield left, right, length
-
-
 def part_points(points: list[Point], least: float) -> bool:
     """Moves points apart that are nearer than `least`, and says whether there were any."""
     is_near = False
-    for left, right, length in near_pairs(points, least):
-        is_near = True
-        x, y = (right.x - left.x, right.y - left.y) if length else (1.0, 0.0)
-        share = (least - length + 1) / (2 * (length or 1.0))
-        left.move(-share * x, -share * y)
-        right.move(share * x, share * y)
+    row = sorted(range(len(points)), key=lambda number: (points[number].real, points[number].imag))
+    for place, left in enumerate(row):
+        for right in row[place + 1 :]:
+            way = points[right] - points[left]
+            if way.real >= least:
+                break
+            length = length_of(way)
+            if length < least:
+                is_near = True
+                share = (least - length + 1) / (2 * (length or 1.0))
+                points[left] -= share * (way or 1.0)
+                points[right] += share * (way or 1.0)
     return is_near
 
 
-def part_from_link(point: Point, a: Point, b: Point, least: float) -> bool:
-    """Moves a point aside where the link from `a` to `b` passes nearer than `least`, and says whether it did."""
-    x, y = b.x - a.x, b.y - a.y
-    length = sqrt(x * x + y * y)
+def aside(point: Point, a: Point, b: Point, least: float) -> Point:
+    """How a point is to be moved where the link from `a` to `b` passes nearer than `least`."""
+    link, way = b - a, point - a
+    length = length_of(link)
     if not length:
-        return False
-    along = ((point.x - a.x) * x + (point.y - a.y) * y) / (length * length)
-    aside = ((point.x - a.x) * y - (point.y - a.y) * x) / length
-    if not 0 < along < 1 or abs(aside) >= least:
-        return False
-    share = (least - abs(aside) + 1) / length * (1 if aside >= 0 else -1)
-    point.move(share * y, -share * x)
-    return True
+        return 0j
+    along = (way.real * link.real + way.imag * link.imag) / (length * length)
+    off = (way.real * link.imag - way.imag * link.real) / length
+    if not 0 < along < 1 or abs(off) >= least:
+        return 0j
+    share = (least - abs(off) + 1) / length * (1 if off >= 0 else -1)
+    return complex(share * link.imag, -share * link.real)
 
 
 def part_from_links(points: list[Point], links: list[tuple[int, int]], least: float) -> bool:
     """Moves points aside from the links of others that pass nearer than `least`, and says whether any did."""
-    crossings = ((point, a, b) for point in range(len(points)) for a, b in links if point not in (a, b))
-    moved = [part_from_link(points[point], points[a], points[b], least) for point, a, b in crossings]
-    return any(moved)
+    has_moved = False
+    for number in range(len(points)):
+        for a, b in links:
+            if number not in (a, b) and (move := aside(points[number], points[a], points[b], least)):
+                points[number] += move
+                has_moved = True
+    return has_moved
 
 
 def part_all(points: list[Point], links: list[tuple[int, int]], least: float) -> None:
@@ -134,22 +124,14 @@ def part_all(points: list[Point], links: list[tuple[int, int]], least: float) ->
             return
 
 
-def least_distance(points: list[Point], least: float) -> float:
-    return min((distance(a, b) for a, b in combinations(points, 2)), default=least)
-
-
-def turn_down(points: list[Point], first: Point) -> None:
-    """Turns the drawing so that `first` is straight below its middle, where it is not in the middle."""
-    x = y = 0.0
-    for point in points:
-        x, y = x + point.x / len(points), y + point.y / len(points)
-    down_x, down_y = first.x - x, first.y - y
-    length = sqrt(down_x * down_x + down_y * down_y)
+def turned_down(points: list[Point], first: Point) -> list[Point]:
+    """The drawing turned so that `first` is straight below its middle, where it is not in the middle."""
+    down = first - sum(point / len(points) for point in points)
+    length = length_of(down)
     if length < 0.2:
-        return
-    cosine, sine = down_y / length, down_x / length
-    for point in points:
-        point.x, point.y = point.x * cosine - point.y * sine, point.x * sine + point.y * cosine
+        return points
+    turn = complex(down.imag / length, down.real / length)
+    return [point * turn for point in points]
 
 
 def lay_out(neighbours: Neighbours, link: float, least: float, lowest: int | None) -> list[Point]:
@@ -159,11 +141,11 @@ def lay_out(neighbours: Neighbours, link: float, least: float, lowest: int | Non
     """
     points = place_by_hops(neighbours)
     if lowest is not None:
-        turn_down(points, points[lowest])
-    for point in points:
-        point.x, point.y = point.x * link, point.y * link
-    links = [(a, b) for a, row in enumerate(neighbours) for b in row if a < b]
-    part_all(points, links, least)
-    larger = max(1.0, least / (least_distance(points, least) or 1.0))
-    left, top = min(point.x for point in points), min(point.y for point in points)
-    return [Point(round((point.x - left) * larger, 1), round((point.y - top) * larger, 1)) for point in points]
+        points = turned_down(points, points[lowest])
+    points = [link * point for point in points]
+    part_all(points, [(a, b) for a, row in enumerate(neighbours) for b in row if a < b], least)
+    nearest = min((distance(a, b) for a, b in combinations(points, 2)), default=least)
+    larger = max(1.0, least / (nearest or 1.0))
+    corner = complex(min(point.real for point in points), min(point.imag for point in points))
+    places = (larger * (point - corner) for point in points)
+    return [complex(round(place.real, 1), round(place.imag, 1)) for place in places]

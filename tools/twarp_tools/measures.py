@@ -1,5 +1,4 @@
 """What the links of a network measure: the delays and weights that a case is made of."""
-from __future__ import annotations
 
 import math
 from collections.abc import Callable
@@ -8,8 +7,8 @@ from fractions import Fraction
 
 from twarp.case import GREATEST_DELAY, MOST_LINKS
 from twarp.errors import Refused
-from twarp_tools.command import quote
-from twarp_tools.network import Network, NetworkLink
+from twarp.lines import quote
+from twarp_tools.network import Network, NetworkLink, Node
 
 # Attributes of links that are read where the command line names none, in letters of any case.
 DISTANCES = ("delay", "latency", "distance", "dist", "length")
@@ -28,12 +27,11 @@ Measure = Callable[[NetworkLink], Fraction | None]
 
 def measure_by(name: str) -> Measure:
     """What this attribute says, which is not below 0."""
+    return lambda link: link.number(name, 0, GREATEST_VALUE)
 
-    def measure(link: NetworkLink) -> Fraction | None:
-        found = link.find(name)
-        return found.number_between(0, GREATEST_VALUE) if found else None
 
-    return measure
+def has_place(node: Node) -> bool:
+    return node.has("latitude") and node.has("longitude")
 
 
 def measure_on_globe(network: Network) -> Measure:
@@ -41,10 +39,11 @@ def measure_on_globe(network: Network) -> Measure:
 
     def place_of(node: str) -> tuple[float, float, float] | None:
         """On a globe of radius 1."""
-        latitude, longitude = (network.nodes[node].find(name) for name in ("latitude", "longitude"))
-        if not latitude or not longitude:
+        item = network.nodes[node]
+        if not has_place(item):
             return None
-        up, round_ = math.radians(latitude.number_between(-90, 90)), math.radians(longitude.number_between(-180, 180))
+        latitude, longitude = item.number("latitude", -90, 90), item.number("longitude", -180, 180)
+        up, round_ = math.radians(latitude or 0), math.radians(longitude or 0)
         return math.cos(up) * math.cos(round_), math.cos(up) * math.sin(round_), math.sin(up)
 
     def measure(link: NetworkLink) -> Fraction | None:
@@ -60,7 +59,7 @@ def measure_on_globe(network: Network) -> Measure:
 def delay_measure(network: Network, named: str | None, per_tick: Fraction | None) -> tuple[Measure, Fraction] | None:
     """How links' delays are found, and how much of it is a tick; none where all are 1."""
     name = known_name(network, "--delay", named, DISTANCES)
-    if name is None and any(node.find("latitude") and node.find("longitude") for node in network.nodes.values()):
+    if name is None and any(map(has_place, network.nodes.values())):
         return measure_on_globe(network), per_tick or Fraction(KM_PER_TICK)
     name = name or known_name(network, "", None, WEIGHTS)
     return (measure_by(name), per_tick or Fraction(1)) if name else None
@@ -75,7 +74,7 @@ def weight_measure(network: Network, named: str | None) -> Measure | None:
 def known_name(network: Network, option: str, named: str | None, usual: tuple[str, ...]) -> str | None:
     """The attribute that an option names, or else the first of the usual ones, that some link has."""
     names = (named,) if named else usual
-    known = next((name for name in names if any(link.find(name) for link in network.links)), None)
+    known = next((name for name in names if any(link.has(name) for link in network.links)), None)
     if named and known is None:
         raise Refused(f"refused option {option}: no link has the attribute {named}")
     return known

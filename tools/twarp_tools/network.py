@@ -1,5 +1,4 @@
 """Networks with attributes: nodes, and links between them, in one direction or in both."""
-from __future__ import annotations
 
 import re
 from collections.abc import Mapping
@@ -7,30 +6,10 @@ from dataclasses import dataclass, field
 from fractions import Fraction
 
 from twarp.errors import Refused
-from twarp_tools.command import quote
+from twarp.lines import quote
 
 # A decimal number, also one with an exponent, of a size that stays quick to count with.
 A_DECIMAL = re.compile(r"[+-]?([0-9]{1,20}(\.[0-9]{0,20})?|\.[0-9]{1,20})([eE][+-]?[0-9]{1,3})?")
-
-
-@dataclass(frozen=True, slots=True)
-class Attribute:
-    """A value as it is written, with its name and what it belongs to."""
-
-    place: str
-    name: str
-    text: str
-
-    def refused(self, why: str) -> Refused:
-        return Refused(f"refused {self.place}: {self.name} {quote(self.text)}: {why}")
-
-    def number_between(self, least: int, most: int) -> Fraction:
-        text = self.text.strip()
-        if not A_DECIMAL.fullmatch(text):
-            raise self.refused("this is no number")
-        if not least <= (number := Fraction(text)) <= most:
-            raise self.refused(f"this is not between {least} and {most:,}")
-        return number
 
 
 class Item:
@@ -38,23 +17,32 @@ class Item:
 
     def __init__(self, place: str, attributes: Mapping[str, str]):
         self.place = place
-        self.attributes: dict[str, Attribute] = {}
-        for name, text in attributes.items():
-            # One without a value counts as not given.
-            if text:
-                self.attributes.setdefault(name.lower(), Attribute(place, name, text))
+        # One without a value counts as not given, and of two names that are alike the first counts.
+        given = [(name, text) for name, text in attributes.items() if text]
+        self.attributes = {name.lower(): (name, text) for name, text in reversed(given)}
 
-    def find(self, name: str) -> Attribute | None:
-        return self.attributes.get(name.lower())
+    def has(self, name: str) -> bool:
+        return name.lower() in self.attributes
+
+    def number(self, name: str, least: int, most: int) -> Fraction | None:
+        """The number of an attribute, where it is given; refused where it is no number or not between these."""
+        if not self.has(name):
+            return None
+        name, text = self.attributes[name.lower()]
+        why = "this is no number"
+        if A_DECIMAL.fullmatch(text.strip()):
+            if least <= (number := Fraction(text.strip())) <= most:
+                return number
+            why = f"this is not between {least} and {most:,}"
+        raise Refused(f"refused {self.place}: {name} {quote(text)}: {why}")
 
 
 class Node(Item):
     def __init__(self, id_: str, attributes: Mapping[str, str]):
         super().__init__(f"node {quote(id_)}", attributes)
-        label = self.find("label")
+        _, label = self.attributes.get("label", ("", ""))
         # What it is called: its label, and its id where it has none.
-        self.name = " ".join(label.text.split()) if label else ""
-        self.name = self.name or id_
+        self.name = " ".join(label.split()) or id_
 
 
 class NetworkLink(Item):

@@ -1,5 +1,4 @@
 """The drawing of a network in view: where its routers stand, and where its words do."""
-from __future__ import annotations
 
 from collections.abc import Iterator, Sequence
 
@@ -21,18 +20,18 @@ LABEL_PARTS = (0.5, 0.44, 0.56, 0.38, 0.62, 0.32, 0.68, 0.26, 0.74)
 END_PARTS = ((0.34, 0.28, 0.4, 0.24), (0.66, 0.72, 0.6, 0.76))
 LABEL_ROOM = 32.0
 # How far below a router, or above it, the middle of its path's words is.
-WORDS_ASIDE = (25.0, -25.0)
+WORDS_ASIDE = 25.0
 
 
 def point_between(a: Point, b: Point, part: float) -> Point:
     """The point at this part of the way from `a` to `b`."""
-    return Point(a.x + part * (b.x - a.x), a.y + part * (b.y - a.y))
+    return a + part * (b - a)
 
 
 def words_of(point: Point, peers: list[Point]) -> Point:
     """Where a router's path is to be written: below it or above, where its links leave more room."""
-    ways = [point_between(point, peer, WORDS_ASIDE[0] / distance(point, peer)) for peer in peers]
-    spots = [Point(point.x, point.y + aside) for aside in WORDS_ASIDE]
+    ways = [point_between(point, peer, WORDS_ASIDE / distance(point, peer)) for peer in peers]
+    spots = [point + complex(0, aside) for aside in (WORDS_ASIDE, -WORDS_ASIDE)]
     return max(spots, key=lambda spot: min((distance(spot, way) for way in ways), default=0.0))
 
 
@@ -75,7 +74,7 @@ class NetworkDrawing:
         return parts[best]
 
     def json(self) -> Json:
-        right, bottom = max(point.x for point in self.points), max(point.y for point in self.points)
+        right, bottom = max(point.real for point in self.points), max(point.imag for point in self.points)
         return {
             "width": round(right + 2 * self.left),
             "height": round(bottom + 2 * self.top),

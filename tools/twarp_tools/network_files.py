@@ -2,7 +2,6 @@
 
 What both would let pass, or lose, is refused here: entities, hyperedges, a second graph or node, a link without an end.
 """
-from __future__ import annotations
 
 import re
 import sys
@@ -12,7 +11,7 @@ from typing import Any
 from xml.etree.ElementTree import Element
 
 from twarp.errors import Refused, Stopped
-from twarp_tools.command import MOST_QUOTED, quote
+from twarp.lines import MOST_QUOTED, quote
 from twarp_tools.network import Network, NetworkLink, Node
 
 MISSING = f"""\
@@ -80,7 +79,6 @@ def shortened(words: str) -> str:
 
 
 def read_graphml(text: bytes) -> Any:
-    """The graph of a GraphML text, as networkx has it."""
     from networkx.readwrite.graphml import GraphMLReader
 
     root = read_xml(text)
@@ -178,7 +176,6 @@ def refuse_ends(root: Element) -> None:
 
 
 def read_gml(text: bytes) -> Any:
-    """The graph of a GML text, as networkx has it."""
     from networkx import parse_gml
 
     has_graph = False

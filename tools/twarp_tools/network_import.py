@@ -1,5 +1,4 @@
 """The tool import: a network in GraphML or GML becomes a case."""
-from __future__ import annotations
 
 import argparse
 import re
@@ -11,7 +10,8 @@ from typing import BinaryIO
 from twarp.case import MOST_NODES, MOST_PATHS, MOST_ROUTERS, Case, Link
 from twarp.errors import Refused
 from twarp.hops import hops_from
-from twarp_tools.command import Parser, number_between, quote, refuse_own_input, tell, write_output
+from twarp.lines import quote
+from twarp_tools.command import Parser, number_between, refuse_own_input, tell_counts, write_output
 from twarp_tools.measures import DISTANCES, KM_PER_TICK, WEIGHTS, Joined, Measured
 from twarp_tools.network import Network
 from twarp_tools.network_files import read_network
@@ -90,7 +90,6 @@ def links_of(rows: Rows) -> Iterator[Link]:
 
 
 def count_one_way(rows: Rows) -> int:
-    """How many links lead in one direction alone."""
     return sum(a not in rows[b] for a, row in enumerate(rows) for b in row)
 
 
@@ -114,9 +113,7 @@ def tell_cuts(joined: Joined, rows: Rows, shortest: Shortest, line: argparse.Nam
         f"routers with paths left out because each has at most {line.paths}": len(shortest.crowded),
         f"routers with paths left out because these have more than {MOST_NODES} nodes": len(shortest.too_long),
     }
-    for what, count in counts.items():
-        if count:
-            tell(f"{what}: {count:,}")
+    tell_counts(counts)
 
 
 def names_of(network: Network, routers: list[str]) -> str:

@@ -1,5 +1,4 @@
 """Numbers for routers, such that neighbours are near in number."""
-from __future__ import annotations
 
 from collections.abc import Collection, Sequence
 

@@ -1,5 +1,4 @@
 """Files as they are published: plain, or packed by gzip or bzip2, read as a stream, and no further than is allowed."""
-from __future__ import annotations
 
 import bz2
 import gzip

@@ -1,8 +1,8 @@
 """The tool page: the run of a case as one page to look at."""
-from __future__ import annotations
 
 import json
 from collections.abc import Iterator
+from dataclasses import asdict
 from html import escape
 from pathlib import Path
 from string import Template
@@ -10,28 +10,31 @@ from xml.etree import ElementTree
 from xml.etree.ElementTree import Element
 
 from twarp.axis import DIGIT_WIDTH, FOLD_WIDTH, TimeAxis
-from twarp.case import Case, read_case
+from twarp.case import Case
 from twarp.event import Event
 from twarp.following import Run, follow
-from twarp.lanes import TOP, Sample, View, refuse_crowd, sample_line
-from twarp.lines import write_path
+from twarp.lanes import TOP, View, refuse_crowd, sample_circle, sample_line
 from twarp.palette import DARK, LIGHT, PLACES
 from twarp.pictures import subtitle_of, view_of_run
-from twarp.report import Report, read_report
+from twarp.policy import Safety
+from twarp.report import Report
 from twarp.run_picture import LETTER_WIDTH, Bar, RunPicture
 from twarp.svg import DEFINITIONS, STYLE, add, attribute
+from twarp_tools.all_timings import add_policy, check_policy, safety_json, safety_of
 from twarp_tools.command import MOST_OF_REPORT, Input, title_of, write_output
 from twarp_tools.network_drawing import NetworkDrawing
-from twarp_tools.part import command_line, part_of
+from twarp_tools.part import parser_of, part_of, read_run
 from twarp_tools.recording import Json, Recording
 
 DESCRIPTION = """\
 Makes a page of the run of a case on standard output, one HTML file that needs no network: the network, the timeline, a
 slider of time that moves both, and each router's table. The report has to be one with --log. A page has at most 300
-routers and 5,000 events; of more, choose a part."""
+routers and 5,000 events; of more, choose a part. With what twarp-policy safe wrote the network has the dispute wheel and
+the routers that have a choice, and the tables which paths are left for all timings."""
 EXAMPLE = """\
-example:
-  ./twarp seq --stop 20 --every 1 --log < cases/bad-gadget.spp | tools/page cases/bad-gadget.spp > bad-gadget.html"""
+examples:
+  ./twarp seq --stop 20 --every 1 --log < cases/bad-gadget.spp | tools/page cases/bad-gadget.spp > bad-gadget.html
+  ./twarp seq --stop 20 --log < cases/disagree.spp | tools/page --ask-policy cases/disagree.spp > disagree.html"""
 
 PARTS = Path(__file__).resolve().parent / "page_parts"
 MOST_ROUTERS = 300
@@ -80,13 +83,8 @@ class PagePicture(RunPicture):
 
     def axis_json(self) -> Json:
         """What the script has to know to write the times anew."""
-        axis = self.axis
         return {
-            "first": axis.first,
-            "last": axis.last,
-            "left": axis.left,
-            "scale": axis.scale,
-            "folds": axis.folds,
+            **asdict(self.axis),
             "fold_width": FOLD_WIDTH,
             "digit_width": DIGIT_WIDTH,
             "letter_width": LETTER_WIDTH,
@@ -100,9 +98,12 @@ class PagePicture(RunPicture):
 class Page:
     """What the page of a part of a run has."""
 
-    def __init__(self, case: Case, report: Report, run: Run, view: View, recording: Recording):
+    def __init__(
+        self, case: Case, report: Report, run: Run, view: View, recording: Recording, safety: Safety | None = None
+    ):
         self.view = view
         self.recording = recording
+        self.safety = safety
         self.network = NetworkDrawing(case, view)
         self.picture = PagePicture(case, report, run, view)
         self.messages = recording.messages(run)
@@ -125,12 +126,15 @@ class Page:
 
     def json(self) -> Json:
         """What the script has to know."""
+        safety = self.safety
+        policy = {"policy": safety_json(safety, self.recording.paths, self.view.routers)} if safety else {}
         return {
             **self.network.json(),
+            **policy,
             "stops": self.stops,
             "axis": self.picture.axis_json(),
             "xs": [round(self.picture.axis.x(time), 1) for time in self.stops],
-            "places": [{"name": place.name, "fill": place.fill, "ink": place.ink} for place in PLACES],
+            "places": [asdict(place) for place in PLACES],
             "paths": list(self.recording.paths),
             "routers": list(self.routers()),
             "messages": self.messages,
@@ -143,9 +147,9 @@ class Page:
             yield {
                 "router": router,
                 "name": self.view.names.get(router, ""),
-                "x": point.x + network.left,
-                "y": point.y + network.top,
-                "words_y": words.y + network.top,
+                "x": point.real + network.left,
+                "y": point.imag + network.top,
+                "words_y": words.imag + network.top,
                 "opening": self.recording.state(self.recording.opening[router]),
             }
 
@@ -169,24 +173,22 @@ class Page:
 
     def marks(self) -> Iterator[str]:
         """The legend, of the network's marks and then of the timeline's: a sample of each, and what it is."""
-        for name, draw in [*NETWORK_MARKS, *self.picture.legend()]:
+        for name, draw in [*NETWORK_MARKS, *(POLICY_MARKS if self.safety else []), *self.picture.legend()]:
             sample = pane("", 0, 0, SAMPLE_WIDTH, SAMPLE_HEIGHT)
             draw(sample, SAMPLE_WIDTH / 2, SAMPLE_HEIGHT / 2)
             yield f"<li>{written(sample)} {escape(name)}</li>"
 
 
-def sample_dot(look: str) -> Sample:
-    def draw(parent: Element, x: float, y: float) -> None:
-        add(parent, "circle", class_=look, cx=x, cy=y, r=6)
-
-    return draw
-
-
 NETWORK_MARKS = [
-    ("message on its way", sample_dot("dot")),
-    ("on its way, without a path", sample_dot("dot withdrawal")),
-    ("on its way, will be dropped", sample_dot("dot lost")),
+    ("message on its way", sample_circle("dot", 6)),
+    ("on its way, without a path", sample_circle("dot withdrawal", 6)),
+    ("on its way, will be dropped", sample_circle("dot lost", 6)),
     ("link that is down", sample_line(class_="wire down")),
+]
+POLICY_MARKS = [
+    ("router that has a choice whatever the delays", sample_circle("choice", 7)),
+    ("rim of the dispute wheel", sample_line(class_="rim")),
+    ("spoke of the dispute wheel", sample_line(class_="spoke")),
 ]
 
 
@@ -214,14 +216,20 @@ def style() -> str:
 
 
 def main() -> None:
-    line = command_line(DESCRIPTION, EXAMPLE)
+    parser = parser_of(DESCRIPTION, EXAMPLE)
+    add_policy(parser, "the wheel in the network, and which paths each router may still use whatever the delays")
+    line = parser.parse_pair()
+    has_policy = check_policy(parser, line)
     case_text, report_text = Input.of(line.case), Input.of(line.report, MOST_OF_REPORT)
-    case = case_text.read(read_case)
-    report = report_text.read(lambda text: read_report(text, case.nodes))
+    case, report = read_run(case_text, report_text)
     view = view_of_run(case, report, **part_of(line))
     refuse_crowd(len(view.routers), MOST_ROUTERS, "routers to be shown, and a page has")
+    seen = sum(event.dst in view.shown and view.meets(event.time, event.time) for event in report.events)
+    refuse_crowd(seen, MOST_EVENTS, "events to be shown, and a page has")
     recording = Recording(case, view)
     run = report_text.read(lambda _: follow(case, report, recording))
-    refuse_crowd(len(recording.events), MOST_EVENTS, "events to be shown, and a page has")
-    page = Page(case, report, run, view, recording)
-    write_output(page.html(f"{title_of(line.title, line.case, 'run')}: verdict {report.verdict}", subtitle_of(report)))
+    recording.begin(run.routers)
+    safety = safety_of(line, case) if has_policy else None
+    page = Page(case, report, run, view, recording, safety)
+    subtitle = subtitle_of(report) + (f"; for all timings: {safety}" if safety else "")
+    write_output(page.html(f"{title_of(line.title, line.case, 'run')}: verdict {report.verdict}", subtitle))

@@ -3,7 +3,6 @@
 L. Gao, J. Rexford: Stable Internet routing without global coordination, IEEE/ACM Transactions on Networking 9(6), 2001.
 A path without a valley goes up to providers, then by at most one link between peers, then down to customers.
 """
-from __future__ import annotations
 
 from collections.abc import Iterator
 from itertools import islice

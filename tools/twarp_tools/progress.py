@@ -1,5 +1,4 @@
 """How far long work is, told on standard error."""
-from __future__ import annotations
 
 import sys
 import time

@@ -1,6 +1,6 @@
 """A run as a page keeps it: how each router in view begins, and what each event changes at its router."""
-from __future__ import annotations
 
+from collections.abc import Sequence
 from typing import Any
 
 from twarp.case import Case
@@ -8,7 +8,7 @@ from twarp.event import Allow, Event, Fail, Forbid, Restore, Swap, Update
 from twarp.following import Fate, Message, Run
 from twarp.lanes import View
 from twarp.lines import write_path
-from twarp.protocol import Router, opening_routers
+from twarp.protocol import Router
 
 # What a page's script reads.
 Json = dict[str, Any]
@@ -20,20 +20,23 @@ class Recording:
     def __init__(self, case: Case, view: View):
         self.view = view
         self.paths = case.path_numbers()
-        # The routers in view as they are before the first event in view, and as they were seen last.
-        self.opening = {router.node: router for router in opening_routers(case) if router.node in view.shown}
-        self.latest: dict[int, Router] = {}
+        # The routers in view as they are before the first event from the view's beginning on.
+        self.opening: dict[int, Router] = {}
         self.events: list[Json] = []
 
-    def __call__(self, event: Event, router: Router) -> None:
-        if event.dst not in self.view.shown or event.time > self.view.last:
-            return
+    def begin(self, routers: Sequence[Router]) -> None:
+        """Keeps the routers as they are, where that is not done yet."""
+        self.opening = self.opening or {router: routers[router].copy() for router in self.view.routers}
+
+    def __call__(self, event: Event, routers: Sequence[Router]) -> None:
         if event.time < self.view.first:
-            self.opening[event.dst] = router.copy()
-        else:
-            before = self.latest.get(event.dst) or self.opening[event.dst]
-            self.latest[event.dst] = router.copy()
-            self.events.append(self.event(event, before, router))
+            return
+        self.begin(routers)
+        if event.dst in self.view.shown and event.time <= self.view.last:
+            before = routers[event.dst]
+            after = before.copy()
+            after.handle(event)
+            self.events.append(self.event(event, before, after))
 
     def event(self, event: Event, before: Router, after: Router) -> Json:
         """What happens, in words, and what is other than before at the router."""
@@ -50,15 +53,10 @@ class Recording:
         return made
 
     def state(self, router: Router) -> Json:
-        """A router's whole state."""
+        order, barred = self.order(router), self.barred(router)
         rows = [self.row(router, peer) for peer in router.delays]
-        return {
-            "rib": self.paths[router.rib],
-            "order": self.order(router),
-            "barred": self.barred(router),
-            "rows": rows,
-            "counters": counters(router),
-        }
+        now = {"rib": self.paths[router.rib], "order": order, "barred": barred, "rows": rows}
+        return now | {"counters": counters(router)}
 
     def order(self, router: Router) -> list[int]:
         return [self.paths[path] for path in router.order]
@@ -74,8 +72,8 @@ class Recording:
     def messages(self, run: Run) -> list[Json]:
         """The messages between routers in view that are under way at some time in view."""
         shown, meets = self.view.shown, self.view.meets
-        seen = (message for message in run.messages if {message.event.src, message.event.dst} <= shown)
-        return [self.message(message) for message in seen if meets(message.sent, message.event.time)]
+        seen = (message for message in run.messages if meets(message.sent, message.event.time))
+        return [self.message(message) for message in seen if {message.event.src, message.event.dst} <= shown]
 
     def message(self, message: Message) -> Json:
         event = message.event
@@ -94,7 +92,6 @@ def counters(router: Router) -> list[int]:
 
 
 def peer_of(event: Event) -> int | None:
-    """The neighbour that an event is about."""
     match event.body:
         case Fail(peer) | Restore(peer):
             return peer

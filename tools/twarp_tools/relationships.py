@@ -1,26 +1,15 @@
 """The tool relationships: AS relationships become a case."""
-from __future__ import annotations
 
 import argparse
 from collections.abc import Iterable, Iterator, Sequence
 from graphlib import CycleError, TopologicalSorter
 from pathlib import Path
 
-from twarp.case import (
-    GREATEST_DELAY,
-    GREATEST_TIME,
-    MOST_LINKS,
-    MOST_NODES,
-    MOST_PATHS,
-    MOST_ROUTERS,
-    MOST_SCENES,
-    Case,
-    Link,
-    LinkScene,
-)
+from twarp.case import GREATEST_DELAY, GREATEST_TIME, MOST_LINKS, MOST_NODES, MOST_PATHS, MOST_ROUTERS
+from twarp.case import MOST_SCENES, Case, Link, LinkScene
 from twarp.draws import Uniform, read_range, share
 from twarp.errors import Refused
-from twarp_tools.command import Parser, number_between, refuse_own_input, tell, write_output
+from twarp_tools.command import Parser, number_between, refuse_own_input, tell, tell_counts, write_output
 from twarp_tools.ordering import near_order
 from twarp_tools.packed import add_size_limit, lines_within, read_stream
 from twarp_tools.policy import Permitted
@@ -127,9 +116,7 @@ def tell_cuts(growth: Growth, permitted: Permitted, line: argparse.Namespace) ->
         f"routers with paths left out because each has at most {line.paths}": len(permitted.crowded),
         f"routers with paths left out because these have more than {MOST_NODES} nodes": len(permitted.too_long),
     }
-    for what, count in counts.items():
-        if count:
-            tell(f"{what}: {count:,}")
+    tell_counts(counts)
 
 
 def tell_circle(topology: Topology) -> None:

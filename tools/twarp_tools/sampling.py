@@ -1,5 +1,4 @@
 """Parts of AS relationships that keep the shape of the whole: a k-core, and a customer cone."""
-from __future__ import annotations
 
 from collections.abc import Container
 

@@ -1,5 +1,4 @@
 """Which crates are proved next, so that many are proved side by side."""
-from __future__ import annotations
 
 from typing import NamedTuple
 

@@ -1,5 +1,4 @@
 """Permitted paths by shortest weight."""
-from __future__ import annotations
 
 import heapq
 import math

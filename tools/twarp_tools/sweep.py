@@ -1,5 +1,4 @@
 """The tool sweep: many runs of a case over what isn't known of it."""
-from __future__ import annotations
 
 import argparse
 import contextlib
@@ -20,14 +19,16 @@ from typing import Literal, TextIO
 from twarp import program
 from twarp.calls import version
 from twarp.case import GREATEST_TIME, MOST_ROUTERS, read_case
-from twarp.draws import Draw, Ends, Source, case_source, read_law, read_times
+from twarp.draws import CaseSource, Draw, Ends, Source, case_source, read_law, read_times
 from twarp.errors import Refused, Stopped
 from twarp.outcome_picture import OutcomePicture
-from twarp.outcomes import Table, read_table
+from twarp.outcomes import Outcomes, Table, read_table
+from twarp.policy import Ribs
+from twarp.resting import AtRest, Policy
 from twarp.sweeps import cluster
 from twarp.trials import Batches, Failed, Given, Local, Plan, Trial, processors
 from twarp_tools import relationships
-from twarp_tools.command import Input, Parser, is_same_file, number_between, refuse_own_input, title_of, write_output
+from twarp_tools.command import Input, Parser, is_same_file, number_between, refuse_own_input, tell, title_of, write_output
 from twarp_tools.progress import Progress
 
 MOST_RUNS = 1_000_000
@@ -48,7 +49,7 @@ examples:
   tools/sweep --relationships '--destination 2603 --paths 4 --failures 2 --until 100' --stop 1000 --runs 200 \\
       tools/examples/research-networks.txt > runs.csv"""
 # The options that say what the runs are; a CSV names them, and goes on with the same ones alone.
-NAMED = ("delays", "links", "apart", "failure_times", "relationships", "stop", "every", "seed")
+NAMED = ("delays", "links", "apart", "failure_times", "relationships", "stop", "every", "outcomes", "seed")
 
 
 def as_written(read: Callable[[str], object]) -> Callable[[str], str]:
@@ -86,8 +87,11 @@ def command_line() -> argparse.Namespace:
     option("--relationships", "OPTIONS", made, as_written(shlex.split))
     option("--runs", "N", "how many runs", count, 1_000)
     option("--seed", "N", "the first run's seed", seed, 1)
-    option("--stop", "TIME", "run each case to this time", time, required=True)
+    stop = "run each case to this time (default: where it is at rest whatever its delays, of a case that twarp-policy calls safe)"
+    option("--stop", "TIME", stop, time)
     option("--every", "N", "look for oscillation each N ticks, as twarp does", time)
+    numbers = "number outcomes at rest by first seeds, or as twarp-policy stable does (default: stable, where it lists several)"
+    flag("--outcomes", choices=["seen", "stable"], help=numbers)
     add_outputs(parser)
     option("--resume", "FILE", "run what is missing in this CSV of the same case, options and seed, and write into it")
     check = "see whether each run at rest has stable paths; if one has not, write its case and end with status 1"
@@ -98,15 +102,20 @@ def command_line() -> argparse.Namespace:
     option("--scheduler", "ADDRESS", "run on the Dask cluster with this scheduler, as tcp://HOST:8786")
     flag("--quiet", action="store_true", help="do not tell how far it is")
     option("--program", "FILE", "the built program (default: $TWARP, the clone's, the installed one, or on the PATH)")
+    option("--policy-program", "FILE", "the built program twarp-policy (default: $TWARP_POLICY, beside twarp, or on the PATH)")
     line = parser.parse_args()
     if not (line.delays or line.failure_times or line.relationships is not None):
         parser.error("one of --delays, --failure-times and --relationships has to say what is drawn")
     if line.relationships is not None and (line.delays or line.failure_times):
         parser.error("--relationships draws delays and failures itself")
+    if line.relationships is not None and line.outcomes:
+        parser.error("--outcomes goes with one case, and --relationships makes one for each run")
     if (line.links or line.apart) and not line.delays:
         parser.error("--links and --apart go with --delays")
     if line.csv and line.resume:
         parser.error("--resume names the CSV itself")
+    if not (line.stop or line.show or program.find_policy(line.policy_program, line.program)):
+        parser.error("--stop is missing, and no twarp-policy is here that would tell when the runs are at rest")
     return line
 
 
@@ -146,6 +155,47 @@ def source_of(line: argparse.Namespace) -> tuple[Source, str]:
     case = Input.of(line.case).read(lambda text: read_case(text, named))
     links = read_links(line.links) if line.links else None
     return case_source(case, line.delays, links, line.apart, line.failure_times), checksum_of(str(case))
+
+
+def policy_program(line: argparse.Namespace) -> str | None:
+    """The program twarp-policy, where it is there; stopped where it is not and an option asks for it."""
+    is_asked = line.policy_program or not line.stop or line.outcomes == "stable"
+    try:
+        return str(program.need_policy(line.policy_program, line.program))
+    except Stopped:
+        if is_asked and not line.scheduler:
+            raise
+        return None
+
+
+def policy_of(line: argparse.Namespace, source: Source, file: str | None) -> Policy | None:
+    """What holds of the case for all timings, where the runs have one case and twarp-policy is there.
+
+    Where nothing but delays is drawn, no stop has to be named for a case that is safe.
+    """
+    if file is None or not isinstance(source, CaseSource):
+        return None
+    try:
+        policy = Policy.of(source.case, file)
+    except (OSError, Refused, Stopped, ValueError) as fault:
+        if not line.stop:
+            raise Stopped(f"policy: {file} does not tell when the runs are at rest: {fault}") from None
+        tell(f"{file} does not judge the case: {fault}")
+        return None
+    if not (line.stop or line.failure_times or policy.safety.is_safe):
+        raise Refused(f"refused option --stop: it is missing, and no time is known by which all rest: {policy.words()}")
+    if not line.quiet:
+        tell(policy.words())
+    return policy
+
+
+def outcomes_of(line: argparse.Namespace, policy: Policy | None) -> Outcomes:
+    """Outcomes with the numbers of stable assignments, and what is known of runs that are open."""
+    if policy is None:
+        return Outcomes()
+    # With other times of failures a run may stand elsewhere once its script is over.
+    notes = {} if line.failure_times else policy.notes
+    return Outcomes(numbers=policy.numbers if line.outcomes else {}, notes=notes)
 
 
 def checksum_of(text: str) -> str:
@@ -258,7 +308,6 @@ class Outputs:
             self.lines.append(text)
 
     def flush(self) -> None:
-        """Hands on what is written."""
         if self.csv:
             self.csv.flush()
         if self.is_handed_on:
@@ -269,7 +318,7 @@ class Outputs:
         """Writes the resumed CSV, whose lines stand out of turn, anew in the order of their seeds."""
         with open(self.line.resume, newline="") as source:
             _, trials = read_table(source)
-        self.table = Table(self.table.columns, self.table.head[-1])
+        self.table = Table(self.table.columns, self.table.head[-1], self.table.outcomes.anew())
         lines = [self.table.head_line, *map(self.table.line, sorted(trials, key=lambda trial: trial.seed))]
         Path(f"{self.line.resume}.new").write_text("".join(lines))
         os.replace(f"{self.line.resume}.new", self.line.resume)
@@ -327,13 +376,17 @@ def main() -> None:
         return
     with contextlib.ExitStack() as stack:
         where = str((program.find(line.program) or "twarp") if line.scheduler else program.need(line.program))
-        plan = Plan(source, where, line.stop, line.every, line.check == "stable")
+        judge = policy_program(line)
+        policy = policy_of(line, source, judge)
+        line.outcomes = "stable" if policy and policy.numbers and line.outcomes != "seen" else None
+        plan = Plan(source, where, line.stop or AtRest(judge or "twarp-policy"), line.every, line.check == "stable")
         if line.scheduler:
             executor, threads = stack.enter_context(cluster(line.scheduler))
             workers: Given | Local = Given(plan, executor, line.jobs or threads)
         else:
             workers = Local(plan, line.jobs or processors())
-        outputs = Outputs(line, Table(source.columns, made_by(line, checksum)), [line.case])
+        table = Table(source.columns, made_by(line, checksum), outcomes_of(line, policy))
+        outputs = Outputs(line, table, [line.case])
         known = {trial.seed for trial in outputs.known}
         seeds = [seed for seed in range(line.seed, line.seed + line.runs) if seed not in known]
         try:
@@ -343,6 +396,8 @@ def main() -> None:
         if seeds and known and min(seeds) < max(known):
             outputs.put_in_order()
         record: dict[str, object] = {"sweep": outputs.table.head[-1], "case": checksum, "first_seed": line.seed}
+        if policy:
+            record["policy"] = policy.record()
         if line.json:
             told = executor.submit(version_of, where).result() if line.scheduler else version_of(where)
             record["versions"] = {"program": told, "python": platform.python_version()}
@@ -365,8 +420,15 @@ def without_seed(made_by: str) -> str:
     return re.sub(r" --seed \d+$", "", made_by)
 
 
+def add_numbers(numbers: dict[Ribs, int], table: Table) -> None:
+    """Adds the numbers that a CSV has of stable assignments; others that it has are its own, and are given anew."""
+    if " --outcomes stable" in table.head[-1]:
+        taken = {*numbers.values()}
+        new = {ribs: number for ribs, number in table.outcomes.numbers.items() if number not in taken}
+        numbers |= {ribs: number for ribs, number in new.items() if ribs not in numbers}
+
+
 def merge() -> None:
-    """Puts the CSVs of several sweeps together."""
     example = "example:\n  tools/sweep merge first.csv second.csv > both.csv"
     parser = Parser("Puts CSVs of sweep with one case and the same options together, by rising seeds.", example)
     parser.prog += " merge"
@@ -375,6 +437,7 @@ def merge() -> None:
     parser.set_defaults(resume=None, check=None)
     line = parser.parse_args(sys.argv[2:])
     runs: dict[int, Trial] = {}
+    numbers: dict[Ribs, int] = {}
     table: Table | None = None
     for name in line.files:
         with open(name, newline="", errors="replace") as source:
@@ -386,10 +449,11 @@ def merge() -> None:
             if trial.seed in runs:
                 raise Refused(f"{name}: a file before has the run with seed {trial.seed} too")
             runs[trial.seed] = trial
+        add_numbers(numbers, other)
     assert table, "one file at least is named"
     first = min(runs, default=0)
     made = f"{without_seed(table.head[-1])} --seed {first}"
-    merged = Table(table.columns, made)
+    merged = Table(table.columns, made, Outcomes(numbers=numbers))
     outputs = Outputs(line, merged, line.files)
     for _, trial in sorted(runs.items()):
         outputs.take(trial)

@@ -1,13 +1,11 @@
 """The tool timeline: the run or the replay of a case as a picture."""
-from __future__ import annotations
 
 from typing import Any
 
 from twarp import pictures
-from twarp.case import read_case
-from twarp.report import is_replay, read_case_and_steps, read_replay, read_report
+from twarp.report import is_replay, read_case_and_steps, read_replay
 from twarp_tools.command import MOST_OF_REPORT, Input, title_of, write_output
-from twarp_tools.part import command_line, part_of
+from twarp_tools.part import command_line, part_of, read_run
 
 DESCRIPTION = """\
 Draws the run of a case as an SVG picture on standard output: a lane for each router, bars for the paths that it uses,
@@ -19,8 +17,7 @@ example:
 
 
 def draw_run(case_text: Input, report_text: Input, how: dict[str, Any]) -> str:
-    case = case_text.read(read_case)
-    report = report_text.read(lambda text: read_report(text, case.nodes))
+    case, report = read_run(case_text, report_text)
     return report_text.read(lambda _: pictures.timeline(case, report, **how))
 
 

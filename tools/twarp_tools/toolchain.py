@@ -1,5 +1,4 @@
-"""What the script twarp needs of the toolchain: calls of its command rt that end with the script."""
-from __future__ import annotations
+"""What the scripts twarp and twarp-policy need of the toolchain: calls of its command rt that end with the script."""
 
 import contextlib
 import shutil
@@ -7,11 +6,10 @@ import signal
 import subprocess
 import sys
 from collections.abc import Iterator
+from dataclasses import dataclass
 from pathlib import Path
 
 ROOT = Path(__file__).resolve().parent.parent.parent
-CRATE = ROOT / "crates/twarp"
-PROGRAM = CRATE / "out/twarp"
 RT = "rt"
 
 # Exit statuses of a shell: a command that is there and did not run, and one that is missing.
@@ -22,15 +20,37 @@ MISSING = 127
 ENDING = signal.SIGINT, signal.SIGTERM, signal.SIGHUP
 
 
-def tell(message: str) -> None:
-    print(f"twarp: {message}", file=sys.stderr, flush=True)
+@dataclass(frozen=True)
+class Made:
+    """A program that a crate of the clone makes."""
+
+    crate: str
+
+    @property
+    def name(self) -> str:
+        """Its name, and that of its script."""
+        return self.crate.replace("_", "-")
+
+    @property
+    def folder(self) -> Path:
+        return ROOT / "crates" / self.crate
+
+    @property
+    def file(self) -> Path:
+        return self.folder / "out" / self.crate
+
+    def tell(self, message: str) -> None:
+        print(f"{self.name}: {message}", file=sys.stderr, flush=True)
 
 
-def find_kit() -> Path | None:
+TWARP = Made("twarp")
+
+
+def find_kit(made: Made = TWARP) -> Path | None:
     """The toolchain's folder, or None with a word on standard error where it is not on the PATH."""
     found = shutil.which(RT)
     if found is None:
-        tell("the command rt of the Rattle toolchain is missing: put its folder bin on the PATH")
+        made.tell("the command rt of the Rattle toolchain is missing: put its folder bin on the PATH")
         return None
     return Path(found).resolve().parent.parent
 
@@ -75,8 +95,8 @@ def end(child: subprocess.Popen[bytes]) -> None:
 
 
 @contextlib.contextmanager
-def started(words: list[str], cwd: Path = CRATE, **how: object) -> Iterator[subprocess.Popen[bytes]]:
-    """A command in a crate, or else in that of the program. It is ended where this script is, by INT, TERM or HUP too."""
+def started(words: list[str], cwd: Path = TWARP.folder, **how: object) -> Iterator[subprocess.Popen[bytes]]:
+    """A command in a crate, or else in that of twarp. It is ended where this script is, by INT, TERM or HUP too."""
     end_with_signals()
     with contextlib.ExitStack() as ends:
         with signals_held_back():

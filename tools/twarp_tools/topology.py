@@ -11,7 +11,7 @@ from dataclasses import dataclass, field
 
 from twarp.case import MOST_LINKS, MOST_NODES
 from twarp.errors import Refused
-from twarp_tools.command import quote
+from twarp.lines import quote
 
 GREATEST_AS = 4_294_967_295
 AN_AS = re.compile("[0-9]{1,10}")

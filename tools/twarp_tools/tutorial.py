@@ -1,5 +1,4 @@
 """The tutorial's commands, run one after the other as a reader would; the tool pictures keeps what they draw."""
-from __future__ import annotations
 
 import os
 import re
@@ -17,6 +16,7 @@ ROOT = Path(__file__).resolve().parent.parent.parent
 PAGE = ROOT / "docs/TUTORIAL.md"
 PICTURES = ROOT / "docs/pictures"
 PROGRAM = ROOT / "crates/twarp/out/twarp"
+POLICY = ROOT / "crates/twarp_policy/out/twarp_policy"
 
 # What the commands name of the clone, and the folder into which they write.
 NAMED = ("cases", "docs", "python", "tools")
@@ -33,7 +33,6 @@ class Command:
 
 
 def commands_of(page: str) -> list[Command]:
-    """The commands of a page's console blocks."""
     commands: list[Command] = []
     is_console = False
     for number, line in enumerate(page.splitlines(), 1):
@@ -47,25 +46,36 @@ def commands_of(page: str) -> list[Command]:
 
 
 def pictures_of(page: str) -> list[str]:
-    """The names of the pictures that a page shows."""
     return re.findall(r"\]\(pictures/([^)]+)\)", page)
 
 
-def lay_out(folder: Path, program: Path) -> None:
-    """Makes a folder look like the root of a clone in which the program is built."""
+@dataclass(frozen=True)
+class Programs:
+    """The built programs."""
+
+    twarp: Path
+    policy: Path
+
+    def variables(self) -> dict[str, str]:
+        return {"TWARP": str(self.twarp.resolve()), "TWARP_POLICY": str(self.policy.resolve())}
+
+
+def lay_out(folder: Path, programs: Programs) -> None:
+    """Makes a folder look like the root of a clone in which the programs are built."""
     for name in NAMED:
         (folder / name).symlink_to(ROOT / name)
-    script = folder / "twarp"
-    script.write_text(f'#!/bin/sh\nexec "{program.resolve()}" "$@"\n')
-    script.chmod(0o755)
+    for name, program in ("twarp", programs.twarp), ("twarp-policy", programs.policy):
+        script = folder / name
+        script.write_text(f'#!/bin/sh\nexec "{program.resolve()}" "$@"\n')
+        script.chmod(0o755)
 
 
-def run(command: Command, folder: Path, program: Path) -> str:
-    """What a terminal shows of a command that is run in the folder, where tools that start a program start this one."""
+def run(command: Command, folder: Path, programs: Programs) -> str:
+    """What a terminal shows of a command that is run in the folder, where tools that start a program start these."""
     done = subprocess.run(
         ["sh", "-c", command.text],
         cwd=folder,
-        env=os.environ | {"TWARP": str(program.resolve())},
+        env=os.environ | programs.variables(),
         stdin=subprocess.DEVNULL,
         stdout=subprocess.PIPE,
         stderr=subprocess.STDOUT,
@@ -74,11 +84,11 @@ def run(command: Command, folder: Path, program: Path) -> str:
     return done.stdout.decode()
 
 
-def follow(page: str, folder: Path, program: Path) -> Iterator[tuple[Command, str]]:
+def follow(page: str, folder: Path, programs: Programs) -> Iterator[tuple[Command, str]]:
     """Runs the page's commands in an empty folder, one after the other, and gives what each writes."""
-    lay_out(folder, program)
+    lay_out(folder, programs)
     for command in commands_of(page):
-        yield command, run(command, folder, program)
+        yield command, run(command, folder, programs)
 
 
 DESCRIPTION = """\
@@ -93,11 +103,12 @@ def add_program(parser: Parser) -> None:
 def main() -> None:
     parser = Parser(DESCRIPTION, "example:\n  tools/pictures")
     add_program(parser)
+    parser.option("--policy", "FILE", "the built program twarp-policy", Path, POLICY)
     line = parser.parse_args()
     page = PAGE.read_text()
     with tempfile.TemporaryDirectory() as name:
         folder = Path(name)
-        for command, output in follow(page, folder, line.program):
+        for command, output in follow(page, folder, Programs(line.program, line.policy)):
             if output != command.output:
                 raise Refused(f"{PAGE.name}: line {command.line}: the command writes\n{output}")
         for picture in pictures_of(page):

@@ -1,5 +1,4 @@
-"""A run of the program as it stands, without proofs: what `./twarp --try` does."""
-from __future__ import annotations
+"""A run of a program as it stands, without proofs: what `./twarp --try` does, and `./twarp-policy --try`."""
 
 import contextlib
 import os
@@ -10,10 +9,10 @@ import tempfile
 from collections.abc import Iterator
 from typing import BinaryIO
 
-from twarp_tools.toolchain import MISSING, NOT_RUN, RT, find_kit, started, tell
+from twarp_tools.toolchain import MISSING, NOT_RUN, RT, Made, find_kit, started
 
-NOTICE = "this run is not proved: the program is built without proofs, in about a minute, and checked while it runs (proved: ./twarp --build)"
-LIMITS = "A run by --try writes at most 1 MiB and takes at most a minute; ./twarp --build makes a program without these limits"
+NOTICE = "this run is not proved: the program is built without proofs, in about a minute, and checked while it runs (proved: ./{} --build)"
+LIMITS = "A run by --try writes at most 1 MiB and takes at most a minute; ./{} --build makes a program without these limits"
 INPUT_LIMIT = 64 << 20
 STANDARD_INPUT = 0
 
@@ -38,37 +37,39 @@ def whole_input(words: list[str]) -> Iterator[BinaryIO]:
         yield file
 
 
-def explain(status: int, said: bytes) -> int:
+def explain(made: Made, status: int, said: bytes) -> int:
     """Gives the program's exit status, and writes its standard error; or says why it has none."""
     ended = ENDED.search(said)
     if ended and int(ended[1]) == status:
         sys.stderr.buffer.write(said[: ended.start()])
         return status
     if why := NO_ANSWER.search(said):
-        tell(f"no answer: {why[1].decode(errors='replace')}. {LIMITS}")
+        made.tell(f"no answer: {why[1].decode(errors='replace')}. {LIMITS.format(made.name)}")
     else:
         sys.stderr.buffer.write(said)
         sys.stderr.flush()
-        tell("the program did not run to its end; what rt said of it stands above")
+        made.tell("the program did not run to its end; what rt said of it stands above")
     return NOT_RUN
 
 
-def run(words: list[str]) -> int:
+def run(made: Made, words: list[str]) -> int:
     with whole_input(words) as source:
         if os.fstat(source.fileno()).st_size > INPUT_LIMIT:
-            tell("a run by --try reads at most 64 MiB")
+            made.tell("a run by --try reads at most 64 MiB")
             return NOT_RUN
-        with started([RT, "try", "--", *words], stdin=source, stderr=subprocess.PIPE) as child:
+        with started([RT, "try", "--", *words], made.folder, stdin=source, stderr=subprocess.PIPE) as child:
             said = child.stderr.read()
-    return explain(child.returncode, said)
+    return explain(made, child.returncode, said)
 
 
-def main(words: list[str]) -> int:
-    if find_kit() is None:
+def main(crate: str, *words: str) -> int:
+    """Runs the program of a crate with these words."""
+    made = Made(crate)
+    if find_kit(made) is None:
         return MISSING
-    tell(NOTICE)
+    made.tell(NOTICE.format(made.name))
     try:
-        return run(words)
+        return run(made, [*words])
     except OSError as error:
-        tell(f"standard input or rt can't be read: {error}")
+        made.tell(f"standard input or rt can't be read: {error}")
         return NOT_RUN

@@ -18,7 +18,7 @@ use Rattle.tw_sim.specs.Seq.{at}
 use Rattle.tw_sim.proofs.Members.{In, in_range, in_times, range_has}
 use Rattle.tw_policy.specs.DisputeWheel.{IsDisputeWheel, Pivot}
 use Rattle.tw_policy.specs.Elimination.{IsAtMost, IsScriptedBefore, after_rounds}
-use Rattle.tw_policy.specs.Left.{left_after}
+use Rattle.tw_policy.specs.Left.{IsHalted, left_after}
 use Rattle.tw_policy.specs.Safe.{IsSafe}
 use Rattle.tw_policy.specs.Standing.{standing}
 use Rattle.tw_policy.proofs.Halts as halts
@@ -83,7 +83,7 @@ at_most net v w there =
 
 -- ---- one path each
 
-all_at : (test : ℕ → Bool) (vs : List ℕ) → list_all test vs ≡ true → (v : ℕ) → In v vs → test v ≡ true
+pub all_at : (test : ℕ → Bool) (vs : List ℕ) → list_all test vs ≡ true → (v : ℕ) → In v vs → test v ≡ true
 all_at test (w ∷ vs) h v (inl e) = subst (λ z. test z ≡ true) (sym e) (and_parts (test w) (list_all test vs) h).0
 all_at test (w ∷ vs) h v (inr k) = all_at test vs (and_parts (test w) (list_all test vs) h).1 v k
 all_at test [] h v k = absurd k
@@ -133,30 +133,38 @@ not_empty : (xs : List PathNo) (q : PathNo) → In q xs → 0 < length xs
 not_empty (x ∷ xs) q i = omega arith
 not_empty [] q i = absurd i
 
-pub wheel : (case : Case) → is_solved case (rounds_of case) ≡ false → (one : Pivot) × (others : List Pivot) × IsDisputeWheel case.net (standing case) one others
-wheel case other =
+-- the lists of one round behind the halt, which changes nothing
+abbrev pub at_halt : Case → ℕ → List PathNo
+at_halt case = left_in case (suc (rounds_of case))
+
+pub last_left : (case : Case) (w : ℕ) → w < case.net.nodes → at_halt case w ≡ left_in case (rounds_of case) w
+last_left case w here = ap (λ m. left_in case m w) (add_one (rounds_of case)) ∙ stays case 1 w here
+
+pub halted_there : (case : Case) → IsHalted case.net (standing case) (at_halt case)
+halted_there case v =
+    sym (ap (λ xs. if v == 0 then origin_path ∷ [] else xs)
+    (halts.remaining_same case.net (standing case) (at_halt case) (left_in case (rounds_of case)) v (λ w there. last_left case w (peer_below case.net v w there)) [] (standing case v).order))
+
+-- where not each router has one path left, some router has a choice
+pub some_choice : (case : Case) → is_solved case (rounds_of case) ≡ false → (v : ℕ) × (v < case.net.nodes) × (1 < length (at_halt case v))
+some_choice case other =
+    let n = rounds_of case in
     let found = some_other (λ v. length (left_in case n v) == 1) (range_with_len 0 case.net.nodes) other in
     let v = found.0 in
     let within = in_range v 0 case.net.nodes found.2 in
-    let left = left_in case (suc n) in
-    let same = ap length (last v (omega arith)) in
-    let some = not_empty (left v) (some_path case.net (standing case) (suc n) v) (some_kept case.net (standing case) (IsListed case.net (standing case)) (lists case.net (standing case)) (suc n) v) in
-    let two : 1 < length (left v) = elim (cases_eq (length (left_in case n v)) 1) [
+    let same = ap length (last_left case v (omega arith)) in
+    let some = not_empty (at_halt case v) (some_path case.net (standing case) (suc n) v) (some_kept case.net (standing case) (IsListed case.net (standing case)) (lists case.net (standing case)) (suc n) v) in
+    let two : 1 < length (at_halt case v) = elim (cases_eq (length (left_in case n v)) 1) [
       | inl e ↦ absurd (both_ways (length (left_in case n v) == 1) found.1 (eq-eqb (length (left_in case n v)) 1 e))
       | inr apart ↦ omega arith
     ] in
-    let wheel = stuck_wheel case.net (standing case) left (λ w. sym (same_after w)) v two in
-    (wheel.one, wheel.others, wheel.is) where
-      n : ℕ
-      n = rounds_of case
+    (v, omega arith, two)
 
-      last : (w : ℕ) → w < case.net.nodes → left_in case (suc n) w ≡ left_in case n w
-      last w here = ap (λ m. left_in case m w) (add_one n) ∙ stays case 1 w here
-
-      same_after : (w : ℕ) → left_in case (suc (suc n)) w ≡ left_in case (suc n) w
-      same_after w =
-          ap (λ xs. if w == 0 then origin_path ∷ [] else xs)
-          (halts.remaining_same case.net (standing case) (left_in case (suc n)) (left_in case n) w (λ x there. last x (peer_below case.net w x there)) [] (standing case w).order)
+pub wheel : (case : Case) → is_solved case (rounds_of case) ≡ false → (one : Pivot) × (others : List Pivot) × IsDisputeWheel case.net (standing case) one others
+wheel case other =
+    let c = some_choice case other in
+    let wheel = stuck_wheel case.net (standing case) (at_halt case) (halted_there case) c.0 c.2 in
+    (wheel.one, wheel.others, wheel.is)
 
 -- ---- lists of one path, one by one
 

@@ -6,3 +6,8 @@ pub mod Rounds
 pub mod Scripts
 pub mod Halting
 pub mod Bounds
+pub mod Ring
+pub mod Wheels
+pub mod Kept
+pub mod Listing
+pub mod Complete

@@ -1,9 +1,10 @@
 //! Elimination, round by round, until it comes to a halt.
 
-ghost use Rattle.std.specs.Prelude.{ℕ, suc, ◌≡◌, ◌==◌, ◌+◌, ◌<◌, ◌≤◌, true, false, length, IfOk};
+ghost use Rattle.std.specs.Prelude.{ℕ, suc, ◌≡◌, ◌==◌, ◌+◌, ◌<◌, ◌≤◌, true, false, [], length, map, IfOk};
 ghost use Rattle.std.specs.List.{All, list_all};
 ghost use Rattle.tw_elimination.specs.Bound.{is_solved, rests_before};
 ghost use Rattle.tw_elimination.specs.Rounds.{AreLeft, left_in, rounds_of};
+ghost use Rattle.tw_elimination.specs.Wheel.{AreWheel, pivot_of, wheel_of};
 ghost use Rattle.tw_elimination.specs.Standing.{standing_routers as standing_routers_of};
 ghost use Rattle.tw_instance.specs.Tables.{items, row};
 ghost use Rattle.tw_model.specs.Case.{IsCase};
@@ -11,10 +12,12 @@ ghost use Rattle.tw_model.specs.Net.{IsPath};
 ghost use Rattle.tw_model.specs.State.{State};
 ghost use Rattle.tw_model.specs.declared.limits.TheConstants.{MOST_PATHS};
 ghost use Rattle.tw_policy.specs.Left.{left_after};
+ghost use Rattle.tw_policy.specs.Standing.{standing};
 
 use crate::bound::{last_time, longest_delay, time_after};
 use crate::remaining::{only_origin, remaining_at};
 use crate::standing::standing_routers;
+use crate::wheel::{self, Pivot};
 use std::alloc::{AllocError, Global};
 use std::marker::Model;
 use tw_event::PathNo;
@@ -88,6 +91,19 @@ impl<'a> Elimination<'a> {
         let time = last_time(self.case.openings());
         let delay = longest_delay(self.case.instance().links());
         time_after(time, delay, self.rounds)
+    }
+
+    /// The pivots of a dispute wheel, in the order of the ring, by how the routers stand once the script is over;
+    /// none where each router has one path left.
+    pub fn wheel(&self, alloc: Global) -> Result<Vec<Pivot>, AllocError>
+        requires halt { self.now.rounds ≡ rounds_of self.now.case }
+        ensures value { IfOk result (λ pivots. map pivot_of pivots.items ≡ wheel_of self.now.case self.now.rounds) }
+        ensures wheel { is_solved self.now.case self.now.rounds ≡ false
+            → IfOk result (λ pivots. AreWheel self.now.case.net (standing self.now.case) (map pivot_of pivots.items)) }
+        ensures none { is_solved self.now.case self.now.rounds ≡ true → IfOk result (λ pivots. pivots.items ≡ []) }
+        ensures paths { IfOk result (λ pivots. All (λ p. IsPath self.now.case.net p.spoke × IsPath self.now.case.net p.rim) pivots.items) }
+    {
+        wheel::wheel_of(alloc, self.case.instance(), &self.left)
     }
 }
 
@@ -180,7 +196,7 @@ fn has_one_each(left: &[Vec<PathNo>]) -> bool
 }
 
 /// Whether some router has fewer paths left next than before, or more.
-fn has_fewer(next: &[Vec<PathNo>], left: &[Vec<PathNo>]) -> bool
+pub(crate) fn has_fewer(next: &[Vec<PathNo>], left: &[Vec<PathNo>]) -> bool
     requires { length next.now ≡ length left.now }
     ensures some { result ≡ true → (v : ℕ) × (v < length next.now) × (length (row next.now v) ≡ length (row left.now v) → ⊥) }
     ensures none { result ≡ false → (v : ℕ) → v < length next.now → length (row next.now v) ≡ length (row left.now v) }

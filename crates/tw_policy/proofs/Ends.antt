@@ -9,17 +9,17 @@ use Rattle.tw_sim.proofs.Members.{In, in_find}
 use Rattle.tw_policy.specs.Left.{remaining}
 use Rattle.tw_policy.specs.Search.{each, has_choice, is_one_of, narrowed, only_at, search, settled, split, total}
 
-filter_short : (p : PathNo → Bool) (xs : List PathNo) → length (filter p xs) ≤ length xs
+pub filter_short : (p : PathNo → Bool) (xs : List PathNo) → length (filter p xs) ≤ length xs
 filter_short p [] = omega arith
 filter_short p (x ∷ xs) =
     let more = filter_short p xs in
     elim (cases_Bool (p x)) [ inl b ↦ rw b (omega arith) | inr b ↦ rw b (omega arith) ]
 
-total_no_more : (one two : ℕ → List PathNo) → ((v : ℕ) → length (one v) ≤ length (two v)) → (vs : List ℕ) → total one vs ≤ total two vs
+pub total_no_more : (one two : ℕ → List PathNo) → ((v : ℕ) → length (one v) ≤ length (two v)) → (vs : List ℕ) → total one vs ≤ total two vs
 total_no_more one two fewer [] = omega arith
 total_no_more one two fewer (v ∷ vs) = let here = fewer v in let more = total_no_more one two fewer vs in omega arith
 
-total_less : (one two : ℕ → List PathNo) → ((v : ℕ) → length (one v) ≤ length (two v)) → (v : ℕ) → length (one v) < length (two v) → (vs : List ℕ) → In v vs
+pub total_less : (one two : ℕ → List PathNo) → ((v : ℕ) → length (one v) ≤ length (two v)) → (v : ℕ) → length (one v) < length (two v) → (vs : List ℕ) → In v vs
     → total one vs < total two vs
 total_less one two fewer v less (w ∷ vs) (inl e) =
     let here : length (one w) < length (two w) = subst (λ z. length (one z) < length (two z)) e less in
@@ -29,14 +29,14 @@ total_less one two fewer v less (w ∷ vs) (inr k) = let here = fewer w in let m
 total_less one two fewer v less [] k = absurd k
 
 -- one path alone is fewer than a choice
-only_short : (left : ℕ → List PathNo) (v : ℕ) (q : PathNo) → 1 < length (left v) → (w : ℕ) → length (only_at left v q w) ≤ length (left w)
+pub only_short : (left : ℕ → List PathNo) (v : ℕ) (q : PathNo) → 1 < length (left v) → (w : ℕ) → length (only_at left v q w) ≤ length (left w)
 only_short left v q choice w =
     elim (cases_Bool (w == v)) [
       | inl b ↦ (let there : 1 < length (left w) = subst (λ z. 1 < length (left z)) (sym (eqb-true w v b)) choice in rw b (omega arith))
       | inr b ↦ rw b (omega arith)
     ]
 
-only_shorter : (left : ℕ → List PathNo) (v : ℕ) (q : PathNo) → 1 < length (left v) → length (only_at left v q v) < length (left v)
+pub only_shorter : (left : ℕ → List PathNo) (v : ℕ) (q : PathNo) → 1 < length (left v) → length (only_at left v q v) < length (left v)
 only_shorter left v q choice = rw (eq-eqb v v refl) choice
 
 module _ (net : Net) (states : ℕ → State) where

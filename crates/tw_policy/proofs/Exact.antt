@@ -167,7 +167,7 @@ module _ (net : Net) (is : IsNet net) (states : ℕ → State) (own : (v : ℕ) 
         (any_from_in (λ z. allows net states v z (pick better w)) y better (subst (λ r. allows net states v y r ≡ true) same a.allowed) i)
 
     -- what remains is the best path for some choice of paths that are left
-    record IsBest (q : PathNo) : Type 0 where
+    pub record IsBest (q : PathNo) : Type 0 where
       pub ribs : ℕ → PathNo
       pub within : (w : ℕ) → In (ribs w) (left w)
       pub best : q ≡ stable_path net ribs v (states v)
@@ -240,7 +240,7 @@ module _ (net : Net) (is : IsNet net) (states : ℕ → State) (own : (v : ℕ) 
           | inl b ↦ absurd ((own_is_path net v q (own v q i)).1 (eqb-true q.0 0 b))
         ]
 
-    is_best : (v == 0) ≡ false → (q : PathNo) → In q (remaining net states left v [] (states v).order) → IsBest q
+    pub is_best : (v == 0) ≡ false → (q : PathNo) → In q (remaining net states left v [] (states v).order) → IsBest q
     is_best other q i =
         elim (cases_Bool (q.0 == 0)) [
           | inl b ↦ best_of_none other q b (nothing_by [] (states v).order q nonzero b i)
@@ -288,7 +288,7 @@ only_one (x ∷ y ∷ xs) p once i all =
     (eq-eqb x.0 y.0 (ap (λ z. z.0) (all x (inl refl) ∙ sym (all y (inr (inl refl)))))))
 
 module _ (case : Case) (is : IsCase case) where
-  left_once : (n v : ℕ) → AreOnce (left_after case.net (standing case) n v)
+  pub left_once : (n v : ℕ) → AreOnce (left_after case.net (standing case) n v)
   left_once zero v = all_once case is v
   left_once (suc n) v =
       once_within (left_after case.net (standing case) (suc n) v) (left_after case.net (standing case) n v) (left_within case.net (standing case) n v) (left_once n v)

@@ -22,7 +22,7 @@ filter_shorter p x (y ∷ xs) b (inr k) =
 filter_shorter p x [] b k = absurd k
 
 -- without a router that stands there they are fewer
-without : (v : ℕ) (xs : List ℕ) → In v xs → length (filter (λ x. not (x == v)) xs) < length xs
+pub without : (v : ℕ) (xs : List ℕ) → In v xs → length (filter (λ x. not (x == v)) xs) < length xs
 without v xs i = filter_shorter (λ x. not (x == v)) v xs (rw (eq-eqb v v refl) refl) i
 
 -- there is a dispute wheel

@@ -29,21 +29,21 @@ parts_of (Some ys) None xs h = absurd (cc)
 parts_of None b xs h = absurd (cc)
 
 -- a list with one path at most is the path that stands there
-alone : (xs : List PathNo) (q : PathNo) → nat_lt 1 (length xs) ≡ false → In q xs → get_or xs 0 empty_path ≡ q
+pub alone : (xs : List PathNo) (q : PathNo) → nat_lt 1 (length xs) ≡ false → In q xs → get_or xs 0 empty_path ≡ q
 alone (x ∷ []) q few (inl e) = sym e
 alone (x ∷ []) q few (inr none) = absurd none
 alone (x ∷ y ∷ xs) q few k = let short = ltb-false 1 (length (x ∷ y ∷ xs)) few in absurd (omega arith)
 alone [] q few k = absurd k
 
-some_there : (xs : List PathNo) (q : PathNo) → In q xs → nat_lt 0 (length xs) ≡ true
+pub some_there : (xs : List PathNo) (q : PathNo) → In q xs → nat_lt 0 (length xs) ≡ true
 some_there (x ∷ xs) q k = lt-ltb 0 (length (x ∷ xs)) (omega arith)
 some_there [] q k = absurd k
 
-first_in : (xs : List PathNo) → nat_lt 0 (length xs) ≡ true → In (get_or xs 0 empty_path) xs
+pub first_in : (xs : List PathNo) → nat_lt 0 (length xs) ≡ true → In (get_or xs 0 empty_path) xs
 first_in (x ∷ xs) h = inl refl
 first_in [] h = let short = ltb-true 0 0 h in absurd (omega arith)
 
-in_one_of : (q : PathNo) (xs : List PathNo) → In q xs → is_one_of xs q ≡ true
+pub in_one_of : (q : PathNo) (xs : List PathNo) → In q xs → is_one_of xs q ≡ true
 in_one_of q xs k = any_from_in (λ x. q.0 == x.0) q xs (eq-eqb q.0 q.0 refl) k
 
 module _ (net : Net) (states : ℕ → State) where
@@ -210,10 +210,10 @@ module _ (net : Net) (states : ℕ → State) where
     apart_join ys zs a.1 b (λ x z i k. between x z (inr i) k),
   )
 
-  not_again : (q : PathNo) (qs : List PathNo) → list_any (λ y. q.0 == y.0) qs ≡ false → In q qs → ⊥
+  pub not_again : (q : PathNo) (qs : List PathNo) → list_any (λ y. q.0 == y.0) qs ≡ false → In q qs → ⊥
   not_again q qs none i = both_ways (list_any (λ y. q.0 == y.0) qs) none (any_from_in (λ y. q.0 == y.0) q qs (eq-eqb q.0 q.0 refl) i)
 
-  once_filter : (p : PathNo → Bool) (xs : List PathNo) → AreOnce xs → AreOnce (filter p xs)
+  pub once_filter : (p : PathNo → Bool) (xs : List PathNo) → AreOnce xs → AreOnce (filter p xs)
   once_filter p [] once = tt
   once_filter p (x ∷ xs) once =
       elim (cases_Bool (p x)) [

@@ -9,7 +9,7 @@ use Rattle.tw_model.proofs.Nets.{hop_of}
 use Rattle.tw_model.proofs.Paths.{same_path_is}
 use Rattle.tw_sim.proofs.Members.{In, any_from_in, in_from_any, in_left, in_right, in_zip, range_has}
 use Rattle.tw_policy.specs.Left.{IsHalted, allows, covers, follows, is_covered, is_given, remaining}
-use Rattle.tw_policy.specs.DisputeWheel.{LeadsTo, hop, is_among, is_no_worse}
+use Rattle.tw_policy.specs.DisputeWheel.{hop, is_among, is_no_worse}
 use Rattle.tw_policy.proofs.Lists.{all_from}
 use Rattle.tw_policy.proofs.Rim.{HasWheel, Next, goes_round}
 
@@ -35,8 +35,8 @@ module _ (net : Net) (states : ℕ → State) (left : ℕ → List PathNo) where
   abbrev test : ℕ → List PathNo → PathNo → Bool
   test v better q = is_given net states left v q && not (is_covered net states left v better)
 
-  -- what remains was given, or is the empty path
-  in_order : (v : ℕ) (better order : List PathNo) (s : PathNo) → (s.0 == 0) ≡ false → In s (remaining net states left v better order) → In s order
+  -- what remains stands in the order, or is the empty path
+  pub in_order : (v : ℕ) (better order : List PathNo) (s : PathNo) → (s.0 == 0) ≡ false → In s (remaining net states left v better order) → In s order
   in_order v better [] s some i =
       elim (cases_Bool (is_covered net states left v better)) [
         | inl b ↦ absurd (rw b at i)
@@ -126,14 +126,14 @@ module _ (net : Net) (states : ℕ → State) (left : ℕ → List PathNo) where
       ]
 
   module _ (halt : IsHalted net states left) where
-    halted : (v : ℕ) → (v == 0) ≡ false → left v ≡ remaining net states left v [] (states v).order
+    pub halted : (v : ℕ) → (v == 0) ≡ false → left v ≡ remaining net states left v [] (states v).order
     halted v other = halt v ∙ rw other refl
 
     -- the best path that a router has left
-    abbrev best_left : ℕ → PathNo
+    abbrev pub best_left : ℕ → PathNo
     best_left v = get_or (left v) 0 empty_path
 
-    not_origin : (v : ℕ) → 1 < length (left v) → (v == 0) ≡ false
+    pub not_origin : (v : ℕ) → 1 < length (left v) → (v == 0) ≡ false
     not_origin v choice =
         elim (cases_Bool (v == 0)) [
           | inr b ↦ b
@@ -141,13 +141,13 @@ module _ (net : Net) (states : ℕ → State) (left : ℕ → List PathNo) where
         ]
 
     -- a router with a choice, and one of its paths
-    record IsSpoke (v : ℕ) (s : PathNo) : Type 0 where
+    pub record IsSpoke (v : ℕ) (s : PathNo) : Type 0 where
       pub within : v < net.nodes
       pub choice : 1 < length (left v)
       pub there : In s (left v)
       pub some : (s.0 == 0) ≡ false
 
-    ranked : (v : ℕ) (s : PathNo) → IsSpoke v s → is_no_worse (best_left v) s (states v).order ≡ true
+    pub ranked : (v : ℕ) (s : PathNo) → IsSpoke v s → is_no_worse (best_left v) s (states v).order ≡ true
     ranked v s is =
         let parts = two_parts (left v) is.choice in
         let here = halted v (not_origin v is.choice) in
@@ -155,8 +155,16 @@ module _ (net : Net) (states : ℕ → State) (left : ℕ → List PathNo) where
         subst (λ q. is_no_worse q s (states v).order ≡ true) (sym first)
         (none_before v [] (states v).order parts.0 parts.1 s (sym here ∙ parts.2) is.some (subst (In s) here is.there))
 
+    -- a neighbour with a choice that gives a router its best path
+    pub record Giver (v : ℕ) : Type 0 where
+      pub router : ℕ
+      pub spoke : PathNo
+      pub is : IsSpoke router spoke
+      pub ranks : is_among (best_left v) (states v).order ≡ true
+      pub nodes : path net (best_left v) ≡ v ∷ path net spoke
+
     -- the neighbour that gives a router its best path has a choice too, or the others would never be used
-    giver : (v : ℕ) → 1 < length (left v) → Next net states (range_with_len 0 net.nodes) best_left IsSpoke v
+    pub giver : (v : ℕ) → 1 < length (left v) → Giver v
     giver v choice =
         let parts = two_parts (left v) choice in
         let q = parts.0 in
@@ -172,7 +180,6 @@ module _ (net : Net) (states : ℕ → State) (left : ℕ → List PathNo) where
         let r = heard.0 in
         let parts_of = and_parts (not (bars net v (states v).barred q)) (follows net states v q r) heard.1 in
         let on = and_parts (not (r.0 == 0)) (same_path (path net q) (v ∷ path net r)) parts_of.1 in
-        let leads_on : LeadsTo net states q r = hop v q r (among q (states v).order f.there) (same_path_is (path net q) (v ∷ path net r) on.1) in
         elim (cases_Bool (nat_lt 1 (length (left w)))) [
           | inl b ↦ record {
             router = w;
@@ -183,7 +190,8 @@ module _ (net : Net) (states : ℕ → State) (left : ℕ → List PathNo) where
               there = heard.2;
               some = not-true (r.0 == 0) on.0;
             };
-            leads = subst (λ z. LeadsTo net states z r) (sym first) leads_on;
+            ranks = subst (λ z. is_among z (states v).order ≡ true) (sym first) (among q (states v).order f.there);
+            nodes = subst (λ z. path net z ≡ v ∷ path net r) (sym first) (same_path_is (path net q) (v ∷ path net r) on.1);
           }
           | inr b ↦ (
               let all = f.open_after.all in
@@ -195,12 +203,17 @@ module _ (net : Net) (states : ℕ → State) (left : ℕ → List PathNo) where
               (any_from_in (λ o. o.1.up && covers net states left v all o.0.peer) p rows (and_from p.1.up (covers net states left v all w) met.0 covered) found.2)))
         ]
 
+    next : (v : ℕ) → 1 < length (left v) → Next net states (range_with_len 0 net.nodes) best_left IsSpoke v
+    next v choice =
+        let g = giver v choice in
+        record { router = g.router; spoke = g.spoke; is = g.is; leads = hop v (best_left v) g.spoke g.ranks g.nodes }
+
     -- where a router has a choice left at a halt, there is a wheel
     pub stuck_wheel : (v : ℕ) → 1 < length (left v) → HasWheel net states
     stuck_wheel v choice =
-        let first = giver v choice in
+        let first = next v choice in
         goes_round net states (range_with_len 0 net.nodes) best_left IsSpoke (record {
           within = λ w s is. (let here = is.within in range_has w 0 net.nodes (omega arith) (omega arith));
           ranked = ranked;
-          next = λ w s is. giver w is.choice;
+          next = λ w s is. next w is.choice;
         }) first.router first.spoke first.is

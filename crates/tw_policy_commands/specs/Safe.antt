@@ -1,5 +1,5 @@
 -- What `safe` writes (own).
-use Rattle.std.specs.Prelude.{ℕ, ◌==◌, List, [], ◌∷◌, ◌++◌, codes, length, map, if◌then◌else◌}
+use Rattle.std.specs.Prelude.{ℕ, ◌==◌, Bool, List, [], ◌∷◌, ◌++◌, codes, length, map, if◌then◌else◌}
 use Rattle.std.specs.declared.vec.Vec.{Vec}
 use Rattle.std.specs.Fmt.{decimal}
 use Rattle.std.specs.List.{flat_map, range_with_len}
@@ -7,10 +7,13 @@ use Rattle.tw_commands.specs.declared.cause.Status.TheVariants.{Done}
 use Rattle.tw_commands.specs.ForCase.{for_case}
 use Rattle.tw_commands.specs.Output.{Output}
 use Rattle.tw_elimination.specs.Bound.{is_solved, rests_before}
+use Rattle.tw_elimination.specs.Placing.{has_one_list}
 use Rattle.tw_elimination.specs.Rounds.{left_in, rounds_of}
+use Rattle.tw_elimination.specs.Wheel.{wheel_of}
 use Rattle.tw_event.specs.declared.event.PathNo.{PathNo}
 use Rattle.tw_model.specs.Case.{Case}
 use Rattle.tw_model.specs.Net.{Net, path}
+use Rattle.tw_policy.specs.DisputeWheel.{Pivot}
 use Rattle.tw_report.specs.declared.words.Word.{Word}
 use Rattle.tw_report.specs.Words.{line, path_text, word_text}
 use Rattle.tw_text.specs.Reading.{case_of}
@@ -27,13 +30,27 @@ left_words net v left = head_words v (length left) ++ map (λ q. path_text (path
 abbrev pub texts : {Z : Type 0} → List (Vec Word Z) → List (List (List ℕ))
 texts lines = map (λ words. map word_text words.items) lines
 
--- that the case rests before this time
-abbrev pub safe_lines : ℕ → List ℕ
-safe_lines time = line (codes "rests" ∷ codes "before" ∷ decimal time ∷ []) ++ line (codes "verdict" ∷ codes "safe" ∷ [])
+-- whether the case is robust too
+abbrev pub safe_word : Bool → List ℕ
+safe_word robust = if robust then codes "robust" else codes "safe"
 
--- the verdict after n rounds, and from when on the case rests, where each router has one path left
+-- that the case rests before this time
+abbrev pub safe_lines : ℕ → Bool → List ℕ
+safe_lines time robust = line (codes "rests" ∷ codes "before" ∷ decimal time ∷ []) ++ line (codes "verdict" ∷ safe_word robust ∷ [])
+
+-- a pivot of a dispute wheel, its spoke and its rim path
+abbrev pub wheel_words : Net → Pivot → List (List ℕ)
+wheel_words net p = codes "wheel" ∷ decimal p.router ∷ path_text (path net p.spoke) ∷ path_text (path net p.rim) ∷ []
+
+-- the pivots of a dispute wheel, and that there is one
+abbrev pub unsafe_lines : List (List (List ℕ)) → List ℕ
+unsafe_lines wheel = flat_map line wheel ++ line (codes "verdict" ∷ codes "wheel" ∷ [])
+
+-- the verdict after n rounds: from when on the case rests, where each router has one path left, and whether all paths stand in
+-- one list; else a dispute wheel
 abbrev pub verdict_lines : Case → ℕ → List ℕ
-verdict_lines case n = if is_solved case n then safe_lines (rests_before case n) else line (codes "verdict" ∷ codes "wheel" ∷ [])
+verdict_lines case n =
+    if is_solved case n then safe_lines (rests_before case n) (has_one_list case.net) else unsafe_lines (map (wheel_words case.net) (wheel_of case n))
 
 -- the name of the format, the number of rounds, the routers, and the verdict
 unfoldable pub answer_text : ℕ → List (List (List ℕ)) → List ℕ → List ℕ

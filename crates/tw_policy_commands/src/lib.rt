@@ -9,5 +9,7 @@
 
 mod lines;
 mod safe;
+mod stable;
 
 pub use safe::safe_io;
+pub use stable::stable_io;

@@ -2,7 +2,7 @@
 //!
 //! `main` reads the command line, opens standard input and output, and ends with an exit status: 0
 //! where it is done, 1 where it refused its input, 2 where it stopped, 3 where the line is no command
-//! line. Proved: what `safe_io` writes is the answer to the case that was read, and each way in which a
+//! line. Proved: what `safe_io` and `stable_io` write is the answer to the case that was read, and each way in which a
 //! command ends has its exit status. Not proved: what the words of the command line ask for, and what
 //! stands on standard error.
 #![tactic(auto)]
@@ -13,16 +13,25 @@ ghost use Rattle.std.specs.Prelude.{◌≡◌};
 ghost use Rattle.std.specs.Process.{exit_status};
 ghost use Rattle.twarp_policy.specs.Due.{status_number};
 
-use request::{HELP, Request, SAFE_HELP, USAGE, VERSION, request_of};
+use request::{HELP, Request, SAFE_HELP, STABLE_HELP, USAGE, VERSION, request_of};
 use std::env;
 use std::io::{self, BufWriter, IsTerminal, Write};
 use std::process::ExitCode;
 use tw_commands::{Cause, Status};
 use tw_device::{OverRead, OverWrite};
-use tw_policy_commands::safe_io;
+use tw_policy_commands::{safe_io, stable_io};
 
 /// The exit status of words that are no command line.
 const BAD_LINE: u8 = 3;
+
+/// What is asked of a case.
+#[derive(Clone, Copy)]
+enum Question {
+    /// What elimination leaves, and whether it comes to rest.
+    Safe,
+    /// The stable assignments that at most so many splits find.
+    Stable(u64),
+}
 
 /// A device of the program that failed, with what the system says of it.
 #[derive(Clone, Copy)]
@@ -46,16 +55,11 @@ fn main(rt: HostRuntime) -> ExitCode {
         }
     };
     match request_of(words.as_slice()) {
-        Some(Request::Safe) => {
-            if rt.stdin().is_terminal() {
-                let _ = eprintln!(rt;
-                    "twarp-policy reads from standard input, here a terminal: type a case and end it by Ctrl-D, or give a file by < FILE"
-                );
-            }
-            run(&rt)
-        }
+        Some(Request::Safe) => run(&rt, Question::Safe),
+        Some(Request::Stable(splits)) => run(&rt, Question::Stable(splits)),
         Some(Request::Help) => tell(&rt, HELP),
         Some(Request::SafeHelp) => tell(&rt, SAFE_HELP),
+        Some(Request::StableHelp) => tell(&rt, STABLE_HELP),
         Some(Request::Version) => tell(&rt, VERSION),
         None => {
             let _ = rt.eprintln(USAGE);
@@ -73,8 +77,13 @@ fn tell(rt: &(impl Print + Eprint), text: &str) -> ExitCode {
 }
 
 /// Judges the case on standard input.
-fn run<R: Input + Print + Eprint + AllocGlobal>(rt: &R) -> ExitCode {
-    let (ended, failed) = answer(rt);
+fn run(rt: &HostRuntime, question: Question) -> ExitCode {
+    if rt.stdin().is_terminal() {
+        let _ = eprintln!(rt;
+            "twarp-policy reads from standard input, here a terminal: type a case and end it by Ctrl-D, or give a file by < FILE"
+        );
+    }
+    let (ended, failed) = answer(rt, question);
     exit_with(rt, ended, failed)
 }
 
@@ -94,6 +103,7 @@ fn exit_with(rt: &impl Eprint, ended: Result<Status, Cause>, failed: Option<Devi
 /// Reads standard input, and writes the answer to standard output. Where a device failed it is told beside that.
 fn answer<R: Input + Print + Eprint + AllocGlobal>(
     rt: &R,
+    question: Question,
 ) -> (Result<Status, Cause>, Option<Device>) {
     let alloc = rt.alloc();
     let mut source = OverRead::new(rt.reader());
@@ -101,7 +111,11 @@ fn answer<R: Input + Print + Eprint + AllocGlobal>(
         Ok(writer) => writer,
         Err(_) => return (Err(Cause::Memory), None),
     });
-    match safe_io(alloc, &mut source, &mut sink) {
+    let ended = match question {
+        Question::Safe => safe_io(alloc, &mut source, &mut sink),
+        Question::Stable(splits) => stable_io(alloc, splits, &mut source, &mut sink),
+    };
+    match ended {
         Ok(status) => match sink.into_writer().flush() {
             Ok(()) => (Ok(status), None),
             Err(error) => (Err(Cause::Device), Some(Device::Output(error))),

@@ -67,7 +67,7 @@ function isDown([a, b], states) {
 
 const network = byId("network");
 network.setAttribute("viewBox", `0 0 ${run.width} ${run.height}`);
-const LAYERS = ["wires", "arrows", "delays", "dots", "routers"];
+const LAYERS = ["wheel", "wires", "arrows", "delays", "dots", "routers"];
 const layers = Object.fromEntries(LAYERS.map((name) => [name, add(network, "g")]));
 
 /** Shows the network at its own size, with bars to scroll where it is larger than its pane, or as a whole. */
@@ -125,6 +125,33 @@ function drawRouter({ router, x, y, words_y: wordsY, name }) {
 
 const wires = run.links.map(drawWire);
 const drawn = new Map(run.routers.map((router) => [router.router, drawRouter(router)]));
+
+// What holds for all timings, where the page has it: the paths that each router may still use, and a dispute wheel.
+
+const left = new Map(run.policy ? run.routers.map(({ router }, place) => [router, run.policy.left[place]]) : []);
+
+/** The paths that a router may still use, in words. */
+function leftWords(router) {
+  const words = left.get(router).map((path) => (path ? pathWords(path) : "no path"));
+  return words.length === 1 ? `uses ${words[0]} in the end` : `may go on to use ${words.join(", ")}`;
+}
+
+/** A step of the wheel, from a to b: a band below the link with an arrow's head, or a dashed line for a spoke. */
+function drawStep([a, b], look) {
+  const head = 2 * ARROW_HEAD;
+  const [from, to] = [points.get(a), points.get(b)];
+  const neck = 1 - head / Math.max(2 * head, Math.hypot(to.x - from.x, to.y - from.y) - 2 * ARROW_INSET);
+  const corners = look === "rim" ? [[0, -4], [neck, -4], [neck, -11], [1, 0], [neck, 11], [neck, 4], [0, 4]] : [[0, 0], [1, 0]];
+  const places = corners.map(([part, aside]) => along(a, b, part, aside, ARROW_INSET));
+  const d = `M${places.map(([x, y]) => `${x.toFixed(1)} ${y.toFixed(1)}`).join("L")}${look === "rim" ? "z" : ""}`;
+  add(add(layers.wheel, "path", { class: look, d }), "title", {}, `the dispute wheel: a ${look === "rim" ? "step of its rim" : "spoke"}, from ${a} to ${b}`);
+}
+
+if (run.policy) {
+  run.policy.spokes.forEach((step) => drawStep(step, "spoke"));
+  run.policy.rim.forEach((step) => drawStep(step, "rim"));
+  left.forEach((paths, router) => drawn.get(router).group.classList.toggle("choice", paths.length > 1));
+}
 
 function showRouter(router, state) {
   const { group, title, body, number, words, name } = drawn.get(router);
@@ -239,7 +266,9 @@ function pathRow(path, number, state) {
   const words = isUsed ? ["in use"] : isOffered(path, state.rows) ? ["offered"] : [];
   const now = [...words, ...(isBarred ? ["forbidden"] : [])].join(", ");
   const nodes = cell(pathWords(path), isBarred ? "nodes barred" : "nodes");
-  return { look: isUsed ? "used" : "", cells: [placeCell(number), nodes, cell(now)] };
+  const cells = [placeCell(number), nodes, cell(now)];
+  if (run.policy) cells.push(cell(left.get(view.router).includes(path) ? "left" : ""));
+  return { look: isUsed ? "used" : "", cells };
 }
 
 function peerRow([peer, delay, isUp, session, heard]) {
@@ -257,7 +286,8 @@ function showTable(time, state) {
   const [sent, handled, dropped, changed] = state.counters;
   add(table, "p", {}, `sent ${sent}, handled ${handled}, dropped ${dropped}, changed ${changed}`);
   const paths = state.order.map((path, number) => pathRow(path, number, state));
-  addTable(table, "Permitted paths, the best first", ["Place", "Path", "Now"], paths);
+  if (run.policy) add(table, "p", {}, `Whatever the delays it ${leftWords(view.router)}.`);
+  addTable(table, "Permitted paths, the best first", ["Place", "Path", "Now", ...(run.policy ? ["All timings"] : [])], paths);
   addTable(table, "Neighbours", ["Router", "Delay", "Link", "Session", "Heard last"], state.rows.map(peerRow));
 }
 

@@ -1,0 +1,3 @@
+pub mod Meetings
+pub mod Rows
+pub mod Ways
