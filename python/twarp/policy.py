@@ -24,7 +24,7 @@ RIB_LINE = f"router ({NUMBER}) rib ({PATH})"
 
 @dataclass(frozen=True, slots=True)
 class Pivot:
-    """A pivot of a dispute wheel: a router that would rather have the rim path, which goes on with the next one's spoke,
+    """A pivot of a dispute wheel: a router that ranks the rim path, which goes on with the next one's spoke, no lower
     than its own spoke."""
 
     router: int

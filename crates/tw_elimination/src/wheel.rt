@@ -11,8 +11,8 @@ use std::alloc::{AllocError, Global};
 use tw_event::PathNo;
 use tw_instance::Instance;
 
-/// A pivot of a dispute wheel (Griffin, Shepherd, Wilfong 2002): a router that would rather have its rim path,
-/// which leads on to the spoke of the next pivot, than its own spoke.
+/// A pivot of a dispute wheel (Griffin, Shepherd, Wilfong 2002): a router that ranks its rim path, which leads
+/// on to the spoke of the next pivot, no lower than its own spoke.
 #[derive(Clone, Copy, PartialEq, Eq, Debug)]
 pub struct Pivot {
     /// The router.

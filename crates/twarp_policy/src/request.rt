@@ -62,8 +62,8 @@ left. What is left then is all that a router may use from some time on, whatever
                                 on with the spoke of the next pivot
   verdict safe                  whatever the delays, the case comes to rest
   verdict robust                safe, and so is every other script that exchanges no ranks
-  verdict wheel                 there is a dispute wheel: routers in a ring, each of which would
-                                rather have its rim path than its spoke
+  verdict wheel                 there is a dispute wheel: routers in a ring, each of which ranks
+                                its rim path no lower than its spoke
 
 A dispute wheel does not mean that the case never comes to rest, or only for some delays: it may
 be safe all the same. A run that oscillates for ever is found by `twarp seq --every 1`.
