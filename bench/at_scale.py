@@ -20,8 +20,8 @@ from twarp.case import (  # noqa: E402: it is found by the line above
     Case,
     Link,
     LinkScene,
+    Nodes,
 )
-from twarp.lines import Nodes  # noqa: E402
 
 
 def shortest_first(paths: Iterable[Nodes]) -> list[Nodes]:

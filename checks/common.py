@@ -1,8 +1,10 @@
 """What the checks share: where things are, how commands are run, and a count of what passes."""
 from __future__ import annotations
 
+import contextlib
 import errno
 import os
+import pty
 import re
 import subprocess
 import sys
@@ -17,7 +19,9 @@ INPUTS = TOP / "checks/inputs"
 NOTHING = Path(os.devnull)
 DISAGREE = CASES / "disagree.spp"
 STRAGGLER = CASES / "straggler.replay"
+GOOD_GADGET = CASES / "good-gadget.spp"
 PROGRAM = TOP / "crates/twarp/out/twarp"
+POLICY = TOP / "crates/twarp_policy/out/twarp_policy"
 REPORT = TOP / "crates/twarp/stdout"
 REPLAYED = INPUTS / "straggler-replay.txt"
 ROWS = (
@@ -94,6 +98,21 @@ def run_program(words: Sequence[Word], stdin: Path, **how: Any) -> Ended:
     return run([PROGRAM, *words], stdin, **how)
 
 
+def run_at_a_terminal(words: Sequence[Word], stdin: Path) -> tuple[Ended, bytes]:
+    """How a command ends whose standard error is a terminal, and what it writes there."""
+    terminal, other_end = pty.openpty()
+    done = run(words, stdin, stderr=other_end)
+    os.set_blocking(terminal, False)
+    written = b""
+    # What is written there waits; behind the last of it reading says that nothing does.
+    with contextlib.suppress(OSError):
+        while more := os.read(terminal, 4096):
+            written += more
+    os.close(other_end)
+    os.close(terminal)
+    return done, written
+
+
 def input_of(words: Sequence[str]) -> Path:
     """The input that a command is shown: a replay text for `replay`, and else a case."""
     return STRAGGLER if words[:1] == ["replay"] else DISAGREE
@@ -102,6 +121,11 @@ def input_of(words: Sequence[str]) -> Path:
 def name_of(words: Sequence[Word]) -> str:
     """What a run of the program with these words is called."""
     return f"twarp {' '.join(map(str, words))}"
+
+
+def name_of_policy(words: Sequence[Word], case: Path) -> str:
+    """What a run of twarp-policy with these words on a case is called."""
+    return f"twarp-policy {' '.join(map(str, words))} < {case.name}"
 
 
 def tests_of(crate: str) -> Path:

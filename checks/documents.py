@@ -7,14 +7,16 @@ Of each document every word in backticks is looked up: a path must be that of a 
 a name (of a crate, a function, a clause, a definition) must stand somewhere in the sources. What
 has spaces or the word NAME, and blocks of code, is let pass. In a table of promises, clauses named
 after functions must be clauses of one of these. The list of files for a new kind of event must
-have each file that names a kind.
+have each file that names a kind. CONTRIBUTING.md must list the steps of .ci/run in their order, and
+name the crates that have more functions than it aims at.
 """
 from __future__ import annotations
 
 import re
-from collections import defaultdict
+from collections import Counter, defaultdict
 from collections.abc import Iterable, Iterator
 from dataclasses import dataclass
+from itertools import zip_longest
 from pathlib import Path
 
 from common import TOP, Tally
@@ -68,6 +70,11 @@ def table_rows(text: str) -> list[str]:
     return [line for line in text.splitlines() if line.startswith("|")]
 
 
+def section_of(document: str, heading: str) -> str:
+    """What stands below a heading of the second level, up to the next one."""
+    return text_of(TOP / document).partition(f"\n## {heading}\n")[2].partition("\n## ")[0]
+
+
 def is_path(word: str) -> bool:
     return bool(PATH.fullmatch(word)) and ("/" in word or word.endswith(ENDINGS))
 
@@ -103,19 +110,24 @@ class Known:
         return is_known or (TOP / word).exists() or (CRATES / word).exists()
 
 
+def code_files() -> Iterator[tuple[str, str, str]]:
+    """The files of code: of each its crate, its path in the crate, and its text."""
+    for file in files(["crates/*/src/**/*.rt"]):
+        crate, *inside = file.relative_to(CRATES).parts
+        yield crate, "/".join(inside), text_of(file)
+
+
 def clauses_by_function() -> Clauses:
     """The names of the clauses of each function, by the ends of its path.
 
     These are `take`, `Table::take` and `table::Table::take`, say.
     """
     found: Clauses = defaultdict(set)
-    for file in files(["crates/*/src/**/*.rt"]):
-        text = text_of(file)
-        inside = file.relative_to(CRATES)
-        for function in functions_of("/".join(inside.parts[1:]), text):
+    for crate, inside, text in code_files():
+        for function in functions_of(inside, text):
             contract = "\n".join(text.split("\n")[function.first - 1 : function.last])
             names = re.findall(r"^\s*(?:ensures|requires)\*? (\w+)\b", contract, re.MULTILINE)
-            path = (inside.parts[0], *function.path)
+            path = (crate, *function.path)
             for start in range(len(path)):
                 found[path[start:]] |= {*names}
     return found
@@ -160,14 +172,42 @@ def listed(section: str) -> set[str]:
 
 def left_out_of_kinds() -> list[str]:
     """The files that name the kinds of event, and that the list for a new kind lacks."""
-    text = text_of(TOP / "docs/ARCHITECTURE.md")
-    section = text.partition("## To add a kind of event\n")[2].partition("\n## ")[0]
+    section = section_of("docs/ARCHITECTURE.md", "To add a kind of event")
     naming = {
         str(file.relative_to(CRATES))
         for file in files(CODE)
         if re.search(r"\bRestore\b", text_of(file))
     }
     return sorted(naming - listed(section))
+
+
+def misnamed_steps() -> list[str]:
+    """Where the steps that CONTRIBUTING.md lists are others than those of .ci/run."""
+    steps = re.findall(r"^step (?:python3 )?(.+)$", text_of(TOP / ".ci/run"), re.MULTILINE)
+    section = section_of("CONTRIBUTING.md", "What the gate asks")
+    told = re.findall(r"^- `([^`]+)`", section, re.MULTILINE)
+    pairs = zip_longest(told, steps, fillvalue="nothing")
+    return [f"{name} in place of {step}" for name, step in pairs if name != step]
+
+
+def functions_by_crate() -> Counter[str]:
+    """How many functions each crate has."""
+    counts: Counter[str] = Counter()
+    for crate, inside, text in code_files():
+        counts[crate] += len(functions_of(inside, text))
+    return counts
+
+
+def misnamed_sizes() -> list[str]:
+    """Where the crates that CONTRIBUTING.md names as beyond its aim are not those that are."""
+    section = section_of("CONTRIBUTING.md", "What must hold")
+    aim = re.search(r"The aim is at most (\d+) functions;(.*)", section)
+    if not aim:
+        return ["no number"]
+    counts = functions_by_crate()
+    large = {crate for crate, count in counts.items() if count > int(aim[1])}
+    named = {*re.findall(r"`(\w+)`", aim[2])}
+    return [f"{crate} has {counts[crate]}" for crate in sorted(large ^ named)]
 
 
 def check(tally: Tally, name: str, words: str, lost: list[str]) -> None:
@@ -177,6 +217,8 @@ def check(tally: Tally, name: str, words: str, lost: list[str]) -> None:
 def main() -> None:
     tally = Tally()
     check(tally, "the list for a new kind of event", "it lacks", left_out_of_kinds())
+    check(tally, "the steps of the gate", "CONTRIBUTING.md has", misnamed_steps())
+    check(tally, "the crates of many functions", "CONTRIBUTING.md is not right:", misnamed_sizes())
     known, clauses = Known.read(), clauses_by_function()
     for document in files(DOCUMENTS):
         lost = lost_names(text_of(document), known, clauses)

@@ -18,9 +18,7 @@ import tempfile
 from graphlib import CycleError, TopologicalSorter
 from pathlib import Path
 
-from common import CASES, NOTHING, PROGRAM, TOP, Ended, Tally, need, run
-
-POLICY = TOP / "crates/twarp_policy/out/twarp_policy"
+from common import CASES, NOTHING, POLICY, PROGRAM, TOP, Ended, Tally, need, run, run_at_a_terminal
 
 # Where there is no dispute wheel, and where there is one by how the routers stand once the script is over.
 KNOWN = {
@@ -79,6 +77,29 @@ router 2 rib (2 1 0)
 verdict stable 2
 """
 
+# What the help says of the program, and of each command.
+HELP = {
+    (): ["Usage: twarp-policy ", "  safe ", "  stable ", "  -h, --help", "  -V, --version", "Exit status:"],
+    ("safe",): ["Usage: twarp-policy safe", "verdict wheel", "Exit status:"],
+    ("stable",): ["Usage: twarp-policy stable ", "--splits <COUNT>", "0 to 1000000000, or else 100000", "Exit status:"],
+}
+
+# Words that are no command line, with what is said of them: the word, what is expected, a tip.
+TIP = "tip: the case comes from standard input, as in: twarp-policy safe < case.spp\n"
+REFUSED = {
+    (): ["error: ", "requires a subcommand", "Usage: twarp-policy "],
+    ("seq",): ["error: ", "'seq'", "Usage: twarp-policy "],
+    ("stabl",): ["'stabl'", "a similar subcommand exists: 'stable'"],
+    ("safe", "--stop"): ["'--stop'", "Usage: twarp-policy safe"],
+    ("safe", "case.spp"): ["'case.spp'", "Usage: twarp-policy safe", TIP],
+    ("stable", "--split", "1"): ["'--split'", "'--splits'"],
+    ("stable", "--splits"): ["'--splits <COUNT>'", "value is required"],
+    ("stable", "--splits", "x"): ["'x'", "'--splits <COUNT>'"],
+    ("stable", "--splits", "-1"): ["'-1'"],
+    ("stable", "--splits=1000000001"): ["1000000001", "'--splits <COUNT>'", "0..=1000000000"],
+    ("stable", "--splits", "1", "--splits", "2"): ["'--splits <COUNT>'", "multiple times"],
+}
+
 USES = re.compile(r"router (\d+) uses (\([\d ]*\))")
 PATH = re.compile(r"^path \d+ ([\d ]+)$", re.M)
 WHEEL = re.compile(r"^wheel (\d+) \(([\d ]+)\) \(([\d ]+)\)$", re.M)
@@ -96,13 +117,16 @@ def list_stable(source: Path, *options: str) -> Ended:
     return run([POLICY, "stable", *options], source)
 
 
-def pairs(count: int) -> str:
-    """So many DISAGREEs beside one another: each pair of routers has two ways to agree."""
-    lines = ["spp 1", f"nodes {2 * count + 1}"]
-    ends = [(2 * k + 1, 2 * k + 2) for k in range(count)]
-    lines += [f"link 0 {v} 1" for v in range(1, 2 * count + 1)] + [f"link {a} {b} 1" for a, b in ends]
-    for a, b in ends:
-        lines += [f"path {a} {a} {b} 0", f"path {a} {a} 0", f"path {b} {b} {a} 0", f"path {b} {b} 0"]
+def rings(*sizes: int) -> str:
+    """Rings beside one another, each router of which would rather go by the next one: two of them have
+    two ways to agree (DISAGREE), and three have none."""
+    firsts = [1 + sum(sizes[:k]) for k in range(len(sizes))]
+    ways = [(first + k, first + (k + 1) % size) for first, size in zip(firsts, sizes) for k in range(size)]
+    lines = ["spp 1", f"nodes {sum(sizes) + 1}"]
+    lines += [f"link 0 {v} 1" for v, _ in ways]
+    lines += [f"link {a} {b} 1" for a, b in sorted({(min(way), max(way)) for way in ways})]
+    for v, by in ways:
+        lines += [f"path {v} {v} {by} 0", f"path {v} {v} 0"]
     return "\n".join([*lines, "end", ""])
 
 
@@ -251,7 +275,7 @@ def check_stable(tally: Tally, folder: Path) -> None:
     done = list_stable(CASES / "disagree.spp")
     tally.add("stable assignments of DISAGREE by hand", None if done == Ended(0, DISAGREE_STABLE.encode(), b"") else f"{done}")
     source = folder / "pairs.spp"
-    source.write_text(pairs(6))
+    source.write_text(rings(*[2] * 6))
     # Each of the 6 pairs doubles the assignments: 64 at the ends of 63 splits.
     for splits, verdict in [(63, "stable 64"), (62, "stable at least 62"), (6, "stable at least 2"), (0, "stable at least 0")]:
         told = list_stable(source, "--splits", str(splits)).out.decode()
@@ -259,16 +283,40 @@ def check_stable(tally: Tally, folder: Path) -> None:
         tally.add(f"six pairs by {splits} splits", None if ends else told[-60:])
 
 
+def check_terminal(tally: Tally, folder: Path) -> None:
+    """On a terminal a search that takes its time has one line, which is gone in the end, and says the same on standard output."""
+    source = folder / "rings.spp"
+    source.write_text(rings(*[2] * 20, 3))
+    words = [POLICY, "stable", "--splits", "300000"]
+    done, written = run_at_a_terminal(words, source)
+    line = rb"\d+ of 300000 splits: 0 assignments"
+    wrong = None if done == run(words, source) else "another answer"
+    is_told = re.fullmatch(rb"(?:\r" + line + rb"\x1b\[K)+\r\x1b\[K", written)
+    tally.add("a long search at a terminal", wrong or (None if is_told else f"it wrote {written!r}"))
+    done, written = run_at_a_terminal([POLICY, "stable"], CASES / "disagree.spp")
+    tally.add("a short search at a terminal", f"it wrote {written!r}" if written else None)
+
+
 def check_line(tally: Tally) -> None:
     """The command line, and a text that is refused."""
     tally.add("DISAGREE by hand", None if judge(CASES / "disagree.spp") == Ended(0, DISAGREE.encode(), b"") else "another answer")
     tally.add("no case", None if judge(NOTHING) == Ended(1, b"refused line 1 X6 End\n", b"") else "another answer")
-    for words in [["--help"], ["--version"], ["safe", "--help"], ["stable", "--help"]]:
+    for words, said in HELP.items():
+        for asked in [[*words, "--help"], ["help", *words]]:
+            done = run([POLICY, *asked], NOTHING)
+            tells = done.status == 0 and not done.err and all(text in done.out.decode() for text in said)
+            tally.add(" ".join(asked), None if tells else f"{done}")
+        done = run([POLICY, *words, "-h"], NOTHING)
+        tally.add(" ".join([*words, "-h"]), None if done.status == 0 and b"Usage: " in done.out and not done.err else f"{done}")
+    for word in "--version", "-V":
+        done = run([POLICY, word], NOTHING)
+        tally.add(word, None if done == Ended(0, b"twarp-policy 0.1.0\n", b"") else f"{done}")
+    one = list_stable(CASES / "disagree.spp", "--splits=1")
+    tally.add("--splits=1", None if one.status == 0 and one == list_stable(CASES / "disagree.spp", "--splits", "1") else f"{one}")
+    for words, said in REFUSED.items():
         done = run([POLICY, *words], NOTHING)
-        tally.add(" ".join(words), None if done.status == 0 and done.out and not done.err else f"{done}")
-    for words in [[], ["safe", "--stop"], ["seq"], ["safe", "case.spp"], ["stable", "--splits"], ["stable", "--splits", "x"], ["stable", "--splits=1000000001"]]:
-        done = run([POLICY, *words], NOTHING)
-        tally.add(f"no command line: {words}", None if done.status == 3 and not done.out and done.err else f"{done}")
+        tells = done.status == 3 and not done.out and all(text in done.err.decode() for text in said)
+        tally.add(f"no command line: {words}", None if tells else f"{done}")
 
 
 def main() -> None:
@@ -282,6 +330,7 @@ def main() -> None:
         check_hierarchies(tally, Path(name))
         check_random(tally, Path(name))
         check_stable(tally, Path(name))
+        check_terminal(tally, Path(name))
     check_line(tally)
     tally.end()
 

@@ -9,10 +9,8 @@ checks/rows.
 """
 from __future__ import annotations
 
-import contextlib
 import errno
 import os
-import pty
 import re
 import resource
 import shutil
@@ -36,6 +34,7 @@ from common import (
     need_program,
     no_device,
     run,
+    run_at_a_terminal,
     run_program,
 )
 from program_rows import COMMANDS, RUN, SEQ, differs, rows
@@ -180,32 +179,17 @@ def check_errors(tally: Tally) -> None:
         tally.add(f"{name} with standard error into a pipe that nobody reads", differs(done, due))
 
 
-def written_at_a_terminal(words: list[str], source: Path) -> tuple[Ended, bytes]:
-    """How a command ends whose standard error is a terminal, and what it writes there."""
-    terminal, other_end = pty.openpty()
-    done = run_program(words, source, stderr=other_end)
-    os.set_blocking(terminal, False)
-    written = b""
-    # What is written there waits; behind the last of it reading says that nothing does.
-    with contextlib.suppress(OSError):
-        while more := os.read(terminal, 4096):
-            written += more
-    os.close(other_end)
-    os.close(terminal)
-    return done, written
-
-
 def check_terminal(tally: Tally) -> None:
     """On a terminal a run that takes its time has one line, which is gone in the end, and says the same on standard output."""
     line = PROGRESS.pattern.removesuffix(rb"\n")
     anew = re.compile(rb"(?:\r" + line + rb"\x1b\[K)+\r\x1b\[K")
     # Eighteen million events, which take a second or two.
     for words in ["seq", "--stop", "2000000"], ["run", "--stop", "2000000"]:
-        done, written = written_at_a_terminal(words, BAD_GADGET)
+        done, written = run_at_a_terminal([PROGRAM, *words], BAD_GADGET)
         wrong = differs(done, run_program(words, BAD_GADGET))
         tally.add(f"{name_of(words)} at a terminal", wrong or (None if anew.fullmatch(written) else f"it wrote {written!r}"))
     for words in COMMANDS:
-        done, written = written_at_a_terminal(words, input_of(words))
+        done, written = run_at_a_terminal([PROGRAM, *words], input_of(words))
         wrong = differs(done, run_program(words, input_of(words)))
         is_told = words[0] in ("seq", "run") and anew.fullmatch(written)
         tally.add(f"{name_of(words)} at a terminal", wrong or (f"it wrote {written!r}" if written and not is_told else None))

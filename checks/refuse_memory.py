@@ -1,8 +1,8 @@
 #!/usr/bin/env python3
-"""Refuses each allocation in turn, of the worked rows and of the program.
+"""Refuses each allocation in turn, of the worked rows and of the programs.
 
     refuse_memory.py [TEST ..]       after rt ci, or rt test in each crate of rows and rt run in
-                                     crates/twarp
+                                     crates/twarp and crates/twarp_policy
 
 Each test of the crates of rows, or each that is named, runs once for each of its allocations,
 with just that one refused; it tries the call once more and must pass. Of the row of STEPS, which
@@ -14,14 +14,14 @@ and again, with no allocation that the others do not make. Those of the modules 
 out too: they try no call again, and so fail where a call answers want of memory that nobody
 refused. So are those of the module `lanes`, which take no memory.
 
-Each command of the program runs in the same way, on DISAGREE or on the replay of a straggler, and
-so do its help and a line that it does not accept. Refused memory must end it with status 2 and the
-line `stopped memory`, or `stopped thread` where a thread needed it, with nothing on standard
-output; or, where the standard library then asks for less and gets it, it must end as it does with
-all its memory. Of a run by two workers no allocation before the one that starts the first thread is
-told as a refused thread, and that one is. Of runs by 1 to 64 workers each thread is refused in turn;
-a worker without routers has none, one worker is no thread, and between two checkpoints each of three
-workers has one.
+Each command of twarp runs in the same way, on DISAGREE or on the replay of a straggler, and so do
+its help and a line that it does not accept; and the same of twarp-policy, on DISAGREE and on GOOD
+GADGET. Refused memory must end it with status 2 and the line `stopped memory`, or `stopped thread`
+where a thread of twarp needed it, with nothing on standard output; or, where the standard library
+then asks for less and gets it, it must end as it does with all its memory. Of a run by two workers
+no allocation before the one that starts the first thread is told as a refused thread, and that one
+is. Of runs by 1 to 64 workers each thread is refused in turn; a worker without routers has none, one
+worker is no thread, and between two checkpoints each of three workers has one.
 """
 from __future__ import annotations
 
@@ -36,17 +36,22 @@ from typing import NamedTuple
 from common import (
     CASES,
     DISAGREE,
+    GOOD_GADGET,
     LIMIT,
     NO_MEMORY,
     NO_THREAD,
     NOTHING,
+    POLICY,
     PROGRAM,
     ROWS,
+    Ended,
     Tally,
     input_of,
     name_of,
+    name_of_policy,
     need,
     need_program,
+    run,
     run_program,
     tests_of,
     without_advice,
@@ -91,6 +96,17 @@ LINES = (
     ["--help"],
     ["seq", "--stop", "0"],
 )
+
+# Of twarp-policy, each on each case.
+POLICY_LINES = (
+    ["safe"],
+    ["stable"],
+    ["stable", "--splits", "1"],
+    ["--help"],
+    ["stable", "--help"],
+    ["stable", "--splits", "all"],
+)
+POLICY_CASES = (DISAGREE, GOOD_GADGET)
 
 
 class Outcome(NamedTuple):
@@ -141,18 +157,32 @@ def refuse_in_test(refuser: Refuser, tests: Path, name: str) -> Outcome:
     return Outcome(count, None)
 
 
-def refuse_in_program(refuser: Refuser, line: list[str]) -> Outcome:
-    source = input_of(line)
-    whole = without_progress(without_figures(run_program(line, source)))
-    # A person is told nothing where memory for that is refused.
-    due = (NO_MEMORY, NO_THREAD, whole, without_advice(whole))
-    ends = dict(refuser.each([PROGRAM, *line], source))
-    failed = [number for number, done in ends.items() if without_progress(without_figures(done)) not in due]
+def outcome_of(ends: dict[int, Ended], due: tuple[Ended, ...]) -> Outcome:
+    """Whether each end is due, by the number of the refused allocation, and want of memory was one."""
+    failed = [number for number, done in ends.items() if done not in due]
     if NO_MEMORY not in ends.values():
         return Outcome(len(ends), "no refused allocation stopped it")
     if failed:
         return Outcome(len(ends), f"allocation {failed[0]}: {ends[failed[0]]}")
     return Outcome(len(ends), None)
+
+
+def without_figures_and_progress(done: Ended) -> Ended:
+    """How a command ended, without what it tells of its run."""
+    return without_progress(without_figures(done))
+
+
+def refuse_in_program(refuser: Refuser, line: list[str]) -> Outcome:
+    source = input_of(line)
+    whole = without_figures_and_progress(run_program(line, source))
+    ends = {number: without_figures_and_progress(done) for number, done in refuser.each([PROGRAM, *line], source)}
+    # A person is told nothing where memory for that is refused.
+    return outcome_of(ends, (NO_MEMORY, NO_THREAD, whole, without_advice(whole)))
+
+
+def refuse_in_policy(refuser: Refuser, line: list[str], case: Path) -> Outcome:
+    words = [POLICY, *line]
+    return outcome_of(dict(refuser.each(words, case)), (NO_MEMORY, run(words, case)))
 
 
 def run_by(workers: int) -> list[str]:
@@ -197,7 +227,7 @@ def refuse_each(refuser: Refuser, line: list[str], case: Path, threads: int) -> 
 
 
 def refuse_in_all(tests: dict[str, Path], tally: Tally) -> int:
-    """Tries the tests and each command of the program; gives how many allocations were refused."""
+    """Tries the tests and each command of the programs; gives how many allocations were refused."""
     refused = 0
     with tempfile.TemporaryDirectory() as folder, ThreadPoolExecutor(os.cpu_count()) as pool:
         refuser = Refuser(Path(folder))
@@ -206,6 +236,9 @@ def refuse_in_all(tests: dict[str, Path], tally: Tally) -> int:
             jobs[name] = pool.submit(refuse_in_test, refuser, file, name)
         for line in LINES:
             jobs[name_of(line)] = pool.submit(refuse_in_program, refuser, line)
+        for line in POLICY_LINES:
+            for case in POLICY_CASES:
+                jobs[name_of_policy(line, case)] = pool.submit(refuse_in_policy, refuser, line, case)
         jobs["what is told as a refused thread"] = pool.submit(refuse_start, refuser)
         for workers in (1, 2, 5, 64):
             name = f"{name_of(run_by(workers))} with each thread refused"
@@ -223,6 +256,7 @@ def main() -> None:
     for crate in ROWS:
         need(tests_of(crate), f"rt test in crates/{crate}")
     need_program()
+    need(POLICY, "rt run in crates/twarp_policy")
     known, named = named_tests(), sys.argv[1:]
     tally = Tally()
     for name in sorted({*LONG, *named} - {*known}):

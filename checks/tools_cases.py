@@ -10,8 +10,7 @@ from pathlib import Path
 import tools_common
 from tools_common import CASES, ToolTest, case_of, twarp
 from twarp_tools import tutorial
-from twarp.case import ORIGIN, read_case
-from twarp.lines import Nodes, read_path
+from twarp.case import ORIGIN, Nodes, read_case, read_path
 
 Assignment = tuple[Nodes, ...]
 

@@ -12,7 +12,7 @@ from pathlib import Path
 from typing import Any
 from xml.etree import ElementTree
 
-from common import CASES, INPUTS, PROGRAM, TOP
+from common import CASES, INPUTS, POLICY, PROGRAM, TOP
 
 HAS_GRAPHVIZ = shutil.which("dot") is not None
 needs_graphviz = unittest.skipUnless(HAS_GRAPHVIZ, "Graphviz is not installed")
@@ -20,7 +20,6 @@ needs_graphviz = unittest.skipUnless(HAS_GRAPHVIZ, "Graphviz is not installed")
 # The built programs, where the command line of the tests names no others; None where what needs
 # them is left out.
 program: Path | None = PROGRAM
-POLICY = TOP / "crates/twarp_policy/out/twarp_policy"
 policy: Path | None = POLICY if POLICY.exists() else None
 # Tests that do not name twarp-policy are the same where it is built.
 os.environ["TWARP_POLICY"] = os.devnull

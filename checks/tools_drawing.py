@@ -13,6 +13,7 @@ from tools_common import (
     ToolTest,
     case_of,
     case_of_a_late_failure,
+    need_program,
     needs_graphviz,
     read,
     report_of,
@@ -304,6 +305,7 @@ class ReplayTimeline(ToolTest):
         self.assertIn("\nstep 10 undo 0: refused S5 Committed\n", texts(svg))
 
     def test_a_bad_line_is_named(self) -> None:
+        need_program()
         text, report = read("rollback.txt"), read("rollback-report.txt")
         edits = [
             (text, "refused line 12 X3 Word", "deliver 2", "delivers 2"),

@@ -6,7 +6,6 @@ import os
 import subprocess
 from contextlib import redirect_stderr
 
-import tools_common
 from tools_common import CASES, TOP, ToolTest, run, tool, twarp
 from twarp_tools import command
 
@@ -130,8 +129,7 @@ class Cases(ToolTest):
     def test_a_bad_line_is_named_as_twarp_names_it(self) -> None:
         for fault, line, text in BAD_CASES:
             with self.subTest(fault, text=text[-40:]):
+                self.assertEqual(twarp("check", stdin=text), f"refused line {line} {fault}\n")
                 self.assert_refused(
                     tool("draw", stdin=text), f"standard input: refused line {line} {fault}\n"
                 )
-                if tools_common.program:
-                    self.assertEqual(twarp("check", stdin=text), f"refused line {line} {fault}\n")

@@ -14,9 +14,9 @@ from typing import Any
 import browser
 from rows import row_of
 from tools_common import CASES, ToolTest, case_of_a_late_failure, read, report_of, tool, twarp
-from twarp_tools.layout import distance, lay_out
-from twarp.palette import DARK, LIGHT, PLACES
 from twarp.report import read_report
+from twarp.svg import DARK, LIGHT, PLACES
+from twarp_tools.layout import distance, lay_out
 
 Json = dict[str, Any]
 

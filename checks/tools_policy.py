@@ -264,6 +264,7 @@ class Installed(WithPolicy):
         script = self.assert_done(self.manual("bash"))
         self.assertGreaterEqual(completed(script, "twarp-policy "), {"safe", "stable", "--help", "--version"})
         self.assertEqual(completed(script, "twarp-policy st"), {"stable"})
+        self.assertEqual(completed(script, "twarp-policy stable --s"), {"--splits"})
         for shell in "zsh", "fish":
             self.assertRegex(self.assert_done(self.manual(shell)), r"\bstable\b")
 

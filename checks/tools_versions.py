@@ -12,8 +12,8 @@ from tools_common import CASES, ToolTest, case_of, need_program, texts, tool
 from tools_drawing import elements
 from tools_page import data_of, states_at_the_end
 from twarp.case import BarScene, Case, Link, read_case
+from twarp.protocol import reached, unstable_routers
 from twarp.report import read_report
-from twarp.standing import reached, unstable_routers
 
 FORBIDDEN = CASES / "forbidden-path.spp"
 TWICE = FOLDER / "forbidden-twice.spp"

@@ -1,6 +1,7 @@
 """Cases: what they hold, and their texts, which the program judges."""
 from __future__ import annotations
 
+import io
 from collections.abc import Iterable
 from dataclasses import dataclass, field
 from functools import cache
@@ -8,8 +9,7 @@ from itertools import islice
 from typing import TYPE_CHECKING, Any
 
 from twarp import program
-from twarp.errors import Refused
-from twarp.lines import Nodes, lines_of, quote
+from twarp.errors import Refused, quote
 
 if TYPE_CHECKING:
     import networkx
@@ -28,6 +28,13 @@ ORIGIN = 0
 
 # How many paths a router gets of a network that names none.
 SOME_PATHS = 20
+
+# As a path is written between brackets, and a number in any text that twarp writes.
+NUMBER = r"(?:0|[1-9][0-9]{0,19})"
+PATH = rf"\((?:{NUMBER}(?: {NUMBER})*)?\)"
+
+# The nodes of a path, the owner first; the empty path has none.
+Nodes = tuple[int, ...]
 
 
 @dataclass(frozen=True, slots=True)
@@ -269,10 +276,22 @@ class Case:
         return "".join(f"{line}\n" for line in lines)
 
 
+@cache
+def read_path(text: str) -> Nodes:
+    """The nodes of a path in brackets, which are kept since a log has most paths many times."""
+    return tuple(map(int, text[1:-1].split()))
+
+
+def write_path(nodes: Nodes) -> str:
+    return "(" + " ".join(map(str, nodes)) + ")"
+
+
+def lines_of(text: bytes) -> list[str]:
+    """The text's lines with their ends. What follows the last end is a line where it is not empty."""
+    return [*io.StringIO(text.decode("utf-8", "replace"), newline="\n")]
+
+
 WHICH = "which rule is broken is told by the program, which is not here"
-AFTER_END = f"the text goes on after its line `end`; {WHICH}"
-
-
 NumberedLine = tuple[int, str]
 
 
@@ -286,7 +305,7 @@ def read_case(text: bytes, named: program.File | None = None) -> Case:
     """The case of a case text; refused as the program refuses it. Where there is none the text alone is looked at."""
     case, rest = case_and_rest(text, ["check"], named)
     if rest:
-        raise Refused.at_line(rest[0][0], AFTER_END)
+        raise Refused.at_line(rest[0][0], f"the text goes on after its line `end`; {WHICH}")
     return case
 
 

@@ -2,7 +2,8 @@
 
 import random
 import re
-from collections.abc import Iterator, Sequence
+from collections import Counter
+from collections.abc import Iterable, Iterator, Sequence
 from dataclasses import dataclass, replace
 from math import exp, log
 from statistics import NormalDist
@@ -157,32 +158,30 @@ class FailureDraws:
 
     def __init__(self, case: Case, within: Uniform):
         self.within = within
-        self.places = [place for place, scene in enumerate(case.scenes) if is_failure(scene)]
-        if not self.places:
+        scenes = ((place, scene) for place, scene in enumerate(case.scenes) if isinstance(scene, LinkScene))
+        # The links that fail, by the places of their failures in the scenario.
+        self.failing = {place: ends_of(scene) for place, scene in scenes if scene.word == "fail"}
+        if not self.failing:
             raise Refused("refused option --failure-times: no link of the case fails")
         # For the place of each repair the place of the failure that it ends, and how much later it is.
         self.repairs = dict(repairs(case))
         latest = within.greatest + max((later for _, later in self.repairs.values()), default=0)
         if latest > GREATEST_TIME:
             raise Refused(f"refused option --failure-times: a repair would be at {latest:,}, past {GREATEST_TIME:,}")
-        self.columns = list(failure_columns(case, self.places))
+        self.columns = list(failure_columns(self.failing.values()))
         self.words = f"times of failures {within}"
 
     def values(self, seed: int) -> list[int]:
-        return [self.within.ticks(share(seed, "failure", place + 1)) for place in self.places]
+        return [self.within.ticks(share(seed, "failure", place + 1)) for place in self.failing]
 
     def change(self, case: Case, values: Sequence[int]) -> Case:
         """The case with failures at these times."""
-        times = dict(zip(self.places, values))
+        times = dict(zip(self.failing, values))
         times |= {place: times[failure] + later for place, (failure, later) in self.repairs.items()}
         scenes = [
             replace(scene, time=times[place]) if place in times else scene for place, scene in enumerate(case.scenes)
         ]
         return replace(case, scenes=scenes)
-
-
-def is_failure(scene: object) -> bool:
-    return isinstance(scene, LinkScene) and scene.word == "fail"
 
 
 def repairs(case: Case) -> Iterator[tuple[int, tuple[int, int]]]:
@@ -198,14 +197,11 @@ def repairs(case: Case) -> Iterator[tuple[int, tuple[int, int]]]:
             yield place, (failure, time - since)
 
 
-def failure_columns(case: Case, places: Sequence[int]) -> Iterator[str]:
+def failure_columns(failing: Iterable[Ends]) -> Iterator[str]:
     """A name for each failure: its link, and behind that which failure of this link it is, from the second on."""
-    counts: dict[Ends, int] = {}
-    for place in places:
-        scene = case.scenes[place]
-        assert isinstance(scene, LinkScene), "these are places of failures"
-        a, b = ends_of(scene)
-        counts[a, b] = counts.get((a, b), 0) + 1
+    counts: Counter[Ends] = Counter()
+    for a, b in failing:
+        counts[a, b] += 1
         yield f"fail_{a}_{b}" + (f"_{counts[a, b]}" if counts[a, b] > 1 else "")
 
 

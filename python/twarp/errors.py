@@ -1,7 +1,10 @@
-"""Why something is not done."""
+"""Why something is not done, and how a message quotes what is wrong."""
 from __future__ import annotations
 
 import re
+
+# How much of what is wrong stands in a message.
+MOST_QUOTED = 80
 
 
 class Refused(Exception):
@@ -33,3 +36,9 @@ class Refused(Exception):
 
 class Stopped(Exception):
     """Work that did not come to its end. Its text is what stands behind `stopped`."""
+
+
+def quote(text: str) -> str:
+    """A text, or a line without its end, as a message quotes it: escaped, and cut where it is long."""
+    text = text.removesuffix("\n")
+    return repr(text) if len(text) <= MOST_QUOTED else f"{text[:MOST_QUOTED]!r}.."

@@ -4,8 +4,7 @@ import re
 from dataclasses import astuple, dataclass
 from typing import Any, NamedTuple
 
-from twarp.case import BarScene, Case, LinkScene, SwapScene
-from twarp.lines import NUMBER, PATH, Nodes, read_path, write_path
+from twarp.case import NUMBER, PATH, BarScene, Case, LinkScene, Nodes, SwapScene, read_path, write_path
 
 
 @dataclass(frozen=True, slots=True)

@@ -3,12 +3,11 @@
 import enum
 import heapq
 from collections.abc import Callable, Iterable
-from dataclasses import dataclass, field
+from dataclasses import dataclass
 
-from twarp.case import Case
+from twarp.case import Case, Nodes
 from twarp.errors import Refused
 from twarp.event import Event, Update, opening_events
-from twarp.lines import Nodes
 from twarp.protocol import Router, opening_routers
 from twarp.report import FIRST_EVENT, Replay, Report
 
@@ -45,22 +44,14 @@ class Change:
     path: Nodes
 
 
-@dataclass
 class Run:
-    """What happened, in the order of the run, and the routers in the end."""
-
-    routers: list[Router]
-    changes: list[Change] = field(default_factory=list)
-    messages: list[Message] = field(default_factory=list)
-    scenes: list[Event] = field(default_factory=list)
-
-
-class Follower:
-    """The one-thread run of a case, as far as it was followed."""
+    """The one-thread run of a case, as far as it was followed: what happened, in order, and where the routers stand."""
 
     def __init__(self, case: Case):
-        self.run = Run(opening_routers(case))
-        self.routers = self.run.routers
+        self.routers = opening_routers(case)
+        self.changes: list[Change] = []
+        self.messages: list[Message] = []
+        self.scenes: list[Event] = []
         self.path_numbers = case.path_numbers()
         self.pending: list[tuple[tuple[int, ...], Event, Message | None]] = []
         for event in opening_events(case):
@@ -78,12 +69,12 @@ class Follower:
         changed, dropped = router.changed, router.dropped
         for send in router.handle(event):
             sent = Message(event.time, send)
-            self.run.messages.append(sent)
+            self.messages.append(sent)
             self.expect(send, sent)
         if router.changed > changed:
-            self.run.changes.append(Change(event.time, router.node, router.rib))
+            self.changes.append(Change(event.time, router.node, router.rib))
         if message is None:
-            self.run.scenes.append(event)
+            self.scenes.append(event)
         else:
             message.fate = Fate.DROPPED if router.dropped > dropped else Fate.HEARD
 
@@ -94,22 +85,22 @@ Witness = Callable[[Event, list[Router]], None]
 
 def follow(case: Case, report: Report, witness: Witness | None = None) -> Run:
     """What the report's events did, each shown to the witness; refused at the first line that is not the case's run."""
-    follower = Follower(case)
+    run = Run(case)
     if report.routers[0].handled and not report.events:
         why = "no event stands above this line: the report has to be one with --log"
         raise Refused.at_line(report.router_number, why)
     for number, event in enumerate(report.events, FIRST_EVENT):
-        least = follower.least()
+        least = run.least()
         if event != least:
             raise Refused.at_line(number, f"in the run of this case {written(least)} stands here")
         if witness:
-            witness(event, follower.routers)
-        follower.handle_least()
-    least = follower.least()
+            witness(event, run.routers)
+        run.handle_least()
+    least = run.least()
     if least and least.time < report.bound:
         raise Refused.at_line(report.router_number, f"in the run of this case {written(least)} stands here")
-    compare_routers(report, follower.routers)
-    return follower.run
+    compare_routers(report, run.routers)
+    return run
 
 
 def written(event: Event | None) -> str:

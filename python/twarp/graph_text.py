@@ -1,15 +1,15 @@
-"""A case, and where a run of it stands, as Graphviz text."""
+"""A case, and where a run of it stands, or what holds of it for all timings, as Graphviz text."""
 
 from collections import defaultdict
 from collections.abc import Iterator, Mapping, Sequence
 from dataclasses import dataclass
 from html import escape
 
-from twarp.case import ORIGIN, Case, Link
+from twarp.case import ORIGIN, Case, Link, Nodes, write_path
 from twarp.hops import hops_from
-from twarp.lines import Nodes, write_path
-from twarp.palette import place_of
+from twarp.policy import Hop, Safety
 from twarp.protocol import Router
+from twarp.svg import LIGHT, place_of
 
 HEAD = """\
 digraph {{
@@ -22,8 +22,13 @@ NOTE = '<BR/><FONT POINT-SIZE="11">{}</FONT>'
 NAME_ROW = '<TR><TD BGCOLOR="{ground}"><B>{name}</B></TD></TR>'
 PATH_ROW = '<TR><TD ALIGN="LEFT"{ground}><FONT FACE="monospace" POINT-SIZE="11" COLOR="{ink}">{words}</FONT></TD></TR>'
 
+RIM = f'color="{LIGHT["swap"]}", penwidth=3'
+SPOKE = f'color="{LIGHT["swap"]}", penwidth=1.5, style=dashed'
+WHEEL = "the wheel: its rim solid, its spokes dashed; routers in yellow have a choice, among the paths in black"
+REST = "so every run comes to rest, whatever the delays"
+
 # For each step from a router to a neighbour the places, from 0, of the paths that take it.
-Uses = Mapping[tuple[int, int], list[int]]
+Uses = Mapping[Hop, list[int]]
 
 
 def uses_by_ribs(routers: Sequence[Router]) -> Uses:
@@ -47,26 +52,14 @@ def distances(case: Case) -> list[int]:
     return [found.get(node, case.nodes) for node in range(case.nodes)]
 
 
-def delay_words(link: Link) -> str:
-    """The link's delay, or that of each direction on a line of its own."""
-    if link.is_even:
-        return str(link.delay)
-    return f"{link.a} to {link.b}: {link.delay}\\n{link.b} to {link.a}: {link.back}"
-
-
-def ends_of_edge(link: Link, depth: list[int]) -> tuple[int, int]:
-    """An edge goes from the end that is farther from the origin, so that the origin is at the bottom."""
-    tail, head = sorted((link.a, link.b), key=lambda node: (-depth[node], node))
-    return tail, head
-
-
 def label_of(link: Link, depth: list[int], is_down: bool) -> tuple[str, str]:
-    """What an edge says of its label, and of its ends.
+    """What an edge says of its label, which has the delay or both delays, and of its ends.
 
     Between ends at the same distance it moves neither, and its label is placed afterwards, since dot fails on such labels
     otherwise.
     """
-    words = f"{delay_words(link)}{' down' if is_down else ''}"
+    apart = f"{link.a} to {link.b}: {link.delay}\\n{link.b} to {link.a}: {link.back}"
+    words = (str(link.delay) if link.is_even else apart) + (" down" if is_down else "")
     if depth[link.a] == depth[link.b]:
         return f'xlabel="{words}", ', ", constraint=false"
     return f'label=" {words} ", ', ""
@@ -76,7 +69,8 @@ def label_of(link: Link, depth: list[int], is_down: bool) -> tuple[str, str]:
 class Drawing:
     """What is to be drawn: at most so many paths at a router, and those of one router only where that is asked for.
 
-    Without a run the routers use no paths yet.
+    Without a run the routers use no paths yet. With `safety` it shows the paths that are left, and the wheel where there is
+    one; the routers stand as `twarp.policy.standing` gives them.
     """
 
     case: Case
@@ -84,57 +78,76 @@ class Drawing:
     has_run: bool
     names: Mapping[int, str]
     most: int
-    only: int | None
-    note: str = ""
+    only: int | None = None
+    safety: Safety | None = None
+
+    def __post_init__(self) -> None:
+        wheel = self.safety.wheel if self.safety else ()
+        self.roles = {pivot.rim: " <I>rim</I>" for pivot in wheel} | {pivot.spoke: " <I>spoke</I>" for pivot in wheel}
+        self.parts = [({*self.safety.rim_hops}, RIM), ({*self.safety.spoke_hops}, SPOKE)] if self.safety else []
 
     def text(self, title: str) -> str:
-        lines = [self.box(router) for router in range(self.case.nodes)]
+        lines = [self.box(router) for router in self.routers]
         uses = uses_by_ribs(self.routers) if self.only is None else uses_by_paths(self.routers[self.only].order)
         depth = distances(self.case)
         for link in self.case.links:
             lines += self.edges(link, uses, depth)
-        note = NOTE.format(escape(self.note)) if self.note else ""
+        note = NOTE.format(REST if self.safety.is_safe else WHEEL) if self.safety else ""
         return HEAD.format(title=escape(title), note=note) + "".join(f"  {line}\n" for line in lines) + "}\n"
 
-    def box(self, router: int) -> str:
-        name = escape(f"{router} {self.names[router]}" if router in self.names else str(router))
-        rows = [NAME_ROW.format(name=name, ground=self.ground(router))]
-        if self.only in (None, router):
-            rows += self.path_rows(self.routers[router])
-        return f"{router} [label=<{BOX.format(''.join(rows))}>]"
+    def left(self, router: Router) -> tuple[Nodes, ...] | None:
+        """The paths that a router may still use, where that is shown."""
+        return self.safety.left[router.node] if self.safety else None
 
-    def ground(self, router: int) -> str:
-        """The colour behind a router's name."""
-        return "#d9d9d9" if router == ORIGIN else "#eeeeee"
+    def box(self, router: Router) -> str:
+        node, left = router.node, self.left(router)
+        ground = LIGHT["period"] if left and len(left) > 1 else "#d9d9d9" if node == ORIGIN else "#eeeeee"
+        name = escape(f"{node} {self.names[node]}" if node in self.names else str(node))
+        rows = [NAME_ROW.format(name=name, ground=ground)]
+        if self.only in (None, node):
+            rows += self.path_rows(router)
+        return f"{node} [label=<{BOX.format(''.join(rows))}>]"
 
     def path_rows(self, router: Router) -> Iterator[str]:
-        """A row for each path, coloured where the router uses it or where its paths alone are shown."""
+        """A row for each path: coloured where it is used or one router's paths are shown, grey where it is gone."""
+        more, left = 0, self.left(router)
         for number, path in enumerate(router.order):
-            is_coloured = path == router.rib if self.only is None else True
-            if number >= self.most and not is_coloured:
+            is_coloured = path == router.rib or self.only is not None
+            if number >= self.most and not is_coloured and path not in (left or ()):
+                more += 1
                 continue
-            place = place_of(number)
-            ground = f' BGCOLOR="{place.fill}"' if is_coloured else ""
-            ink, words = place.ink if is_coloured else "#222222", write_path(path)
+            place, words, ground = place_of(number), write_path(path), ""
+            ink = "#222222" if left is None or path in left else "#a0a6ad"
+            if is_coloured:
+                ground, ink = f' BGCOLOR="{place.fill}"', place.ink
             if path in router.barred:
                 ink, words = "#c1121f", f"<S>{words}</S>"
-            yield PATH_ROW.format(ground=ground, ink=ink, words=words)
-        more = sum(path != router.rib for path in router.order[self.most :]) if self.only is None else 0
+            yield PATH_ROW.format(ground=ground, ink=ink, words=words + self.roles.get(path, ""))
         if more:
             yield PATH_ROW.format(ground="", ink="#777777", words=f"and {more} more")
-        if self.has_run and not router.rib:
-            yield PATH_ROW.format(ground="", ink="#c1121f", words="uses no path")
+        if () in left if left else self.has_run and not router.rib:
+            words = "no path" if left and len(left) > 1 else "uses no path"
+            yield PATH_ROW.format(ground="", ink="#c1121f", words=words)
+
+    def looks(self, link: Link, ends: Hop, uses: Uses) -> list[tuple[Hop, str]]:
+        """The directions in which a link is used, each with how its arrow looks: by a wheel, or else by paths."""
+        ways = (link.a, link.b), (link.b, link.a)
+        if looks := [(hop, look) for hop in ways for hops, look in self.parts if hop in hops]:
+            return looks
+        fills = {hop: dict.fromkeys(place_of(place).fill for place in uses.get(hop, ())) for hop in (ends, ends[::-1])}
+        return [(hop, f'color="{":".join(row)}", penwidth=2') for hop, row in fills.items() if row]
 
     def edges(self, link: Link, uses: Uses, depth: list[int]) -> Iterator[str]:
-        """An arrow for each direction in which the link is used, or else a line."""
-        tail, head = ends_of_edge(link, depth)
+        """An arrow for each way in which the link is used, or else a line."""
+        # From the end that is farther from the origin, so that the origin is at the bottom.
+        tail, head = sorted((link.a, link.b), key=lambda node: (-depth[node], node))
         is_down = head in self.routers[tail].down
         label, level = label_of(link, depth, is_down)
-        used = [(hop, arrow) for hop, arrow in (((tail, head), "forward"), ((head, tail), "back")) if hop in uses]
-        for hop, arrow in used:
-            colours = ":".join(dict.fromkeys(place_of(place).fill for place in uses[hop]))
-            yield f'{tail} -> {head} [{label}dir={arrow}, color="{colours}", penwidth=2{level}]'
+        looks = self.looks(link, (tail, head), uses)
+        for hop, look in looks:
+            arrow = "forward" if hop == (tail, head) else "back"
+            yield f"{tail} -> {head} [{label}dir={arrow}, {look}{level}]"
             label = ""
-        if not used:
+        if not looks:
             look = 'style=dashed, color="#c1121f", fontcolor="#c1121f"' if is_down else "style=solid"
             yield f"{tail} -> {head} [{label}{look}{level}]"

@@ -1,17 +1,87 @@
-"""What the pictures of runs and of replays share: a lane for each router, and a legend of the marks."""
+"""What pictures of runs, replays and sweeps share: the axis of time, a lane for each router, a legend of the marks."""
 
 import math
-from collections.abc import Callable, Mapping, Sequence
+from collections.abc import Callable, Iterable, Iterator, Mapping, Sequence
 from dataclasses import dataclass
 from functools import cached_property
+from itertools import count
 from xml.etree.ElementTree import Element
 
 from twarp.errors import Refused
 from twarp.svg import add
 
+Span = tuple[int, int]
+
+FOLD_WIDTH = 40.0
+DIGIT_WIDTH = 7.0
+LEAST_WIDTH = 760.0
+GREATEST_WIDTH = 12_000.0
 TOP = 104.0
 MOST_MARKS = 5_000
 MOST_LANES = 200
+
+
+def merge(spans: Iterable[Span]) -> list[Span]:
+    """The spans as separate ones, in ascending order."""
+    merged: list[Span] = []
+    for first, last in sorted(spans):
+        if merged and first <= merged[-1][1]:
+            merged[-1] = (merged[-1][0], max(last, merged[-1][1]))
+        else:
+            merged.append((first, last))
+    return merged
+
+
+def silences(first: int, last: int, busy: Iterable[Span]) -> list[Span]:
+    """The stretches in which nothing happens, where they are long beside those in which something does."""
+    spans = merge([(first, first), *((max(a, first), min(b, last)) for a, b in busy if a <= last and b >= first)])
+    ends = [*spans, (last, last)]
+    total = max(1, sum(b - a for a, b in spans))
+    gaps = ((a, b) for (_, a), (b, _) in zip(ends, ends[1:]))
+    return [(a, b) for a, b in gaps if 4 * (b - a) > total and b - a > 2]
+
+
+def nice_step(least: float) -> int:
+    """The least of 1, 2, 5, 10, 20, .. that is not below `least`."""
+    steps = (factor * 10**power for power in count() for factor in (1, 2, 5))
+    return next(step for step in steps if step >= least)
+
+
+@dataclass(frozen=True)
+class TimeAxis:
+    """Times from `first` to `last`, with so many pixels a tick; a folded stretch takes a fixed width."""
+
+    first: int
+    last: int
+    left: float
+    scale: float
+    folds: list[Span]
+
+    def x(self, time: int) -> float:
+        """Where a time stands; also for times outside the axis."""
+        folded, folds = 0.0, 0.0
+        for a, b in self.folds:
+            if time >= b:
+                folded, folds = folded + (b - a), folds + FOLD_WIDTH
+            elif time > a:
+                folded, folds = folded + (time - a), folds + FOLD_WIDTH * (time - a) / (b - a)
+        return self.left + (time - self.first - folded) * self.scale + folds
+
+    def ticks(self) -> Iterator[int]:
+        """Times to be written at the axis, none within a folded stretch."""
+        step = nice_step(DIGIT_WIDTH * (len(f"{self.last:,}") + 3) / self.scale)
+        ends = [self.first, *(end for fold in self.folds for end in fold), self.last]
+        for a, b in zip(ends[::2], ends[1::2]):
+            yield from range(-(-a // step) * step, b + 1, step)
+
+
+def fit(first: int, last: int, left: float, moments: int, busy: Iterable[Span]) -> TimeAxis:
+    """An axis on which so many different moments have room, within reason."""
+    folds = silences(first, last, busy)
+    ticks = max(1, last - first - sum(b - a for a, b in folds))
+    width = 54.0 * min(moments, 40) + 16.0 * max(0, moments - 40)
+    scale = min(max(LEAST_WIDTH, width), GREATEST_WIDTH) / ticks
+    return TimeAxis(first, last, left, min(scale, 120.0), folds)
 
 
 @dataclass(frozen=True)
@@ -49,19 +119,11 @@ class Lanes:
     def __init__(self, view: View):
         self.names = {router: f"{router} {view.names.get(router, '')}".rstrip() for router in view.routers}
         self.places = {router: place for place, router in enumerate(view.routers)}
+        count = len(self.places)
         self.left = 48 + 7.5 * max(map(len, self.names.values()))
-
-    @cached_property
-    def height(self) -> float:
-        return 66.0 if len(self.places) <= 12 else 48.0 if len(self.places) <= 40 else 34.0
-
-    @cached_property
-    def bar(self) -> float:
-        return 18.0 if len(self.places) <= 40 else 14.0
-
-    @cached_property
-    def bottom(self) -> float:
-        return TOP + self.height * len(self.places)
+        self.height = 66.0 if count <= 12 else 48.0 if count <= 40 else 34.0
+        self.bar = 18.0 if count <= 40 else 14.0
+        self.bottom = TOP + self.height * count
 
     def y(self, router: int) -> float:
         """The middle of the router's lane."""

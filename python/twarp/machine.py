@@ -36,12 +36,6 @@ class Signed:
     delivered_at: int | None = None
     fate: Fate = Fate.IN_FLIGHT
 
-    @property
-    def words(self) -> str:
-        """What became of it."""
-        way = f"delivered by step {self.delivered_at}, " if self.delivered_at else ""
-        return f"{way}{self.fate.value}"
-
 
 @dataclass(slots=True)
 class Handling:

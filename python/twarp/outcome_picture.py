@@ -1,15 +1,14 @@
 """The picture of a sweep: how its runs ended, and when they came to rest."""
 
+import itertools
 from collections import Counter
 from collections.abc import Callable, Sequence
 from dataclasses import dataclass
 from xml.etree.ElementTree import Element
 
-from twarp.axis import DIGIT_WIDTH, nice_step
-from twarp.lanes import TOP, Sample, draw_legend, sample_box, sample_path
+from twarp.lanes import DIGIT_WIDTH, TOP, Sample, draw_legend, nice_step, sample_box, sample_path
 from twarp.outcomes import MOST_COLUMNS, Outcome, Outcomes, in_columns, interval, percent
-from twarp.palette import place_of
-from twarp.svg import Picture, add
+from twarp.svg import Picture, add, place_of
 
 LANE, BAR = 48.0, 18.0
 WIDTH = 460.0
@@ -44,16 +43,13 @@ def lanes_of(ranked: Sequence[Outcome]) -> list[Lane]:
     """A lane for each outcome, in the colours of paths for those at rest, and one for the rarest together."""
     alone = ranked if len(ranked) <= MOST_LANES else ranked[: MOST_LANES - 1]
     lanes = []
-    place = 0
+    places = map(place_of, itertools.count())
     for outcome in alone:
-        if outcome.ribs is None:
-            look = {"class_": "period" if outcome.word == "oscillates" else "hollow"}
-        else:
-            look = {"class_": "bar", "fill": place_of(place).fill}
-            place += 1
+        look = {"class_": "period" if outcome.word == "oscillates" else "hollow"}
+        if outcome.ribs is not None:
+            look = {"class_": "bar", "fill": next(places).fill}
         lanes.append(Lane(outcome.name, look, [outcome]))
-    rest = ranked[len(alone) :]
-    if rest:
+    if rest := ranked[len(alone) :]:
         lanes.append(Lane(f"{len(rest):,} others", {"class_": "bar", "fill": OTHERS}, rest))
     return lanes
 
@@ -80,10 +76,9 @@ class OutcomePicture:
             self.draw_lane(picture.root, lane, TOP + LANE * (place + 0.5))
         entries: list[tuple[str, Sample]] = [(words_of(lane), sample_box(**lane.look)) for lane in self.lanes]
         entries.append(("95 % interval", sample_path(12, 4, "v8m0 -4h24m0 -4v8", **WHISKER)))
-        times = [(lane, counted(lane, lambda outcome: outcome.rest_times)) for lane in self.lanes]
-        messages = [(lane, counted(lane, lambda outcome: outcome.messages)) for lane in self.lanes]
-        base = self.draw_histogram(picture.root, self.bottom + GAP, "rest at", times, "no run came to rest")
-        base = self.draw_histogram(picture.root, base + GAP, "messages", messages, "")
+        base, none = self.bottom + GAP, "no run came to rest"
+        base = self.draw_histogram(picture.root, base, "rest at", lambda outcome: outcome.rest_times, none)
+        base = self.draw_histogram(picture.root, base + GAP, "messages", lambda outcome: outcome.messages, "")
         right = self.right + NOTE
         return picture.text(right + 16, draw_legend(picture.root, right, base + 56, entries))
 
@@ -114,9 +109,10 @@ class OutcomePicture:
             add(group, "text", shortened(paths), class_="path note", x=self.left + 4, y=y + 16)
 
     def draw_histogram(
-        self, parent: Element, top: float, word: str, rows: Sequence[tuple[Lane, Counter[int]]], nothing: str
+        self, parent: Element, top: float, word: str, counted: Callable[[Outcome], Counter[int]], nothing: str
     ) -> float:
         """How many runs have which number of something, each lane in its own colour; gives the height of its base."""
+        rows = [(lane, sum(map(counted, lane.outcomes), Counter[int]())) for lane in self.lanes]
         whole = sum((counts for _, counts in rows), Counter[int]())
         if not whole:
             add(parent, "text", nothing, class_="quiet", x=self.left, y=top)
@@ -127,7 +123,7 @@ class OutcomePicture:
         pixels = min(WIDEST_COLUMN, (WIDTH + NOTE) / (last + 1 - first))
         columns = Columns(word, first, last, width, self.left, pixels)
         tallest = max(in_columns(whole, width).values())
-        self.draw_counts(parent, tallest, columns.right, base)
+        self.draw_counts(parent, tallest, columns.x(last + 1), base)
         heights: Counter[int] = Counter()
         for lane, counts in rows:
             for number, runs in sorted(in_columns(counts, width).items()):
@@ -162,10 +158,6 @@ class Columns:
     left: float
     pixels: float
 
-    @property
-    def right(self) -> float:
-        return self.x(self.last + 1)
-
     def x(self, number: int) -> float:
         return self.left + self.pixels * (number - self.first)
 
@@ -178,11 +170,6 @@ class Columns:
         room = DIGIT_WIDTH * (len(f"{self.last * self.width:,}") + 2)
         step = nice_step(room / self.pixels)
         return range(-(-self.first // step) * step, self.last + 1, step)
-
-
-def counted(lane: Lane, counts: Callable[[Outcome], Counter[int]]) -> Counter[int]:
-    """What the outcomes of a lane count together."""
-    return sum(map(counts, lane.outcomes), Counter[int]())
 
 
 def words_of(lane: Lane) -> str:

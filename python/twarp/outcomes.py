@@ -4,17 +4,19 @@ import csv
 import io
 import json
 import re
+from bisect import bisect_left
 from collections import Counter
 from collections.abc import Iterable, Iterator, Mapping, Sequence
 from dataclasses import dataclass, field
 from functools import cached_property
+from itertools import accumulate
 from math import ceil, sqrt
 from statistics import NormalDist
 from typing import Any, TextIO
 
-from twarp.axis import nice_step
+from twarp.case import PATH, read_path, write_path
 from twarp.errors import Refused
-from twarp.lines import PATH, read_path, write_path
+from twarp.lanes import nice_step
 from twarp.report import Open, Oscillates, Quiet, Verdict
 from twarp.trials import End, Failed, Ribs, Trial
 
@@ -93,12 +95,9 @@ class Outcome:
 
 def percentile(counts: Counter[int], percent: int) -> int:
     """The least value such that so many in a hundred are at most this one."""
-    wanted, seen, value = ceil(counts.total() * percent / 100), 0, 0
-    for value, count in sorted(counts.items()):
-        seen += count
-        if seen >= wanted:
-            break
-    return value
+    values = sorted(counts)
+    seen = [*accumulate(counts[value] for value in values)]
+    return values[bisect_left(seen, ceil(seen[-1] * percent / 100))]
 
 
 def spread(counts: Counter[int]) -> dict[str, Any]:
@@ -113,10 +112,7 @@ def spread(counts: Counter[int]) -> dict[str, Any]:
 
 def in_columns(counts: Counter[int], width: int) -> Counter[int]:
     """How many values stand in each column of a histogram."""
-    columns: Counter[int] = Counter()
-    for value, count in counts.items():
-        columns[value // width] += count
-    return columns
+    return Counter(value // width for value in counts.elements())
 
 
 class Outcomes:

@@ -13,13 +13,11 @@ from twarp.lanes import View
 from twarp.machine import follow_replay
 from twarp.outcome_picture import OutcomePicture
 from twarp.outcomes import Outcomes
-from twarp.policy import Safety
-from twarp.protocol import opening_routers
+from twarp.policy import Safety, standing
+from twarp.protocol import opening_routers, reached
 from twarp.replay_picture import ReplayPicture
 from twarp.report import Quiet, Replay, Report, Step
 from twarp.run_picture import RunPicture, last_time
-from twarp.safety_text import SafetyDrawing, standing
-from twarp.standing import reached
 from twarp.trials import Trial
 
 # How many undone steps the title of a replay names.
@@ -43,8 +41,7 @@ def network_text(
     that each router may still use, and a dispute wheel, or the paths with which every run comes to rest.
     """
     if safety:
-        routers = standing(case, safety)
-        drawing = SafetyDrawing(case, routers, True, names, most, None, safety=safety)
+        drawing = Drawing(case, standing(case, safety), True, names, most, safety=safety)
         return drawing.text(f"{title}: verdict {safety}")
     routers = reached(case, report) if report else opening_routers(case)
     if report:

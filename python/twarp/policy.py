@@ -6,13 +6,18 @@ one that $TWARP_POLICY names, or the one beside twarp, or on the PATH (`twarp.pr
 
 from dataclasses import dataclass
 
-from twarp.case import ORIGIN, Case
-from twarp.lines import NUMBER, PATH, Nodes, read_path
+from twarp.case import NUMBER, ORIGIN, PATH, Case, Nodes, read_path, write_path
+from twarp.errors import Refused
 from twarp.program import File, answer, need_policy, words_of
+from twarp.protocol import Router, after_script
 from twarp.report import Cursor, misplaced
 
-# Each router's path.
+# Each router's path, and a step from a router to a neighbour.
 Ribs = tuple[Nodes, ...]
+Hop = tuple[int, int]
+
+# The line of router 0 in an answer.
+FIRST_ROUTER = 3
 
 PATHS = f"{PATH}(?: {PATH})*"
 LEFT_LINE = f"router ({NUMBER}) (?:uses ({PATH})|may use ({PATHS}))"
@@ -63,6 +68,22 @@ class Safety:
     def undecided(self) -> tuple[int, ...]:
         """The routers that have a choice."""
         return tuple(router for router, paths in enumerate(self.left) if len(paths) > 1)
+
+    @property
+    def ring(self) -> list[tuple[Pivot, Pivot]]:
+        """Each pivot of the wheel with the next one."""
+        return [*zip(self.wheel, [*self.wheel[1:], *self.wheel[:1]])]
+
+    @property
+    def rim_hops(self) -> list[Hop]:
+        """The steps of the wheel's rim, each once: of each pivot's rim path as far as the next pivot."""
+        ways = (pivot.rim[: pivot.rim.index(following.router) + 1] for pivot, following in self.ring)
+        return [*dict.fromkeys(hop for way in ways for hop in zip(way, way[1:]))]
+
+    @property
+    def spoke_hops(self) -> list[Hop]:
+        """The steps of the wheel's spokes, each once."""
+        return [*dict.fromkeys(hop for pivot in self.wheel for hop in zip(pivot.spoke, pivot.spoke[1:]))]
 
     def __str__(self) -> str:
         if self.is_safe:
@@ -121,10 +142,10 @@ def read_safety(text: bytes, nodes: int) -> Safety:
 def take_left(cursor: Cursor, router: int) -> tuple[Nodes, ...]:
     """The paths that a router has left, of its line."""
     wanted = f"the paths of router {router}"
-    number, found = cursor.number, cursor.take(LEFT_LINE, wanted)
+    found = cursor.take_line_of(router, LEFT_LINE, wanted)
     paths = tuple(read_path(f"({words}") for words in (found[2] or found[3])[1:].split(" ("))
-    if int(found[1]) != router or (router == ORIGIN and paths != ((ORIGIN,),)):
-        raise misplaced(number, found[0], wanted)
+    if router == ORIGIN and paths != ((ORIGIN,),):
+        raise misplaced(FIRST_ROUTER, found[0], wanted)
     return paths
 
 
@@ -139,14 +160,25 @@ def read_stable(text: bytes, nodes: int) -> Stable:
             raise misplaced(number, found[0], wanted)
         if not found[1]:
             break
-        assignments.append(tuple(take_rib(cursor, router) for router in range(nodes)))
+        lines = (cursor.take_line_of(router, RIB_LINE, f"the path of router {router}") for router in range(nodes))
+        assignments.append(tuple(read_path(line[2]) for line in lines))
     cursor.take_end()
     return Stable(tuple(assignments), not found[2])
 
 
-def take_rib(cursor: Cursor, router: int) -> Nodes:
-    wanted = f"the path of router {router}"
-    number, found = cursor.number, cursor.take(RIB_LINE, wanted)
-    if int(found[1]) != router:
-        raise misplaced(number, found[0], wanted)
-    return read_path(found[2])
+def standing(case: Case, safety: Safety) -> list[Router]:
+    """The routers as they stand when the script is over, those without a choice with the path that they use.
+
+    Refused where the answer is of another case: at the line of the first router that has no such path.
+    """
+    routers = after_script(case)
+    for number, (router, left) in enumerate(zip(routers, safety.left), FIRST_ROUTER):
+        for path in left:
+            if path and path != (router.node,) and path not in router.order:
+                raise Refused.at_line(number, f"{write_path(path)} is no path of this router in the case")
+        router.rib = left[0] if len(left) == 1 else ()
+    for number, (pivot, following) in enumerate(safety.ring, FIRST_ROUTER + case.nodes):
+        is_known = pivot.router < case.nodes and {pivot.rim, pivot.spoke} <= {*routers[pivot.router].order}
+        if not is_known or following.router not in pivot.rim:
+            raise Refused.at_line(number, "this is no pivot of the case")
+    return routers

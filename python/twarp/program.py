@@ -32,12 +32,9 @@ def find_policy(named: File | None = None, twarp: File | None = None) -> Path | 
     if named or (named := os.environ.get("TWARP_POLICY")):
         return Path(named).absolute()
     twarp = find(twarp)
-    return first_of(policies_beside(twarp) if twarp else [], "twarp-policy")
-
-
-def policies_beside(twarp: Path) -> list[Path]:
-    """Where twarp-policy may be to this twarp: in the same folder, or in the same clone."""
-    return [twarp.with_name("twarp-policy"), twarp.parent / "../../twarp_policy/out/twarp_policy"]
+    # In the same folder, or in the same clone.
+    beside = [twarp.with_name("twarp-policy"), twarp.parent / "../../twarp_policy/out/twarp_policy"] if twarp else []
+    return first_of(beside, "twarp-policy")
 
 
 def first_of(files: Iterable[Path], name: str) -> Path | None:

@@ -1,14 +1,16 @@
-"""What a router does with an event, as docs/PROTOCOL.md has it."""
+"""What a router does with an event, as docs/PROTOCOL.md has it; where a run stands, and whether it is stable there."""
 from __future__ import annotations
 
 import copy
+import math
 from collections import defaultdict
-from dataclasses import dataclass, field
+from collections.abc import Iterator, Sequence
+from dataclasses import dataclass, field, replace
 
-from twarp.case import ORIGIN, Case
-from twarp.event import Allow, Event, Fail, Forbid, Restore, Start, Swap, Update
-from twarp.lines import Nodes
-from twarp.report import RouterLine
+from twarp.case import ORIGIN, Case, Nodes, write_path
+from twarp.errors import Refused
+from twarp.event import Allow, Event, Fail, Forbid, Restore, Start, Swap, Update, opening_events
+from twarp.report import Report, RouterLine
 
 
 @dataclass
@@ -96,3 +98,31 @@ class Router:
 def opening_routers(case: Case) -> list[Router]:
     rows = zip(case.delays(), case.orders())
     return [Router(node, delays, tuple(order), order) for node, (delays, order) in enumerate(rows)]
+
+
+def after_script(case: Case, bound: float = math.inf) -> list[Router]:
+    """How the routers stand after their own scripted events alone, those below the bound, and without what was heard."""
+    routers = opening_routers(case)
+    for scene in sorted(opening_events(case), key=lambda scene: scene.key({})):
+        if scene.time < bound:
+            routers[scene.dst].handle(scene)
+    return routers
+
+
+def reached(case: Case, report: Report) -> list[Router]:
+    """Where the run stands that was reported: after what the scenario has below its bound, without what was heard."""
+    routers = after_script(case, report.bound)
+    for number, (router, line) in enumerate(zip(routers, report.routers), report.router_number):
+        if line.rib and line.rib not in router.order:
+            raise Refused.at_line(number, f"{write_path(line.rib)} is no path of this router in the case")
+        router.rib = line.rib
+    return routers
+
+
+def unstable_routers(routers: Sequence[Router]) -> Iterator[str]:
+    """The routers whose ribs are not as stable ones are by docs/PROTOCOL.md, in words; none where paths are stable."""
+    for router in routers:
+        heard = {peer: routers[peer].rib for peer in router.delays if peer not in router.down}
+        chosen = replace(router, heard=heard).best()
+        if router.rib != chosen:
+            yield f"router {router.node} uses {write_path(router.rib)} and would choose {write_path(chosen)}"

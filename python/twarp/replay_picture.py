@@ -111,7 +111,8 @@ class ReplayPicture:
         x1, y1, y2 = self.x(message.sent_at), self.lanes.edge(event.src, here), self.lanes.edge(event.dst, there)
         x2 = self.x(message.delivered_at) if message.delivered_at else self.right
         kind = "antimessage of" if message.is_anti else "message"
-        tooltip = f"{kind} {event}, sent by step {message.sent_at}: {message.words}"
+        way = f"delivered by step {message.delivered_at}, " if message.delivered_at else ""
+        tooltip = f"{kind} {event}, sent by step {message.sent_at}: {way}{message.fate.value}"
         add(parent, "line", "", tooltip, class_=message_look(message), x1=x1, y1=y1, x2=x2, y2=y2)
         if message.fate is Fate.KEPT:
             draw_kept(parent, x2, here)

@@ -4,10 +4,9 @@ import json
 import re
 from dataclasses import asdict, dataclass
 
-from twarp.case import WHICH, Case, case_and_rest
-from twarp.errors import Refused
+from twarp.case import NUMBER, PATH, WHICH, Case, Nodes, case_and_rest, lines_of, read_path, write_path
+from twarp.errors import Refused, quote
 from twarp.event import Event, read_event, record
-from twarp.lines import NUMBER, PATH, Nodes, lines_of, quote, read_path, write_path
 
 
 @dataclass(frozen=True, slots=True)
@@ -176,11 +175,15 @@ class Cursor:
         self.number += len(events)
         return events
 
-    def take_router(self, router: int, wanted: str) -> RouterLine:
-        number = self.number
-        found = self.take(ROUTER_LINE, wanted)
+    def take_line_of(self, router: int, pattern: str, wanted: str) -> re.Match[str]:
+        """The next line, whose first number has to be that of the router."""
+        number, found = self.number, self.take(pattern, wanted)
         if int(found[1]) != router:
             raise misplaced(number, found[0], wanted)
+        return found
+
+    def take_router(self, router: int, wanted: str) -> RouterLine:
+        found = self.take_line_of(router, ROUTER_LINE, wanted)
         sent, handled, dropped, changed = map(int, found.group(2, 3, 4, 5))
         return RouterLine(router, sent, handled, dropped, changed, read_path(found[6]))
 
@@ -200,9 +203,6 @@ class Cursor:
         if last_change:
             return Quiet(int(last_change))
         return Oscillates(int(start), int(period)) if start else Open()
-
-    def take_answer(self, step: int) -> str | None:
-        return self.take(ANSWER_LINE.format(step=step), f"the answer to step {step}")[1]
 
     def take_end(self) -> None:
         if line := self.next_line():
@@ -231,7 +231,8 @@ def read_report(text: bytes, nodes: int) -> Report:
 def read_replay(text: bytes, nodes: int, steps: int) -> Replay:
     """What twarp wrote of the replay of so many steps on a case with so many routers."""
     cursor = Cursor(text, REPLAY_HEADER)
-    answers = [cursor.take_answer(step) for step in range(1, steps + 1)]
+    told = ((ANSWER_LINE.format(step=step), f"the answer to step {step}") for step in range(1, steps + 1))
+    answers = [cursor.take(*answer)[1] for answer in told]
     bound = cursor.take_number("bound")
     loose = cursor.take(LOOSE_LINE, "the line `flight ..`")[0]
     replay = Replay(answers, bound, loose, cursor.take_events(), cursor.take_routers(nodes))

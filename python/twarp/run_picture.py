@@ -5,16 +5,13 @@ from dataclasses import dataclass
 from itertools import chain
 from xml.etree.ElementTree import Element
 
-from twarp.axis import TimeAxis, fit
-from twarp.case import Case
+from twarp.case import Case, Nodes, write_path
 from twarp.event import Allow, Event, Fail, Forbid, Restore, Start, Swap
-from twarp.lanes import TOP, Lanes, Sample, View, draw_legend
-from twarp.lanes import sample_box, sample_circle, sample_line, sample_path, sample_square
-from twarp.lines import Nodes, write_path
-from twarp.palette import PLACES, place_of
-from twarp.report import Oscillates, Quiet, Report
 from twarp.following import Change, Fate, Message, Run
-from twarp.svg import Picture, add, clipped
+from twarp.lanes import TOP, Lanes, Sample, TimeAxis, View, draw_legend, fit, sample_box, sample_circle, sample_line
+from twarp.lanes import sample_path, sample_square
+from twarp.report import Oscillates, Quiet, Report
+from twarp.svg import PLACES, Picture, add, clipped, place_of
 
 # Beyond so many events of the scenario what happens to a link or a path stands in tooltips alone.
 MOST_NOTES = 16
@@ -82,12 +79,12 @@ class Bans:
         self.all: list[Bar] = []
         # The level at which each event that forbids or allows is drawn.
         self.levels: dict[Event, int] = {}
-        # For each router the paths forbidden now, by their levels, each with the time from which on it is.
-        self.now: dict[int, dict[int, tuple[Nodes, int]]] = {}
+        # For each router the paths forbidden now, each with its level and the time from which on it is.
+        self.now: dict[int, dict[Nodes, tuple[int, int]]] = {}
         for scene in run.scenes:
             self.take(scene)
         for router, row in self.now.items():
-            self.all += [Bar(router, path, start, None, level) for level, (path, start) in row.items()]
+            self.all += [Bar(router, path, start, None, level) for path, (level, start) in row.items()]
 
     def path(self, scene: Event) -> Nodes:
         """The path that an event forbids or allows."""
@@ -98,15 +95,14 @@ class Bans:
         if not isinstance(scene.body, (Forbid, Allow)):
             return
         path, row = self.path(scene), self.now.setdefault(scene.dst, {})
-        level = next((level for level, (known, _) in row.items() if known == path), None)
-        if level is None:
-            self.levels[scene] = next(level for level in range(len(row) + 1) if level not in row)
-            if isinstance(scene.body, Forbid):
-                row[self.levels[scene]] = path, scene.time
-            return
+        taken = {level for level, _ in row.values()}
+        free = min({*range(len(row) + 1)} - taken)
+        level, start = row.get(path, (free, scene.time))
         self.levels[scene] = level
-        if isinstance(scene.body, Allow):
-            _, start = row.pop(level)
+        if isinstance(scene.body, Forbid):
+            row[path] = level, start
+        elif path in row:
+            del row[path]
             self.all.append(Bar(scene.dst, path, start, scene.time, level))
 
 

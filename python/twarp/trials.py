@@ -18,8 +18,8 @@ from twarp.case import Case
 from twarp.draws import Source
 from twarp.errors import Refused, Stopped
 from twarp.policy import Ribs
+from twarp.protocol import reached, unstable_routers
 from twarp.report import Open, Oscillates, Quiet, Report, Verdict, read_report
-from twarp.standing import reached, unstable_routers
 
 # How long, in seconds, a batch should take, and how many runs it has at most.
 BATCH_TIME = 0.25
@@ -168,10 +168,9 @@ class Plan:
         if not (self.is_checked and isinstance(report.verdict, Quiet)):
             return None
         try:
-            unstable = next(unstable_routers(reached(case, report)), None)
+            return next(unstable_routers(reached(case, report)), None)
         except Refused as fault:
             return str(fault)
-        return str(unstable) if unstable else None
 
     def batch(self, seeds: Sequence[int]) -> tuple[list[Trial], float]:
         """The runs with these seeds, up to where the sweep is stopped, and how many seconds they took."""
@@ -263,11 +262,8 @@ class Given:
     end = stop
 
 
-@lru_cache(1)
-def plan_of(pickled: bytes) -> Plan:
-    """The plan that was sent to a worker, which gets it with each batch and so need not keep it."""
-    plan: Plan = pickle.loads(pickled)
-    return plan
+# The plan that was sent to a worker, which gets it with each batch and so need not keep it.
+plan_of: Callable[[bytes], Plan] = lru_cache(1)(pickle.loads)
 
 
 def batch_of(pickled: bytes, seeds: Sequence[int]) -> tuple[list[Trial], float]:

@@ -5,7 +5,6 @@ import argparse
 import enum
 import os
 import re
-import stat
 import sys
 from collections.abc import Callable, Mapping
 from dataclasses import dataclass
@@ -13,8 +12,7 @@ from pathlib import Path
 from typing import Any, NoReturn, TypeVar
 
 from twarp.case import MOST_BYTES
-from twarp.errors import Refused, Stopped
-from twarp.lines import MOST_QUOTED, quote
+from twarp.errors import MOST_QUOTED, Refused, Stopped, quote
 
 Value = TypeVar("Value")
 
@@ -130,27 +128,21 @@ class Input:
             raise fault if is_option else Refused(f"{self.name}: {fault}") from None
 
 
-def is_file_of(descriptor: int, file: str) -> bool:
-    """Whether a descriptor is open on this very file, and it is one that is written over."""
-    try:
-        found, opened = os.stat(file), os.fstat(descriptor)
-    except OSError:
-        return False
-    return stat.S_ISREG(found.st_mode) and os.path.samestat(found, opened)
-
-
 def refuse_own_input(option: str, output: str | None, source: str) -> None:
     """Refuses a file to be written that is the input, which would be lost, or that standard output goes to."""
     if output is None:
         return
-    is_given = source == "-"
-    if is_file_of(STANDARD_INPUT, output) if is_given else is_same_file(source, output):
+    # Of what a descriptor is open on, a terminal or a device is not written over.
+    is_written_over = os.path.isfile(output)
+    is_input = is_same_file(STANDARD_INPUT if source == "-" else source, output)
+    if is_input and (is_written_over or source != "-"):
         raise Refused(f"refused option {option}: {output} is the input")
-    if is_file_of(STANDARD_OUTPUT, output):
+    if is_same_file(STANDARD_OUTPUT, output) and is_written_over:
         raise Refused(f"refused option {option}: {output} is where standard output goes")
 
 
-def is_same_file(one: str, other: str) -> bool:
+def is_same_file(one: str | int, other: str) -> bool:
+    """Whether a file, or what a descriptor is open on, is this very file."""
     try:
         return os.path.samefile(one, other)
     except OSError:

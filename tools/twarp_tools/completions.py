@@ -16,9 +16,7 @@ def flag_names(flags: list[Flag]) -> list[str]:
 
 def bash(manual: Manual) -> str:
     valued = {name for page in manual.commands.values() for flag in page.flags if flag.value for name in flag.names}
-    cases = [
-        f"    {name}) words='{' '.join(flag_names(page.flags))}' ;;\n" for name, page in manual.commands.items()
-    ]
+    cases = [f"    {name}) words='{' '.join(flag_names(page.flags))}' ;;\n" for name, page in manual.commands.items()]
     # What follows one of these is a number.
     numbers = [f"    {'|'.join(sorted(valued))})\n        compopt +o default 2>/dev/null\n        return ;;\n"] if valued else []
     function = function_of(manual)

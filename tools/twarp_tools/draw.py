@@ -5,9 +5,8 @@ import argparse
 from twarp import pictures
 from twarp.case import MOST_PATHS, MOST_ROUTERS, read_case
 from twarp.report import read_report
-from twarp_tools.all_timings import add_policy, check_policy, safety_of
 from twarp_tools.command import MOST_OF_REPORT, Input, Parser, number_between, title_of, write_output
-from twarp_tools.part import add_names, names_of
+from twarp_tools.part import add_names, add_policy, check_policy, names_of, safety_of
 
 DESCRIPTION = """\
 Draws a case as Graphviz text on standard output; dot -Tsvg makes the picture. Each router is a box with its permitted

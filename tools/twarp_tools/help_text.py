@@ -2,7 +2,6 @@
 
 import re
 import subprocess
-from collections.abc import Iterator
 from dataclasses import dataclass, field
 from pathlib import Path
 
@@ -10,7 +9,8 @@ from twarp.errors import Refused
 
 A_FLAG = re.compile(r"\s{2,6}(?:(-\w), )?(--[\w-]+)(?: <(\w+)>)?(?:\s{2,}(\S.*))?")
 AN_ENTRY = re.compile(r"  (\S+)\s+(\S.*)")
-A_SECTION = re.compile(r"(\w[\w ]*):")
+# A section begins with a line at the margin that ends with a colon.
+A_SECTION = re.compile(r"^(\w[\w ]*):$", re.M)
 
 
 @dataclass
@@ -52,28 +52,15 @@ def read_help(text: str) -> Help:
     about, found, rest = text.partition("\nUsage: ")
     if not found:
         raise Refused("refused: the help has no line of usage")
-    usage, *lines = rest.splitlines()
-    sections = dict(sections_of(lines))
+    usage, *parts = A_SECTION.split(rest)
+    sections = {name: body.splitlines() for name, body in zip(parts[::2], parts[1::2])}
     return Help(
         about.strip("\n").splitlines(),
-        usage,
+        usage.partition("\n")[0],
         entries_of(sections.get("Commands", [])),
         flags_of(sections.get("Options", [])),
         entries_of(sections.get("Exit status", [])),
     )
-
-
-def sections_of(lines: list[str]) -> Iterator[tuple[str, list[str]]]:
-    """Sections with their lines; a section begins with a line at the margin that ends with a colon."""
-    name, body = "", []
-    for line in lines:
-        found = A_SECTION.fullmatch(line)
-        if found:
-            yield name, body
-            name, body = found[1], []
-        else:
-            body.append(line)
-    yield name, body
 
 
 def entries_of(lines: list[str]) -> dict[str, str]:

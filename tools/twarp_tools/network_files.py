@@ -10,8 +10,7 @@ from collections.abc import Iterator, Mapping
 from typing import Any
 from xml.etree.ElementTree import Element
 
-from twarp.errors import Refused, Stopped
-from twarp.lines import MOST_QUOTED, quote
+from twarp.errors import MOST_QUOTED, Refused, Stopped, quote
 from twarp_tools.network import Network, NetworkLink, Node
 
 MISSING = f"""\
@@ -44,7 +43,8 @@ def read_network(text: bytes) -> Network:
         import networkx
     except ImportError:
         raise Stopped(MISSING) from None
-    is_xml = text.removeprefix(BYTE_ORDER_MARK).lstrip().startswith(b"<") or is_wide_xml(text)
+    is_xml = text.removeprefix(BYTE_ORDER_MARK).lstrip().startswith(b"<")
+    is_xml |= text.startswith(WIDE) and b"<" in text[:4]
     try:
         with warnings.catch_warnings():
             # What is not known to networkx is nothing that a case has.
@@ -57,10 +57,6 @@ def read_network(text: bytes) -> Network:
     except FAULTS as fault:
         raise refused_by_networkx(f"{type(fault).__name__}: {fault}") from None
     return network_of(graph)
-
-
-def is_wide_xml(text: bytes) -> bool:
-    return text.startswith(WIDE) and b"<" in text[:4]
 
 
 def refused_by_networkx(words: str) -> Refused:

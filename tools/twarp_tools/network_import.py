@@ -8,15 +8,13 @@ from pathlib import Path
 from typing import BinaryIO
 
 from twarp.case import MOST_NODES, MOST_PATHS, MOST_ROUTERS, Case, Link
-from twarp.errors import Refused
+from twarp.errors import Refused, quote
 from twarp.hops import hops_from
-from twarp.lines import quote
 from twarp_tools.command import Parser, number_between, refuse_own_input, tell_counts, write_output
-from twarp_tools.measures import DISTANCES, KM_PER_TICK, WEIGHTS, Joined, Measured
-from twarp_tools.network import Network
+from twarp_tools.network import DISTANCES, KM_PER_TICK, WEIGHTS, Joined, Measured, Network
 from twarp_tools.network_files import read_network
 from twarp_tools.packed import add_size_limit, read_stream, read_within
-from twarp_tools.shortest import Shortest
+from twarp_tools.permitted_paths import Shortest
 
 # MiB of an input, unpacked: as many nodes and links as a case has take less, with all that yEd tells of them.
 MOST_UNPACKED = 8
@@ -89,10 +87,6 @@ def links_of(rows: Rows) -> Iterator[Link]:
         yield Link(a, b, there.delay, back.delay)
 
 
-def count_one_way(rows: Rows) -> int:
-    return sum(a not in rows[b] for a, row in enumerate(rows) for b in row)
-
-
 def weights_toward(rows: Rows) -> list[dict[int, Fraction]]:
     """For each router those from which a link leads to it, each with the link's weight."""
     weights: list[dict[int, Fraction]] = [{} for _ in rows]
@@ -104,11 +98,12 @@ def weights_toward(rows: Rows) -> list[dict[int, Fraction]]:
 
 def tell_cuts(joined: Joined, rows: Rows, shortest: Shortest, line: argparse.Namespace) -> None:
     """Says on standard error what of the network is not in the case, or is there with a delay of its own."""
+    one_way = sum(a not in rows[b] for a, row in enumerate(rows) for b in row)
     counts = {
         "nodes left out that no path leads from": len(joined.rows) - len(rows),
         "links left out because their ends are one node": joined.loops,
         "links left out because their ends have a lighter or equal one": joined.parallel,
-        "links that lead in one direction alone, and have its delay in both": count_one_way(rows),
+        "links that lead in one direction alone, and have its delay in both": one_way,
         "links with the delay 1, because they have no value for it": joined.unmeasured,
         f"routers with paths left out because each has at most {line.paths}": len(shortest.crowded),
         f"routers with paths left out because these have more than {MOST_NODES} nodes": len(shortest.too_long),
@@ -137,7 +132,7 @@ def main() -> None:
     numbers = {node: router for router, node in enumerate(routers)}
     rows = [{numbers[peer]: one for peer, one in joined.rows[node].items() if peer in numbers} for node in routers]
     shortest = Shortest(weights_toward(rows), line.paths)
-    paths = [path for router in range(1, len(rows)) for path in shortest.paths(router)]
+    paths = [path for row in shortest.rows[1:] for path in row]
     tell_cuts(joined, rows, shortest, line)
     if line.map:
         Path(line.map).write_text(names_of(joined.network, routers), encoding="utf-8")

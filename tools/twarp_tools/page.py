@@ -9,21 +9,18 @@ from string import Template
 from xml.etree import ElementTree
 from xml.etree.ElementTree import Element
 
-from twarp.axis import DIGIT_WIDTH, FOLD_WIDTH, TimeAxis
 from twarp.case import Case
 from twarp.event import Event
 from twarp.following import Run, follow
-from twarp.lanes import TOP, View, refuse_crowd, sample_circle, sample_line
-from twarp.palette import DARK, LIGHT, PLACES
+from twarp.lanes import DIGIT_WIDTH, FOLD_WIDTH, TOP, TimeAxis, View, refuse_crowd, sample_circle, sample_line
 from twarp.pictures import subtitle_of, view_of_run
 from twarp.policy import Safety
 from twarp.report import Report
 from twarp.run_picture import LETTER_WIDTH, Bar, RunPicture
-from twarp.svg import DEFINITIONS, STYLE, add, attribute
-from twarp_tools.all_timings import add_policy, check_policy, safety_json, safety_of
+from twarp.svg import DARK, DEFINITIONS, LIGHT, PLACES, STYLE, add, attribute
 from twarp_tools.command import MOST_OF_REPORT, Input, title_of, write_output
-from twarp_tools.network_drawing import NetworkDrawing
-from twarp_tools.part import parser_of, part_of, read_run
+from twarp_tools.layout import NetworkDrawing
+from twarp_tools.part import add_policy, check_policy, parser_of, part_of, read_run, safety_of
 from twarp_tools.recording import Json, Recording
 
 DESCRIPTION = """\
@@ -127,10 +124,9 @@ class Page:
     def json(self) -> Json:
         """What the script has to know."""
         safety = self.safety
-        policy = {"policy": safety_json(safety, self.recording.paths, self.view.routers)} if safety else {}
         return {
             **self.network.json(),
-            **policy,
+            **({"policy": self.policy_json(safety)} if safety else {}),
             "stops": self.stops,
             "axis": self.picture.axis_json(),
             "xs": [round(self.picture.axis.x(time), 1) for time in self.stops],
@@ -139,6 +135,15 @@ class Page:
             "routers": list(self.routers()),
             "messages": self.messages,
             "events": self.recording.events,
+        }
+
+    def policy_json(self, safety: Safety) -> Json:
+        """What holds for all timings: of the routers in view, with paths by their numbers, and steps between them."""
+        paths, routers, shown = self.recording.paths, self.view.routers, self.view.shown
+        steps = {"rim": safety.rim_hops, "spokes": safety.spoke_hops}
+        return {
+            "left": [[paths[path] for path in safety.left[router]] for router in routers],
+            **{name: [hop for hop in hops if shown.issuperset(hop)] for name, hops in steps.items()},
         }
 
     def routers(self) -> Iterator[Json]:

@@ -1,12 +1,12 @@
-"""Which part of a run, or of a replay, is to be shown, and its routers' names, as `relationships --map` writes them."""
+"""What the drawing tools are asked to show: a part of a run or a replay, names of routers, what twarp-policy says."""
 
 import argparse
 import re
 from typing import Any
 
-from twarp.case import GREATEST_TIME, MOST_ROUTERS, Case, read_case
+from twarp.case import GREATEST_TIME, MOST_ROUTERS, Case, lines_of, read_case
 from twarp.errors import Refused
-from twarp.lines import lines_of
+from twarp.policy import Safety, read_safety, safe, standing
 from twarp.report import Report, read_report
 from twarp_tools.command import Input, Parser, number_between
 
@@ -49,12 +49,8 @@ def read_routers(words: str) -> list[int]:
     return list(routers)
 
 
-def command_line(description: str, example: str, case: str = "the case", unit: str = "") -> argparse.Namespace:
-    """A case, its report and a part of it, with names; `unit` says what else than times is counted."""
-    return parser_of(description, example, case, unit).parse_pair()
-
-
 def parser_of(description: str, example: str, case: str = "the case", unit: str = "") -> Parser:
+    """Of a case, its report and a part of it, with names; `unit` says what else than times is counted."""
     parser = Parser(description, example)
     parser.add_argument("case", metavar="CASE", help=f"{case}; - is standard input")
     parser.add_argument("report", metavar="REPORT", nargs="?", default="-", help="the report; else standard input")
@@ -75,3 +71,30 @@ def read_run(case_text: Input, report_text: Input) -> tuple[Case, Report]:
 def part_of(line: argparse.Namespace) -> dict[str, Any]:
     """What the line asks to see, as the functions of twarp.pictures take it."""
     return {"first": line.first, "last": line.last, "routers": line.routers, "names": names_of(line.names)}
+
+
+def add_policy(parser: Parser, shown: str) -> None:
+    """Adds the options that say where what twarp-policy says comes from; `shown` says what is made of it."""
+    told = f"what `twarp-policy safe` wrote of the case: show {shown}; - is standard input"
+    parser.option("--policy", "FILE", told)
+    asked = "show the same, as twarp-policy tells ($TWARP_POLICY, or beside twarp)"
+    parser.add_argument("--ask-policy", action="store_true", help=asked)
+
+
+def check_policy(parser: Parser, line: argparse.Namespace) -> bool:
+    """Whether the line asks for it, in one way alone."""
+    if line.policy and line.ask_policy:
+        parser.error("--policy and --ask-policy ask for the same")
+    return bool(line.policy or line.ask_policy)
+
+
+def safety_of(line: argparse.Namespace, case: Case) -> Safety:
+    """What holds of the case for all timings; refused where that is told of another case."""
+    if line.policy:
+        return Input.of(line.policy).read(lambda text: checked(case, read_safety(text, case.nodes)))
+    return checked(case, safe(case))
+
+
+def checked(case: Case, safety: Safety) -> Safety:
+    standing(case, safety)
+    return safety

@@ -3,11 +3,10 @@
 from collections.abc import Sequence
 from typing import Any
 
-from twarp.case import Case
+from twarp.case import Case, write_path
 from twarp.event import Allow, Event, Fail, Forbid, Restore, Swap, Update
 from twarp.following import Fate, Message, Run
 from twarp.lanes import View
-from twarp.lines import write_path
 from twarp.protocol import Router
 
 # What a page's script reads.

@@ -2,19 +2,19 @@
 
 import argparse
 from collections.abc import Iterable, Iterator, Sequence
+from functools import partial
 from graphlib import CycleError, TopologicalSorter
 from pathlib import Path
 
-from twarp.case import GREATEST_DELAY, GREATEST_TIME, MOST_LINKS, MOST_NODES, MOST_PATHS, MOST_ROUTERS
-from twarp.case import MOST_SCENES, Case, Link, LinkScene
+from twarp.case import GREATEST_DELAY, GREATEST_TIME, MOST_LINKS, MOST_NODES, MOST_PATHS, MOST_ROUTERS, MOST_SCENES
+from twarp.case import Case, Link, LinkScene
 from twarp.draws import Uniform, read_range, share
 from twarp.errors import Refused
 from twarp_tools.command import Parser, number_between, refuse_own_input, tell, tell_counts, write_output
-from twarp_tools.ordering import near_order
 from twarp_tools.packed import add_size_limit, lines_within, read_stream
-from twarp_tools.policy import Permitted
-from twarp_tools.sampling import cone_of, core_around, within
-from twarp_tools.topology import GREATEST_AS, Growth, Neighbours, Role, Topology, read_relationships
+from twarp_tools.permitted_paths import Permitted
+from twarp_tools.topology import GREATEST_AS, Growth, Neighbours, Role, Topology, cone_of, core_around, near_order
+from twarp_tools.topology import read_relationships, within
 
 # MiB of an input, unpacked: the relationships of the whole Internet are some 15.
 MOST_UNPACKED = 32
@@ -49,17 +49,14 @@ def command_line(words: Sequence[str] | None = None) -> argparse.Namespace:
     near = "number routers as they are taken, or such that neighbours are near in number"
     parser.option("--order", "taken|near", near, default="taken", choices=["taken", "near"])
     parser.option("--paths", "N", "permit at most N paths at a router", number_between(1, MOST_PATHS), 20)
-    parser.option("--delays", "LOW-HIGH", "draw the delays of links from this range", read_delays, "1-10")
+    delays = partial(read_range, least=1, greatest=GREATEST_DELAY)
+    parser.option("--delays", "LOW-HIGH", "draw the delays of links from this range", delays, "1-10")
     parser.option("--seed", "N", "draw ASes, delays and failures by this number", number_between(0, GREATEST_TIME), 1)
     parser.option("--failures", "N", "let N links fail and be repaired", number_between(0, MOST_SCENES // 2), 0)
     parser.option("--until", "TIME", "repair no link later than this", number_between(2, GREATEST_TIME), 1000)
     add_size_limit(parser, MOST_UNPACKED)
     parser.option("--map", "FILE", "write the number and the AS number of each router into this file")
     return parser.parse_args(words)
-
-
-def read_delays(words: str) -> Uniform:
-    return read_range(words, 1, GREATEST_DELAY)
 
 
 def delay_of(link: tuple[int, int], numbers: list[int], line: argparse.Namespace) -> int:

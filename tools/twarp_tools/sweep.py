@@ -2,34 +2,27 @@
 
 import argparse
 import contextlib
-import fcntl
 import hashlib
-import json
-import os
 import platform
 import re
 import shlex
 import signal
 import sys
 import threading
-from collections.abc import Callable, Iterable, Iterator, Mapping, Sequence
-from pathlib import Path
-from typing import Literal, TextIO
+from collections.abc import Callable, Iterator, Sequence
 
 from twarp import program
 from twarp.calls import version
 from twarp.case import GREATEST_TIME, MOST_ROUTERS, read_case
 from twarp.draws import CaseSource, Draw, Ends, Source, case_source, read_law, read_times
 from twarp.errors import Refused, Stopped
-from twarp.outcome_picture import OutcomePicture
-from twarp.outcomes import Outcomes, Table, read_table
+from twarp.outcomes import Outcomes, Table
 from twarp.policy import Ribs
-from twarp.resting import AtRest, Policy
-from twarp.sweeps import cluster
+from twarp.sweeps import AtRest, Policy, cluster
 from twarp.trials import Batches, Failed, Given, Local, Plan, Trial, processors
+from twarp_tools.command import Input, Parser, number_between, tell, title_of, write_output
+from twarp_tools.sweep_outputs import Outputs, Progress, read_csv
 from twarp_tools import relationships
-from twarp_tools.command import Input, Parser, is_same_file, number_between, refuse_own_input, tell, title_of, write_output
-from twarp_tools.progress import Progress
 
 MOST_RUNS = 1_000_000
 MOST_JOBS = 1_024
@@ -226,121 +219,6 @@ def interruption() -> Iterator[threading.Event]:
     finally:
         for number, handler in before.items():
             signal.signal(number, handler)
-
-
-def refuse_clashes(names: Mapping[str, str], inputs: Iterable[str]) -> None:
-    """Refuses, of options with the files that they name to be written, one that names an input or another's file."""
-    seen: list[str] = []
-    for option, name in names.items():
-        for source in inputs:
-            refuse_own_input(option, name, source)
-        if any(os.path.realpath(name) == os.path.realpath(other) or is_same_file(name, other) for other in seen):
-            raise Refused(f"refused option {option}: {name} is another output")
-        seen.append(name)
-
-
-def open_alone(name: str, mode: Literal["a", "a+"]) -> TextIO:
-    """Opens a file to be written; refused where another sweep writes into it."""
-    file = open(name, mode, newline="", errors="replace")
-    try:
-        if os.path.isfile(name):
-            fcntl.flock(file, fcntl.LOCK_EX | fcntl.LOCK_NB)
-    except BlockingIOError:
-        raise Refused(f"{name}: refused: another sweep writes into it") from None
-    except OSError:
-        # Not every file system has locks.
-        pass
-    return file
-
-
-def open_new(name: str) -> TextIO:
-    """Opens a file to be written from its beginning on."""
-    file = open_alone(name, "a")
-    if os.path.isfile(name):
-        file.truncate(0)
-    return file
-
-
-class Outputs:
-    """What a sweep writes. The files are opened before the first run, and the lines of the CSV written as runs end."""
-
-    def __init__(self, line: argparse.Namespace, table: Table, inputs: Iterable[str]):
-        self.line = line
-        self.table = table
-        # Else standard output may have to hold something in place of these lines, or them in another order.
-        self.is_handed_on = not (line.check or line.resume)
-        names = {"--resume": line.resume, "--csv": line.csv, "--json": line.json, "--picture": line.picture}
-        names = {option: name for option, name in names.items() if name}
-        refuse_clashes(names, inputs)
-        # The lines for standard output that are not written yet, and the runs that the resumed CSV has.
-        self.lines = [] if line.summary else [table.head_line]
-        self.known: list[Trial] = []
-        resumed = self.resume(names.pop("--resume")) if line.resume else None
-        self.files = {option: open_new(name) for option, name in names.items()}
-        self.csv = resumed or self.files.get("--csv")
-        if "--csv" in self.files:
-            self.files["--csv"].write(table.head_line)
-        for trial in self.known:
-            self.take(trial, is_new=False)
-
-    def resume(self, name: str) -> TextIO:
-        """The CSV to go on with, behind its last whole line; refused where it is not of the same case and options."""
-        file = open_alone(name, "a+")
-        if not file.tell():
-            file.write(self.table.head_line)
-            return file
-        file.seek(0)
-        found, self.known = read_csv(name, file, is_cut=True)
-        if found.head != self.table.head:
-            made, wanted = found.head[-1][:200], self.table.head[-1]
-            raise Refused(f"{name}: refused line 1: it is of `{made}`, this one of `{wanted}`")
-        # A line that was broken off is run again.
-        file.truncate(Path(name).read_bytes().rfind(b"\n") + 1)
-        file.seek(0, os.SEEK_END)
-        return file
-
-    def take(self, trial: Trial, is_new: bool = True) -> None:
-        """Counts a run and writes its line, of one that is in the resumed CSV already only on standard output."""
-        text = self.table.line(trial)
-        if self.csv and is_new:
-            self.csv.write(text)
-        if not self.line.summary:
-            self.lines.append(text)
-
-    def flush(self) -> None:
-        if self.csv:
-            self.csv.flush()
-        if self.is_handed_on:
-            write_output("".join(self.lines))
-            self.lines.clear()
-
-    def put_in_order(self) -> None:
-        """Writes the resumed CSV, whose lines stand out of turn, anew in the order of their seeds."""
-        with open(self.line.resume, newline="") as source:
-            _, trials = read_table(source)
-        self.table = Table(self.table.columns, self.table.head[-1], self.table.outcomes.anew())
-        lines = [self.table.head_line, *map(self.table.line, sorted(trials, key=lambda trial: trial.seed))]
-        Path(f"{self.line.resume}.new").write_text("".join(lines))
-        os.replace(f"{self.line.resume}.new", self.line.resume)
-        self.lines = [] if self.line.summary else lines
-
-    def end(self, title: str, drawn: str, told: Mapping[str, object]) -> None:
-        """Writes what is told of all runs together."""
-        outcomes = self.table.outcomes
-        if file := self.files.get("--picture"):
-            file.write(OutcomePicture(outcomes).draw(title, drawn))
-        if file := self.files.get("--json"):
-            file.write(json.dumps({**told, **outcomes.record()}, indent=1) + "\n")
-        for file in self.files.values():
-            file.flush()
-        write_output(outcomes.summary() if self.line.summary else "".join(self.lines))
-
-
-def read_csv(name: str, source: TextIO, is_cut: bool = False) -> tuple[Table, list[Trial]]:
-    try:
-        return read_table(source, is_cut)
-    except Refused as fault:
-        raise Refused(f"{name}: {fault}") from None
 
 
 def run_all(line: argparse.Namespace, plan: Plan, batches: Batches, outputs: Outputs, done: int) -> int:

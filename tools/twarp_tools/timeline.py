@@ -5,7 +5,7 @@ from typing import Any
 from twarp import pictures
 from twarp.report import is_replay, read_case_and_steps, read_replay
 from twarp_tools.command import MOST_OF_REPORT, Input, title_of, write_output
-from twarp_tools.part import command_line, part_of, read_run
+from twarp_tools.part import parser_of, part_of, read_run
 
 DESCRIPTION = """\
 Draws the run of a case as an SVG picture on standard output: a lane for each router, bars for the paths that it uses,
@@ -28,7 +28,7 @@ def draw_replay(case_text: Input, replay_text: Input, how: dict[str, Any]) -> st
 
 
 def main() -> None:
-    line = command_line(DESCRIPTION, EXAMPLE, "the case, or what was replayed", " (of a replay: steps)")
+    line = parser_of(DESCRIPTION, EXAMPLE, "the case, or what was replayed", " (of a replay: steps)").parse_pair()
     case_text, report_text = Input.of(line.case), Input.of(line.report, MOST_OF_REPORT)
     draw = draw_replay if is_replay(report_text.text) else draw_run
     write_output(draw(case_text, report_text, part_of(line) | {"title": title_of(line.title, line.case, "run")}))

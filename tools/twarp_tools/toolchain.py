@@ -89,11 +89,6 @@ def begin(words: list[str], **how: object) -> subprocess.Popen[bytes]:
     return subprocess.Popen(words, preexec_fn=let_signals_in, **how)
 
 
-def end(child: subprocess.Popen[bytes]) -> None:
-    if child.poll() is None:
-        child.terminate()
-
-
 @contextlib.contextmanager
 def started(words: list[str], cwd: Path = TWARP.folder, **how: object) -> Iterator[subprocess.Popen[bytes]]:
     """A command in a crate, or else in that of twarp. It is ended where this script is, by INT, TERM or HUP too."""
@@ -101,5 +96,5 @@ def started(words: list[str], cwd: Path = TWARP.folder, **how: object) -> Iterat
     with contextlib.ExitStack() as ends:
         with signals_held_back():
             child = ends.enter_context(begin(words, cwd=cwd, **how))
-            ends.callback(end, child)
+            ends.callback(child.terminate)
         yield child

@@ -1,4 +1,4 @@
-"""AS relationships, and the part of them that is taken for a case."""
+"""AS relationships, the part of them that is taken for a case, and how its routers are numbered."""
 from __future__ import annotations
 
 import enum
@@ -6,12 +6,12 @@ import heapq
 import re
 from array import array
 from collections import defaultdict
-from collections.abc import Callable, Iterable, Sequence
+from collections.abc import Callable, Collection, Container, Iterable, Sequence
 from dataclasses import dataclass, field
 
-from twarp.case import MOST_LINKS, MOST_NODES
-from twarp.errors import Refused
-from twarp.lines import quote
+from twarp.case import MOST_LINKS, MOST_NODES, ORIGIN
+from twarp.errors import Refused, quote
+from twarp.hops import hops_from
 
 GREATEST_AS = 4_294_967_295
 AN_AS = re.compile("[0-9]{1,10}")
@@ -71,6 +71,80 @@ def refuse_other(number: int, line: bytes) -> None:
     raise Refused.at_line(number, f"AS {int(fields[0])} is its own neighbour")
 
 
+def within(neighbours: Neighbours, kept: Container[int]) -> Neighbours:
+    """The relationships between the ASes that are kept."""
+    return {
+        number: {peer: role for peer, role in row.items() if peer in kept}
+        for number, row in neighbours.items()
+        if number in kept
+    }
+
+
+def coreness(neighbours: Neighbours) -> dict[int, int]:
+    """For each AS the greatest k of whose k-core it is: of the largest part in which each has at least k neighbours.
+
+    S. B. Seidman: Network structure and minimum degree, Social Networks 5, 1983. The AS with the fewest neighbours left
+    is taken away again and again (V. Batagelj, M. Zaveršnik: An O(m) algorithm for cores decomposition of networks,
+    2003).
+    """
+    left = {number: len(row) for number, row in neighbours.items()}
+    waiting: list[list[int]] = [[] for _ in range(max(left.values(), default=0) + 1)]
+    for number, count in left.items():
+        waiting[count].append(number)
+    found: dict[int, int] = {}
+    least = 0
+    while least < len(waiting):
+        if not waiting[least]:
+            least += 1
+            continue
+        number = waiting[least].pop()
+        # One that lost neighbours stands with its earlier count too.
+        if number in found:
+            continue
+        found[number] = least
+        for peer in neighbours[number]:
+            if peer not in found and left[peer] > least:
+                left[peer] -= 1
+                waiting[left[peer]].append(peer)
+    return found
+
+
+def in_role(row: dict[int, Role], wanted: Role) -> list[int]:
+    return [peer for peer, role in row.items() if role is wanted]
+
+
+def above(neighbours: Neighbours, number: int, kept: Container[int]) -> set[int]:
+    """The AS, its providers, theirs, and so on, up to those that are kept anyway."""
+    return {*hops_from(number, lambda now: () if now in kept else in_role(neighbours[now], Role.PROVIDER))}
+
+
+def core_around(neighbours: Neighbours, destination: int, most: int) -> tuple[int, set[int]]:
+    """The k-core that is the largest of at most so many ASes, with the destination and the providers above it.
+
+    Where each is larger it is the one with the greatest k.
+    """
+    cores = coreness(neighbours)
+    greatest = max(cores.values())
+    k, part = greatest, set[int]()
+    for least in range(greatest, -1, -1):
+        core = {number for number, core in cores.items() if core >= least}
+        core |= above(neighbours, destination, core)
+        if part and len(core) > most:
+            break
+        if len(core) > len(part):
+            k, part = least, core
+    return k, part
+
+
+def cone_of(neighbours: Neighbours, top: int) -> set[int]:
+    """The AS, its customers, theirs, and so on.
+
+    M. Luckie, B. Huffaker, A. Dhamdhere, V. Giotsas, kc claffy: AS relationships, customer cones, and validation,
+    Internet Measurement Conference, 2013.
+    """
+    return {*hops_from(top, lambda now: in_role(neighbours[now], Role.CUSTOMER))}
+
+
 @dataclass
 class Topology:
     """The ASes taken, by router, with the links between them and what the two ends of each are to each other."""
@@ -86,19 +160,9 @@ class Topology:
     def links(self) -> list[tuple[int, int]]:
         return [(a, b) for a, row in enumerate(self.roles) for b in sorted(row) if a < b]
 
-    def in_order(self, order: Sequence[int]) -> Topology:
-        """The same, with the routers numbered as they stand in the order."""
-        routers = {router: number for number, router in enumerate(order)}
-        rows = ({routers[peer]: role for peer, role in self.roles[router].items()} for router in order)
-        return Topology([self.numbers[router] for router in order], [*rows])
-
 
 # At which place a path is looked at, by its hops and its last link's two ASes: the least comes first.
 Place = Callable[[int, int, int], float]
-
-
-def nearest_first(hops: int, _number: int, _peer: int) -> float:
-    return hops
 
 
 class Growth:
@@ -108,7 +172,7 @@ class Growth:
     customers: that is, as its shortest path without a valley.
     """
 
-    def __init__(self, neighbours: Neighbours, destination: int, most: int, place: Place = nearest_first):
+    def __init__(self, neighbours: Neighbours, destination: int, most: int, place: Place = lambda hops, *_: hops):
         self.neighbours = neighbours
         self.place = place
         self.topology = Topology()
@@ -160,10 +224,40 @@ class Growth:
 
     def renumber(self, order: Sequence[int]) -> None:
         """Numbers the routers as they stand in the order. Nothing is taken after that."""
-        self.topology = self.topology.in_order(order)
+        places = {router: place for place, router in enumerate(order)}
+        rows = [{places[peer]: role for peer, role in self.topology.roles[router].items()} for router in order]
+        self.topology = Topology([self.topology.numbers[router] for router in order], rows)
         self.routers = {number: router for router, number in enumerate(self.topology.numbers)}
 
     def left_out_links(self) -> int:
         """How many links between the ASes taken found no room."""
         known = sum(peer in self.routers for number in self.routers for peer in self.neighbours[number])
         return (known - sum(map(len, self.topology.roles))) // 2
+
+
+def total_distance(neighbours: Sequence[Collection[int]], order: Sequence[int]) -> int:
+    """How far apart the two ends of each link stand in the order, summed over all links."""
+    places = {router: place for place, router in enumerate(order)}
+    return sum(abs(places[a] - places[b]) for a, row in enumerate(neighbours) for b in row if a < b)
+
+
+def near_order(neighbours: Sequence[Collection[int]]) -> list[int]:
+    """The routers with the origin first and neighbours near, or as they stand where that is no nearer.
+
+    Next comes the router after which the fewest links lead from those that have come to the others (A. J. McAllister: A
+    new heuristic algorithm for the linear arrangement problem, University of New Brunswick, TR99-126a, 1999); of
+    equal ones that which has had a neighbour among them longest. All routers have to be connected.
+    """
+    order: list[int] = []
+    come: set[int] = set()
+    # Of each router that is next to one that has come: how many more links will lead on once it comes too.
+    front = {ORIGIN: len(neighbours[ORIGIN])}
+    while front:
+        router = min(front, key=front.__getitem__)
+        del front[router]
+        order.append(router)
+        come.add(router)
+        for peer in sorted(neighbours[router]):
+            if peer not in come:
+                front[peer] = front.get(peer, len(neighbours[peer])) - 2
+    return min(order, [*range(len(neighbours))], key=lambda order: total_distance(neighbours, order))

@@ -21,16 +21,12 @@ ENDED = re.compile(rb"^checked: ended status=\d+\n(?:.*\n)*?run=ended status=(\d
 NO_ANSWER = re.compile(rb"^checked: no-answer: (.*)$", re.M)
 
 
-def reads_input(words: list[str]) -> bool:
-    """Whether the program may read standard input: it doesn't where it is asked for help."""
-    return bool(words) and not {"help", "--help", "-h", "--version", "-V"} & {*words}
-
-
 @contextlib.contextmanager
 def whole_input(words: list[str]) -> Iterator[BinaryIO]:
     """Standard input in a file, since rt reads no terminal and waits two seconds at most for a pipe."""
     with tempfile.TemporaryFile() as file:
-        if reads_input(words):
+        # A program that is asked for help reads none.
+        if words and not {"help", "--help", "-h", "--version", "-V"} & {*words}:
             with open(STANDARD_INPUT, "rb", closefd=False) as source:
                 file.write(source.read(INPUT_LIMIT + 1))
         file.seek(0)

@@ -40,7 +40,7 @@ one_hit p a (suc n) =
       | inr b ↦ (let more = one_hit p (a + 1) n in rw b (omega arith))
     ]
 
-abbrev sum_of : (ℕ → ℕ) → List ℕ → ℕ
+abbrev pub sum_of : (ℕ → ℕ) → List ℕ → ℕ
 sum_of f [] = 0
 sum_of f (v ∷ vs) = f v + sum_of f vs
 
@@ -52,7 +52,7 @@ sum_most : (f g : ℕ → ℕ) → ((v : ℕ) → f v ≤ g v) → (vs : List �
 sum_most f g most [] = omega arith
 sum_most f g most (v ∷ vs) = let here = most v in let more = sum_most f g most vs in omega arith
 
-more_or_same : (f g : ℕ → ℕ) → ((v : ℕ) → f v ≤ g v) → (vs : List ℕ) → (sum_of f vs < sum_of g vs) ⊎ ((v : ℕ) → In v vs → g v ≡ f v)
+pub more_or_same : (f g : ℕ → ℕ) → ((v : ℕ) → f v ≤ g v) → (vs : List ℕ) → (sum_of f vs < sum_of g vs) ⊎ ((v : ℕ) → In v vs → g v ≡ f v)
 more_or_same f g most [] = inr (λ v i. absurd i)
 more_or_same f g most (v ∷ vs) =
     let here = most v in
@@ -86,7 +86,7 @@ sum_few f n (k ∷ ks) =
     let split = sum_split f k ks (range_with_len 0 n) in
     omega arith
 
-paths_few : (net : Net) → sum_of (λ v. length (paths_of net v)) (range_with_len 0 net.nodes) ≤ length (paths net)
+pub paths_few : (net : Net) → sum_of (λ v. length (paths_of net v)) (range_with_len 0 net.nodes) ≤ length (paths net)
 unfolding paths_of
 paths_few net =
     let f : ℕ → List ℕ = λ k. get_or (paths net) k [] in
@@ -104,7 +104,7 @@ map_agree f g [] same = refl
 map_agree f g (v ∷ vs) same = ap (λ x. x ∷ map f vs) (same v (inl refl)) ∙ ap (λ xs. g v ∷ xs) (map_agree f g vs (λ w k. same w (inr k)))
 
 -- a number that is told is that of a path with these nodes
-number_found : (net : Net) (nodes : List ℕ) → ((number_of net nodes).0 == 0) ≡ false → IsPath net (number_of net nodes) × (path net (number_of net nodes) ≡ nodes)
+pub number_found : (net : Net) (nodes : List ℕ) → ((number_of net nodes).0 == 0) ≡ false → IsPath net (number_of net nodes) × (path net (number_of net nodes) ≡ nodes)
 unfolding number_of
 number_found net nodes some = at (find (λ q. same_path (path net q) nodes) (numbers net)) refl where
   at : (o : Option PathNo) → find (λ q. same_path (path net q) nodes) (numbers net) ≡ o → IsPath net (number_of net nodes) × (path net (number_of net nodes) ≡ nodes)
@@ -134,7 +134,7 @@ module _ (net : Net) (net_is : IsNet net) where
       (λ v i. let low = in_range v 0 net.nodes i in sym (get_or-map-range_with_len (next_count net (counts_after net n)) 0 net.nodes v v 0 (omega arith) (omega arith)))
 
   -- a round that changes nothing comes within so many
-  halt_from : (m n : ℕ) → sum_of (λ v. length (paths_of net v)) routers ≤ sum_of (count net net_is n) routers + m
+  pub halt_from : (m n : ℕ) → sum_of (λ v. length (paths_of net v)) routers ≤ sum_of (count net net_is n) routers + m
       → (k : ℕ) × (k ≤ n + m) × (counts_after net (suc k) ≡ counts_after net k)
   halt_from zero n few =
       elim (more_or_same (count net net_is n) (count net net_is (suc n)) (λ v. (grows net net_is n v).0) routers) [

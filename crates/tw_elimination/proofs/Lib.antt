@@ -11,3 +11,5 @@ pub mod Wheels
 pub mod Kept
 pub mod Listing
 pub mod Complete
+pub mod Worklist
+pub mod Settled

@@ -111,13 +111,13 @@ module _ (net : Net) (net_is : IsNet net) where
   abbrev pub count : ℕ → ℕ → ℕ
   count n v = count_of net (counts_after net n) v
 
-  count_past : (n v : ℕ) → net.nodes ≤ v → count n v ≡ 0
+  pub count_past : (n v : ℕ) → net.nodes ≤ v → count n v ≡ 0
   count_past zero v high = let long : length (counts_after net zero) ≡ net.nodes = length-map-range_with_len (λ (w : ℕ). 0) 0 net.nodes in get_or_past (counts_after net zero) v 0 (omega arith)
   count_past (suc n) v high =
       let long : length (counts_after net (suc n)) ≡ net.nodes = length-map-range_with_len (next_count net (counts_after net n)) 0 net.nodes in
       get_or_past (counts_after net (suc n)) v 0 (omega arith)
 
-  count_first : (v : ℕ) → count 0 v ≡ 0
+  pub count_first : (v : ℕ) → count 0 v ≡ 0
   count_first v =
       elim (cases_lt v net.nodes) [
         | inl low ↦ get_or-map-range_with_len (λ w. 0) 0 net.nodes v v 0 low (omega arith)
@@ -125,7 +125,7 @@ module _ (net : Net) (net_is : IsNet net) where
       ]
 
   -- in a round a router puts one path at most
-  step : (n v : ℕ) → (count (suc n) v ≡ count n v)
+  pub step : (n v : ℕ) → (count (suc n) v ≡ count n v)
       ⊎ ((count (suc n) v ≡ count n v + 1) × (count n v < length (paths_of net v)) × (may_follow net (counts_after net n) (get_or (paths_of net v) (count n v) empty_path) ≡ true))
   step n v =
       elim (cases_lt v net.nodes) [

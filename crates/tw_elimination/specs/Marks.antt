@@ -1,16 +1,24 @@
 -- Which of its paths a router gets from its neighbours' paths, by their places in its order (own).
-use Rattle.std.specs.Prelude.{ℕ, ◌+◌, ◌-◌, Bool, true, ◌&&◌, List, [], ◌∷◌, fold, length, max, min, nat_lt, slice_set, if◌then◌else◌}
+use Rattle.std.specs.Prelude.{ℕ, ◌+◌, ◌-◌, ◌==◌, Bool, true, ◌&&◌, List, [], ◌∷◌, fold, length, max, min, nat_lt, slice_set, if◌then◌else◌}
 use Rattle.std.specs.List.{position_or_len, zip}
 use Rattle.tw_event.specs.declared.event.PathNo.{PathNo}
 use Rattle.tw_model.specs.declared.net.Hop.{Hop}
 use Rattle.tw_model.specs.declared.state.Row.{Row}
 use Rattle.tw_model.specs.Net.{empty_path, hops_of}
-use Rattle.tw_model.specs.State.{Router}
+use Rattle.tw_model.specs.State.{Router, bars}
 use Rattle.tw_policy.specs.Left.{allows}
+
+-- what is kept of a neighbour over a link that is up, where it told this path
+abbrev pub telling : PathNo → Row
+telling p = record { heard = p; up = true; session = 0 }
 
 -- where in the router's order the path stands that it gets by this path of a neighbour; the number of its paths where it gets none
 abbrev pub place_given : Router → PathNo → ℕ
 place_given r p = position_or_len (λ q. allows r.net (λ v. r.state) r.node q p) r.state.order
+
+-- where in its order path q of the router stands; the number of its paths where it is barred
+abbrev pub place_open : Router → PathNo → ℕ
+place_open r q = if bars r.net r.node r.state.barred q then length r.state.order else position_or_len (λ p. p.0 == q.0) r.state.order
 
 -- how many of its best paths hold the one that it gets, whichever of these paths a neighbour tells it
 abbrev pub reach : Router → List PathNo → ℕ

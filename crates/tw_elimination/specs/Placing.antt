@@ -1,7 +1,7 @@
 -- One list of all paths, by the ranks as they were given: in each round each router puts its next path into it, where the path
 -- that this one goes on with stands there before (a topological order, after Kahn 1962).
-use Rattle.std.specs.Prelude.{ℕ, suc, zero, ◌+◌, ◌==◌, Bool, ◌||◌, ◌&&◌, List, drop, length, map, nat_lt, slice_index_or, if◌then◌else◌}
-use Rattle.std.specs.List.{list_all, range_with_len}
+use Rattle.std.specs.Prelude.{ℕ, suc, zero, ◌≡◌, ◌+◌, ◌<◌, ◌==◌, ◌∷◌, Bool, true, Some, slice_get, ◌||◌, ◌&&◌, List, drop, length, map, nat_lt, slice_index_or, if◌then◌else◌}
+use Rattle.std.specs.List.{list_all, list_any, range_with_len}
 use Rattle.tw_event.specs.declared.event.PathNo.{PathNo}
 use Rattle.tw_model.specs.Net.{Net, empty_path, path, paths, paths_of}
 use Rattle.tw_model.specs.State.{line_of}
@@ -26,9 +26,25 @@ module _ (net : Net) (placed : List ℕ) where
       let k = count_of v in
       if nat_lt k (length (paths_of net v)) && may_follow (slice_index_or (paths_of net v) k empty_path) then k + 1 else k
 
+  -- the next path of v is q, and the path that q goes on with stands there
+  abbrev pub IsNext : ℕ → PathNo → Type 0
+  IsNext v q = (count_of v < length (paths_of net v)) × (slice_index_or (paths_of net v) (count_of v) empty_path ≡ q) × (may_follow q ≡ true)
+
+  -- v puts no path there in one round more
+  abbrev pub IsStuck : ℕ → Type 0
+  IsStuck v = next_count v ≡ count_of v
+
+  -- the next path of v is v followed by the path p
+  abbrev pub GoesOnNext : PathNo → ℕ → Type 0
+  GoesOnNext p v = (q : PathNo) × (slice_get (paths_of net v) (count_of v) ≡ Some q) × (path net q ≡ v ∷ path net p)
+
   -- whether all paths stand there
   abbrev pub are_placed : Bool
   are_placed = list_all (λ v. count_of v == length (paths_of net v)) (range_with_len 0 net.nodes)
+
+-- whether router v is among these
+abbrev pub has_router : List ℕ → ℕ → Bool
+has_router routers v = list_any (λ w. w == v) routers
 
 -- how many each router has put there after so many rounds
 abbrev pub counts_after : Net → ℕ → List ℕ

@@ -1,10 +1,10 @@
 -- Elimination of a case, round by round, to its halt (own).
-use Rattle.std.specs.Prelude.{ℕ, suc, ◌≡◌, ◌==◌, Bool, List, length, map}
+use Rattle.std.specs.Prelude.{ℕ, suc, ◌≡◌, ◌<◌, ◌==◌, Bool, true, false, List, length, map, slice_index_or}
 use Rattle.std.specs.List.{find, list_all, range_with_len}
 use Rattle.std.specs.Option.{unwrap_or}
 use Rattle.tw_event.specs.declared.event.PathNo.{PathNo}
 use Rattle.tw_model.specs.Case.{Case}
-use Rattle.tw_policy.specs.Left.{left_after}
+use Rattle.tw_policy.specs.Left.{left_after, round_left}
 use Rattle.tw_policy.specs.Search.{total}
 use Rattle.tw_policy.specs.Standing.{standing}
 
@@ -15,6 +15,10 @@ left_in case n v = left_after case.net (standing case) n v
 -- the lists of all routers after n rounds
 abbrev pub AreLeft : Case → ℕ → List (List PathNo) → Type 0
 AreLeft case n lists = lists ≡ map (left_in case n) (range_with_len 0 case.net.nodes)
+
+-- one round more leaves each router that is marked the paths that it has
+abbrev pub AreSettled : Case → (ℕ → List PathNo) → List Bool → Type 0
+AreSettled case left settled = (v : ℕ) → v < case.net.nodes → slice_index_or settled v false ≡ true → round_left case.net (standing case) left v ≡ left v
 
 -- whether one round more leaves each router as many paths
 abbrev pub is_halted : Case → ℕ → Bool

@@ -1,17 +1,17 @@
 //! Elimination, round by round, until it comes to a halt.
 
-ghost use Rattle.std.specs.Prelude.{ℕ, suc, ◌≡◌, ◌==◌, ◌+◌, ◌<◌, ◌≤◌, true, false, [], length, map, IfOk};
+ghost use Rattle.std.specs.Prelude.{ℕ, suc, ◌≡◌, ◌==◌, ◌+◌, ◌<◌, ◌≤◌, true, false, [], length, map, slice_index_or, IfOk};
 ghost use Rattle.std.specs.List.{All, list_all};
 ghost use Rattle.tw_elimination.specs.Bound.{is_solved, rests_before};
-ghost use Rattle.tw_elimination.specs.Rounds.{AreLeft, left_in, rounds_of};
+ghost use Rattle.tw_elimination.specs.Rounds.{AreLeft, AreSettled, left_in, rounds_of};
 ghost use Rattle.tw_elimination.specs.Wheel.{AreWheel, pivot_of, wheel_of};
 ghost use Rattle.tw_elimination.specs.Standing.{standing_routers as standing_routers_of};
 ghost use Rattle.tw_instance.specs.Tables.{items, row};
 ghost use Rattle.tw_model.specs.Case.{IsCase};
-ghost use Rattle.tw_model.specs.Net.{IsPath};
-ghost use Rattle.tw_model.specs.State.{State};
+ghost use Rattle.tw_model.specs.Net.{IsPath, hops_of};
+ghost use Rattle.tw_model.specs.State.{State, has_peer};
 ghost use Rattle.tw_model.specs.declared.limits.TheConstants.{MOST_PATHS};
-ghost use Rattle.tw_policy.specs.Left.{left_after};
+ghost use Rattle.tw_policy.specs.Left.{left_after, round_left};
 ghost use Rattle.tw_policy.specs.Standing.{standing};
 
 use crate::bound::{last_time, longest_delay, time_after};
@@ -111,13 +111,15 @@ impl<'a> Elimination<'a> {
 pub fn eliminate<'a>(alloc: Global, case: &'a Case) -> Result<Elimination<'a>, AllocError>
     ensures { IfOk result (λ e. e ≡ record { case = case.now; rounds = rounds_of case.now }) }
 {
-    let mut routers = standing_routers(alloc, case)?;
+    let routers = standing_routers(alloc, case)?;
     let mut left = opening_lists(alloc, case, &routers)?;
-    let mut next = next_lists(alloc, case, &mut routers, &left)?;
+    let none = Vec::new(alloc);
+    let mut next = next_lists(alloc, case, &routers, &left, &none)?;
     let mut rounds: u64 = 0;
     while has_fewer(&next, &left) {
+        let settled = settled_routers(alloc, case, &next, &left)?;
         left = next;
-        next = next_lists(alloc, case, &mut routers, &left)?;
+        next = next_lists(alloc, case, &routers, &left, &settled)?;
         rounds += 1;
     }
     Ok(Elimination { case, left, rounds })
@@ -163,24 +165,93 @@ fn all_paths(
     Ok(paths)
 }
 
-/// What each router has left after one round more.
+/// What each router has left after one round more, where the settled ones keep what they have.
 fn next_lists(
     alloc: Global,
     case: &Case,
-    routers: &mut [Router<'_>],
+    routers: &[Router<'_>],
     left: &[Vec<PathNo>],
+    settled: &[bool],
 ) -> Result<Vec<Vec<PathNo>>, AllocError>
-    requires routers { routers.old ≡ standing_routers_of case.now }
+    requires routers { routers.now ≡ standing_routers_of case.now }
     requires left { (n : ℕ) × AreLeft case.now n (items left.now) }
+    requires settled { AreSettled case.now (row left.now) settled.now }
     ensures next { (n : ℕ) → AreLeft case.now n (items left.now) → IfOk result (λ next. AreLeft case.now (suc n) (items next.items)) }
-    ensures same { routers.new ≡ routers.old }
 {
-    let instance = case.instance();
+    // What a case keeps is told by a read of it.
+    let _ = case.instance();
     let mut next = Vec::new(alloc);
     for node in 0..routers.len() {
-        next.push(remaining_at(alloc, instance, &mut routers[node], left)?)?;
+        next.push(next_list(alloc, case, routers, left, settled, node)?)?;
     }
     Ok(next)
+}
+
+/// What a router has left after one round more, where a settled one keeps what it has.
+fn next_list(
+    alloc: Global,
+    case: &Case,
+    routers: &[Router<'_>],
+    left: &[Vec<PathNo>],
+    settled: &[bool],
+    node: usize,
+) -> Result<Vec<PathNo>, AllocError>
+    requires routers { routers.now ≡ standing_routers_of case.now }
+    requires left { (n : ℕ) × AreLeft case.now n (items left.now) }
+    requires settled { AreSettled case.now (row left.now) settled.now }
+    requires node { node < length routers.now }
+    ensures { IfOk result (λ paths. paths.items ≡ round_left case.now.net (standing case.now) (row left.now) node) }
+{
+    let instance = case.instance();
+    if is_settled(settled, node) {
+        return Vec::from_slice(alloc, &left[node]);
+    }
+    remaining_at(alloc, instance, &routers[node], left)
+}
+
+/// Whether a router is among the settled ones.
+fn is_settled(settled: &[bool], node: usize) -> bool
+    ensures { result ≡ slice_index_or settled.now node false }
+{
+    match settled.get(node) {
+        Some(settled) => *settled,
+        None => false,
+    }
+}
+
+/// Of each router whether all of its neighbours have as many paths left as before the round.
+fn settled_routers(
+    alloc: Global,
+    case: &Case,
+    next: &[Vec<PathNo>],
+    left: &[Vec<PathNo>],
+) -> Result<Vec<bool>, AllocError>
+    requires next { length next.now ≡ case.now.net.nodes }
+    requires left { length left.now ≡ case.now.net.nodes }
+    ensures { IfOk result (λ settled. (v : ℕ) → slice_index_or settled.items v false ≡ true
+        → (w : ℕ) → has_peer case.now.net v w ≡ true → length (row next.now w) ≡ length (row left.now w)) }
+{
+    let instance = case.instance();
+    let mut settled = Vec::new(alloc);
+    for node in 0..instance.nodes() {
+        settled.push(are_as_many(instance, next, left, node))?;
+    }
+    Ok(settled)
+}
+
+/// Whether all neighbours of a router have as many paths left as before the round.
+fn are_as_many(instance: &Instance, next: &[Vec<PathNo>], left: &[Vec<PathNo>], node: u32) -> bool
+    requires next { length next.now ≡ instance.now.nodes }
+    requires left { length left.now ≡ instance.now.nodes }
+    ensures { result ≡ true → All (λ h. length (row next.now h.peer) ≡ length (row left.now h.peer)) (hops_of instance.now node) }
+{
+    for hop in instance.hops(node) {
+        let peer = hop.peer as usize;
+        if next[peer].as_slice().len() != left[peer].as_slice().len() {
+            return false;
+        }
+    }
+    true
 }
 
 /// Whether each of these lists has one path.

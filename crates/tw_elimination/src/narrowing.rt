@@ -46,19 +46,18 @@ pub fn eliminate_within(
 fn one_round(
     alloc: Global,
     case: &Case,
-    routers: &mut [Router<'_>],
+    routers: &[Router<'_>],
     lists: &[Vec<PathNo>],
 ) -> Result<Vec<Vec<PathNo>>, AllocError>
-    requires routers { routers.old ≡ standing_routers_of case.now }
+    requires routers { routers.now ≡ standing_routers_of case.now }
     requires lists { AreLists case.now (items lists.now) }
     ensures value { IfOk result (λ next. items next.items ≡ one_round_of case.now (items lists.now)) }
     ensures case { IsCase case.now }
-    ensures same { routers.new ≡ routers.old }
 {
     let instance = case.instance();
     let mut next = Vec::new(alloc);
     for node in 0..routers.len() {
-        let remaining = remaining_at(alloc, instance, &mut routers[node], lists)?;
+        let remaining = remaining_at(alloc, instance, &routers[node], lists)?;
         next.push(those_among(alloc, &lists[node], &remaining)?)?;
     }
     Ok(next)

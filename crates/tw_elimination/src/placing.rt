@@ -1,9 +1,11 @@
 //! Whether all paths of an instance stand in one list.
 
-ghost use Rattle.std.specs.Prelude.{◌≡◌, ◌==◌, map, slice_index_or, IfOk};
-ghost use Rattle.std.specs.List.{position_or_len, range_with_len};
-ghost use Rattle.tw_elimination.specs.Placing.{are_placed, counts_after, has_one_list as has_one_list_of, is_placed as is_placed_in, may_follow as may_follow_in, next_count};
-ghost use Rattle.tw_model.specs.Net.{IsPath};
+ghost use Rattle.std.specs.Prelude.{ℕ, ◌≡◌, ◌+◌, ◌<◌, ◌≤◌, true, length, slice_index_or, None, IfOk, IfSome, OnOk};
+ghost use Rattle.std.specs.List.{All, range_with_len};
+ghost use Rattle.tw_elimination.specs.Placing.{GoesOnNext, IsNext, IsStuck, are_placed, count_of as count_of_router, counts_after, has_one_list as has_one_list_of, has_router, is_placed as is_placed_in, may_follow as may_follow_in};
+ghost use Rattle.tw_model.specs.Net.{IsPath, hops_of};
+ghost use Rattle.tw_model.specs.Rules.{IsNet};
+ghost use Rattle.tw_model.specs.declared.limits.TheConstants.{MOST_LINKS, MOST_PATHS};
 
 use crate::wheel::{first_node, number_of};
 use std::alloc::{AllocError, Global};
@@ -17,12 +19,13 @@ pub fn has_one_list(alloc: Global, instance: &Instance) -> Result<bool, AllocErr
     ensures { IfOk result (λ found. found ≡ has_one_list_of instance.now) }
 {
     let mut placed = first_counts(alloc, instance)?;
-    for _ in 0..instance.paths().len() + 2 {
-        let next = next_counts(alloc, instance, &placed)?;
-        if next.as_slice() == placed.as_slice() {
-            return Ok(are_all_placed(instance, &placed));
+    let mut work = all_routers(alloc, instance)?;
+    while let Some(router) = work.pop() {
+        if let Some(path) = next_path(instance, &placed, router) {
+            placed[router as usize] += 1;
+            work.push(router)?;
+            push_waiting(instance, &placed, router, path, &mut work)?;
         }
-        placed = next;
     }
     Ok(are_all_placed(instance, &placed))
 }
@@ -38,31 +41,63 @@ fn first_counts(alloc: Global, instance: &Instance) -> Result<Vec<usize>, AllocE
     Ok(placed)
 }
 
-/// How many paths each router has put into the list after one round more.
-fn next_counts(
-    alloc: Global,
-    instance: &Instance,
-    placed: &[usize],
-) -> Result<Vec<usize>, AllocError>
-    ensures { IfOk result (λ next. next.items ≡ map (next_count instance.now placed.now) (range_with_len 0 instance.now.nodes)) }
+/// Every router.
+fn all_routers(alloc: Global, instance: &Instance) -> Result<Vec<u32>, AllocError>
+    ensures items { IfOk result (λ routers. routers.items ≡ range_with_len 0 instance.now.nodes) }
+    ensures net { IsNet instance.now }
 {
-    let mut next = Vec::new(alloc);
+    let mut routers = Vec::new(alloc);
     for router in 0..instance.nodes() {
-        next.push(count_after(instance, placed, router))?;
+        routers.push(router)?;
     }
-    Ok(next)
+    Ok(routers)
 }
 
-/// How many paths a router has put into the list after one round more.
-fn count_after(instance: &Instance, placed: &[usize], router: u32) -> usize
-    ensures { result ≡ next_count instance.now placed.now router }
+/// The next path of a router, where the path that it goes on with stands in the list.
+fn next_path(instance: &Instance, placed: &[usize], router: u32) -> Option<PathNo>
+    ensures some { IfSome result (IsNext instance.now placed.now router) }
+    ensures few { IfSome result (λ q. count_of_router instance.now placed.now router < MOST_PATHS) }
+    ensures path { IfSome result (IsPath instance.now) }
+    ensures none { result ≡ None → IsStuck instance.now placed.now router }
 {
-    let paths = instance.permitted(router);
-    let count = count_of(placed, router);
-    if count < paths.len() && may_follow(instance, placed, paths[count]) {
-        count + 1
+    let path = *instance.permitted(router).get(count_of(placed, router))?;
+    if may_follow(instance, placed, path) {
+        Some(path)
     } else {
-        count
+        None
+    }
+}
+
+/// Puts those neighbours of a router behind others whose next path goes on with this one.
+fn push_waiting(
+    instance: &Instance,
+    placed: &[usize],
+    router: u32,
+    path: PathNo,
+    work: &mut Vec<u32>,
+) -> Result<(), AllocError>
+    requires { IsPath instance.now path }
+    ensures kept { OnOk result ((v : ℕ) → has_router work.old.items v ≡ true → has_router work.new.items v ≡ true) }
+    ensures waiting { OnOk result (All (λ h. GoesOnNext instance.now placed.now path h.peer → has_router work.new.items h.peer ≡ true) (hops_of instance.now router)) }
+    ensures few { OnOk result (length work.new.items ≤ length work.old.items + MOST_LINKS) }
+    ensures homes { OnOk result (All (λ v. v < instance.now.nodes) work.old.items → All (λ v. v < instance.now.nodes) work.new.items) }
+{
+    for hop in instance.hops(router) {
+        if goes_on_next(instance, placed, path, hop.peer) {
+            work.push(hop.peer)?;
+        }
+    }
+    Ok(())
+}
+
+/// Whether the next path of a router goes on with this one.
+fn goes_on_next(instance: &Instance, placed: &[usize], path: PathNo, router: u32) -> bool
+    requires { IsPath instance.now path }
+    ensures { GoesOnNext instance.now placed.now path router → result ≡ true }
+{
+    match instance.extended_place(router, path) {
+        Some(place) => place == count_of(placed, router),
+        None => false,
     }
 }
 
@@ -86,14 +121,7 @@ fn is_placed(instance: &Instance, placed: &[usize], path: PathNo) -> bool
         return true;
     }
     let router = first_node(instance.path(path));
-    line_at(instance.permitted(router), path) < count_of(placed, router)
-}
-
-/// The place of a path among others, or their number.
-fn line_at(paths: &[PathNo], path: PathNo) -> usize
-    ensures { result ≡ position_or_len (λ p. p.0 == path.0) paths.now }
-{
-    paths.iter().take_while(|other| other.0 != path.0).count()
+    instance.place(path) < count_of(placed, router)
 }
 
 /// How many paths a router has put into the list.

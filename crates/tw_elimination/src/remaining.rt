@@ -19,15 +19,14 @@ use tw_router::Router;
 pub(crate) fn remaining_at(
     alloc: Global,
     instance: &Instance,
-    router: &mut Router<'_>,
+    router: &Router<'_>,
     left: &[Vec<PathNo>],
 ) -> Result<Vec<PathNo>, AllocError>
-    requires own { instance.now ≡ router.old.net }
+    requires own { instance.now ≡ router.now.net }
     requires long { length left.now ≡ instance.now.nodes }
-    requires paths { (w : ℕ) → All (IsPath router.old.net) (row left.now w) }
-    ensures value { IfOk result (λ next. (states : ℕ → State) → states router.old.node ≡ router.old.state
-        → next.items ≡ round_left router.old.net states (row left.now) router.old.node) }
-    ensures same { router.new ≡ router.old }
+    requires paths { (w : ℕ) → All (IsPath router.now.net) (row left.now w) }
+    ensures value { IfOk result (λ next. (states : ℕ → State) → states router.now.node ≡ router.now.state
+        → next.items ≡ round_left router.now.net states (row left.now) router.now.node) }
 {
     if router.node() == 0 {
         return only_origin(alloc);

@@ -1,32 +1,13 @@
 -- What becomes of the parser's errors.
-use Rattle.std.proofs.Common.{◌≡◌, ◌⊎◌, inl, inr, refl, subst, true, List, []}
+use Rattle.std.proofs.Common.{◌≡◌, ◌⊎◌, inl, inr, subst, true, List, []}
 use Rattle.std.specs.Prelude.{IfErr, IsErrAnd, Ok, Err, Result}
 use Rattle.clap.specs.Words.{App, HasKind, IsAmong, Kinds, Text, fault_of, is_simple_and_free, kind_of}
 use Rattle.clap.specs.declared.error.Error.{Error}
 use Rattle.clap.specs.declared.error.kind.ErrorKind.{ErrorKind}
 use Rattle.clap.specs.declared.error.kind.ErrorKind.TheVariants as kind
-use Rattle.tw_options.specs.App.{twarp_app}
 use Rattle.tw_options.specs.Fault.{Answers, Explains, Tells}
 use Rattle.tw_options.specs.declared.fault.CommandLineFault.{CommandLineFault}
 use Rattle.tw_options.specs.declared.fault.CommandLineFault.TheVariants.{Help, Bad, Memory}
-
-is_simple_and_free_app : is_simple_and_free twarp_app ≡ true
-is_simple_and_free_app = refl
-
--- what the parser says of its own command, it says of ours
-pub taken : (a : App) (words : List Text) → a ≡ twarp_app → (is_simple_and_free a ≡ true → fault_of a words ≡ [])
-    → fault_of twarp_app words ≡ []
-taken a words is h =
-    let g : is_simple_and_free twarp_app ≡ true → fault_of twarp_app words ≡ [] =
-    subst (λ (b : App). is_simple_and_free b ≡ true → fault_of b words ≡ []) is h in
-    g is_simple_and_free_app
-
-refused : (a : App) (words : List Text) (e : Error) → a ≡ twarp_app → (is_simple_and_free a ≡ true → HasKind (fault_of a words) e)
-    → HasKind (fault_of twarp_app words) e
-refused a words e is h =
-    let g : is_simple_and_free twarp_app ≡ true → HasKind (fault_of twarp_app words) e =
-    subst (λ (b : App). is_simple_and_free b ≡ true → HasKind (fault_of b words) e) is h in
-    g is_simple_and_free_app
 
 no_memory : (k : ErrorKind) → Answers k → k ≡ kind.OutOfMemory → ⊥
 no_memory k (inl h) e = cc
@@ -46,8 +27,23 @@ explains_if_err : {T : Type 0} (ks : Kinds) (e : Error) (r : Result T CommandLin
 explains_if_err ks e (Ok x) h t = tt
 explains_if_err ks e (Err fault) h t = explains ks e fault h t
 
--- an error of the parser's, as a fault of the command line
-pub explains_err : {T : Type 0} (a : App) (words : List Text) (e : Error) (r : Result T CommandLineFault) → a ≡ twarp_app
-    → (is_simple_and_free a ≡ true → HasKind (fault_of a words) e) → IsErrAnd r (Tells e)
-    → IfErr r (Explains (fault_of twarp_app words))
-explains_err a words e r is h t = explains_if_err (fault_of twarp_app words) e r (refused a words e is h) t
+-- what the parser says of the command that it is given, which is a program's own, it says of that program
+module _ (own : App) (is_free : is_simple_and_free own ≡ true) where
+  pub taken : (a : App) (words : List Text) → a ≡ own → (is_simple_and_free a ≡ true → fault_of a words ≡ []) → fault_of own words ≡ []
+  taken a words is h =
+      let g : is_simple_and_free own ≡ true → fault_of own words ≡ [] =
+      subst (λ (b : App). is_simple_and_free b ≡ true → fault_of b words ≡ []) is h in
+      g is_free
+
+  refused : (a : App) (words : List Text) (e : Error) → a ≡ own → (is_simple_and_free a ≡ true → HasKind (fault_of a words) e)
+      → HasKind (fault_of own words) e
+  refused a words e is h =
+      let g : is_simple_and_free own ≡ true → HasKind (fault_of own words) e =
+      subst (λ (b : App). is_simple_and_free b ≡ true → HasKind (fault_of b words) e) is h in
+      g is_free
+
+  -- an error of the parser's, as a fault of the command line
+  pub explains_err : {T : Type 0} (a : App) (words : List Text) (e : Error) (r : Result T CommandLineFault) → a ≡ own
+      → (is_simple_and_free a ≡ true → HasKind (fault_of a words) e) → IsErrAnd r (Tells e)
+      → IfErr r (Explains (fault_of own words))
+  explains_err a words e r is h t = explains_if_err (fault_of own words) e r (refused a words e is h) t

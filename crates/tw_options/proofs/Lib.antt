@@ -1,6 +1,7 @@
 pub mod Faults
 pub mod Fit
 pub mod Kept
+pub mod Levels
 pub mod Read
 pub mod Stop
 pub mod Version

@@ -72,21 +72,17 @@ batch_rule = number_rule (codes "batch") false 1 MOST_BATCH
 abbrev pub check_app : App
 check_app = new_app (codes "check")
 
--- `twarp seq` with the options that say which run it is, and what of it is reported
-abbrev pub seq_app_alone : App
-seq_app_alone = with_rule (with_rule (with_rule (new_app (codes "seq")) stop_rule) every_rule) log_rule
+-- a command with the options that say which run it is, and what of it is reported
+abbrev pub reporting_app : Text → App
+reporting_app name = with_rule (with_rule (with_rule (new_app name) stop_rule) every_rule) log_rule
 
 -- `twarp seq --stop N [--every T] [--log] [--progress] [--stats]`
 abbrev pub seq_app : App
-seq_app = with_rule (with_rule seq_app_alone progress_rule) stats_rule
-
--- `twarp run` with those options of `seq` that say which run it is, and what of it is reported
-abbrev pub run_app_alone : App
-run_app_alone = with_rule (with_rule (with_rule (new_app (codes "run")) stop_rule) every_rule) log_rule
+seq_app = with_rule (with_rule (reporting_app (codes "seq")) progress_rule) stats_rule
 
 -- `twarp run` with the options that say how workers go on
 abbrev pub run_app_by_workers : App
-run_app_by_workers = with_rule (with_rule (with_rule run_app_alone workers_rule) batch_rule) lazy_rule
+run_app_by_workers = with_rule (with_rule (with_rule (reporting_app (codes "run")) workers_rule) batch_rule) lazy_rule
 
 -- `twarp run --stop N [--every T] [--log] [--workers W] [--batch B] [--lazy] [--blocks] [--rotate] [--progress] [--stats]`
 abbrev pub run_app : App
@@ -104,9 +100,13 @@ replay_app = with_rule (with_rule (with_rule (new_app (codes "replay")) stop_rul
 abbrev pub upgrade_app : App
 upgrade_app = new_app (codes "upgrade")
 
--- `twarp`, which asks for a subcommand, and has a version that it tells at `--version` and `-V`
+-- a program that asks for a subcommand, and has a version that it tells at `--version` and `-V`
+abbrev pub program_app : Text → App
+program_app name = let a = new_app name in record a { top = record a.top { subcommand_required = true; has_version = true } }
+
+-- `twarp` alone
 abbrev pub top_app : App
-top_app = let a = new_app (codes "twarp") in record a { top = record a.top { subcommand_required = true; has_version = true } }
+top_app = program_app (codes "twarp")
 
 -- `twarp` with the subcommands that check a case and report its run
 abbrev pub report_app : App

@@ -44,7 +44,11 @@ pub record Fits (name : Text) (rows : List Row) : Type 0 where
   pub trail : name ≡ codes "trail" → HasTrail rows
   pub replay : name ≡ codes "replay" → HasReplay rows
 
+-- a subcommand was matched, and its name and rows have P
+abbrev pub IsFound : (Text → List Row → Type 0) → Option (Text × List Row) → Type 0
+IsFound P None = ⊥
+IsFound P (Some found) = P found.0 found.1
+
 -- a subcommand was matched, and fits
 abbrev pub IsFit : Option (Text × List Row) → Type 0
-IsFit None = ⊥
-IsFit (Some found) = Fits found.0 found.1
+IsFit = IsFound Fits

@@ -4,8 +4,9 @@ ghost use Rattle.std.specs.Prelude.{Some, codes};
 ghost use Rattle.clap.specs.Words.{found_of, rows_of, subcommand_rows_of};
 ghost use Rattle.tw_model.specs.declared.limits.TheConstants.{MOST_WORKERS};
 ghost use Rattle.tw_options.specs.Fit.{HasNumberIfGiven, HasReplay, HasRun, HasSeq, HasTrail, IsFit};
-ghost use Rattle.tw_options.specs.Says.{IsNumberIfGiven, Says, Sets};
+ghost use Rattle.tw_options.specs.Says.{IsNumberIfGiven, Says};
 
+use crate::flag::{BLOCKS, LAZY, LOG, PROGRESS, ROTATE, STATS};
 use crate::number::{BATCH, EVERY, KEEP, ROUTER, STOP, THREADS, WORKERS};
 use clap::ArgMatches;
 
@@ -98,9 +99,9 @@ fn seq_of(given: &ArgMatches<'_>) -> CommandLine
     CommandLine::Seq {
         stop: STOP.read(given),
         every: EVERY.read_if_given(given),
-        log: is_set(given, "log"),
-        progress: is_set(given, "progress"),
-        stats: is_set(given, "stats"),
+        log: LOG.is_set(given),
+        progress: PROGRESS.is_set(given),
+        stats: STATS.is_set(given),
     }
 }
 
@@ -112,14 +113,14 @@ fn run_of(given: &ArgMatches<'_>) -> CommandLine
     CommandLine::Run {
         stop: STOP.read(given),
         every,
-        log: is_set(given, "log"),
+        log: LOG.is_set(given),
         workers: workers_of(given),
         batch: BATCH.read_or(given, 64) as u32,
-        lazy: is_set(given, "lazy"),
-        blocks: is_set(given, "blocks"),
-        rotate: is_set(given, "rotate"),
-        progress: is_set(given, "progress"),
-        stats: is_set(given, "stats"),
+        lazy: LAZY.is_set(given),
+        blocks: BLOCKS.is_set(given),
+        rotate: ROTATE.is_set(given),
+        progress: PROGRESS.is_set(given),
+        stats: STATS.is_set(given),
     }
 }
 
@@ -149,13 +150,6 @@ fn replay_of(given: &ArgMatches<'_>) -> CommandLine
     CommandLine::Replay {
         stop: STOP.read(given),
         workers: WORKERS.read_or(given, 1) as u32,
-        lazy: is_set(given, "lazy"),
+        lazy: LAZY.is_set(given),
     }
-}
-
-// As `get_flag`, whose contract leaves open what it answers where the text is no truth value.
-fn is_set(given: &ArgMatches<'_>, id: &str) -> bool
-    ensures { Sets id.now (rows_of (found_of given.now)) result }
-{
-    given.get_one::<bool>(id).unwrap_or(false)
 }

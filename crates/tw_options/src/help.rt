@@ -1,10 +1,17 @@
 //! The words of the help.
 
+use crate::page::Page;
+
 pub(crate) const VERSION: &str = "0.1.0";
 
-pub(crate) const TWARP: &str = "Simulates path-vector routing, event by event";
+pub(crate) const TWARP: Page = Page {
+    name: "twarp",
+    about: "Simulates path-vector routing, event by event",
+    long_about: TWARP_LONG,
+    statuses: STATUSES,
+};
 
-pub(crate) const TWARP_LONG: &str = "\
+const TWARP_LONG: &str = "\
 Simulates path-vector routing, event by event.
 
 Each router uses the first of its permitted paths that its neighbours offer, and tells them of
@@ -31,9 +38,14 @@ Where the first line is `spp 2`, a link has a delay for each direction, as `link
 Example:
   twarp seq --stop 20 --log < case.txt";
 
-pub(crate) const CHECK: &str = "Says whether the input is a case, or which line is at fault";
+pub(crate) const CHECK: Page = Page {
+    name: "check",
+    about: "Says whether the input is a case, or which line is at fault",
+    long_about: CHECK_LONG,
+    statuses: STATUSES,
+};
 
-pub(crate) const CHECK_LONG: &str = "\
+const CHECK_LONG: &str = "\
 Says whether the input is a case, or which line is at fault.
 
 Reads a case text from standard input. For a case it counts the routers, links, paths and
@@ -42,9 +54,14 @@ scenario lines; else it names the first line at fault, with the rule that the li
 Example:
   twarp check < case.txt";
 
-pub(crate) const SEQ: &str = "Runs a case up to a time and reports where the routers stand";
+pub(crate) const SEQ: Page = Page {
+    name: "seq",
+    about: "Runs a case up to a time and reports where the routers stand",
+    long_about: SEQ_LONG,
+    statuses: STATUSES,
+};
 
-pub(crate) const SEQ_LONG: &str = "\
+const SEQ_LONG: &str = "\
 Runs a case up to a time and reports where the routers stand.
 
 Reads a case text from standard input and handles its events below --stop, one after the other.
@@ -60,9 +77,14 @@ standard error, behind the report: the events, the seconds, and the events a sec
 Example:
   twarp seq --stop 20 --every 1 --log < case.txt";
 
-pub(crate) const RUN: &str = "Does the same with several threads, and reports the same";
+pub(crate) const RUN: Page = Page {
+    name: "run",
+    about: "Does the same with several threads, and reports the same",
+    long_about: RUN_LONG,
+    statuses: STATUSES,
+};
 
-pub(crate) const RUN_LONG: &str = "\
+const RUN_LONG: &str = "\
 Does the same as seq with several threads, and reports the same.
 
 Reads a case text from standard input. With --workers W the routers are dealt out to W workers from
@@ -122,9 +144,49 @@ The report is written once the run has ended. Until then its events are kept in 
 million take 40 megabytes, and 80 where several workers run, since each of them keeps those
 of its routers, and in the end one list has all.";
 
-pub(crate) const TRAIL: &str = "Runs a case, and undoes one router's last events";
+pub(crate) const LOG: &str = "Report each event of the run too";
 
-pub(crate) const TRAIL_LONG: &str = "\
+pub(crate) const LAZY: &str = "Take back what an undone event has sent as late as may be";
+
+pub(crate) const BLOCKS: &str =
+    "Give each worker a block of routers in a row, and do not deal them out in turn";
+
+pub(crate) const ROTATE: &str =
+    "Hand every router on to the next worker at each checkpoint of --every";
+
+pub(crate) const PROGRESS: &str =
+    "Tell standard error how far the run is, also where it is no terminal";
+
+pub(crate) const STATS: &str = "Tell what was counted and how long it took, on standard error";
+
+pub(crate) const STOP: &str = "Handle the events below this time, in ticks: 1 to 1000000000";
+
+pub(crate) const EVERY: &str =
+    "Look for a period at the multiples of this time, in ticks: 1 to 1000000000";
+
+pub(crate) const ROUTER: &str =
+    "The router whose last events are undone: 0 to 1023, and a router of the case";
+
+pub(crate) const KEEP: &str =
+    "How many of the router's first events are not undone: 0 to 1000000000";
+
+pub(crate) const WORKERS: &str =
+    "How many workers the routers are dealt out to: 1 to 64, and 1 where none is given";
+
+pub(crate) const BATCH: &str =
+    "How many events a worker handles between two meetings at most: 1 to 4096, or else 64";
+
+pub(crate) const THREADS: &str =
+    "How many workers share the routers, in threads: 1 to 64, or else what is faster, up to 4";
+
+pub(crate) const TRAIL: Page = Page {
+    name: "trail",
+    about: "Runs a case, and undoes one router's last events",
+    long_about: TRAIL_LONG,
+    statuses: STATUSES,
+};
+
+const TRAIL_LONG: &str = "\
 Runs a case, and undoes one router's last events.
 
 Reads a case text from standard input and handles its events below --stop, one after the other.
@@ -135,9 +197,14 @@ sent.
 Example:
   twarp trail --router 1 --stop 20 --keep 0 < case.txt";
 
-pub(crate) const REPLAY: &str = "Drives the Time Warp machine of a case step by step";
+pub(crate) const REPLAY: Page = Page {
+    name: "replay",
+    about: "Drives the Time Warp machine of a case step by step",
+    long_about: REPLAY_LONG,
+    statuses: STATUSES,
+};
 
-pub(crate) const REPLAY_LONG: &str = "\
+const REPLAY_LONG: &str = "\
 Drives the Time Warp machine of a case step by step.
 
 Its routers handle events ahead of one another, and are rolled back where a message comes late.
@@ -181,9 +248,14 @@ With --stop 20 the answer is `spp-replay 1`, `step 1 ok` to `step 11 ok`, and
 Example:
   twarp replay --stop 20 --workers 2 < steps.txt";
 
-pub(crate) const UPGRADE: &str = "Writes a case in the latest version of its text";
+pub(crate) const UPGRADE: Page = Page {
+    name: "upgrade",
+    about: "Writes a case in the latest version of its text",
+    long_about: UPGRADE_LONG,
+    statuses: STATUSES,
+};
 
-pub(crate) const UPGRADE_LONG: &str = "\
+const UPGRADE_LONG: &str = "\
 Writes a case in the latest version of its text, `spp 2`.
 
 Reads a case text from standard input. Of a text that begins with `spp 1`, each link is written
@@ -194,7 +266,7 @@ it is.
 Example:
   twarp upgrade < case.txt > upgraded.txt";
 
-pub(crate) const STATUSES: &str = "\
+const STATUSES: &str = "\
 Exit status:
   0  done
   1  the input was refused, or --router is none of its routers; one line on standard output

@@ -1,14 +1,16 @@
 //! The numbers of a command line, each with its range.
 
-ghost use Rattle.std.specs.Prelude.{◌≡◌, ◌≤◌, false};
-ghost use Rattle.clap.specs.Words.{found_of, rows_of, rule_of};
+ghost use Rattle.std.specs.Prelude.{◌≡◌, ◌≤◌, IfOk, false};
+ghost use Rattle.clap.specs.Words.{app_of, found_of, rows_of, rule_of, with_rule};
+ghost use Rattle.clap.specs.declared.builder.command.Command.TheViews.{out-Command as fields_of};
 ghost use Rattle.tw_options.specs.App.{number_rule};
 ghost use Rattle.tw_options.specs.Fit.{HasNumber, HasNumberIfGiven};
 ghost use Rattle.tw_options.specs.Says.{IsNumberGiven, IsNumberIfGiven, IsNumberOr};
 
+use crate::help;
 use clap::builder::ValueParser;
-use clap::{Arg, ArgAction, ArgMatches};
-use std::alloc::Global;
+use clap::{Arg, ArgAction, ArgMatches, Command};
+use std::alloc::{AllocError, Global};
 use tw_model::limits::{LATEST, MOST_ROUTERS, MOST_WORKERS};
 
 /// How many events a worker handles at most between two meetings.
@@ -16,13 +18,21 @@ pub(crate) const MOST_BATCH: u32 = 4_096;
 
 /// An option `--id` that takes a number from `least` to `most`.
 #[derive(Clone, Copy)]
-pub(crate) struct NumberOption {
-    pub(crate) id: &'static str,
-    pub(crate) value_name: &'static str,
-    pub(crate) is_required: bool,
-    pub(crate) least: u64,
-    pub(crate) most: u64,
-    pub(crate) help: &'static str,
+pub struct NumberOption {
+    /// The name, without its hyphens.
+    pub id: &'static str,
+    /// What the help calls the number.
+    pub value_name: &'static str,
+    /// Whether a command line without it is refused.
+    pub is_required: bool,
+    /// The least number.
+    pub least: u64,
+    /// The greatest number.
+    pub most: u64,
+    /// What the help says of it.
+    pub help: &'static str,
+    /// What the long help says of it.
+    pub long_help: &'static str,
 }
 
 pub(crate) const STOP: NumberOption = NumberOption {
@@ -31,7 +41,8 @@ pub(crate) const STOP: NumberOption = NumberOption {
     is_required: true,
     least: 1,
     most: LATEST,
-    help: "Handle the events below this time, in ticks: 1 to 1000000000",
+    help: help::STOP,
+    long_help: help::STOP,
 };
 
 pub(crate) const EVERY: NumberOption = NumberOption {
@@ -40,7 +51,8 @@ pub(crate) const EVERY: NumberOption = NumberOption {
     is_required: false,
     least: 1,
     most: LATEST,
-    help: "Look for a period at the multiples of this time, in ticks: 1 to 1000000000",
+    help: help::EVERY,
+    long_help: help::EVERY_LONG,
 };
 
 pub(crate) const ROUTER: NumberOption = NumberOption {
@@ -49,7 +61,8 @@ pub(crate) const ROUTER: NumberOption = NumberOption {
     is_required: true,
     least: 0,
     most: MOST_ROUTERS as u64 - 1,
-    help: "The router whose last events are undone: 0 to 1023, and a router of the case",
+    help: help::ROUTER,
+    long_help: help::ROUTER,
 };
 
 pub(crate) const KEEP: NumberOption = NumberOption {
@@ -58,7 +71,8 @@ pub(crate) const KEEP: NumberOption = NumberOption {
     is_required: true,
     least: 0,
     most: LATEST,
-    help: "How many of the router's first events are not undone: 0 to 1000000000",
+    help: help::KEEP,
+    long_help: help::KEEP,
 };
 
 pub(crate) const WORKERS: NumberOption = NumberOption {
@@ -67,11 +81,13 @@ pub(crate) const WORKERS: NumberOption = NumberOption {
     is_required: false,
     least: 1,
     most: MOST_WORKERS as u64,
-    help: "How many workers the routers are dealt out to: 1 to 64, and 1 where none is given",
+    help: help::WORKERS,
+    long_help: help::WORKERS,
 };
 
 pub(crate) const THREADS: NumberOption = NumberOption {
-    help: "How many workers share the routers, in threads: 1 to 64, or else what is faster, up to 4",
+    help: help::THREADS,
+    long_help: help::THREADS,
     ..WORKERS
 };
 
@@ -81,12 +97,22 @@ pub(crate) const BATCH: NumberOption = NumberOption {
     is_required: false,
     least: 1,
     most: MOST_BATCH as u64,
-    help: "How many events a worker handles between two meetings at most: 1 to 4096, or else 64",
+    help: help::BATCH,
+    long_help: help::BATCH,
 };
 
 impl NumberOption {
-    /// The option, for the parser.
-    pub(crate) fn arg<'a>(self, alloc: Global) -> Arg<'a>
+    /// The command with this option behind its other ones.
+    pub fn add_to<'a>(self, command: Command<'a>, alloc: Global) -> Result<Command<'a>, AllocError>
+        requires { (fields_of command).has_globals ≡ false }
+        ensures app { IfOk result (λ added.
+            app_of added ≡ with_rule (app_of command.entry) (number_rule self.id.now self.is_required self.least self.most)) }
+        ensures local { IfOk result (λ added. (fields_of added).has_globals ≡ false) }
+    {
+        command.arg(self.arg(alloc))
+    }
+
+    fn arg<'a>(self, alloc: Global) -> Arg<'a>
         ensures rule { rule_of result ≡ number_rule self.id.now self.is_required self.least self.most }
         ensures local { result.global ≡ false }
     {
@@ -97,10 +123,11 @@ impl NumberOption {
             .action(ArgAction::Set)
             .value_parser(ValueParser::unsigned(self.least, self.most))
             .help(self.help)
+            .long_help(self.long_help)
     }
 
     /// The number given for a required option.
-    pub(crate) fn read(self, given: &ArgMatches<'_>) -> u64
+    pub fn read(self, given: &ArgMatches<'_>) -> u64
         requires { HasNumber self.id.now self.least self.most (rows_of (found_of given.now)) }
         ensures { IsNumberGiven self.id.now self.least self.most (rows_of (found_of given.now)) result }
     {
@@ -108,7 +135,7 @@ impl NumberOption {
     }
 
     /// The number, where one was given.
-    pub(crate) fn read_if_given(self, given: &ArgMatches<'_>) -> Option<u64>
+    pub fn read_if_given(self, given: &ArgMatches<'_>) -> Option<u64>
         requires { HasNumberIfGiven self.id.now self.least self.most (rows_of (found_of given.now)) }
         ensures { IsNumberIfGiven self.id.now self.least self.most (rows_of (found_of given.now)) result }
     {
@@ -116,7 +143,7 @@ impl NumberOption {
     }
 
     /// The number, and the default where none was given.
-    pub(crate) fn read_or(self, given: &ArgMatches<'_>, default: u64) -> u64
+    pub fn read_or(self, given: &ArgMatches<'_>, default: u64) -> u64
         requires given { HasNumberIfGiven self.id.now self.least self.most (rows_of (found_of given.now)) }
         requires default { (self.least ≤ default) × (default ≤ self.most) }
         ensures number { IsNumberOr self.id.now self.least self.most default (rows_of (found_of given.now)) result }

@@ -16,15 +16,16 @@ use tw_event::PathNo;
 use tw_instance::{Case, Instance};
 use tw_report::Word::{Name, Number, Path};
 use tw_report::put_line;
-use tw_stable::stable_assignments;
+use tw_stable::{SplitProgress, stable_assignments};
 
 /// The command `stable`: lists the stable assignments that so many splits find.
-#[derive(Clone, Copy)]
-struct Stable {
+#[derive(Drop)]
+struct Stable<'p, P> {
     splits: u64,
+    progress: &'p P,
 }
 
-impl Command for Stable {
+impl<P: SplitProgress> Command for Stable<'_, P> {
     type Input = Case;
 
     ghost ready = { λ _. Unit {0} };
@@ -35,7 +36,9 @@ impl Command for Stable {
 
     fn answer<W: Sink>(&self, alloc: Global, case: &Case, sink: &mut W) -> Result<Status, Cause> {
         // All memory is taken before the first line is written.
-        let stable = stable_assignments(alloc, case, self.splits)?;
+        let found = stable_assignments(alloc, case, self.splits, self.progress);
+        self.progress.ended();
+        let stable = found?;
         put_answer(sink, case.instance(), &stable.ribs, stable.are_all)?;
         Ok(Status::Done)
     }
@@ -134,10 +137,11 @@ fn put_least<S: Sink>(sink: &mut S, count: u64) -> Result<(), Failed>
 }
 
 /// Reads a case and lists its stable assignments, by how the routers stand once the script is over, as far as so
-/// many splits find them; or writes where and why its text is refused.
-pub fn stable_io<R: Source, W: Sink>(
+/// many splits find them; or writes where and why its text is refused. Each split is told as it is made.
+pub fn stable_io<R: Source, W: Sink, P: SplitProgress>(
     alloc: Global,
     splits: u64,
+    progress: &P,
     source: &mut R,
     sink: &mut W,
 ) -> Result<Status, Cause>
@@ -148,5 +152,5 @@ pub fn stable_io<R: Source, W: Sink>(
     ensures read { OnOk result (LosesInput (R.remaining source.old) (R.remaining source.new)) }
     ensures most { TakesInput (R.remaining source.old) (R.remaining source.new) }
 {
-    answer_io(alloc, &Stable { splits }, source, sink)
+    answer_io(alloc, &Stable { splits, progress }, source, sink)
 }

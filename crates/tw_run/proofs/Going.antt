@@ -16,7 +16,7 @@ use Rattle.tw_run.specs.Ran.{HasCome, HasComeTo, HasStoppedBy, HaveComeAsChosen,
 use Rattle.tw_run.specs.declared.dealing.Dealing.{Dealing as ADealing}
 use Rattle.tw_run.specs.declared.ran.By.{By}
 use Rattle.tw_run.specs.declared.ran.By.TheVariants as by
-use Rattle.tw_run.specs.declared.policy.TheConstants.{MOST_WORKERS_CHOSEN}
+use Rattle.tw_pace.specs.declared.pace.TheConstants.{MOST_WORKERS_CHOSEN}
 use Rattle.tw_run.specs.Stopped.{HasStopped, stopped_alone}
 use Rattle.tw_run.specs.declared.cause.Stopped.{Stopped}
 use Rattle.tw_run.specs.declared.cause.Stopped.TheVariants.{Memory, CounterFull, Ended}

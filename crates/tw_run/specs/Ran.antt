@@ -17,7 +17,7 @@ use Rattle.tw_run.specs.declared.cause.Stopped.TheVariants.{Memory, CounterFull,
 use Rattle.tw_run.specs.declared.ran.By.{By}
 use Rattle.tw_run.specs.declared.ran.By.TheVariants.{OneThread, Workers, OneThreadAfter}
 use Rattle.tw_run.specs.declared.ran.Ran.{Ran as ARun}
-use Rattle.tw_run.specs.declared.policy.TheConstants.{MOST_WORKERS_CHOSEN}
+use Rattle.tw_pace.specs.declared.pace.TheConstants.{MOST_WORKERS_CHOSEN}
 use Rattle.tw_run.specs.declared.run.Asked.{Asked as AnAsked}
 use Rattle.tw_seq.specs.Outcome.{outcome_of}
 use Rattle.tw_seq.specs.Run.{GetsStuck, complete_run}

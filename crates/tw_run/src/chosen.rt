@@ -10,7 +10,6 @@ ghost use Rattle.tw_seq.specs.Run.{GetsStuck, complete_run};
 
 use crate::cause::Stopped;
 use crate::dealing::owners;
-use crate::policy::{Alone, Course, MOST_WORKERS_CHOSEN};
 use crate::run::Asked;
 use crate::segments::{handled_by, run_to};
 use std::alloc::Global;
@@ -20,6 +19,7 @@ use std::time::Clock;
 use tw_commands::{Progress, Stages};
 use tw_instance::Case;
 use tw_model::OrMemory;
+use tw_pace::{Alone, Course, MOST_WORKERS_CHOSEN};
 use tw_parallel::{Gate, Sim};
 use tw_seq::{CounterFull, Running, TracedRun};
 

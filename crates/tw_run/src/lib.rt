@@ -13,9 +13,6 @@ mod cause;
 mod chosen;
 mod dealing;
 mod outcome;
-mod policy;
-#[cfg(test)]
-mod policy_rows;
 mod ran;
 mod run;
 mod segments;

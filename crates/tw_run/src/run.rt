@@ -45,11 +45,11 @@ pub(crate) struct Asked {
 /// where and why the text is refused.
 ///
 /// Where a number of workers is told, one at least, that many run the case from its first tick to the stop, each that
-/// has routers or messages in a thread; one worker has nobody to meet, and is one thread that runs it as `seq_io` does. Where none is told,
-/// one thread begins, and up to four workers go on where a clock tells that they are faster. A worker handles at most `batch` events between two meetings with the others, and what an undone event has
-/// sent is taken back at once, or as late as may be. Neither the two numbers nor this, nor which worker has
-/// which router, shows in what is written. With `every` the workers come together at checkpoints, and where `observer`
-/// asks for it, between them.
+/// has routers or messages in a thread; one worker has nobody to meet, and is one thread that runs it as `seq_io` does.
+/// Where none is told, one thread begins, and up to four workers go on where a clock tells that they are faster. A worker
+/// handles at most `batch` events between two meetings with the others, and what an undone event has sent is taken back
+/// at once, or as late as may be. Neither the two numbers nor this, nor which worker has which router, shows in what is
+/// written. With `every` the workers come together at checkpoints, and where `observer` asks for it, between them.
 pub fn run_io<
     X: Threads + Wait + Sync + Clock,
     R: Source,

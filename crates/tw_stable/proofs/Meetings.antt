@@ -1,7 +1,7 @@
 -- What is met on the way is stable and met once, and each stable assignment is met.
-use Rattle.std.proofs.Common.{◌≡◌, ℕ, zero, suc, ◌+◌, ◌<◌, ◌≤◌, ◌==◌, ◌&&◌, Bool, true, false, List, [], ◌∷◌, ◌++◌, filter, get_or, length, map, nat_le, nat_lt, set, Option, Some, None, refl, ap, sym, ◌∙◌, subst, inl, inr, arith, if◌then◌else◌}
-use Rattle.std.specs.List.{All, find, flat_map, list_all, list_any, range_with_len}
-use Rattle.std.proofs.lemmas.Bool.{cases_Bool, cases_eq, cases_lt, both_ways, eqb-true, eq-eqb, leb-true, ltb-true, lt-ltb, ne_eqb}
+use Rattle.std.proofs.Common.{◌≡◌, ℕ, zero, suc, ◌<◌, ◌≤◌, ◌==◌, true, false, List, [], ◌∷◌, ◌++◌, get_or, length, map, nat_le, nat_lt, Option, Some, None, refl, ap, sym, ◌∙◌, subst, inl, inr, arith, if◌then◌else◌}
+use Rattle.std.specs.List.{All, flat_map, range_with_len}
+use Rattle.std.proofs.lemmas.Bool.{cases_Bool, cases_eq, cases_lt, eq-eqb, leb-true, ltb-true, lt-ltb, ne_eqb}
 use Rattle.std.proofs.lemmas.List.{get_or-set_other, get_or-set_same, get_or_past, length-set}
 use Rattle.std.proofs.lemmas.List.FromFn.{get_or-map-range_with_len, length-map-range_with_len}
 use Rattle.tw_event.specs.declared.event.PathNo.{PathNo}
@@ -9,9 +9,9 @@ use Rattle.tw_model.specs.Case.{Case, IsCase}
 use Rattle.tw_model.specs.Net.{IsPath, empty_path, origin_path}
 use Rattle.tw_model.specs.Quiet.{stable_path}
 use Rattle.tw_model.specs.State.{State}
-use Rattle.tw_sim.proofs.Members.{In, all_from_in, in_append, in_filter, in_filtered, in_find, in_flat_map, in_flat_mapped, in_from_all, in_get_or, in_left, in_range, in_right, place, range_has}
-use Rattle.tw_policy.specs.Left.{left_after, remaining}
-use Rattle.tw_policy.specs.Search.{AreOnce, Differ, first_of, has_any, has_choice, is_one_of, only_at, total}
+use Rattle.tw_sim.proofs.Members.{In, all_from_in, in_append, in_filtered, in_find, in_flat_map, in_flat_mapped, in_from_all, in_get_or, in_left, in_range, place, range_has}
+use Rattle.tw_policy.specs.Left.{remaining}
+use Rattle.tw_policy.specs.Search.{AreOnce, Differ, first_of, has_any, has_choice, is_one_of, only_at}
 use Rattle.tw_policy.specs.Stable.{IsStableAssignment}
 use Rattle.tw_policy.specs.Standing.{standing}
 use Rattle.tw_policy.proofs.Cases.{standing_once, standing_own}
@@ -23,7 +23,7 @@ use Rattle.tw_policy.proofs.Halts.{one_in, remaining_same}
 use Rattle.tw_policy.proofs.Left as left_lists
 use Rattle.tw_policy.proofs.Lists.{all_from, all_in, none_found}
 use Rattle.tw_policy.proofs.Search.{alone, first_in, in_one_of, not_again, once_filter, some_there}
-use Rattle.tw_elimination.specs.Narrowing.{AreLists, halt_within, keeps_all, kept_at, list_at, one_round, total_in}
+use Rattle.tw_elimination.specs.Narrowing.{AreLists, halt_within, keeps_all, list_at, one_round, total_in}
 use Rattle.tw_elimination.specs.Rounds.{left_in, rounds_of}
 use Rattle.tw_elimination.proofs.Halting.{left_paths, peer_below}
 use Rattle.tw_elimination.proofs.Kept.{all_kept_in, at_round, halt_has, halt_keeps, may_be, round_in, round_long, takes_none_more, total_same}

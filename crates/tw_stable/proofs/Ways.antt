@@ -1,8 +1,7 @@
 -- How a search goes on by what it meets.
-use Rattle.std.proofs.Common.{◌≡◌, ℕ, zero, suc, ◌+◌, ◌-◌, ◌<◌, ◌≤◌, ◌==◌, Bool, true, false, List, [], ◌∷◌, ◌++◌, fold, get_or, length, nat_le, not, take, Global, Option, Some, None, refl, ap, sym, ◌∙◌, subst, inl, inr, arith, if◌then◌else◌, append_assoc, append-nil}
+use Rattle.std.proofs.Common.{◌≡◌, ℕ, zero, suc, ◌+◌, ◌<◌, ◌≤◌, Bool, true, false, List, [], ◌∷◌, ◌++◌, get_or, length, nat_le, not, take, Global, Option, Some, None, refl, ap, sym, ◌∙◌, subst, arith, if◌then◌else◌, append_assoc, append-nil}
 use Rattle.std.specs.declared.vec.Vec.{Vec}
-use Rattle.std.specs.List.{All, find, flat_map, range_with_len}
-use Rattle.std.proofs.lemmas.Bool.{cases_Bool, cases_eq, cases_lt}
+use Rattle.std.specs.List.{find, flat_map, range_with_len}
 use Rattle.std.proofs.lemmas.List.{length-map, take_more}
 use Rattle.tw_event.specs.declared.event.PathNo.{PathNo}
 use Rattle.tw_instance.specs.Tables.{items}
@@ -11,7 +10,7 @@ use Rattle.tw_model.specs.Net.{IsPath, empty_path}
 use Rattle.tw_sim.proofs.Members.{In, all_from_in, in_from_all, in_get_or}
 use Rattle.tw_policy.specs.Search.{has_choice}
 use Rattle.tw_elimination.specs.Narrowing.{AreLists, halt_within, list_at, total_in}
-use Rattle.tw_stable.specs.Splitting.{Found, Meeting, Split, are_enough, eliminated, first_choice, first_paths, found_by, found_in, have_all, meetings, met_at, met_within, splits_in, with_only}
+use Rattle.tw_stable.specs.Splitting.{Found, Meeting, Split, are_enough, eliminated, first_choice, found_by, found_in, meetings, met_at, met_within, splits_in, with_only}
 use Rattle.tw_stable.specs.Progress.{Way, after_one, go_on}
 use Rattle.tw_stable.proofs.Meetings.{choice_here, halt_few, only_among, only_long, split_few}
 use Rattle.tw_stable.proofs.Rows.{row_at}

@@ -11,6 +11,7 @@ ghost use Rattle.tw_policy.specs.Standing.{standing};
 ghost use Rattle.tw_stable.specs.Splitting.{are_enough, found_by, rib_at};
 
 use crate::lists::lists_left;
+use crate::progress::SplitProgress;
 use crate::search::{Progress, search_within};
 use std::alloc::{AllocError, Global};
 use tw_elimination::{eliminate, standing_routers};
@@ -33,10 +34,13 @@ pub struct StableAssignments {
 /// paths is tried alone: that is a split, of which at most so many are made, and elimination goes on within what
 /// is left. Where the splits do not suffice, the assignments found so far are listed. What a search takes may
 /// grow exponentially in the number of routers. It fails for want of memory alone.
-pub fn stable_assignments(
+///
+/// Each split is told as it is made.
+pub fn stable_assignments<P: SplitProgress>(
     alloc: Global,
     case: &Case,
     splits: u64,
+    told: &P,
 ) -> Result<StableAssignments, AllocError>
     ensures stable { IfOk result (λ s. All (λ ribs. IsStableAssignment case.now.net (standing case.now) (rib_at ribs)) (items s.ribs.items)) }
     ensures once { IfOk result (λ s. (j k : ℕ) → j < k → k < length s.ribs.items → Differ case.now.net.nodes (rib_at (row s.ribs.items j)) (rib_at (row s.ribs.items k))) }
@@ -56,7 +60,7 @@ pub fn stable_assignments(
         splits,
         is_whole: true,
     };
-    search_within(alloc, case, &mut routers, lists, &mut progress)?;
+    search_within(alloc, case, &mut routers, lists, &mut progress, told)?;
     Ok(StableAssignments {
         ribs: progress.found,
         are_all: progress.is_whole,

@@ -8,6 +8,8 @@
 mod assignments;
 pub mod laws;
 mod lists;
+mod progress;
 mod search;
 
 pub use assignments::{StableAssignments, stable_assignments};
+pub use progress::{SplitProgress, Untold};

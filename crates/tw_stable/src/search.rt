@@ -9,6 +9,7 @@ ghost use Rattle.tw_stable.specs.Progress.{go_on, way_of};
 ghost use Rattle.tw_stable.specs.Splitting.{Split, met_at, met_within};
 
 use crate::lists::{first_choice, first_paths, have_all, with_only};
+use crate::progress::SplitProgress;
 use std::alloc::{AllocError, Global};
 use tw_elimination::eliminate_within;
 use tw_event::PathNo;
@@ -29,12 +30,13 @@ pub(crate) struct Progress {
 /// splits do not suffice, it stops at the first that is one too many.
 ///
 /// The calls are nested as deep as routers are split, which is less than there are routers.
-pub(crate) fn search_within(
+pub(crate) fn search_within<P: SplitProgress>(
     alloc: Global,
     case: &Case,
     routers: &mut [Router<'_>],
     lists: Vec<Vec<PathNo>>,
     progress: &mut Progress,
+    told: &P,
 ) -> Result<(), AllocError>
     requires routers { routers.old ≡ standing_routers_of case.now }
     requires lists { AreLists case.now (items lists.items) }
@@ -50,9 +52,10 @@ pub(crate) fn search_within(
         return settle(alloc, &halt, progress);
     };
     take_split(progress);
+    told.has_split(progress.splits, progress.found.as_slice().len());
     for path in &halt[node] {
         let part = with_only(alloc, &halt, node, *path)?;
-        search_within(alloc, case, routers, part, progress)?;
+        search_within(alloc, case, routers, part, progress, told)?;
     }
     Ok(())
 }

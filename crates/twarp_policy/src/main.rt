@@ -2,36 +2,35 @@
 //!
 //! `main` reads the command line, opens standard input and output, and ends with an exit status: 0
 //! where it is done, 1 where it refused its input, 2 where it stopped, 3 where the line is no command
-//! line. Proved: what `safe_io` and `stable_io` write is the answer to the case that was read, and each way in which a
-//! command ends has its exit status. Not proved: what the words of the command line ask for, and what
-//! stands on standard error.
+//! line. Proved: what `perform` writes is what is due for the command line, for any source and sink,
+//! and each way in which a command ends has its exit status; what the words of the command line ask
+//! for is `tw_policy_options`'s. Not proved: where status 3 comes, and what stands on standard error;
+//! `checks/policy.py` tests both.
 #![tactic(auto)]
 
-mod request;
+mod meter;
+mod perform;
 
 ghost use Rattle.std.specs.Prelude.{◌≡◌};
 ghost use Rattle.std.specs.Process.{exit_status};
 ghost use Rattle.twarp_policy.specs.Due.{status_number};
 
-use request::{HELP, Request, SAFE_HELP, STABLE_HELP, USAGE, VERSION, request_of};
+use meter::Meter;
+use perform::perform;
 use std::env;
 use std::io::{self, BufWriter, IsTerminal, Write};
 use std::process::ExitCode;
+use std::time::Clock;
 use tw_commands::{Cause, Status};
 use tw_device::{OverRead, OverWrite};
-use tw_policy_commands::{safe_io, stable_io};
+use tw_options::CommandLineFault;
+use tw_policy_options::{CommandLine, options};
 
 /// The exit status of words that are no command line.
 const BAD_LINE: u8 = 3;
 
-/// What is asked of a case.
-#[derive(Clone, Copy)]
-enum Question {
-    /// What elimination leaves, and whether it comes to rest.
-    Safe,
-    /// The stable assignments that at most so many splits find.
-    Stable(u64),
-}
+/// A tip where a word of the command line seems to name the input, which no word does.
+const TIP: &str = "tip: the case comes from standard input, as in: twarp-policy safe < case.spp";
 
 /// A device of the program that failed, with what the system says of it.
 #[derive(Clone, Copy)]
@@ -54,36 +53,37 @@ fn main(rt: HostRuntime) -> ExitCode {
             return ExitCode::from(BAD_LINE);
         }
     };
-    match request_of(words.as_slice()) {
-        Some(Request::Safe) => run(&rt, Question::Safe),
-        Some(Request::Stable(splits)) => run(&rt, Question::Stable(splits)),
-        Some(Request::Help) => tell(&rt, HELP),
-        Some(Request::SafeHelp) => tell(&rt, SAFE_HELP),
-        Some(Request::StableHelp) => tell(&rt, STABLE_HELP),
-        Some(Request::Version) => tell(&rt, VERSION),
-        None => {
-            let _ = rt.eprintln(USAGE);
+    match options(rt.alloc(), words.as_slice()) {
+        Ok(line) => run(&rt, line),
+        Err(CommandLineFault::Help(text)) => match text.print(&rt) {
+            Ok(()) => ExitCode::SUCCESS,
+            Err(error) => stop_at(&rt, Device::Output(error)),
+        },
+        Err(CommandLineFault::Bad(text)) => {
+            let _ = text.print(&rt);
+            if names_a_file(words.as_slice()) {
+                let _ = rt.eprintln(TIP);
+            }
             ExitCode::from(BAD_LINE)
         }
+        Err(CommandLineFault::Memory) => stop_with(&rt, Cause::Memory),
     }
 }
 
-/// Prints a text on standard output.
-fn tell(rt: &(impl Print + Eprint), text: &str) -> ExitCode {
-    match rt.println(text) {
-        Ok(()) => ExitCode::SUCCESS,
-        Err(error) => stop_at(rt, Device::Output(error)),
-    }
+/// Whether a word behind the program's name looks like the name of a file.
+fn names_a_file(words: &[String]) -> bool {
+    let mut words = words.iter().skip(1);
+    words.any(|word| word.contains('.') || word.contains('/'))
 }
 
 /// Judges the case on standard input.
-fn run(rt: &HostRuntime, question: Question) -> ExitCode {
+fn run(rt: &HostRuntime, line: CommandLine) -> ExitCode {
     if rt.stdin().is_terminal() {
         let _ = eprintln!(rt;
             "twarp-policy reads from standard input, here a terminal: type a case and end it by Ctrl-D, or give a file by < FILE"
         );
     }
-    let (ended, failed) = answer(rt, question);
+    let (ended, failed) = answer(rt, line, rt.stderr().is_terminal());
     exit_with(rt, ended, failed)
 }
 
@@ -101,9 +101,10 @@ fn exit_with(rt: &impl Eprint, ended: Result<Status, Cause>, failed: Option<Devi
 }
 
 /// Reads standard input, and writes the answer to standard output. Where a device failed it is told beside that.
-fn answer<R: Input + Print + Eprint + AllocGlobal>(
+fn answer<R: Input + Print + Eprint + AllocGlobal + Clock>(
     rt: &R,
-    question: Question,
+    line: CommandLine,
+    is_watched: bool,
 ) -> (Result<Status, Cause>, Option<Device>) {
     let alloc = rt.alloc();
     let mut source = OverRead::new(rt.reader());
@@ -111,11 +112,8 @@ fn answer<R: Input + Print + Eprint + AllocGlobal>(
         Ok(writer) => writer,
         Err(_) => return (Err(Cause::Memory), None),
     });
-    let ended = match question {
-        Question::Safe => safe_io(alloc, &mut source, &mut sink),
-        Question::Stable(splits) => stable_io(alloc, splits, &mut source, &mut sink),
-    };
-    match ended {
+    let meter = Meter::new(rt, is_watched, line);
+    match perform(alloc, line, &mut source, &mut sink, &meter) {
         Ok(status) => match sink.into_writer().flush() {
             Ok(()) => (Ok(status), None),
             Err(error) => (Err(Cause::Device), Some(Device::Output(error))),

@@ -6,6 +6,5 @@ use Rattle.tw_elimination.proofs.elimination.next_lists.Given as goal
 
 abbrev pub invariant-loop-node : goal.invariant-loop-node
 invariant-loop-node l = record {
-  same : l.routers ≡ l.initial.routers;
   lists : (n : ℕ) → AreLeft l.case n (items l.left) → items l.next.items ≡ map (left_in l.case (suc n)) (range_with_len 0 l.node);
 }

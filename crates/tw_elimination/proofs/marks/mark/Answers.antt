@@ -1,4 +1,4 @@
-use Rattle.std.proofs.Common.{◌∙◌}
+use Rattle.std.proofs.Common.{refl}
 use Rattle.tw_elimination.proofs.Marking.{marked_step, reach_step}
 use Rattle.tw_elimination.proofs.marks.mark.Goals as goal
 
@@ -7,9 +7,8 @@ loop-path-preserved c =
     let r = c.args.router.now in
     let inv = c.loop-path.invariant in
     record {
-      same = c.place_given-place.ensures.same ∙ inv.same;
-      reach = reach_step r c.loop-path.router inv.same c.args.paths.now c.loop-path.path-index c.place_given-place.result (record { 0 = 0 }) c.loop-path-test.true
+      reach = reach_step r r refl c.args.paths.now c.loop-path.path-index c.place_given-place.result (record { 0 = 0 }) c.loop-path-test.true
           c.place_given-place.ensures.value c.loop-path.reach c.max-reach.result c.max-reach.ensures inv.reach;
-      given = marked_step r c.loop-path.router inv.same c.args.paths.now c.loop-path.path-index c.place_given-place.result (record { 0 = 0 }) c.loop-path-test.true
+      given = marked_step r r refl c.args.paths.now c.loop-path.path-index c.place_given-place.result (record { 0 = 0 }) c.loop-path-test.true
           c.place_given-place.ensures.value c.loop-path.given c.args.given.now inv.given;
     }

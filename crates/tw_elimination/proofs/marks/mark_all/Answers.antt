@@ -1,4 +1,4 @@
-use Rattle.std.proofs.Common.{◌≡◌, ◌∙◌, ap, ap₂, sym, subst, arith, get_or, ◌<◌, length}
+use Rattle.std.proofs.Common.{◌≡◌, ◌∙◌, ap₂, refl, sym, subst, arith, get_or, ◌<◌, length}
 use Rattle.std.specs.List.{All}
 use Rattle.tw_instance.specs.Tables.{row}
 use Rattle.tw_model.specs.declared.net.Hop.{Hop}
@@ -16,8 +16,7 @@ mark-reach-requires-clause-paths c =
     let good = (c.hops-hop-items.ensures.good c.loop-slot.slot (record { peer = 0; delay = 0 }) c.loop-slot-test.true).peer in
     let there : w < length c.args.left.now = omega (arith, good, c.requires.long) in
     let are : row c.args.left.now w ≡ c.deref.result.now = row_at c.args.left.now w c.index-left-hop.result there c.index-left-hop.is ∙ sym c.deref.ensures.value in
-    subst (λ net. All (IsPath net) c.deref.result.now) (ap (λ x. x.net) (sym c.loop-slot.invariant.same))
-    (subst (All (IsPath r.net)) are (c.requires.paths w))
+    subst (All (IsPath r.net)) are (c.requires.paths w)
 
 pub loop-slot-preserved : goal.loop-slot-preserved
 loop-slot-preserved c =
@@ -36,18 +35,16 @@ loop-slot-preserved c =
           let up = sym c.is_up.ensures ∙ w.if-is_up.true in
           let its = row_at c.args.left.now (get_or hops slot d).peer w.index-left-hop.result there w.index-left-hop.is ∙ sym w.deref.ensures.value in
           record {
-            same = w.router-is ∙ (w.mark-reach.ensures.same ∙ inv.same);
-            reach = narrow_up r c.loop-slot.router inv.same left hops slot d are long c.loop-slot-test.true up w.deref.result.now its
+            reach = narrow_up r r refl left hops slot d are long c.loop-slot-test.true up w.deref.result.now its
                 c.loop-slot.least c.if-is_up.least w.mark-reach.result w.mark-reach.ensures.reach (w.least-is ∙ w.min-least.ensures) inv.reach;
-            given = widen_up r c.loop-slot.router inv.same left hops slot d are long c.loop-slot-test.true up w.deref.result.now its
+            given = widen_up r r refl left hops slot d are long c.loop-slot-test.true up w.deref.result.now its
                 c.loop-slot.given c.if-is_up.given c.args.given.now (w.given-is ∙ w.mark-reach.ensures.given) inv.given;
           })
       | else-is_up w ↦ (
           let down = sym c.is_up.ensures ∙ w.if-is_up.false in
           record {
-            same = w.router-is ∙ inv.same;
-            reach = narrow_down r c.loop-slot.router inv.same left hops slot d are long c.loop-slot-test.true down c.loop-slot.least c.if-is_up.least w.least-is inv.reach;
-            given = widen_down r c.loop-slot.router inv.same left hops slot d are long c.loop-slot-test.true down c.loop-slot.given c.if-is_up.given c.args.given.now
+            reach = narrow_down r r refl left hops slot d are long c.loop-slot-test.true down c.loop-slot.least c.if-is_up.least w.least-is inv.reach;
+            given = widen_down r r refl left hops slot d are long c.loop-slot-test.true down c.loop-slot.given c.if-is_up.given c.args.given.now
                 w.given-is inv.given;
           })
     ]

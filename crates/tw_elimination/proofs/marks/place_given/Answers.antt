@@ -1,12 +1,24 @@
-use Rattle.tw_elimination.proofs.Given.{as_before, value_told}
+use Rattle.std.proofs.Common.{◌∙◌, IsTrue, ap, length, subst, sym}
+use Rattle.std.proofs.lemmas.Bool.{false≢true}
+use Rattle.tw_model.specs.Net.{Net}
+use Rattle.tw_model.specs.State.{offers}
+use Rattle.tw_router.specs.Ranks.{IsOfferedAt}
+use Rattle.tw_elimination.specs.Marks.{telling}
+use Rattle.tw_elimination.proofs.Given.{place_none, place_some}
 use Rattle.tw_elimination.proofs.marks.place_given.Goals as goal
 
-pub returns-clause-value : goal.returns-clause-value
-returns-clause-value c =
-    value_told c.args.router.now c.set_heard.new.self c.set_heard-2.new.self c.args.slot c.args.path c.heard-heard.result c.requires.slot c.requires.up
-    c.set_heard.ensures c.set_heard-2.ensures c.order.result.now c.rank_row.result.now c.order.ensures.value c.rank_row.ensures
+pub returns-in-Some-clause-value : goal.returns-in-Some-clause-value
+returns-in-Some-clause-value c =
+    let r = c.args.router.now in
+    let at : IsOfferedAt r.net r.node (telling c.args.path) c.in-Some.line
+    = subst (λ (net : Net). IsOfferedAt net r.node (telling c.args.path) c.in-Some.line) c.requires.own
+    (subst (λ v. IsOfferedAt c.args.instance.now v (telling c.args.path) c.in-Some.line) c.node.ensures.value c.in-Some.ensures.some) in
+    c.place_at.ensures.value at.0 at.1 ∙ place_some r c.args.path c.in-Some.line at
 
-pub returns-clause-same : goal.returns-clause-same
-returns-clause-same c =
-    as_before c.args.router.now c.set_heard.new.self c.set_heard-2.new.self c.args.slot c.args.path c.heard-heard.result c.requires.slot c.requires.up
-    c.set_heard.ensures c.set_heard-2.ensures c.heard-heard.ensures.value
+pub returns-in-None-clause-value : goal.returns-in-None-clause-value
+returns-in-None-clause-value c =
+    let r = c.args.router.now in
+    ap length c.order.ensures.value
+    ∙ place_none r c.args.path (λ q h. false≢true (c.in-None.ensures.none q
+    (subst (λ v. IsTrue (offers c.args.instance.now v q (telling c.args.path))) (sym c.node.ensures.value)
+    (subst (λ (net : Net). IsTrue (offers net r.node q (telling c.args.path))) (sym c.requires.own) h))))

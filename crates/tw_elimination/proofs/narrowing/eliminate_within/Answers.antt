@@ -1,4 +1,4 @@
-use Rattle.std.proofs.Common.{◌≡◌, ◌∙◌, ◌<◌, ◌≤◌, ap, arith, false, length, refl, subst, sym, true}
+use Rattle.std.proofs.Common.{◌≡◌, ◌∙◌, ◌<◌, ◌≤◌, ap, arith, false, length, refl, subst, sym}
 use Rattle.tw_instance.specs.Tables.{items}
 use Rattle.tw_elimination.specs.Narrowing.{AreLists, halt_within, keeps_all, kept_after, one_round, total_in}
 use Rattle.tw_elimination.proofs.Halting.{none_found}
@@ -10,8 +10,8 @@ loop-alloc-init c =
     let case = c.args.case.now in
     record {
       is = c.one_round.ensures.case;
-      same = c.one_round.ensures.same;
-      routers = c.one_round.ensures.same ∙ c.requires.routers;
+      same = refl;
+      routers = c.requires.routers;
       left = c.requires.lists;
       next = c.in_ok-next.ensures.value ∙ ap (λ rows. one_round case (items rows)) c.deref.ensures.value;
       halt = (total_in case (items c.args.lists.items), omega arith, refl);
@@ -53,8 +53,8 @@ loop-alloc-preserved c =
     let more = halt_more case inv.halt.0 left end inv.halt.1 inv.halt.2 (takes c) in
     record {
       is = inv.is;
-      same = c.one_round-in-loop-alloc.ensures.same ∙ inv.same;
-      routers = c.one_round-in-loop-alloc.ensures.same ∙ inv.routers;
+      same = inv.same;
+      routers = inv.routers;
       left = subst (AreLists case) (sym inv.next) (round_lists case left inv.left);
       next = c.in_ok-next-2.ensures.value ∙ ap (λ rows. one_round case (items rows)) c.deref-in-loop-alloc-3.ensures.value;
       halt = (

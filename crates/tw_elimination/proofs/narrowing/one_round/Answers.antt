@@ -1,6 +1,6 @@
-use Rattle.std.proofs.Common.{◌≡◌, ◌∙◌, ap, arith, filter, get_or, length, map, set, subst, sym}
+use Rattle.std.proofs.Common.{◌≡◌, ◌∙◌, ap, arith, filter, length, map, subst, sym}
 use Rattle.std.specs.List.{All, range_with_len}
-use Rattle.std.proofs.lemmas.List.{length-map, set-get_or}
+use Rattle.std.proofs.lemmas.List.{length-map}
 use Rattle.tw_instance.specs.Tables.{items, row}
 use Rattle.tw_model.specs.Net.{IsPath}
 use Rattle.tw_model.specs.State.{Router}
@@ -16,8 +16,7 @@ use Rattle.tw_elimination.proofs.narrowing.one_round.Goals as goal
 pub remaining_at-requires-clause-own : goal.remaining_at-requires-clause-own
 remaining_at-requires-clause-own c =
     let case = c.args.case.now in
-    let long = ap length c.loop-node.invariant.same in
-    let own = router_is case c.loop-node.routers c.loop-node.node c.index-routers-node.result (c.loop-node.invariant.same ∙ c.requires.routers) (omega arith) in
+    let own = c.index-routers-node.is ∙ router_is case c.args.routers.now c.loop-node.node c.index-routers-node.result c.requires.routers (omega arith) in
     c.instance-instance.ensures.value ∙ ap (λ (x : Router). x.net) (sym own)
 
 pub remaining_at-requires-clause-long : goal.remaining_at-requires-clause-long
@@ -38,19 +37,17 @@ loop-node-preserved c =
     let lists = c.args.lists.now in
     let k = c.loop-node.node in
     let inv = c.loop-node.invariant in
-    let long = ap length inv.same in
     let d = c.index-routers-node.result in
-    let own = router_is case c.loop-node.routers k d (inv.same ∙ c.requires.routers) (omega arith) in
+    let own = c.index-routers-node.is ∙ router_is case c.args.routers.now k d c.requires.routers (omega arith) in
     let same_long : length (items lists) ≡ length lists = length-map lists (λ v. v.items) in
     let nodes = routers_long case c.args.routers.now c.requires.routers in
     let all = c.requires.lists.long in
-    let remains : c.in_ok-remaining.remaining.items ≡ round_left (get_or c.loop-node.routers k d).net (standing case) (row lists) (get_or c.loop-node.routers k d).node
+    let remains : c.in_ok-remaining.remaining.items ≡ round_left d.net (standing case) (row lists) d.node
     = c.in_ok-remaining.ensures.value (standing case) (ap (λ (x : Router). standing case x.node) own ∙ ap (λ (x : Router). x.state) (sym own)) in
     let others : c.deref-in-loop-node.result.now ≡ round_left case.net (standing case) (row lists) k
     = c.deref-in-loop-node.ensures.value ∙ (remains ∙ ap (λ (x : Router). round_left x.net (standing case) (row lists) x.node) own) in
     let mine : c.deref.result.now ≡ row lists k = c.deref.ensures.value ∙ sym (row_at lists k c.index-lists-node.result (omega arith) c.index-lists-node.is) in
     record {
-      same = ap (set c.loop-node.routers k) c.remaining_at.ensures.same ∙ (set-get_or c.loop-node.routers k d ∙ inv.same);
       next = items_more (kept_at case (items lists)) k c.loop-node.next.items c.push.new.self.items c.in_ok-those_among.field-0 c.in_ok-push.ensures.items
           (c.in_ok-those_among.ensures ∙ (ap (λ xs. filter (is_one_of xs) c.deref.result.now) others
           ∙ ap (filter (is_one_of (round_left case.net (standing case) (row lists) k))) mine)) inv.next;

@@ -6,6 +6,5 @@ use Rattle.tw_elimination.proofs.narrowing.one_round.Given as goal
 
 abbrev pub invariant-loop-node : goal.invariant-loop-node
 invariant-loop-node l = record {
-  same : l.routers ≡ l.initial.routers;
   next : items l.next.items ≡ map (kept_at l.case (items l.lists)) (range_with_len 0 l.node);
 }

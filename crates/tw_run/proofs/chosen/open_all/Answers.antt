@@ -1,7 +1,7 @@
 use Rattle.std.proofs.Common.{◌≡◌, ◌<◌, ◌≤◌, ◌∙◌, ap, arith, slice_get, sym}
 use Rattle.tw_run.proofs.Going.{come_begun}
 use Rattle.tw_run.specs.Dealing.{owners_after}
-use Rattle.tw_run.specs.declared.policy.TheConstants.{MOST_WORKERS_CHOSEN}
+use Rattle.tw_pace.specs.declared.pace.TheConstants.{MOST_WORKERS_CHOSEN}
 use Rattle.tw_run.proofs.chosen.open_all.Goals as goal
 
 pub returns-in-Ok-of_run-clause-ok : goal.returns-in-Ok-of_run-clause-ok

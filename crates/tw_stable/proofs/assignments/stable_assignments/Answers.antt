@@ -17,7 +17,7 @@ use Rattle.tw_stable.proofs.Ways.{whole_found}
 use Rattle.tw_stable.proofs.assignments.stable_assignments.Goals as goal
 
 pub search_within-requires : goal.search_within-requires
-search_within-requires c =
+search_within-requires g c =
     let case = c.args.case.now in
     let e = c.in_ok-elimination.ensures in
     let is : IsCase case = subst IsCase (ap (λ (x : Eliminated). x.case) e) c.in_ok-lists.ensures.case in
@@ -28,7 +28,7 @@ search_within-requires c =
     }
 
 pub returns : goal.returns
-returns c =
+returns g c =
     let case = c.args.case.now in
     let splits = c.args.splits in
     let e = c.in_ok-elimination.ensures in

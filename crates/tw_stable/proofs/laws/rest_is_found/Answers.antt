@@ -1,11 +1,10 @@
-use Rattle.std.proofs.Common.{◌≡◌, ◌<◌, ℕ, List, [], ap, arith, length, subst}
+use Rattle.std.proofs.Common.{◌<◌, List, arith, length, subst}
 use Rattle.tw_event.specs.declared.event.PathNo.{PathNo}
 use Rattle.tw_model.specs.Case.{simulation}
 use Rattle.tw_sim.specs.Seq.{at}
 use Rattle.tw_policy.proofs.Alike.{alike_back, stable_alike}
 use Rattle.tw_policy.proofs.Never.{at_rest}
 use Rattle.tw_policy.proofs.Scripts.{scripted_before}
-use Rattle.tw_stable.specs.Splitting.{found_by}
 use Rattle.tw_stable.proofs.Meetings.{lists_all}
 use Rattle.tw_stable.proofs.laws.rest_is_found.Goals as goal
 

@@ -1,6 +1,5 @@
-use Rattle.std.proofs.Common.{ℕ, ◌≡◌, ◌<◌, ◌≤◌, ◌∙◌, [], List, None, Some, OnOk, ap, arith, get_or, length, sym, subst}
+use Rattle.std.proofs.Common.{◌≡◌, ◌<◌, ◌≤◌, ◌∙◌, [], None, OnOk, ap, arith, get_or, length, sym, subst}
 use Rattle.std.proofs.lemmas.List.{length-map}
-use Rattle.tw_event.specs.declared.event.PathNo.{PathNo}
 use Rattle.tw_elimination.specs.Narrowing.{AreLists, halt_within, list_at, total_in}
 use Rattle.tw_instance.specs.Tables.{items}
 use Rattle.tw_model.specs.Net.{empty_path}
@@ -11,11 +10,11 @@ use Rattle.tw_stable.proofs.Ways.{choice_is, chosen, go_on_stopped, list_is, met
 use Rattle.tw_stable.proofs.search.+search_within.Goals as goal
 
 pub returns-then-not-progress-clause-met : goal.returns-then-not-progress-clause-met
-returns-then-not-progress-clause-met t c = λ n few.
+returns-then-not-progress-clause-met g t c = λ n few.
     sym (go_on_stopped (way_of c.args.progress.now) (met_within c.args.case.now n (items c.args.lists.items)) c.if-not-progress.true)
 
 pub returns-in_default-clause-met : goal.returns-in_default-clause-met
-returns-in_default-clause-met t c = λ n few.
+returns-in_default-clause-met g t c = λ n few.
     let case = c.args.case.now in
     let lists = items c.args.lists.items in
     let halt = c.in_ok-halt.halt.items in
@@ -31,7 +30,7 @@ returns-in_default-clause-met t c = λ n few.
     subst (λ ms. OnOk c.settle.result (way_of c.settle.new.progress ≡ go_on (way_of c.args.progress.now) ms)) met (c.settle.ensures case long)
 
 pub index-requires : goal.index-requires
-index-requires t c =
+index-requires g t c =
     let case = c.args.case.now in
     let halt = c.in_ok-halt.halt.items in
     let all = c.in_ok-halt.ensures.lists.long in
@@ -41,7 +40,7 @@ index-requires t c =
     omega arith
 
 pub search_within-requires : goal.search_within-requires
-search_within-requires t c =
+search_within-requires g t c =
     let case = c.args.case.now in
     let is = c.eliminate_within.ensures.case in
     let lists = items c.args.lists.items in
@@ -60,10 +59,10 @@ search_within-requires t c =
     let fits = part_fits case is lists c.in_ok-part.part.items node k (subst (AreLists case) c.in_ok-halt.ensures.value c.in_ok-halt.ensures.lists) first
     (subst (λ xs. k < length xs) mine c.loop-path-test.true) part in
     let fewer = fits.0 in
-    (omega (arith, fewer, c.decreases), (c.loop-path.invariant.same ∙ c.requires.routers, fits.1))
+    λ κs within. (omega (arith, fewer, c.decreases), (within, (c.loop-path.invariant.same ∙ c.requires.routers, fits.1)))
 
 pub loop-path-preserved : goal.loop-path-preserved
-loop-path-preserved t c =
+loop-path-preserved g t c =
     let case = c.args.case.now in
     let is = c.eliminate_within.ensures.case in
     let lists = items c.args.lists.items in
@@ -92,7 +91,7 @@ loop-path-preserved t c =
     }
 
 pub returns-clause-met : goal.returns-clause-met
-returns-clause-met t c = λ n few.
+returns-clause-met g t c = λ n few.
     let case = c.args.case.now in
     let is = c.eliminate_within.ensures.case in
     let lists = items c.args.lists.items in

@@ -7,10 +7,10 @@ use Rattle.tw_stable.specs.Splitting.{met_within, with_only}
 use Rattle.tw_stable.proofs.search.+search_within.Given as goal
 
 abbrev pub decreases-search_within : goal.decreases-search_within
-decreases-search_within l = total_in l.case.now (items l.lists.items)
+decreases-search_within g l = total_in l.case.now (items l.lists.items)
 
 abbrev pub invariant-loop-path : goal.invariant-loop-path
-invariant-loop-path l =
+invariant-loop-path g l =
     let halt = halt_within l.case (items l.fn.lists.items) in record {
       same : l.routers ≡ l.fn.routers;
       met : (n : ℕ) → total_in l.case halt ≤ n

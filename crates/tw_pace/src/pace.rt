@@ -1,0 +1,269 @@
+//! When a run that is told no number of workers goes on by one thread, and when by several: plain functions of figures,
+//! which are ticks of the run, events, and microseconds by a clock that may stand still or go back. No promise rests on
+//! them.
+
+ghost use Rattle.std.specs.Prelude.{◌≡◌, ◌≤◌, ◌<◌, IfSome, None};
+
+/// More workers than so many are not tried: the tables of bench/ have none that gains by more.
+pub const MOST_WORKERS_CHOSEN: u32 = 4;
+
+/// For so long a run goes on by one thread before several are tried. A trial costs about as much, so shorter runs never
+/// pay for one.
+const BEGINNING: u64 = 4_000;
+
+/// A lap of one thread that takes less is followed by one of twice the ticks, so that a run begins with some dozen laps,
+/// whatever happens in a tick. The clock is read once a lap.
+const SHORT_LAP: u64 = 250;
+
+/// Several are tried where what is left takes one thread so long at least: then a trial that is lost costs less than a
+/// user sees.
+const ENOUGH: u64 = 20_000;
+
+/// Where it takes longer to start and join threads that have nothing to do, other work takes the processors, and workers
+/// wait for one another far longer than they work. On a quiet machine it takes a tenth of this.
+const LONG_START: u64 = 3_000;
+
+/// Several are first tried on what takes one thread so long: some ten times what it takes to start a thread, and long
+/// enough for a clock to tell a twentieth.
+const TRIAL: u64 = 3_000;
+
+/// They go on where the trial took a twentieth less than one thread: less is within what a clock tells of it.
+const TWENTIETHS: u64 = 19;
+
+/// A stretch by several that takes less is followed by one of twice the ticks: between stretches all threads are joined
+/// and started anew, some hundredth of this. A longer one could cost much where other work comes to the processors.
+const LONG_STRETCH: u64 = 50_000;
+
+/// Several are tried again when one thread has gone on for so many times what the last trial lost, so that all trials
+/// together cost a twentieth at most.
+const PATIENCE: u64 = 20;
+
+/// When several have gone on for so long, and for so many times what it took to begin, one thread goes on for a
+/// beginning, to tell what it takes by then: its pace changes as a run goes on.
+const LONG_BY_ALL: u64 = 2_000_000;
+
+const LONG_BY_ALL_TIMES: u64 = 200;
+
+/// What so many events took.
+#[derive(Clone, Copy, PartialEq, Eq, Debug)]
+struct Pace {
+    events: u64,
+    micros: u64,
+}
+
+/// A piece of a run, and what it took.
+#[derive(Clone, Copy, PartialEq, Eq, Debug)]
+struct Piece {
+    ticks: u64,
+    micros: u64,
+}
+
+/// How far a run has come by one thread, lap by lap.
+#[derive(Clone, Copy, PartialEq, Eq, Debug)]
+pub struct Alone {
+    /// Where it stands.
+    pub ticks: u64,
+    // Handled before it went on by one thread.
+    before: u64,
+    // In all laps since then.
+    micros: u64,
+    last: Piece,
+    // So long it goes on before several are tried.
+    patience: u64,
+}
+
+impl Alone {
+    /// Nothing is run yet.
+    pub fn new() -> Alone
+        ensures { result.ticks ≡ 0 }
+    {
+        Alone {
+            ticks: 0,
+            before: 0,
+            micros: 0,
+            last: Piece {
+                ticks: 1,
+                micros: 0,
+            },
+            patience: BEGINNING,
+        }
+    }
+
+    /// Where the next lap ends: behind where the run is, and not past the stop.
+    pub fn next_end(self, stop: u64) -> u64
+        requires { self.ticks < stop }
+        ensures after { self.ticks < result }
+        ensures within { result ≤ stop }
+    {
+        let length = if self.last.micros < SHORT_LAP {
+            self.last.ticks.saturating_mul(2)
+        } else {
+            self.last.ticks
+        };
+        end_within(self.ticks, length, stop)
+    }
+
+    /// Behind a lap that ended there and took so long.
+    pub fn lap(self, end: u64, micros: u64) -> Alone
+        ensures { result.ticks ≡ end }
+    {
+        Alone {
+            ticks: end,
+            micros: self.micros.saturating_add(micros),
+            last: Piece {
+                ticks: end.saturating_sub(self.ticks),
+                micros,
+            },
+            ..self
+        }
+    }
+
+    /// Several could not begin: it is patient once more.
+    pub fn again(self) -> Alone
+        ensures { result.ticks ≡ self.ticks }
+    {
+        Alone {
+            patience: self.micros.saturating_mul(PATIENCE),
+            ..self
+        }
+    }
+
+    /// Whether several workers are to be tried: it was patient, and enough is left up to the stop.
+    pub fn is_trial_due(self, stop: u64) -> bool {
+        let left = stop.saturating_sub(self.ticks);
+        let rest = in_proportion(left, self.last.micros, self.last.ticks);
+        self.micros >= self.patience && rest >= ENOUGH
+    }
+}
+
+/// How far a run has come by several workers, stretch by stretch.
+#[derive(Clone, Copy, PartialEq, Eq, Debug)]
+pub struct Course {
+    /// Where it stands.
+    pub ticks: u64,
+    // Handled from the beginning on.
+    events: u64,
+    // What one thread took before.
+    alone: Pace,
+    lap: Piece,
+    // To begin, and, of that, to start and join the threads.
+    opening: u64,
+    starting: u64,
+    // Of the next stretch, in ticks.
+    length: u64,
+    // In all stretches so far.
+    micros: u64,
+    // What the last stretch took more than one thread would have, where that counts.
+    lost: Option<u64>,
+}
+
+impl Course {
+    /// A run that one thread has brought so far, so many events from its beginning. It took so long for several workers
+    /// to begin, and, of that, to start and join their threads.
+    pub fn new(alone: Alone, events: u64, opening: u64, starting: u64) -> Course
+        ensures { result.ticks ≡ alone.ticks }
+    {
+        Course {
+            ticks: alone.ticks,
+            events,
+            alone: Pace {
+                events: events.saturating_sub(alone.before),
+                micros: alone.micros,
+            },
+            lap: alone.last,
+            opening,
+            starting,
+            length: in_proportion(TRIAL, alone.last.ticks, alone.last.micros),
+            micros: 0,
+            lost: if starting > LONG_START { Some(0) } else { None },
+        }
+    }
+
+    /// Where the next stretch ends, if there is one more: behind where the run is, and not past the stop.
+    pub fn next_end(self, stop: u64) -> Option<u64>
+        ensures some { IfSome result (λ end. (self.ticks < end) × (end ≤ stop)) }
+        ensures none { result ≡ None → stop ≤ self.ticks }
+    {
+        if self.ticks >= stop {
+            return None;
+        }
+        Some(end_within(self.ticks, self.length, stop))
+    }
+
+    /// Behind a stretch that ended there, so many events from the beginning, and took so long.
+    pub fn stretch(self, end: u64, events: u64, micros: u64) -> Course
+        ensures { result.ticks ≡ end }
+    {
+        let by_one = in_proportion(
+            events.saturating_sub(self.events),
+            self.alone.micros,
+            self.alone.events,
+        );
+        let length = end.saturating_sub(self.ticks);
+        Course {
+            ticks: end,
+            events,
+            length: if micros >= LONG_STRETCH {
+                length
+            } else {
+                length.saturating_mul(2)
+            },
+            micros: self.micros.saturating_add(micros),
+            lost: self.loss(micros, by_one),
+            ..self
+        }
+    }
+
+    /// What is lost by a stretch that took so long, where one thread would take so long: in the first one, which is the
+    /// trial, starting the threads does not count, and a twentieth is to be won.
+    fn loss(self, micros: u64, by_one: u64) -> Option<u64> {
+        let is_lost = if self.micros == 0 {
+            let work = micros.saturating_sub(self.starting);
+            work.saturating_mul(20) >= by_one.saturating_mul(TWENTIETHS)
+        } else {
+            micros > by_one
+        };
+        if is_lost {
+            Some(micros.saturating_sub(by_one))
+        } else {
+            None
+        }
+    }
+
+    /// Whether one thread is to go on.
+    pub fn is_over(self) -> bool {
+        let long = self.opening.saturating_mul(LONG_BY_ALL_TIMES);
+        self.lost.is_some() || self.micros >= long.saturating_add(LONG_BY_ALL)
+    }
+
+    /// One thread goes on from here.
+    pub fn go_on_alone(self) -> Alone
+        ensures { result.ticks ≡ self.ticks }
+    {
+        let lost = match self.lost {
+            Some(micros) => micros.saturating_add(self.opening),
+            None => 0,
+        };
+        Alone {
+            ticks: self.ticks,
+            before: self.events,
+            micros: 0,
+            last: self.lap,
+            patience: lost.saturating_mul(PATIENCE).max(BEGINNING),
+        }
+    }
+}
+
+/// So many ticks behind a time, one at least, but not past the stop, which is behind it.
+fn end_within(ticks: u64, length: u64, stop: u64) -> u64
+    requires { ticks < stop }
+    ensures after { ticks < result }
+    ensures within { result ≤ stop }
+{
+    ticks.saturating_add(length.max(1)).min(stop)
+}
+
+/// What so much takes where `of` takes `share`.
+fn in_proportion(amount: u64, share: u64, of: u64) -> u64 {
+    amount.saturating_mul(share) / of.max(1)
+}

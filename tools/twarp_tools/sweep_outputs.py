@@ -1,0 +1,179 @@
+"""What a sweep writes: its CSV as runs end, what is told of all together, and how far it is."""
+
+import argparse
+import fcntl
+import json
+import os
+import sys
+import time
+from collections.abc import Iterable, Mapping
+from datetime import timedelta
+from pathlib import Path
+from typing import Literal, TextIO
+
+from twarp.errors import Refused
+from twarp.outcome_picture import OutcomePicture
+from twarp.outcomes import Table, read_table
+from twarp.trials import Trial
+from twarp_tools.command import is_same_file, refuse_own_input, tell, write_output
+
+# Seconds from one telling to the next: on a terminal, where the line is drawn again, and elsewhere.
+REDRAW = 0.1
+NOW_AND_THEN = 10.0
+# Begins the line of a terminal again, and clears what stands behind.
+BEGIN, CLEAR = "\r", "\x1b[K"
+
+
+def refuse_clashes(names: Mapping[str, str], inputs: Iterable[str]) -> None:
+    """Refuses, of options with the files that they name to be written, one that names an input or another's file."""
+    seen: list[str] = []
+    for option, name in names.items():
+        for source in inputs:
+            refuse_own_input(option, name, source)
+        if any(os.path.realpath(name) == os.path.realpath(other) or is_same_file(name, other) for other in seen):
+            raise Refused(f"refused option {option}: {name} is another output")
+        seen.append(name)
+
+
+def open_alone(name: str, mode: Literal["a", "a+"]) -> TextIO:
+    """Opens a file to be written; refused where another sweep writes into it."""
+    file = open(name, mode, newline="", errors="replace")
+    try:
+        if os.path.isfile(name):
+            fcntl.flock(file, fcntl.LOCK_EX | fcntl.LOCK_NB)
+    except BlockingIOError:
+        raise Refused(f"{name}: refused: another sweep writes into it") from None
+    except OSError:
+        # Not every file system has locks.
+        pass
+    return file
+
+
+def open_new(name: str) -> TextIO:
+    """Opens a file to be written from its beginning on."""
+    file = open_alone(name, "a")
+    if os.path.isfile(name):
+        file.truncate(0)
+    return file
+
+
+class Outputs:
+    """What a sweep writes. The files are opened before the first run, and the lines of the CSV written as runs end."""
+
+    def __init__(self, line: argparse.Namespace, table: Table, inputs: Iterable[str]):
+        self.line = line
+        self.table = table
+        # Else standard output may have to hold something in place of these lines, or them in another order.
+        self.is_handed_on = not (line.check or line.resume)
+        names = {"--resume": line.resume, "--csv": line.csv, "--json": line.json, "--picture": line.picture}
+        names = {option: name for option, name in names.items() if name}
+        refuse_clashes(names, inputs)
+        # The lines for standard output that are not written yet, and the runs that the resumed CSV has.
+        self.lines = [] if line.summary else [table.head_line]
+        self.known: list[Trial] = []
+        resumed = self.resume(names.pop("--resume")) if line.resume else None
+        self.files = {option: open_new(name) for option, name in names.items()}
+        self.csv = resumed or self.files.get("--csv")
+        if "--csv" in self.files:
+            self.files["--csv"].write(table.head_line)
+        for trial in self.known:
+            self.take(trial, is_new=False)
+
+    def resume(self, name: str) -> TextIO:
+        """The CSV to go on with, behind its last whole line; refused where it is not of the same case and options."""
+        file = open_alone(name, "a+")
+        if not file.tell():
+            file.write(self.table.head_line)
+            return file
+        file.seek(0)
+        found, self.known = read_csv(name, file, is_cut=True)
+        if found.head != self.table.head:
+            made, wanted = found.head[-1][:200], self.table.head[-1]
+            raise Refused(f"{name}: refused line 1: it is of `{made}`, this one of `{wanted}`")
+        # A line that was broken off is run again.
+        file.truncate(Path(name).read_bytes().rfind(b"\n") + 1)
+        file.seek(0, os.SEEK_END)
+        return file
+
+    def take(self, trial: Trial, is_new: bool = True) -> None:
+        """Counts a run and writes its line, of one that is in the resumed CSV already only on standard output."""
+        text = self.table.line(trial)
+        if self.csv and is_new:
+            self.csv.write(text)
+        if not self.line.summary:
+            self.lines.append(text)
+
+    def flush(self) -> None:
+        if self.csv:
+            self.csv.flush()
+        if self.is_handed_on:
+            write_output("".join(self.lines))
+            self.lines.clear()
+
+    def put_in_order(self) -> None:
+        """Writes the resumed CSV, whose lines stand out of turn, anew in the order of their seeds."""
+        with open(self.line.resume, newline="") as source:
+            _, trials = read_table(source)
+        self.table = Table(self.table.columns, self.table.head[-1], self.table.outcomes.anew())
+        lines = [self.table.head_line, *map(self.table.line, sorted(trials, key=lambda trial: trial.seed))]
+        Path(f"{self.line.resume}.new").write_text("".join(lines))
+        os.replace(f"{self.line.resume}.new", self.line.resume)
+        self.lines = [] if self.line.summary else lines
+
+    def end(self, title: str, drawn: str, told: Mapping[str, object]) -> None:
+        """Writes what is told of all runs together."""
+        outcomes = self.table.outcomes
+        if file := self.files.get("--picture"):
+            file.write(OutcomePicture(outcomes).draw(title, drawn))
+        if file := self.files.get("--json"):
+            file.write(json.dumps({**told, **outcomes.record()}, indent=1) + "\n")
+        for file in self.files.values():
+            file.flush()
+        write_output(outcomes.summary() if self.line.summary else "".join(self.lines))
+
+
+def read_csv(name: str, source: TextIO, is_cut: bool = False) -> tuple[Table, list[Trial]]:
+    try:
+        return read_table(source, is_cut)
+    except Refused as fault:
+        raise Refused(f"{name}: {fault}") from None
+
+
+class Progress:
+    """Tells how many runs of all are done, the rate without those `before`, and how long the others will take."""
+
+    def __init__(self, total: int, is_quiet: bool, before: int = 0):
+        self.total = total
+        self.before = before
+        self.is_quiet = is_quiet or sys.stderr is None
+        self.is_terminal = not self.is_quiet and sys.stderr.isatty()
+        self.begun = self.told = time.monotonic()
+
+    def show(self, done: int, is_end: bool = False) -> None:
+        """Tells how far it is, where that is due, and at the end."""
+        now = time.monotonic()
+        is_due = is_end or now - self.told >= (REDRAW if self.is_terminal else NOW_AND_THEN)
+        if self.is_quiet or not is_due:
+            return
+        self.told, seconds = now, max(now - self.begun, 1e-9)
+        rate = (done - self.before) / seconds
+        left = f", {written_time((self.total - done) / rate)} left" if rate else ""
+        if done == self.total:
+            left = f", {written_time(seconds)} in all"
+        words = f"{done:,} of {self.total:,} runs, {rate:,.0f} a second{left}"
+        if self.is_terminal:
+            sys.stderr.write(f"{BEGIN}{Path(sys.argv[0]).name}: {words}{CLEAR}" + "\n" * is_end)
+            sys.stderr.flush()
+        else:
+            tell(words)
+
+    def tell(self, message: str) -> None:
+        """Says something on a line of its own."""
+        if self.is_terminal:
+            sys.stderr.write(f"{BEGIN}{CLEAR}")
+        tell(message)
+
+
+def written_time(seconds: float) -> str:
+    """A stretch of time in words: seconds, or also minutes and hours as in 1:02:03."""
+    return f"{seconds:.1f} s" if seconds < 59.95 else str(timedelta(seconds=round(seconds)))
