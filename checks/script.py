@@ -19,7 +19,7 @@ from typing import Any
 
 from common import TOP, run_tests
 from tools_common import Done
-from twarp_tools import schedule
+from twarp_tools import build
 
 # Says what rt says at `try`.
 RT = r"""#!/bin/sh
@@ -285,25 +285,25 @@ class ScriptTest(unittest.TestCase):
 
 
 class ScheduleTest(unittest.TestCase):
-    GRAPH = schedule.graph_of(
+    GRAPH = build.graph_of(
         "top: left right\nleft: low side\nright: low\nlow: clap\nside:\nalone:\nother: alone\n"
     )
     SIZES = {"top": 1, "left": 3, "right": 5, "low": 2, "side": 1}
-    CHAIN = schedule.chains(GRAPH, "top", SIZES)
+    CHAIN = build.chains(GRAPH, "top", SIZES)
 
     def choose(
         self, done: Collection[str], running: Collection[str], cores: int
     ) -> dict[str, int]:
         """The number of provers of each crate that is begun, below zero where it gives way to others."""
-        begun = schedule.choose(self.GRAPH, self.CHAIN, {*done}, {*running}, cores)
+        begun = build.choose(self.GRAPH, self.CHAIN, {*done}, {*running}, cores)
         return {crate: -share.provers if share.gives_way else share.provers for crate, share in begun.items()}
 
     def test_only_what_the_top_stands_on(self) -> None:
         below = ["low", "side", "left", "right", "top"]
-        self.assertEqual(schedule.below(self.GRAPH, "top"), below)
+        self.assertEqual(build.below(self.GRAPH, "top"), below)
         self.assertEqual(self.CHAIN, {"top": 1, "left": 4, "right": 6, "low": 8, "side": 5})
-        graph = schedule.graph_of((TOP / "crates.txt").read_text())
-        self.assertFalse({"tw_rows", "tw_program_rows"} & {*schedule.below(graph, "twarp")})
+        graph = build.graph_of((TOP / "crates.txt").read_text())
+        self.assertFalse({"tw_rows", "tw_program_rows"} & {*build.below(graph, "twarp")})
 
     def test_the_longest_chain_comes_first(self) -> None:
         self.assertEqual(self.choose([], [], 1), {"low": 1})
@@ -321,13 +321,13 @@ class ScheduleTest(unittest.TestCase):
         self.assertEqual(self.choose([], ["one", "two", "three"], 4), {"low": 2})
 
     def test_each_crate_is_proved_once_after_those_that_it_uses(self) -> None:
-        graph = schedule.graph_of((TOP / "crates.txt").read_text())
-        chain = schedule.chains(graph, "twarp", dict.fromkeys(graph, 1))
+        graph = build.graph_of((TOP / "crates.txt").read_text())
+        chain = build.chains(graph, "twarp", dict.fromkeys(graph, 1))
         for cores in 1, 2, 4, 16:
             done: list[str] = []
             running: list[str] = []
             while len(done) < len(chain):
-                begun = schedule.choose(graph, chain, {*done}, {*running}, cores)
+                begun = build.choose(graph, chain, {*done}, {*running}, cores)
                 self.assertTrue(all({*graph[crate]} <= {*done} for crate in begun))
                 running += begun
                 self.assertLessEqual(len(running), cores)

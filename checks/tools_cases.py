@@ -170,7 +170,7 @@ class CasesOfTheLiterature(ToolTest):
         self.assertGreaterEqual(len(told), len(re.findall("^### ", page, re.M)) - 1)
         with tempfile.TemporaryDirectory() as name:
             folder = Path(name)
-            programs = tutorial.Programs(tools_common.need_program(), tools_common.need_policy())
+            programs = {"twarp": tools_common.need_program(), "twarp-policy": tools_common.need_policy()}
             tutorial.lay_out(folder, programs)
             for command, verdict in told:
                 with self.subTest(command):

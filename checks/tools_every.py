@@ -61,7 +61,7 @@ class EveryTool(ToolTest):
             raise KeyboardInterrupt
 
         with redirect_stderr(io.StringIO()) as told:
-            self.assertEqual(command.run(interrupted), 2)
+            self.assertEqual(command.tool(interrupted)(), 2)
         self.assertTrue(told.getvalue().endswith(": stopped interrupt\n"))
 
 

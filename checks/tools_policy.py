@@ -18,7 +18,7 @@ import twarp
 from tools_common import CASES, INPUTS, TOP, Done, ToolTest, case_of, need_policy, need_program, run, tool
 from tools_install import completed, files_of, install
 from tools_page import data_of
-from twarp.policy import read_safety, read_stable
+from twarp.calls import read_safety, read_stable
 
 # The stable assignments that are known, without the origin's own path.
 KNOWN = {

@@ -11,7 +11,7 @@ from twarp_tools import tutorial
 
 class Tutorial(ToolTest):
     def test_its_commands_and_pictures(self) -> None:
-        page, programs = tutorial.PAGE.read_text(), tutorial.Programs(need_program(), need_policy())
+        page, programs = tutorial.PAGE.read_text(), {"twarp": need_program(), "twarp-policy": need_policy()}
         with tempfile.TemporaryDirectory() as name:
             folder = Path(name)
             for command, output in tutorial.follow(page, folder, programs):

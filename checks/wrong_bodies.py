@@ -42,7 +42,7 @@ from pathlib import Path
 
 from common import TOP, Tally
 from functions import Function, functions_of, modules_of
-from twarp_tools.schedule import below, graph_of
+from twarp_tools.build import below, graph_of, uses_of
 
 CRATES = TOP / "crates.txt"
 FOLDERS = ("must-fail", "wrong-bodies")
@@ -290,12 +290,7 @@ def checked(folder: Path) -> Said:
 
 def crates() -> dict[str, list[str]]:
     """Each crate of crates.txt with what it uses."""
-    found = {}
-    for line in CRATES.read_text().split("\n"):
-        name, colon, uses = line.partition("#")[0].partition(":")
-        if colon:
-            found[name.split()[0]] = uses.split()
-    return found
+    return uses_of(CRATES.read_text())
 
 
 def copy_linked(folder: Path, to: Path) -> None:

@@ -10,15 +10,15 @@
 The package needs Python 3.10 alone; `Case.from_networkx` and `Case.to_networkx` need networkx (Debian:
 python3-networkx), and `cluster` needs distributed (Debian: python3-distributed). `docs/TUTORIAL.md` has more.
 """
+
 from twarp import pictures
-from twarp.calls import Size, check, replay, run, seq, trail, upgrade, version
+from twarp.calls import Pivot, Safety, Size, Stable, check, replay, run, safe, seq, stable, trail, upgrade, version
 from twarp.case import BarScene, Case, Link, LinkScene, SwapScene
 from twarp.draws import Exponential, LogNormal, Uniform
-from twarp.errors import Refused, Stopped
-from twarp.event import Allow, Event, Fail, Forbid, Restore, Start, Swap, Update
 from twarp.outcomes import Outcome, Outcomes
-from twarp.policy import Pivot, Safety, Stable, safe, stable
-from twarp.report import Open, Oscillates, Quiet, Replay, Report, RouterLine, Step, Trail, Undone
+from twarp.program import Refused, Stopped
+from twarp.report import Allow, Event, Fail, Forbid, Open, Oscillates, Quiet, Replay, Report, Restore, RouterLine, Start
+from twarp.report import Step, Swap, Trail, Undone, Update
 from twarp.sweeps import Sweep, cluster, sweep
 from twarp.trials import End, Failed, Trial
 

@@ -2,14 +2,14 @@
 from __future__ import annotations
 
 import io
-from collections.abc import Iterable
+from collections.abc import Callable, Iterable
 from dataclasses import dataclass, field
 from functools import cache
 from itertools import islice
-from typing import TYPE_CHECKING, Any
+from typing import TYPE_CHECKING, Any, TypeVar
 
 from twarp import program
-from twarp.errors import Refused, quote
+from twarp.program import Refused, quote
 
 if TYPE_CHECKING:
     import networkx
@@ -54,10 +54,6 @@ class Link:
     def is_even(self) -> bool:
         """Whether both directions have one delay, as version 1 says it."""
         return self.delay == self.back
-
-    def line(self, version: int) -> str:
-        delays = f"{self.delay}" if version == 1 else f"{self.delay} {self.back}"
-        return f"link {self.a} {self.b} {delays}"
 
 
 @dataclass(frozen=True, slots=True)
@@ -150,19 +146,15 @@ class Case:
         nodes = [origin, *(node for node in graph if node != origin)]
         numbers = {node: number for number, node in enumerate(nodes)}
         case = cls(len(nodes))
-        pairs = {tuple(sorted((numbers[a], numbers[b]))): None for a, b in graph.edges}
-        for a, b in pairs:
+        for a, b in dict.fromkeys(tuple(sorted((numbers[a], numbers[b]))) for a, b in graph.edges):
             there, back = graph.get_edge_data(nodes[a], nodes[b]), graph.get_edge_data(nodes[b], nodes[a])
             case.link(a, b, *((row if row is not None else there or back).get(delay, 1) for row in (there, back)))
         paths = networkx.get_node_attributes(graph, "paths")
         for node in nodes[1:]:
-            if paths:
-                found: Iterable[Any] = paths.get(node, [])
-            elif networkx.has_path(graph, node, origin):
+            found: Iterable[Any] = paths.get(node, [])
+            if not paths and networkx.has_path(graph, node, origin):
                 short = networkx.shortest_simple_paths(graph, node, origin, weight)
                 found = (path for path in islice(short, SOME_PATHS) if len(path) <= MOST_NODES)
-            else:
-                found = []
             for path in found:
                 case.path(*(numbers[step] for step in path))
         return case
@@ -231,22 +223,16 @@ class Case:
         """Whether each router and each place that a line names is there, and each path leads to the origin by links."""
         links = {frozenset((link.a, link.b)) for link in self.links}
         steps = [frozenset(step) for path in self.paths for step in zip(path, path[1:])]
-        named = [scene.router for scene in self.scenes if not isinstance(scene, LinkScene)]
-        named += [router for link in links for router in link] + [path[0] for path in self.paths]
-        if not self.nodes or any(router not in range(self.nodes) for router in named):
+        swaps = [scene for scene in self.scenes if isinstance(scene, SwapScene)]
+        places = [(scene.router, scene.place) for scene in self.scenes if isinstance(scene, BarScene)]
+        places += [(scene.router, place) for scene in swaps for place in (scene.first, scene.second)]
+        named = {router for link in links for router in link} | {path[0] for path in self.paths}
+        named |= {router for router, _ in places}
+        if not self.nodes or not named.issubset(range(self.nodes)):
             return False
         counts = [len(order) for order in self.orders()]
-        places = [(scene.router, scene.place) for scene in self.scenes if isinstance(scene, BarScene)]
-        for scene in self.scenes:
-            if isinstance(scene, SwapScene):
-                places += [(scene.router, scene.first), (scene.router, scene.second)]
         is_known = all(1 <= place <= counts[router] for router, place in places)
         return is_known and links.issuperset(steps) and all(path[-1] == ORIGIN for path in self.paths)
-
-    def first_version(self) -> int:
-        """The first version that can say the case."""
-        is_first = all(link.is_even for link in self.links)
-        return 1 if is_first and not any(isinstance(scene, BarScene) for scene in self.scenes) else 2
 
     def delays(self) -> list[dict[int, int]]:
         """For each router its neighbours in ascending order, each with the delay of what is sent to it."""
@@ -269,11 +255,12 @@ class Case:
         return {path: number for number, path in enumerate([(), (ORIGIN,), *self.paths])}
 
     def __str__(self) -> str:
-        version = self.version or self.first_version()
-        links = (link.line(version) for link in self.links)
-        paths = map(path_line, self.paths)
-        lines = [f"spp {version}", f"nodes {self.nodes}", *links, *paths, *self.scenes, "end"]
-        return "".join(f"{line}\n" for line in lines)
+        is_first = all(link.is_even for link in self.links)
+        is_first &= not any(isinstance(scene, BarScene) for scene in self.scenes)
+        version = self.version or (1 if is_first else 2)
+        links = [f"link {link.a} {link.b} {link.delay}" + f" {link.back}" * (version > 1) for link in self.links]
+        rest = [*map(path_line, self.paths), *map(str, self.scenes), "end\n"]
+        return "\n".join([f"spp {version}", f"nodes {self.nodes}", *links, *rest])
 
 
 @cache
@@ -329,3 +316,17 @@ def case_and_rest(text: bytes, words: list[str], named: program.File | None = No
     if not case.has_all():
         raise Refused(f"a line names a router, a link or a path that is not there; {WHICH}")
     return case, [*lines]
+
+
+Node = TypeVar("Node")
+
+
+def hops_from(start: Node, peers: Callable[[Node], Iterable[Node]]) -> dict[Node, int]:
+    """How many steps each node is from `start`, where there is a way; the nearest first."""
+    found, nodes = {start: 0}, [start]
+    for node in nodes:
+        for peer in peers(node):
+            if peer not in found:
+                found[peer] = found[node] + 1
+                nodes.append(peer)
+    return found

@@ -3,25 +3,17 @@
 import random
 import re
 from collections import Counter
-from collections.abc import Iterable, Iterator, Sequence
+from collections.abc import Sequence
 from dataclasses import dataclass, replace
 from math import exp, log
 from statistics import NormalDist
 from typing import Protocol
 
 from twarp.case import GREATEST_DELAY, GREATEST_TIME, Case, Link, LinkScene
-from twarp.errors import Refused
+from twarp.program import Refused
 
 # The two ends of a link, the lower first.
 Ends = tuple[int, int]
-
-
-@dataclass(frozen=True)
-class Draw:
-    """The case of a run, and what was drawn for it, a value for each of the source's columns."""
-
-    case: Case
-    values: tuple[int, ...]
 
 
 class Source(Protocol):
@@ -30,8 +22,8 @@ class Source(Protocol):
     columns: list[str]
     words: str
 
-    def draw(self, seed: int) -> Draw:
-        """The case of the run with this seed."""
+    def draw(self, seed: int) -> tuple[Case, tuple[int, ...]]:
+        """The case of the run with this seed, and what was drawn for it, a value for each column."""
         ...
 
 
@@ -98,10 +90,6 @@ def read_range(words: str, least: int, greatest: int) -> Uniform:
     raise ValueError(f"{words[:80]!r} is no range from {least} to {greatest}, as {least}-20")
 
 
-def read_times(words: str) -> Uniform:
-    return read_range(words, 0, GREATEST_TIME)
-
-
 def read_law(words: str) -> Law:
     """The law of delays that is written 1-20, exponential:MEAN, or log-normal:MEDIAN:SIGMA."""
     number = r"([0-9]{1,7}(?:\.[0-9]{1,9})?)"
@@ -139,18 +127,15 @@ class DelayDraws:
         links = "all links" if named is None else f"links {', '.join(f'{a}-{b}' for a, b in chosen)}"
         self.words = f"delays {law} of {links}{', each direction apart' if apart else ''}"
 
-    def values(self, seed: int) -> list[int]:
-        return [self.law.ticks(share(seed, "delay", *way)) for way in self.ways]
-
-    def change(self, case: Case, values: Sequence[int]) -> Case:
-        """The case with these delays, of both directions of a link where only one was drawn."""
-        delays = dict(zip(self.ways, values))
-        delays = {(b, a): delay for (a, b), delay in delays.items()} | delays
+    def draw(self, case: Case, seed: int) -> tuple[Case, list[int]]:
+        """The case with delays of this seed, of both directions of a link where only one is drawn; and these."""
+        values = [self.law.ticks(share(seed, "delay", *way)) for way in self.ways]
+        delays = {(b, a): delay for (a, b), delay in zip(self.ways, values)} | dict(zip(self.ways, values))
         links = [
             Link(link.a, link.b, delays[link.a, link.b], delays[link.b, link.a]) if (link.a, link.b) in delays else link
             for link in case.links
         ]
-        return replace(case, links=links, version=None if case.version == 1 else case.version)
+        return replace(case, links=links, version=None if case.version == 1 else case.version), values
 
 
 class FailureDraws:
@@ -158,83 +143,67 @@ class FailureDraws:
 
     def __init__(self, case: Case, within: Uniform):
         self.within = within
-        scenes = ((place, scene) for place, scene in enumerate(case.scenes) if isinstance(scene, LinkScene))
+        scenes = [(place, scene) for place, scene in enumerate(case.scenes) if isinstance(scene, LinkScene)]
         # The links that fail, by the places of their failures in the scenario.
         self.failing = {place: ends_of(scene) for place, scene in scenes if scene.word == "fail"}
         if not self.failing:
             raise Refused("refused option --failure-times: no link of the case fails")
-        # For the place of each repair the place of the failure that it ends, and how much later it is.
-        self.repairs = dict(repairs(case))
+        # For the place of each repair the place of the latest failure of its link, and how much later it is.
+        self.repairs: dict[int, tuple[int, int]] = {}
+        failed: dict[Ends, tuple[int, int]] = {}
+        # Of a failure and a repair at one time the failure happens first.
+        for place, scene in sorted(scenes, key=lambda item: (item[1].time, item[1].word, item[0])):
+            if scene.word == "fail":
+                failed[ends_of(scene)] = place, scene.time
+            elif ends_of(scene) in failed:
+                failure, since = failed[ends_of(scene)]
+                self.repairs[place] = failure, scene.time - since
         latest = within.greatest + max((later for _, later in self.repairs.values()), default=0)
         if latest > GREATEST_TIME:
             raise Refused(f"refused option --failure-times: a repair would be at {latest:,}, past {GREATEST_TIME:,}")
-        self.columns = list(failure_columns(self.failing.values()))
+        self.columns = []
+        counts: Counter[Ends] = Counter()
+        for ends in self.failing.values():
+            counts[ends] += 1
+            self.columns.append("fail_{}_{}".format(*ends) + (f"_{counts[ends]}" if counts[ends] > 1 else ""))
         self.words = f"times of failures {within}"
 
-    def values(self, seed: int) -> list[int]:
-        return [self.within.ticks(share(seed, "failure", place + 1)) for place in self.failing]
-
-    def change(self, case: Case, values: Sequence[int]) -> Case:
-        """The case with failures at these times."""
+    def draw(self, case: Case, seed: int) -> tuple[Case, list[int]]:
+        """The case with failures at times of this seed; and these."""
+        values = [self.within.ticks(share(seed, "failure", place + 1)) for place in self.failing]
         times = dict(zip(self.failing, values))
         times |= {place: times[failure] + later for place, (failure, later) in self.repairs.items()}
         scenes = [
             replace(scene, time=times[place]) if place in times else scene for place, scene in enumerate(case.scenes)
         ]
-        return replace(case, scenes=scenes)
-
-
-def repairs(case: Case) -> Iterator[tuple[int, tuple[int, int]]]:
-    """The place of each repair, with the place of the latest failure of its link and how long that was before it."""
-    failed: dict[Ends, tuple[int, int]] = {}
-    moments = [(scene.time, place, scene) for place, scene in enumerate(case.scenes) if isinstance(scene, LinkScene)]
-    # Of a failure and a repair at one time the failure happens first.
-    for time, place, scene in sorted(moments, key=lambda moment: (moment[0], moment[2].word, moment[1])):
-        if scene.word == "fail":
-            failed[ends_of(scene)] = place, time
-        elif ends_of(scene) in failed:
-            failure, since = failed[ends_of(scene)]
-            yield place, (failure, time - since)
-
-
-def failure_columns(failing: Iterable[Ends]) -> Iterator[str]:
-    """A name for each failure: its link, and behind that which failure of this link it is, from the second on."""
-    counts: Counter[Ends] = Counter()
-    for a, b in failing:
-        counts[a, b] += 1
-        yield f"fail_{a}_{b}" + (f"_{counts[a, b]}" if counts[a, b] > 1 else "")
+        return replace(case, scenes=scenes), values
 
 
 class CaseSource:
-    """One case, of which some delays or times are drawn for each run."""
+    """One case, of which delays by a law, or times of failures from a range, or both are drawn for each run."""
 
-    def __init__(self, case: Case, draws: Sequence[DelayDraws | FailureDraws]):
+    def __init__(
+        self,
+        case: Case,
+        delays: Law | str | None = None,
+        links: Sequence[Ends] | None = None,
+        apart: bool = False,
+        failure_times: Uniform | str | None = None,
+    ):
         self.case = case
-        self.draws = draws
-        self.columns = [column for draw in draws for column in draw.columns]
-        self.words = ", ".join(draw.words for draw in draws)
+        self.draws: list[DelayDraws | FailureDraws] = []
+        if delays is not None:
+            self.draws.append(DelayDraws(case, read_law(delays) if isinstance(delays, str) else delays, links, apart))
+        if isinstance(failure_times, str):
+            failure_times = read_range(failure_times, 0, GREATEST_TIME)
+        if failure_times is not None:
+            self.draws.append(FailureDraws(case, failure_times))
+        self.columns = [column for draw in self.draws for column in draw.columns]
+        self.words = ", ".join(draw.words for draw in self.draws)
 
-    def draw(self, seed: int) -> Draw:
-        case = self.case
-        values: list[int] = []
+    def draw(self, seed: int) -> tuple[Case, tuple[int, ...]]:
+        case, drawn = self.case, tuple[int, ...]()
         for draw in self.draws:
-            new = draw.values(seed)
-            case = draw.change(case, new)
-            values += new
-        return Draw(case, tuple(values))
-
-
-def case_source(
-    case: Case,
-    delays: Law | str | None = None,
-    links: Sequence[Ends] | None = None,
-    apart: bool = False,
-    failure_times: Uniform | str | None = None,
-) -> CaseSource:
-    """The case with delays by a law and times of failures from a range, as far as they are named."""
-    draws: list[DelayDraws | FailureDraws] = []
-    if delays is not None:
-        draws.append(DelayDraws(case, read_law(delays) if isinstance(delays, str) else delays, links, apart))
-    if failure_times is not None:
-        draws.append(FailureDraws(case, read_times(failure_times) if isinstance(failure_times, str) else failure_times))
-    return CaseSource(case, draws)
+            case, values = draw.draw(case, seed)
+            drawn += (*values,)
+        return case, drawn

@@ -4,37 +4,14 @@ Taken from Jefferson (1985): stragglers, antimessages, annihilation in either or
 and from Gafni (1988): lazy cancellation.
 """
 
-import enum
 from collections.abc import Iterable
 from dataclasses import dataclass, field
-from itertools import zip_longest
+from itertools import chain, zip_longest
 
 from twarp.case import Case
-from twarp.errors import Refused
-from twarp.event import Event, opening_events
-from twarp.protocol import Router, opening_routers
-from twarp.report import Replay, Step
-from twarp.following import compare_routers, written
-
-
-class Fate(enum.Enum):
-    """What became of a message or an antimessage."""
-
-    IN_FLIGHT = "in flight"
-    PENDING = "pending"
-    ANNIHILATED = "annihilated"
-    KEPT = "kept until its message comes"
-
-
-@dataclass(slots=True)
-class Signed:
-    """A message, or the antimessage that takes it back, with the steps that sent and delivered it."""
-
-    is_anti: bool
-    event: Event
-    sent_at: int
-    delivered_at: int | None = None
-    fate: Fate = Fate.IN_FLIGHT
+from twarp.program import Refused
+from twarp.protocol import Fate, Message, Router, compare_routers, opening_routers, written
+from twarp.report import Event, Replay, Step, opening_events
 
 
 @dataclass(slots=True)
@@ -54,7 +31,7 @@ class History:
     """What the steps did, in their order; a bound stands with the step that found it."""
 
     handlings: list[Handling] = field(default_factory=list)
-    messages: list[Signed] = field(default_factory=list)
+    messages: list[Message] = field(default_factory=list)
     bounds: list[tuple[int, int]] = field(default_factory=list)
 
 
@@ -72,7 +49,7 @@ class Machine:
         self.path_numbers = case.path_numbers()
         self.pending: list[list[Event]] = [[] for _ in self.routers]
         self.handled: list[list[Handling]] = [[] for _ in self.routers]
-        self.flight: list[Signed] = []
+        self.flight: list[Message] = []
         self.kept: list[Event] = []
         self.held: list[Event] = []
         self.is_lazy = is_lazy
@@ -108,8 +85,8 @@ class Machine:
         return True
 
     def find_bound(self) -> None:
-        loose = [message.event.time for message in self.flight]
-        loose += [event.time for event in self.all_pending() + self.kept + self.held]
+        flying = (message.event for message in self.flight)
+        loose = [event.time for event in chain(flying, self.kept, self.held, *self.pending)]
         self.is_at_stop |= all(time > self.last_bound for time in loose)
         self.bound = max(self.bound, min(loose + [self.last_bound]))
         self.history.bounds.append((self.number, self.bound))
@@ -126,20 +103,13 @@ class Machine:
         handling = Handling(event, before, self.routers[router].handle(event), self.number)
         self.handled[router].append(handling)
         self.history.handlings.append(handling)
-        self.send(self.unheld(handling.sends), is_anti=False)
-
-    def unheld(self, sends: list[Event]) -> list[Event]:
-        """Those of what is sent that are not held; the others were sent before, and are held no more."""
-        going = []
-        for event in sends:
-            if event in self.held:
-                self.held.remove(event)
-            else:
-                going.append(event)
-        return going
+        # What is held was sent before, and is held no more.
+        going = [event for event in handling.sends if event not in self.held]
+        self.held = [event for event in self.held if event not in handling.sends]
+        self.send(going, is_anti=False)
 
     def send(self, events: Iterable[Event], is_anti: bool) -> None:
-        messages = [Signed(is_anti, event, self.number) for event in events]
+        messages = [Message(self.number, event, Fate.IN_FLIGHT, is_anti) for event in events]
         self.flight += messages
         self.history.messages += messages
 
@@ -154,15 +124,14 @@ class Machine:
             self.send(handling.sends, is_anti=True)
 
     def release(self, router: int) -> None:
-        released = sorted((event for event in self.held if event.src == router), key=self.key)
+        released = [event for event in self.held if event.src == router]
         self.held = [event for event in self.held if event.src != router]
-        self.send(released, is_anti=True)
+        self.send(sorted(released, key=self.key), is_anti=True)
 
     def deliver(self, place: int) -> None:
         message = self.flight.pop(place - 1)
-        message.delivered_at = self.number
-        receive = self.receive_anti if message.is_anti else self.receive
-        message.fate = receive(message.event)
+        message.delivered = self.number
+        message.fate = (self.receive_anti if message.is_anti else self.receive)(message.event)
 
     def receive(self, event: Event) -> Fate:
         if event in self.kept:
@@ -184,17 +153,11 @@ class Machine:
         pending.remove(event)
         return Fate.ANNIHILATED
 
-    def all_pending(self) -> list[Event]:
-        return [event for row in self.pending for event in row]
-
     def loose_line(self) -> str:
+        pending = sum(map(len, self.pending))
         ahead = sum(handling.committed_at is None for row in self.handled for handling in row)
-        line = f"flight {len(self.flight)} pending {len(self.all_pending())} kept {len(self.kept)} ahead {ahead}"
+        line = f"flight {len(self.flight)} pending {pending} kept {len(self.kept)} ahead {ahead}"
         return f"{line} held {len(self.held)}" if self.is_lazy else line
-
-    def committed(self) -> list[Event]:
-        events = [handling.event for row in self.handled for handling in row if handling.committed_at]
-        return sorted(events, key=self.key)
 
 
 def follow_replay(case: Case, steps: list[Step], replay: Replay) -> History:
@@ -203,12 +166,6 @@ def follow_replay(case: Case, steps: list[Step], replay: Replay) -> History:
     for machine.number, (step, refusal) in enumerate(zip(steps, replay.answers), 1):
         if refusal is None and not machine.do(step):
             raise Refused.at_line(machine.number + 1, f"`{step}` can't be done here")
-    compare(machine, replay)
-    return machine.history
-
-
-def compare(machine: Machine, replay: Replay) -> None:
-    """Refuses the first line that is not what the steps led to."""
     latest = max((handling.event.time for handling in machine.history.handlings), default=0)
     number = replay.bound_number
     if machine.is_at_stop and latest >= machine.last_bound:
@@ -217,7 +174,10 @@ def compare(machine: Machine, replay: Replay) -> None:
         raise Refused.at_line(number, f"the steps lead to `bound {machine.bound}`")
     if machine.loose_line() != replay.loose:
         raise Refused.at_line(number + 1, f"the steps lead to `{machine.loose_line()}`")
-    for number, (event, wanted) in enumerate(zip_longest(replay.events, machine.committed()), number + 2):
+    committed = [handling.event for row in machine.handled for handling in row if handling.committed_at]
+    due = zip_longest(replay.events, sorted(committed, key=machine.key))
+    for number, (event, wanted) in enumerate(due, number + 2):
         if event is None or event != wanted:
             raise Refused.at_line(min(number, replay.router_number), f"the steps lead to {written(wanted)} here")
     compare_routers(replay, machine.routers)
+    return machine.history

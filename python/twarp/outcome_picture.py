@@ -6,9 +6,8 @@ from collections.abc import Callable, Sequence
 from dataclasses import dataclass
 from xml.etree.ElementTree import Element
 
-from twarp.lanes import DIGIT_WIDTH, TOP, Sample, draw_legend, nice_step, sample_box, sample_path
-from twarp.outcomes import MOST_COLUMNS, Outcome, Outcomes, in_columns, interval, percent
-from twarp.svg import Picture, add, place_of
+from twarp.outcomes import Columns, Outcome, Outcomes, interval, share_words
+from twarp.svg import DIGIT_WIDTH, TOP, Picture, Sample, add, draw_legend, nice_step, place_of, sample_box, sample_path
 
 LANE, BAR = 48.0, 18.0
 WIDTH = 460.0
@@ -33,6 +32,13 @@ class Lane:
     name: str
     look: dict[str, str]
     outcomes: Sequence[Outcome]
+
+    @property
+    def words(self) -> str:
+        """What its runs have in common."""
+        if len(self.outcomes) > 1:
+            return f"{len(self.outcomes):,} other outcomes"
+        return f"outcome {self.name}" if self.outcomes[0].number else self.name
 
     @property
     def count(self) -> int:
@@ -74,7 +80,7 @@ class OutcomePicture:
         self.draw_shares(picture.root)
         for place, lane in enumerate(self.lanes):
             self.draw_lane(picture.root, lane, TOP + LANE * (place + 0.5))
-        entries: list[tuple[str, Sample]] = [(words_of(lane), sample_box(**lane.look)) for lane in self.lanes]
+        entries: list[tuple[str, Sample]] = [(lane.words, sample_box(**lane.look)) for lane in self.lanes]
         entries.append(("95 % interval", sample_path(12, 4, "v8m0 -4h24m0 -4v8", **WHISKER)))
         base, none = self.bottom + GAP, "no run came to rest"
         base = self.draw_histogram(picture.root, base, "rest at", lambda outcome: outcome.rest_times, none)
@@ -93,20 +99,19 @@ class OutcomePicture:
             add(parent, "text", f"{share} %", class_="quiet middle", x=x, y=TOP - 14)
 
     def draw_lane(self, parent: Element, lane: Lane, y: float) -> None:
-        share, (low, high) = lane.count / self.outcomes.total, interval(lane.count, self.outcomes.total)
-        words = f"{percent(share)} % ({percent(low)} to {percent(high)} %)"
-        width = self.x(share) - self.left
+        _, share, reach = share_words(lane.count, self.outcomes.total)
+        words, width = f"{share} ({reach})", self.x(lane.count / self.outcomes.total) - self.left
         add(parent, "line", class_="lane", x1=self.left + width, y1=y - 6, x2=self.right, y2=y - 6)
         add(parent, "text", lane.name, class_="name", x=self.left - 18, y=y - 2)
-        group = add(parent, "g", "", f"{words_of(lane)}: {lane.count:,} of {self.outcomes.total:,} runs, {words}")
+        group = add(parent, "g", "", f"{lane.words}: {lane.count:,} of {self.outcomes.total:,} runs, {words}")
         add(group, "rect", x=self.left, y=y - 6 - BAR / 2, width=width, height=BAR, rx=3, **lane.look)
-        start, end = self.x(low), self.x(high)
-        whisker = f"M{start:.1f} {y - 10:.1f}v8m0 -4H{end:.1f}m0 -4v8"
-        add(group, "path", d=whisker, **WHISKER)
+        start, end = map(self.x, interval(lane.count, self.outcomes.total))
+        add(group, "path", d=f"M{start:.1f} {y - 10:.1f}v8m0 -4H{end:.1f}m0 -4v8", **WHISKER)
         add(group, "text", words, class_="note", x=end + 10, y=y - 2)
         if len(lane.outcomes) == 1:
             paths = self.outcomes.path_words(lane.outcomes[0]) or lane.outcomes[0].time_words()
-            add(group, "text", shortened(paths), class_="path note", x=self.left + 4, y=y + 16)
+            paths = paths if len(paths) <= MOST_LETTERS else f"{paths[:MOST_LETTERS]} .."
+            add(group, "text", paths, class_="path note", x=self.left + 4, y=y + 16)
 
     def draw_histogram(
         self, parent: Element, top: float, word: str, counted: Callable[[Outcome], Counter[int]], nothing: str
@@ -117,22 +122,23 @@ class OutcomePicture:
         if not whole:
             add(parent, "text", nothing, class_="quiet", x=self.left, y=top)
             return top
-        base = top + HEIGHT
-        width = nice_step((max(whole) + 1 - min(whole)) / MOST_COLUMNS)
-        first, last = min(whole) // width, max(whole) // width
+        base, columns = top + HEIGHT, Columns.of(whole)
+        width, first, last = columns.width, columns.first, columns.last
         pixels = min(WIDEST_COLUMN, (WIDTH + NOTE) / (last + 1 - first))
-        columns = Columns(word, first, last, width, self.left, pixels)
-        tallest = max(in_columns(whole, width).values())
-        self.draw_counts(parent, tallest, columns.x(last + 1), base)
+        tallest = max(columns.count(whole).values())
+        self.draw_counts(parent, tallest, self.left + pixels * (last + 1 - first), base)
         heights: Counter[int] = Counter()
         for lane, counts in rows:
-            for number, runs in sorted(in_columns(counts, width).items()):
+            for number, runs in sorted(columns.count(counts).items()):
                 heights[number] += runs
-                group = add(parent, "g", "", f"{columns.words(number)}: {runs:,} runs, {words_of(lane)}")
-                box = {"x": columns.x(number), "y": base - HEIGHT * heights[number] / tallest, "width": pixels}
-                add(group, "rect", **box, height=HEIGHT * runs / tallest, **lane.look)
-        for number in columns.told():
-            x = columns.x(number) + (pixels / 2 if width == 1 else 0)
+                where = f"{word} {number * width:,}" + (f" to {(number + 1) * width - 1:,}" if width > 1 else "")
+                group = add(parent, "g", "", f"{where}: {runs:,} runs, {lane.words}")
+                x, y = self.left + pixels * (number - first), base - HEIGHT * heights[number] / tallest
+                add(group, "rect", x=x, y=y, width=pixels, height=HEIGHT * runs / tallest, **lane.look)
+        # The columns whose times are written, so far apart that they don't touch.
+        step = nice_step(DIGIT_WIDTH * (len(f"{last * width:,}") + 2) / pixels)
+        for number in range(-(-first // step) * step, last + 1, step):
+            x = self.left + pixels * (number - first) + (pixels / 2 if width == 1 else 0)
             add(parent, "text", f"{number * width:,}", class_="quiet middle", x=x, y=base + 20)
         add(parent, "text", word, class_="quiet name", x=self.left - 18, y=base + 20)
         return base
@@ -145,39 +151,3 @@ class OutcomePicture:
             y = base - HEIGHT * count / tallest
             add(parent, "line", class_="grid", x1=self.left, y1=y, x2=right, y2=y)
             add(parent, "text", f"{count:,}", class_="quiet", text_anchor="end", x=self.left - 18, y=y + 4)
-
-
-@dataclass(frozen=True)
-class Columns:
-    """The columns of a histogram of what the word says, from number `first` to `last`, each so wide, also in pixels."""
-
-    word: str
-    first: int
-    last: int
-    width: int
-    left: float
-    pixels: float
-
-    def x(self, number: int) -> float:
-        return self.left + self.pixels * (number - self.first)
-
-    def words(self, number: int) -> str:
-        start = number * self.width
-        return f"{self.word} {start:,}" if self.width == 1 else f"{self.word} {start:,} to {start + self.width - 1:,}"
-
-    def told(self) -> range:
-        """The columns whose times are written, so far apart that they don't touch."""
-        room = DIGIT_WIDTH * (len(f"{self.last * self.width:,}") + 2)
-        step = nice_step(room / self.pixels)
-        return range(-(-self.first // step) * step, self.last + 1, step)
-
-
-def words_of(lane: Lane) -> str:
-    """What the runs of a lane have in common."""
-    if len(lane.outcomes) > 1:
-        return f"{len(lane.outcomes):,} other outcomes"
-    return f"outcome {lane.name}" if lane.outcomes[0].number else lane.name
-
-
-def shortened(words: str) -> str:
-    return words if len(words) <= MOST_LETTERS else f"{words[:MOST_LETTERS]} .."

@@ -4,7 +4,6 @@ import csv
 import io
 import json
 import re
-from bisect import bisect_left
 from collections import Counter
 from collections.abc import Iterable, Iterator, Mapping, Sequence
 from dataclasses import dataclass, field
@@ -14,10 +13,10 @@ from math import ceil, sqrt
 from statistics import NormalDist
 from typing import Any, TextIO
 
-from twarp.case import PATH, read_path, write_path
-from twarp.errors import Refused
-from twarp.lanes import nice_step
+from twarp.case import PATH, Nodes, read_path, write_path
+from twarp.program import Refused
 from twarp.report import Open, Oscillates, Quiet, Verdict
+from twarp.svg import nice_step
 from twarp.trials import End, Failed, Ribs, Trial
 
 # The intervals are such that 95 of 100 hold the share that infinitely many runs would have.
@@ -95,24 +94,37 @@ class Outcome:
 
 def percentile(counts: Counter[int], percent: int) -> int:
     """The least value such that so many in a hundred are at most this one."""
-    values = sorted(counts)
-    seen = [*accumulate(counts[value] for value in values)]
-    return values[bisect_left(seen, ceil(seen[-1] * percent / 100))]
+    values, wanted = sorted(counts), ceil(counts.total() * percent / 100)
+    seen = accumulate(counts[value] for value in values)
+    return next(value for value, count in zip(values, seen) if count >= wanted)
+
+
+@dataclass(frozen=True)
+class Columns:
+    """The columns of a histogram: how many values each has room for, and the numbers of the first and the last one."""
+
+    width: int
+    first: int
+    last: int
+
+    @classmethod
+    def of(cls, counts: Counter[int]) -> "Columns":
+        width = nice_step((max(counts) + 1 - min(counts)) / MOST_COLUMNS)
+        return cls(width, min(counts) // width, max(counts) // width)
+
+    def count(self, counts: Counter[int]) -> Counter[int]:
+        """How many values stand in each column."""
+        return Counter(value // self.width for value in counts.elements())
 
 
 def spread(counts: Counter[int]) -> dict[str, Any]:
     """Percentiles and a histogram: column k counts the values from `first + k * width` on, below the next column's."""
-    width = nice_step((max(counts) + 1 - min(counts)) / MOST_COLUMNS)
-    first, columns = min(counts) // width, in_columns(counts, width)
-    numbers = [columns[number] for number in range(first, max(counts) // width + 1)]
+    columns = Columns.of(counts)
+    counted = columns.count(counts)
     percents = {f"p{percent}": percentile(counts, percent) for percent in PERCENTS}
-    histogram = {"first": first * width, "width": width, "counts": numbers}
+    histogram: dict[str, Any] = {"first": columns.first * columns.width, "width": columns.width}
+    histogram["counts"] = [counted[number] for number in range(columns.first, columns.last + 1)]
     return {"least": min(counts), **percents, "greatest": max(counts), "histogram": histogram}
-
-
-def in_columns(counts: Counter[int], width: int) -> Counter[int]:
-    """How many values stand in each column of a histogram."""
-    return Counter(value // width for value in counts.elements())
 
 
 class Outcomes:
@@ -132,60 +144,57 @@ class Outcomes:
         for trial in trials:
             self.take(trial)
 
-    def anew(self) -> "Outcomes":
-        """The same before any run was counted."""
-        return Outcomes(numbers=self.given, notes=self.notes)
-
     def take(self, trial: Trial) -> Outcome | None:
         """Counts a run, and gives its outcome where it did not fail."""
-        if isinstance(trial.end, Failed):
+        end = trial.end
+        if isinstance(end, Failed):
             self.failed += 1
             return None
         self.total += 1
-        outcome = self.outcome_of(trial.seed, trial.end)
-        outcome.take(trial.end)
         self.__dict__.pop("differing", None)
-        return outcome
-
-    def outcome_of(self, seed: int, end: End) -> Outcome:
-        """The outcome of such an end, which is a new one where there is none yet."""
-        word = str(end.verdict).split()[0]
-        if not isinstance(end.verdict, Quiet):
-            return self.by_end.setdefault(word, Outcome(word, seed))
-        if end.ribs not in self.by_end:
-            number = self.numbers.setdefault(end.ribs, self.last_number + 1)
-            self.last_number = max(self.last_number, number)
-            self.by_end[end.ribs] = Outcome(word, seed, number, end.ribs)
-        return self.by_end[end.ribs]
+        word, ribs = str(end.verdict).split()[0], end.ribs if isinstance(end.verdict, Quiet) else None
+        if (ribs or word) not in self.by_end:
+            number = self.numbers.setdefault(ribs, self.last_number + 1) if ribs else None
+            self.last_number = max(self.last_number, number or 0)
+            self.by_end[ribs or word] = Outcome(word, trial.seed, number, ribs)
+        self.by_end[ribs or word].take(end)
+        return self.by_end[ribs or word]
 
     def ranked(self) -> list[Outcome]:
         """The outcomes, the most frequent first; of equally frequent ones that with the lower first seed."""
         return sorted(self.by_end.values(), key=lambda outcome: (-outcome.runs, outcome.first))
 
     @property
-    def at_rest(self) -> list[Outcome]:
-        return [outcome for outcome in self.by_end.values() if outcome.ribs is not None]
+    def at_rest(self) -> dict[Ribs, Outcome]:
+        """The outcomes at rest by their paths."""
+        return {outcome.ribs: outcome for outcome in self.by_end.values() if outcome.ribs is not None}
+
+    @property
+    def nodes(self) -> int:
+        """How many routers there are, where some outcome is at rest."""
+        return len(next(iter(self.at_rest), ()))
 
     @cached_property
     def differing(self) -> list[int]:
         """The routers whose paths tell the outcomes at rest apart; all but the origin where there is one outcome."""
-        rows = [outcome.ribs or () for outcome in self.at_rest]
-        routers = range(1, len(rows[0])) if rows else range(0)
-        return [router for router in routers if len(rows) == 1 or len({row[router] for row in rows}) > 1]
+        rows = [*self.at_rest]
+        return [router for router in range(1, self.nodes) if len(rows) == 1 or len({row[router] for row in rows}) > 1]
 
     def path_words(self, outcome: Outcome) -> str:
         """The paths that tell an outcome at rest from the others, or what is known of one that is not at rest."""
         if outcome.ribs is None:
             return self.notes.get(outcome.word, "")
-        words = " ".join(written(router, outcome.ribs[router]) for router in self.differing[:MOST_TOLD])
+        told = ((router, outcome.ribs[router]) for router in self.differing[:MOST_TOLD])
+        # A path begins with its router unless it is empty.
+        words = " ".join(write_path(path) if path else f"{router}: ()" for router, path in told)
         return more(words, len(self.differing) - MOST_TOLD)
 
-    def path_counts(self, router: int) -> Counter[tuple[int, ...]]:
-        """How many of the runs at rest end with which path of a router."""
-        counts: Counter[tuple[int, ...]] = Counter()
-        for outcome in self.at_rest:
-            counts[(outcome.ribs or ())[router]] += outcome.runs
-        return counts
+    def path_counts(self, router: int) -> list[tuple[Nodes, int]]:
+        """The paths of a router with which runs are at rest, each with how many these are, the most first."""
+        counts: Counter[Nodes] = Counter()
+        for ribs, outcome in self.at_rest.items():
+            counts[ribs[router]] += outcome.runs
+        return counts.most_common()
 
     def summary(self) -> str:
         """Tables: outcomes, the most frequent first; percentiles; which routers move; who ends at which path."""
@@ -218,22 +227,20 @@ class Outcomes:
         return rows
 
     def path_table(self) -> list[list[str]]:
-        rows = [["router", "runs", "share", "95 % interval", "path at rest"]]
+        rows = []
         if len(self.at_rest) > 1:
-            resting = sum(outcome.runs for outcome in self.at_rest)
+            resting = sum(outcome.runs for outcome in self.at_rest.values())
             for router in self.differing:
-                for path, runs in self.path_counts(router).most_common():
+                for path, runs in self.path_counts(router):
                     rows.append([str(router), *share_words(runs, resting), write_path(path)])
-        left = len(rows) - 1 - MOST_LINES
-        return rows[: MOST_LINES + 1] + ([["..", f"{left:,} more lines", "", "", ""]] if left > 0 else [])
+        if (left := len(rows) - MOST_LINES) > 0:
+            rows[MOST_LINES:] = [["..", f"{left:,} more lines", "", "", ""]]
+        return [["router", "runs", "share", "95 % interval", "path at rest"], *rows]
 
     def record(self) -> dict[str, Any]:
         """The outcomes as JSON has them, with percentiles and histograms; and of each router its paths at rest."""
-        rows = [outcome.ribs or () for outcome in self.at_rest]
-        routers = [
-            {"router": router, "paths": [{"path": path, "runs": runs} for path, runs in counts.most_common()]}
-            for router, counts in ((router, self.path_counts(router)) for router in range(len(rows[0]) if rows else 0))
-        ]
+        paths = [[{"path": path, "runs": runs} for path, runs in self.path_counts(node)] for node in range(self.nodes)]
+        routers = [{"router": router, "paths": row} for router, row in enumerate(paths)]
         outcomes = [outcome.record(self.total) for outcome in self.ranked()]
         return {"runs": self.total, "failed": self.failed, "outcomes": outcomes, "routers": routers}
 
@@ -246,13 +253,8 @@ def more(words: str, left: int) -> str:
 
 
 def share_words(runs: int, total: int) -> list[str]:
-    low, high = interval(runs, total)
-    return [f"{runs:,}", f"{percent(runs / total)} %", f"{percent(low)} to {percent(high)} %"]
-
-
-def written(router: int, path: tuple[int, ...]) -> str:
-    """A router's path, which begins with the router unless it is empty."""
-    return write_path(path) if path else f"{router}: ()"
+    share, low, high = (100 * share for share in (runs / total, *interval(runs, total)))
+    return [f"{runs:,}", f"{share:.1f} %", f"{low:.1f} to {high:.1f} %"]
 
 
 def interval(count: int, total: int) -> tuple[float, float]:
@@ -265,10 +267,6 @@ def interval(count: int, total: int) -> tuple[float, float]:
     middle = share + square / (2 * total)
     reach = DEVIATIONS * sqrt(share * (1 - share) / total + square / (4 * total**2))
     return max(0.0, (middle - reach) / (1 + square / total)), min(1.0, (middle + reach) / (1 + square / total))
-
-
-def percent(share: float) -> str:
-    return f"{100 * share:.1f}"
 
 
 # Numbers, and shares and their intervals, in a table.
@@ -299,20 +297,19 @@ class Table:
 
         The paths stand in the first line of each outcome at rest.
         """
-        outcome = self.outcomes.take(trial)
-        if outcome is None or isinstance(trial.end, Failed):
-            return line_of([trial.seed, *trial.values, "failed", *[""] * len(RUN_COLUMNS)])
-        end, times = trial.end, ["", "", ""]
-        match end.verdict:
-            case Quiet(time):
-                times[0] = str(time)
-            case Oscillates(start, period):
-                times[1:] = str(start), str(period)
-        moving, paths = " ".join(map(str, end.moving)), ""
-        if outcome.runs == 1 and outcome.ribs is not None:
-            paths = " ".join(map(write_path, outcome.ribs))
-        ending = [outcome.word, *times, end.sent, end.changed, outcome.number or "", moving, paths, ""]
-        return line_of([trial.seed, *trial.values, *ending])
+        outcome, end = self.outcomes.take(trial), trial.end
+        told: dict[str, object] = {"verdict": "failed"}
+        if outcome and isinstance(end, End):
+            told = {"verdict": outcome.word, "sent": end.sent, "changed": end.changed, "outcome": outcome.number}
+            match end.verdict:
+                case Quiet(time):
+                    told["rest"] = time
+                case Oscillates(start, period):
+                    told |= {"from": start, "period": period}
+            told["moving"] = " ".join(map(str, end.moving))
+            if outcome.runs == 1 and outcome.ribs is not None:
+                told["paths"] = " ".join(map(write_path, outcome.ribs))
+        return line_of([trial.seed, *trial.values, *(told.get(name) for name in RUN_COLUMNS), None])
 
 
 def line_of(fields: Iterable[object]) -> str:
@@ -339,11 +336,9 @@ def read_table(source: TextIO, is_cut: bool = False) -> tuple[Table, list[Trial]
     Of one that `is_cut` a last line that is not ended is let pass.
     """
     csv.field_size_limit(MOST_LINE)
-    rows = rows_of(source, is_cut)
+    rows, number = rows_of(source, is_cut), 1
     ribs: dict[str, Ribs] = {}
-    trials: list[Trial] = []
-    seeds: set[int] = set()
-    number = 1
+    trials: dict[int, Trial] = {}
     try:
         head: list[str] = next(rows, [])
         count = len(head) - len(RUN_COLUMNS) - 2
@@ -351,15 +346,14 @@ def read_table(source: TextIO, is_cut: bool = False) -> tuple[Table, list[Trial]
             raise ValueError("this is no head")
         number = 2
         for row in rows:
-            trials.append(read_row(row, count, ribs))
-            if trials[-1].seed in seeds:
+            trial = read_row(row, count, ribs)
+            if trials.setdefault(trial.seed, trial) is not trial:
                 raise ValueError("a line before has the same seed")
-            seeds.add(trials[-1].seed)
             number += 1
     except (ValueError, KeyError, IndexError, csv.Error) as fault:
         raise Refused.at_line(number, f"this is no CSV of a sweep: {fault}") from None
     numbers = {paths: number_of(name) for name, paths in ribs.items()}
-    return Table(head[1 : 1 + count], head[-1], Outcomes(numbers=numbers)), trials
+    return Table(head[1 : 1 + count], head[-1], Outcomes(numbers=numbers)), [*trials.values()]
 
 
 def number_of(word: str) -> int:
@@ -370,12 +364,12 @@ def number_of(word: str) -> int:
 
 def read_row(row: list[str], count: int, ribs: dict[str, Ribs]) -> Trial:
     """A run; the paths of the outcomes before are known by their numbers."""
-    seed, values = number_of(row[0]), tuple(map(number_of, row[1 : 1 + count]))
+    seed, *values = map(number_of, row[: 1 + count])
     word, rest, start, period, sent, changed, number, moving, paths, _ = row[1 + count :]
     verdict: Verdict
     match word:
         case "failed":
-            return Trial(seed, values, Failed("it failed before"))
+            return Trial(seed, tuple(values), Failed("it failed before"))
         case "quiet":
             verdict = Quiet(number_of(rest))
             if paths:
@@ -388,5 +382,5 @@ def read_row(row: list[str], count: int, ribs: dict[str, Ribs]) -> Trial:
             verdict = Open()
         case _:
             raise ValueError(f"{word[:80]!r} is no verdict")
-    moved = tuple(map(number_of, moving.split()))
-    return Trial(seed, values, End(verdict, number_of(sent), number_of(changed), ribs.get(number, ()), moved))
+    end = End(verdict, number_of(sent), number_of(changed), ribs.get(number, ()), tuple(map(number_of, moving.split())))
+    return Trial(seed, tuple(values), end)

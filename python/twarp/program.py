@@ -1,12 +1,53 @@
 """The built programs: where they are, and calls of them."""
+from __future__ import annotations
 
 import os
+import re
 import shutil
 import subprocess
 from collections.abc import Iterable, Mapping
 from pathlib import Path
 
-from twarp.errors import Refused, Stopped
+# How much of what is wrong stands in a message.
+MOST_QUOTED = 80
+
+
+class Refused(Exception):
+    """A text, or an option, that is not taken. Its text says why.
+
+    `line` is the number of the line that decides, from 1, and `code` and `name` are those of the rule that it breaks
+    (docs/FORMATS.md), as `I4` and `Delay`; each is None where it is not known.
+    """
+
+    line: int | None = None
+    code: str | None = None
+    name: str | None = None
+
+    @classmethod
+    def at_line(cls, number: int, why: str) -> Refused:
+        fault = cls(f"refused line {number}: {why}")
+        fault.line = number
+        return fault
+
+    @classmethod
+    def told(cls, words: str, advice: str) -> Refused:
+        """What twarp says on standard output where it refuses its input or an option, and to people beside that."""
+        fault = cls(f"{words}\n{advice}".rstrip())
+        if found := re.fullmatch(r"refused (?:line (\d+)|option) ([A-Z]\d+) (\w+)", words):
+            fault.line = int(found[1]) if found[1] else None
+            fault.code, fault.name = found[2], found[3]
+        return fault
+
+
+class Stopped(Exception):
+    """Work that did not come to its end. Its text is what stands behind `stopped`."""
+
+
+def quote(text: str) -> str:
+    """A text, or a line without its end, as a message quotes it: escaped, and cut where it is long."""
+    text = text.removesuffix("\n")
+    return repr(text) if len(text) <= MOST_QUOTED else f"{text[:MOST_QUOTED]!r}.."
+
 
 HERE = Path(__file__).resolve()
 # In a clone the program that ./twarp --build makes.
@@ -21,24 +62,22 @@ Options = Mapping[str, int | bool | None]
 
 def find(named: File | None = None) -> Path | None:
     """The file that is named, here or by $TWARP; or the clone's program, or that beside the package, or on the PATH."""
-    if named or (named := os.environ.get("TWARP")):
-        return Path(named).absolute()
     beside = [BUILT, *([INSTALLED.parents[2] / "bin/twarp"] if INSTALLED.exists() else [])]
-    return first_of(beside, "twarp")
+    return first_of(named or os.environ.get("TWARP"), beside, "twarp")
 
 
 def find_policy(named: File | None = None, twarp: File | None = None) -> Path | None:
     """The twarp-policy that is named, here or by $TWARP_POLICY; or the one beside twarp, or on the PATH."""
-    if named or (named := os.environ.get("TWARP_POLICY")):
-        return Path(named).absolute()
-    twarp = find(twarp)
+    found = find(twarp)
     # In the same folder, or in the same clone.
-    beside = [twarp.with_name("twarp-policy"), twarp.parent / "../../twarp_policy/out/twarp_policy"] if twarp else []
-    return first_of(beside, "twarp-policy")
+    beside = [found.with_name("twarp-policy"), found.parent / "../../twarp_policy/out/twarp_policy"] if found else []
+    return first_of(named or os.environ.get("TWARP_POLICY"), beside, "twarp-policy")
 
 
-def first_of(files: Iterable[Path], name: str) -> Path | None:
-    """The first of these that is there, or else the program of this name on the PATH."""
+def first_of(named: File | None, files: Iterable[Path], name: str) -> Path | None:
+    """The file that is named, else the first of these that is there, else the program of this name on the PATH."""
+    if named:
+        return Path(named).absolute()
     on_path = shutil.which(name)
     return next((file for file in files if file.is_file()), Path(on_path) if on_path else None)
 
@@ -63,13 +102,8 @@ def runnable(file: Path | None, name: str, variable: str) -> Path:
 
 def words_of(options: Options) -> list[str]:
     """The words of a command line that say so."""
-    words = []
-    for name, value in options.items():
-        if value is True:
-            words.append(f"--{name}")
-        elif value is not None and value is not False:
-            words += [f"--{name}", str(value)]
-    return words
+    given = {f"--{name}": value for name, value in options.items() if value is not None and value is not False}
+    return [word for name, value in given.items() for word in ([name] if value is True else [name, str(value)])]
 
 
 def answer(file: Path, words: list[str], text: bytes) -> bytes:

@@ -1,16 +1,19 @@
-"""What a router does with an event, as docs/PROTOCOL.md has it; where a run stands, and whether it is stable there."""
+"""What a router does with an event, as docs/PROTOCOL.md has it; runs, followed event by event along their reports."""
 from __future__ import annotations
 
 import copy
+import enum
+import heapq
 import math
 from collections import defaultdict
-from collections.abc import Iterator, Sequence
+from collections.abc import Callable, Iterable, Iterator, Sequence
 from dataclasses import dataclass, field, replace
+from typing import NamedTuple
 
 from twarp.case import ORIGIN, Case, Nodes, write_path
-from twarp.errors import Refused
-from twarp.event import Allow, Event, Fail, Forbid, Restore, Start, Swap, Update, opening_events
-from twarp.report import Report, RouterLine
+from twarp.program import Refused
+from twarp.report import FIRST_EVENT, Allow, Event, Fail, Forbid, Replay, Report, Restore, RouterLine, Start, Swap
+from twarp.report import Update, opening_events
 
 
 @dataclass
@@ -37,13 +40,12 @@ class Router:
         match event.body:
             case Update(path, session) if event.src not in self.down and session == self.sessions[event.src]:
                 self.heard[event.src] = path
-                return self.settle(event.time)
             case Update():
                 self.dropped += 1
+                return []
             case Fail(peer) if peer not in self.down:
                 self.down.add(peer)
                 self.heard.pop(peer, None)
-                return self.settle(event.time)
             case Restore(peer) if peer in self.down:
                 self.down.remove(peer)
                 self.sessions[peer] += 1
@@ -51,16 +53,15 @@ class Router:
             case Swap(first, second):
                 order, i, j = self.order, first - 1, second - 1
                 order[i], order[j] = order[j], order[i]
-                return self.settle(event.time)
             case Forbid(place) if self.given[place - 1] not in self.barred:
                 self.barred.add(self.given[place - 1])
-                return self.settle(event.time)
             case Allow(place) if self.given[place - 1] in self.barred:
                 self.barred.remove(self.given[place - 1])
-                return self.settle(event.time)
             case Start():
-                return self.settle(event.time)
-        return []
+                pass
+            case _:
+                return []
+        return self.settle(event.time)
 
     def settle(self, time: int) -> list[Event]:
         best = self.best()
@@ -74,15 +75,16 @@ class Router:
         if self.node == ORIGIN:
             return (ORIGIN,)
         offered = {(self.node, *path) for path in self.heard.values()}
-        for path in self.order:
-            if path in offered and path not in self.barred:
-                return path
-        return ()
+        return next((path for path in self.order if path in offered and path not in self.barred), ())
 
     def update(self, peer: int, time: int) -> Event:
         seq = self.sent
         self.sent += 1
         return Event(time + self.delays[peer], peer, self.node, seq, Update(self.rib, self.sessions[peer]))
+
+    @property
+    def counters(self) -> list[int]:
+        return [self.sent, self.handled, self.dropped, self.changed]
 
     def line(self) -> RouterLine:
         return RouterLine(self.node, self.sent, self.handled, self.dropped, self.changed, self.rib)
@@ -90,8 +92,8 @@ class Router:
     def copy(self) -> Router:
         """A router that later events of this one leave as it is."""
         other = copy.copy(self)
-        other.order, other.barred, other.heard = self.order.copy(), self.barred.copy(), self.heard.copy()
-        other.down, other.sessions = self.down.copy(), self.sessions.copy()
+        for name in "order", "barred", "heard", "down", "sessions":
+            setattr(other, name, getattr(self, name).copy())
         return other
 
 
@@ -126,3 +128,110 @@ def unstable_routers(routers: Sequence[Router]) -> Iterator[str]:
         chosen = replace(router, heard=heard).best()
         if router.rib != chosen:
             yield f"router {router.node} uses {write_path(router.rib)} and would choose {write_path(chosen)}"
+
+
+class Fate(enum.Enum):
+    """What became of a message, in a run or in a replay."""
+
+    HEARD = "heard"
+    DROPPED = "dropped"
+    UNDER_WAY = "under way"
+    IN_FLIGHT = "in flight"
+    PENDING = "pending"
+    ANNIHILATED = "annihilated"
+    KEPT = "kept until its message comes"
+
+
+@dataclass(slots=True)
+class Message:
+    """A message, or an antimessage that takes one back, with the time at which it was sent.
+
+    In a replay that is a step, and so is that which delivered it.
+    """
+
+    sent: int
+    event: Event
+    fate: Fate = Fate.UNDER_WAY
+    is_anti: bool = False
+    delivered: int | None = None
+
+    @property
+    def update(self) -> Update:
+        """What it says."""
+        assert isinstance(self.event.body, Update), "routers send updates alone"
+        return self.event.body
+
+
+class Change(NamedTuple):
+    """A router's path from a time on."""
+
+    time: int
+    router: int
+    path: Nodes
+
+
+class Run:
+    """The one-thread run of a case, as far as it was followed: what happened, in order, and where the routers stand."""
+
+    def __init__(self, case: Case):
+        self.routers = opening_routers(case)
+        self.changes: list[Change] = []
+        self.messages: list[Message] = []
+        self.scenes: list[Event] = []
+        self.path_numbers = case.path_numbers()
+        self.pending: list[tuple[tuple[int, ...], Event, Message | None]] = []
+        for event in opening_events(case):
+            self.expect(event, None)
+
+    def expect(self, event: Event, message: Message | None) -> None:
+        heapq.heappush(self.pending, (event.key(self.path_numbers), event, message))
+
+    def least(self) -> Event | None:
+        return self.pending[0][1] if self.pending else None
+
+    def handle_least(self) -> None:
+        _, event, message = heapq.heappop(self.pending)
+        router = self.routers[event.dst]
+        changed, dropped = router.changed, router.dropped
+        for send in router.handle(event):
+            self.messages.append(Message(event.time, send))
+            self.expect(send, self.messages[-1])
+        if router.changed > changed:
+            self.changes.append(Change(event.time, router.node, router.rib))
+        if message is None:
+            self.scenes.append(event)
+        else:
+            message.fate = Fate.DROPPED if router.dropped > dropped else Fate.HEARD
+
+
+# Sees an event that is to be handled, and the routers before it.
+Witness = Callable[[Event, list[Router]], None]
+
+
+def follow(case: Case, report: Report, witness: Witness | None = None) -> Run:
+    """What the report's events did, each shown to the witness; refused at the first line that is not the case's run."""
+    run = Run(case)
+    if report.routers[0].handled and not report.events:
+        why = "no event stands above this line: the report has to be one with --log"
+        raise Refused.at_line(report.router_number, why)
+    for number, event in enumerate(report.events, FIRST_EVENT):
+        if event != run.least():
+            raise Refused.at_line(number, f"in the run of this case {written(run.least())} stands here")
+        if witness:
+            witness(event, run.routers)
+        run.handle_least()
+    if (least := run.least()) and least.time < report.bound:
+        raise Refused.at_line(report.router_number, f"in the run of this case {written(least)} stands here")
+    compare_routers(report, run.routers)
+    return run
+
+
+def written(event: Event | None) -> str:
+    return f"`{event}`" if event else "no further event"
+
+
+def compare_routers(report: Report | Replay, routers: Iterable[Router]) -> None:
+    """Refuses the first router line that is not the router's."""
+    for number, (line, router) in enumerate(zip(report.routers, routers), report.router_number):
+        if line != router.line():
+            raise Refused.at_line(number, f"what stands above leads to `{router.line()}`")

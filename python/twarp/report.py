@@ -2,11 +2,146 @@
 
 import json
 import re
-from dataclasses import asdict, dataclass
+from dataclasses import asdict, astuple, dataclass
+from typing import Any, NamedTuple
 
-from twarp.case import NUMBER, PATH, WHICH, Case, Nodes, case_and_rest, lines_of, read_path, write_path
-from twarp.errors import Refused, quote
-from twarp.event import Event, read_event, record
+from twarp.case import NUMBER, PATH, WHICH, BarScene, Case, LinkScene, Nodes, SwapScene, case_and_rest, lines_of
+from twarp.case import read_path, write_path
+from twarp.program import Refused, quote
+
+
+@dataclass(frozen=True, slots=True)
+class Start:
+    pass
+
+
+@dataclass(frozen=True, slots=True)
+class Fail:
+    peer: int
+
+
+@dataclass(frozen=True, slots=True)
+class Restore:
+    peer: int
+
+
+@dataclass(frozen=True, slots=True)
+class Swap:
+    first: int
+    second: int
+
+
+@dataclass(frozen=True, slots=True)
+class Forbid:
+    """The path at this place among those given for the router, from 1, is forbidden."""
+
+    place: int
+
+
+@dataclass(frozen=True, slots=True)
+class Allow:
+    """The path at this place among those given for the router, from 1, is allowed again."""
+
+    place: int
+
+
+class Update(NamedTuple):
+    """A named tuple, as an event is, since a log has many."""
+
+    path: Nodes
+    session: int
+
+
+def record(value: Any) -> dict[str, Any]:
+    """The fields of one of several kinds of things, with its kind, as JSON has it."""
+    return {"kind": type(value).__name__.lower(), **{name: getattr(value, name) for name in value.__match_args__}}
+
+
+Body = Start | Fail | Restore | Swap | Forbid | Allow | Update
+# The classes of bodies, each with its place in the order of events.
+CLASSES = {kind: place for place, kind in enumerate((Start, Fail, Restore, Swap, Forbid, Allow, Update))}
+UPDATES = CLASSES[Update]
+KINDS: dict[str, Any] = {kind.__name__.lower(): kind for kind in CLASSES}
+
+
+class Event(NamedTuple):
+    """What happens at the router `dst` at a time, by its scenario or by a message of `src`."""
+
+    time: int
+    dst: int
+    src: int
+    seq: int
+    body: Body
+
+    def __str__(self) -> str:
+        rest: tuple[object, ...]
+        match self.body:
+            case Update(path, session):
+                rest = self.src, self.seq, session, write_path(path)
+            case Start():
+                rest = ()
+            case Fail(peer) | Restore(peer):
+                rest = peer, self.seq
+            case body:
+                rest = self.seq, *astuple(body)
+        return " ".join(map(str, ("event", self.time, self.dst, type(self.body).__name__.lower(), *rest)))
+
+    def record(self) -> dict[str, Any]:
+        return {"time": self.time, "dst": self.dst, "src": self.src, "seq": self.seq, **record(self.body)}
+
+    def key(self, path_numbers: dict[Nodes, int]) -> tuple[int, ...]:
+        """By this key the events of a case are ordered."""
+        body = self.body
+        if type(body) is Update:
+            return self.time, self.dst, UPDATES, self.src, self.seq, path_numbers[body.path], body.session
+        return (self.time, self.dst, CLASSES[type(body)], self.src, self.seq, *astuple(body))
+
+
+# Of most events a log has many, so these are read in one pass.
+UPDATE_LINE = re.compile(rf"event ({NUMBER}) ({NUMBER}) update ({NUMBER}) ({NUMBER}) ({NUMBER}) ({PATH})\n")
+OTHER_LINE = re.compile(rf"event ({NUMBER}) ({NUMBER}) ([a-z]+)((?: {NUMBER})*)\n")
+
+
+def read_event(text: str) -> Event | None:
+    """The event of an event line with its end."""
+    if found := UPDATE_LINE.fullmatch(text):
+        time, dst, src, seq, session = map(int, found.groups()[:5])
+        return Event(time, dst, src, seq, Update(read_path(found[6]), session))
+    if not (found := OTHER_LINE.fullmatch(text)):
+        return None
+    time, dst, kind = int(found[1]), int(found[2]), KINDS.get(found[3])
+    match [*map(int, found[4].split())]:
+        case [] if kind is Start:
+            return Event(time, dst, dst, 0, Start())
+        case [peer, seq] if kind in (Fail, Restore):
+            return Event(time, dst, dst, seq, kind(peer))
+        case [seq, *rest] if kind in (Swap, Forbid, Allow) and len(rest) == len(kind.__match_args__):
+            return Event(time, dst, dst, seq, kind(*rest))
+    return None
+
+
+def opening_events(case: Case) -> list[Event]:
+    """The start, and an event at each end of each scenario line, with the line's place as its number."""
+    events = [Event(0, 0, 0, 0, Start())]
+    for seq, scene in enumerate(case.scenes, 1):
+        match scene:
+            case LinkScene(word, time, a, b):
+                events += [Event(time, end, end, seq, KINDS[word](peer)) for end, peer in ((a, b), (b, a))]
+            case SwapScene(time, router, first, second):
+                events.append(Event(time, router, router, seq, Swap(first, second)))
+            case BarScene(word, time, router, place):
+                events.append(Event(time, router, router, seq, KINDS[word](place)))
+    return events
+
+
+REPLAY_HEADER = "spp-replay 1"
+# The number of a report's first line behind its head.
+FIRST_EVENT = 4
+ROUTER_LINE = "router {} sent {} handled {} dropped {} changed {} rib {}"
+VERDICT_LINE = f"verdict (?:quiet ({NUMBER})|oscillates from ({NUMBER}) period ({NUMBER})|open)"
+ANSWER_LINE = "step {step} (?:ok|refused ([A-Z][0-9]+ [A-Za-z]+))"
+LOOSE_LINE = f"flight {NUMBER} pending {NUMBER} kept {NUMBER} ahead {NUMBER}(?: held {NUMBER})?"
+STEP_LINE = rf"(?:(handle|undo|deliver|commit|release) ({NUMBER})|(bound))\n"
 
 
 @dataclass(frozen=True, slots=True)
@@ -21,10 +156,8 @@ class RouterLine:
     rib: Nodes
 
     def __str__(self) -> str:
-        return (
-            f"router {self.router} sent {self.sent} handled {self.handled} dropped {self.dropped} "
-            f"changed {self.changed} rib {write_path(self.rib)}"
-        )
+        counters = self.router, self.sent, self.handled, self.dropped, self.changed
+        return ROUTER_LINE.format(*counters, write_path(self.rib))
 
 
 @dataclass(frozen=True, slots=True)
@@ -96,7 +229,6 @@ class Replay:
 
     @property
     def router_number(self) -> int:
-        """The number of the first router's line."""
         return self.bound_number + 2 + len(self.events)
 
 
@@ -126,15 +258,6 @@ class Step:
         return self.word if self.number is None else f"{self.word} {self.number}"
 
 
-REPLAY_HEADER = "spp-replay 1"
-# The number of a report's first line behind its head.
-FIRST_EVENT = 4
-ROUTER_LINE = f"router ({NUMBER}) sent ({NUMBER}) handled ({NUMBER}) dropped ({NUMBER}) changed ({NUMBER}) rib ({PATH})"
-VERDICT_LINE = f"verdict (?:quiet ({NUMBER})|oscillates from ({NUMBER}) period ({NUMBER})|open)"
-ANSWER_LINE = "step {step} (?:ok|refused ([A-Z][0-9]+ [A-Za-z]+))"
-LOOSE_LINE = f"flight {NUMBER} pending {NUMBER} kept {NUMBER} ahead {NUMBER}(?: held {NUMBER})?"
-
-
 class Cursor:
     """The lines of a text that twarp wrote, taken one after the other."""
 
@@ -145,14 +268,14 @@ class Cursor:
 
     def take(self, pattern: str, wanted: str) -> re.Match[str]:
         """How the next line matches; refused where it is not there, not whole or does not match."""
-        number, line = self.number, self.next_line()
+        line = self.next_line()
         if not line:
-            raise Refused.at_line(number, f"the text ends where {wanted} should stand")
+            raise Refused.at_line(self.number, f"the text ends where {wanted} should stand")
         found = re.fullmatch(pattern, line.removesuffix("\n"))
         if not found:
-            raise misplaced(number, line, wanted)
+            raise Refused.at_line(self.number, f"{quote(line)} stands where {wanted} should stand")
         if line[-1] != "\n":
-            raise Refused.at_line(number, "the line is not ended")
+            raise Refused.at_line(self.number, "the line is not ended")
         self.number += 1
         return found
 
@@ -166,66 +289,35 @@ class Cursor:
     def take_events(self, word: str = "") -> list[Event]:
         """The event lines that come next, each behind this word."""
         events: list[Event] = []
-        for place in range(self.number - 1, len(self.lines)):
-            line = self.lines[place]
-            event = read_event(line[len(word) :]) if line.startswith(word) else None
-            if event is None:
-                break
+        while (line := self.next_line()).startswith(word) and (event := read_event(line[len(word) :])):
             events.append(event)
-        self.number += len(events)
+            self.number += 1
         return events
 
-    def take_line_of(self, router: int, pattern: str, wanted: str) -> re.Match[str]:
-        """The next line, whose first number has to be that of the router."""
-        number, found = self.number, self.take(pattern, wanted)
-        if int(found[1]) != router:
-            raise misplaced(number, found[0], wanted)
-        return found
-
     def take_router(self, router: int, wanted: str) -> RouterLine:
-        found = self.take_line_of(router, ROUTER_LINE, wanted)
-        sent, handled, dropped, changed = map(int, found.group(2, 3, 4, 5))
-        return RouterLine(router, sent, handled, dropped, changed, read_path(found[6]))
+        *counters, rib = self.take(ROUTER_LINE.format(router, *[f"({NUMBER})"] * 4, f"({PATH})"), wanted).groups()
+        sent, handled, dropped, changed = map(int, counters)
+        return RouterLine(router, sent, handled, dropped, changed, read_path(rib))
 
     def take_routers(self, nodes: int) -> list[RouterLine]:
         """The router line of each router, in ascending order."""
         return [self.take_router(router, f"an event or the line of router {router}") for router in range(nodes)]
 
-    def take_undone(self) -> list[Undone]:
-        undone = []
-        while events := self.take_events("undo "):
-            undone += [Undone(event, []) for event in events]
-            undone[-1].sends.extend(self.take_events("send "))
-        return undone
-
-    def take_verdict(self) -> Verdict:
-        last_change, start, period = self.take(VERDICT_LINE, "the verdict").groups()
-        if last_change:
-            return Quiet(int(last_change))
-        return Oscillates(int(start), int(period)) if start else Open()
-
     def take_end(self) -> None:
         if line := self.next_line():
-            raise misplaced(self.number, line, "the text", "end")
-
-
-def misplaced(number: int, line: str, wanted: str, verb: str = "stand") -> Refused:
-    """What is wrong with a line that is not the one wanted."""
-    return Refused.at_line(number, f"{quote(line)} stands where {wanted} should {verb}")
+            raise Refused.at_line(self.number, f"{quote(line)} stands where the text should end")
 
 
 def read_report(text: bytes, nodes: int) -> Report:
     """The report of a run of a case with so many routers."""
     cursor = Cursor(text, "spp-report 1")
-    report = Report(
-        cursor.take_number("stop"),
-        cursor.take_number("bound"),
-        cursor.take_events(),
-        cursor.take_routers(nodes),
-        cursor.take_verdict(),
-    )
+    stop, bound = cursor.take_number("stop"), cursor.take_number("bound")
+    events, routers = cursor.take_events(), cursor.take_routers(nodes)
+    last_change, start, period = cursor.take(VERDICT_LINE, "the verdict").groups()
     cursor.take_end()
-    return report
+    if last_change:
+        return Report(stop, bound, events, routers, Quiet(int(last_change)))
+    return Report(stop, bound, events, routers, Oscillates(int(start), int(period)) if start else Open())
 
 
 def read_replay(text: bytes, nodes: int, steps: int) -> Replay:
@@ -242,26 +334,14 @@ def read_replay(text: bytes, nodes: int, steps: int) -> Replay:
 
 def read_trail(text: bytes, router: int) -> Trail:
     """What twarp wrote of the trail of a router."""
-    cursor = Cursor(text, "spp-trail 1")
-    wanted = f"the line of router {router}"
-    trail = Trail(cursor.take_router(router, wanted), cursor.take_undone(), cursor.take_router(router, wanted))
+    cursor, wanted = Cursor(text, "spp-trail 1"), f"the line of router {router}"
+    before, undone = cursor.take_router(router, wanted), []
+    while events := cursor.take_events("undo "):
+        undone += [Undone(event, []) for event in events]
+        undone[-1].sends.extend(cursor.take_events("send "))
+    trail = Trail(before, undone, cursor.take_router(router, wanted))
     cursor.take_end()
     return trail
-
-
-def is_replay(text: bytes) -> bool:
-    return text.startswith(REPLAY_HEADER.encode())
-
-
-STEP_LINE = rf"(handle|undo|deliver|commit|release) ({NUMBER})|bound"
-
-
-def read_step(number: int, line: str) -> Step:
-    """The step of a line of a step text."""
-    found = re.fullmatch(rf"(?:{STEP_LINE})\n", line)
-    if not found:
-        raise Refused.at_line(number, f"{quote(line)} is no step; {WHICH}")
-    return Step(found[1], int(found[2])) if found[1] else Step("bound")
 
 
 def read_case_and_steps(text: bytes) -> tuple[Case, list[Step]]:
@@ -269,4 +349,10 @@ def read_case_and_steps(text: bytes) -> tuple[Case, list[Step]]:
     case, rest = case_and_rest(text, ["replay", "--stop", "1"])
     if not rest or rest[-1][1] != "end\n":
         raise Refused(f"refused: the text ends before the line `end` of its steps; {WHICH}")
-    return case, [read_step(*line) for line in rest[:-1]]
+    steps = []
+    for number, line in rest[:-1]:
+        found = re.fullmatch(STEP_LINE, line)
+        if not found:
+            raise Refused.at_line(number, f"{quote(line)} is no step; {WHICH}")
+        steps.append(Step(found[1], int(found[2])) if found[1] else Step("bound"))
+    return case, steps

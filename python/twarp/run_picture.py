@@ -1,21 +1,23 @@
-"""The picture of a run: a lane for each router, time to the right."""
+"""The pictures of runs and of replays: a lane for each router, time or steps to the right."""
 
-from collections.abc import Iterator
+from collections import defaultdict
+from collections.abc import Iterable, Iterator, Mapping, Sequence
 from dataclasses import dataclass
 from itertools import chain
+from typing import ClassVar
 from xml.etree.ElementTree import Element
 
 from twarp.case import Case, Nodes, write_path
-from twarp.event import Allow, Event, Fail, Forbid, Restore, Start, Swap
-from twarp.following import Change, Fate, Message, Run
-from twarp.lanes import TOP, Lanes, Sample, TimeAxis, View, draw_legend, fit, sample_box, sample_circle, sample_line
-from twarp.lanes import sample_path, sample_square
-from twarp.report import Oscillates, Quiet, Report
-from twarp.svg import PLACES, Picture, add, clipped, place_of
+from twarp.machine import Handling, History
+from twarp.protocol import Change, Fate, Message, Run
+from twarp.report import Allow, Event, Fail, Forbid, Oscillates, Quiet, Replay, Report, Restore, Start, Step, Swap
+from twarp.svg import PLACES, TOP, Lanes, Picture, Sample, View, add, clipped, draw_legend, fit, place_of
+from twarp.svg import sample_box, sample_circle, sample_line, sample_path, sample_square
 
 # Beyond so many events of the scenario what happens to a link or a path stands in tooltips alone.
 MOST_NOTES = 16
 LETTER_WIDTH = 6.4
+LEAST_WIDTH = 640.0
 # How wide the bar of a path is that was given up at the time at which it was taken.
 MOMENT = 4.0
 # How far the bars of a run that is at rest go on beyond its last event.
@@ -25,13 +27,55 @@ REST = 36.0
 BAN_BELOW = 7.0
 BAN_STEP = 6.0
 MOST_BANS = 3
+# How wide the column of a step is.
+COLUMN = 52.0
 
-MESSAGES = {
-    "message": "message",
-    "message withdrawal": "message without a path",
-    "message dropped": "dropped message",
-    "message underway": "under way at the end",
-}
+FATES = {Fate.DROPPED: " dropped", Fate.UNDER_WAY: " underway", Fate.IN_FLIGHT: " underway", Fate.ANNIHILATED: " gone"}
+
+
+def message_look(message: Message) -> str:
+    fate = FATES.get(message.fate, "")
+    if message.is_anti:
+        return "message underway anti" if fate == " underway" else f"message anti{fate}"
+    is_withdrawal = message.fate is Fate.HEARD and not message.update.path
+    return "message withdrawal" if is_withdrawal else f"message{fate}"
+
+
+class LanePicture:
+    """What is in view of a run or of a replay, and where it stands."""
+
+    # What the looks of messages are called.
+    looks: ClassVar[Mapping[str, str]]
+    # How far below the lanes the legend is.
+    legend_below: ClassVar[float]
+    right: float
+    # What stands in the picture beside messages.
+    marks: Sequence[Sequence[object]]
+
+    def __init__(self, view: View, messages: Iterable[Message]):
+        self.view = view
+        self.lanes = Lanes(view)
+        self.messages = list(messages)
+
+    def draw(self, title: str, subtitle: str) -> str:
+        self.view.refuse_crowd(sum(map(len, (self.messages, *self.marks))))
+        picture = Picture(title, subtitle)
+        self.draw_onto(picture.root, picture.root, picture.root)
+        right = max(self.right, LEAST_WIDTH)
+        below = draw_legend(picture.root, right, self.lanes.bottom + self.legend_below, self.legend())
+        return picture.text(right + 16, below)
+
+    def draw_onto(self, ground: Element, times: Element, names: Element) -> None:
+        """Draws all but the titles and the legend: the columns' heads and the lanes' names where these are to be."""
+        raise NotImplementedError
+
+    def legend(self) -> list[tuple[str, Sample]]:
+        """A sample of each mark that the picture has."""
+        raise NotImplementedError
+
+    def message_marks(self) -> list[tuple[str, Sample]]:
+        seen = set(map(message_look, self.messages))
+        return [(name, sample_line(class_=look)) for look, name in self.looks.items() if look in seen]
 
 
 @dataclass(frozen=True, slots=True)
@@ -67,43 +111,27 @@ def bars_of(run: Run) -> Iterator[Bar]:
         if earlier := latest.get(change.router):
             yield Bar(change.router, earlier.path, earlier.time, change.time)
         latest[change.router] = change
-    for change in latest.values():
-        yield Bar(change.router, change.path, change.time, None)
+    yield from (Bar(change.router, change.path, change.time, None) for change in latest.values())
 
 
-class Bans:
-    """What the scenario of a run forbids and allows."""
-
-    def __init__(self, case: Case, run: Run):
-        self.given = case.orders()
-        self.all: list[Bar] = []
-        # The level at which each event that forbids or allows is drawn.
-        self.levels: dict[Event, int] = {}
-        # For each router the paths forbidden now, each with its level and the time from which on it is.
-        self.now: dict[int, dict[Nodes, tuple[int, int]]] = {}
-        for scene in run.scenes:
-            self.take(scene)
-        for router, row in self.now.items():
-            self.all += [Bar(router, path, start, None, level) for path, (level, start) in row.items()]
-
-    def path(self, scene: Event) -> Nodes:
-        """The path that an event forbids or allows."""
-        assert isinstance(scene.body, (Forbid, Allow)), "only these name a path"
-        return self.given[scene.dst][scene.body.place - 1]
-
-    def take(self, scene: Event) -> None:
-        if not isinstance(scene.body, (Forbid, Allow)):
-            return
-        path, row = self.path(scene), self.now.setdefault(scene.dst, {})
-        taken = {level for level, _ in row.values()}
-        free = min({*range(len(row) + 1)} - taken)
-        level, start = row.get(path, (free, scene.time))
-        self.levels[scene] = level
-        if isinstance(scene.body, Forbid):
-            row[path] = level, start
-        elif path in row:
-            del row[path]
-            self.all.append(Bar(scene.dst, path, start, scene.time, level))
+def bans_of(run: Run) -> tuple[list[Bar], dict[Event, tuple[Nodes, int]]]:
+    """The times in which paths are forbidden; and of each event that forbids or allows one, the path and its level."""
+    bans: list[Bar] = []
+    marks: dict[Event, tuple[Nodes, int]] = {}
+    # For each router the paths forbidden now, each with its level and the time from which on it is.
+    now: dict[int, dict[Nodes, tuple[int, int]]] = defaultdict(dict)
+    for scene in run.scenes:
+        if isinstance(scene.body, (Forbid, Allow)):
+            row, path = now[scene.dst], run.routers[scene.dst].given[scene.body.place - 1]
+            free = min({*range(len(row) + 1)} - {level for level, _ in row.values()})
+            level, start = row.get(path, (free, scene.time))
+            marks[scene] = path, level
+            if isinstance(scene.body, Forbid):
+                row[path] = level, start
+            elif row.pop(path, None):
+                bans.append(Bar(scene.dst, path, start, scene.time, level))
+    bans += [Bar(router, path, start, None, level) for router in now for path, (level, start) in now[router].items()]
+    return bans, marks
 
 
 def last_time(report: Report) -> int:
@@ -113,43 +141,37 @@ def last_time(report: Report) -> int:
     return report.bound
 
 
-class RunPicture:
-    """What is in view, and where it stands."""
+class RunPicture(LanePicture):
+    """A run: bars for paths in use, arrows for messages, marks for what the scenario has."""
+
+    looks = {
+        "message": "message",
+        "message withdrawal": "message without a path",
+        "message dropped": "dropped message",
+        "message underway": "under way at the end",
+    }
+    legend_below = 34.0
+    # Whether bars without room have their words too, which are not seen.
+    has_hidden_words = False
 
     def __init__(self, case: Case, report: Report, run: Run, view: View):
-        self.view = view
+        seen = (message for message in run.messages if view.meets(message.sent, message.event.time))
+        super().__init__(view, (message for message in seen if message.event.dst in view.shown))
         self.verdict = report.verdict
         self.places = {path: place_of(place) for order in case.orders() for place, path in enumerate(order)}
         self.bars = [bar for bar in bars_of(run) if bar.is_seen(view)]
-        self.messages = [
-            message
-            for message in run.messages
-            if view.meets(message.sent, message.event.time) and message.event.dst in view.shown
-        ]
         self.scenes = [scene for scene in run.scenes if scene.dst in view.shown and view.meets(scene.time, scene.time)]
-        self.known_bans = Bans(case, run)
-        self.bans = [ban for ban in self.known_bans.all if ban.is_seen(view)]
-        self.lanes = Lanes(view)
-        self.axis = self.fit_axis()
+        bans, self.ban_marks = bans_of(run)
+        self.bans = [ban for ban in bans if ban.is_seen(view)]
+        self.marks = self.bars, self.scenes, self.bans
+        spans = [(message.sent, message.event.time) for message in self.messages]
+        spans += [(scene.time, scene.time) for scene in self.scenes]
+        moments = {time for time in chain.from_iterable(spans) if view.meets(time, time)}
+        self.axis = fit(view.first, view.last, self.lanes.left, len(moments), spans)
         is_at_rest = isinstance(report.verdict, Quiet) and view.last >= last_time(report)
         self.right = self.axis.x(view.last) + (REST if is_at_rest else 0.0)
 
-    def fit_axis(self) -> TimeAxis:
-        first, last = self.view.first, self.view.last
-        spans = [(message.sent, message.event.time) for message in self.messages]
-        spans += [(scene.time, scene.time) for scene in self.scenes]
-        moments = {time for time in chain.from_iterable(spans) if first <= time <= last}
-        return fit(first, last, self.lanes.left, len(moments), spans)
-
-    def draw(self, title: str, subtitle: str) -> str:
-        self.view.refuse_crowd(len(self.bars) + len(self.messages) + len(self.scenes) + len(self.bans))
-        picture = Picture(title, subtitle)
-        self.draw_onto(picture.root, picture.root, picture.root)
-        right = max(self.right, 640.0)
-        return picture.text(right + 16, draw_legend(picture.root, right, self.lanes.bottom + 34, self.legend()))
-
     def draw_onto(self, ground: Element, times: Element, names: Element) -> None:
-        """Draws all but the titles and the legend: the times of the axis and the lanes' names where these are to be."""
         self.draw_period(ground)
         self.draw_axis(ground, times)
         self.lanes.draw(ground, names, self.right)
@@ -160,19 +182,22 @@ class RunPicture:
         for bar in self.bars:
             self.draw_bar(area, bar)
         for ban in self.bans:
-            self.draw_ban(area, ban)
+            (start, end), y = self.ends(ban), self.ban_height(ban.router, ban.level or 0)
+            add(area, "line", "", ban.tooltip, class_="ban", x1=start, y1=y, x2=end, y2=y)
         for scene in self.scenes:
             self.draw_scene(area, scene)
 
     def draw_axis(self, lines: Element, times: Element) -> None:
         add(times, "text", "time", class_="quiet name", x=self.lanes.left - 18, y=TOP - 14)
         for time in self.axis.ticks():
-            x = self.axis.x(time)
-            add(lines, "line", class_="grid", x1=x, y1=TOP - 8, x2=x, y2=self.lanes.bottom)
-            add(times, "text", f"{time:,}", class_="quiet middle", x=x, y=TOP - 14)
+            self.draw_upright(lines, time, "grid")
+            add(times, "text", f"{time:,}", class_="quiet middle", x=self.axis.x(time), y=TOP - 14)
         for start, end in self.axis.folds:
-            tooltip = f"nothing happens from {start:,} to {end:,}"
-            self.draw_stretch(lines, start, end, "fold", tooltip)
+            self.draw_stretch(lines, start, end, "fold", f"nothing happens from {start:,} to {end:,}")
+
+    def draw_upright(self, parent: Element, time: int, look: str) -> None:
+        x = self.axis.x(time)
+        add(parent, "line", class_=look, x1=x, y1=TOP - 8, x2=x, y2=self.lanes.bottom)
 
     def draw_period(self, parent: Element) -> None:
         """Shades the period that the verdict found, and marks where it begins again."""
@@ -186,8 +211,7 @@ class RunPicture:
             add(parent, "text", f"period {period}", class_="quiet middle", x=middle, y=self.lanes.bottom + 14)
         repeats = max(2, -(-(self.view.first - start) // period))
         for time in range(start + period * repeats, self.view.last + 1, period):
-            x = self.axis.x(time)
-            add(parent, "line", class_="again", x1=x, y1=TOP - 8, x2=x, y2=self.lanes.bottom)
+            self.draw_upright(parent, time, "again")
 
     def draw_stretch(self, parent: Element, start: int, end: int, look: str, tooltip: str) -> None:
         """Shades all lanes over a stretch of time."""
@@ -203,29 +227,22 @@ class RunPicture:
         start, end = self.ends(bar)
         if start == end:
             start -= MOMENT
-        y, words = self.lanes.y(bar.router), write_path(bar.path)
-        box = {"x": start, "y": y - self.lanes.bar / 2, "width": end - start, "height": self.lanes.bar, "rx": 3}
-        look, ink = {"class_": "hollow"}, {"class_": "path quiet"}
+        words, look, ink = write_path(bar.path), {"class_": "hollow"}, {"class_": "path quiet"}
         if bar.path:
             place = self.places[bar.path]
             look, ink = {"class_": "bar", "fill": place.fill}, {"class_": "path", "style": f"fill:{place.ink}"}
         group = add(parent, "g", "", bar.tooltip)
-        add(group, "rect", **look, **box)
+        add(group, "rect", **look, **self.lanes.box(bar.router, start, end))
         if bar.start != bar.end:
-            has_room = LETTER_WIDTH * len(words) + 6 <= end - start
-            self.draw_words(group, words, ink, {"x": start + 4, "y": y + 3.8}, has_room)
-
-    def draw_words(self, bar: Element, words: str, look: dict[str, str], at: dict[str, float], has_room: bool) -> None:
-        if has_room:
-            add(bar, "text", words, **look, **at)
+            at = {"x": start + 4, "y": self.lanes.y(bar.router) + 3.8}
+            if LETTER_WIDTH * len(words) + 6 <= end - start:
+                add(group, "text", words, **ink, **at)
+            elif self.has_hidden_words:
+                add(group, "text", words, **{"class_": "", "display": "none", **at, **ink})
 
     def ban_height(self, router: int, level: int) -> float:
         """Where a path's time of being forbidden is drawn, below the router's bar."""
         return self.lanes.y(router) + self.lanes.bar / 2 + BAN_BELOW + BAN_STEP * min(level, MOST_BANS - 1)
-
-    def draw_ban(self, parent: Element, ban: Bar) -> None:
-        (start, end), y = self.ends(ban), self.ban_height(ban.router, ban.level or 0)
-        add(parent, "line", "", ban.tooltip, class_="ban", x1=start, y1=y, x2=end, y2=y)
 
     def draw_message(self, parent: Element, message: Message) -> None:
         event = message.event
@@ -256,13 +273,13 @@ class RunPicture:
 
     def draw_bar_scene(self, parent: Element, scene: Event, draw: Sample, x: float) -> None:
         """A mark where a path is forbidden or allowed. Words stand at the highest one of those that forbid alone."""
-        path, level = write_path(self.known_bans.path(scene)), self.known_bans.levels[scene]
+        path, level = self.ban_marks[scene]
         y = self.ban_height(scene.dst, level)
         words = "forbidden" if isinstance(scene.body, Forbid) else "allowed"
-        group = add(parent, "g", "", f"{scene.time}: path {path} is {words} at router {scene.dst}")
+        group = add(parent, "g", "", f"{scene.time}: path {write_path(path)} is {words} at router {scene.dst}")
         draw(group, x, y)
         if words == "forbidden" and level == 0 and len(self.scenes) <= MOST_NOTES:
-            note = f"{path} {words}"
+            note = f"{write_path(path)} {words}"
             # At the end of the picture the words stand before the mark.
             is_last = x + 8 + LETTER_WIDTH * len(note) > self.right
             at = {"x": x - 8, "text_anchor": "end"} if is_last else {"x": x + 8}
@@ -283,35 +300,18 @@ class RunPicture:
         beyond = here - toward * (self.lanes.bar / 2 + 12)
         add(group, "line", class_=f"{look} link", x1=x, y1=beyond, x2=x, y2=there)
         if len(self.scenes) <= MOST_NOTES:
-            note = f"{scene.dst}–{peer} {words}"
-            add(group, "text", note, class_=f"note {look}note", x=x + 6, y=beyond + 4)
+            add(group, "text", f"{scene.dst}–{peer} {words}", class_=f"note {look}note", x=x + 6, y=beyond + 4)
 
     def legend(self) -> list[tuple[str, Sample]]:
-        """A sample of each mark that the picture has."""
         places = {self.places[bar.path] for bar in self.bars if bar.path}
         entries = [(f"{place.name} path", sample_box(fill=place.fill)) for place in PLACES if place in places]
-        if not all(bar.path for bar in self.bars):
-            entries.append(("no path", sample_box(class_="hollow")))
-        looks = set(map(message_look, self.messages))
-        entries += [(name, sample_line(class_=look)) for look, name in MESSAGES.items() if look in looks]
         bodies = {type(scene.body) for scene in self.scenes}
+        entries += [("no path", sample_box(class_="hollow"))] * (not all(bar.path for bar in self.bars))
+        entries += self.message_marks()
         entries += [mark for body, mark in SCENES.items() if body in bodies]
-        if self.bans:
-            entries.append(("while it is forbidden", sample_line(class_="ban")))
-        if isinstance(self.verdict, Oscillates):
-            entries.append(("the period found", sample_box(class_="period")))
-        if self.axis.folds:
-            entries.append(("nothing happens", sample_box(class_="fold")))
-        return entries
-
-
-def message_look(message: Message) -> str:
-    match message.fate:
-        case Fate.DROPPED:
-            return "message dropped"
-        case Fate.UNDER_WAY:
-            return "message underway"
-    return "message" if message.update.path else "message withdrawal"
+        entries += [("while it is forbidden", sample_line(class_="ban"))] * bool(self.bans)
+        entries += [("the period found", sample_box(class_="period"))] * isinstance(self.verdict, Oscillates)
+        return entries + [("nothing happens", sample_box(class_="fold"))] * bool(self.axis.folds)
 
 
 # What the marks of the scenario are called, and how they are drawn.
@@ -323,3 +323,119 @@ SCENES: dict[type, tuple[str, Sample]] = {
     Forbid: ("path forbidden", sample_square("forbid", 8)),
     Allow: ("path allowed again", sample_square("allow", 8)),
 }
+
+# What became of an event that was handled: its words, its ground and the ink on it.
+HANDLINGS = {
+    "committed": ("committed", "#0072b2", "#fff"),
+    "ahead": ("handled, not committed", "#56b4e9", "#000"),
+    "undone": ("handled, then undone", "#fff", "#c1121f"),
+}
+
+
+def handling_look(handling: Handling) -> str:
+    return "undone" if handling.undone_at else "committed" if handling.committed_at else "ahead"
+
+
+draw_commit = sample_path(6, 0, "l4 5l8 -10", class_="commit")
+draw_kept = sample_circle("fail", 5)
+
+
+class ReplayPicture(LanePicture):
+    """A replay, and which of its steps were undone. The view goes from one step to another, counted from 1."""
+
+    looks = {
+        "message": "message",
+        "message gone": "message taken back",
+        "message anti": "antimessage",
+        "message anti gone": "antimessage that takes one back",
+        "message underway": "in flight at the end",
+        "message underway anti": "antimessage in flight at the end",
+    }
+    legend_below = 36.0
+
+    def __init__(self, steps: list[Step], replay: Replay, history: History, view: View):
+        seen = (message for message in history.messages if view.meets(message.sent, message.delivered or view.last))
+        super().__init__(view, (message for message in seen if {message.event.src, message.event.dst} <= view.shown))
+        numbered = enumerate(zip(steps, replay.answers), 1)
+        self.steps = [(number, *answer) for number, answer in numbered if view.meets(number, number)]
+        self.handlings = [
+            handling
+            for handling in history.handlings
+            if handling.event.dst in view.shown and view.meets(handling.done_at, handling.undone_at or handling.done_at)
+        ]
+        self.bounds = [(number, bound) for number, bound in history.bounds if view.meets(number, number)]
+        self.marks = self.steps, self.handlings
+        self.right = self.x(view.last) + COLUMN / 2
+
+    def x(self, number: int) -> float:
+        """The middle of a step's column."""
+        return self.lanes.left + COLUMN * (number - self.view.first + 0.5)
+
+    def draw_onto(self, ground: Element, times: Element, names: Element) -> None:
+        self.draw_steps(times)
+        self.lanes.draw(ground, names, self.right)
+        width, height = self.right - self.lanes.left, self.lanes.bottom - TOP + 16
+        area = clipped(ground, self.lanes.left, TOP - 8, width, height)
+        for message in self.messages:
+            self.draw_message(area, message)
+        for handling in self.handlings:
+            self.draw_handling(area, handling)
+        for number, step, refusal in self.steps:
+            if step.word == "commit" and not refusal and step.number in self.lanes.places:
+                draw_commit(add(area, "g", "", f"step {number} {step}"), self.x(number), self.lanes.y(step.number))
+
+    def draw_steps(self, parent: Element) -> None:
+        """The head of each column, with what was refused and the bounds found."""
+        for number, step, refusal in self.steps:
+            x, look = self.x(number), "refused" if refusal else "quiet"
+            head = add(parent, "g", "", f"step {number} {step}: {f'refused {refusal}' if refusal else 'ok'}")
+            add(head, "text", str(number), class_=f"{look} middle", x=x, y=TOP - 34)
+            for line, word in enumerate(str(step).split()):
+                add(head, "text", word, class_=f"{look} step", x=x, y=TOP - 20 + 12 * line)
+            add(parent, "line", class_="grid", x1=x, y1=TOP - 4, x2=x, y2=self.lanes.bottom)
+            if refusal:
+                add(head, "text", refusal.split()[0], class_="refused middle", x=x, y=self.lanes.bottom + 14)
+        for number, bound in self.bounds:
+            x = self.x(number)
+            add(parent, "line", class_="bound", x1=x, y1=TOP - 4, x2=x, y2=self.lanes.bottom)
+            add(parent, "text", f"bound {bound}", class_="repairnote middle", x=x, y=self.lanes.bottom + 14)
+
+    def draw_handling(self, parent: Element, handling: Handling) -> None:
+        x, y = self.x(handling.done_at), self.lanes.y(handling.event.dst)
+        name, fill, ink = HANDLINGS[handling_look(handling)]
+        tooltip = f"step {handling.done_at} handles {handling.event}: {name}"
+        group = add(parent, "g", "", tooltip + (f" by step {handling.undone_at}" if handling.undone_at else ""))
+        width, words = COLUMN - 6, f"at {handling.event.time}"
+        box = self.lanes.box(handling.event.dst, x - width / 2, x + width / 2)
+        add(group, "rect", class_="undone" if handling.undone_at else "bar", fill=fill, **box)
+        if LETTER_WIDTH * len(words) <= width:
+            add(group, "text", words, class_="path middle", style=f"fill:{ink}", x=x, y=y + 3.8)
+        if handling.undone_at:
+            end, top = self.x(handling.undone_at), y - self.lanes.bar / 2
+            curve = f"M{end:.1f} {top:.1f}Q{(x + end) / 2:.1f} {top - 28:.1f} {x:.1f} {top:.1f}"
+            add(group, "path", class_="undo", d=curve)
+            add(group, "circle", class_="refused", cx=end, cy=top, r=2.5)
+
+    def draw_message(self, parent: Element, message: Message) -> None:
+        event = message.event
+        here, there = self.lanes.y(event.dst), self.lanes.y(event.src)
+        x1, y1, y2 = self.x(message.sent), self.lanes.edge(event.src, here), self.lanes.edge(event.dst, there)
+        x2 = self.x(message.delivered) if message.delivered else self.right
+        kind = "antimessage of" if message.is_anti else "message"
+        way = f"delivered by step {message.delivered}, " if message.delivered else ""
+        tooltip = f"{kind} {event}, sent by step {message.sent}: {way}{message.fate.value}"
+        add(parent, "line", "", tooltip, class_=message_look(message), x1=x1, y1=y1, x2=x2, y2=y2)
+        if message.fate is Fate.KEPT:
+            draw_kept(parent, x2, here)
+
+    def legend(self) -> list[tuple[str, Sample]]:
+        seen = set(map(handling_look, self.handlings))
+        entries = [
+            (name, sample_box(class_="undone") if look == "undone" else sample_box(fill=fill))
+            for look, (name, fill, _) in HANDLINGS.items()
+            if look in seen
+        ]
+        entries += self.message_marks()
+        is_kept = any(message.fate is Fate.KEPT for message in self.messages)
+        entries += [("antimessage kept", draw_kept)] * is_kept
+        return entries + [("commit", draw_commit)] * any(step.word == "commit" for _, step, _ in self.steps)

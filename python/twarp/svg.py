@@ -1,9 +1,16 @@
 """The colours that all pictures share, and pictures in SVG with their marks."""
 
+import math
+from collections.abc import Callable, Iterable, Iterator, Mapping, Sequence
 from dataclasses import dataclass
+from functools import cached_property
+from importlib import resources
+from itertools import accumulate, chain, count
 from string import Template
 from xml.etree import ElementTree
 from xml.etree.ElementTree import Element
+
+from twarp.program import Refused
 
 
 @dataclass(frozen=True, slots=True)
@@ -55,63 +62,9 @@ COLOURS = {
 LIGHT = {name: light for name, (light, _) in COLOURS.items()}
 DARK = {name: dark for name, (_, dark) in COLOURS.items()}
 
-STYLE = Template(
-    """
-text { font-family: Helvetica, Arial, sans-serif; font-size: 12px; fill: $ink; }
-.title { font-size: 17px; font-weight: bold; }
-.quiet { fill: $quiet; }
-.name { font-weight: bold; text-anchor: end; }
-.middle { text-anchor: middle; }
-.step { text-anchor: middle; font-size: 10.5px; }
-.path { font-family: DejaVu Sans Mono, Menlo, Consolas, monospace; font-size: 10.5px; }
-.lane { stroke: $lane; }
-.grid { stroke: $grid; }
-.message { stroke: $message; stroke-width: 1.3; fill: none; marker-end: url(#head); }
-.withdrawal { stroke-dasharray: 5 3; }
-.dropped { stroke: $bad; marker-end: url(#cross); }
-.gone { marker-end: url(#cross); }
-.underway { stroke: $underway; stroke-dasharray: 1.5 3; marker-end: none; }
-.anti { stroke: $bad; stroke-dasharray: 5 3; marker-end: url(#redhead); }
-.anti.gone { marker-end: url(#cross); }
-.underway.anti { stroke: $faint; marker-end: none; }
-.bar { stroke: $ground; stroke-width: 1; }
-.hollow { fill: $ground; stroke: $hollow; stroke-dasharray: 3 2; }
-.fail { stroke: $bad; fill: none; stroke-width: 2; }
-.repair { stroke: $good; fill: none; stroke-width: 2; }
-.link { stroke-width: 1.2; stroke-dasharray: 2 3; }
-.note { paint-order: stroke; stroke: $ground; stroke-width: 4; }
-.failnote { fill: $bad; }
-.repairnote { fill: $good; }
-.swap { fill: $swap; }
-.forbid { fill: $bad; stroke: $bad; stroke-width: 1.5; }
-.allow { fill: $ground; stroke: $good; stroke-width: 1.8; }
-.ban { stroke: $bad; stroke-width: 3; stroke-opacity: .55; }
-.start { fill: $ink; }
-.period { fill: $period; fill-opacity: .4; }
-.again { stroke: $again; stroke-width: 1.5; stroke-dasharray: 6 4; }
-.undone { fill: $ground; stroke: $bad; stroke-width: 1.3; }
-.undo { fill: none; stroke: $bad; stroke-width: 1.3; marker-end: url(#redhead); }
-.bound { stroke: $good; stroke-dasharray: 6 4; }
-.commit { stroke: $good; fill: none; stroke-width: 2.4; }
-.refused { fill: $bad; }
-.fold { fill: url(#hatch); }
-.message:hover { stroke-width: 3; }
-"""
-)
-
-DEFINITIONS = Template(
-    """
-<defs>
-<marker id="head" viewBox="0 0 7 6" refX="6.5" refY="3" markerWidth="8" markerHeight="7" markerUnits="userSpaceOnUse"
- orient="auto"><path d="M0 0 L7 3 L0 6 z" fill="$message"/></marker>
-<marker id="redhead" viewBox="0 0 7 6" refX="6.5" refY="3" markerWidth="8" markerHeight="7"
- markerUnits="userSpaceOnUse" orient="auto"><path d="M0 0 L7 3 L0 6 z" fill="$bad"/></marker>
-<marker id="cross" viewBox="-1 -1 9 9" refX="3.5" refY="3.5" markerWidth="11" markerHeight="11"
- markerUnits="userSpaceOnUse"><path d="M0 0 L7 7 M0 7 L7 0" stroke="$bad" stroke-width="2"/></marker>
-<pattern id="hatch" width="6" height="6" patternUnits="userSpaceOnUse" patternTransform="rotate(45)"><rect width="2.5"
- height="6" fill="$hatch"/></pattern>
-</defs>
-"""
+# What stands in the folder of the package, with colours to be put in: the style of marks, and the heads of arrows.
+STYLE, DEFINITIONS = (
+    Template("\n" + resources.files("twarp").joinpath(name).read_text()) for name in ("picture.css", "marks.svg")
 )
 
 
@@ -137,6 +90,12 @@ def clipped(parent: Element, x: float, y: float, width: float, height: float) ->
     return add(parent, "g", clip_path="url(#area)")
 
 
+def written(picture: Element) -> str:
+    """The text of a picture, each element on a line of its own."""
+    ElementTree.indent(picture, "")
+    return ElementTree.tostring(picture, "unicode")
+
+
 class Picture:
     """A picture on a white ground, with a title above. Its elements are added to `root`."""
 
@@ -153,5 +112,170 @@ class Picture:
         """The picture as SVG, in this size."""
         size = {"width": attribute(round(width)), "height": attribute(round(height))}
         self.root.attrib |= {"viewBox": "0 0 {width} {height}".format(**size), **size}
-        ElementTree.indent(self.root, "")
-        return ElementTree.tostring(self.root, "unicode") + "\n"
+        return written(self.root) + "\n"
+
+
+Span = tuple[int, int]
+
+FOLD_WIDTH = 40.0
+DIGIT_WIDTH = 7.0
+LEAST_WIDTH = 760.0
+GREATEST_WIDTH = 12_000.0
+TOP = 104.0
+MOST_MARKS = 5_000
+MOST_LANES = 200
+
+
+def silences(first: int, last: int, busy: Iterable[Span]) -> list[Span]:
+    """The stretches in which nothing happens, where they are long beside those in which something does."""
+    spans = sorted((max(a, first), min(b, last)) for a, b in busy if a <= last and b >= first)
+    ends = accumulate((b for _, b in spans), max, initial=first)
+    gaps = [(end, start) for end, start in zip(ends, [*(a for a, _ in spans), last]) if start > end]
+    total = max(1, last - first - sum(b - a for a, b in gaps))
+    return [(a, b) for a, b in gaps if 4 * (b - a) > total and b - a > 2]
+
+
+def nice_step(least: float) -> int:
+    """The least of 1, 2, 5, 10, 20, .. that is not below `least`."""
+    steps = (factor * 10**power for power in count() for factor in (1, 2, 5))
+    return next(step for step in steps if step >= least)
+
+
+@dataclass(frozen=True)
+class TimeAxis:
+    """Times from `first` to `last`, with so many pixels a tick; a folded stretch takes a fixed width."""
+
+    first: int
+    last: int
+    left: float
+    scale: float
+    folds: list[Span]
+
+    def x(self, time: int) -> float:
+        """Where a time stands; also for times outside the axis."""
+        folded, folds = 0.0, 0.0
+        for a, b in self.folds:
+            if time >= b:
+                folded, folds = folded + (b - a), folds + FOLD_WIDTH
+            elif time > a:
+                folded, folds = folded + (time - a), folds + FOLD_WIDTH * (time - a) / (b - a)
+        return self.left + (time - self.first - folded) * self.scale + folds
+
+    def stretches(self) -> Iterable[Span]:
+        """Those between the folds, the ends of folds among them."""
+        ends = [self.first, *chain.from_iterable(self.folds), self.last]
+        return zip(ends[::2], ends[1::2])
+
+    def ticks(self) -> Iterator[int]:
+        """Times to be written at the axis, none within a folded stretch."""
+        step = nice_step(DIGIT_WIDTH * (len(f"{self.last:,}") + 3) / self.scale)
+        for start, end in self.stretches():
+            yield from range(-(-start // step) * step, end + 1, step)
+
+
+def fit(first: int, last: int, left: float, moments: int, busy: Iterable[Span]) -> TimeAxis:
+    """An axis on which so many different moments have room, within reason."""
+    folds = silences(first, last, busy)
+    ticks = max(1, last - first - sum(b - a for a, b in folds))
+    width = 54.0 * min(moments, 40) + 16.0 * max(0, moments - 40)
+    scale = min(max(LEAST_WIDTH, width), GREATEST_WIDTH) / ticks
+    return TimeAxis(first, last, left, min(scale, 120.0), folds)
+
+
+@dataclass(frozen=True)
+class View:
+    """What is to be seen: times, or steps of a replay, from `first` to `last`, and the lanes of some routers."""
+
+    first: int
+    last: int
+    routers: Sequence[int]
+    names: Mapping[int, str]
+
+    @cached_property
+    def shown(self) -> frozenset[int]:
+        """The routers that have a lane."""
+        return frozenset(self.routers)
+
+    def meets(self, start: int, end: int) -> bool:
+        """Whether some of a stretch is in view."""
+        return start <= self.last and end >= self.first
+
+    def refuse_crowd(self, marks: int) -> None:
+        """Refuses a picture in which nobody could tell the marks apart."""
+        refuse_crowd(marks, MOST_MARKS, "marks to be drawn, and one can tell apart")
+        refuse_crowd(len(self.routers), MOST_LANES, "lanes to be drawn, and one can tell apart")
+
+
+def refuse_crowd(count: int, most: int, what: str) -> None:
+    if count > most:
+        raise Refused(f"there are {count:,} {what} at most {most:,}: choose some by --from, --to and --routers")
+
+
+class Lanes:
+    """The lanes of a view's routers, from top to bottom."""
+
+    def __init__(self, view: View):
+        self.names = {router: f"{router} {view.names.get(router, '')}".rstrip() for router in view.routers}
+        self.places = {router: place for place, router in enumerate(view.routers)}
+        count = len(self.places)
+        self.left = 48 + 7.5 * max(map(len, self.names.values()))
+        self.height = 66.0 if count <= 12 else 48.0 if count <= 40 else 34.0
+        self.bar = 18.0 if count <= 40 else 14.0
+        self.bottom = TOP + self.height * count
+
+    def y(self, router: int) -> float:
+        """The middle of the router's lane."""
+        return TOP + self.height * (self.places[router] + 0.5)
+
+    def edge(self, router: int, other: float) -> float:
+        """That edge of the router's bar which is nearer to the height `other`."""
+        return self.y(router) + math.copysign(self.bar / 2, other - self.y(router))
+
+    def box(self, router: int, start: float, end: float) -> dict[str, float]:
+        """A bar in the router's lane."""
+        return {"x": start, "y": self.y(router) - self.bar / 2, "width": end - start, "height": self.bar, "rx": 3}
+
+    def draw(self, lines: Element, names: Element, right: float) -> None:
+        for router, name in self.names.items():
+            y = self.y(router)
+            add(lines, "line", class_="lane", x1=self.left, y1=y, x2=right, y2=y)
+            add(names, "text", name, class_="name", x=self.left - 18, y=y + 4)
+
+
+# Draws a mark, or a sample of it, around a point.
+Sample = Callable[[Element, float, float], Element]
+
+
+def sample_box(**attributes: object) -> Sample:
+    return lambda parent, x, y: add(parent, "rect", x=x - 13, y=y - 6, width=26, height=12, rx=3, **attributes)
+
+
+def sample_line(**attributes: str) -> Sample:
+    return lambda parent, x, y: add(parent, "line", x1=x - 14, y1=y, x2=x + 12, y2=y, **attributes)
+
+
+def sample_square(look: str, side: float) -> Sample:
+    box = {"width": side, "height": side}
+    return lambda parent, x, y: add(parent, "rect", class_=look, x=x - side / 2, y=y - side / 2, **box)
+
+
+def sample_circle(look: str, radius: float) -> Sample:
+    return lambda parent, x, y: add(parent, "circle", class_=look, cx=x, cy=y, r=radius)
+
+
+def sample_path(left: float, up: float, way: str, **attributes: object) -> Sample:
+    """A path that begins so far to the left and above the point, and goes on as `way` says."""
+    return lambda parent, x, y: add(parent, "path", **attributes, d=f"M{x - left:.1f} {y - up:.1f}{way}")
+
+
+def draw_legend(parent: Element, right: float, y: float, entries: list[tuple[str, Sample]]) -> float:
+    """Draws samples with their names beside them, in as many lines as they take, and gives the height below them."""
+    x = left = 16.0
+    for name, draw in entries:
+        width = 52 + 6.9 * len(name)
+        if x > left and x + width > right:
+            x, y = left, y + 22
+        draw(parent, x + 14, y)
+        add(parent, "text", name, x=x + 34, y=y + 4)
+        x += width
+    return y + 22

@@ -12,25 +12,14 @@ from functools import cached_property
 from pathlib import Path
 from typing import Any
 
+from twarp.calls import Ribs, Safety, Stable, read_safety, safe, stable
 from twarp.case import GREATEST_TIME, Case, Link
-from twarp.draws import Ends, Law, Uniform, case_source
-from twarp.errors import Refused, Stopped
-from twarp.policy import Ribs, Safety, Stable, read_safety, safe, stable
-from twarp.program import HERE, File, need, need_policy
-from twarp.trials import RUNNER, Batches, Given, Local, Plan, Trial, processors
+from twarp.draws import CaseSource, Ends, Law, Uniform
+from twarp.program import HERE, File, Refused, Stopped, need, need_policy
+from twarp.trials import RUNNER, Batches, Plan, Trial, workers_of
 
 # How many splits a sweep's stable assignments may take: less than a second of processor time, mostly.
 SPLITS = 10_000
-
-
-def even(case: Case) -> Case:
-    """The case with the delay 1 for all links. What elimination leaves is the same."""
-    return replace(case, links=[Link(link.a, link.b, 1) for link in case.links])
-
-
-def script_end(case: Case) -> int:
-    """One more than the time of the last scripted event."""
-    return 1 + max((scene.time for scene in case.scenes), default=0)
 
 
 class AtRest:
@@ -45,24 +34,27 @@ class AtRest:
         self.known: tuple[str, int] = "", 0
 
     def __call__(self, case: Case) -> int:
-        text = str(even(case))
+        # One more than the time of the last scripted event.
+        script_end = 1 + max((scene.time for scene in case.scenes), default=0)
+        # What elimination leaves is the same with the delay 1 for all links.
+        text = str(replace(case, links=[Link(link.a, link.b, 1) for link in case.links]))
         if self.known[0] != text:
-            self.known = text, self.delays(text, case)
+            self.known = text, self.rests_before(text, case.nodes) - script_end
         longest = max((max(link.delay, link.back) for link in case.links), default=0)
-        stop = script_end(case) + self.known[1] * longest
+        stop = script_end + self.known[1] * longest
         if stop > GREATEST_TIME:
             raise Refused(f"no --stop is named, and it is only known to rest before {stop:,}, past {GREATEST_TIME:,}")
         return stop
 
-    def delays(self, text: str, case: Case) -> int:
-        """After how many longest delays a run is at rest, by the text of the case with the delay 1 for all links."""
-        status, out, err = RUNNER.run([self.program, "safe"], text.encode())
+    def rests_before(self, text: str, nodes: int) -> int:
+        """By when a run is at rest, as the program says of this text."""
+        status, out, why = RUNNER.run([self.program, "safe"], text.encode())
         if status:
-            raise Refused(f"twarp-policy ends with status {status}: {(err or out).decode('utf-8', 'replace').strip()}")
-        found = read_safety(out, case.nodes)
-        if found.rests_before is None:
+            raise Refused(f"twarp-policy ends with status {status}: {why}")
+        found = read_safety(out, nodes).rests_before
+        if found is None:
             raise Refused("no --stop is named, and it has a dispute wheel, so none is known by which it rests")
-        return found.rests_before - script_end(case)
+        return found
 
 
 @dataclass(frozen=True)
@@ -120,9 +112,9 @@ class Policy:
 class Sweep(Iterator[Trial]):
     """The runs of a sweep. `columns` names what each run's `values` are, and `words` says what is drawn."""
 
-    def __init__(self, plan: Plan, seeds: range, workers: Local | Given):
+    def __init__(self, plan: Plan, batches: Batches):
         self.columns, self.words = plan.source.columns, plan.source.words
-        self.trials = (trial for trial in Batches(plan, seeds, workers) if trial is not None)
+        self.trials = (trial for trial in batches if trial is not None)
 
     def __next__(self) -> Trial:
         return next(self.trials)
@@ -159,10 +151,8 @@ def sweep(
     """
     file = str(program) if executor and program else str(need(program))
     end = stop or AtRest(str(policy) if executor and policy else str(need_policy(policy, program)))
-    plan = Plan(case_source(case, delays, links, apart, failure_times), file, end, every, check)
-    jobs = jobs or processors()
-    workers: Given | Local = Given(plan, executor, jobs) if executor else Local(plan, jobs)
-    return Sweep(plan, range(seed, seed + runs), workers)
+    plan = Plan(CaseSource(case, delays, links, apart, failure_times), file, end, every, check)
+    return Sweep(plan, Batches(plan, range(seed, seed + runs), workers_of(plan, executor, jobs)))
 
 
 @contextlib.contextmanager
@@ -181,7 +171,11 @@ def cluster(address: str) -> Iterator[tuple[Executor, int]]:
         try:
             client = stack.enter_context(Client(address))  # type: ignore[no-untyped-call]
             archive = Path(stack.enter_context(tempfile.TemporaryDirectory())) / "twarp-package.zip"
-            pack(archive)
+            with zipfile.ZipFile(archive, "w") as packed:
+                # The package, and the tools' modules where they are beside it.
+                for folder in HERE.parent, HERE.parents[1] / "twarp_tools", HERE.parents[2] / "tools/twarp_tools":
+                    for file in sorted(folder.glob("*.*")):
+                        packed.write(file, f"{folder.name}/{file.name}")
             client.upload_file(str(archive))
         except (OSError, ValueError, TimeoutError) as fault:
             raise Stopped(f"scheduler: {address} does not answer: {fault}") from None
@@ -189,12 +183,3 @@ def cluster(address: str) -> Iterator[tuple[Executor, int]]:
         if not threads:
             raise Stopped(f"scheduler: {address} has no workers")
         yield client.get_executor(pure=False), threads
-
-
-def pack(archive: Path) -> None:
-    """Puts the package, and the tools' modules where they are beside it, into a file that Python can import from."""
-    folders = [HERE.parent, HERE.parents[1] / "twarp_tools", HERE.parents[2] / "tools/twarp_tools"]
-    with zipfile.ZipFile(archive, "w") as packed:
-        for folder in folders:
-            for module in sorted(folder.glob("*.py")):
-                packed.write(module, f"{folder.name}/{module.name}")

@@ -7,19 +7,19 @@ import subprocess
 import threading
 import time
 from collections.abc import Callable, Iterator, Sequence
-from concurrent.futures import FIRST_COMPLETED, Executor, Future, ProcessPoolExecutor, wait
-from concurrent.futures import BrokenExecutor, CancelledError
+from concurrent.futures import FIRST_COMPLETED, BrokenExecutor, CancelledError, Executor, Future, ProcessPoolExecutor
+from concurrent.futures import wait
 from contextlib import suppress
 from dataclasses import dataclass
 from functools import lru_cache
 from multiprocessing import get_context
 
+from twarp.calls import Ribs
 from twarp.case import Case
 from twarp.draws import Source
-from twarp.errors import Refused, Stopped
-from twarp.policy import Ribs
+from twarp.program import Refused, Stopped, words_of
 from twarp.protocol import reached, unstable_routers
-from twarp.report import Open, Oscillates, Quiet, Report, Verdict, read_report
+from twarp.report import Oscillates, Quiet, Report, Verdict, read_report
 
 # How long, in seconds, a batch should take, and how many runs it has at most.
 BATCH_TIME = 0.25
@@ -75,8 +75,8 @@ class Runner:
         self.running: set[subprocess.Popen[bytes]] = set()
         self.is_stopped = False
 
-    def run(self, command: list[str], text: bytes) -> tuple[int, bytes, bytes]:
-        """Status and outputs of a run, in a session of its own, where an INT of the terminal does not reach it."""
+    def run(self, command: list[str], text: bytes) -> tuple[int, bytes, str]:
+        """Status, output, and what is wrong in words, of a run in a session of its own, which no terminal's INT reaches."""
         pipe = subprocess.PIPE
         with self.lock:
             if self.is_stopped:
@@ -92,7 +92,7 @@ class Runner:
             self.running.discard(child)
         if self.is_stopped and child.returncode < 0:
             raise Ended
-        return child.returncode, out, err
+        return child.returncode, out, (err or out).decode("utf-8", "replace").strip()
 
     def stop(self) -> None:
         """Ends what is running, with all that it started, and starts nothing more."""
@@ -127,19 +127,17 @@ class Plan:
     is_checked: bool = False
 
     def trial(self, seed: int) -> Trial:
-        draw = self.source.draw(seed)
+        case, values = self.source.draw(seed)
         try:
-            stop = self.stop if isinstance(self.stop, int) else self.stop(draw.case)
-            report = self.report(draw.case, stop)
-            return Trial(seed, draw.values, self.end(draw.case, report))
+            stop = self.stop if isinstance(self.stop, int) else self.stop(case)
+            return Trial(seed, values, self.end(case, self.report(case, stop)))
         except Refused as fault:
-            return Trial(seed, draw.values, Failed(str(fault)))
+            return Trial(seed, values, Failed(str(fault)))
 
     def report(self, case: Case, stop: int) -> Report:
-        every = ["--every", str(self.every)] if self.every else []
-        status, out, err = RUNNER.run([self.program, "seq", "--stop", str(stop), *every], str(case).encode())
+        words = words_of({"stop": stop, "every": self.every or None})
+        status, out, why = RUNNER.run([self.program, "seq", *words], str(case).encode())
         if status:
-            why = (err or out).decode("utf-8", "replace").strip()
             raise Refused(f"status {status}: {why}" if why else f"status {status}")
         try:
             return read_report(out, case.nodes)
@@ -154,13 +152,9 @@ class Plan:
 
     def moving(self, case: Case, report: Report) -> tuple[int, ...]:
         """The routers that change paths from the beginning of a period, or from half of the stop, up to the stop."""
-        match report.verdict:
-            case Quiet():
-                return ()
-            case Oscillates(start, _):
-                since = start
-            case Open():
-                since = report.stop // 2
+        if isinstance(report.verdict, Quiet):
+            return ()
+        since = report.verdict.start if isinstance(report.verdict, Oscillates) else report.stop // 2
         before = [line.changed for line in self.report(case, since).routers] if since else [0] * case.nodes
         return tuple(line.router for line, count in zip(report.routers, before) if line.changed > count)
 
@@ -236,28 +230,21 @@ class Local:
             os.close(self.ends[1])
 
     def end(self) -> None:
-        self.stop()
         self.executor.shutdown(cancel_futures=True)
         os.close(self.ends[0])
 
 
 class Given:
-    """An executor that is there already, with so many workers, as that of a Dask cluster."""
+    """An executor that is there already, with so many workers, as that of a Dask cluster. It stays after the sweep."""
 
     def __init__(self, plan: Plan, executor: Executor, jobs: int):
-        self.plan = pickle.dumps(plan)
-        self.executor = executor
-        self.jobs = jobs
-        self.begun: list[Work] = []
+        self.plan, self.executor, self.jobs = pickle.dumps(plan), executor, jobs
 
     def submit(self, seeds: Sequence[int]) -> Work:
-        self.begun = [work for work in self.begun if not work.done()]
-        self.begun.append(self.executor.submit(batch_of, self.plan, seeds))
-        return self.begun[-1]
+        return self.executor.submit(batch_of, self.plan, seeds)
 
     def stop(self) -> None:
-        for work in self.begun:
-            work.cancel()
+        pass
 
     end = stop
 
@@ -270,16 +257,11 @@ def batch_of(pickled: bytes, seeds: Sequence[int]) -> tuple[list[Trial], float]:
     return plan_of(pickled).batch(seeds)
 
 
-def processors() -> int:
-    return len(os.sched_getaffinity(0)) if hasattr(os, "sched_getaffinity") else os.cpu_count() or 1
-
-
-@dataclass(frozen=True)
-class Batch:
-    """Runs that go to one process, and how often they were begun."""
-
-    seeds: Sequence[int]
-    tries: int = 1
+def workers_of(plan: Plan, executor: Executor | None, jobs: int | None) -> Local | Given:
+    """Those of the executor, or else processes of this machine: so many, or one for each processor."""
+    if not jobs:
+        jobs = len(os.sched_getaffinity(0)) if hasattr(os, "sched_getaffinity") else os.cpu_count() or 1
+    return Given(plan, executor, jobs) if executor else Local(plan, jobs)
 
 
 class Batches:
@@ -289,7 +271,8 @@ class Batches:
         self.plan = plan
         self.workers = workers
         self.seeds = self.left = seeds
-        self.pending: dict[Work, Batch] = {}
+        # What is under way: the seeds of each batch, and how often it was begun.
+        self.pending: dict[Work, tuple[Sequence[int], int]] = {}
         self.done: dict[int, list[Trial]] = {}
         self.size = 1
         self.is_stopped = False
@@ -298,21 +281,23 @@ class Batches:
         """Ends the runs that are not done."""
         self.is_stopped = True
         self.workers.stop()
+        for work in self.pending:
+            work.cancel()
 
-    def begin(self, batch: Batch) -> None:
-        self.pending[self.workers.submit(batch.seeds)] = batch
+    def begin(self, seeds: Sequence[int], tries: int = 1) -> None:
+        self.pending[self.workers.submit(seeds)] = seeds, tries
 
     def fill(self) -> None:
         """Begins batches until each worker has one and another one waits for it; small ones at the end."""
         most = 2 * self.workers.jobs
         while self.left and not self.is_stopped and len(self.pending) < most:
             size = max(1, min(self.size, len(self.left) // most))
-            self.begin(Batch(self.left[:size]))
+            self.begin(self.left[:size])
             self.left = self.left[size:]
 
     def take(self, work: Work) -> None:
         """Takes what a batch has done. One that its process did not survive is begun again, in halves."""
-        batch = self.pending.pop(work)
+        seeds, tries = self.pending.pop(work)
         try:
             trials, seconds = work.result()
         except Stopped:
@@ -322,22 +307,21 @@ class Batches:
                 raise Stopped("executor: it has cancelled runs") from None
         except Exception as fault:
             if not self.is_stopped:
-                self.try_again(batch, fault)
+                self.try_again(seeds, tries, fault)
         else:
             if trials:
-                self.done[batch.seeds[0]] = trials
+                self.done[seeds[0]] = trials
             wanted = round(BATCH_TIME * len(trials) / max(seconds, 1e-6))
             self.size = max(1, min(wanted, MOST_BATCH, 4 * self.size))
 
-    def try_again(self, batch: Batch, fault: Exception) -> None:
-        seeds, half = batch.seeds, len(batch.seeds) // 2
-        if half:
-            self.begin(Batch(seeds[:half]))
-            self.begin(Batch(seeds[half:]))
-        elif batch.tries < MOST_TRIES:
-            self.begin(Batch(seeds, batch.tries + 1))
+    def try_again(self, seeds: Sequence[int], tries: int, fault: Exception) -> None:
+        if half := len(seeds) // 2:
+            self.begin(seeds[:half])
+            self.begin(seeds[half:])
+        elif tries < MOST_TRIES:
+            self.begin(seeds, tries + 1)
         else:
-            values = self.plan.source.draw(seeds[0]).values
+            _, values = self.plan.source.draw(seeds[0])
             why = f"its process ended in each of {MOST_TRIES} tries: {fault}"
             self.done[seeds[0]] = [Trial(seeds[0], values, Failed(why))]
 
@@ -359,4 +343,5 @@ class Batches:
             for _, trials in sorted(self.done.items()):
                 yield from trials
         finally:
+            self.stop()
             self.workers.end()

@@ -3,8 +3,6 @@
 The compiler `rattle` builds a crate only where it has proved it. The libraries that earlier builds proved are kept,
 each under a sum of what its proof reads.
 """
-from __future__ import annotations
-
 import contextlib
 import fcntl
 import hashlib
@@ -17,15 +15,16 @@ import tempfile
 import time
 from collections.abc import Iterator, Sequence
 from pathlib import Path
-from typing import NoReturn
+from typing import NamedTuple, NoReturn
 
-from twarp_tools.schedule import Graph, Share, below, chains, choose, graph_of, uses_of
+from twarp_tools import toolchain
 from twarp_tools.toolchain import MISSING, NOT_RUN, ROOT, Made
-from twarp_tools.toolchain import begin, end_with_signals, find_kit, kit_name, signals_held_back
 
 # What a check takes of memory, which few exceed.
 MEMORY_OF_A_CHECK = 2_500_000_000
 SECONDS_BETWEEN_LOOKS = 0.2
+# Sizes tell the times of proofs no better than to a fifth.
+NEARLY = 0.8
 
 # Which toolchain built the program, beside it: the script compares it with the one on the PATH.
 KEPT_NAME = "toolchain"
@@ -36,88 +35,131 @@ KEPT = ROOT / "out/libraries"
 SOURCES = ("src", "specs", "proofs")
 KILLED = "rattle was killed, most likely for want of memory\n"
 
+Graph = dict[str, list[str]]
+
+
+class Share(NamedTuple):
+    """What the proof of a crate gets of the processors."""
+
+    provers: int
+    gives_way: bool
+
+
+def uses_of(text: str) -> Graph:
+    """The crates of a crates.txt, each with the libraries that it uses, the toolchain's too."""
+    lines = [line.partition("#")[0].partition(":") for line in text.splitlines()]
+    return {head.split()[0]: words.split() for head, _, words in lines if head.strip()}
+
+
+def graph_of(text: str) -> Graph:
+    """The crates of a crates.txt, each with those of them that it uses."""
+    uses = uses_of(text)
+    return {name: [word for word in words if word in uses] for name, words in uses.items()}
+
+
+def below(graph: Graph, top: str) -> list[str]:
+    """A crate and all that it stands on, each after those that it uses."""
+    found: dict[str, None] = {}
+    for crate in graph[top]:
+        found |= dict.fromkeys(below(graph, crate))
+    return [*found, top]
+
+
+def chains(graph: Graph, top: str, size: dict[str, int]) -> dict[str, int]:
+    """The size of the longest chain that begins with each crate below the top and goes up to the top."""
+    longest: dict[str, int] = {}
+    for crate in reversed(below(graph, top)):
+        longest[crate] = size[crate] + max((longest[other] for other in longest if crate in graph[other]), default=0)
+    return longest
+
+
+def choose(graph: Graph, chain: dict[str, int], done: set[str], running: set[str], cores: int) -> dict[str, Share]:
+    """The crates to begin now, where those of `done` are proved.
+
+    Crates that head longer chains come first. The longest chain decides when all is done, so the crates that head it,
+    or one nearly as long, share the processors that would be idle, and have half of all at least. The others have one
+    prover each, since more take more processor time together, and give way to them. Of a crate that is being proved,
+    only what waits for it counts: how much of its own proof is left is not known.
+    """
+    ready = [crate for crate in chain if crate not in done | running and done.issuperset(graph[crate])]
+    begun = sorted(ready, key=lambda crate: -chain[crate])[: cores - len(running)]
+    waiting = [crate for crate in chain if not running.isdisjoint(graph[crate])]
+    longest = max((chain[crate] for crate in begun + waiting), default=0)
+    heads = [crate for crate in begun if chain[crate] >= NEARLY * longest]
+    idle = cores - len(running) - len(begun)
+    first = Share(max(cores // 2, 1 + idle // max(len(heads), 1)), gives_way=False)
+    return {crate: first if crate in heads else Share(1, gives_way=True) for crate in begun}
+
 
 def sum_of(*texts: bytes) -> str:
     parts = [hashlib.sha256(text).hexdigest() for text in texts]
     return hashlib.sha256("\n".join(parts).encode()).hexdigest()
 
 
-def sum_of_sources(crate: str) -> str:
-    own = ROOT / "crates" / crate
-    files = sorted(file for part in SOURCES for file in (own / part).rglob("*.*"))
-    return sum_of(*(text for file in files for text in (bytes(file.relative_to(own)), file.read_bytes())))
-
-
 class Compiler:
-    """Proves the crates of a program side by side and builds them into a folder, each over the libraries that are there."""
+    """Proves the crates of a program side by side and builds them into a folder, each over the libraries there."""
 
-    def __init__(self, kit: Path, uses: Graph, folder: Path, made: Made):
-        self.kit, self.uses, self.folder, self.made = kit, uses, folder, made
+    def __init__(self, kit: Path, crates: str, folder: Path, made: Made):
+        self.kit, self.folder, self.made = kit, folder, made
+        self.uses, self.graph = uses_of(crates), graph_of(crates)
         self.running: dict[str, subprocess.Popen[bytes]] = {}
         self.noted: dict[str, Path] = {}
 
-    def __enter__(self) -> Compiler:
-        return self
-
-    def __exit__(self, *_: object) -> None:
+    def end(self) -> None:
+        """Ends what is running."""
         for child in self.running.values():
             child.terminate()
         for child in self.running.values():
             child.wait()
 
-    def library(self, name: str) -> Path:
-        folder = self.folder if name in self.uses else self.kit / "rlibs"
-        return folder / f"{name}.rlib"
-
     def archive(self, crate: str) -> Path:
         """Its place, which another text of the crate, another toolchain or another library that it uses would change."""
-        uses = self.uses[crate]
+        own, uses = ROOT / "crates" / crate, self.uses[crate]
+        files = sorted(file for part in SOURCES for file in (own / part).rglob("*.*"))
+        sources = sum_of(*(text for file in files for text in (bytes(file.relative_to(own)), file.read_bytes())))
         libraries = [self.folder / f"{name}.rlib/format" for name in uses if name in self.uses]
-        texts = [kit_name(self.kit), " ".join(uses).encode(), *(library.read_bytes() for library in libraries)]
-        return KEPT / f"{crate}-{sum_of(sum_of_sources(crate).encode(), *texts)}.tar"
+        texts = [sources.encode(), (self.kit / "WHAT").read_bytes(), " ".join(uses).encode()]
+        return KEPT / f"{crate}-{sum_of(*texts, *(library.read_bytes() for library in libraries))}.tar"
 
     def give(self, crate: str) -> bool:
         """Takes a library that an earlier build proved over the very libraries that are there."""
-        try:
+        with contextlib.suppress(FileNotFoundError):
             archive = self.archive(crate)
-        except FileNotFoundError:
-            return False
-        if archive.exists():
-            shutil.unpack_archive(archive, self.folder)
-        return archive.exists()
+            if archive.exists():
+                shutil.unpack_archive(archive, self.folder)
+                return True
+        return False
 
     def keep(self, crate: str) -> None:
         """Keeps a library that was made just now, in place of earlier ones, if nothing was changed meanwhile."""
         archive = self.archive(crate)
-        if archive != self.noted[crate]:
-            return
-        made = shutil.make_archive(f"{KEPT / crate}.part", "tar", self.folder, f"{crate}.rlib")
-        for old in KEPT.glob(f"{crate}-*.tar"):
-            old.unlink()
-        os.replace(made, archive)
+        if archive == self.noted[crate]:
+            made = shutil.make_archive(f"{KEPT / crate}.part", "tar", self.folder, f"{crate}.rlib")
+            for old in KEPT.glob(f"{crate}-*.tar"):
+                old.unlink()
+            os.replace(made, archive)
 
     def words(self, crate: str, jobs: int) -> list[str]:
         """What rattle is called with. What stands above a library reads its statements alone, as in the gate."""
-        is_program = crate == self.made.crate
+        kit, is_program = self.kit, crate == self.made.crate
         words = ["build", "--crate-name", crate, "src/main.rt" if is_program else "src/lib.rt"]
-        words += [f"--extern={name}={self.library(name)}" for name in ["std", *self.uses[crate]]]
-        words += [f"-Ldependency={folder}" for folder in (self.folder, self.kit / "rlibs")]
-        words += ["--antt-project", f"{self.kit}/rattle/logic/antt-project.json", "--logic-built", f"{self.kit}/logic_built"]
+        for name in ["std", *self.uses[crate]]:
+            words.append(f"--extern={name}={self.folder if name in self.uses else kit / 'rlibs'}/{name}.rlib")
+        words += [f"-Ldependency={folder}" for folder in (self.folder, kit / "rlibs")]
+        words += ["--antt-project", f"{kit}/rattle/logic/antt-project.json", "--logic-built", f"{kit}/logic_built"]
         # The crate declares no function of C, which rattle holds it to.
         words += [f"--links={crate}=", "--jobs", str(jobs)]
         if is_program:
-            return [*words, "--toolchain", f"{self.kit}/toolchain", "-o", f"{self.folder}/{crate}.o"]
+            return [*words, "--toolchain", f"{kit}/toolchain", "-o", f"{self.folder}/{crate}.o"]
         return [*words, "--statements", "-o", f"{self.folder}/{crate}.rlib"]
 
     def start(self, crate: str, share: Share) -> None:
         """Begins to prove a crate, and notes what its proof reads. Those that it uses are built."""
         self.noted[crate] = self.archive(crate)
-        words = [f"{self.kit}/bin/rattle", *self.words(crate, share.provers)]
-        if share.gives_way:
-            words = ["nice", *words]
-        with open(self.log(crate), "wb") as log, signals_held_back():
+        words = ["nice"] * share.gives_way + [f"{self.kit}/bin/rattle", *self.words(crate, share.provers)]
+        with open(self.log(crate), "wb") as log, toolchain.signals_held_back():
             how = {"stdin": subprocess.DEVNULL, "stdout": log, "stderr": subprocess.STDOUT}
-            self.running[crate] = begin(words, cwd=ROOT / "crates" / crate, **how)
+            self.running[crate] = toolchain.begin(words, cwd=ROOT / "crates" / crate, **how)
 
     def log(self, crate: str) -> Path:
         return self.folder / f"{crate}.log"
@@ -127,20 +169,42 @@ class Compiler:
         for crate, child in [*self.running.items()]:
             if child.poll() is not None:
                 del self.running[crate]
-                yield crate, self.said(crate, child.returncode) if child.returncode else None
+                lines = self.log(crate).read_text(errors="replace").splitlines(keepends=True)
+                told = [line for line in lines if not line.endswith(": proved\n")]
+                killed = KILLED if child.returncode < 0 else ""
+                yield crate, "".join([f"== {crate}\n", *told, killed]) if child.returncode else None
 
-    def said(self, crate: str, status: int) -> str:
-        lines = self.log(crate).read_text(errors="replace").splitlines(keepends=True)
-        killed = [KILLED] if status < 0 else []
-        return "".join([f"== {crate}\n", *(line for line in lines if not line.endswith(": proved\n")), *killed])
+    def prove(self, crates: list[str]) -> str | None:
+        """Proves the crates side by side, and builds them. Gives what rattle said where one is not proved."""
+        start, cores = time.monotonic(), checks_at_once()
+        # The time of a proof is guessed by the bytes of the code.
+        code = {crate: (ROOT / "crates" / crate / "src").rglob("*.rt") for crate in crates}
+        sizes = {crate: sum(file.stat().st_size for file in files) for crate, files in code.items()}
+        chain = chains(self.graph, crates[-1], sizes)
+        done = {crate for crate in crates[:-1] if self.give(crate)}
+        while len(done) < len(crates):
+            begun = choose(self.graph, chain, done, {*self.running}, cores)
+            for crate, share in begun.items():
+                self.start(crate, share)
+            if begun:
+                told = f"{len(done)} of {len(crates)} crates after {(time.monotonic() - start) / 60:.1f} minutes"
+                self.made.tell(f"{told}; now {', '.join(self.running)}")
+            time.sleep(SECONDS_BETWEEN_LOOKS)
+            for crate, refused in self.ended():
+                if refused is not None:
+                    return refused
+                done.add(crate)
+                if crate != crates[-1]:
+                    self.keep(crate)
+        return None
 
     def link(self) -> str | None:
         """Links the program that was built. Gives what was said where it is not linked."""
-        program = self.made.file
+        kit, program = self.kit, self.made.file
         new = program.with_name(f"{program.name}.new")
         new.parent.mkdir(exist_ok=True)
-        words = [f"{self.kit}/bin/rattle-link", "--target", TARGET, "--toolchain", f"{self.kit}/toolchain", "-o", f"{new}"]
-        words += [f"{self.folder}/{self.made.crate}.o", f"{self.kit}/c/libos_c.a", f"{self.kit}/c/liblibc_c.a"]
+        words = [f"{kit}/bin/rattle-link", "--target", TARGET, "--toolchain", f"{kit}/toolchain", "-o", f"{new}"]
+        words += [f"{self.folder}/{self.made.crate}.o", f"{kit}/c/libos_c.a", f"{kit}/c/liblibc_c.a"]
         linked = subprocess.run(words, stdin=subprocess.DEVNULL, stdout=subprocess.PIPE, stderr=subprocess.STDOUT)
         if linked.returncode:
             return linked.stdout.decode(errors="replace")
@@ -152,33 +216,6 @@ def checks_at_once() -> int:
     """How many checks the processors and the memory have room for."""
     memory = os.sysconf("SC_PHYS_PAGES") * os.sysconf("SC_PAGE_SIZE")
     return max(1, min(len(os.sched_getaffinity(0)), memory // MEMORY_OF_A_CHECK))
-
-
-def size_of(crate: str) -> int:
-    """The bytes of its code, by which the time of its proof is guessed."""
-    return sum(file.stat().st_size for file in (ROOT / "crates" / crate / "src").rglob("*.rt"))
-
-
-def prove(compiler: Compiler, graph: Graph, crates: list[str]) -> str | None:
-    """Proves the crates side by side, and builds them. Gives what rattle said where one is not proved."""
-    start, cores = time.monotonic(), checks_at_once()
-    chain = chains(graph, crates[-1], {crate: size_of(crate) for crate in crates})
-    done = {crate for crate in crates[:-1] if compiler.give(crate)}
-    while len(done) < len(crates):
-        begun = choose(graph, chain, done, {*compiler.running}, cores)
-        for crate, share in begun.items():
-            compiler.start(crate, share)
-        if begun:
-            minutes = (time.monotonic() - start) / 60
-            compiler.made.tell(f"{len(done)} of {len(crates)} crates after {minutes:.1f} minutes; now {', '.join(compiler.running)}")
-        time.sleep(SECONDS_BETWEEN_LOOKS)
-        for crate, refused in compiler.ended():
-            if refused is not None:
-                return refused
-            done.add(crate)
-            if crate != crates[-1]:
-                compiler.keep(crate)
-    return None
 
 
 @contextlib.contextmanager
@@ -201,17 +238,18 @@ def alone(made: Made) -> Iterator[bool]:
 
 def build(kit: Path, made: Made) -> str | None:
     """Proves and builds the program. Gives what was said where it is not built."""
-    began = time.time()
-    text = (ROOT / "crates.txt").read_text()
-    uses, graph = uses_of(text), graph_of(text)
-    crates = below(graph, made.crate)
+    began, text = time.time(), (ROOT / "crates.txt").read_text()
+    crates = below(graph_of(text), made.crate)
     made.tell(f"proving and building the program: {len(crates)} crates, up to {checks_at_once()} at a time")
-    with tempfile.TemporaryDirectory(prefix="twarp-build-") as room, Compiler(kit, uses, Path(room), made) as compiler:
-        refused = prove(compiler, graph, crates) or compiler.link()
+    with contextlib.ExitStack() as ends:
+        folder = Path(ends.enter_context(tempfile.TemporaryDirectory(prefix="twarp-build-")))
+        compiler = Compiler(kit, text, folder, made)
+        ends.callback(compiler.end)
+        refused = compiler.prove(crates) or compiler.link()
         if refused is None:
             # An edit during the build leaves it stale.
             os.utime(made.file, (began, began))
-            made.file.with_name(KEPT_NAME).write_bytes(kit_name(kit))
+            made.file.with_name(KEPT_NAME).write_bytes((kit / "WHAT").read_bytes())
     return refused
 
 
@@ -222,19 +260,19 @@ def run(program: Path, words: Sequence[str]) -> NoReturn:
     os.execv(program, [str(program), *words])
 
 
-def main(crate: str, *words: str) -> int:
-    """Builds the program of a crate, and runs it with the words that stand behind `--then`."""
-    made = Made(crate)
-    kit = find_kit(made)
+def main() -> int:
+    """Builds the program of a crate, which the command line has, and runs it with the words behind `--then`."""
+    made, words = Made(sys.argv[1]), sys.argv[2:]
+    kit = toolchain.find_kit(made)
     if kit is None:
         return MISSING
-    end_with_signals()
-    is_run = words[:1] == ("--then",)
+    toolchain.end_with_signals()
+    is_run = words[:1] == ["--then"]
     try:
         with alone(made) as has_waited:
             if has_waited:
                 # What the other build left need not be built again.
-                run(ROOT / made.name, words[1:] if is_run else ("--build",))
+                run(ROOT / made.name, words[1:] if is_run else ["--build"])
             refused = build(kit, made)
     except OSError as error:
         made.tell(f"the program was not built: {error}")

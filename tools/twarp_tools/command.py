@@ -2,23 +2,42 @@
 from __future__ import annotations
 
 import argparse
+import bz2
 import enum
+import gzip
+import io
 import os
 import re
 import sys
-from collections.abc import Callable, Mapping
+import zlib
+from collections.abc import Callable, Iterator, Mapping
 from dataclasses import dataclass
 from pathlib import Path
-from typing import Any, NoReturn, TypeVar
+from typing import Any, BinaryIO, NoReturn, TypeVar
 
 from twarp.case import MOST_BYTES
-from twarp.errors import MOST_QUOTED, Refused, Stopped, quote
+from twarp.program import MOST_QUOTED, Refused, Stopped, quote
 
 Value = TypeVar("Value")
 
 # Descriptors, since Python's own streams are not there where one of these is closed.
 STANDARD_INPUT = 0
 STANDARD_OUTPUT = 1
+
+# A report of this size has some five million events, which take 3 GB here.
+MOST_OF_REPORT = 256 << 20
+
+# How a packed file begins, by what unpacks it.
+UNPACKERS = {b"\x1f\x8b": gzip.open, b"BZh": bz2.open}
+ROOM = 65_536
+MIB = 1_048_576
+LONGEST_LINE = MIB
+MOST_MIB = 1_048_576
+
+CLOSING = """
+
+statuses: 0 done, 1 the input is refused, 2 stopped, 3 the command line is not accepted
+tools/README.md tells more; where twarp is installed it stands in share/doc/twarp"""
 
 
 class Status(enum.IntEnum):
@@ -28,15 +47,6 @@ class Status(enum.IntEnum):
     REFUSED = 1
     STOPPED = 2
     BAD_LINE = 3
-
-
-# A report of this size has some five million events, which take 3 GB here.
-MOST_OF_REPORT = 256 << 20
-
-CLOSING = """
-
-statuses: 0 done, 1 the input is refused, 2 stopped, 3 the command line is not accepted
-tools/README.md tells more; where twarp is installed it stands in share/doc/twarp"""
 
 
 class Parser(argparse.ArgumentParser):
@@ -50,16 +60,9 @@ class Parser(argparse.ArgumentParser):
         super().__init__(description=description, epilog=example + CLOSING, formatter_class=how)
 
     def option(
-        self,
-        name: str,
-        metavar: str,
-        told: str,
-        kind: Callable[[str], object] = str,
-        default: object = None,
-        group: argparse._MutuallyExclusiveGroup | None = None,
-        **how: Any,
+        self, name: str, metavar: str, told: str, kind: Callable[[str], Any] = str, default: Any = None, **how: Any
     ) -> None:
-        """Adds an option with a value; where a word is none, the ValueError of `kind` is told."""
+        """Adds an option with a value, to the `group` if there is one. Of a wrong word the ValueError of `kind` is told."""
 
         def read(word: str) -> object:
             try:
@@ -68,15 +71,23 @@ class Parser(argparse.ArgumentParser):
                 raise argparse.ArgumentTypeError(str(fault)) from None
 
         told += "" if default is None else " (default %(default)s)"
-        (group or self).add_argument(name, metavar=metavar, type=read, default=default, help=told, **how)
+        holder = how.pop("group", self)
+        holder.add_argument(name, metavar=metavar, type=read, default=default, help=told, **how)
+
+    def size_limit(self, default: int) -> None:
+        told = "read an input of at most so many MiB, unpacked"
+        self.option("--size-limit", "MIB", told, number_between(1, MOST_MIB), default)
 
     def parse_pair(self) -> argparse.Namespace:
-        """The command line, in which one alone of CASE and REPORT can be standard input."""
+        """The command line, where one alone of its files can be standard input, and one option ask for the policy."""
         line = self.parse_args()
-        names = {"CASE": line.case, "REPORT": line.report, "--policy": getattr(line, "policy", None)}
+        policy = getattr(line, "policy", None)
+        names = {"CASE": line.case, "REPORT": line.report, "--policy": policy}
         given = [name for name, file in names.items() if file == "-"]
         if len(given) > 1:
             self.error(f"only one of {' and '.join(given)} can be standard input")
+        if policy and line.ask_policy:
+            self.error("--policy and --ask-policy ask for the same")
         return line
 
     def error(self, message: str) -> NoReturn:
@@ -88,10 +99,9 @@ def number_between(least: int, most: int) -> Callable[[str], int]:
     """Reads a decimal number in a range."""
 
     def read(word: str) -> int:
-        is_number = word.isascii() and word.isdigit() and len(word) <= MOST_QUOTED
-        if not (is_number and least <= int(word) <= most):
-            raise ValueError(f"{quote(word)} is no number from {least} to {most}")
-        return int(word)
+        if re.fullmatch(f"[0-9]{{1,{MOST_QUOTED}}}", word) and least <= int(word) <= most:
+            return int(word)
+        raise ValueError(f"{quote(word)} is no number from {least} to {most}")
 
     return read
 
@@ -99,6 +109,16 @@ def number_between(least: int, most: int) -> Callable[[str], int]:
 def title_of(title: str | None, file: str, unnamed: str = "case") -> str:
     """What a picture's title begins with: what was asked for, or else the name of the case."""
     return title or (unnamed if file == "-" else Path(file).stem)
+
+
+def opened(file: str) -> io.BufferedReader:
+    """The bytes of a file, or of standard input where it is `-`."""
+    return open(STANDARD_INPUT, "rb", closefd=False) if file == "-" else open(file, "rb")
+
+
+def name_of(file: str) -> str:
+    """The name by which what is wrong with a file is told."""
+    return "standard input" if file == "-" else file
 
 
 @dataclass(frozen=True)
@@ -110,14 +130,12 @@ class Input:
 
     @classmethod
     def of(cls, file: str, most: int = MOST_BYTES) -> Input:
-        """The whole of a file, or of standard input where it is `-`; refused where it has more bytes than this."""
-        is_given = file == "-"
-        name = "standard input" if is_given else file
-        with open(STANDARD_INPUT if is_given else file, "rb", closefd=not is_given) as source:
+        """The whole of a file; refused where it has more bytes than this."""
+        with opened(file) as source:
             text = source.read(most + 1)
         if len(text) > most:
-            raise Refused(f"{name}: refused: it has more than {most >> 20} MiB")
-        return cls(name, text)
+            raise Refused(f"{name_of(file)}: refused: it has more than {most >> 20} MiB")
+        return cls(name_of(file), text)
 
     def read(self, reader: Callable[[bytes], Value]) -> Value:
         """What a reader makes of the text."""
@@ -126,6 +144,55 @@ class Input:
         except Refused as fault:
             is_option = str(fault).startswith("refused option")
             raise fault if is_option else Refused(f"{self.name}: {fault}") from None
+
+
+def too_large(limit: int) -> str:
+    return f"the input has more than {limit:,} MiB, unpacked: --size-limit allows more"
+
+
+def lines_within(source: BinaryIO, limit: int) -> Iterator[tuple[int, bytes]]:
+    """The lines of a stream that are not empty, without their ends, each with its number.
+
+    None is longer than `LONGEST_LINE`, and the stream has at most so many MiB.
+    """
+    number, left = 0, limit * MIB
+    while line := source.readline(LONGEST_LINE + 1):
+        number, left = number + 1, left - len(line)
+        if left < 0:
+            raise Refused.at_line(number, too_large(limit))
+        line = line.removesuffix(b"\n")
+        if len(line) > LONGEST_LINE:
+            raise Refused.at_line(number, f"it has more than {LONGEST_LINE:,} bytes")
+        if line:
+            yield number, line
+
+
+def read_within(source: BinaryIO, limit: int) -> bytes:
+    """The whole of a stream of at most so many MiB."""
+    text = source.read(limit * MIB + 1)
+    if len(text) > limit * MIB:
+        raise Refused(f"refused: {too_large(limit)}")
+    return text
+
+
+def read_stream(file: str, reader: Callable[[BinaryIO], Value]) -> Value:
+    """What a reader makes of a file, plain or packed by gzip or bzip2; what is wrong is told by the file's name."""
+    try:
+        with opened(file) as source:
+            head = source.peek(3)
+            unpack = next((unpack for mark, unpack in UNPACKERS.items() if head.startswith(mark)), None)
+            if unpack is None:
+                return reader(source)
+            # Python's own readers of packed files take several times as long for a line as this one does.
+            with unpack(source, "rb") as packed, io.BufferedReader(packed, ROOM) as buffered:
+                return reader(buffered)
+    except Refused as fault:
+        raise Refused(f"{name_of(file)}: {fault}") from None
+    except (EOFError, zlib.error, OSError) as fault:
+        # What a device refuses has a number; what bz2 and gzip don't understand has none.
+        if isinstance(fault, OSError) and fault.errno is not None:
+            raise
+        raise Refused(f"{name_of(file)}: refused: it can't be unpacked: {fault}") from None
 
 
 def refuse_own_input(option: str, output: str | None, source: str) -> None:
@@ -169,32 +236,27 @@ def write_output(text: str) -> None:
 
 def reason(why: BaseException) -> str:
     """What stands behind `stopped`."""
-    match why:
-        case MemoryError():
-            return "memory"
-        case KeyboardInterrupt():
-            return "interrupt"
-        case OSError():
-            where = f"{why.filename}: " if why.filename else ""
-            return f"device: {where}{why.strerror or why}"
-    return str(why)
+    if isinstance(why, OSError):
+        where = f"{why.filename}: " if why.filename else ""
+        return f"device: {where}{why.strerror or why}"
+    return {MemoryError: "memory", KeyboardInterrupt: "interrupt"}.get(type(why), str(why))
 
 
-def run(main: Callable[[], None]) -> Status:
-    try:
-        main()
-    except Refused as fault:
-        tell(fault)
-        return Status.REFUSED
-    except BrokenPipeError:
-        # Who reads a part alone has met no error.
-        return Status.STOPPED
-    except (Stopped, MemoryError, KeyboardInterrupt, OSError) as why:
-        tell(f"stopped {reason(why)}")
-        return Status.STOPPED
-    return Status.DONE
+def tool(main: Callable[[], None]) -> Callable[[], Status]:
+    """A tool's `main`, which gives its status."""
 
+    def run() -> Status:
+        try:
+            main()
+        except Refused as fault:
+            tell(fault)
+            return Status.REFUSED
+        except BrokenPipeError:
+            # Who reads a part alone has met no error.
+            return Status.STOPPED
+        except (Stopped, MemoryError, KeyboardInterrupt, OSError) as why:
+            tell(f"stopped {reason(why)}")
+            return Status.STOPPED
+        return Status.DONE
 
-def start(main: Callable[[], None]) -> NoReturn:
-    """Runs a tool, and ends with its status."""
-    sys.exit(run(main))
+    return run

@@ -1,12 +1,13 @@
-"""The tool draw: a case, and where a run of it stands, as Graphviz text."""
-
+"""The tool draw: a case, and where a run of it stands, as Graphviz text; what all drawing tools are asked to show."""
 import argparse
+import re
+from typing import Any
 
-from twarp import pictures
-from twarp.case import MOST_PATHS, MOST_ROUTERS, read_case
-from twarp.report import read_report
-from twarp_tools.command import MOST_OF_REPORT, Input, Parser, number_between, title_of, write_output
-from twarp_tools.part import add_names, add_policy, check_policy, names_of, safety_of
+from twarp import calls, pictures
+from twarp.case import GREATEST_TIME, MOST_PATHS, MOST_ROUTERS, Case, lines_of, read_case
+from twarp.program import Refused
+from twarp.report import Report, read_report
+from twarp_tools.command import MOST_OF_REPORT, Input, Parser, number_between, title_of, tool, write_output
 
 DESCRIPTION = """\
 Draws a case as Graphviz text on standard output; dot -Tsvg makes the picture. Each router is a box with its permitted
@@ -20,8 +21,91 @@ examples:
   tools/draw --paths-of 3 cases/bad-gadget.spp | dot -Tsvg > paths.svg
   ./twarp-policy safe < cases/disagree.spp | tools/draw --policy - cases/disagree.spp | dot -Tsvg > wheel.svg"""
 
+NAME_LINE = re.compile(r"(0|[1-9][0-9]{0,3}) (\S.*)\n?")
 
-def command_line() -> argparse.Namespace:
+
+def add_names(parser: Parser) -> None:
+    parser.option("--names", "FILE", "names of routers: lines of a number and a name, as relationships --map writes")
+
+
+def names_of(file: str | None) -> dict[int, str]:
+    """The names in the file of the option, where one is given."""
+    return Input.of(file).read(read_names) if file else {}
+
+
+def read_names(text: bytes) -> dict[int, str]:
+    """The names by router. An AS number becomes `AS` and the number."""
+    names: dict[int, str] = {}
+    for number, line in enumerate(lines_of(text), 1):
+        found = NAME_LINE.fullmatch(line)
+        if not found:
+            raise Refused.at_line(number, "a router's number, a space and its name are wanted")
+        router, name = int(found[1]), found[2]
+        if router in names:
+            raise Refused.at_line(number, f"router {router} has a name already")
+        names[router] = f"AS{name}" if name.isdigit() else name
+    return names
+
+
+def read_routers(words: str) -> list[int]:
+    """The routers of a list as 0,2,5-9, in the order given."""
+    routers: dict[int, None] = {}
+    number = number_between(0, MOST_ROUTERS - 1)
+    for word in words.split(","):
+        first, dash, last = word.partition("-")
+        row = range(number(first), number(last if dash else first) + 1)
+        if not row:
+            raise ValueError(f"{word!r} goes downwards")
+        routers |= dict.fromkeys(row)
+    return list(routers)
+
+
+def parser_of(description: str, example: str, case: str = "the case", unit: str = "") -> Parser:
+    """Of a case, its report and a part of it, with names; `unit` says what else than times is counted."""
+    parser = Parser(description, example)
+    parser.add_argument("case", metavar="CASE", help=f"{case}; - is standard input")
+    parser.add_argument("report", metavar="REPORT", nargs="?", default="-", help="the report; else standard input")
+    time = number_between(0, GREATEST_TIME)
+    parser.option("--from", "TIME", f"leave out what is earlier{unit}", time, dest="first")
+    parser.option("--to", "TIME", f"leave out what is later{unit}", time, dest="last")
+    parser.option("--routers", "LIST", "draw these routers' lanes alone, as in 0,2,5-9", read_routers)
+    parser.option("--title", "TITLE", "what the title begins with (default: the case's name)")
+    add_names(parser)
+    return parser
+
+
+def read_run(case_text: Input, report_text: Input) -> tuple[Case, Report]:
+    case = case_text.read(read_case)
+    return case, report_text.read(lambda text: read_report(text, case.nodes))
+
+
+def part_of(line: argparse.Namespace) -> dict[str, Any]:
+    """What the line asks to see, as the functions of twarp.pictures take it."""
+    return {"first": line.first, "last": line.last, "routers": line.routers, "names": names_of(line.names)}
+
+
+def add_policy(parser: Parser, shown: str) -> None:
+    """Adds the options that say where what twarp-policy says comes from; `shown` says what is made of it."""
+    parser.option("--policy", "FILE", f"what `twarp-policy safe` wrote of the case: show {shown}; - is standard input")
+    asked = "show the same, as twarp-policy tells ($TWARP_POLICY, or beside twarp)"
+    parser.add_argument("--ask-policy", action="store_true", help=asked)
+
+
+def safety_of(line: argparse.Namespace, case: Case) -> calls.Safety | None:
+    """What holds of the case for all timings, where the line asks; refused where that is told of another case."""
+
+    def read(text: bytes) -> calls.Safety:
+        safety = calls.read_safety(text, case.nodes)
+        calls.standing(case, safety)
+        return safety
+
+    if line.ask_policy:
+        return calls.safe(case)
+    return Input.of(line.policy).read(read) if line.policy else None
+
+
+@tool
+def main() -> None:
     parser = Parser(DESCRIPTION, EXAMPLE)
     parser.add_argument("case", metavar="CASE", nargs="?", default="-", help="the case; else standard input")
     parser.add_argument("report", metavar="REPORT", nargs="?", help="the report of a run of it; - is standard input")
@@ -32,20 +116,13 @@ def command_line() -> argparse.Namespace:
     add_policy(parser, "the wheel, and which paths each router may still use whatever the delays")
     add_names(parser)
     line = parser.parse_pair()
-    if check_policy(parser, line) and (line.report or line.paths_of is not None):
+    if (line.policy or line.ask_policy) and (line.report or line.paths_of is not None):
         parser.error("--policy and --ask-policy go with neither a REPORT nor --paths-of")
-    return line
-
-
-def main() -> None:
-    line = command_line()
     case = Input.of(line.case).read(read_case)
-    how = {"names": names_of(line.names), "most": line.most, "paths_of": line.paths_of}
+    how: dict[str, Any] = {"names": names_of(line.names), "most": line.most, "paths_of": line.paths_of}
     how["title"] = title_of(line.title, line.case)
-    if line.policy or line.ask_policy:
-        write_output(pictures.network_text(case, safety=safety_of(line, case), **how))
-    elif line.report:
-        report = (report_text := Input.of(line.report, MOST_OF_REPORT)).read(lambda text: read_report(text, case.nodes))
-        write_output(report_text.read(lambda _: pictures.network_text(case, report, **how)))
+    if line.report:
+        report_text = Input.of(line.report, MOST_OF_REPORT)
+        write_output(report_text.read(lambda text: pictures.network_text(case, read_report(text, case.nodes), **how)))
     else:
-        write_output(pictures.network_text(case, **how))
+        write_output(pictures.network_text(case, safety=safety_of(line, case), **how))

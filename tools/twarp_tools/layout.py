@@ -13,9 +13,8 @@ from itertools import combinations
 from math import sqrt
 from typing import Any
 
-from twarp.case import ORIGIN, Case, write_path
-from twarp.hops import hops_from
-from twarp.lanes import View
+from twarp.case import ORIGIN, Case, hops_from, write_path
+from twarp.svg import View
 
 # The number of the routers that a router is linked to, for each router.
 Neighbours = Sequence[Sequence[int]]
@@ -56,33 +55,24 @@ def distance(one: Point, other: Point) -> float:
     return length_of(other - one)
 
 
-def wanted_distances(neighbours: Neighbours) -> list[tuple[int, int, int]]:
-    """Each two routers with how far apart they should be, in links; the farthest are those without a way."""
-    rows = [hops_from(node, neighbours.__getitem__) for node in range(len(neighbours))]
-    far = 1 + max(max(row.values()) for row in rows)
-    return [(a, b, rows[a].get(b, far)) for a, b in combinations(range(len(rows)), 2)]
-
-
-def pull(points: list[Point], pairs: list[tuple[int, int, int]], step: float) -> None:
-    """Moves each two routers toward the distance that they should have, near ones more than far ones."""
-    for a, b, hops in pairs:
-        way = points[b] - points[a]
-        length = length_of(way) or 1e-9
-        share = min(1.0, step / (hops * hops)) * (length - hops) / (2 * length)
-        points[a] += share * way
-        points[b] -= share * way
-
-
 def place_by_hops(neighbours: Neighbours) -> list[Point]:
-    """The routers' places where a link has the length 1."""
+    """The routers' places where a link has the length 1: near ones are moved more than far ones to their distance."""
     draw = random.Random(FIRST_SEED)
     points = [complex(draw.random(), draw.random()) for _ in neighbours]
-    pairs = wanted_distances(neighbours)
+    rows = [hops_from(node, neighbours.__getitem__) for node in range(len(neighbours))]
+    # How far apart those are that no way joins.
+    far = 1 + max(max(row.values()) for row in rows)
+    pairs = [(a, b, rows[a].get(b, far)) for a, b in combinations(range(len(rows)), 2)]
     step = float(max((hops * hops for _, _, hops in pairs), default=1))
     smaller = SMALLER_OF_FEW if len(pairs) <= FEW_PAIRS else SMALLER
     while step > LEAST_STEP:
         draw.shuffle(pairs)
-        pull(points, pairs, step)
+        for a, b, hops in pairs:
+            way = points[b] - points[a]
+            length = length_of(way) or 1e-9
+            share = min(1.0, step / (hops * hops)) * (length - hops) / (2 * length)
+            points[a] += share * way
+            points[b] -= share * way
         step *= smaller
     return points
 
@@ -130,16 +120,6 @@ def part_from_links(points: list[Point], links: list[tuple[int, int]], least: fl
     return has_moved
 
 
-def part_all(points: list[Point], links: list[tuple[int, int]], least: float) -> None:
-    """Moves points apart until none is near to another or to a link of others, or for so long as is reasonable."""
-    is_cleared = len(points) * len(links) <= MOST_CLEARED
-    for _ in range(MOST_ROUNDS):
-        was_near = part_points(points, least)
-        was_crossed = is_cleared and part_from_links(points, links, least / 2)
-        if not (was_near or was_crossed):
-            return
-
-
 def turned_down(points: list[Point], first: Point) -> list[Point]:
     """The drawing turned so that `first` is straight below its middle, where it is not in the middle."""
     down = first - sum(point / len(points) for point in points)
@@ -159,7 +139,14 @@ def lay_out(neighbours: Neighbours, link: float, least: float, lowest: int | Non
     if lowest is not None:
         points = turned_down(points, points[lowest])
     points = [link * point for point in points]
-    part_all(points, [(a, b) for a, row in enumerate(neighbours) for b in row if a < b], least)
+    links = [(a, b) for a, row in enumerate(neighbours) for b in row if a < b]
+    is_cleared = len(points) * len(links) <= MOST_CLEARED
+    # Until none is near to another or to a link of others, or for so long as is reasonable.
+    for _ in range(MOST_ROUNDS):
+        was_near = part_points(points, least)
+        was_crossed = is_cleared and part_from_links(points, links, least / 2)
+        if not (was_near or was_crossed):
+            break
     nearest = min((distance(a, b) for a, b in combinations(points, 2)), default=least)
     larger = max(1.0, least / (nearest or 1.0))
     corner = complex(min(point.real for point in points), min(point.imag for point in points))
@@ -200,17 +187,13 @@ class NetworkDrawing:
         places = {router: point for router, point in zip(self.routers, self.points)}
         taken = [*self.points, *self.words]
         for link in self.links:
-            ways = [LABEL_PARTS] if link.is_even else END_PARTS
-            yield [self.label_part(places[link.a], places[link.b], parts, taken) for parts in ways]
-
-    @staticmethod
-    def label_part(a: Point, b: Point, parts: Sequence[float], taken: list[Point]) -> float:
-        """The first of these parts of the way where there is the most room, which is taken then."""
-        spots = [a + part * (b - a) for part in parts]
-        rooms = [min(LABEL_ROOM, *(distance(spot, other) for other in taken)) for spot in spots]
-        best = rooms.index(max(rooms))
-        taken.append(spots[best])
-        return parts[best]
+            a, b, chosen = places[link.a], places[link.b], []
+            for parts in [LABEL_PARTS] if link.is_even else END_PARTS:
+                # The first part of the way where there is the most room.
+                rooms = [min(LABEL_ROOM, *(distance(a + part * (b - a), other) for other in taken)) for part in parts]
+                chosen.append(parts[rooms.index(max(rooms))])
+                taken.append(a + chosen[-1] * (b - a))
+            yield chosen
 
     def json(self) -> dict[str, Any]:
         right, bottom = max(point.real for point in self.points), max(point.imag for point in self.points)

@@ -1,28 +1,333 @@
-"""The tool manual: man pages and completions of twarp and twarp-policy, made of their --help and docs/FORMATS.md."""
+"""The tool manual: man pages and completions of twarp and twarp-policy, made of their --help and docs/FORMATS.md.
 
-from twarp_tools.command import Parser, write_output
-from twarp_tools.completions import bash, fish, zsh
-from twarp_tools.help_text import manual_of
-from twarp_tools.man_pages import formats_page, man_page
-from twarp_tools.tutorial import add_program
+The help is read as clap writes it: usage, commands, options and exit statuses. The pages are in the macros of man(7).
+"""
 
-KINDS = {"man": man_page, "formats": formats_page, "bash": bash, "zsh": zsh, "fish": fish}
+import re
+import subprocess
+from collections.abc import Iterable, Iterator
+from dataclasses import dataclass
+from itertools import groupby
+from pathlib import Path
+
+from twarp.program import Refused
+from twarp_tools.command import Parser, tool, write_output
+from twarp_tools.tutorial import ROOT, add_program
+
+FORMATS = ROOT / "docs/FORMATS.md"
+
+A_FLAG = re.compile(r"\s{2,6}(?:(-\w), )?(--[\w-]+)(?: <(\w+)>)?(?:\s{2,}(\S.*))?")
+AN_ENTRY = re.compile(r"  (\S+)\s+(\S.*)")
+# A section begins with a line at the margin that ends with a colon.
+A_SECTION = re.compile(r"^(\w[\w ]*):$", re.M)
+
+AN_ITEM = re.compile(r"(?:([0-9]+)\.|[-*]) (.*)")
+A_RULE = re.compile(r"[-|: ]+")
+A_CELL = re.compile(r"(?<!\\)\|")
+# What the lines of a document belong to, the first that matches.
+KINDS = {
+    "blank": re.compile(r"\s*$"),
+    "table": re.compile(r"\|"),
+    "heading": re.compile(r"#+ "),
+    "list": AN_ITEM,
+    "code": re.compile("    "),
+    "text": re.compile(""),
+}
+
+
+@dataclass
+class Flag:
+    """An option with its names, its value's name where it has one, and what is said of it."""
+
+    short: str | None
+    long: str
+    value: str | None
+    lines: list[str]
+
+    @property
+    def names(self) -> list[str]:
+        return [name for name in (self.short, self.long) if name]
+
+    @property
+    def summary(self) -> str:
+        """The first paragraph of what is said of it."""
+        return " ".join("\n".join(self.lines).partition("\n\n")[0].split())
+
+
+class Help:
+    """The help of the program, or of one of its commands."""
+
+    def __init__(self, text: str):
+        about, found, rest = text.partition("\nUsage: ")
+        if not found:
+            raise Refused("refused: the help has no line of usage")
+        usage, *parts = A_SECTION.split(rest)
+        sections = {name: body.splitlines() for name, body in zip(parts[::2], parts[1::2])}
+        self.about = about.strip("\n").splitlines()
+        self.usage = usage.partition("\n")[0]
+        self.commands = entries_of(sections.get("Commands", []))
+        self.flags = flags_of(sections.get("Options", []))
+        self.statuses = entries_of(sections.get("Exit status", []))
+
+
+def entries_of(lines: list[str]) -> dict[str, str]:
+    """Words with what is said of them, which may go on over several lines."""
+    entries: dict[str, str] = {}
+    for line in lines:
+        found = AN_ENTRY.fullmatch(line)
+        if found and not line.startswith("   "):
+            entries[found[1]] = found[2]
+        elif entries and line.strip():
+            entries[[*entries][-1]] += f" {line.strip()}"
+    return entries
+
+
+def flags_of(lines: list[str]) -> list[Flag]:
+    flags: list[Flag] = []
+    for line in lines:
+        if found := A_FLAG.fullmatch(line):
+            flags.append(Flag(found[1], found[2], found[3], [found[4]] if found[4] else []))
+        elif flags:
+            flags[-1].lines.append(line.strip())
+    return flags
+
+
+class Manual:
+    """The help of a program and of each of its commands that has one."""
+
+    def __init__(self, program: Path):
+        self.top = Help(ask(program, "--help"))
+        # clap's own command `help` has no help of its own.
+        self.commands = {name: Help(ask(program, name, "--help")) for name in self.top.commands if name != "help"}
+        self.version = ask(program, "--version").strip()
+        self.name = self.version.split()[0]
+        # The name of the function that completes the program's words.
+        self.function = f"_{self.name.replace('-', '_')}"
+
+
+def ask(program: Path, *words: str) -> str:
+    """What the program writes on standard output."""
+    done = subprocess.run([program, *words], stdin=subprocess.DEVNULL, capture_output=True, check=False)
+    if done.returncode:
+        raise Refused(f"refused: {program} {' '.join(words)} ends with status {done.returncode}")
+    return done.stdout.decode()
+
+
+def escaped(text: str) -> str:
+    """Text in which nothing is taken for a request of roff; words in backticks are bold."""
+    text = text.replace("\\", "\\e").replace("-", "\\-")
+    text = re.sub("`([^`]+)`", r"\\fB\1\\fR", text)
+    text = re.sub("[^\x00-\x7f]", lambda found: f"\\[u{ord(found[0]):04X}]", text)
+    return f"\\&{text}" if text.startswith((".", "'")) else text
+
+
+def inline(text: str) -> str:
+    """A line in which code and what is strong is bold, and a link is its words."""
+    text = re.sub(r"\[([^\]]*)\]\([^)]*\)", r"\1", text)
+    return escaped(re.sub(r"\*\*([^*]+)\*\*", r"`\1`", text.replace("\\|", "|")))
+
+
+def table_lines(rows: list[str]) -> Iterator[str]:
+    """A row is its first cell with what the others say; of several, each under its column's name."""
+    heads, *cells = ([cell.strip() for cell in A_CELL.split(row)[1:-1]] for row in rows if not A_RULE.fullmatch(row))
+    for first, *others in cells:
+        yield from (".TP", inline(first) or "\\&")
+        named = [f"{inline(head)}: {inline(cell)}" for head, cell in zip(heads[1:], others)]
+        yield inline(others[0]) if len(others) == 1 else "\n.br\n".join(named)
+
+
+def roff_lines(document: Iterable[str]) -> Iterator[str]:
+    """The lines of a Markdown document below its title."""
+    for kind, lines in groupby(document, lambda line: next(kind for kind in KINDS if KINDS[kind].match(line))):
+        match kind:
+            case "blank":
+                yield ".PP"
+            case "heading":
+                for line in lines:
+                    marks, _, words = line.partition(" ")
+                    yield f".SH {inline(words).upper()}" if len(marks) == 2 else f".SS {inline(words)}"
+            case "table":
+                yield from table_lines([*lines])
+            case "list":
+                for found in filter(None, map(AN_ITEM.match, lines)):
+                    mark = f"{found[1]}." if found[1] else "\\(bu"
+                    yield from (f".IP {mark} 4", inline(found[2]))
+            case "code":
+                yield from (".RS 4", ".EX", *(escaped(line[4:]) for line in lines), ".EE", ".RE")
+            case _:
+                yield from map(inline, lines)
+
+
+def about_lines(lines: list[str]) -> Iterator[str]:
+    """What is said of a command; what is indented stands as it is."""
+    return roff_lines(re.sub("^  ", "    ", line) for line in lines)
+
+
+def flag_lines(flags: list[Flag]) -> Iterator[str]:
+    for flag in flags:
+        value = f" \\fI{flag.value}\\fR" if flag.value else ""
+        yield from (".TP", ", ".join(f"\\fB{escaped(name)}\\fR" for name in flag.names) + value)
+        yield from (escaped(line) or ".IP" for line in "\n".join(flag.lines).strip().splitlines())
+
+
+def page_lines(manual: Manual) -> Iterator[str]:
+    top = manual.top
+    yield f'.TH {manual.name.upper()} 1 "" "{manual.version}" "User Commands"'
+    summary = top.about[0].rstrip(".")
+    yield from (".SH NAME", f"{escaped(manual.name)} \\- {escaped(summary[0].lower() + summary[1:])}", ".SH SYNOPSIS")
+    for command in manual.commands.values():
+        yield from (f"\\fB{escaped(command.usage)}\\fR", ".br")
+    # The first line stands under NAME.
+    if text := top.about[2:]:
+        yield from (".SH DESCRIPTION", *about_lines(text))
+    yield from (".SH OPTIONS", *flag_lines(top.flags), ".SH COMMANDS")
+    for name, summary in top.commands.items():
+        if page := manual.commands.get(name):
+            yield from (f".SS {escaped(page.usage)}", *about_lines(page.about), *flag_lines(page.flags))
+        else:
+            yield from (f".SS {escaped(manual.name)} {name}", escaped(summary))
+    yield ".SH EXIT STATUS"
+    for status, meaning in top.statuses.items():
+        yield from (".TP", f"\\fB{status}\\fR", escaped(meaning))
+
+
+# What the other program does.
+OTHERS = {
+    "twarp": "\\fBtwarp\\-policy\\fR(1) judges a case for all timings.",
+    "twarp-policy": "\\fBtwarp\\fR(1) runs a case.",
+}
+
+
+def man_page(manual: Manual) -> str:
+    others = [OTHERS[manual.name], ".PP"] if manual.name in OTHERS else []
+    see = "\\fBtwarp\\fR(5) has the texts, the codes of what is refused, and the exit statuses."
+    return "\n".join([*page_lines(manual), ".SH SEE ALSO", *others, see, ""])
+
+
+def formats_page(manual: Manual) -> str:
+    summary = "twarp \\- the texts that twarp reads and writes, their codes, and exit statuses"
+    head = [f'.TH TWARP 5 "" "{manual.version}" "File Formats"', ".SH NAME", summary, ".SH DESCRIPTION"]
+    # The document's first line is its title.
+    _, *document = FORMATS.read_text(encoding="utf-8").splitlines()
+    return "\n".join([*head, *roff_lines(document), ".SH SEE ALSO", "\\fBtwarp\\fR(1)", ""])
+
+
+def flag_names(flags: list[Flag]) -> list[str]:
+    return [name for flag in flags for name in flag.names]
+
+
+def bash(manual: Manual) -> str:
+    commands, top = manual.commands, manual.top
+    valued = {name for page in commands.values() for flag in page.flags if flag.value for name in flag.names}
+    words = {name: flag_names(page.flags) for name, page in commands.items()}
+    words |= {"help": [*commands]} if "help" in top.commands else {}
+    cases = [f"    {name}) words='{' '.join(row)}' ;;\n" for name, row in words.items()]
+    # What follows one of these is a number.
+    shown = "compopt +o default 2>/dev/null\n        return ;;"
+    numbers = f"    {'|'.join(sorted(valued))})\n        {shown}\n" if valued else ""
+    return f"""\
+# bash completion for {manual.name}
+{manual.function}() {{
+    local word=${{COMP_WORDS[COMP_CWORD]}} command='' words='' place
+    COMPREPLY=()
+    for ((place = 1; place < COMP_CWORD; place++)); do
+        case ${{COMP_WORDS[place]}} in
+        {'|'.join(top.commands)}) command=${{COMP_WORDS[place]}} && break ;;
+        esac
+    done
+    case ${{COMP_WORDS[COMP_CWORD - 1]}} in
+{numbers}    # After an arrow bash completes the names of files.
+    '<' | '>' | '>>' | '2>') return ;;
+    esac
+    case $command in
+    '') words='{' '.join([*top.commands, *flag_names(top.flags)])}' ;;
+{''.join(cases)}    esac
+    mapfile -t COMPREPLY < <(compgen -W "$words" -- "$word")
+}}
+complete -o default -F {manual.function} {manual.name}
+"""
+
+
+def quoted_for_zsh(text: str) -> str:
+    return "'" + text.replace("'", "'\\''") + "'"
+
+
+def zsh_flag(flag: Flag) -> str:
+    """An argument of _arguments, in whose words brackets and colons have a meaning."""
+    words = re.sub(r"([][:])", r"\\\1", flag.summary)
+    said = quoted_for_zsh(f"[{words}]" + (f":{flag.value}: " if flag.value else ""))
+    if flag.short:
+        return f"'({flag.short} {flag.long})'{{{flag.short},{flag.long}}}{said}"
+    return f"{flag.long}{'=' if flag.value else ''}{said}"
+
+
+def zsh(manual: Manual) -> str:
+    commands = [f"        {quoted_for_zsh(f'{name}:{summary}')}\n" for name, summary in manual.top.commands.items()]
+    top = [f"        {zsh_flag(flag)} \\\n" for flag in manual.top.flags]
+    cases = []
+    for name, page in manual.commands.items():
+        flags = " \\\n            ".join(["_arguments", *map(zsh_flag, page.flags)]) if page.flags else ":"
+        cases.append(f"        {name}) {flags} ;;\n")
+    if "help" in manual.top.commands:
+        cases.append(f"        help) _values command {' '.join(manual.commands)} ;;\n")
+    return f"""\
+#compdef {manual.name}
+{manual.function}() {{
+    local context state state_descr line
+    typeset -A opt_args
+    local -a commands
+    commands=(
+{''.join(commands)}    )
+    _arguments -C \\
+{''.join(top)}        '1:command:->command' \\
+        '*::option:->option' && return
+    case $state in
+    command) _describe command commands ;;
+    option)
+        case $words[1] in
+{''.join(cases)}        esac
+        ;;
+    esac
+}}
+{manual.function} "$@"
+"""
+
+
+def quoted_for_fish(text: str) -> str:
+    return "'" + re.sub(r"([\\'])", r"\\\1", text) + "'"
+
+
+def fish(manual: Manual) -> str:
+    complete, first, after = f"complete -c {manual.name}", "__fish_use_subcommand", "__fish_seen_subcommand_from"
+    lines = [f"# fish completion for {manual.name}", f"{complete} -f"]
+    for name, summary in manual.top.commands.items():
+        lines.append(f"{complete} -n {first} -a {name} -d {quoted_for_fish(summary)}")
+    pages = {f"{after} {name}; and not {after} help": page for name, page in manual.commands.items()}
+    for condition, page in [(first, manual.top), *pages.items()]:
+        for flag in page.flags:
+            words = f"{f' -s {flag.short[1:]}' if flag.short else ''} -l {flag.long[2:]}{' -x' if flag.value else ''}"
+            lines.append(f"{complete} -n {quoted_for_fish(condition)}{words} -d {quoted_for_fish(flag.summary)}")
+    if "help" in manual.top.commands:
+        lines.append(f"{complete} -n '{after} help' -a {quoted_for_fish(' '.join(manual.commands))}")
+    return "\n".join([*lines, ""])
+
+
+WRITERS = {"man": man_page, "formats": formats_page, "bash": bash, "zsh": zsh, "fish": fish}
 
 DESCRIPTION = """\
 Writes the man page twarp(1), man, or completions for a shell on standard output, made of what twarp --help and the
 --help of each command say; or twarp(5), formats, made of docs/FORMATS.md. Where --program names twarp-policy the page is
 twarp-policy(1), and the completions are its own."""
-
-
 EXAMPLE = """\
 examples:
   tools/manual man > twarp.1 && man -l twarp.1
   tools/manual --program crates/twarp_policy/out/twarp_policy man > twarp-policy.1"""
 
 
+@tool
 def main() -> None:
     parser = Parser(DESCRIPTION, EXAMPLE)
-    parser.add_argument("kind", choices=KINDS, help="what is to be written")
+    parser.add_argument("kind", choices=WRITERS, help="what is to be written")
     add_program(parser)
     line = parser.parse_args()
-    write_output(KINDS[line.kind](manual_of(line.program.absolute())))
+    write_output(WRITERS[line.kind](Manual(line.program.absolute())))

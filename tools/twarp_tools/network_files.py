@@ -7,11 +7,12 @@ import re
 import sys
 import warnings
 from collections.abc import Iterator, Mapping
+from dataclasses import dataclass, field
+from fractions import Fraction
 from typing import Any
 from xml.etree.ElementTree import Element
 
-from twarp.errors import MOST_QUOTED, Refused, Stopped, quote
-from twarp_tools.network import Network, NetworkLink, Node
+from twarp.program import MOST_QUOTED, Refused, Stopped, quote
 
 MISSING = f"""\
 packages: networkx and defusedxml are needed, and not there for {sys.executable}
@@ -25,7 +26,9 @@ BYTE_ORDER_MARK = b"\xef\xbb\xbf"
 # How texts of two bytes a letter begin.
 WIDE = (b"\xff\xfe", b"\xfe\xff")
 
-GRAPHML = "http://graphml.graphdrawing.org/xmlns"
+# Names in the namespace of GraphML.
+GRAPHML = "{{http://graphml.graphdrawing.org/xmlns}}{}".format
+KEY, GRAPH, NODE, EDGE = map(GRAPHML, ("key", "graph", "node", "edge"))
 # What the reader of networkx says of a word that it does not know, with the rest of the line.
 AT_A_WORD = re.compile(r"cannot tokenize (.*) at \(([0-9]+), [0-9]+\)", re.DOTALL)
 AT_A_LINE = re.compile(r"(.*) at \(([0-9]+), [0-9]+\)", re.DOTALL)
@@ -34,6 +37,47 @@ AT_A_LINE = re.compile(r"(.*) at \(([0-9]+), [0-9]+\)", re.DOTALL)
 A_PART = re.compile(r'#[^\n]*|"[^"]*"|"|\bgraph\s*\[')
 # What the reader of networkx may end with on a text that it does not understand.
 FAULTS = (ValueError, TypeError, KeyError, IndexError, AttributeError, OverflowError)
+# A decimal number, also one with an exponent, of a size that stays quick to count with.
+A_DECIMAL = re.compile(r"[+-]?([0-9]{1,20}(\.[0-9]{0,20})?|\.[0-9]{1,20})([eE][+-]?[0-9]{1,3})?")
+
+
+class Item:
+    """A node or a link: its place in messages, and its attributes, whose names may have letters of any case."""
+
+    def __init__(self, place: str, attributes: Mapping[str, str]):
+        self.place = place
+        # One without a value counts as not given, and of two names that are alike the first counts.
+        given = [(name, text) for name, text in attributes.items() if text]
+        self.attributes = {name.lower(): (name, text) for name, text in reversed(given)}
+
+    def has(self, *names: str) -> bool:
+        return all(name.lower() in self.attributes for name in names)
+
+    def number(self, name: str, least: int, most: int) -> Fraction | None:
+        """The number of an attribute, where it is given; refused where it is no number or not between these."""
+        if not self.has(name):
+            return None
+        name, text = self.attributes[name.lower()]
+        why = "this is no number"
+        if A_DECIMAL.fullmatch(text.strip()):
+            if least <= (number := Fraction(text.strip())) <= most:
+                return number
+            why = f"this is not between {least} and {most:,}"
+        raise Refused(f"refused {self.place}: {name} {quote(text)}: {why}")
+
+
+@dataclass
+class Network:
+    """Nodes by their ids, in the order of the file, and links, which lead one way in a directed network."""
+
+    is_directed: bool
+    nodes: dict[str, Item] = field(default_factory=dict)
+    links: list[tuple[str, str, Item]] = field(default_factory=list)
+
+    def name(self, node: str) -> str:
+        """What a node is called: its label, and its id where it has none."""
+        _, label = self.nodes[node].attributes.get("label", ("", ""))
+        return " ".join(label.split()) or node
 
 
 def read_network(text: bytes) -> Network:
@@ -78,12 +122,14 @@ def read_graphml(text: bytes) -> Any:
     from networkx.readwrite.graphml import GraphMLReader
 
     root = read_xml(text)
-    graphs = [*prepared(root)]
+    prepare(root)
+    graphs = root.findall(GRAPH)
     if not graphs:
         raise Refused("refused: there is no graph")
     if len(graphs) > 1:
         raise Refused("refused: a second graph stands beside the first")
-    refuse_parts(root)
+    for fault in faults(root):
+        raise Refused(f"refused {fault}")
     reader = GraphMLReader(force_multigraph=True)
     keys, defaults = reader.find_graphml_keys(root)
     graph = reader.make_graph(graphs[0], keys, defaults)
@@ -111,64 +157,47 @@ def read_xml(text: bytes) -> Element:
         raise Refused.at_line(1, f"its encoding is not known: {shortened(str(fault))}") from None
 
 
-def prepared(root: Element) -> Iterator[Element]:
-    """Gives the graphs, prepared for networkx: names in the one namespace, and values as they are written."""
+def prepare(root: Element) -> None:
+    """Prepares GraphML for networkx: names in the one namespace, and values as they are written."""
     for element in root.iter():
         if not element.tag.startswith("{"):
-            element.tag = name_of(element.tag)
-    for key in root.findall(name_of("key")):
+            element.tag = GRAPHML(element.tag)
+    for key in root.findall(KEY):
         if not key.get("yfiles.type"):
             key.set("attr.type", "string")
             key.set("attr.name", key.get("attr.name") or key.get("id") or "")
-    for edge in root.iter(name_of("edge")):
+    for edge in root.iter(EDGE):
         # networkx would take the second of two links of one id for the first.
         edge.attrib.pop("id", None)
-    yield from root.findall(name_of("graph"))
 
 
-def name_of(tag: str) -> str:
-    """A name in the namespace of GraphML."""
-    return f"{{{GRAPHML}}}{tag}"
-
-
-def refuse_parts(root: Element) -> None:
-    """Refuses hyperedges, graphs within nodes that are no groups, and nodes and links that are not whole."""
-    for hyperedge in root.iter(name_of("hyperedge")):
-        ends = [quote(end.get("node", "")) for end in hyperedge.findall(name_of("endpoint"))]
-        named = quote(hyperedge.get("id", ""))
-        raise Refused(
-            f"refused hyperedge {named}: a link has two ends, and this has {len(ends)}: {shortened(', '.join(ends))}"
-        )
-    for kind in "node", "edge":
-        for part in root.iter(name_of(kind)):
-            refuse_inner_graph(kind, part)
-    refuse_ends(root)
-
-
-def refuse_inner_graph(kind: str, part: Element) -> None:
-    is_group = part.get("yfiles.foldertype") == "group"
-    if (part.find(name_of("graph")) is None) == is_group:
-        why = "it has no graph" if is_group else "it has a graph of its own, as only groups of yEd may"
-        raise Refused(f"refused {kind} {quote(part.get('id', ''))}: {why}")
-
-
-def refuse_ends(root: Element) -> None:
-    """Refuses nodes without an id of their own, and links whose ends are no nodes."""
-    known: set[str] = set()
-    for place, node in enumerate(root.iter(name_of("node")), 1):
+def faults(root: Element) -> Iterator[str]:
+    """Hyperedges, graphs within nodes that are no groups, nodes without an id of their own, and links without ends."""
+    for hyperedge in root.iter(GRAPHML("hyperedge")):
+        ends = [quote(end.get("node", "")) for end in hyperedge.findall(GRAPHML("endpoint"))]
+        why = f"a link has two ends, and this has {len(ends)}: {shortened(', '.join(ends))}"
+        yield f"hyperedge {quote(hyperedge.get('id', ''))}: {why}"
+    for kind, tag in ("node", NODE), ("edge", EDGE):
+        for part in root.iter(tag):
+            is_group = part.get("yfiles.foldertype") == "group"
+            if (part.find(GRAPH) is None) == is_group:
+                why = "it has no graph" if is_group else "it has a graph of its own, as only groups of yEd may"
+                yield f"{kind} {quote(part.get('id', ''))}: {why}"
+    known: set[str | None] = set()
+    for place, node in enumerate(root.iter(NODE), 1):
         id_ = node.get("id")
         if id_ is None:
-            raise Refused(f"refused node: the {place}. has no id")
-        if id_ in known:
-            raise Refused(f"refused node {quote(id_)}: there is a node of this id already")
+            yield f"node: the {place}. has no id"
+        elif id_ in known:
+            yield f"node {quote(id_)}: there is a node of this id already"
         known.add(id_)
-    for place, edge in enumerate(root.iter(name_of("edge")), 1):
+    for place, edge in enumerate(root.iter(EDGE), 1):
         for end in "source", "target":
             id_ = edge.get(end)
             if id_ is None:
-                raise Refused(f"refused link: the {place}. has no {end}")
-            if id_ not in known:
-                raise Refused(f"refused link: the {place}. has the {end} {quote(id_)}, and there is no node of this id")
+                yield f"link: the {place}. has no {end}"
+            elif id_ not in known:
+                yield f"link: the {place}. has the {end} {quote(id_)}, and there is no node of this id"
 
 
 def read_gml(text: bytes) -> Any:
@@ -176,7 +205,7 @@ def read_gml(text: bytes) -> Any:
 
     has_graph = False
 
-    def prepare(found: re.Match[str]) -> str:
+    def prepared(found: re.Match[str]) -> str:
         """Puts texts over several lines into one, with as many line ends behind, and lets nodes have several links."""
         nonlocal has_graph
         part = found[0]
@@ -190,11 +219,11 @@ def read_gml(text: bytes) -> Any:
         has_graph = True
         return f"{part} multigraph 1 "
 
-    return parse_gml(A_PART.sub(prepare, plain(text)), label="id")
+    return parse_gml(A_PART.sub(prepared, letters_of(text)), label="id")
 
 
-def plain(text: bytes) -> str:
-    """The letters of a GML text: UTF-8, two bytes a letter where it begins so, else Latin 1."""
+def letters_of(text: bytes) -> str:
+    """The letters of a GML text: UTF-8, two bytes a letter where it begins so, else Latin 1; lines end by \\n."""
     if text.startswith(WIDE):
         return text.decode("utf-16", "replace").replace("\r\n", "\n")
     try:
@@ -209,12 +238,13 @@ def network_of(graph: Any) -> Network:
     network = Network(graph.is_directed())
     defaults = graph.graph.get("node_default") or {}
     for node, values in graph.nodes(data=True):
-        if str(node) in network.nodes:
-            raise Refused(f"refused node {quote(str(node))}: there is a node of this id already")
-        network.nodes[str(node)] = Node(str(node), defaults | written(values))
+        item = Item(f"node {quote(str(node))}", defaults | written(values))
+        if network.nodes.setdefault(str(node), item) is not item:
+            raise Refused(f"refused {item.place}: there is a node of this id already")
     defaults = graph.graph.get("edge_default") or {}
     for source, target, values in graph.edges(data=True):
-        network.links.append(NetworkLink(str(source), str(target), defaults | written(values)))
+        item = Item(f"link from {quote(str(source))} to {quote(str(target))}", defaults | written(values))
+        network.links.append((str(source), str(target), item))
     return network
 
 

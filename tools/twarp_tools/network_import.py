@@ -1,23 +1,35 @@
 """The tool import: a network in GraphML or GML becomes a case."""
 
-import argparse
+import heapq
+import math
 import re
-from collections.abc import Iterator
+from bisect import insort
+from collections.abc import Callable
+from dataclasses import dataclass
 from fractions import Fraction
 from pathlib import Path
 from typing import BinaryIO
 
-from twarp.case import MOST_NODES, MOST_PATHS, MOST_ROUTERS, Case, Link
-from twarp.errors import Refused, quote
-from twarp.hops import hops_from
-from twarp_tools.command import Parser, number_between, refuse_own_input, tell_counts, write_output
-from twarp_tools.network import DISTANCES, KM_PER_TICK, WEIGHTS, Joined, Measured, Network
-from twarp_tools.network_files import read_network
-from twarp_tools.packed import add_size_limit, read_stream, read_within
-from twarp_tools.permitted_paths import Shortest
+from twarp.case import GREATEST_DELAY, MOST_LINKS, MOST_NODES, MOST_PATHS, MOST_ROUTERS, ORIGIN, Case, Link, Nodes
+from twarp.case import hops_from
+from twarp.program import Refused, quote
+from twarp_tools.command import Parser, number_between, read_stream, read_within, refuse_own_input, tell_counts, tool
+from twarp_tools.command import write_output
+from twarp_tools.network_files import Item, Network, read_network
 
 # MiB of an input, unpacked: as many nodes and links as a case has take less, with all that yEd tells of them.
 MOST_UNPACKED = 8
+
+# Attributes of links that are read where the command line names none, in letters of any case.
+DISTANCES = ("delay", "latency", "distance", "dist", "length")
+WEIGHTS = ("weight", "metric", "cost")
+GREATEST_VALUE = 10**15
+
+# Attributes of nodes that say where on the globe these are.
+PLACE = ("latitude", "longitude")
+EARTH_RADIUS_KM = 6_371
+# What light goes in glass in a millisecond.
+KM_PER_TICK = 200
 
 DESCRIPTION = f"""\
 Makes a case of a network in GraphML or GML, on standard output.
@@ -31,6 +43,152 @@ example:
   tools/import --destination Vienna --map nodes.txt Geant2012.graphml > case.spp
   tools/draw --names nodes.txt case.spp | dot -Tsvg > geant.svg"""
 
+# What a link between two nodes has of something, where it has it.
+Measure = Callable[[str, str, Item], Fraction | None]
+
+
+def measure_by(name: str) -> Measure:
+    """What this attribute says, which is not below 0."""
+    return lambda _a, _b, link: link.number(name, 0, GREATEST_VALUE)
+
+
+def measure_on_globe(network: Network) -> Measure:
+    """The kilometres between a link's ends, where both have their place."""
+
+    def place_of(node: Item) -> tuple[float, float, float]:
+        """On a globe of radius 1."""
+        latitude, longitude = (node.number(name, -most, most) for name, most in zip(PLACE, (90, 180)))
+        up, round_ = math.radians(latitude or 0), math.radians(longitude or 0)
+        return math.cos(up) * math.cos(round_), math.cos(up) * math.sin(round_), math.sin(up)
+
+    def measure(a: str, b: str, _link: Item) -> Fraction | None:
+        one, other = network.nodes[a], network.nodes[b]
+        places = [place_of(node) for node in (one, other) if node.has(*PLACE)]
+        if len(places) < 2:
+            return None
+        # The arc of a great circle, by its chord.
+        return Fraction(round(2 * EARTH_RADIUS_KM * math.asin(min(1.0, math.dist(*places) / 2))))
+
+    return measure
+
+
+@dataclass(frozen=True, slots=True)
+class Measured:
+    """A link's delay and weight."""
+
+    delay: int
+    weight: Fraction
+
+
+class Joined:
+    """A network in which at most one link leads from a node to another: the lightest, and of these the quickest."""
+
+    def __init__(self, network: Network, delay: str | None, weight: str | None, per_tick: Fraction | None):
+        self.network = network
+        # For each node those to which a link leads, and those which a link joins to it in either direction.
+        self.rows: dict[str, dict[str, Measured]] = {node: {} for node in network.nodes}
+        self.peers: dict[str, dict[str, None]] = {node: {} for node in network.nodes}
+        self.parallel = self.loops = self.unmeasured = 0
+        # How delays are found, and how much of it is a tick; none where all are 1.
+        self.distance: Measure | None = None
+        self.per_tick = per_tick or Fraction(1)
+        name = self.known_name("--delay", delay, DISTANCES)
+        if name is None and any(node.has(*PLACE) for node in network.nodes.values()):
+            self.distance, self.per_tick = measure_on_globe(network), per_tick or Fraction(KM_PER_TICK)
+        elif name := name or self.known_name("", None, WEIGHTS):
+            self.distance = measure_by(name)
+        # Where there is none, weights are the delays.
+        name = self.known_name("--weight", weight, WEIGHTS)
+        self.weight = measure_by(name) if name else None
+        for link in network.links:
+            self.join(*link)
+
+    def known_name(self, option: str, named: str | None, usual: tuple[str, ...]) -> str | None:
+        """The attribute that an option names, or else the first of the usual ones, that some link has."""
+        names = (named,) if named else usual
+        known = next((name for name in names if any(link.has(name) for _, _, link in self.network.links)), None)
+        if named and known is None:
+            raise Refused(f"refused option {option}: no link has the attribute {named}")
+        return known
+
+    def join(self, a: str, b: str, link: Item) -> None:
+        if a == b:
+            self.loops += 1
+            return
+        distance = self.distance(a, b, link) if self.distance else None
+        self.unmeasured += bool(self.distance) and distance is None
+        delay = 1 if distance is None else max(1, round(distance / self.per_tick))
+        if delay > GREATEST_DELAY:
+            raise Refused(f"refused {link.place}: its delay is {delay:,}, and at most {GREATEST_DELAY:,} can be")
+        weight = self.weight(a, b, link) if self.weight else Fraction(delay)
+        measured = Measured(delay, Fraction(1) if weight is None else weight)
+        if known := self.rows[a].get(b):
+            self.parallel += 1
+            measured = min(known, measured, key=lambda one: (one.weight, one.delay))
+        self.rows[a][b] = measured
+        if not self.network.is_directed:
+            self.rows[b][a] = measured
+        for one, other in (a, b), (b, a):
+            self.peers[one][other] = None
+            if len(self.peers[one]) > MOST_LINKS:
+                raise Refused(f"refused node {quote(self.network.name(one))}: it has more than {MOST_LINKS} neighbours")
+
+
+# For each router those to which a link leads.
+Rows = list[dict[int, Measured]]
+# A path with its weight and how many nodes it has, which is the order of paths.
+Found = tuple[int, int, Nodes]
+
+
+class Shortest:
+    """Each router's paths to the origin without a repeated node, ranked by weight as tools/README.md tells.
+
+    The rest of each path is permitted at its next router, which could not offer it otherwise.
+    """
+
+    def __init__(self, rows: Rows, most: int):
+        self.most = most
+        # For each router those from which a link leads to it, with weights as whole numbers in the same proportions.
+        shares = math.lcm(*(one.weight.denominator for row in rows for one in row.values()))
+        weights: list[dict[int, int]] = [{} for _ in rows]
+        for peer, row in enumerate(rows):
+            for router in sorted(row):
+                weights[router][peer] = int(row[router].weight * shares)
+        # Each router's permitted paths, best first.
+        self.rows: list[list[Nodes]] = [[] for _ in rows]
+        # For each router the best of what is found until now, in order: what is behind these is never taken.
+        self.best: list[list[Found]] = [[] for _ in rows]
+        # Routers at which paths are left out, because there are too many or because they are too long.
+        self.crowded: set[int] = set()
+        self.too_long: set[int] = set()
+        self.ahead: list[Found] = [(0, 1, (ORIGIN,))]
+        while self.ahead:
+            weight, length, path = heapq.heappop(self.ahead)
+            if len(self.rows[path[0]]) == most:
+                self.crowded.add(path[0])
+                continue
+            self.rows[path[0]].append(path)
+            for peer, more in weights[path[0]].items():
+                if peer in path:
+                    continue
+                if length == MOST_NODES:
+                    self.too_long.add(peer)
+                else:
+                    self.offer(peer, (weight + more, length + 1, (peer, *path)))
+
+    def offer(self, router: int, found: Found) -> None:
+        """Keeps a path that a router may take, where it is among its best."""
+        best = self.best[router]
+        if len(best) == self.most and found[0] > best[-1][0]:
+            self.crowded.add(router)
+            return
+        insort(best, found)
+        if len(best) > self.most:
+            self.crowded.add(router)
+            if best.pop() is found:
+                return
+        heapq.heappush(self.ahead, found)
+
 
 def read_scale(word: str) -> Fraction:
     """A positive number, as 1000 or 0.5."""
@@ -39,7 +197,22 @@ def read_scale(word: str) -> Fraction:
     return scale
 
 
-def command_line() -> argparse.Namespace:
+def routers_of(joined: Joined, name: str) -> list[str]:
+    """The destination, by its id or else its label, and the nodes that a path leads from in the order of the file."""
+    nodes = joined.network.nodes
+    found = [name] if name in nodes else [node for node in nodes if joined.network.name(node) == name]
+    if len(found) != 1:
+        raise Refused(f"refused option --destination: {len(found)} nodes are called {quote(name)}")
+    reached = hops_from(found[0], lambda node: [peer for peer in joined.peers[node] if node in joined.rows[peer]])
+    routers = [*found, *(node for node in nodes if node in reached and node not in found)]
+    if len(routers) > MOST_ROUTERS:
+        why = f"a path leads from {len(routers) - 1:,} nodes, and a case has {MOST_ROUTERS:,} routers at most"
+        raise Refused(f"refused: {why}")
+    return routers
+
+
+@tool
+def main() -> None:
     parser = Parser(DESCRIPTION, EXAMPLE)
     parser.add_argument("input", metavar="FILE", nargs="?", default="-", help="the network; - is standard input")
     parser.option("--destination", "NODE", "where all paths lead to: a label or an id", required=True)
@@ -48,56 +221,21 @@ def command_line() -> argparse.Namespace:
     scale = f"how much of a distance or a weight is a tick (default {KM_PER_TICK} km on the globe, else 1)"
     parser.option("--per-tick", "NUMBER", scale, read_scale)
     parser.option("--paths", "N", "permit at most N paths at a router", number_between(1, MOST_PATHS), 20)
-    add_size_limit(parser, MOST_UNPACKED)
+    parser.size_limit(MOST_UNPACKED)
     parser.option("--map", "FILE", "write the number and the label of each router into this file")
-    return parser.parse_args()
+    line = parser.parse_args()
+    refuse_own_input("--map", line.map, line.input)
 
+    def read(source: BinaryIO) -> tuple[Joined, list[str]]:
+        """The network and the nodes that become routers. Here too, since what is wrong is told by the file's name."""
+        network = read_network(read_within(source, line.size_limit))
+        joined = Joined(network, line.delay, line.weight, line.per_tick)
+        return joined, routers_of(joined, line.destination)
 
-def destination_of(network: Network, name: str) -> str:
-    """The node of this id, or else of this label."""
-    if name in network.nodes:
-        return name
-    found = [id_ for id_, node in network.nodes.items() if node.name == name]
-    if len(found) != 1:
-        raise Refused(f"refused option --destination: {len(found)} nodes are called {quote(name)}")
-    return found[0]
-
-
-def routers_of(joined: Joined, destination: str) -> list[str]:
-    """The destination, and the nodes that a path leads from in the order of the file."""
-    reached = hops_from(destination, lambda node: [peer for peer in joined.peers[node] if node in joined.rows[peer]])
-    routers = [destination, *(node for node in joined.rows if node in reached and node != destination)]
-    if len(routers) > MOST_ROUTERS:
-        raise Refused(
-            f"refused: a path leads from {len(routers) - 1:,} nodes, and a case has {MOST_ROUTERS:,} routers at most"
-        )
-    return routers
-
-
-# For each router those to which a link leads.
-Rows = list[dict[int, Measured]]
-
-
-def links_of(rows: Rows) -> Iterator[Link]:
-    """A link for each two routers that are joined; the delay of one direction alone is that of both."""
-    pairs = {(min(a, b), max(a, b)) for a, row in enumerate(rows) for b in row}
-    for a, b in sorted(pairs):
-        there = rows[a].get(b) or rows[b][a]
-        back = rows[b].get(a) or there
-        yield Link(a, b, there.delay, back.delay)
-
-
-def weights_toward(rows: Rows) -> list[dict[int, Fraction]]:
-    """For each router those from which a link leads to it, each with the link's weight."""
-    weights: list[dict[int, Fraction]] = [{} for _ in rows]
-    for peer, row in enumerate(rows):
-        for router in sorted(row):
-            weights[router][peer] = row[router].weight
-    return weights
-
-
-def tell_cuts(joined: Joined, rows: Rows, shortest: Shortest, line: argparse.Namespace) -> None:
-    """Says on standard error what of the network is not in the case, or is there with a delay of its own."""
+    joined, routers = read_stream(line.input, read)
+    numbers = {node: router for router, node in enumerate(routers)}
+    rows = [{numbers[peer]: one for peer, one in joined.rows[node].items() if peer in numbers} for node in routers]
+    shortest = Shortest(rows, line.paths)
     one_way = sum(a not in rows[b] for a, row in enumerate(rows) for b in row)
     counts = {
         "nodes left out that no path leads from": len(joined.rows) - len(rows),
@@ -109,31 +247,13 @@ def tell_cuts(joined: Joined, rows: Rows, shortest: Shortest, line: argparse.Nam
         f"routers with paths left out because these have more than {MOST_NODES} nodes": len(shortest.too_long),
     }
     tell_counts(counts)
-
-
-def names_of(network: Network, routers: list[str]) -> str:
-    """A line for each router: its number and its name. A name that is a number alone would be read as an AS."""
-    names = (network.nodes[router].name for router in routers)
-    names = (f"node {name}" if name.isdigit() else name for name in names)
-    return "".join(f"{router} {name}\n" for router, name in enumerate(names))
-
-
-def read_joined(source: BinaryIO, line: argparse.Namespace) -> tuple[Joined, list[str]]:
-    """The network and the nodes that become routers. Here too, since what is wrong is told by the file's name."""
-    network = read_network(read_within(source, line.size_limit))
-    joined = Joined(network, line.delay, line.weight, line.per_tick)
-    return joined, routers_of(joined, destination_of(network, line.destination))
-
-
-def main() -> None:
-    line = command_line()
-    refuse_own_input("--map", line.map, line.input)
-    joined, routers = read_stream(line.input, lambda source: read_joined(source, line))
-    numbers = {node: router for router, node in enumerate(routers)}
-    rows = [{numbers[peer]: one for peer, one in joined.rows[node].items() if peer in numbers} for node in routers]
-    shortest = Shortest(weights_toward(rows), line.paths)
-    paths = [path for row in shortest.rows[1:] for path in row]
-    tell_cuts(joined, rows, shortest, line)
     if line.map:
-        Path(line.map).write_text(names_of(joined.network, routers), encoding="utf-8")
-    write_output(str(Case(len(rows), [*links_of(rows)], paths)))
+        # A name that is a number alone would be read as an AS.
+        names = (f"node {name}" if name.isdigit() else name for name in map(joined.network.name, routers))
+        lines = (f"{router} {name}\n" for router, name in enumerate(names))
+        Path(line.map).write_text("".join(lines), encoding="utf-8")
+    # The delay of one direction alone is that of both.
+    pairs = sorted({(min(a, b), max(a, b)) for a, row in enumerate(rows) for b in row})
+    delays = ((rows[a].get(b) or rows[b][a], rows[b].get(a) or rows[a][b]) for a, b in pairs)
+    links = [Link(a, b, there.delay, back.delay) for (a, b), (there, back) in zip(pairs, delays)]
+    write_output(str(Case(len(rows), links, [path for row in shortest.rows[1:] for path in row])))

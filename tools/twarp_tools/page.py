@@ -1,27 +1,26 @@
 """The tool page: the run of a case as one page to look at."""
 
 import json
-from collections.abc import Iterator
+from collections.abc import Iterator, Sequence
 from dataclasses import asdict
 from html import escape
 from pathlib import Path
 from string import Template
+from typing import Any
 from xml.etree import ElementTree
 from xml.etree.ElementTree import Element
 
-from twarp.case import Case
-from twarp.event import Event
-from twarp.following import Run, follow
-from twarp.lanes import DIGIT_WIDTH, FOLD_WIDTH, TOP, TimeAxis, View, refuse_crowd, sample_circle, sample_line
+from twarp import svg
+from twarp.calls import Safety
+from twarp.case import Case, write_path
 from twarp.pictures import subtitle_of, view_of_run
-from twarp.policy import Safety
-from twarp.report import Report
+from twarp.protocol import Fate, Router, Run, follow
+from twarp.report import Allow, Event, Fail, Forbid, Report, Restore, Swap, Update
 from twarp.run_picture import LETTER_WIDTH, Bar, RunPicture
-from twarp.svg import DARK, DEFINITIONS, LIGHT, PLACES, STYLE, add, attribute
-from twarp_tools.command import MOST_OF_REPORT, Input, title_of, write_output
+from twarp.svg import TOP, TimeAxis, View, add, attribute, refuse_crowd, sample_circle, sample_line, written
+from twarp_tools.command import MOST_OF_REPORT, Input, title_of, tool, write_output
+from twarp_tools.draw import add_policy, parser_of, part_of, read_run, safety_of
 from twarp_tools.layout import NetworkDrawing
-from twarp_tools.part import add_policy, check_policy, parser_of, part_of, read_run, safety_of
-from twarp_tools.recording import Json, Recording
 
 DESCRIPTION = """\
 Makes a page of the run of a case on standard output, one HTML file that needs no network: the network, the timeline, a
@@ -45,16 +44,100 @@ ABOVE, BELOW, BESIDE = 8.0, 22.0, 14.0
 # The room of a mark in the legend.
 SAMPLE_WIDTH, SAMPLE_HEIGHT = 34.0, 22.0
 
+# What the page's script reads.
+Json = dict[str, Any]
+
+
+class Recording:
+    """The witness of a run: how each router in view begins, and what each event changes at its router.
+
+    Paths stand in it by their numbers in `paths`, as the script wants them.
+    """
+
+    def __init__(self, case: Case, view: View):
+        self.view = view
+        self.paths = case.path_numbers()
+        # The routers in view as they are before the first event from the view's beginning on.
+        self.opening: dict[int, Router] = {}
+        self.events: list[Json] = []
+
+    def begin(self, routers: Sequence[Router]) -> None:
+        """Keeps the routers as they are, where that is not done yet."""
+        self.opening = self.opening or {router: routers[router].copy() for router in self.view.routers}
+
+    def __call__(self, event: Event, routers: Sequence[Router]) -> None:
+        if event.time < self.view.first:
+            return
+        self.begin(routers)
+        if event.dst in self.view.shown and event.time <= self.view.last:
+            before = routers[event.dst]
+            after = before.copy()
+            after.handle(event)
+            self.events.append(self.event(event, before, after))
+
+    def event(self, event: Event, before: Router, after: Router) -> Json:
+        """What happens, in words, and what is other than before at the router."""
+        words = f"router {event.dst} {told(event, before, after)}"
+        if before.rib != after.rib:
+            words += f" and takes {write_path(after.rib)}" if after.rib else " and has no path any more"
+        made: Json = {"time": event.time, "router": after.node, "words": words, "counters": after.counters}
+        was, now = self.state(before), self.state(after)
+        made |= {name: now[name] for name in ("rib", "order", "barred") if now[name] != was[name]}
+        if isinstance(event.body, (Fail, Restore, Update)):
+            made["row"] = self.row(after, event.src if isinstance(event.body, Update) else event.body.peer)
+        return made
+
+    def state(self, router: Router) -> Json:
+        return {
+            "rib": self.paths[router.rib],
+            "order": [self.paths[path] for path in router.order],
+            "barred": sorted(self.paths[path] for path in router.barred),
+            "rows": [self.row(router, peer) for peer in router.delays],
+            "counters": router.counters,
+        }
+
+    def row(self, router: Router, peer: int) -> list[int]:
+        """A neighbour, the delay to it, whether the link is up, its session, and the path heard last."""
+        heard = self.paths[router.heard.get(peer, ())]
+        return [peer, router.delays[peer], int(peer not in router.down), router.sessions[peer], heard]
+
+    def messages(self, run: Run) -> Iterator[Json]:
+        """The messages between routers in view that are under way at some time in view."""
+        for message in run.messages:
+            event = message.event
+            if self.view.meets(message.sent, event.time) and {event.src, event.dst} <= self.view.shown:
+                path, is_dropped = self.paths[message.update.path], message.fate is Fate.DROPPED
+                ends = {"from": event.src, "to": event.dst, "sent": message.sent, "arrives": event.time}
+                yield ends | {"path": path, "is_dropped": is_dropped}
+
+
+def told(event: Event, before: Router, after: Router) -> str:
+    """What happens at the event's router."""
+    match event.body:
+        case Fail(peer):
+            return f"loses the link to {peer}"
+        case Restore(peer):
+            return f"has the link to {peer} again"
+        case Swap(first, second):
+            return f"exchanges places {first} and {second} of its order"
+        case Forbid(place):
+            return f"may not use {write_path(after.given[place - 1])} from now on"
+        case Allow(place):
+            return f"may use {write_path(after.given[place - 1])} again"
+        case Update(path) if after.dropped > before.dropped:
+            why = "since the link is down" if event.src in after.down else "which is of an earlier session"
+            return f"drops {write_path(path)} from {event.src}, {why}"
+        case Update(path):
+            return f"hears {write_path(path)} from {event.src}"
+    return "starts"
+
 
 def stops_of(axis: TimeAxis, moments: set[int]) -> list[int]:
     """The times at which the slider stops."""
     folded = sum(end - start - 1 for start, end in axis.folds)
     if axis.last - axis.first - folded >= MOST_TICKS:
         return sorted({axis.first, axis.last, *moments})
-    ends = [axis.first - 1, *(end for fold in axis.folds for end in fold), axis.last + 1]
-    # Between two folds every tick is a stop, the ends of folds among them.
-    stops = {time for a, b in zip(ends[::2], ends[1::2]) for time in range(a, b + 1)}
-    return sorted(time for time in stops if axis.first <= time <= axis.last)
+    return sorted({time for start, end in axis.stretches() for time in range(start, end + 1)})
 
 
 class PagePicture(RunPicture):
@@ -62,6 +145,8 @@ class PagePicture(RunPicture):
 
     What keeps its width says where it stands, and each bar has its words, which are seen where there is room.
     """
+
+    has_hidden_words = True
 
     def draw_scene(self, parent: Element, scene: Event) -> None:
         super().draw_scene(parent, scene)
@@ -73,40 +158,26 @@ class PagePicture(RunPicture):
             # The path was given up at once: its bar ends where it began.
             parent[-1].set("data-at", attribute(self.axis.x(bar.start)))
 
-    def draw_words(self, bar: Element, words: str, look: dict[str, str], at: dict[str, float], has_room: bool) -> None:
-        super().draw_words(bar, words, look, at, has_room)
-        if not has_room:
-            add(bar, "text", words, **{"class_": "", "display": "none", **at, **look})
-
     def axis_json(self) -> Json:
         """What the script has to know to write the times anew."""
-        return {
-            **asdict(self.axis),
-            "fold_width": FOLD_WIDTH,
-            "digit_width": DIGIT_WIDTH,
-            "letter_width": LETTER_WIDTH,
-            "right": self.right,
-            "top": TOP - 8,
-            "bottom": self.lanes.bottom,
-            "times": TOP - 14,
-        }
+        widths = {"fold_width": svg.FOLD_WIDTH, "digit_width": svg.DIGIT_WIDTH, "letter_width": LETTER_WIDTH}
+        heights = {"right": self.right, "top": TOP - 8, "bottom": self.lanes.bottom, "times": TOP - 14}
+        return asdict(self.axis) | widths | heights
 
 
 class Page:
     """What the page of a part of a run has."""
 
-    def __init__(
-        self, case: Case, report: Report, run: Run, view: View, recording: Recording, safety: Safety | None = None
-    ):
-        self.view = view
+    def __init__(self, case: Case, report: Report, run: Run, recording: Recording, safety: Safety | None = None):
+        self.view = recording.view
         self.recording = recording
         self.safety = safety
-        self.network = NetworkDrawing(case, view)
-        self.picture = PagePicture(case, report, run, view)
-        self.messages = recording.messages(run)
+        self.network = NetworkDrawing(case, self.view)
+        self.picture = PagePicture(case, report, run, self.view)
+        self.messages = [*recording.messages(run)]
         moments = {message[end] for message in self.messages for end in ("sent", "arrives")}
         moments |= {event["time"] for event in recording.events}
-        self.stops = stops_of(self.picture.axis, {time for time in moments if view.first <= time <= view.last})
+        self.stops = stops_of(self.picture.axis, {time for time in moments if self.view.meets(time, time)})
 
     def html(self, title: str, subtitle: str) -> str:
         parts = {
@@ -123,14 +194,13 @@ class Page:
 
     def json(self) -> Json:
         """What the script has to know."""
-        safety = self.safety
         return {
             **self.network.json(),
-            **({"policy": self.policy_json(safety)} if safety else {}),
+            **({"policy": self.policy_json(self.safety)} if self.safety else {}),
             "stops": self.stops,
             "axis": self.picture.axis_json(),
             "xs": [round(self.picture.axis.x(time), 1) for time in self.stops],
-            "places": [asdict(place) for place in PLACES],
+            "places": [asdict(place) for place in svg.PLACES],
             "paths": list(self.recording.paths),
             "routers": list(self.routers()),
             "messages": self.messages,
@@ -139,12 +209,10 @@ class Page:
 
     def policy_json(self, safety: Safety) -> Json:
         """What holds for all timings: of the routers in view, with paths by their numbers, and steps between them."""
-        paths, routers, shown = self.recording.paths, self.view.routers, self.view.shown
+        paths, shown = self.recording.paths, self.view.shown
+        left = [[paths[path] for path in safety.left[router]] for router in self.view.routers]
         steps = {"rim": safety.rim_hops, "spokes": safety.spoke_hops}
-        return {
-            "left": [[paths[path] for path in safety.left[router]] for router in routers],
-            **{name: [hop for hop in hops if shown.issuperset(hop)] for name, hops in steps.items()},
-        }
+        return {"left": left} | {name: [hop for hop in hops if shown.issuperset(hop)] for name, hops in steps.items()}
 
     def routers(self) -> Iterator[Json]:
         network = self.network
@@ -165,9 +233,8 @@ class Page:
         width, height = self.picture.right - left + BESIDE, lanes.bottom - top + BELOW
         corner = pane("corner", 0, top - TIMES_HEIGHT, left, TIMES_HEIGHT)
         times = pane("times", left, top - TIMES_HEIGHT, width, TIMES_HEIGHT)
-        names = pane("names", 0, top, left, height)
-        area = pane("area", left, top, width, height)
-        area.append(ElementTree.fromstring(DEFINITIONS.substitute(variables())))
+        names, area = pane("names", 0, top, left, height), pane("area", left, top, width, height)
+        area.append(ElementTree.fromstring(svg.DEFINITIONS.substitute(VARIABLES)))
         self.picture.draw_onto(area, times, names)
         add(area, "rect", class_="later", x=left, y=top, width=0, height=height)
         add(area, "line", class_="cursor", x1=left, y1=top, x2=left, y2=lanes.bottom)
@@ -195,6 +262,8 @@ POLICY_MARKS = [
     ("rim of the dispute wheel", sample_line(class_="rim")),
     ("spoke of the dispute wheel", sample_line(class_="spoke")),
 ]
+# The colours as variables of the page, which stand for those on light or on dark ground.
+VARIABLES = {name: f"var(--{name})" for name in svg.LIGHT}
 
 
 def pane(look: str, x: float, y: float, width: float, height: float) -> Element:
@@ -203,28 +272,18 @@ def pane(look: str, x: float, y: float, width: float, height: float) -> Element:
     return Element("svg", {"class": look, "viewBox": box, "width": f"{width:.1f}", "height": f"{height:.1f}"})
 
 
-def written(picture: Element) -> str:
-    ElementTree.indent(picture, "")
-    return ElementTree.tostring(picture, "unicode")
-
-
-def variables() -> dict[str, str]:
-    """The colours as variables of the page, which stand for those on light or on dark ground."""
-    return {name: f"var(--{name})" for name in LIGHT}
-
-
 def style() -> str:
-    light, dark = ("".join(f"--{name}: {colour}; " for name, colour in table.items()) for table in (LIGHT, DARK))
+    light, dark = ("".join(f"--{name}: {hue}; " for name, hue in table.items()) for table in (svg.LIGHT, svg.DARK))
     root = f":root {{ color-scheme: light dark; {light}}}\n"
     root += f"@media (prefers-color-scheme: dark) {{ :root {{ {dark}}} }}\n"
-    return root + STYLE.substitute(variables()) + (PARTS / "page.css").read_text()
+    return root + svg.STYLE.substitute(VARIABLES) + (PARTS / "page.css").read_text()
 
 
+@tool
 def main() -> None:
     parser = parser_of(DESCRIPTION, EXAMPLE)
     add_policy(parser, "the wheel in the network, and which paths each router may still use whatever the delays")
     line = parser.parse_pair()
-    has_policy = check_policy(parser, line)
     case_text, report_text = Input.of(line.case), Input.of(line.report, MOST_OF_REPORT)
     case, report = read_run(case_text, report_text)
     view = view_of_run(case, report, **part_of(line))
@@ -234,7 +293,7 @@ def main() -> None:
     recording = Recording(case, view)
     run = report_text.read(lambda _: follow(case, report, recording))
     recording.begin(run.routers)
-    safety = safety_of(line, case) if has_policy else None
-    page = Page(case, report, run, view, recording, safety)
+    safety = safety_of(line, case)
     subtitle = subtitle_of(report) + (f"; for all timings: {safety}" if safety else "")
-    write_output(page.html(f"{title_of(line.title, line.case, 'run')}: verdict {report.verdict}", subtitle))
+    title = f"{title_of(line.title, line.case, 'run')}: verdict {report.verdict}"
+    write_output(Page(case, report, run, recording, safety).html(title, subtitle))

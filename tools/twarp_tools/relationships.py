@@ -6,15 +6,14 @@ from functools import partial
 from graphlib import CycleError, TopologicalSorter
 from pathlib import Path
 
-from twarp.case import GREATEST_DELAY, GREATEST_TIME, MOST_LINKS, MOST_NODES, MOST_PATHS, MOST_ROUTERS, MOST_SCENES
-from twarp.case import Case, Link, LinkScene
+from twarp import case
+from twarp.case import GREATEST_DELAY, GREATEST_TIME, MOST_LINKS, MOST_NODES, Case, Link, LinkScene
 from twarp.draws import Uniform, read_range, share
-from twarp.errors import Refused
-from twarp_tools.command import Parser, number_between, refuse_own_input, tell, tell_counts, write_output
-from twarp_tools.packed import add_size_limit, lines_within, read_stream
-from twarp_tools.permitted_paths import Permitted
-from twarp_tools.topology import GREATEST_AS, Growth, Neighbours, Role, Topology, cone_of, core_around, near_order
-from twarp_tools.topology import read_relationships, within
+from twarp.program import Refused
+from twarp_tools import topology
+from twarp_tools.command import Parser, lines_within, number_between, read_stream, refuse_own_input, tell, tell_counts
+from twarp_tools.command import tool, write_output
+from twarp_tools.topology import GREATEST_AS, Neighbours, Permitted, Role, Topology
 
 # MiB of an input, unpacked: the relationships of the whole Internet are some 15.
 MOST_UNPACKED = 32
@@ -38,39 +37,33 @@ def command_line(words: Sequence[str] | None = None) -> argparse.Namespace:
     parser = Parser(DESCRIPTION, EXAMPLE)
     if words is not None:
         parser.prog = "relationships"
-    number, most = number_between(1, GREATEST_AS), number_between(1, MOST_ROUTERS)
+    number, most = number_between(1, GREATEST_AS), number_between(1, case.MOST_ROUTERS)
     parser.add_argument("input", metavar="FILE", nargs="?", default="-", help="the relationships; - is standard input")
     parser.option("--destination", "AS", "where all paths lead to", number, required=True)
     part = parser.add_mutually_exclusive_group()
-    parser.option("--routers", "N", "take at most N ASes, the nearest", most, MOST_ROUTERS, part)
+    parser.option("--routers", "N", "take at most N ASes, the nearest", most, case.MOST_ROUTERS, group=part)
     parser.option("--keep-connected", "N", "take at most N ASes by lot, with paths among these", most, group=part)
     parser.option("--core", "N", "take the k-core with the least k that has at most N ASes", most, group=part)
     parser.option("--cone", "AS", "take only ASes of the customer cone of this one", number)
     near = "number routers as they are taken, or such that neighbours are near in number"
     parser.option("--order", "taken|near", near, default="taken", choices=["taken", "near"])
-    parser.option("--paths", "N", "permit at most N paths at a router", number_between(1, MOST_PATHS), 20)
+    parser.option("--paths", "N", "permit at most N paths at a router", number_between(1, case.MOST_PATHS), 20)
     delays = partial(read_range, least=1, greatest=GREATEST_DELAY)
     parser.option("--delays", "LOW-HIGH", "draw the delays of links from this range", delays, "1-10")
     parser.option("--seed", "N", "draw ASes, delays and failures by this number", number_between(0, GREATEST_TIME), 1)
-    parser.option("--failures", "N", "let N links fail and be repaired", number_between(0, MOST_SCENES // 2), 0)
+    parser.option("--failures", "N", "let N links fail and be repaired", number_between(0, case.MOST_SCENES // 2), 0)
     parser.option("--until", "TIME", "repair no link later than this", number_between(2, GREATEST_TIME), 1000)
-    add_size_limit(parser, MOST_UNPACKED)
+    parser.size_limit(MOST_UNPACKED)
     parser.option("--map", "FILE", "write the number and the AS number of each router into this file")
     return parser.parse_args(words)
-
-
-def delay_of(link: tuple[int, int], numbers: list[int], line: argparse.Namespace) -> int:
-    delays: Uniform = line.delays
-    return delays.ticks(share(line.seed, "delay", *sorted(numbers[end] for end in link)))
 
 
 def failures(used: Iterable[tuple[int, int]], numbers: list[int], line: argparse.Namespace) -> Iterator[LinkScene]:
     """Failures of some of the links used, each with its repair."""
     ends = {link: sorted(numbers[end] for end in link) for link in used}
     if line.failures > len(ends):
-        raise Refused(
-            f"refused option --failures: the permitted paths use {len(ends)} links, and each fails at most once"
-        )
+        why = f"the permitted paths use {len(ends)} links, and each fails at most once"
+        raise Refused(f"refused option --failures: {why}")
     for link in sorted(ends, key=lambda link: share(line.seed, "order", *ends[link]))[: line.failures]:
         failed = 1 + int(share(line.seed, "failure", *ends[link]) * (line.until - 1))
         repaired = failed + 1 + int(share(line.seed, "repair", *ends[link]) * (line.until - failed))
@@ -78,95 +71,78 @@ def failures(used: Iterable[tuple[int, int]], numbers: list[int], line: argparse
         yield LinkScene("restore", repaired, *link)
 
 
-def case_of(topology: Topology, permitted: Permitted, line: argparse.Namespace) -> Case:
-    numbers = topology.numbers
-    links = [Link(*link, delay_of(link, numbers, line)) for link in topology.links()]
+def read(line: argparse.Namespace) -> Neighbours:
+    """The relationships of the input: those in the customer cone, and of these in the core, where the line asks for it."""
+    reader = topology.read_relationships
+    neighbours = read_stream(line.input, lambda source: reader(lines_within(source, line.size_limit)))
+    for option, number in ("--destination", line.destination), ("--cone", line.cone):
+        if number and number not in neighbours:
+            raise Refused(f"refused option {option}: the input has no AS {number}")
+    if line.cone:
+        cone = topology.reached_by(neighbours, line.cone, Role.CUSTOMER)
+        if line.destination not in cone:
+            raise Refused(f"refused option --cone: AS {line.destination} is not in the customer cone of AS {line.cone}")
+        tell(f"the customer cone of AS {line.cone}: {len(cone):,} of {len(neighbours):,} ASes")
+        neighbours = topology.within(neighbours, cone)
+    if line.core:
+        k, core = topology.core_around(neighbours, line.destination, line.core)
+        kept = f"the {k}-core, AS {line.destination} and the providers above it"
+        tell(f"{kept}: {len(core):,} of {len(neighbours):,} ASes")
+        neighbours = topology.within(neighbours, core)
+    return neighbours
+
+
+def make(neighbours: Neighbours, line: argparse.Namespace) -> tuple[Topology, Permitted, Case]:
+    """What the line takes of the relationships, the nearest ASes or some drawn by lot, and the case of it."""
+
+    def drawn(purpose: str, *ases: int) -> float:
+        return share(line.seed, purpose, *sorted(ases))
+
+    if line.keep_connected is None:
+        taken = Topology(neighbours, line.destination, line.core or line.routers)
+    else:
+        taken = Topology(neighbours, line.destination, line.keep_connected, lambda _, *ends: drawn("part", *ends))
+    if line.order == "near":
+        taken.renumber(topology.near_order(taken.roles))
+    permitted = Permitted(taken, line.paths)
+    delays: Uniform = line.delays
+    numbers = taken.numbers
+    links = [Link(a, b, delays.ticks(drawn("delay", numbers[a], numbers[b]))) for a, b in taken.links()]
     paths = [path for router in range(1, len(numbers)) for path in permitted.paths(router)]
     used = {(min(hop), max(hop)) for path in paths for hop in zip(path, path[1:])}
     scenes = sorted(failures(used, numbers, line), key=lambda scene: (scene.time, scene.a, scene.b))
-    return Case(len(numbers), links, paths, [*scenes])
+    return taken, permitted, Case(len(numbers), links, paths, [*scenes])
 
 
-def growth_of(neighbours: Neighbours, line: argparse.Namespace) -> Growth:
-    """What the line takes of its part: the nearest ASes, or some drawn by lot."""
-    if line.keep_connected is None:
-        return Growth(neighbours, line.destination, line.core or line.routers)
-
-    def drawn(_hops: int, *ends: int) -> float:
-        return share(line.seed, "part", *sorted(ends))
-
-    return Growth(neighbours, line.destination, line.keep_connected, drawn)
+def tell_circle(made: Topology) -> None:
+    """Says where ASes are providers of one another in a circle, which Gao and Rexford's conditions exclude."""
+    try:
+        TopologicalSorter(dict(enumerate(made.in_role(Role.PROVIDER)))).prepare()
+    except CycleError as error:
+        circle = ", ".join(f"AS {made.numbers[router]}" for router in error.args[1])
+        tell(f"each of these is a provider of the next, so it is not sure that the case comes to rest: {circle}")
 
 
-def tell_cuts(growth: Growth, permitted: Permitted, line: argparse.Namespace) -> None:
-    """Says on standard error what of the input is not in the case."""
-    ases, taken = len(growth.neighbours), len(growth.routers)
-    crowded = len(growth.crowded - growth.routers.keys())
-    most = line.keep_connected or line.core or line.routers
-    unreached = ases - taken - crowded if taken < most else 0
+@tool
+def main() -> None:
+    line = command_line()
+    refuse_own_input("--map", line.map, line.input)
+    made, permitted, result = make(read(line), line)
+    ases, taken = len(made.neighbours), len(made.routers)
+    crowded = len(made.crowded - made.routers.keys())
+    unreached = ases - taken - crowded if taken < (line.keep_connected or line.core or line.routers) else 0
     why = "being drawn" if line.keep_connected else f"nearer to AS {line.destination} being taken"
+    # What of the input is not in the case.
     counts = {
         f"ASes left out, {taken:,} {why}": ases - taken,
         f"of these, ASes that no router with less than {MOST_LINKS} links could be linked to": crowded,
         f"of these, ASes without a path that has no valley and at most {MOST_NODES} nodes": unreached,
-        f"links left out because a router has at most {MOST_LINKS}": growth.left_out_links(),
+        f"links left out because a router has at most {MOST_LINKS}": made.left_out_links(),
         f"routers with paths left out because each has at most {line.paths}": len(permitted.crowded),
         f"routers with paths left out because these have more than {MOST_NODES} nodes": len(permitted.too_long),
     }
     tell_counts(counts)
-
-
-def tell_circle(topology: Topology) -> None:
-    """Says where ASes are providers of one another in a circle, which Gao and Rexford's conditions exclude."""
-    try:
-        TopologicalSorter(dict(enumerate(topology.neighbours(Role.PROVIDER)))).prepare()
-    except CycleError as error:
-        circle = ", ".join(f"AS {topology.numbers[router]}" for router in error.args[1])
-        tell(f"each of these is a provider of the next, so it is not sure that the case comes to rest: {circle}")
-
-
-def read(line: argparse.Namespace) -> Neighbours:
-    """The relationships of the line's input, of the part that it names."""
-    neighbours = read_stream(line.input, lambda source: read_relationships(lines_within(source, line.size_limit)))
-    for option, number in ("--destination", line.destination), ("--cone", line.cone):
-        if number and number not in neighbours:
-            raise Refused(f"refused option {option}: the input has no AS {number}")
-    return part_of(neighbours, line)
-
-
-def part_of(neighbours: Neighbours, line: argparse.Namespace) -> Neighbours:
-    """The relationships in the customer cone, and of these in the core, where the line asks for them."""
-    if line.cone:
-        cone = cone_of(neighbours, line.cone)
-        if line.destination not in cone:
-            raise Refused(f"refused option --cone: AS {line.destination} is not in the customer cone of AS {line.cone}")
-        tell(f"the customer cone of AS {line.cone}: {len(cone):,} of {len(neighbours):,} ASes")
-        neighbours = within(neighbours, cone)
-    if line.core:
-        k, core = core_around(neighbours, line.destination, line.core)
-        tell(
-            f"the {k}-core, AS {line.destination} and the providers above it: {len(core):,} of {len(neighbours):,} ASes"
-        )
-        neighbours = within(neighbours, core)
-    return neighbours
-
-
-def make(neighbours: Neighbours, line: argparse.Namespace) -> tuple[Growth, Permitted, Case]:
-    """What the line takes of the relationships, and the case of it."""
-    growth = growth_of(neighbours, line)
-    if line.order == "near":
-        growth.renumber(near_order(growth.topology.roles))
-    permitted = Permitted(growth.topology, line.paths)
-    return growth, permitted, case_of(growth.topology, permitted, line)
-
-
-def main() -> None:
-    line = command_line()
-    refuse_own_input("--map", line.map, line.input)
-    growth, permitted, case = make(read(line), line)
-    tell_cuts(growth, permitted, line)
-    tell_circle(growth.topology)
+    tell_circle(made)
     if line.map:
-        lines = (f"{router} {number}\n" for router, number in enumerate(growth.topology.numbers))
-        Path(line.map).write_text("".join(lines))
-    write_output(str(case))
+        Path(line.map).write_text("".join(f"{router} {number}\n" for router, number in enumerate(made.numbers)))
+    write_output(str(result))

@@ -12,17 +12,16 @@ import threading
 from collections.abc import Callable, Iterator, Sequence
 
 from twarp import program
-from twarp.calls import version
-from twarp.case import GREATEST_TIME, MOST_ROUTERS, read_case
-from twarp.draws import CaseSource, Draw, Ends, Source, case_source, read_law, read_times
-from twarp.errors import Refused, Stopped
+from twarp.calls import Ribs, version
+from twarp.case import GREATEST_TIME, MOST_ROUTERS, Case, read_case
+from twarp.draws import CaseSource, Ends, Source, read_law, read_range
 from twarp.outcomes import Outcomes, Table
-from twarp.policy import Ribs
+from twarp.program import Refused, Stopped
 from twarp.sweeps import AtRest, Policy, cluster
-from twarp.trials import Batches, Failed, Given, Local, Plan, Trial, processors
-from twarp_tools.command import Input, Parser, number_between, tell, title_of, write_output
-from twarp_tools.sweep_outputs import Outputs, Progress, read_csv
+from twarp.trials import Batches, Failed, Plan, Trial, workers_of
 from twarp_tools import relationships
+from twarp_tools.command import Input, Parser, number_between, tell, title_of, tool, write_output
+from twarp_tools.sweep_outputs import Outputs, Progress, read_csv
 
 MOST_RUNS = 1_000_000
 MOST_JOBS = 1_024
@@ -75,15 +74,17 @@ def command_line() -> argparse.Namespace:
     option("--delays", "LAW", law, as_written(read_law))
     option("--links", "LIST", "draw the delays of these links alone, as 0-1,0-2", as_written(read_links))
     flag("--apart", action="store_true", help="draw a delay for each direction of a link")
-    option("--failure-times", "LOW-HIGH", "draw each failure's time; its repair moves with it", as_written(read_times))
+    times = as_written(lambda words: read_range(words, 0, GREATEST_TIME))
+    option("--failure-times", "LOW-HIGH", "draw each failure's time; its repair moves with it", times)
     made = "CASE has AS relationships: make a case for each run, by tools/relationships with these options and the seed"
     option("--relationships", "OPTIONS", made, as_written(shlex.split))
     option("--runs", "N", "how many runs", count, 1_000)
     option("--seed", "N", "the first run's seed", seed, 1)
-    stop = "run each case to this time (default: where it is at rest whatever its delays, of a case that twarp-policy calls safe)"
-    option("--stop", "TIME", stop, time)
+    rest = "where it is at rest whatever its delays, of a case that twarp-policy calls safe"
+    option("--stop", "TIME", f"run each case to this time (default: {rest})", time)
     option("--every", "N", "look for oscillation each N ticks, as twarp does", time)
-    numbers = "number outcomes at rest by first seeds, or as twarp-policy stable does (default: stable, where it lists several)"
+    numbers = "number outcomes at rest by first seeds, or as twarp-policy stable does"
+    numbers += " (default: stable, where it lists several)"
     flag("--outcomes", choices=["seen", "stable"], help=numbers)
     add_outputs(parser)
     option("--resume", "FILE", "run what is missing in this CSV of the same case, options and seed, and write into it")
@@ -95,20 +96,21 @@ def command_line() -> argparse.Namespace:
     option("--scheduler", "ADDRESS", "run on the Dask cluster with this scheduler, as tcp://HOST:8786")
     flag("--quiet", action="store_true", help="do not tell how far it is")
     option("--program", "FILE", "the built program (default: $TWARP, the clone's, the installed one, or on the PATH)")
-    option("--policy-program", "FILE", "the built program twarp-policy (default: $TWARP_POLICY, beside twarp, or on the PATH)")
+    where = "the built program twarp-policy (default: $TWARP_POLICY, beside twarp, or on the PATH)"
+    option("--policy-program", "FILE", where)
     line = parser.parse_args()
-    if not (line.delays or line.failure_times or line.relationships is not None):
-        parser.error("one of --delays, --failure-times and --relationships has to say what is drawn")
-    if line.relationships is not None and (line.delays or line.failure_times):
-        parser.error("--relationships draws delays and failures itself")
-    if line.relationships is not None and line.outcomes:
-        parser.error("--outcomes goes with one case, and --relationships makes one for each run")
-    if (line.links or line.apart) and not line.delays:
-        parser.error("--links and --apart go with --delays")
-    if line.csv and line.resume:
-        parser.error("--resume names the CSV itself")
-    if not (line.stop or line.show or program.find_policy(line.policy_program, line.program)):
-        parser.error("--stop is missing, and no twarp-policy is here that would tell when the runs are at rest")
+    is_drawn, is_made = line.delays or line.failure_times, line.relationships is not None
+    is_known = line.stop or line.show or program.find_policy(line.policy_program, line.program)
+    faults = {
+        "one of --delays, --failure-times and --relationships has to say what is drawn": not (is_drawn or is_made),
+        "--relationships draws delays and failures itself": is_drawn and is_made,
+        "--outcomes goes with one case, and --relationships makes one for each run": line.outcomes and is_made,
+        "--links and --apart go with --delays": (line.links or line.apart) and not line.delays,
+        "--resume names the CSV itself": line.csv and line.resume,
+        "--stop is missing, and no twarp-policy is here that would tell when the runs are at rest": not is_known,
+    }
+    for fault in (words for words, is_met in faults.items() if is_met):
+        parser.error(fault)
     return line
 
 
@@ -133,21 +135,23 @@ class RelationshipsSource:
         self.neighbours = relationships.read(self.line)
         self.words = f"seeds of relationships {shlex.join(options)}"
 
-    def draw(self, seed: int) -> Draw:
-        line = argparse.Namespace(**{**vars(self.line), "seed": seed})
-        _, _, case = relationships.make(self.neighbours, line)
-        return Draw(case, ())
+    def draw(self, seed: int) -> tuple[Case, tuple[int, ...]]:
+        _, _, case = relationships.make(self.neighbours, argparse.Namespace(**{**vars(self.line), "seed": seed}))
+        return case, ()
 
 
 def source_of(line: argparse.Namespace) -> tuple[Source, str]:
     """Where the cases come from, and a checksum: of the case's text, or of that of seed 0."""
+    source: Source
     if line.relationships is not None:
-        made = RelationshipsSource(shlex.split(line.relationships), line.case)
-        return made, checksum_of(str(made.draw(0).case))
-    named = None if line.scheduler else line.program
-    case = Input.of(line.case).read(lambda text: read_case(text, named))
-    links = read_links(line.links) if line.links else None
-    return case_source(case, line.delays, links, line.apart, line.failure_times), checksum_of(str(case))
+        source = RelationshipsSource(shlex.split(line.relationships), line.case)
+        case, _ = source.draw(0)
+    else:
+        named = None if line.scheduler else line.program
+        case = Input.of(line.case).read(lambda text: read_case(text, named))
+        links = read_links(line.links) if line.links else None
+        source = CaseSource(case, line.delays, links, line.apart, line.failure_times)
+    return source, hashlib.sha256(str(case).encode()).hexdigest()
 
 
 def policy_program(line: argparse.Namespace) -> str | None:
@@ -182,43 +186,21 @@ def policy_of(line: argparse.Namespace, source: Source, file: str | None) -> Pol
     return policy
 
 
-def outcomes_of(line: argparse.Namespace, policy: Policy | None) -> Outcomes:
-    """Outcomes with the numbers of stable assignments, and what is known of runs that are open."""
-    if policy is None:
-        return Outcomes()
-    # With other times of failures a run may stand elsewhere once its script is over.
-    notes = {} if line.failure_times else policy.notes
-    return Outcomes(numbers=policy.numbers if line.outcomes else {}, notes=notes)
-
-
-def checksum_of(text: str) -> str:
-    return hashlib.sha256(text.encode()).hexdigest()
-
-
-def made_by(line: argparse.Namespace, checksum: str) -> str:
-    """The name of the CSV's last column: part of the case's checksum, and the options that say what the runs are."""
-    given = {name.replace("_", "-"): getattr(line, name) for name in NAMED}
-    return f"sweep {checksum[:16]} {shlex.join(program.words_of(given))}"
-
-
 @contextlib.contextmanager
 def interruption() -> Iterator[threading.Event]:
     """Within it INT and TERM are noted. A second one ends the tool at once."""
     has_come = threading.Event()
-    before = {number: signal.getsignal(number) for number in (signal.SIGINT, signal.SIGTERM)}
 
     def note(number: int, _: object) -> None:
         has_come.set()
         signal.signal(number, signal.SIG_DFL)
 
-    for number, handler in before.items():
-        if handler is not signal.SIG_IGN:
-            signal.signal(number, note)
-    try:
+    with contextlib.ExitStack() as ends:
+        for number in signal.SIGINT, signal.SIGTERM:
+            if (handler := signal.getsignal(number)) is not signal.SIG_IGN:
+                ends.callback(signal.signal, number, handler)
+                signal.signal(number, note)
         yield has_come
-    finally:
-        for number, handler in before.items():
-            signal.signal(number, handler)
 
 
 def run_all(line: argparse.Namespace, plan: Plan, batches: Batches, outputs: Outputs, done: int) -> int:
@@ -235,7 +217,8 @@ def run_all(line: argparse.Namespace, plan: Plan, batches: Batches, outputs: Out
             if isinstance(trial.end, Failed):
                 progress.tell(f"the run with seed {trial.seed} failed: {trial.end.why}")
             elif trial.end.fault:
-                write_output(str(plan.source.draw(trial.seed).case))
+                case, _ = plan.source.draw(trial.seed)
+                write_output(str(case))
                 raise Refused(f"the run with seed {trial.seed} does not end with stable paths: {trial.end.fault}")
             outputs.take(trial)
             done += 1
@@ -244,26 +227,29 @@ def run_all(line: argparse.Namespace, plan: Plan, batches: Batches, outputs: Out
     return done
 
 
+@tool
 def main() -> None:
     if sys.argv[1:2] == ["merge"]:
         return merge()
     line = command_line()
     source, checksum = source_of(line)
     if line.show:
-        write_output(str(source.draw(line.seed).case))
-        return
+        case, _ = source.draw(line.seed)
+        return write_output(str(case))
     with contextlib.ExitStack() as stack:
         where = str((program.find(line.program) or "twarp") if line.scheduler else program.need(line.program))
         judge = policy_program(line)
         policy = policy_of(line, source, judge)
         line.outcomes = "stable" if policy and policy.numbers and line.outcomes != "seen" else None
         plan = Plan(source, where, line.stop or AtRest(judge or "twarp-policy"), line.every, line.check == "stable")
-        if line.scheduler:
-            executor, threads = stack.enter_context(cluster(line.scheduler))
-            workers: Given | Local = Given(plan, executor, line.jobs or threads)
-        else:
-            workers = Local(plan, line.jobs or processors())
-        table = Table(source.columns, made_by(line, checksum), outcomes_of(line, policy))
+        executor, threads = stack.enter_context(cluster(line.scheduler)) if line.scheduler else (None, None)
+        workers = workers_of(plan, executor, line.jobs or threads)
+        numbers = policy.numbers if policy and line.outcomes else {}
+        # With other times of failures a run may stand elsewhere once its script is over.
+        notes = policy.notes if policy and not line.failure_times else {}
+        given = program.words_of({name.replace("_", "-"): getattr(line, name) for name in NAMED})
+        made_by = f"sweep {checksum[:16]} {shlex.join(given)}"
+        table = Table(source.columns, made_by, Outcomes((), numbers, notes))
         outputs = Outputs(line, table, [line.case])
         known = {trial.seed for trial in outputs.known}
         seeds = [seed for seed in range(line.seed, line.seed + line.runs) if seed not in known]
@@ -273,11 +259,11 @@ def main() -> None:
             outputs.flush()
         if seeds and known and min(seeds) < max(known):
             outputs.put_in_order()
-        record: dict[str, object] = {"sweep": outputs.table.head[-1], "case": checksum, "first_seed": line.seed}
+        record: dict[str, object] = {"sweep": made_by, "case": checksum, "first_seed": line.seed}
         if policy:
             record["policy"] = policy.record()
         if line.json:
-            told = executor.submit(version_of, where).result() if line.scheduler else version_of(where)
+            told = executor.submit(version_of, where).result() if executor else version_of(where)
             record["versions"] = {"program": told, "python": platform.python_version()}
         outputs.end(title_of(line.title, line.case), source.words, record)
     if done < line.runs:
@@ -298,14 +284,6 @@ def without_seed(made_by: str) -> str:
     return re.sub(r" --seed \d+$", "", made_by)
 
 
-def add_numbers(numbers: dict[Ribs, int], table: Table) -> None:
-    """Adds the numbers that a CSV has of stable assignments; others that it has are its own, and are given anew."""
-    if " --outcomes stable" in table.head[-1]:
-        taken = {*numbers.values()}
-        new = {ribs: number for ribs, number in table.outcomes.numbers.items() if number not in taken}
-        numbers |= {ribs: number for ribs, number in new.items() if ribs not in numbers}
-
-
 def merge() -> None:
     example = "example:\n  tools/sweep merge first.csv second.csv > both.csv"
     parser = Parser("Puts CSVs of sweep with one case and the same options together, by rising seeds.", example)
@@ -315,25 +293,27 @@ def merge() -> None:
     parser.set_defaults(resume=None, check=None)
     line = parser.parse_args(sys.argv[2:])
     runs: dict[int, Trial] = {}
+    # Those of stable assignments; other numbers that a CSV has are its own, and are given anew.
     numbers: dict[Ribs, int] = {}
-    table: Table | None = None
+    tables: list[Table] = []
     for name in line.files:
         with open(name, newline="", errors="replace") as source:
-            other, trials = read_csv(name, source)
-        table = table or other
-        if [*map(without_seed, other.head)] != [*map(without_seed, table.head)]:
-            raise Refused(f"{name}: it is of `{other.head[-1][:200]}`, and {line.files[0]} of `{table.head[-1][:200]}`")
+            table, trials = read_csv(name, source)
+        tables.append(table)
+        if [*map(without_seed, table.head)] != [*map(without_seed, tables[0].head)]:
+            first, other = tables[0].head[-1][:200], table.head[-1][:200]
+            raise Refused(f"{name}: it is of `{other}`, and {line.files[0]} of `{first}`")
         for trial in trials:
-            if trial.seed in runs:
+            if runs.setdefault(trial.seed, trial) is not trial:
                 raise Refused(f"{name}: a file before has the run with seed {trial.seed} too")
-            runs[trial.seed] = trial
-        add_numbers(numbers, other)
-    assert table, "one file at least is named"
-    first = min(runs, default=0)
-    made = f"{without_seed(table.head[-1])} --seed {first}"
-    merged = Table(table.columns, made, Outcomes(numbers=numbers))
-    outputs = Outputs(line, merged, line.files)
+        if " --outcomes stable" in table.head[-1]:
+            taken = {*numbers.values()}
+            new = {ribs: number for ribs, number in table.outcomes.numbers.items() if number not in taken}
+            numbers = new | numbers
+    least = min(runs, default=0)
+    made = f"{without_seed(tables[0].head[-1])} --seed {least}"
+    outputs = Outputs(line, Table(tables[0].columns, made, Outcomes(numbers=numbers)), line.files)
     for _, trial in sorted(runs.items()):
         outputs.take(trial)
     outputs.flush()
-    outputs.end(title_of(line.title, line.files[0]), made, {"sweep": made, "first_seed": first})
+    outputs.end(title_of(line.title, line.files[0]), made, {"sweep": made, "first_seed": least})

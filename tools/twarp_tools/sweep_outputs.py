@@ -9,11 +9,11 @@ import time
 from collections.abc import Iterable, Mapping
 from datetime import timedelta
 from pathlib import Path
-from typing import Literal, TextIO
+from typing import TextIO
 
-from twarp.errors import Refused
 from twarp.outcome_picture import OutcomePicture
-from twarp.outcomes import Table, read_table
+from twarp.outcomes import Outcomes, Table, read_table
+from twarp.program import Refused
 from twarp.trials import Trial
 from twarp_tools.command import is_same_file, refuse_own_input, tell, write_output
 
@@ -35,24 +35,19 @@ def refuse_clashes(names: Mapping[str, str], inputs: Iterable[str]) -> None:
         seen.append(name)
 
 
-def open_alone(name: str, mode: Literal["a", "a+"]) -> TextIO:
-    """Opens a file to be written; refused where another sweep writes into it."""
-    file = open(name, mode, newline="", errors="replace")
+def open_alone(name: str, is_new: bool) -> TextIO:
+    """Opens a file to be written, from its beginning where it is new; refused where another sweep writes into it."""
+    file = open(name, "a" if is_new else "a+", newline="", errors="replace")
+    is_file = os.path.isfile(name)
     try:
-        if os.path.isfile(name):
+        if is_file:
             fcntl.flock(file, fcntl.LOCK_EX | fcntl.LOCK_NB)
     except BlockingIOError:
         raise Refused(f"{name}: refused: another sweep writes into it") from None
     except OSError:
         # Not every file system has locks.
         pass
-    return file
-
-
-def open_new(name: str) -> TextIO:
-    """Opens a file to be written from its beginning on."""
-    file = open_alone(name, "a")
-    if os.path.isfile(name):
+    if is_new and is_file:
         file.truncate(0)
     return file
 
@@ -72,7 +67,7 @@ class Outputs:
         self.lines = [] if line.summary else [table.head_line]
         self.known: list[Trial] = []
         resumed = self.resume(names.pop("--resume")) if line.resume else None
-        self.files = {option: open_new(name) for option, name in names.items()}
+        self.files = {option: open_alone(name, is_new=True) for option, name in names.items()}
         self.csv = resumed or self.files.get("--csv")
         if "--csv" in self.files:
             self.files["--csv"].write(table.head_line)
@@ -81,7 +76,7 @@ class Outputs:
 
     def resume(self, name: str) -> TextIO:
         """The CSV to go on with, behind its last whole line; refused where it is not of the same case and options."""
-        file = open_alone(name, "a+")
+        file = open_alone(name, is_new=False)
         if not file.tell():
             file.write(self.table.head_line)
             return file
@@ -114,7 +109,8 @@ class Outputs:
         """Writes the resumed CSV, whose lines stand out of turn, anew in the order of their seeds."""
         with open(self.line.resume, newline="") as source:
             _, trials = read_table(source)
-        self.table = Table(self.table.columns, self.table.head[-1], self.table.outcomes.anew())
+        before = Outcomes((), self.table.outcomes.given, self.table.outcomes.notes)
+        self.table = Table(self.table.columns, self.table.head[-1], before)
         lines = [self.table.head_line, *map(self.table.line, sorted(trials, key=lambda trial: trial.seed))]
         Path(f"{self.line.resume}.new").write_text("".join(lines))
         os.replace(f"{self.line.resume}.new", self.line.resume)
@@ -143,8 +139,7 @@ class Progress:
     """Tells how many runs of all are done, the rate without those `before`, and how long the others will take."""
 
     def __init__(self, total: int, is_quiet: bool, before: int = 0):
-        self.total = total
-        self.before = before
+        self.total, self.before = total, before
         self.is_quiet = is_quiet or sys.stderr is None
         self.is_terminal = not self.is_quiet and sys.stderr.isatty()
         self.begun = self.told = time.monotonic()
@@ -162,15 +157,14 @@ class Progress:
             left = f", {written_time(seconds)} in all"
         words = f"{done:,} of {self.total:,} runs, {rate:,.0f} a second{left}"
         if self.is_terminal:
-            sys.stderr.write(f"{BEGIN}{Path(sys.argv[0]).name}: {words}{CLEAR}" + "\n" * is_end)
-            sys.stderr.flush()
+            print(f"{BEGIN}{Path(sys.argv[0]).name}: {words}{CLEAR}", end="\n" * is_end, file=sys.stderr, flush=True)
         else:
             tell(words)
 
     def tell(self, message: str) -> None:
         """Says something on a line of its own."""
         if self.is_terminal:
-            sys.stderr.write(f"{BEGIN}{CLEAR}")
+            print(BEGIN, end=CLEAR, file=sys.stderr)
         tell(message)
 
 

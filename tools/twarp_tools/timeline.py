@@ -1,11 +1,8 @@
 """The tool timeline: the run or the replay of a case as a picture."""
-
-from typing import Any
-
 from twarp import pictures
-from twarp.report import is_replay, read_case_and_steps, read_replay
-from twarp_tools.command import MOST_OF_REPORT, Input, title_of, write_output
-from twarp_tools.part import parser_of, part_of, read_run
+from twarp.report import REPLAY_HEADER, read_case_and_steps, read_replay
+from twarp_tools.command import MOST_OF_REPORT, Input, title_of, tool, write_output
+from twarp_tools.draw import parser_of, part_of, read_run
 
 DESCRIPTION = """\
 Draws the run of a case as an SVG picture on standard output: a lane for each router, bars for the paths that it uses,
@@ -16,19 +13,16 @@ example:
   ./twarp seq --stop 20 --log < cases/disagree.spp | tools/timeline cases/disagree.spp > disagree.svg"""
 
 
-def draw_run(case_text: Input, report_text: Input, how: dict[str, Any]) -> str:
-    case, report = read_run(case_text, report_text)
-    return report_text.read(lambda _: pictures.timeline(case, report, **how))
-
-
-def draw_replay(case_text: Input, replay_text: Input, how: dict[str, Any]) -> str:
-    case, steps = case_text.read(read_case_and_steps)
-    replay = replay_text.read(lambda text: read_replay(text, case.nodes, len(steps)))
-    return replay_text.read(lambda _: pictures.replayed(case, steps, replay, **how))
-
-
+@tool
 def main() -> None:
     line = parser_of(DESCRIPTION, EXAMPLE, "the case, or what was replayed", " (of a replay: steps)").parse_pair()
     case_text, report_text = Input.of(line.case), Input.of(line.report, MOST_OF_REPORT)
-    draw = draw_replay if is_replay(report_text.text) else draw_run
-    write_output(draw(case_text, report_text, part_of(line) | {"title": title_of(line.title, line.case, "run")}))
+    how = part_of(line)
+    how["title"] = title_of(line.title, line.case, "run")
+    if report_text.text.startswith(REPLAY_HEADER.encode()):
+        case, steps = case_text.read(read_case_and_steps)
+        replay = report_text.read(lambda text: read_replay(text, case.nodes, len(steps)))
+        write_output(report_text.read(lambda _: pictures.replayed(case, steps, replay, **how)))
+    else:
+        case, report = read_run(case_text, report_text)
+        write_output(report_text.read(lambda _: pictures.timeline(case, report, **how)))

@@ -1,4 +1,7 @@
-"""AS relationships, the part of them that is taken for a case, and how its routers are numbered."""
+"""AS relationships, the part of them that is taken for a case, how its routers are numbered, and which paths they have.
+
+tools/README.md tells of paths without a valley, and how they are ranked.
+"""
 from __future__ import annotations
 
 import enum
@@ -6,12 +9,11 @@ import heapq
 import re
 from array import array
 from collections import defaultdict
-from collections.abc import Callable, Collection, Container, Iterable, Sequence
-from dataclasses import dataclass, field
+from collections.abc import Callable, Collection, Container, Iterable, Iterator, Sequence
+from itertools import islice
 
-from twarp.case import MOST_LINKS, MOST_NODES, ORIGIN
-from twarp.errors import Refused, quote
-from twarp.hops import hops_from
+from twarp.case import MOST_LINKS, MOST_NODES, ORIGIN, Nodes, hops_from
+from twarp.program import Refused, quote
 
 GREATEST_AS = 4_294_967_295
 AN_AS = re.compile("[0-9]{1,10}")
@@ -83,39 +85,36 @@ def within(neighbours: Neighbours, kept: Container[int]) -> Neighbours:
 def coreness(neighbours: Neighbours) -> dict[int, int]:
     """For each AS the greatest k of whose k-core it is: of the largest part in which each has at least k neighbours.
 
-    S. B. Seidman: Network structure and minimum degree, Social Networks 5, 1983. The AS with the fewest neighbours left
-    is taken away again and again (V. Batagelj, M. Zaveršnik: An O(m) algorithm for cores decomposition of networks,
-    2003).
+    S. B. Seidman: Network structure and minimum degree, Social Networks 5, 1983. The ASes with the fewest neighbours
+    left are taken away again and again.
     """
     left = {number: len(row) for number, row in neighbours.items()}
-    waiting: list[list[int]] = [[] for _ in range(max(left.values(), default=0) + 1)]
-    for number, count in left.items():
-        waiting[count].append(number)
     found: dict[int, int] = {}
-    least = 0
-    while least < len(waiting):
-        if not waiting[least]:
-            least += 1
-            continue
-        number = waiting[least].pop()
-        # One that lost neighbours stands with its earlier count too.
-        if number in found:
-            continue
-        found[number] = least
-        for peer in neighbours[number]:
-            if peer not in found and left[peer] > least:
-                left[peer] -= 1
-                waiting[left[peer]].append(peer)
+    k = 0
+    while left:
+        k = max(k, min(left.values()))
+        taken = [number for number, count in left.items() if count <= k]
+        for number in taken:
+            if left.pop(number, None) is not None:
+                found[number] = k
+                for peer in neighbours[number].keys() & left.keys():
+                    left[peer] -= 1
+                    if left[peer] == k:
+                        taken.append(peer)
     return found
 
 
-def in_role(row: dict[int, Role], wanted: Role) -> list[int]:
-    return [peer for peer, role in row.items() if role is wanted]
+def reached_by(neighbours: Neighbours, start: int, role: Role, kept: Container[int] = ()) -> set[int]:
+    """The AS, its neighbours in this role, theirs, and so on, up to those that are kept anyway.
 
+    By way of customers that is its cone (M. Luckie, B. Huffaker, A. Dhamdhere, V. Giotsas, kc claffy: AS relationships,
+    customer cones, and validation, Internet Measurement Conference, 2013).
+    """
 
-def above(neighbours: Neighbours, number: int, kept: Container[int]) -> set[int]:
-    """The AS, its providers, theirs, and so on, up to those that are kept anyway."""
-    return {*hops_from(number, lambda now: () if now in kept else in_role(neighbours[now], Role.PROVIDER))}
+    def nearest(number: int) -> list[int]:
+        return [] if number in kept else [peer for peer, found in neighbours[number].items() if found is role]
+
+    return {*hops_from(start, nearest)}
 
 
 def core_around(neighbours: Neighbours, destination: int, most: int) -> tuple[int, set[int]]:
@@ -128,7 +127,7 @@ def core_around(neighbours: Neighbours, destination: int, most: int) -> tuple[in
     k, part = greatest, set[int]()
     for least in range(greatest, -1, -1):
         core = {number for number, core in cores.items() if core >= least}
-        core |= above(neighbours, destination, core)
+        core |= reached_by(neighbours, destination, Role.PROVIDER, core)
         if part and len(core) > most:
             break
         if len(core) > len(part):
@@ -136,46 +135,22 @@ def core_around(neighbours: Neighbours, destination: int, most: int) -> tuple[in
     return k, part
 
 
-def cone_of(neighbours: Neighbours, top: int) -> set[int]:
-    """The AS, its customers, theirs, and so on.
-
-    M. Luckie, B. Huffaker, A. Dhamdhere, V. Giotsas, kc claffy: AS relationships, customer cones, and validation,
-    Internet Measurement Conference, 2013.
-    """
-    return {*hops_from(top, lambda now: in_role(neighbours[now], Role.CUSTOMER))}
-
-
-@dataclass
-class Topology:
-    """The ASes taken, by router, with the links between them and what the two ends of each are to each other."""
-
-    numbers: list[int] = field(default_factory=list)
-    roles: list[dict[int, Role]] = field(default_factory=list)
-
-    def neighbours(self, role: Role) -> list[list[int]]:
-        """For each router its neighbours in this role, by AS number."""
-        rows = ([peer for peer, found in row.items() if found is role] for row in self.roles)
-        return [sorted(row, key=self.numbers.__getitem__) for row in rows]
-
-    def links(self) -> list[tuple[int, int]]:
-        return [(a, b) for a, row in enumerate(self.roles) for b in sorted(row) if a < b]
-
-
 # At which place a path is looked at, by its hops and its last link's two ASes: the least comes first.
 Place = Callable[[int, int, int], float]
 
 
-class Growth:
-    """A topology that grows from the destination, the nearest ASes first where no other place is given.
+class Topology:
+    """The ASes taken, by router, with what the two ends of each link are to each other.
 
-    An AS is as far as its shortest path that goes up to providers, then by at most one link between peers, then down to
-    customers: that is, as its shortest path without a valley.
+    It grows from the destination, the ASes with the shortest paths without a valley first if no other place is given.
     """
 
     def __init__(self, neighbours: Neighbours, destination: int, most: int, place: Place = lambda hops, *_: hops):
         self.neighbours = neighbours
         self.place = place
-        self.topology = Topology()
+        # The AS of each router, what those are to each that it has links to, and the router of each AS.
+        self.numbers: list[int] = []
+        self.roles: list[dict[int, Role]] = []
         self.routers: dict[int, int] = {}
         # ASes that found no room at a neighbour.
         self.crowded: set[int] = set()
@@ -184,7 +159,7 @@ class Growth:
         settled: set[tuple[int, bool]] = set()
         while self.found and len(self.routers) < most:
             _, hops, number, is_restricted, by = heapq.heappop(self.found)
-            is_known = (number, False) in settled or (number, is_restricted) in settled
+            is_known = settled & {(number, False), (number, is_restricted)}
             if not is_known and self.is_linked(number, by):
                 settled.add((number, is_restricted))
                 self.offer(hops, number, is_restricted)
@@ -192,8 +167,8 @@ class Growth:
     def is_linked(self, number: int, by: int) -> bool:
         """Whether the two ASes are linked; one that isn't taken yet is taken now where there is room."""
         if number in self.routers:
-            return self.routers[by] in self.topology.roles[self.routers[number]]
-        if number != by and len(self.topology.roles[self.routers[by]]) == MOST_LINKS:
+            return self.routers[by] in self.roles[self.routers[number]]
+        if number != by and len(self.roles[self.routers[by]]) == MOST_LINKS:
             self.crowded.add(number)
             return False
         self.take(number, by)
@@ -201,17 +176,15 @@ class Growth:
 
     def take(self, number: int, by: int) -> None:
         """Makes the AS a router, with a link to `by` and then to all routers that have room for one."""
-        router = len(self.routers)
+        roles, router = self.roles, len(self.routers)
         self.routers[number] = router
-        self.topology.numbers.append(number)
-        self.topology.roles.append({})
-        roles = self.topology.roles
+        self.numbers.append(number)
+        roles.append({})
         others = {self.routers[peer]: peer for peer in self.neighbours[number] if peer in self.routers}
         for other in sorted(others, key=lambda other: (others[other] != by, other)):
-            peer = others[other]
             if max(len(roles[router]), len(roles[other])) < MOST_LINKS:
-                roles[router][other] = self.neighbours[number][peer]
-                roles[other][router] = self.neighbours[peer][number]
+                roles[router][other] = self.neighbours[number][others[other]]
+                roles[other][router] = self.neighbours[others[other]][number]
 
     def offer(self, hops: int, number: int, is_restricted: bool) -> None:
         """Tells the neighbours of a path: customers of any, peers and providers of one that goes by customers alone."""
@@ -225,20 +198,22 @@ class Growth:
     def renumber(self, order: Sequence[int]) -> None:
         """Numbers the routers as they stand in the order. Nothing is taken after that."""
         places = {router: place for place, router in enumerate(order)}
-        rows = [{places[peer]: role for peer, role in self.topology.roles[router].items()} for router in order]
-        self.topology = Topology([self.topology.numbers[router] for router in order], rows)
-        self.routers = {number: router for router, number in enumerate(self.topology.numbers)}
+        self.numbers = [self.numbers[router] for router in order]
+        self.roles = [{places[peer]: role for peer, role in self.roles[router].items()} for router in order]
+        self.routers = {number: router for router, number in enumerate(self.numbers)}
+
+    def in_role(self, role: Role) -> list[list[int]]:
+        """For each router its neighbours in this role, by AS number."""
+        rows = ([peer for peer, found in row.items() if found is role] for row in self.roles)
+        return [sorted(row, key=self.numbers.__getitem__) for row in rows]
+
+    def links(self) -> list[tuple[int, int]]:
+        return [(a, b) for a, row in enumerate(self.roles) for b in sorted(row) if a < b]
 
     def left_out_links(self) -> int:
         """How many links between the ASes taken found no room."""
         known = sum(peer in self.routers for number in self.routers for peer in self.neighbours[number])
-        return (known - sum(map(len, self.topology.roles))) // 2
-
-
-def total_distance(neighbours: Sequence[Collection[int]], order: Sequence[int]) -> int:
-    """How far apart the two ends of each link stand in the order, summed over all links."""
-    places = {router: place for place, router in enumerate(order)}
-    return sum(abs(places[a] - places[b]) for a, row in enumerate(neighbours) for b in row if a < b)
+        return (known - sum(map(len, self.roles))) // 2
 
 
 def near_order(neighbours: Sequence[Collection[int]]) -> list[int]:
@@ -260,4 +235,54 @@ def near_order(neighbours: Sequence[Collection[int]]) -> list[int]:
         for peer in sorted(neighbours[router]):
             if peer not in come:
                 front[peer] = front.get(peer, len(neighbours[peer])) - 2
-    return min(order, [*range(len(neighbours))], key=lambda order: total_distance(neighbours, order))
+    # How far apart the two ends of each link stand, summed over all links, here and in the order in which they were.
+    places = {router: place for place, router in enumerate(order)}
+    links = [(a, b) for a, row in enumerate(neighbours) for b in row if a < b]
+    is_nearer = sum(abs(places[a] - places[b]) for a, b in links) <= sum(b - a for a, b in links)
+    return order if is_nearer else [*range(len(neighbours))]
+
+
+class Permitted:
+    """Each router's paths without a valley, ranked. The rest of each is permitted at its next router, which offers it."""
+
+    def __init__(self, topology: Topology, most: int):
+        self.most = most
+        self.neighbours = {role: topology.in_role(role) for role in Role}
+        # Each router's paths by the role of the next router and the number of hops.
+        self.rows: list[dict[tuple[Role, int], list[Nodes]]] = [{} for _ in topology.numbers]
+        self.rows[ORIGIN] = {(Role.CUSTOMER, 0): [(ORIGIN,)]}
+        # Routers at which paths are left out, because there are too many or because they are too long.
+        self.crowded: set[int] = set()
+        self.too_long: set[int] = set()
+        for role in Role:
+            for hops in range(1, MOST_NODES + 1):
+                for router in range(1, len(self.rows)):
+                    self.grow(router, role, hops)
+
+    def paths(self, router: int) -> list[Nodes]:
+        """A router's permitted paths, best first."""
+        rows = self.rows[router]
+        return [path for key in sorted(rows) for path in rows[key]]
+
+    def grow(self, router: int, role: Role, hops: int) -> None:
+        """Adds a router's paths of so many hops by way of neighbours in this role, as far as there is room."""
+        found = self.offers(router, role, hops)
+        if hops == MOST_NODES:
+            taken, left_out = [], self.too_long
+        else:
+            room = self.most - sum(map(len, self.rows[router].values()))
+            taken, left_out = list(islice(found, room)), self.crowded
+        if taken:
+            self.rows[router][role, hops] = taken
+        if next(found, None):
+            left_out.add(router)
+
+    def offers(self, router: int, role: Role, hops: int) -> Iterator[Nodes]:
+        """The paths of so many hops by way of neighbours in this role, best first."""
+        # An AS tells its peers and providers only of paths by way of its customers.
+        offered = tuple(Role) if role is Role.PROVIDER else (Role.CUSTOMER,)
+        for peer in self.neighbours[role][router]:
+            for first in offered:
+                for path in self.rows[peer].get((first, hops - 1), ()):
+                    if router not in path:
+                        yield (router, *path)

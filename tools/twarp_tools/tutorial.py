@@ -5,14 +5,15 @@ import re
 import shutil
 import subprocess
 import tempfile
-from collections.abc import Iterator
+from collections.abc import Iterator, Mapping
 from dataclasses import dataclass
 from pathlib import Path
+from subprocess import DEVNULL, PIPE, STDOUT
 
-from twarp.errors import Refused
-from twarp_tools.command import Parser
+from twarp.program import Refused
+from twarp_tools.command import Parser, tool
 
-ROOT = Path(__file__).resolve().parent.parent.parent
+ROOT = Path(__file__).resolve().parents[2]
 PAGE = ROOT / "docs/TUTORIAL.md"
 PICTURES = ROOT / "docs/pictures"
 PROGRAM = ROOT / "crates/twarp/out/twarp"
@@ -21,6 +22,13 @@ POLICY = ROOT / "crates/twarp_policy/out/twarp_policy"
 # What the commands name of the clone, and the folder into which they write.
 NAMED = ("cases", "docs", "python", "tools")
 WRITTEN = "out"
+
+# The built programs by their names.
+Programs = Mapping[str, Path]
+
+DESCRIPTION = """\
+Makes the pictures of docs/TUTORIAL.md again: runs the page's commands in a folder of their own, sees that each writes
+what the page says, and keeps the pictures that the page shows in docs/pictures."""
 
 
 @dataclass
@@ -49,22 +57,11 @@ def pictures_of(page: str) -> list[str]:
     return re.findall(r"\]\(pictures/([^)]+)\)", page)
 
 
-@dataclass(frozen=True)
-class Programs:
-    """The built programs."""
-
-    twarp: Path
-    policy: Path
-
-    def variables(self) -> dict[str, str]:
-        return {"TWARP": str(self.twarp.resolve()), "TWARP_POLICY": str(self.policy.resolve())}
-
-
 def lay_out(folder: Path, programs: Programs) -> None:
     """Makes a folder look like the root of a clone in which the programs are built."""
     for name in NAMED:
         (folder / name).symlink_to(ROOT / name)
-    for name, program in ("twarp", programs.twarp), ("twarp-policy", programs.policy):
+    for name, program in programs.items():
         script = folder / name
         script.write_text(f'#!/bin/sh\nexec "{program.resolve()}" "$@"\n')
         script.chmod(0o755)
@@ -72,15 +69,9 @@ def lay_out(folder: Path, programs: Programs) -> None:
 
 def run(command: Command, folder: Path, programs: Programs) -> str:
     """What a terminal shows of a command that is run in the folder, where tools that start a program start these."""
-    done = subprocess.run(
-        ["sh", "-c", command.text],
-        cwd=folder,
-        env=os.environ | programs.variables(),
-        stdin=subprocess.DEVNULL,
-        stdout=subprocess.PIPE,
-        stderr=subprocess.STDOUT,
-        check=False,
-    )
+    named = {name.upper().replace("-", "_"): str(program.resolve()) for name, program in programs.items()}
+    words, env = ["sh", "-c", command.text], os.environ | named
+    done = subprocess.run(words, cwd=folder, env=env, stdin=DEVNULL, stdout=PIPE, stderr=STDOUT, check=False)
     return done.stdout.decode()
 
 
@@ -91,24 +82,20 @@ def follow(page: str, folder: Path, programs: Programs) -> Iterator[tuple[Comman
         yield command, run(command, folder, programs)
 
 
-DESCRIPTION = """\
-Makes the pictures of docs/TUTORIAL.md again: runs the page's commands in a folder of their own, sees that each writes
-what the page says, and keeps the pictures that the page shows in docs/pictures."""
-
-
 def add_program(parser: Parser) -> None:
     parser.option("--program", "FILE", "the built program", Path, PROGRAM)
 
 
+@tool
 def main() -> None:
     parser = Parser(DESCRIPTION, "example:\n  tools/pictures")
     add_program(parser)
     parser.option("--policy", "FILE", "the built program twarp-policy", Path, POLICY)
     line = parser.parse_args()
-    page = PAGE.read_text()
+    page, programs = PAGE.read_text(), {"twarp": line.program, "twarp-policy": line.policy}
     with tempfile.TemporaryDirectory() as name:
         folder = Path(name)
-        for command, output in follow(page, folder, Programs(line.program, line.policy)):
+        for command, output in follow(page, folder, programs):
             if output != command.output:
                 raise Refused(f"{PAGE.name}: line {command.line}: the command writes\n{output}")
         for picture in pictures_of(page):

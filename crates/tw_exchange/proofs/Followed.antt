@@ -69,42 +69,6 @@ followed_more who x out mail h =
 
 -- ---- message by message: x is the message at place i
 
--- one message fewer is left for its worker
-pub fewer_here : (who : ℕ → ℕ) (out : List (Signed Event)) (i o : ℕ) (d : Signed Event) → o ≡ who (get_or out i d).event.dst → i < length out
-    → length (sent_to who o (drop i out)) ≡ length (sent_to who o (drop (i + 1) out)) + 1
-fewer_here who out i o d e h =
-    let x = get_or out i d in
-    ap (λ xs. length (sent_to who o xs)) (drop_more out i d h)
-    ∙ (ap length (sent_here who o x (drop (i + 1) out) (sym e)) ∙ (let k = length (sent_to who o (drop (i + 1) out)) in let s : suc k ≡ k + 1 = omega arith in s))
-
--- and as many for the others
-pub fewer_elsewhere : (who : ℕ → ℕ) (out : List (Signed Event)) (i o w : ℕ) (d : Signed Event) → o ≡ who (get_or out i d).event.dst → i < length out → (w ≡ o → ⊥)
-    → length (sent_to who w (drop i out)) ≡ length (sent_to who w (drop (i + 1) out))
-fewer_elsewhere who out i o w d e h ne =
-    let x = get_or out i d in
-    ap (λ xs. length (sent_to who w xs)) (drop_more out i d h) ∙ ap length (sent_elsewhere who w x (drop (i + 1) out) (λ is. ne (sym is ∙ sym e)))
-
--- so many were counted for each of n workers, and the rest is still to be
-abbrev pub AreCounted : (ℕ → ℕ) → ℕ → List ℕ → List (Signed Event) → List (Signed Event) → Type 0
-AreCounted who n counts rest out = (w : ℕ) → w < n → get_or counts w 0 + length (sent_to who w rest) ≡ length (sent_to who w out)
-
-pub counted_more : (who : ℕ → ℕ) (n : ℕ) (counts : List ℕ) (out : List (Signed Event)) (i o : ℕ) (d : Signed Event) → o ≡ who (get_or out i d).event.dst → i < length out
-    → length counts ≡ n → o < n → AreCounted who n counts (drop i out) out → AreCounted who n (set counts o (get_or counts o 0 + 1)) (drop (i + 1) out) out
-counted_more who n counts out i o d e h long below counted w within =
-    elim (cases_eq w o) [
-      | inl is ↦ (
-          let fewer = fewer_here who out i o d e h in
-          let now = get_or-set_same counts o (get_or counts o 0 + 1) 0 (omega arith) in
-          let then = counted o below in
-          let here : get_or (set counts o (get_or counts o 0 + 1)) o 0 + length (sent_to who o (drop (i + 1) out)) ≡ length (sent_to who o out) = omega arith in
-          subst (λ k. get_or (set counts o (get_or counts o 0 + 1)) k 0 + length (sent_to who k (drop (i + 1) out)) ≡ length (sent_to who k out)) (sym is) here)
-      | inr ne ↦ (
-          let fewer = fewer_elsewhere who out i o w d e h ne in
-          let now = get_or-set_other counts o w (get_or counts o 0 + 1) 0 ne in
-          let then = counted w within in
-          omega arith)
-    ]
-
 -- no worker is sent more than all
 pub sent_few : (who : ℕ → ℕ) (w : ℕ) (out : List (Signed Event)) → length (sent_to who w out) ≤ length out
 sent_few who w [] = omega arith

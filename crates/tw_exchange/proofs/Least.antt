@@ -1,5 +1,5 @@
 -- Least times: what passes over rows find is what the definitions say.
-use Rattle.std.proofs.Common.{arith, ℕ, ◌+◌, ◌≡◌, ◌<◌, ◌≤◌, List, [], ◌∷◌, ◌++◌, Option, None, Some, IfSome, length, map, min, refl, ap, sym, ◌∙◌, get_or, zero, suc}
+use Rattle.std.proofs.Common.{arith, ℕ, ◌≡◌, ◌≤◌, List, [], ◌∷◌, ◌++◌, Option, None, Some, IfSome, map, min, refl, ap, sym, ◌∙◌, get_or, zero, suc}
 use Rattle.std.proofs.lemmas.List.{map-append}
 use Rattle.std.proofs.lemmas.List.Sums.{fold-append}
 use Rattle.std.specs.List.{AllByRecursion, flat_map, fold, reduce}

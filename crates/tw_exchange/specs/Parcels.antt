@@ -1,5 +1,5 @@
 -- What the fields of dealt messages say, and what holds of them (own).
-use Rattle.std.specs.Prelude.{◌≡◌, List, length, map}
+use Rattle.std.specs.Prelude.{◌≡◌, List, map}
 use Rattle.tw_event.specs.declared.event.Event.{Event}
 use Rattle.tw_exchange.specs.Rows.{items, soonest_of}
 use Rattle.tw_exchange.specs.declared.parcels.Parcels.TheInside.{Inside}
@@ -9,8 +9,6 @@ use Rattle.tw_sim.specs.declared.machine.Signed.{Signed}
 abbrev pub lists_of : Inside → List (List (Signed Event))
 lists_of a = items a.lists.items
 
--- each row has a place for each list
+-- of each list the least time is at hand
 pub record IsParcels (a : Inside) : Type 0 where
-  -- of each list the least time is at hand
   pub soonest : a.soonest.items ≡ map soonest_of (items a.lists.items)
-  pub counts : length a.counts.items ≡ length a.lists.items

@@ -20,10 +20,6 @@ soonest_of messages = fold min NEVER (times messages)
 abbrev pub lesser_time : ℕ → Option ℕ → ℕ
 lesser_time time report = option_map_or (λ reported. min reported time) report time
 
--- there is room for so many more at each place
-pub record HasRoom {X Z : Type 0} (rows : List (Vec X Z)) (counts : ℕ → ℕ) : Type 0 where
-  pub room : (w : ℕ) (row : Vec X Z) → w < length rows → vec_len (slice_index_or rows w row) + counts w ≤ vec_capacity (slice_index_or rows w row)
-
 -- each list with what stands at its place among others behind it
 abbrev pub behind : {X : Type 0} → List (List X) → List (List X) → List (List X)
 behind [] others = []

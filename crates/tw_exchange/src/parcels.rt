@@ -27,8 +27,6 @@ pub struct Parcels {
     lists: Vec<Vec<Signed<Event>>>,
     // The least time of each list, so that a visit need not look through it.
     soonest: Vec<u64>,
-    // How many messages are for each worker, which is counted before the room for them is made.
-    counts: Vec<usize>,
 }
 
 impl Model for Parcels {
@@ -53,7 +51,6 @@ impl Parcels {
             alloc,
             lists: Vec::new(alloc),
             soonest: Vec::new(alloc),
-            counts: Vec::new(alloc),
         }
     }
 
@@ -121,7 +118,11 @@ impl Parcels {
             return Ok(());
         }
         self.widen(workers)?;
-        self.put_rows(owners, messages)
+        if self.put_rows(owners, messages).is_err() {
+            self.clear();
+            return Err(AllocError);
+        }
+        Ok(())
     }
 
     /// Has a list for each of so many workers, where nothing is dealt.
@@ -135,29 +136,20 @@ impl Parcels {
         }
         let lists = no_mail(self.alloc, workers)?;
         let soonest = row(self.alloc, workers, NEVER)?;
-        let counts = row(self.alloc, workers, 0)?;
         self.lists = lists;
         self.soonest = soonest;
-        self.counts = counts;
         Ok(())
     }
 
-    /// Deals messages out to as many workers as there are lists, which are empty.
+    /// Deals messages out to as many workers as there are lists, which are empty. For want of memory it is broken off.
     fn put_rows(&mut self, owners: &Owners, messages: &[Signed<Event>]) -> Result<(), AllocError>
         requires some { 0 < length self.old }
         requires none { self.old ≡ replicate (length self.old) [] }
         requires home { any_homeless (list_of owners.now) (length self.old) messages.now ≡ false }
         ensures dealt { OnOk result (AreDealt (list_of owners.now) (length self.old) messages.now self.new) }
-        ensures err { OnErr result (self.new ≡ self.old) }
         ensures wanted { OnErr result (0 < length messages.now) }
     {
-        deposit(
-            &mut self.lists,
-            &mut self.soonest,
-            &mut self.counts,
-            messages,
-            owners,
-        )
+        deposit(&mut self.lists, &mut self.soonest, messages, owners)
     }
 
     /// Whether the report or a message lies before the bound.

@@ -9,8 +9,7 @@ use tw_shard::Shard;
 use tw_shard::shards::open_all;
 use tw_sim::Cancel;
 
-/// The shards of so many workers, by rising worker, as they begin. Where they take back at once, what waits is kept
-/// by time; where they take back late, each asks for the first event of one router, which is found by router.
+/// The shards of so many workers, by rising worker, as they begin. What waits is kept by time.
 pub(crate) fn open_shards<'a>(
     alloc: Global,
     case: &'a Case,
@@ -22,9 +21,6 @@ pub(crate) fn open_shards<'a>(
     ensures each { IfOk result (λ v. (k : ℕ) → k < workers → IsOpeningShard case.now k workers keeps cancel (slice_index_or v.items k no_shard)) }
 {
     let mut shards = open_all(alloc, case, workers, keeps, cancel)?;
-    if cancel == Cancel::Lazy {
-        return Ok(shards);
-    }
     order_by_time(&mut shards)?;
     Ok(shards)
 }

@@ -22,3 +22,4 @@ pub mod Released
 pub mod Times
 pub mod Fars
 pub mod Queues
+pub mod Early

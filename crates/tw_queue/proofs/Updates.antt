@@ -38,15 +38,15 @@ sorted_updates time us vs p h =
     (λ i. event_before (sym a i) (sym b i)) ∙ sym (ap is_lt (update_order time (get_or vs (k + 1) nobody) (get_or vs k nobody))) ∙ h k nobody l (omega arith)))
     ∙ in_order-permutation event_before event_same event_law (events_at time us) (events_at time vs) (IsPermutation-map (event_at time) us vs p)
 
--- the next update goes to the end of its receiver's list
-pub put_update : (time : ℕ) (us : List Update) (i : ℕ) (d : Update) (lists : List (List Event)) (own more : List Event) (all : Event → ℕ)
-    → i < length us → (get_or us i d).dst < length lists → own ≡ get_or lists (get_or us i d).dst own → more ≡ get_or lists (get_or us i d).dst own ++ event_at time (get_or us i d) ∷ []
+-- the next update goes to the end of the list of some router
+pub put_update : (time : ℕ) (us : List Update) (i : ℕ) (d : Update) (router : ℕ) (lists : List (List Event)) (own more : List Event) (all : Event → ℕ)
+    → i < length us → router < length lists → own ≡ get_or lists router own → more ≡ get_or lists router own ++ event_at time (get_or us i d) ∷ []
     → ((e : Event) → times event_same e (together lists) + times event_same e (events_at time (drop i us)) ≡ all e)
-    → (e : Event) → times event_same e (together (set lists (get_or us i d).dst more)) + times event_same e (events_at time (drop (i + 1) us)) ≡ all e
-put_update time us i d lists own more all there within read put before e =
+    → (e : Event) → times event_same e (together (set lists router more)) + times event_same e (events_at time (drop (i + 1) us)) ≡ all e
+put_update time us i d router lists own more all there within read put before e =
     let x = event_at time (get_or us i d) in
-    let was = ap (times event_same e) (get_or_read lists x.dst own within read []) in
-    let set_one = times-set x.dst more lists within e in
+    let was = ap (times event_same e) (get_or_read lists router own within read []) in
+    let set_one = times-set router more lists within e in
     let one_more = ap (times event_same e) (put ∙ ap (λ xs. xs ++ x ∷ []) (sym read)) in
     let pushed = times-push e x own in
     let left = ap (λ xs. times event_same e (events_at time xs)) (drop_more us i d there) in

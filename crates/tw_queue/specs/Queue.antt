@@ -1,5 +1,5 @@
 -- The events that are pending (own).
-use Rattle.std.specs.Prelude.{ℕ, ◌<◌, ◌==◌, not, List, filter}
+use Rattle.std.specs.Prelude.{ℕ, ◌<◌, ◌==◌, ◌&&◌, Bool, nat_lt, not, List, filter}
 use Rattle.std.specs.List.{AllByRecursion}
 use Rattle.tw_event.specs.declared.event.Event.{Event}
 use Rattle.tw_event.specs.Order.{event_before, event_same}
@@ -29,6 +29,10 @@ for_router router events = filter (λ e. e.dst == router) events
 -- and those that are for others
 abbrev pub for_others : ℕ → List Event → List Event
 for_others router events = filter (λ e. not (e.dst == router)) events
+
+-- whether an event is for one router, and before a limit
+abbrev pub is_before : ℕ → ℕ → Event → Bool
+is_before router limit e = (e.dst == router) && nat_lt e.time limit
 
 -- the events of a table are in order, and for its routers
 pub record IsInOrder (t : Table) : Type 0 where

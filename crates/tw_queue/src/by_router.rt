@@ -2,11 +2,12 @@
 
 ghost use Rattle.std.specs.Prelude.{◌≡◌, ◌↔◌, ◌+◌, ◌-◌, ◌<◌, ◌≤◌, ◌==◌, IfOk, IfSome, IsOk, IsTrue, OnErr, OnOk};
 ghost use Rattle.std.specs.Prelude.{[], if◌then◌else◌, List, filter, length, slice_get, vec_capacity, vec_len};
+ghost use Rattle.std.specs.List.{list_any};
 ghost use Rattle.std.specs.Option.{option_copied};
 ghost use Rattle.tw_event.specs.declared.event.Event.{Event as AnEvent};
 ghost use Rattle.tw_event.specs.Order.{event_before, event_same};
 ghost use Rattle.tw_queue.specs.InOrder.{least_with};
-ghost use Rattle.tw_queue.specs.Queue.{AreFor, IsInOrder, IsQueue};
+ghost use Rattle.tw_queue.specs.Queue.{AreFor, IsInOrder, IsQueue, is_before};
 ghost use Rattle.tw_sim.specs.Ordered.{insert, insert_all, take_out, times};
 
 use crate::queue_table::QueueTable;
@@ -150,6 +151,16 @@ impl ByRouter {
         ensures queue { IsQueue self.now }
     {
         self.first_at(router).copied()
+    }
+
+    /// Whether one of its events is for a router and before a limit, in ticks.
+    pub(crate) fn has_before(&self, router: u32, limit: u64) -> bool
+        ensures { result ≡ list_any (is_before router limit) self.now.events }
+    {
+        match self.first_at(router) {
+            Some(event) => event.time < limit,
+            None => false,
+        }
     }
 
     // The least event for a router, where it stands.

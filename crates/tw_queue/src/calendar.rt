@@ -2,9 +2,11 @@
 
 ghost use Rattle.std.specs.Prelude.{ℕ, ◌≡◌, ◌==◌, ◌<◌, ◌≤◌, ◌+◌, ◌++◌, ◌↔◌, [], None, Some, IfNone, IfOk, IfSome, IsTrue, OnOk, drop, filter, slice_get};
 ghost use Rattle.std.specs.Bool.{OnFalse, OnTrue};
+ghost use Rattle.std.specs.List.{list_any};
 ghost use Rattle.tw_event.specs.declared.event.Event.{Event as AnEvent};
 ghost use Rattle.tw_event.specs.Order.{event_before, event_same};
 ghost use Rattle.tw_queue.specs.InOrder.{in_order};
+ghost use Rattle.tw_queue.specs.Queue.{is_before};
 ghost use Rattle.tw_queue.specs.Table.{first_time};
 ghost use Rattle.tw_sim.specs.Ordered.{insert, take_out, times};
 ghost use Rattle.tw_sim.specs.Rising.{IsRising};
@@ -198,6 +200,13 @@ impl Calendar {
     {
         let _ = self.ring.taken();
         self.wheels.least_for(router, self.ring.least_at(router))
+    }
+
+    /// Whether one of its events is for a router and before a limit, in ticks.
+    pub(crate) fn has_before(&self, router: u32, limit: u64) -> bool
+        ensures { result ≡ list_any (is_before router limit) self.now }
+    {
+        self.ring.has_before(router, limit) || self.wheels.has_before(router, limit)
     }
 
     /// Puts its events at the end of a list.

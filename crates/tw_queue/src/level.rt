@@ -2,16 +2,18 @@
 
 ghost use Rattle.std.specs.Prelude.{ℕ, ◌≡◌, ◌==◌, ◌<◌, ◌≤◌, ◌+◌, ◌^◌, ◌++◌, ◌↔◌, [], None, Some, IsTrue, OnOk, drop, filter, slice_get};
 ghost use Rattle.std.specs.Bool.{OnFalse, OnTrue};
+ghost use Rattle.std.specs.List.{list_any};
 ghost use Rattle.tw_event.specs.declared.event.Event.{Event as AnEvent};
 ghost use Rattle.tw_event.specs.Order.{event_before, event_same};
 ghost use Rattle.tw_queue.specs.Buckets.{together};
 ghost use Rattle.tw_queue.specs.InOrder.{least_with};
+ghost use Rattle.tw_queue.specs.Queue.{is_before};
 ghost use Rattle.tw_sim.specs.Ordered.{insert, take_out, times};
 ghost use Rattle.tw_sim.specs.Rising.{IsRising};
 
 use crate::bucket::Bucket;
 use crate::marks::{first_place, is_ahead, marked_as, slot_of, with_mark, without_mark};
-use crate::search::{count_of, least_for};
+use crate::search::{any_before, count_of, least_for};
 use std::alloc::{AllocError, Global};
 use std::array;
 use std::marker::Model;
@@ -152,6 +154,13 @@ impl Level {
         least_of_buckets(&self.buckets, router, first)
     }
 
+    /// Whether one of its events is for a router and before a limit, in ticks.
+    pub(crate) fn has_before(&self, router: u32, limit: u64) -> bool
+        ensures { result ≡ list_any (is_before router limit) self.now }
+    {
+        self.start < limit && any_in_buckets(&self.buckets, router, limit)
+    }
+
     /// The run has come to this time, in ticks, so that the widths after it may have buckets, as far as no event
     /// is before them. No promise rests on it.
     pub(crate) fn go_to(&mut self, time: u64)
@@ -181,6 +190,15 @@ fn least_of_buckets(buckets: &[Bucket], router: u32, first: Option<Event>) -> Op
         least = least_for(router, least, bucket.events());
     }
     least
+}
+
+// Whether one of the events in buckets is for a router and before a limit, in ticks.
+fn any_in_buckets(buckets: &[Bucket], router: u32, limit: u64) -> bool
+    ensures { result ≡ list_any (λ events. list_any (is_before router limit) events) buckets.now }
+{
+    buckets
+        .iter()
+        .any(|bucket| any_before(bucket.events(), router, limit))
 }
 
 // Puts the events of buckets at the end of a list.

@@ -3,10 +3,11 @@
 ghost use Rattle.std.specs.Prelude.{◌≡◌, ◌↔◌, ◌⊎◌, ◌+◌, ◌<◌, ◌≤◌, ◌==◌, IfNone, IfOk, IfSome, IsOk, IsTrue, None, OnErr, OnOk, Some};
 ghost use Rattle.std.specs.Prelude.{[], if◌then◌else◌, drop, filter, length, option_map, slice_get, true};
 ghost use Rattle.std.specs.Bool.{OnFalse, OnTrue};
+ghost use Rattle.std.specs.List.{list_any};
 ghost use Rattle.tw_event.specs.declared.event.Event.{Event as AnEvent};
 ghost use Rattle.tw_event.specs.Order.{event_before, event_same};
 ghost use Rattle.tw_queue.specs.Pending.{together_with};
-ghost use Rattle.tw_queue.specs.Queue.{AreFor, IsQueue, for_others, for_router};
+ghost use Rattle.tw_queue.specs.Queue.{AreFor, IsQueue, for_others, for_router, is_before};
 ghost use Rattle.tw_queue.specs.Table.{first_time};
 ghost use Rattle.tw_sim.specs.Ordered.{insert, insert_all, take_out, times};
 
@@ -240,6 +241,14 @@ impl Pending {
             return self.rest.least_at(router);
         }
         earlier_of(self.calendar.least_at(router), self.rest.least_at(router))
+    }
+
+    /// Whether an event for this router is before a limit, in ticks. Of the events kept by time, those that are at the
+    /// limit or after it are passed over.
+    pub fn has_before(&self, router: u32, limit: u64) -> bool
+        ensures { result ≡ list_any (is_before router limit) self.now.events }
+    {
+        self.rest.has_before(router, limit) || self.calendar.has_before(router, limit)
     }
 
     /// Moves the events for this router to `to`, each as often as it is pending. The others stay.

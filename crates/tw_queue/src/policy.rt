@@ -11,6 +11,15 @@ pub(crate) fn is_full(events: usize, receivers: usize) -> bool {
     events >= FEWEST_EVENTS && events >= receivers / RECEIVERS_FOR_ONE_EVENT
 }
 
+// Once in so many ticks that are dealt it is looked whether those of a receiver come in the order of their senders:
+// they mostly do, or don't, for long.
+const TICKS_FOR_ONE_LOOK: u32 = 16;
+
+/// Whether it is looked, where so many ticks were dealt before, in what order the events of a receiver come.
+pub(crate) fn is_look_due(ticks: u32) -> bool {
+    ticks % TICKS_FOR_ONE_LOOK == 0
+}
+
 // With so many events a router's queue takes to buckets; with fewer the buckets, which stand apart in memory, cost more time than one list.
 const MANY_EVENTS: usize = 256;
 

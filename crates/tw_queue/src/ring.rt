@@ -2,15 +2,17 @@
 
 ghost use Rattle.std.specs.Prelude.{ℕ, ◌≡◌, ◌<◌, ◌≤◌, ◌==◌, ◌+◌, ◌++◌, ◌^◌, ◌↔◌, None, Some, [], drop, filter, slice_get, slice_index_or, IfOk, IsTrue, OnOk};
 ghost use Rattle.std.specs.Bool.{OnFalse, OnTrue};
+ghost use Rattle.std.specs.List.{list_any};
 ghost use Rattle.tw_event.specs.declared.event.Event.{Event};
 ghost use Rattle.tw_event.specs.Order.{event_before, event_same};
 ghost use Rattle.tw_queue.specs.Buckets.{together};
+ghost use Rattle.tw_queue.specs.Queue.{is_before};
 ghost use Rattle.tw_queue.specs.Table.{first_time};
 ghost use Rattle.tw_sim.specs.Ordered.{insert, take_out, times};
 ghost use Rattle.tw_sim.specs.Rising.{IsRising};
 
 use crate::marks::{BUCKETS, first_place, is_ahead, marked_as, slot_of, with_mark, without_mark};
-use crate::tick::{Tick, append_all, end_by, least_of_all};
+use crate::tick::{Tick, any_in_ticks, append_all, end_by, least_of_all};
 use crate::update::Update;
 use std::alloc::{AllocError, Global};
 use std::array;
@@ -30,8 +32,8 @@ pub(crate) struct Ring {
     buckets: [Tick; 64],
     // A bit for each empty bucket that has memory, as far as that is known.
     spares: u64,
-    // A list for each router, for ticks that are put in order by receiver.
-    receivers: Vec<Tick>,
+    // A list for each router, for ticks that are dealt out.
+    routers: Vec<Tick>,
 }
 
 impl Model for Ring {
@@ -51,7 +53,7 @@ impl Ring {
     pub(crate) fn new(alloc: Global, routers: u32) -> Result<Ring, AllocError>
         ensures { IfOk result (λ events. events ≡ []) }
     {
-        let receivers = (0..routers).map(|_| Tick::new(alloc)).collect(alloc)?;
+        let routers = (0..routers).map(|_| Tick::new(alloc)).collect(alloc)?;
         Ok(Ring {
             hand: Tick::new(alloc),
             taken: 0,
@@ -59,7 +61,7 @@ impl Ring {
             marks: 0,
             buckets: array::from_fn(|_| Tick::new(alloc)),
             spares: 0,
-            receivers,
+            routers,
         })
     }
 
@@ -211,7 +213,7 @@ impl Ring {
         }
         let bucket = &mut self.buckets[place];
         self.tick = bucket.first_time();
-        self.hand.take_over(bucket, &mut self.receivers);
+        self.hand.take_over(bucket, &mut self.routers);
         self.taken = 0;
         self.marks = without_mark(self.marks, place);
         self.spares = with_mark(self.spares, place);
@@ -232,7 +234,7 @@ impl Ring {
         }
         let bucket = &mut self.buckets[place];
         self.tick = bucket.first_time();
-        self.hand.take_over(bucket, &mut self.receivers);
+        self.hand.take_over(bucket, &mut self.routers);
         self.taken = 1;
         self.marks = without_mark(self.marks, place);
         self.spares = with_mark(self.spares, place);
@@ -271,6 +273,14 @@ impl Ring {
     {
         let least = self.hand.least_at(self.taken, router, None);
         least_of_all(&self.buckets, router, least)
+    }
+
+    /// Whether one of its events is for a router and before a limit, in ticks.
+    pub(crate) fn has_before(&self, router: u32, limit: u64) -> bool
+        ensures { result ≡ list_any (is_before router limit) self.now }
+    {
+        self.hand.has_before(self.taken, router, limit)
+            || any_in_ticks(&self.buckets, router, limit)
     }
 
     /// Puts its events at the end of a list.

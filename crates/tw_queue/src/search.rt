@@ -2,8 +2,10 @@
 
 ghost use Rattle.std.specs.Option.{option_copied};
 ghost use Rattle.std.specs.Prelude.{◌≡◌, ◌==◌, ◌<◌, ◌↔◌, None, IsTrue, count_by, filter, position, vec_capacity};
+ghost use Rattle.std.specs.List.{list_any};
 ghost use Rattle.tw_event.specs.Order.{event_before, event_same};
 ghost use Rattle.tw_queue.specs.InOrder.{earlier, earlier_of, least_with};
+ghost use Rattle.tw_queue.specs.Queue.{is_before};
 ghost use Rattle.tw_sim.specs.Ordered.{take_out, times};
 
 use tw_event::Event;
@@ -59,6 +61,15 @@ pub(crate) fn least_for(router: u32, first: Option<Event>, events: &[Event]) -> 
         }
     }
     least
+}
+
+// Whether one of these is for a router and before a limit, in ticks.
+pub(crate) fn any_before(events: &[Event], router: u32, limit: u64) -> bool
+    ensures { result ≡ list_any (is_before router limit) events.now }
+{
+    events
+        .iter()
+        .any(|event| event.dst == router && event.time < limit)
 }
 
 // The one of the two events that comes first.

@@ -2,17 +2,19 @@
 
 ghost use Rattle.std.specs.Prelude.{ℕ, ◌≡◌, ◌==◌, ◌+◌, ◌++◌, ◌^◌, ◌<◌, ◌≤◌, ◌↔◌, ◌⊎◌, [], ◌∷◌, None, IfSome, IsTrue, OnOk, Some, count_by, drop, filter, length, position, slice_get};
 ghost use Rattle.std.specs.Bool.{OnFalse, OnTrue};
+ghost use Rattle.std.specs.List.{list_any};
 ghost use Rattle.tw_event.specs.declared.event.Event.{Event as AnEvent};
 ghost use Rattle.tw_event.specs.Order.{event_before, event_same};
 ghost use Rattle.tw_queue.specs.Buckets.{together};
 ghost use Rattle.tw_queue.specs.InOrder.{in_order, least_with};
+ghost use Rattle.tw_queue.specs.Queue.{is_before};
 ghost use Rattle.tw_queue.specs.Table.{first_time, never};
 ghost use Rattle.tw_queue.specs.Update.{event_at, events_at};
 ghost use Rattle.tw_sim.specs.Ordered.{take_out, times};
 
-use crate::policy::is_full;
+use crate::policy::{is_full, is_look_due};
 use crate::search::earlier;
-use crate::update::{Update, append_at, first_of};
+use crate::update::{End, Update, append_at, first_of};
 use std::alloc::{AllocError, Global};
 use std::marker::Model;
 use std::mem::swap;
@@ -23,6 +25,10 @@ use tw_event::Event;
 pub(crate) struct Tick {
     time: u64,
     updates: Vec<Update>,
+    // How many ticks were dealt.
+    dealt: u32,
+    // Whether those of a receiver came in another order than that of their senders, when it was last looked.
+    is_mixed: bool,
 }
 
 impl Model for Tick {
@@ -43,6 +49,8 @@ impl Tick {
         Tick {
             time: 0,
             updates: Vec::new(alloc),
+            dealt: 0,
+            is_mixed: false,
         }
     }
 
@@ -153,6 +161,17 @@ impl Tick {
         least_for(self.time, &self.updates[start..], router, least)
     }
 
+    /// Whether one of its events but for the first `start` is for a router and before a limit, in ticks.
+    pub(crate) fn has_before(&self, start: usize, router: u32, limit: u64) -> bool
+        requires { start ≤ length self.now }
+        ensures { result ≡ list_any (is_before router limit) (drop start self.now) }
+    {
+        if self.time >= limit {
+            return false;
+        }
+        has_receiver(&self.updates[start..], router)
+    }
+
     /// Takes a copy of the events of another list, but for the first `start`, where it has none of its own and
     /// memory is not refused, and tells whether it did.
     pub(crate) fn refill(&mut self, other: &Tick, start: usize) -> bool
@@ -202,15 +221,15 @@ impl Tick {
     }
 
     /// Takes the events of another list in the place of its own, and puts them in order. Where they are many,
-    /// they are dealt to `receivers` first, a list for each router, which leaves little to sort.
+    /// they are dealt to `routers` first, a list for each, which leaves little to sort.
     #[inline(always)]
-    pub(crate) fn take_over(&mut self, other: &mut Tick, receivers: &mut [Tick])
+    pub(crate) fn take_over(&mut self, other: &mut Tick, routers: &mut [Tick])
         ensures events { self.new ≡ in_order event_before other.old }
         ensures empty { other.new ≡ [] }
     {
         // Where delays are long, most ticks have one event.
         if !self.take_only(other) {
-            self.take_all(other, receivers);
+            self.take_all(other, routers);
         }
     }
 
@@ -237,11 +256,11 @@ impl Tick {
 
     // Takes the events of another list in the place of its own, and puts them in order.
     #[inline(never)]
-    fn take_all(&mut self, other: &mut Tick, receivers: &mut [Tick])
+    fn take_all(&mut self, other: &mut Tick, routers: &mut [Tick])
         ensures events { self.new ≡ in_order event_before other.old }
         ensures empty { other.new ≡ [] }
     {
-        if self.deal(other, receivers) {
+        if self.deal(other, routers) {
             other.clear();
         } else {
             self.clear();
@@ -252,20 +271,50 @@ impl Tick {
     }
 
     // Takes the events of another list in the place of its own, by rising receiver, and tells whether it did:
-    // not where they are few for so many receivers, nor where memory is refused.
-    fn deal(&mut self, other: &Tick, receivers: &mut [Tick]) -> bool
+    // not where they are few for so many routers, nor where memory is refused. Where those of a receiver come
+    // mixed, as by links with several delays or from several workers, they are dealt by sender before.
+    fn deal(&mut self, other: &Tick, routers: &mut [Tick]) -> bool
         ensures { OnTrue result ((e : AnEvent) → times event_same e self.new ≡ times event_same e other.now) }
     {
-        if !is_full(other.updates.len(), receivers.len()) {
+        if !is_full(other.updates.len(), routers.len()) {
             return false;
         }
-        clear_all(receivers);
-        if !put_by_receiver(other.time, &other.updates, receivers) {
+        let looks = is_look_due(self.dealt);
+        self.dealt = self.dealt.wrapping_add(1);
+        if self.is_mixed && !looks {
+            return self.deal_by(End::Sender, other, routers) && self.deal_again(routers);
+        }
+        let is_dealt = self.deal_by(End::Receiver, other, routers);
+        if looks {
+            self.is_mixed = !self.updates.is_sorted();
+        }
+        is_dealt
+    }
+
+    // Takes the events of another list in the place of its own, by rising router at one end, and tells whether it
+    // did: not where memory is refused.
+    fn deal_by(&mut self, end: End, other: &Tick, routers: &mut [Tick]) -> bool
+        ensures { OnTrue result ((e : AnEvent) → times event_same e self.new ≡ times event_same e other.now) }
+    {
+        clear_all(routers);
+        if !put_by(end, other.time, &other.updates, routers) {
             return false;
         }
         self.clear();
         self.time = other.time;
-        gather(other.time, receivers, &mut self.updates)
+        gather(other.time, routers, &mut self.updates)
+    }
+
+    // Puts its events by rising receiver, and tells whether it did: where memory is refused, some may be gone.
+    fn deal_again(&mut self, routers: &mut [Tick]) -> bool
+        ensures { OnTrue result ((e : AnEvent) → times event_same e self.new ≡ times event_same e self.old) }
+    {
+        clear_all(routers);
+        if !put_by(End::Receiver, self.time, &self.updates, routers) {
+            return false;
+        }
+        self.clear();
+        gather(self.time, routers, &mut self.updates)
     }
 }
 
@@ -289,6 +338,13 @@ pub(crate) fn end_by(ticks: &[Tick], latest: u64) -> bool
         }
     }
     true
+}
+
+/// Whether one of the events of ticks is for a router and before a limit, in ticks.
+pub(crate) fn any_in_ticks(ticks: &[Tick], router: u32, limit: u64) -> bool
+    ensures { result ≡ list_any (λ events. list_any (is_before router limit) events) ticks.now }
+{
+    ticks.iter().any(|tick| tick.has_before(0, router, limit))
 }
 
 /// The least of an event, if there is one, and of those events of ticks that are for a router.
@@ -328,6 +384,13 @@ fn count_of(time: u64, updates: &[Update], event: &Event) -> usize
         .count()
 }
 
+// Whether one of these updates is for a router.
+fn has_receiver(updates: &[Update], router: u32) -> bool
+    ensures { result ≡ list_any (λ update. update.dst == router) updates.now }
+{
+    updates.iter().any(|update| update.dst == router)
+}
+
 // The least of an event, if there is one, and of those updates of a time, in ticks, that are for a router.
 fn least_for(time: u64, updates: &[Update], router: u32, first: Option<Event>) -> Option<Event>
     ensures { result ≡ least_with first (filter (λ e. e.dst == router) (events_at time updates.now)) }
@@ -363,18 +426,19 @@ fn clear_all(ticks: &mut [Tick])
     }
 }
 
-// Puts each update of a time at the end of its receiver's list, and tells whether each went in: not where one
-// is for no receiver of these, nor where memory is refused.
-fn put_by_receiver(time: u64, updates: &[Update], receivers: &mut [Tick]) -> bool
+// Puts each update of a time at the end of the list of its router at one end, and tells whether each went in: not
+// where one is for no router of these, nor where memory is refused.
+#[inline(always)]
+fn put_by(end: End, time: u64, updates: &[Update], routers: &mut [Tick]) -> bool
     ensures { OnTrue result ((e : AnEvent)
-        → times event_same e (together receivers.new) ≡ times event_same e (events_at time updates.now) + times event_same e (together receivers.old)) }
+        → times event_same e (together routers.new) ≡ times event_same e (events_at time updates.now) + times event_same e (together routers.old)) }
 {
     for update in updates {
-        let receiver = update.dst as usize;
-        if receiver >= receivers.len() {
+        let router = update.router_at(end) as usize;
+        if router >= routers.len() {
             return false;
         }
-        if !receivers[receiver].push(time, update) {
+        if !routers[router].push(time, update) {
             return false;
         }
     }

@@ -20,7 +20,23 @@ pub(crate) struct Update {
     session: u32,
 }
 
+/// An end of the link that a path comes by.
+#[derive(Clone, Copy)]
+pub(crate) enum End {
+    Sender,
+    Receiver,
+}
+
 impl Update {
+    /// The router at one end.
+    #[inline(always)]
+    pub(crate) fn router_at(&self, end: End) -> u32 {
+        match end {
+            End::Sender => self.src,
+            End::Receiver => self.dst,
+        }
+    }
+
     /// An event without its time, where it is a path that arrives in a session below 2^32.
     #[inline(always)]
     pub(crate) fn of(event: &Event) -> Option<Update>

@@ -2,10 +2,12 @@
 
 ghost use Rattle.std.specs.Prelude.{ℕ, ◌≡◌, ◌==◌, ◌<◌, ◌≤◌, ◌+◌, ◌^◌, ◌++◌, ◌↔◌, [], None, Some, IsTrue, OnOk, filter, length, slice_get};
 ghost use Rattle.std.specs.Bool.{OnFalse, OnTrue};
+ghost use Rattle.std.specs.List.{list_any};
 ghost use Rattle.tw_event.specs.declared.event.Event.{Event as AnEvent};
 ghost use Rattle.tw_event.specs.Order.{event_before, event_same};
 ghost use Rattle.tw_queue.specs.Buckets.{together};
 ghost use Rattle.tw_queue.specs.InOrder.{in_order, least_with};
+ghost use Rattle.tw_queue.specs.Queue.{is_before};
 ghost use Rattle.tw_sim.specs.Ordered.{insert, one, take_out, times};
 ghost use Rattle.tw_sim.specs.Rising.{IsRising};
 
@@ -13,7 +15,7 @@ use crate::bucket::Bucket;
 use crate::level::Level;
 use crate::marks::BUCKETS;
 use crate::ring::Ring;
-use crate::search::{count_of, earlier_of, least_for};
+use crate::search::{any_before, count_of, earlier_of, least_for};
 use std::alloc::{AllocError, Global};
 use std::marker::Model;
 use tw_event::Event;
@@ -122,6 +124,17 @@ impl Wheels {
         least_for(router, least, self.moving.events())
     }
 
+    /// Whether one of its events is for a router and before a limit, in ticks.
+    pub(crate) fn has_before(&self, router: u32, limit: u64) -> bool
+        ensures { result ≡ list_any (is_before router limit) self.now }
+    {
+        if self.soonest >= limit {
+            return false;
+        }
+        any_in_levels(&self.levels, router, limit)
+            || any_before(self.moving.events(), router, limit)
+    }
+
     /// The run has come to this time, in ticks. No promise rests on it.
     #[inline(always)]
     pub(crate) fn go_to(&mut self, time: u64)
@@ -223,6 +236,13 @@ fn least_in_levels(levels: &[Level], router: u32, first: Option<Event>) -> Optio
         least = level.least_for(router, least);
     }
     least
+}
+
+// Whether one of the events in levels is for a router and before a limit, in ticks.
+fn any_in_levels(levels: &[Level], router: u32, limit: u64) -> bool
+    ensures { result ≡ list_any (λ events. list_any (is_before router limit) events) levels.now }
+{
+    levels.iter().any(|level| level.has_before(router, limit))
 }
 
 // The least event of levels.

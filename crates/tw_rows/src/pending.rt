@@ -141,6 +141,8 @@ enum Line<'a> {
     Least(Offer),
     /// The least event of a router.
     LeastAt(u32, Option<Offer>),
+    /// Whether an event of a router is before a limit.
+    HasBefore(u32, u64, bool),
     /// These events are pending.
     Lists(&'a [Offer]),
 }
@@ -178,6 +180,7 @@ fn shows(pending: &Pending, line: Line<'_>) -> bool {
         Line::LeastTime(time) => pending.least_time() == Some(time),
         Line::Least(offered) => pending.least() == Some(event_of(offered)),
         Line::LeastAt(router, offered) => pending.least_at(router) == offered.map(event_of),
+        Line::HasBefore(router, limit, has) => pending.has_before(router, limit) == has,
         Line::Lists(offers) => lists(pending, offers),
         _ => false,
     }
@@ -215,7 +218,7 @@ fn lists(pending: &Pending, offers: &[Offer]) -> bool {
 }
 
 /// An event is counted as often as it was inserted, and events are taken in their order.
-const COUNTED: [Line<'static>; 14] = [
+const COUNTED: [Line<'static>; 16] = [
     Line::Insert((1, 1, 0)),
     Line::Insert((1, 1, 0)),
     Line::Insert((5, 2, 1)),
@@ -225,6 +228,8 @@ const COUNTED: [Line<'static>; 14] = [
     Line::Least((1, 1, 0)),
     Line::LeastAt(2, Some((5, 2, 1))),
     Line::LeastAt(0, None),
+    Line::HasBefore(2, 5, false),
+    Line::HasBefore(2, 6, true),
     Line::Remove((1, 1, 0), true),
     Line::Remove((1, 1, 0), true),
     Line::Remove((1, 1, 0), false),
@@ -241,10 +246,14 @@ const NEAR_AND_FAR: [Line<'static>; 4] = [
 ];
 
 /// After these, events by time come before their limits alone, a late one between two of the tick at hand.
-const LIMITED: [Line<'static>; 12] = [
+const LIMITED: [Line<'static>; 16] = [
     Line::NoneBefore(3),
+    Line::HasBefore(2, 5, false),
+    Line::HasBefore(2, 6, true),
     Line::Before(4, (3, 1, 2)),
     Line::Before(6, (5, 1, 0)),
+    Line::HasBefore(1, 100, false),
+    Line::HasBefore(1, 101, true),
     Line::Insert((4, 2, 4)),
     Line::Before(6, (4, 2, 4)),
     Line::LeastAt(2, Some((5, 2, 1))),

@@ -14,11 +14,11 @@ ghost use Rattle.tw_table.specs.Views.{Holds, IsMet, Knows, first_view, given, o
 
 use crate::hand::Hand;
 use crate::hints::Hints;
+use crate::patience::Patience;
 use crate::rule::{Deals, Joins, Laid, Queue, Takes, Ticket, View};
 use crate::seat::{Held, Seat};
 use crate::table::{Missing, Table};
 use crossbeam_queue::protocol::{Lesson, Outcome};
-use crossbeam_utils::Backoff;
 use std::alloc::Global;
 use std::marker::Brand;
 use std::sync::Wait;
@@ -170,10 +170,10 @@ impl Table {
         parcels.deal(&self.owners, self.workers, messages)
     }
 
-    /// Whether the exchange may have something for a worker that knows this bound, in ticks: mail, or a bound that has
-    /// risen. It is told beside the exchange, and no promise rests on it.
-    pub fn is_news_for(&self, worker: u32, bound: u64) -> bool {
-        self.hints.is_news_for(worker, bound)
+    /// Whether the exchange may have something for a worker: a bound beyond this one, in ticks, or mail, where its
+    /// bound is `mail_bound` at least. It is told beside the exchange, and no promise rests on it.
+    pub fn is_news_for(&self, worker: u32, bound: u64, mail_bound: u64) -> bool {
+        self.hints.is_news_for(worker, bound, mail_bound)
     }
 
     /// Takes the exchange off the table for good, where all its seats are handed in: it and what the
@@ -208,12 +208,12 @@ fn pop<R: Wait>(rt: &R, queue: &Queue, pass: &mut Ticket) -> Laid
     ensures met { IsMet (view pass.old).shares result }
     ensures knows { Knows result (view pass.old) }
 {
-    let backoff = Backoff::new();
+    let mut patience = Patience::new();
     for _ in rt.forever() {
         if let Some(exchange) = queue.try_pop_as::<Takes>(pass) {
             return exchange;
         }
-        backoff.snooze();
+        patience.wait();
     }
     unreachable!()
 }

@@ -35,10 +35,11 @@ impl Hints {
         self.told.mail.store(mail_bits(exchange), Ordering::Release);
     }
 
-    /// Whether a bound beyond this one was told, or mail for a worker.
-    pub(crate) fn is_news_for(&self, worker: u32, bound: u64) -> bool {
-        self.told.bound.load(Ordering::Acquire) > bound
-            || self.told.mail.load(Ordering::Acquire) & bit_of(worker) != 0
+    /// Whether a bound beyond this one was told; or mail for a worker, and a bound of `mail_bound` at least.
+    pub(crate) fn is_news_for(&self, worker: u32, bound: u64, mail_bound: u64) -> bool {
+        let told = self.told.bound.load(Ordering::Acquire);
+        told > bound
+            || (told >= mail_bound && self.told.mail.load(Ordering::Acquire) & bit_of(worker) != 0)
     }
 }
 

@@ -12,6 +12,7 @@ mod calls;
 mod hand;
 mod hints;
 pub mod laws;
+mod patience;
 mod rule;
 mod seat;
 mod table;

@@ -1,7 +1,7 @@
 -- What is held by a worker's routers once they have taken back what they can't send again.
-use Rattle.std.proofs.Common.{◌≡◌, ◌⊎◌, ℕ, zero, suc, ◌<◌, ◌≤◌, ◌==◌, List, [], ◌∷◌, true, false, not, map, min, slice_get, Option, Some, None, Result, Ok, Err, refl, ap, sym, ◌∙◌, subst, inl, inr, arith, if◌then◌else◌}
-use Rattle.std.proofs.lemmas.Bool.{cases_eq, eq-eqb, eqb-true}
-use Rattle.std.specs.List.{filter, reduce}
+use Rattle.std.proofs.Common.{◌≡◌, ◌⊎◌, ℕ, zero, suc, ◌<◌, ◌≤◌, ◌==◌, List, [], ◌∷◌, true, false, not, map, min, nat_lt, slice_get, Option, Some, None, Result, Ok, Err, refl, ap, sym, ◌∙◌, subst, inl, inr, arith, if◌then◌else◌}
+use Rattle.std.proofs.lemmas.Bool.{cases_Bool, cases_eq, eq-eqb, eqb-true, false≢true, ltb-true}
+use Rattle.std.specs.List.{list_any, reduce}
 use Rattle.std.specs.Option.{IsSomeAnd}
 use Rattle.tw_core.specs.declared.refusal.Refusal.{Refusal}
 use Rattle.tw_core.specs.declared.refusal.Refusal.TheVariants.{NotMine}
@@ -9,6 +9,7 @@ use Rattle.tw_core.specs.Machine.{Core}
 use Rattle.tw_core.specs.Steps.{from, with_release}
 use Rattle.tw_event.specs.declared.event.Event.{Event}
 use Rattle.tw_model.specs.Case.{Case, simulation}
+use Rattle.tw_queue.specs.Queue.{is_before}
 use Rattle.tw_rule.proofs.Least.{events_told}
 use Rattle.tw_shard.proofs.Shares.{listed}
 use Rattle.tw_shard.specs.Roster.{has}
@@ -50,13 +51,29 @@ awaited_more n stop left rest s is old now r mine =
 
 -- ---- a router whose next event may send again what is held for it
 
-module _ {S : Type 0} (m : Simulation S Event) (law : IsLawful m) where
-  -- the first of a list stands there
-  first_there : (xs : List Event) (f : Event) → slice_get xs 0 ≡ Some f → 0 < times m f xs
-  first_there [] f got = cc
-  first_there (x ∷ xs) f got =
-      let same : x ≡ f = cc in
-      subst (λ y. 0 < times m f (y ∷ xs)) (sym same) (let self = one_self m law f in omega arith)
+-- an event of a list that is for a router and before a limit
+record IsEarly {S : Type 0} (m : Simulation S Event) (r limit : ℕ) (xs : List Event) (f : Event) : Type 0 where
+  there : 0 < times m f xs
+  for_it : f.dst ≡ r
+  early : f.time < limit
+
+module _ {S : Type 0} (m : Simulation S Event) (law : IsLawful m) (r limit : ℕ) where
+  early_there : (xs : List Event) → list_any (is_before r limit) xs ≡ true → (f : Event) × IsEarly m r limit xs f
+  early_there [] h = absurd (false≢true h)
+  early_there (x ∷ xs) h =
+      elim (cases_Bool (x.dst == r)) [
+        | inl d ↦
+            elim (cases_Bool (nat_lt x.time limit)) [
+              | inl t ↦ (x, record { there = let self = one_self m law x in omega arith; for_it = eqb-true x.dst r d; early = ltb-true x.time limit t })
+              | inr t ↦ later (early_there xs (rw (d, t) at h))
+            ]
+        | inr d ↦ later (early_there xs (rw d at h))
+      ]
+    where
+      later : (f : Event) × IsEarly m r limit xs f → (f : Event) × IsEarly m r limit (x ∷ xs) f
+      later found =
+          let is = found.1 in
+          (found.0, record { there = let there = is.there in omega arith; for_it = is.for_it; early = is.early })
 
 -- what is held for it is not before the least of that
 held_told : (r : ℕ) (s : Shard) → IsLawful (simulation s.case) → (e : Event) → 0 < times (simulation s.case) e s.held → e.src ≡ r
@@ -70,14 +87,16 @@ pub none_awaited : (r stop : ℕ) (s : Shard) → IsLawful (simulation s.case) �
     → AreAwaitedFrom r stop s
 none_awaited r stop s law none e held sender = absurd (subst (λ o. IsSomeAnd o (λ time. time ≤ e.time)) none (held_told r s law e held sender))
 
-pub first_awaited : (r stop least : ℕ) (f : Event) (s : Shard) → IsLawful (simulation s.case)
-    → reduce min (map (λ x. x.time) (from (simulation s.case) r s.held)) ≡ Some least → slice_get (filter (λ x. x.dst == r) s.pending) 0 ≡ Some f
-    → f.time < stop → f.time < least → AreAwaitedFrom r stop s
-first_awaited r stop least f s law told first until sooner e held sender =
+pub early_awaited : (r stop least limit : ℕ) (s : Shard) → IsLawful (simulation s.case)
+    → reduce min (map (λ x. x.time) (from (simulation s.case) r s.held)) ≡ Some least → limit ≤ least → limit ≤ stop
+    → list_any (is_before r limit) s.pending ≡ true → AreAwaitedFrom r stop s
+early_awaited r stop least limit s law told sooner until found e held sender =
     let m = simulation s.case in
     let late : least ≤ e.time = subst (λ o. IsSomeAnd o (λ time. time ≤ e.time)) told (held_told r s law e held sender) in
-    let there = in_filter m law (λ x. x.dst == r) f s.pending (first_there m law (filter (λ x. x.dst == r) s.pending) f first) in
-    record { cause = f; pending = there.1; sender = eqb-true f.dst r there.0 ∙ sym sender; sooner = omega arith; until = until }
+    let cause = early_there m law r limit s.pending found in
+    let is = cause.1 in
+    let early = is.early in
+    record { cause = cause.0; pending = is.there; sender = is.for_it ∙ sym sender; sooner = omega arith; until = omega arith }
 
 -- ---- a router takes back what is held for it
 

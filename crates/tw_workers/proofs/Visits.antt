@@ -16,10 +16,10 @@ use Rattle.tw_model.specs.declared.memory.OrMemory.TheVariants.{Fault, Memory}
 use Rattle.tw_model.specs.Case.{Case, IsCase, simulation}
 use Rattle.tw_rule.proofs.Least.{none_told}
 use Rattle.tw_rule.proofs.Places.{all_at, get_map}
-use Rattle.tw_rule.proofs.Visits.{may_stay, may_visit, report_late, stands_from, tells_all, unsent_late, unsent_suits}
+use Rattle.tw_rule.proofs.Visits.{may_stay, may_visit, report_late, tells_all, unsent_late, unsent_suits}
 use Rattle.tw_rule.specs.Board as rule
 use Rattle.tw_rule.specs.Board.{IsVisit, least_report, times_among}
-use Rattle.tw_rule.specs.Place.{IsFrom, Keeps, Place, Tells, after_visit, report_time}
+use Rattle.tw_rule.specs.Place.{Keeps, Tells, after_visit, report_time}
 use Rattle.tw_rule.specs.Rule.{MayGive, Stands}
 use Rattle.tw_shard.specs.Shard.{Shard}
 use Rattle.tw_sim.proofs.Counts.{one_self}

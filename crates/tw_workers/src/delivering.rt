@@ -3,7 +3,6 @@ ghost use Rattle.std.specs.Prelude.{◌≡◌, ◌<◌, ◌+◌, [], ℕ, OnErr,
 ghost use Rattle.tw_table.specs.Shares.{share};
 ghost use Rattle.tw_workers.specs.Work.{IsAtWork, Kept, StillKeeps};
 
-use crate::policy::count_undone;
 use crate::worker::Worker;
 use std::alloc::AllocError;
 use tw_shard::Shard;
@@ -20,12 +19,12 @@ impl<'a> Worker<'a> {
         ensures unsent { self.new.share.unsent ≡ self.old.share.unsent }
         ensures stop { self.new.stop ≡ self.old.stop }
     {
-        let waiting = self.shard.pending().len();
+        let undone = self.shard.tally().undone;
         for _ in self.hand.next..self.hand.mail.len() {
             receive_next(&mut self.shard, &mut self.hand)?;
         }
-        let undone = count_undone(waiting, &self.hand.mail, self.shard.pending().len());
-        self.pace.count_undone(undone);
+        self.pace
+            .count_undone(self.shard.tally().undone.saturating_sub(undone));
         self.hand.mail.clear();
         self.hand.next = 0;
         Ok(())

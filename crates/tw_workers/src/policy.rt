@@ -4,11 +4,9 @@
 ghost use Rattle.std.specs.Prelude.{◌≡◌, ◌≤◌, true};
 
 use std::cmp;
-use tw_event::Event;
 use tw_instance::Instance;
 use tw_model::limits::LONGEST_DELAY;
 use tw_shard::Shard;
-use tw_sim::Signed;
 
 /// A window wider than the longest delay of a link lets routers run ahead of messages not yet sent.
 const WIDEST_WINDOW: u64 = LONGEST_DELAY;
@@ -187,6 +185,11 @@ impl Pace {
         cmp::min(stop, bound.saturating_add(self.window))
     }
 
+    /// Whether the window is the one within which no event is undone.
+    pub(crate) fn has_least_window(&self) -> bool {
+        self.window == self.least_window
+    }
+
     /// The greatest bound at which an event of this time, in ticks, is not within the window.
     pub(crate) fn bound_before(&self, time: u64) -> u64 {
         time.saturating_sub(self.window)
@@ -238,8 +241,8 @@ impl Pace {
     }
 
     /// So many events were undone.
-    pub(crate) fn count_undone(&mut self, events: usize) {
-        self.undone = self.undone.saturating_add(events as u64);
+    pub(crate) fn count_undone(&mut self, events: u64) {
+        self.undone = self.undone.saturating_add(events);
     }
 
     /// A batch is over: whether it ended at the window. After a span of turns the window is judged.
@@ -284,18 +287,4 @@ fn least_delay(instance: &Instance) -> u64 {
         WIDEST_WINDOW,
         |least, link| least.min(link.delay).min(link.back),
     )
-}
-
-/// How many events were undone for messages: so many more are pending than before than they account for.
-/// A message adds one, an antimessage takes one out; where antimessages are kept it is a guess.
-pub(crate) fn count_undone(before: usize, messages: &[Signed<Event>], after: usize) -> usize {
-    let mut waiting = before;
-    for message in messages {
-        waiting = if message.plus {
-            waiting.saturating_add(1)
-        } else {
-            waiting.saturating_sub(1)
-        };
-    }
-    after.saturating_sub(waiting)
 }

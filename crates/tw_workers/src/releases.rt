@@ -66,12 +66,9 @@ impl<'a> Worker<'a> {
     fn is_release_due(&self, router: u32) -> bool
         ensures { result ≡ false → AreAwaitedFrom router self.now.stop self.now.share.shard }
     {
-        let Some(held) = self.shard.held_time(router) else {
-            return false;
-        };
-        match self.shard.pending().least_at(router) {
-            Some(event) if event.time < self.stop => held <= event.time,
-            _ => true,
+        match self.shard.held_time(router) {
+            Some(held) => !self.shard.pending().has_before(router, held.min(self.stop)),
+            None => false,
         }
     }
 }

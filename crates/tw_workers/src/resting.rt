@@ -43,38 +43,77 @@ impl<'a> Worker<'a> {
     /// Where it has nothing to do after a turn that it began with this bound, it waits until it may have, or
     /// for a while: the others get on sooner where the exchange and the processor are left to them.
     pub(crate) fn rest<G: Gate, R: Wait>(&self, rt: &R, table: &Table, gate: &G, known: u64) {
-        if !self.has_work(known) {
+        let least = self.least_time();
+        if !self.has_work(known, least) {
             let worker = self.shard.worker();
             let longest = longest_nap(self.shard.router_count());
+            let next = least.min(self.least_mail_time());
             gate.waiting(worker);
-            let naps = wait_for_news(rt, table, worker, self.idle_bound(), longest);
+            let naps = wait_for_news(rt, table, self.awaited(next), longest);
             gate.waited(worker, naps);
         }
     }
 
-    /// Whether a turn may do something: there is mail, or the end is reached, or a router may handle its next
-    /// event.
-    fn has_work(&self, known: u64) -> bool {
-        let bound = self.shard.bound();
-        !self.hand.mail.is_empty() || bound == self.stop || self.may_go_on(known)
+    /// Whether a turn may do something: there is mail for it, or the end is reached, or a router may handle its next
+    /// event, which is at the time `least`.
+    fn has_work(&self, known: u64, least: u64) -> bool {
+        self.shard.bound() == self.stop || self.has_mail_to_handle() || self.may_go_on(known, least)
+    }
+
+    /// Whether there is a message in its hand that a router may handle now, or an antimessage. All else can wait until
+    /// the bound rises: a turn for that would meet the others for nothing.
+    fn has_mail_to_handle(&self) -> bool {
+        self.hand.mail.iter().any(|message| !message.plus || self.is_in_window(message.event.time))
+    }
+
+    /// The least time of the messages in its hand, and the end of time where there are none.
+    fn least_mail_time(&self) -> u64 {
+        self.hand
+            .mail
+            .iter()
+            .fold(u64::MAX, |least, message| least.min(message.event.time))
     }
 
     /// Whether the next event is before its window's end. That event may have to wait, for room or for an
     /// antimessage, so it counts only where something was handled or the bound has risen.
-    fn may_go_on(&self, known: u64) -> bool {
-        let bound = self.shard.bound();
-        let has_moved = self.pace.turn().handled > 0 || bound > known;
-        has_moved && self.least_time() < self.pace.limit(bound, self.stop)
+    fn may_go_on(&self, known: u64, least: u64) -> bool {
+        let has_moved = self.pace.turn().handled > 0 || self.shard.bound() > known;
+        has_moved && self.is_in_window(least)
     }
 
-    /// Without mail, a turn can do nothing while the bound is not past this time, in ticks.
-    fn idle_bound(&self) -> u64 {
+    /// Whether a time is before its window's end.
+    fn is_in_window(&self, time: u64) -> bool {
+        time < self.pace.limit(self.shard.bound(), self.stop)
+    }
+
+    /// What lets a turn do something, where its next event, or that in its hand, is at the time `next`.
+    fn awaited(&self, next: u64) -> Awaited {
+        Awaited {
+            worker: self.shard.worker(),
+            bound: self.idle_bound(next),
+            mail_bound: self.mail_bound(next),
+        }
+    }
+
+    /// The bound from which on mail may let a turn do something. What others send comes the least delay after the
+    /// bound at the earliest. Where that is the end of the window, and its own next event is no earlier, it can
+    /// handle nothing of that before the bound rises.
+    fn mail_bound(&self, next: u64) -> u64 {
         let bound = self.shard.bound();
-        let least = self.least_time();
-        if least < self.pace.limit(bound, self.stop) {
+        if self.pace.has_least_window() && !self.is_in_window(next) {
+            bound.saturating_add(1)
+        } else {
+            bound
+        }
+    }
+
+    /// Without further mail, a turn can do nothing while the bound is not past this time, in ticks.
+    fn idle_bound(&self, next: u64) -> u64 {
+        let bound = self.shard.bound();
+        if self.is_in_window(next) {
             return bound;
         }
-        let before_window = self.pace.bound_before(least);
+        let before_window = self.pace.bound_before(next);
         before_window.min(self.stop.saturating_sub(1)).max(bound)
     }
 
@@ -84,27 +123,41 @@ impl<'a> Worker<'a> {
     }
 }
 
-/// Waits until mail for a worker is told, or a bound past this one, or for a while: it looks again and again at
-/// first, and then sleeps in between. It is answered how often it slept.
-fn wait_for_news<R: Wait>(rt: &R, table: &Table, worker: u32, bound: u64, longest: u64) -> u32 {
-    if is_told_soon(table, worker, bound) {
+/// What a worker that has nothing to do waits for: a bound past this one, or mail, once the bound is `mail_bound`.
+#[derive(Clone, Copy)]
+struct Awaited {
+    worker: u32,
+    bound: u64,
+    mail_bound: u64,
+}
+
+impl Awaited {
+    fn is_told(self, table: &Table) -> bool {
+        table.is_news_for(self.worker, self.bound, self.mail_bound)
+    }
+}
+
+/// Waits until what is awaited is told, or for a while: it looks again and again at first, and then sleeps in
+/// between. It is answered how often it slept.
+fn wait_for_news<R: Wait>(rt: &R, table: &Table, awaited: Awaited, longest: u64) -> u32 {
+    if is_told_soon(table, awaited) {
         return 0;
     }
     let mut micros = NAP_MICROS;
     for nap in 1..=NAPS {
         Parker::new().park_timeout(rt, Duration::from_micros(micros));
         micros = longest.min(micros.saturating_mul(2));
-        if table.is_news_for(worker, bound) {
+        if awaited.is_told(table) {
             return nap;
         }
     }
     NAPS
 }
 
-/// Whether mail for a worker is told, or a bound past this one, at one of so many looks.
-fn is_told_soon(table: &Table, worker: u32, bound: u64) -> bool {
+/// Whether what is awaited is told at one of so many looks.
+fn is_told_soon(table: &Table, awaited: Awaited) -> bool {
     for _ in 0..LOOKS {
-        if table.is_news_for(worker, bound) {
+        if awaited.is_told(table) {
             return true;
         }
         hint::spin_loop();

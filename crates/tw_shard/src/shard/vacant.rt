@@ -82,7 +82,7 @@ impl<'a> VacantShard<'a> {
         let count = roster.routers().len();
         let timelines = Vec::with_capacity(alloc, count)?;
         let rings = empty_rings(alloc, count)?;
-        let pending = queue_at(alloc, nodes, pending, &roster, cancel)?;
+        let pending = queue_at(alloc, nodes, pending, &roster)?;
         let kept = Pending::new(alloc, nodes)?;
         Ok(VacantShard {
             case,
@@ -156,22 +156,19 @@ fn empty_rings(alloc: Global, count: usize) -> Result<Vec<Ahead>, AllocError>
     Ok(rings)
 }
 
-/// The events for these routers. Where what is sent is taken back at once, they are kept by time.
+/// The events for these routers, kept by time.
 fn queue_at(
     alloc: Global,
     nodes: u32,
     events: &[Event],
     roster: &Roster,
-    cancel: Cancel,
 ) -> Result<Pending, AllocError>
     requires { AreFor nodes events.now }
     ensures events { IfOk result (λ pending. pending.events ≡ insert_all event_before (filter (λ e. has roster.now.routers e.dst) events.now) []) }
     ensures routers { IfOk result (λ pending. pending.routers ≡ nodes) }
 {
     let mut pending = Pending::new(alloc, nodes)?;
-    if cancel == Cancel::Aggressive {
-        pending.keep_by_time()?;
-    }
+    pending.keep_by_time()?;
     insert_own(&mut pending, events, roster)?;
     Ok(pending)
 }

@@ -1,4 +1,4 @@
-use Rattle.std.proofs.Common.{◌≡◌, ◌≤◌, Err, Result, false, length, max, ap, sym, ◌∙◌, subst, drop}
+use Rattle.std.proofs.Common.{◌≡◌, ◌≤◌, Err, false, max, ap, sym, ◌∙◌, subst, drop}
 use Rattle.tw_exchange.specs.Board.{AreDealt, handed, is_early, is_homeless, visited, workers}
 use Rattle.tw_table.proofs.Rules.{IsGiven, own_part}
 use Rattle.tw_table.specs.Seats.{exchange_of, share_of, taken_by}

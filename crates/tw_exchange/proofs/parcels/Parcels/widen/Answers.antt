@@ -1,5 +1,4 @@
 use Rattle.std.proofs.Common.{◌≡◌, ◌∙◌, [], ap, length, map, replicate, sym}
-use Rattle.std.proofs.lemmas.List.{length-replicate}
 use Rattle.tw_exchange.specs.Rows.{soonest_of}
 use Rattle.tw_exchange.proofs.Behind.{all_empty}
 use Rattle.tw_exchange.proofs.Boards.{opening_soonest}
@@ -14,10 +13,6 @@ returns-then-len-workers-clause-rows c =
     all_empty c.args.self.now c.requires ∙ ap (λ n. replicate n []) long
 
 pub invariant_of-self : goal.invariant_of-self
-invariant_of-self c =
-    let n = c.args.workers in
-    let lists = c.in_ok-lists.lists.items in
-    record {
-      soonest = c.in_ok-soonest.ensures ∙ (opening_soonest n ∙ ap (map soonest_of) (sym c.in_ok-lists.ensures));
-      counts = ap length c.in_ok-counts.ensures ∙ (length-replicate n 0 ∙ (sym (ap length c.in_ok-lists.ensures ∙ length-replicate n []) ∙ length_items lists));
-    }
+invariant_of-self c = record {
+  soonest = c.in_ok-soonest.ensures ∙ (opening_soonest c.args.workers ∙ ap (map soonest_of) (sym c.in_ok-lists.ensures));
+}

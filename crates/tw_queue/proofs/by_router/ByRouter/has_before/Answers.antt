@@ -1,0 +1,13 @@
+use Rattle.std.proofs.Common.{ap, sym, ◌∙◌}
+use Rattle.std.specs.Option.{option_copied}
+use Rattle.tw_queue.proofs.Early.{first_early, none_for}
+use Rattle.tw_queue.proofs.by_router.ByRouter.has_before.Goals as goal
+
+pub returns-in-Some : goal.returns-in-Some
+returns-in-Some c =
+    first_early c.args.router c.args.limit c.args.self.now.events c.first_at.ensures.queue.rising c.in-Some.event.now
+    (sym c.first_at.ensures.first ∙ ap option_copied c.in-Some.is)
+
+pub returns-in-None : goal.returns-in-None
+returns-in-None c =
+    none_for c.args.router c.args.limit c.args.self.now.events (sym c.first_at.ensures.first ∙ ap option_copied c.in-None.is)
