@@ -19,13 +19,18 @@ const SHORT_LAP: u64 = 250;
 /// user sees.
 const ENOUGH: u64 = 20_000;
 
-/// Where it takes longer to start and join threads that have nothing to do, other work takes the processors, and workers
-/// wait for one another far longer than they work. On a quiet machine it takes a tenth of this.
-const LONG_START: u64 = 3_000;
+/// Where threads that have nothing to do take longer to start and join, other work takes the processors, and workers wait
+/// for one another far longer than they work. On a quiet machine that takes a tenth of this. A stretch of the trial is
+/// given so much more than one thread takes.
+const LONG_WAIT: u64 = 3_000;
 
 /// Several are first tried on what takes one thread so long: some ten times what it takes to start a thread, and long
 /// enough for a clock to tell a twentieth.
 const TRIAL: u64 = 3_000;
+
+/// The first stretch of the trial is what takes one thread so long. Beside other work a stretch takes up to forty times
+/// as long, which is told by then.
+const FIRST_STRETCH: u64 = 500;
 
 /// They go on where the trial took a twentieth less than one thread: less is within what a clock tells of it.
 const TWENTIETHS: u64 = 19;
@@ -151,9 +156,11 @@ pub struct Course {
     starting: u64,
     // Of the next stretch, in ticks.
     length: u64,
-    // In all stretches so far.
+    // All stretches so far: how many they are, what they took, and what one thread would have taken.
+    stretches: u64,
     micros: u64,
-    // What the last stretch took more than one thread would have, where that counts.
+    by_one: u64,
+    // What several took more than one thread would have, where that counts.
     lost: Option<u64>,
 }
 
@@ -173,9 +180,11 @@ impl Course {
             lap: alone.last,
             opening,
             starting,
-            length: in_proportion(TRIAL, alone.last.ticks, alone.last.micros),
+            length: in_proportion(FIRST_STRETCH, alone.last.ticks, alone.last.micros),
+            stretches: 0,
             micros: 0,
-            lost: if starting > LONG_START { Some(0) } else { None },
+            by_one: 0,
+            lost: if starting > LONG_WAIT { Some(0) } else { None },
         }
     }
 
@@ -200,7 +209,7 @@ impl Course {
             self.alone.events,
         );
         let length = end.saturating_sub(self.ticks);
-        Course {
+        let later = Course {
             ticks: end,
             events,
             length: if micros >= LONG_STRETCH {
@@ -208,23 +217,34 @@ impl Course {
             } else {
                 length.saturating_mul(2)
             },
+            stretches: self.stretches.saturating_add(1),
             micros: self.micros.saturating_add(micros),
-            lost: self.loss(micros, by_one),
+            by_one: self.by_one.saturating_add(by_one),
             ..self
+        };
+        Course {
+            lost: if self.by_one < TRIAL {
+                later.loss_of_trial(micros, by_one)
+            } else {
+                more_than(micros, by_one)
+            },
+            ..later
         }
     }
 
-    /// What is lost by a stretch that took so long, where one thread would take so long: in the first one, which is the
-    /// trial, starting the threads does not count, and a twentieth is to be won.
-    fn loss(self, micros: u64, by_one: u64) -> Option<u64> {
-        let is_lost = if self.micros == 0 {
-            let work = micros.saturating_sub(self.starting);
-            work.saturating_mul(20) >= by_one.saturating_mul(TWENTIETHS)
+    /// What is lost by the trial so far, whose last stretch took so long, where one thread would take so long: in its
+    /// middle a stretch may take longer, but not as beside other work; at its end a twentieth is to be won, and starting
+    /// the threads does not count.
+    fn loss_of_trial(self, micros: u64, by_one: u64) -> Option<u64> {
+        let is_lost = if self.by_one < TRIAL {
+            by_one == 0 || micros > by_one.saturating_add(LONG_WAIT)
         } else {
-            micros > by_one
+            let starts = self.starting.saturating_mul(self.stretches);
+            let work = self.micros.saturating_sub(starts);
+            work.saturating_mul(20) >= self.by_one.saturating_mul(TWENTIETHS)
         };
         if is_lost {
-            Some(micros.saturating_sub(by_one))
+            Some(self.micros.saturating_sub(self.by_one))
         } else {
             None
         }
@@ -261,6 +281,15 @@ fn end_within(ticks: u64, length: u64, stop: u64) -> u64
     ensures within { result ≤ stop }
 {
     ticks.saturating_add(length.max(1)).min(stop)
+}
+
+/// How much more a stretch took than one thread would have.
+fn more_than(micros: u64, by_one: u64) -> Option<u64> {
+    if micros > by_one {
+        Some(micros - by_one)
+    } else {
+        None
+    }
 }
 
 /// What so much takes where `of` takes `share`.
