@@ -35,7 +35,7 @@ SOURCES = (
     "cases/*.spp",
     "cases/*.replay",
     "crates/*/must-fail/*",
-    "crates/*/wrong-bodies/*",
+    "crates/*/wrong-bodies/**/*",
     "tools/*",
     "tools/**/*.py",
     "python/**/*.py",

@@ -4,8 +4,9 @@
     wrong_bodies.py [--changed REV] [--jobs N] [--right] [CRATE ..]
 
 Where no crate is named, these are all that have some. A wrong body is a file NAME.edit in a
-crate's must-fail/ or wrong-bodies/: `file:` names a file of the crate, and each pair of lines
-`old:`, `new:` puts one text in place of another that stands in it once.
+crate's must-fail/, or stands in wrong-bodies/, in MODULE.edits, behind a line `body: NAME`, up to
+the next one. `file:` names a file of the crate, also for the bodies that follow, and each pair of
+lines `old:`, `new:` puts one text in place of another that stands in it once.
 
 A function's proof rests on the contracts of what it calls and not on their bodies, and nothing
 calls a function that is new. So a wrong body is tried as a function of its own: a copy of the one
@@ -95,27 +96,26 @@ def without_comments(text: str) -> list[str]:
 class WrongBody:
     """A wrong body: the file, the old text and the new one of each of its changes."""
 
-    path: Path
+    name: str
     changes: list[tuple[str, str, str]] = field(default_factory=list)
 
-    @property
-    def name(self) -> str:
-        return "/".join((*self.path.parts[-3:-1], self.path.stem))
-
     @classmethod
-    def read(cls, path: Path) -> WrongBody:
-        body, file, old = cls(path), "", ""
+    def read(cls, path: Path, place: str) -> list[WrongBody]:
+        """The wrong bodies of a file. Where none is named in it, it has one, with the file's name."""
+        bodies, file, old = [cls(f"{place}/{path.stem}")], "", ""
         for line in path.read_text().split("\n"):
             word, _, rest = line.partition(":")
             rest = rest.removeprefix(" ")
-            if word == "file":
+            if word == "body":
+                bodies.append(cls(f"{place}/{rest.strip()}"))
+            elif word == "file":
                 file = rest.strip()
             elif word == "old":
                 old = rest
             elif word == "new" and file and old:
-                body.changes.append((file, old, rest))
+                bodies[-1].changes.append((file, old, rest))
                 old = ""
-        return body
+        return bodies[1:] or bodies
 
     def applied(self, texts: Texts, read: Read) -> Texts:
         """The texts of the files that it changes.
@@ -534,8 +534,12 @@ class Trials:
 
 def bodies_of(crate: str) -> list[WrongBody]:
     """The wrong bodies of a crate."""
-    folders = [TOP / "crates" / crate / folder for folder in FOLDERS]
-    return [WrongBody.read(path) for folder in folders for path in sorted(folder.glob("*.edit"))]
+    return [
+        body
+        for folder in FOLDERS
+        for path in sorted((TOP / "crates" / crate / folder).rglob("*.edit*"))
+        for body in WrongBody.read(path, f"{crate}/{folder}")
+    ]
 
 
 def changed_since(revision: str) -> set[str]:
