@@ -18,8 +18,8 @@ of its very function. What is not told of is tried alone, and so is what changes
 definition. What is still proved alone has failed, and so has what does not apply or what the
 checker cannot read.
 
-It first checks each crate as it stands, by `rt check` in this checkout, and then works in a
-folder beside the repository, over what that check kept. --changed takes the crates whose files
+It first checks each crate as it stands, over kept libraries (crate.py), and then works in a folder
+beside the repository, over what that check kept. --changed takes the crates whose files
 differ from the revision REV. --right tries the right bodies in the same way, as functions of their
 own: the checker must prove each, or it refuses a wrong one for its name alone. There is a line
 for each wrong body, one for each crate with its processor time, and at last 'N passed, M failed'.
@@ -42,10 +42,10 @@ from functools import cached_property
 from pathlib import Path
 
 from common import TOP, Tally
+from crate import CRATES, Checker
 from functions import Function, functions_of, modules_of
 from twarp_tools.build import below, graph_of, uses_of
 
-CRATES = TOP / "crates.txt"
 FOLDERS = ("must-fail", "wrong-bodies")
 PARTS = ("src", "specs", "proofs")
 # So many wrong bodies are tried together: the checker stops a check at a limit of its own.
@@ -270,10 +270,10 @@ class Said:
         return next((line for line in self.lines if "error" in line), self.lines[0])[:200]
 
 
-def checked(folder: Path) -> Said:
-    """Runs `rt check` in a crate's folder."""
+def checked(command: list[str], folder: Path) -> Said:
+    """Runs the check of a crate in its folder, or in that of a copy."""
     with subprocess.Popen(
-        ["rt", "check", "--jobs", "1"],
+        command,
         cwd=folder,
         stdin=subprocess.DEVNULL,
         stdout=subprocess.PIPE,
@@ -310,27 +310,20 @@ def copy_linked(folder: Path, to: Path) -> None:
 
 
 class Room:
-    """A copy of a crate, with what it stands on, in which changed texts are checked.
+    """A copy of a crate, in which changed texts are checked.
 
     The functions are those that the checker names, with the crate as it stands.
     """
 
-    def __init__(self, folder: Path, crate: str, functions: set[Name]) -> None:
+    def __init__(self, copy: Path, crate: str, command: list[str], functions: set[Name]) -> None:
         self.original = TOP / "crates" / crate
+        self.command = command
         self.functions = functions
-        self.top = folder / crate
-        self.copy = self.top / "crates" / crate
+        self.copy = copy
         self.minutes = 0.0
         self.checks = 0
-        self.top.mkdir()
-        subprocess.run(["git", "init", "-q", self.top], check=True)
-        shutil.copy2(TOP / "HANDLES", self.top / "HANDLES")
-        known, copied = crates(), below(graph_of(CRATES.read_text()), crate)
-        lines = [f"{name}: {' '.join(known[name])}\n" for name in copied]
-        (self.top / "crates.txt").write_text("".join(lines))
-        for name in copied:
-            for part in PARTS if name == crate else (*PARTS, "out/rlib"):
-                copy_linked(TOP / "crates" / name / part, self.top / "crates" / name / part)
+        for part in PARTS:
+            copy_linked(self.original / part, copy / part)
 
     def read(self, file: str) -> str:
         """A file of the crate as it stands in the repository."""
@@ -355,7 +348,7 @@ class Room:
             (self.copy / file).parent.mkdir(parents=True, exist_ok=True)
             (self.copy / file).write_text(text)
         try:
-            said = checked(self.copy)
+            said = checked(self.command, self.copy)
         finally:
             for part in {Path(file).parts[0] for file in texts}:
                 shutil.rmtree(self.copy / part)
@@ -557,10 +550,21 @@ def changed_since(revision: str) -> set[str]:
     return {path.split("/")[1] for one in told for path in one.stdout.split()}
 
 
-def try_crate(
-    crate: str, functions: set[Name], folder: Path, tally: Tally, is_right: bool
-) -> float:
+def room_of(crate: str, folder: Path) -> Room:
+    """A copy of a crate below a folder, once it is proved as it stands."""
+    libraries = folder / "libraries"
+    libraries.mkdir(exist_ok=True)
+    command = Checker(crate, libraries).command
+    said = checked(command, TOP / "crates" / crate)
+    if said.status != 0:
+        sys.exit(f"{crate} is not proved as it stands: {said.first_error()}")
+    say(f"{crate} is proved as it stands ({said.minutes:.1f} processor minutes)")
+    return Room(folder / "crates" / crate, crate, command, said.proved())
+
+
+def try_crate(room: Room, tally: Tally, is_right: bool) -> float:
     """Tries a crate's wrong bodies, or the right ones, and returns its processor minutes."""
+    crate = room.original.name
     bodies = bodies_of(crate)
 
     def tell(body: WrongBody, reason: str, wrong: str) -> None:
@@ -569,15 +573,12 @@ def try_crate(
             if reason:
                 print(f"{body.name}: refused: {reason[:160]}", flush=True)
 
-    room = Room(folder, crate, functions)
-    try:
-        trials = Trials(room, tell)
-        if is_right:
-            trials.run_right(bodies)
-        else:
-            trials.run(bodies)
-    finally:
-        shutil.rmtree(room.top, ignore_errors=True)
+    trials = Trials(room, tell)
+    if is_right:
+        trials.run_right(bodies)
+    else:
+        trials.run(bodies)
+    shutil.rmtree(room.copy)
     say(f"== {crate}: {len(bodies)} in {room.checks} checks, {room.minutes:.1f} processor minutes")
     return room.minutes
 
@@ -620,21 +621,13 @@ def main() -> None:
     asked = words.parse_args()
     signal.signal(signal.SIGTERM, lambda *_: sys.exit(143))
     chosen = chosen_crates(asked)
-    functions: dict[str, set[Name]] = {}
-    for crate in chosen:
-        said = checked(TOP / "crates" / crate)
-        if said.status != 0:
-            sys.exit(f"{crate} is not proved as it stands: {said.first_error()}")
-        functions[crate] = said.proved()
-        say(f"{crate} is proved as it stands ({said.minutes:.1f} processor minutes)")
     # Those with the most first, so that none is left to run long by itself.
     chosen.sort(key=lambda crate: -len(bodies_of(crate)))
     tally = Tally()
     with tempfile.TemporaryDirectory(prefix="twarp-wrong-bodies-", dir=TOP.parent) as folder:
+        rooms = [room_of(crate, Path(folder)) for crate in chosen]
         with ThreadPoolExecutor(asked.jobs) as pool:
-            spent = pool.map(
-                lambda it: try_crate(it, functions[it], Path(folder), tally, asked.right), chosen
-            )
+            spent = pool.map(lambda room: try_crate(room, tally, asked.right), rooms)
             say(f"{sum(spent):.1f} processor minutes in all")
     tally.end()
 
