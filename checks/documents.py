@@ -8,7 +8,8 @@ a name (of a crate, a function, a clause, a definition) must stand somewhere in 
 has spaces or the word NAME, and blocks of code, is let pass. In a table of promises, clauses named
 after functions must be clauses of one of these. The list of files for a new kind of event must
 have each file that names a kind. CONTRIBUTING.md must list the steps of .ci/run in their order, and
-name the crates that have more functions than it aims at.
+name the crates that have more functions than it aims at. No folder may have a link: rt ci stops at
+one.
 """
 from __future__ import annotations
 
@@ -210,6 +211,13 @@ def misnamed_sizes() -> list[str]:
     return [f"{crate} has {counts[crate]}" for crate in sorted(large ^ named)]
 
 
+def links() -> list[str]:
+    """The links in folders of the repository, but for what git and builds keep."""
+    folders = [it for it in TOP.iterdir() if it.is_dir() and it.name not in (".git", "out")]
+    found = (path for folder in folders for path in folder.rglob("*") if path.is_symlink())
+    return sorted(str(path.relative_to(TOP)) for path in found)
+
+
 def check(tally: Tally, name: str, words: str, lost: list[str]) -> None:
     tally.add(name, f"{words} {', '.join(lost)}" if lost else None)
 
@@ -219,6 +227,7 @@ def main() -> None:
     check(tally, "the list for a new kind of event", "it lacks", left_out_of_kinds())
     check(tally, "the steps of the gate", "CONTRIBUTING.md has", misnamed_steps())
     check(tally, "the crates of many functions", "CONTRIBUTING.md is not right:", misnamed_sizes())
+    check(tally, "files and folders", "these are links:", links())
     known, clauses = Known.read(), clauses_by_function()
     for document in files(DOCUMENTS):
         lost = lost_names(text_of(document), known, clauses)
