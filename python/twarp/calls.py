@@ -32,8 +32,7 @@ def call(command: str, options: Options, text: object, program: Path) -> bytes:
 
 def check(case: Case, *, program: File | None = None) -> Size:
     """How large a case is; Refused, with the line of its text and the rule's code, where it is none."""
-    words = call("check", {}, case, need(program)).decode().split()
-    return Size(*map(int, words[2::2]))
+    return Size(*map(int, call("check", {}, case, need(program)).split()[2::2]))
 
 
 def upgrade(case: Case, *, program: File | None = None) -> Case:
@@ -46,8 +45,7 @@ def seq(case: Case, *, stop: int, every: int | None = None, log: bool = False, p
 
     With `every` it looks each so many ticks whether the network oscillates; with `log` the report has the events.
     """
-    options = {"stop": stop, "every": every, "log": log}
-    return read_report(call("seq", options, case, need(program)), case.nodes)
+    return read_report(call("seq", {"stop": stop, "every": every, "log": log}, case, need(program)), case.nodes)
 
 
 def run(
@@ -64,9 +62,8 @@ def run(
     program: File | None = None,
 ) -> Report:
     """The same report as that of `seq`, by workers in threads that run ahead of one another (docs/FORMATS.md)."""
-    options = {"stop": stop, "every": every, "log": log, "workers": workers, "batch": batch}
-    options |= {"lazy": lazy, "blocks": blocks, "rotate": rotate}
-    return read_report(call("run", options, case, need(program)), case.nodes)
+    how = {"workers": workers, "batch": batch, "lazy": lazy, "blocks": blocks, "rotate": rotate}
+    return read_report(call("run", how | {"stop": stop, "every": every, "log": log}, case, need(program)), case.nodes)
 
 
 def replay(
@@ -86,8 +83,7 @@ def replay(
 
 def trail(case: Case, router: int, *, stop: int, keep: int, program: File | None = None) -> Trail:
     """A router's events up to `stop`, of which all but the first `keep` are undone again."""
-    out = call("trail", {"router": router, "stop": stop, "keep": keep}, case, need(program))
-    return read_trail(out, router)
+    return read_trail(call("trail", {"router": router, "stop": stop, "keep": keep}, case, need(program)), router)
 
 
 def version(*, program: File | None = None) -> str:

@@ -5,7 +5,7 @@ import io
 from collections.abc import Callable, Iterable
 from dataclasses import dataclass, field
 from functools import cache
-from itertools import islice
+from itertools import chain, islice
 from typing import TYPE_CHECKING, Any, TypeVar
 
 from twarp import program
@@ -26,8 +26,6 @@ MOST_BYTES = 67_108_864
 
 ORIGIN = 0
 
-# How many paths a router gets of a network that names none.
-SOME_PATHS = 20
 
 # As a path is written between brackets, and a number in any text that twarp writes.
 NUMBER = r"(?:0|[1-9][0-9]{0,19})"
@@ -144,17 +142,16 @@ class Case:
         if origin not in graph:
             raise Refused(f"refused: the network has no node {origin!r}")
         nodes = [origin, *(node for node in graph if node != origin)]
-        numbers = {node: number for number, node in enumerate(nodes)}
-        case = cls(len(nodes))
+        case, numbers = cls(len(nodes)), {node: number for number, node in enumerate(nodes)}
         for a, b in dict.fromkeys(tuple(sorted((numbers[a], numbers[b]))) for a, b in graph.edges):
             there, back = graph.get_edge_data(nodes[a], nodes[b]), graph.get_edge_data(nodes[b], nodes[a])
             case.link(a, b, *((row if row is not None else there or back).get(delay, 1) for row in (there, back)))
         paths = networkx.get_node_attributes(graph, "paths")
         for node in nodes[1:]:
-            found: Iterable[Any] = paths.get(node, [])
+            found = paths.get(node, [])
             if not paths and networkx.has_path(graph, node, origin):
-                short = networkx.shortest_simple_paths(graph, node, origin, weight)
-                found = (path for path in islice(short, SOME_PATHS) if len(path) <= MOST_NODES)
+                shortest = islice(networkx.shortest_simple_paths(graph, node, origin, weight), 20)
+                found = (path for path in shortest if len(path) <= MOST_NODES)
             for path in found:
                 case.path(*(numbers[step] for step in path))
         return case
@@ -226,8 +223,7 @@ class Case:
         swaps = [scene for scene in self.scenes if isinstance(scene, SwapScene)]
         places = [(scene.router, scene.place) for scene in self.scenes if isinstance(scene, BarScene)]
         places += [(scene.router, place) for scene in swaps for place in (scene.first, scene.second)]
-        named = {router for link in links for router in link} | {path[0] for path in self.paths}
-        named |= {router for router, _ in places}
+        named = {*chain.from_iterable(links), *(path[0] for path in self.paths), *(router for router, _ in places)}
         if not self.nodes or not named.issubset(range(self.nodes)):
             return False
         counts = [len(order) for order in self.orders()]
@@ -255,9 +251,8 @@ class Case:
         return {path: number for number, path in enumerate([(), (ORIGIN,), *self.paths])}
 
     def __str__(self) -> str:
-        is_first = all(link.is_even for link in self.links)
-        is_first &= not any(isinstance(scene, BarScene) for scene in self.scenes)
-        version = self.version or (1 if is_first else 2)
+        is_first = not any(isinstance(scene, BarScene) for scene in self.scenes)
+        version = self.version or (1 if is_first and all(link.is_even for link in self.links) else 2)
         links = [f"link {link.a} {link.b} {link.delay}" + f" {link.back}" * (version > 1) for link in self.links]
         rest = [*map(path_line, self.paths), *map(str, self.scenes), "end\n"]
         return "\n".join([f"spp {version}", f"nodes {self.nodes}", *links, *rest])
@@ -278,14 +273,14 @@ def lines_of(text: bytes) -> list[str]:
     return [*io.StringIO(text.decode("utf-8", "replace"), newline="\n")]
 
 
-WHICH = "which rule is broken is told by the program, which is not here"
-NumberedLine = tuple[int, str]
-
-
 @cache
 def path_line(path: Nodes) -> str:
     """The line of a permitted path, which is kept since a sweep writes each of them many times."""
     return f"path {path[0]} {' '.join(map(str, path))}"
+
+
+NumberedLine = tuple[int, str]
+WHICH = "which rule is broken is told by the program, which is not here"
 
 
 def read_case(text: bytes, named: program.File | None = None) -> Case:
@@ -298,12 +293,9 @@ def read_case(text: bytes, named: program.File | None = None) -> Case:
 
 def case_and_rest(text: bytes, words: list[str], named: program.File | None = None) -> tuple[Case, list[NumberedLine]]:
     """The case with which a text begins and the lines behind it. With these words the program judges the whole."""
-    file = program.find(named)
-    if file:
+    if file := program.find(named):
         program.answer(program.need(file), words, text)
-    case = Case()
-    lines = enumerate(lines_of(text), 1)
-    number = 0
+    case, lines, number = Case(), enumerate(lines_of(text), 1), 0
     for number, line in lines:
         if line == "end\n":
             break

@@ -93,8 +93,7 @@ def read_range(words: str, least: int, greatest: int) -> Uniform:
 def read_law(words: str) -> Law:
     """The law of delays that is written 1-20, exponential:MEAN, or log-normal:MEDIAN:SIGMA."""
     number = r"([0-9]{1,7}(?:\.[0-9]{1,9})?)"
-    found = re.fullmatch(rf"exponential:{number}|log-normal:{number}:{number}", words)
-    if not found:
+    if not (found := re.fullmatch(rf"exponential:{number}|log-normal:{number}:{number}", words)):
         return read_range(words, 1, GREATEST_DELAY)
     mean, median, sigma = (float(part or "1") for part in found.groups())
     if 0 in (mean, median):
@@ -114,18 +113,18 @@ def ends_of(item: Link | LinkScene) -> Ends:
 class DelayDraws:
     """Draws the delays of a case's links: of all, or of those named; where `apart`, each direction has its own."""
 
-    def __init__(self, case: Case, law: Law, named: Sequence[Ends] | None = None, apart: bool = False):
+    def __init__(self, case: Case, law: Law | str, named: Sequence[Ends] | None = None, apart: bool = False):
+        self.law = read_law(law) if isinstance(law, str) else law
         known = {ends_of(link): link for link in case.links}
         chosen = [*known] if named is None else [*dict.fromkeys((min(ends), max(ends)) for ends in named)]
         for a, b in chosen:
             if (a, b) not in known:
                 raise Refused(f"refused option --links: the case has no link {a}-{b}")
-        self.law = law
         # The directions for each of which a delay is drawn.
         self.ways = [way for a, b in chosen for way in ([(a, b), (b, a)] if apart else [(a, b)])]
         self.columns = [f"delay_{a}_{b}" for a, b in self.ways]
         links = "all links" if named is None else f"links {', '.join(f'{a}-{b}' for a, b in chosen)}"
-        self.words = f"delays {law} of {links}{', each direction apart' if apart else ''}"
+        self.words = f"delays {self.law} of {links}{', each direction apart' if apart else ''}"
 
     def draw(self, case: Case, seed: int) -> tuple[Case, list[int]]:
         """The case with delays of this seed, of both directions of a link where only one is drawn; and these."""
@@ -141,8 +140,8 @@ class DelayDraws:
 class FailureDraws:
     """Draws the times of a case's failures. A repair moves with the failure that it ends."""
 
-    def __init__(self, case: Case, within: Uniform):
-        self.within = within
+    def __init__(self, case: Case, times: Uniform | str):
+        self.within = within = read_range(times, 0, GREATEST_TIME) if isinstance(times, str) else times
         scenes = [(place, scene) for place, scene in enumerate(case.scenes) if isinstance(scene, LinkScene)]
         # The links that fail, by the places of their failures in the scenario.
         self.failing = {place: ends_of(scene) for place, scene in scenes if scene.word == "fail"}
@@ -161,8 +160,7 @@ class FailureDraws:
         latest = within.greatest + max((later for _, later in self.repairs.values()), default=0)
         if latest > GREATEST_TIME:
             raise Refused(f"refused option --failure-times: a repair would be at {latest:,}, past {GREATEST_TIME:,}")
-        self.columns = []
-        counts: Counter[Ends] = Counter()
+        self.columns, counts = list[str](), Counter[Ends]()
         for ends in self.failing.values():
             counts[ends] += 1
             self.columns.append("fail_{}_{}".format(*ends) + (f"_{counts[ends]}" if counts[ends] > 1 else ""))
@@ -173,9 +171,7 @@ class FailureDraws:
         values = [self.within.ticks(share(seed, "failure", place + 1)) for place in self.failing]
         times = dict(zip(self.failing, values))
         times |= {place: times[failure] + later for place, (failure, later) in self.repairs.items()}
-        scenes = [
-            replace(scene, time=times[place]) if place in times else scene for place, scene in enumerate(case.scenes)
-        ]
+        scenes = [replace(scene, time=times[at]) if at in times else scene for at, scene in enumerate(case.scenes)]
         return replace(case, scenes=scenes), values
 
 
@@ -191,13 +187,9 @@ class CaseSource:
         failure_times: Uniform | str | None = None,
     ):
         self.case = case
-        self.draws: list[DelayDraws | FailureDraws] = []
-        if delays is not None:
-            self.draws.append(DelayDraws(case, read_law(delays) if isinstance(delays, str) else delays, links, apart))
-        if isinstance(failure_times, str):
-            failure_times = read_range(failure_times, 0, GREATEST_TIME)
-        if failure_times is not None:
-            self.draws.append(FailureDraws(case, failure_times))
+        of_delays = [] if delays is None else [DelayDraws(case, delays, links, apart)]
+        of_failures = [] if failure_times is None else [FailureDraws(case, failure_times)]
+        self.draws: list[DelayDraws | FailureDraws] = [*of_delays, *of_failures]
         self.columns = [column for draw in self.draws for column in draw.columns]
         self.words = ", ".join(draw.words for draw in self.draws)
 

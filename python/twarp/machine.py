@@ -74,10 +74,8 @@ class Machine:
                 self.undo_last(router)
             case Step("deliver", int(place)) if 1 <= place <= len(self.flight):
                 self.deliver(place)
-            case Step("commit", int(router)) if is_there:
-                self.commit(router)
-            case Step("release", int(router)) if is_there:
-                self.release(router)
+            case Step("commit" | "release" as word, int(router)) if is_there:
+                getattr(self, word)(router)
             case Step("bound"):
                 self.find_bound()
             case _:
@@ -97,9 +95,8 @@ class Machine:
                 handling.committed_at = self.number
 
     def handle(self, router: int) -> None:
-        event = min(self.pending[router], key=self.key)
+        event, before = min(self.pending[router], key=self.key), self.routers[router].copy()
         self.pending[router].remove(event)
-        before = self.routers[router].copy()
         handling = Handling(event, before, self.routers[router].handle(event), self.number)
         self.handled[router].append(handling)
         self.history.handlings.append(handling)
@@ -154,10 +151,9 @@ class Machine:
         return Fate.ANNIHILATED
 
     def loose_line(self) -> str:
-        pending = sum(map(len, self.pending))
+        pending, held = sum(map(len, self.pending)), f" held {len(self.held)}" if self.is_lazy else ""
         ahead = sum(handling.committed_at is None for row in self.handled for handling in row)
-        line = f"flight {len(self.flight)} pending {pending} kept {len(self.kept)} ahead {ahead}"
-        return f"{line} held {len(self.held)}" if self.is_lazy else line
+        return f"flight {len(self.flight)} pending {pending} kept {len(self.kept)} ahead {ahead}{held}"
 
 
 def follow_replay(case: Case, steps: list[Step], replay: Replay) -> History:

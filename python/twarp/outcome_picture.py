@@ -2,7 +2,7 @@
 
 import itertools
 from collections import Counter
-from collections.abc import Callable, Sequence
+from collections.abc import Sequence
 from dataclasses import dataclass
 from xml.etree.ElementTree import Element
 
@@ -48,8 +48,7 @@ class Lane:
 def lanes_of(ranked: Sequence[Outcome]) -> list[Lane]:
     """A lane for each outcome, in the colours of paths for those at rest, and one for the rarest together."""
     alone = ranked if len(ranked) <= MOST_LANES else ranked[: MOST_LANES - 1]
-    lanes = []
-    places = map(place_of, itertools.count())
+    lanes, places = [], map(place_of, itertools.count())
     for outcome in alone:
         look = {"class_": "period" if outcome.word == "oscillates" else "hollow"}
         if outcome.ribs is not None:
@@ -82,9 +81,10 @@ class OutcomePicture:
             self.draw_lane(picture.root, lane, TOP + LANE * (place + 0.5))
         entries: list[tuple[str, Sample]] = [(lane.words, sample_box(**lane.look)) for lane in self.lanes]
         entries.append(("95 % interval", sample_path(12, 4, "v8m0 -4h24m0 -4v8", **WHISKER)))
-        base, none = self.bottom + GAP, "no run came to rest"
-        base = self.draw_histogram(picture.root, base, "rest at", lambda outcome: outcome.rest_times, none)
-        base = self.draw_histogram(picture.root, base + GAP, "messages", lambda outcome: outcome.messages, "")
+        times = [sum((one.times for one in lane.outcomes if one.ribs is not None), Counter()) for lane in self.lanes]
+        messages = [sum((one.messages for one in lane.outcomes), Counter()) for lane in self.lanes]
+        base = self.draw_histogram(picture.root, self.bottom + GAP, "rest at", times, "no run came to rest")
+        base = self.draw_histogram(picture.root, base + GAP, "messages", messages, "")
         right = self.right + NOTE
         return picture.text(right + 16, draw_legend(picture.root, right, base + 56, entries))
 
@@ -113,13 +113,9 @@ class OutcomePicture:
             paths = paths if len(paths) <= MOST_LETTERS else f"{paths[:MOST_LETTERS]} .."
             add(group, "text", paths, class_="path note", x=self.left + 4, y=y + 16)
 
-    def draw_histogram(
-        self, parent: Element, top: float, word: str, counted: Callable[[Outcome], Counter[int]], nothing: str
-    ) -> float:
-        """How many runs have which number of something, each lane in its own colour; gives the height of its base."""
-        rows = [(lane, sum(map(counted, lane.outcomes), Counter[int]())) for lane in self.lanes]
-        whole = sum((counts for _, counts in rows), Counter[int]())
-        if not whole:
+    def draw_histogram(self, parent: Element, top: float, word: str, rows: list[Counter[int]], nothing: str) -> float:
+        """How many runs of each lane have which number, in the lane's own colour; gives the height of its base."""
+        if not (whole := sum(rows, Counter[int]())):
             add(parent, "text", nothing, class_="quiet", x=self.left, y=top)
             return top
         base, columns = top + HEIGHT, Columns.of(whole)
@@ -128,7 +124,7 @@ class OutcomePicture:
         tallest = max(columns.count(whole).values())
         self.draw_counts(parent, tallest, self.left + pixels * (last + 1 - first), base)
         heights: Counter[int] = Counter()
-        for lane, counts in rows:
+        for lane, counts in zip(self.lanes, rows):
             for number, runs in sorted(columns.count(counts).items()):
                 heights[number] += runs
                 where = f"{word} {number * width:,}" + (f" to {(number + 1) * width - 1:,}" if width > 1 else "")

@@ -6,9 +6,8 @@ import json
 import re
 from collections import Counter
 from collections.abc import Iterable, Iterator, Mapping, Sequence
-from dataclasses import dataclass, field
+from dataclasses import astuple, dataclass, field
 from functools import cached_property
-from itertools import accumulate
 from math import ceil, sqrt
 from statistics import NormalDist
 from typing import Any, TextIO
@@ -27,11 +26,14 @@ MOST_LINES = 20
 MOST_COLUMNS = 40
 # More letters than the names of 65,536 delays take.
 MOST_LINE = 1 << 22
-PERCENTS = (50, 90, 99)
+# What is told of numbers: the least one, three percentiles, and the greatest one.
+PERCENTS = (0, 50, 90, 99, 100)
 NOTHING: Mapping[Any, Any] = {}
 
 HEAD = ["outcome", "runs", "share", "95 % interval", "time", "first seed", "paths"]
 RUN_COLUMNS = ["verdict", "rest", "from", "period", "sent", "changed", "outcome", "moving", "paths"]
+# The columns of what a verdict says.
+TIMES = {"quiet": ["rest"], "oscillates": ["from", "period"], "open": []}
 
 
 @dataclass
@@ -59,10 +61,6 @@ class Outcome:
     def time_word(self) -> str:
         return "rest" if self.ribs is not None else "period"
 
-    @property
-    def rest_times(self) -> Counter[int]:
-        return Counter() if self.ribs is None else self.times
-
     def take(self, end: End) -> None:
         self.runs += 1
         self.messages[end.sent] += 1
@@ -74,29 +72,22 @@ class Outcome:
     def time_words(self) -> str:
         if not self.times:
             return ""
-        least, middle, greatest = min(self.times), percentile(self.times, 50), max(self.times)
-        if least == greatest:
-            return f"{self.time_word} {least:,}"
-        return f"{self.time_word} {least:,} to {greatest:,}, median {middle:,}"
+        least, middle, *_, greatest = percentiles(self.times)
+        return f"{self.time_word} {least:,}" + (f" to {greatest:,}, median {middle:,}" if least < greatest else "")
 
     def record(self, total: int) -> dict[str, Any]:
-        told: dict[str, Any] = {"outcome": self.name, "runs": self.runs, "share": self.runs / total}
+        told = {"outcome": self.name, "runs": self.runs, "share": self.runs / total}
         told |= {"interval": interval(self.runs, total), "first_seed": self.first}
-        if self.times:
-            told[self.time_word] = spread(self.times)
-        told["messages"] = spread(self.messages)
-        if self.ribs is not None:
-            told["paths"] = self.ribs
-        else:
-            told["moving"] = [{"router": router, "runs": runs} for router, runs in sorted(self.moving.items())]
-        return told
+        told |= {self.time_word: spread(self.times)} if self.times else {}
+        moving = [{"router": router, "runs": runs} for router, runs in sorted(self.moving.items())]
+        last = {"paths": self.ribs} if self.ribs is not None else {"moving": moving}
+        return {**told, "messages": spread(self.messages), **last}
 
 
-def percentile(counts: Counter[int], percent: int) -> int:
-    """The least value such that so many in a hundred are at most this one."""
-    values, wanted = sorted(counts), ceil(counts.total() * percent / 100)
-    seen = accumulate(counts[value] for value in values)
-    return next(value for value, count in zip(values, seen) if count >= wanted)
+def percentiles(counts: Counter[int]) -> list[int]:
+    """For each of `PERCENTS` the least value such that so many in a hundred are at most this one."""
+    values = sorted(counts.elements())
+    return [values[max(0, ceil(len(values) * percent / 100) - 1)] for percent in PERCENTS]
 
 
 @dataclass(frozen=True)
@@ -121,10 +112,9 @@ def spread(counts: Counter[int]) -> dict[str, Any]:
     """Percentiles and a histogram: column k counts the values from `first + k * width` on, below the next column's."""
     columns = Columns.of(counts)
     counted = columns.count(counts)
-    percents = {f"p{percent}": percentile(counts, percent) for percent in PERCENTS}
-    histogram: dict[str, Any] = {"first": columns.first * columns.width, "width": columns.width}
-    histogram["counts"] = [counted[number] for number in range(columns.first, columns.last + 1)]
-    return {"least": min(counts), **percents, "greatest": max(counts), "histogram": histogram}
+    heights = [counted[number] for number in range(columns.first, columns.last + 1)]
+    histogram = {"first": columns.first * columns.width, "width": columns.width, "counts": heights}
+    return dict(zip(["least", "p50", "p90", "p99", "greatest"], percentiles(counts))) | {"histogram": histogram}
 
 
 class Outcomes:
@@ -146,19 +136,18 @@ class Outcomes:
 
     def take(self, trial: Trial) -> Outcome | None:
         """Counts a run, and gives its outcome where it did not fail."""
-        end = trial.end
-        if isinstance(end, Failed):
+        if isinstance(end := trial.end, Failed):
             self.failed += 1
             return None
         self.total += 1
         self.__dict__.pop("differing", None)
         word, ribs = str(end.verdict).split()[0], end.ribs if isinstance(end.verdict, Quiet) else None
-        if (ribs or word) not in self.by_end:
+        if not (outcome := self.by_end.get(ribs or word)):
             number = self.numbers.setdefault(ribs, self.last_number + 1) if ribs else None
             self.last_number = max(self.last_number, number or 0)
-            self.by_end[ribs or word] = Outcome(word, trial.seed, number, ribs)
-        self.by_end[ribs or word].take(end)
-        return self.by_end[ribs or word]
+            outcome = self.by_end[ribs or word] = Outcome(word, trial.seed, number, ribs)
+        outcome.take(end)
+        return outcome
 
     def ranked(self) -> list[Outcome]:
         """The outcomes, the most frequent first; of equally frequent ones that with the lower first seed."""
@@ -169,16 +158,11 @@ class Outcomes:
         """The outcomes at rest by their paths."""
         return {outcome.ribs: outcome for outcome in self.by_end.values() if outcome.ribs is not None}
 
-    @property
-    def nodes(self) -> int:
-        """How many routers there are, where some outcome is at rest."""
-        return len(next(iter(self.at_rest), ()))
-
     @cached_property
     def differing(self) -> list[int]:
         """The routers whose paths tell the outcomes at rest apart; all but the origin where there is one outcome."""
-        rows = [*self.at_rest]
-        return [router for router in range(1, self.nodes) if len(rows) == 1 or len({row[router] for row in rows}) > 1]
+        columns = [*zip(*self.at_rest)]
+        return [router for router, paths in enumerate(columns) if router and (len(paths) == 1 or len({*paths}) > 1)]
 
     def path_words(self, outcome: Outcome) -> str:
         """The paths that tell an outcome at rest from the others, or what is known of one that is not at rest."""
@@ -191,7 +175,7 @@ class Outcomes:
 
     def path_counts(self, router: int) -> list[tuple[Nodes, int]]:
         """The paths of a router with which runs are at rest, each with how many these are, the most first."""
-        counts: Counter[Nodes] = Counter()
+        counts = Counter[Nodes]()
         for ribs, outcome in self.at_rest.items():
             counts[ribs[router]] += outcome.runs
         return counts.most_common()
@@ -202,44 +186,37 @@ class Outcomes:
         return "\n".join(aligned(table) for table in tables if len(table) > 1 or table[0] == HEAD)
 
     def outcome_table(self) -> list[list[str]]:
-        rows = [HEAD]
-        for outcome in self.ranked():
-            shares = share_words(outcome.runs, self.total)
-            rows.append([outcome.name, *shares, outcome.time_words(), str(outcome.first), self.path_words(outcome)])
-        return rows
+        told = ((one, share_words(one.runs, self.total), self.path_words(one)) for one in self.ranked())
+        return [HEAD, *([one.name, *share, one.time_words(), str(one.first), paths] for one, share, paths in told)]
 
     def percentile_table(self) -> list[list[str]]:
-        rows = [["outcome", "of", "least", *(f"{percent} %" for percent in PERCENTS), "greatest"]]
+        rows = [["outcome", "of", "least", "50 %", "90 %", "99 %", "greatest"]]
         for outcome in self.ranked():
             for words, counts in (outcome.time_word, outcome.times), ("messages", outcome.messages):
                 if counts:
-                    values = [min(counts), *(percentile(counts, percent) for percent in PERCENTS), max(counts)]
-                    rows.append([outcome.name, words, *(f"{value:,}" for value in values)])
+                    rows.append([outcome.name, words, *(f"{value:,}" for value in percentiles(counts))])
         return rows
 
     def moving_table(self) -> list[list[str]]:
         rows = [["outcome", "runs", "routers that still move, and in how many runs"]]
-        for outcome in self.ranked():
-            if outcome.moving:
-                ranked = sorted(outcome.moving.items(), key=lambda item: (-item[1], item[0]))
-                words = ", ".join(f"{router}: {runs:,}" for router, runs in ranked[:MOST_LINES])
-                rows.append([outcome.name, f"{outcome.runs:,}", more(words, len(ranked) - MOST_LINES)])
+        for outcome in (outcome for outcome in self.ranked() if outcome.moving):
+            ranked = sorted(outcome.moving.items(), key=lambda item: (-item[1], item[0]))
+            words = ", ".join(f"{router}: {runs:,}" for router, runs in ranked[:MOST_LINES])
+            rows.append([outcome.name, f"{outcome.runs:,}", more(words, len(ranked) - MOST_LINES)])
         return rows
 
     def path_table(self) -> list[list[str]]:
-        rows = []
-        if len(self.at_rest) > 1:
-            resting = sum(outcome.runs for outcome in self.at_rest.values())
-            for router in self.differing:
-                for path, runs in self.path_counts(router):
-                    rows.append([str(router), *share_words(runs, resting), write_path(path)])
+        resting = sum(outcome.runs for outcome in self.at_rest.values())
+        counts = ((node, *row) for node in self.differing for row in self.path_counts(node) if len(self.at_rest) > 1)
+        rows = [[str(router), *share_words(runs, resting), write_path(path)] for router, path, runs in counts]
         if (left := len(rows) - MOST_LINES) > 0:
             rows[MOST_LINES:] = [["..", f"{left:,} more lines", "", "", ""]]
         return [["router", "runs", "share", "95 % interval", "path at rest"], *rows]
 
     def record(self) -> dict[str, Any]:
         """The outcomes as JSON has them, with percentiles and histograms; and of each router its paths at rest."""
-        paths = [[{"path": path, "runs": runs} for path, runs in self.path_counts(node)] for node in range(self.nodes)]
+        counts = map(self.path_counts, range(len(next(iter(self.at_rest), ()))))
+        paths = ([{"path": path, "runs": runs} for path, runs in row] for row in counts)
         routers = [{"router": router, "paths": row} for router, row in enumerate(paths)]
         outcomes = [outcome.record(self.total) for outcome in self.ranked()]
         return {"runs": self.total, "failed": self.failed, "outcomes": outcomes, "routers": routers}
@@ -277,9 +254,9 @@ def aligned(rows: list[list[str]]) -> str:
     """A table in columns, words to the left and numbers to the right."""
     columns = [list(column) for column in zip(*rows)]
     for place, column in enumerate(columns):
-        width = max(map(len, column))
         is_number = place > 0 and all(NUMERIC.fullmatch(word) for word in column[1:])
-        columns[place] = [word.rjust(width) if is_number else word.ljust(width) for word in column]
+        adjust, width = str.rjust if is_number else str.ljust, max(map(len, column))
+        columns[place] = [adjust(word, width) for word in column]
     return "".join("  ".join(row).rstrip() + "\n" for row in zip(*columns))
 
 
@@ -287,25 +264,17 @@ class Table:
     """The CSV of a sweep: a line for each run, and as its last column's name what made it."""
 
     def __init__(self, columns: Sequence[str], made_by: str, outcomes: Outcomes | None = None):
-        self.columns = columns
+        self.columns, self.outcomes = columns, outcomes or Outcomes()
         self.head = ["seed", *columns, *RUN_COLUMNS, made_by]
         self.head_line = line_of(self.head)
-        self.outcomes = outcomes or Outcomes()
 
     def line(self, trial: Trial) -> str:
-        """The line of a run, which is counted; what it does not have is left empty.
-
-        The paths stand in the first line of each outcome at rest.
-        """
+        """The line of a run, which is counted. The paths stand in the first line of each outcome at rest."""
         outcome, end = self.outcomes.take(trial), trial.end
         told: dict[str, object] = {"verdict": "failed"}
         if outcome and isinstance(end, End):
             told = {"verdict": outcome.word, "sent": end.sent, "changed": end.changed, "outcome": outcome.number}
-            match end.verdict:
-                case Quiet(time):
-                    told["rest"] = time
-                case Oscillates(start, period):
-                    told |= {"from": start, "period": period}
+            told |= zip(TIMES[outcome.word], astuple(end.verdict))
             told["moving"] = " ".join(map(str, end.moving))
             if outcome.runs == 1 and outcome.ribs is not None:
                 told["paths"] = " ".join(map(write_path, outcome.ribs))
@@ -323,22 +292,17 @@ def rows_of(source: TextIO, is_cut: bool) -> Iterator[list[str]]:
     while line := source.readline(MOST_LINE):
         if len(line) == MOST_LINE:
             raise ValueError("the line is too long")
+        if line[-1] != "\n" and is_cut:
+            return
         if line[-1] != "\n":
-            if is_cut:
-                return
             raise ValueError("the line is not ended")
         yield next(csv.reader([line], strict=True))
 
 
 def read_table(source: TextIO, is_cut: bool = False) -> tuple[Table, list[Trial]]:
-    """The CSV of a sweep that was written before: what its head says, and its runs.
-
-    Of one that `is_cut` a last line that is not ended is let pass.
-    """
+    """The CSV of a sweep, a file: what its head says, and its runs; if it `is_cut` its last line need not be ended."""
     csv.field_size_limit(MOST_LINE)
-    rows, number = rows_of(source, is_cut), 1
-    ribs: dict[str, Ribs] = {}
-    trials: dict[int, Trial] = {}
+    rows, number, ribs, trials = rows_of(source, is_cut), 1, dict[str, Ribs](), dict[int, Trial]()
     try:
         head: list[str] = next(rows, [])
         count = len(head) - len(RUN_COLUMNS) - 2
@@ -351,7 +315,7 @@ def read_table(source: TextIO, is_cut: bool = False) -> tuple[Table, list[Trial]
                 raise ValueError("a line before has the same seed")
             number += 1
     except (ValueError, KeyError, IndexError, csv.Error) as fault:
-        raise Refused.at_line(number, f"this is no CSV of a sweep: {fault}") from None
+        raise Refused(f"{source.name}: refused line {number}: this is no CSV of a sweep: {fault}") from None
     numbers = {paths: number_of(name) for name, paths in ribs.items()}
     return Table(head[1 : 1 + count], head[-1], Outcomes(numbers=numbers)), [*trials.values()]
 
@@ -366,12 +330,11 @@ def read_row(row: list[str], count: int, ribs: dict[str, Ribs]) -> Trial:
     """A run; the paths of the outcomes before are known by their numbers."""
     seed, *values = map(number_of, row[: 1 + count])
     word, rest, start, period, sent, changed, number, moving, paths, _ = row[1 + count :]
-    verdict: Verdict
     match word:
         case "failed":
             return Trial(seed, tuple(values), Failed("it failed before"))
         case "quiet":
-            verdict = Quiet(number_of(rest))
+            verdict: Verdict = Quiet(number_of(rest))
             if paths:
                 ribs[number] = tuple(map(read_path, re.findall(PATH, paths)))
             if len(ribs[number]) != len(next(iter(ribs.values()))):

@@ -76,29 +76,24 @@ class Drawing:
         uses: dict[Hop, list[int]] = defaultdict(list)
         for router in self.routers:
             for place, path in enumerate(router.order):
-                if self.only is None and path == router.rib and len(path) > 1:
-                    uses[path[0], path[1]].append(place)
-                elif self.only == router.node:
-                    for hop in zip(path, path[1:]):
-                        uses[hop].append(place)
+                way = path if self.only == router.node else path[:2] if (self.only, path) == (None, router.rib) else ()
+                for hop in zip(way, way[1:]):
+                    uses[hop].append(place)
         return uses
 
-    def left(self, router: Router) -> tuple[Nodes, ...] | None:
-        """The paths that a router may still use, where that is shown."""
-        return self.safety.left[router.node] if self.safety else None
-
     def box(self, router: Router) -> str:
-        node, left = router.node, self.left(router)
+        # The paths that the router may still use, where that is shown.
+        node, left = router.node, self.safety.left[router.node] if self.safety else None
         ground = LIGHT["period"] if left and len(left) > 1 else "#d9d9d9" if node == ORIGIN else "#eeeeee"
         name = escape(f"{node} {self.names[node]}" if node in self.names else str(node))
         rows = [NAME_ROW.format(name=name, ground=ground)]
         if self.only in (None, node):
-            rows += self.path_rows(router)
+            rows += self.path_rows(router, left)
         return f"{node} [label=<{BOX.format(''.join(rows))}>]"
 
-    def path_rows(self, router: Router) -> Iterator[str]:
-        """A row for each path: coloured where it is used or one router's paths are shown, grey where it is gone."""
-        more, left = 0, self.left(router)
+    def path_rows(self, router: Router, left: tuple[Nodes, ...] | None) -> Iterator[str]:
+        """A row for each path: coloured where it is used or one router's paths are shown, grey where it is not left."""
+        more = 0
         for number, path in enumerate(router.order):
             is_coloured = path == router.rib or self.only is not None
             if number >= self.most and not is_coloured and path not in (left or ()):
@@ -136,14 +131,11 @@ class Drawing:
         if depth[tail] == depth[head]:
             # It moves neither end, and its label is placed afterwards, since dot fails on such labels otherwise.
             label, level = f'xlabel="{words}", ', ", constraint=false"
-        looks = self.looks(link, (tail, head), uses)
-        for hop, look in looks:
-            arrow = "forward" if hop == (tail, head) else "back"
-            yield f"{tail} -> {head} [{label}dir={arrow}, {look}{level}]"
-            label = ""
-        if not looks:
-            look = 'style=dashed, color="#c1121f", fontcolor="#c1121f"' if is_down else "style=solid"
+        line = 'style=dashed, color="#c1121f", fontcolor="#c1121f"' if is_down else "style=solid"
+        arrows = {(tail, head): "dir=forward, ", (head, tail): "dir=back, "}
+        for look in [arrows[hop] + look for hop, look in self.looks(link, (tail, head), uses)] or [line]:
             yield f"{tail} -> {head} [{label}{look}{level}]"
+            label = ""
 
 
 # How many undone steps the title of a replay names.
@@ -170,19 +162,16 @@ def network_text(
         drawing = Drawing(case, standing(case, safety), True, names, most, safety=safety)
         return drawing.text(f"{title}: verdict {safety}")
     routers = reached(case, report) if report else opening_routers(case)
-    if report:
-        title += f": verdict {report.verdict}"
-    if paths_of is not None:
-        if paths_of not in range(case.nodes):
-            raise Refused(f"refused option --paths-of: the case has no router {paths_of}")
-        title += f": paths of {paths_of}"
+    if paths_of is not None and paths_of not in range(case.nodes):
+        raise Refused(f"refused option --paths-of: the case has no router {paths_of}")
+    title += f": verdict {report.verdict}" if report else ""
+    title += "" if paths_of is None else f": paths of {paths_of}"
     return Drawing(case, routers, report is not None, names, most, paths_of).text(title)
 
 
 def network(case: Case, report: Report | None = None, **how: Any) -> str:
     """What `network_text` gives of the same, drawn by Graphviz (Debian: graphviz); Stopped where that is missing."""
-    dot = shutil.which("dot")
-    if dot is None:
+    if (dot := shutil.which("dot")) is None:
         raise Stopped("packages: Graphviz is missing (Debian: graphviz)")
     text = network_text(case, report, **how)
     return subprocess.run([dot, "-Tsvg"], input=text, stdout=subprocess.PIPE, text=True, check=True).stdout
@@ -211,14 +200,12 @@ def view_of(
 
 def view_of_run(case: Case, report: Report, **part: Any) -> View:
     """A part of the run that was reported, as `view_of` takes it."""
-    is_at_rest = isinstance(report.verdict, Quiet)
-    whole = range((GREATEST_TIME if is_at_rest else report.bound) + 1)
+    whole = range((GREATEST_TIME if isinstance(report.verdict, Quiet) else report.bound) + 1)
     return view_of(case.nodes, whole, last_time(report), **part)
 
 
 def subtitle_of(report: Report) -> str:
-    events = len(report.events)
-    return f"{events:,} event{'' if events == 1 else 's'} below {report.stop:,}"
+    return f"{len(report.events):,} event{'' if len(report.events) == 1 else 's'} below {report.stop:,}"
 
 
 def timeline(
@@ -242,12 +229,10 @@ def timeline(
 
 def replayed(case: Case, steps: Sequence[Step], replay: Replay, *, title: str = "run", **part: Any) -> str:
     """The picture of a replay: steps to the right, and which of them were undone; a part is named as for `timeline`."""
-    history = follow_replay(case, list(steps), replay)
-    end = max(1, len(steps))
+    history, end = follow_replay(case, list(steps), replay), max(1, len(steps))
     view = view_of(case.nodes, range(1, end + 1), end, **part)
-    undone = [handling for handling in history.handlings if handling.undone_at]
-    told = [f"step {handling.done_at} by step {handling.undone_at}" for handling in undone[:MOST_TOLD]]
-    told += [".."] * (len(undone) > MOST_TOLD)
+    undone = [f"step {one.done_at} by step {one.undone_at}" for one in history.handlings if one.undone_at]
+    told = undone[:MOST_TOLD] + [".."] * (len(undone) > MOST_TOLD)
     subtitle = f"bound {replay.bound:,}; undone: {', '.join(told) or 'none'}"
     title = f"{title}: replay of {len(steps):,} steps, {len(undone):,} undone"
     return ReplayPicture(list(steps), replay, history, view).draw(title, subtitle)
@@ -255,5 +240,4 @@ def replayed(case: Case, steps: Sequence[Step], replay: Replay, *, title: str = 
 
 def outcomes(runs: Outcomes | Iterable[Trial], *, title: str = "case", drawn: str = "") -> str:
     """The picture of a sweep: the outcomes' shares, and how times of rest and messages are spread."""
-    counted = runs if isinstance(runs, Outcomes) else Outcomes(runs)
-    return OutcomePicture(counted).draw(title, drawn)
+    return OutcomePicture(runs if isinstance(runs, Outcomes) else Outcomes(runs)).draw(title, drawn)

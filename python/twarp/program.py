@@ -34,8 +34,7 @@ class Refused(Exception):
         """What twarp says on standard output where it refuses its input or an option, and to people beside that."""
         fault = cls(f"{words}\n{advice}".rstrip())
         if found := re.fullmatch(r"refused (?:line (\d+)|option) ([A-Z]\d+) (\w+)", words):
-            fault.line = int(found[1]) if found[1] else None
-            fault.code, fault.name = found[2], found[3]
+            fault.line, fault.code, fault.name = found[1] and int(found[1]), found[2], found[3]
         return fault
 
 

@@ -6,7 +6,7 @@ import enum
 import heapq
 import math
 from collections import defaultdict
-from collections.abc import Callable, Iterable, Iterator, Sequence
+from collections.abc import Iterable, Iterator, Sequence
 from dataclasses import dataclass, field, replace
 from typing import NamedTuple
 
@@ -64,8 +64,7 @@ class Router:
         return self.settle(event.time)
 
     def settle(self, time: int) -> list[Event]:
-        best = self.best()
-        if self.rib == best:
+        if self.rib == (best := self.best()):
             return []
         self.rib = best
         self.changed += 1
@@ -78,16 +77,15 @@ class Router:
         return next((path for path in self.order if path in offered and path not in self.barred), ())
 
     def update(self, peer: int, time: int) -> Event:
-        seq = self.sent
         self.sent += 1
-        return Event(time + self.delays[peer], peer, self.node, seq, Update(self.rib, self.sessions[peer]))
+        return Event(time + self.delays[peer], peer, self.node, self.sent - 1, Update(self.rib, self.sessions[peer]))
 
     @property
     def counters(self) -> list[int]:
         return [self.sent, self.handled, self.dropped, self.changed]
 
     def line(self) -> RouterLine:
-        return RouterLine(self.node, self.sent, self.handled, self.dropped, self.changed, self.rib)
+        return RouterLine(self.node, *self.counters, self.rib)
 
     def copy(self) -> Router:
         """A router that later events of this one leave as it is."""
@@ -125,8 +123,7 @@ def unstable_routers(routers: Sequence[Router]) -> Iterator[str]:
     """The routers whose ribs are not as stable ones are by docs/PROTOCOL.md, in words; none where paths are stable."""
     for router in routers:
         heard = {peer: routers[peer].rib for peer in router.delays if peer not in router.down}
-        chosen = replace(router, heard=heard).best()
-        if router.rib != chosen:
+        if router.rib != (chosen := replace(router, heard=heard).best()):
             yield f"router {router.node} uses {write_path(router.rib)} and would choose {write_path(chosen)}"
 
 
@@ -204,21 +201,15 @@ class Run:
             message.fate = Fate.DROPPED if router.dropped > dropped else Fate.HEARD
 
 
-# Sees an event that is to be handled, and the routers before it.
-Witness = Callable[[Event, list[Router]], None]
-
-
-def follow(case: Case, report: Report, witness: Witness | None = None) -> Run:
-    """What the report's events did, each shown to the witness; refused at the first line that is not the case's run."""
-    run = Run(case)
+def follow(case: Case, report: Report, run: Run | None = None) -> Run:
+    """What the report's events did, in this run of the case or a new one; refused at the first line that is not its."""
+    run = run or Run(case)
     if report.routers[0].handled and not report.events:
         why = "no event stands above this line: the report has to be one with --log"
         raise Refused.at_line(report.router_number, why)
     for number, event in enumerate(report.events, FIRST_EVENT):
         if event != run.least():
             raise Refused.at_line(number, f"in the run of this case {written(run.least())} stands here")
-        if witness:
-            witness(event, run.routers)
         run.handle_least()
     if (least := run.least()) and least.time < report.bound:
         raise Refused.at_line(report.router_number, f"in the run of this case {written(least)} stands here")

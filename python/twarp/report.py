@@ -74,10 +74,9 @@ class Event(NamedTuple):
     body: Body
 
     def __str__(self) -> str:
-        rest: tuple[object, ...]
         match self.body:
             case Update(path, session):
-                rest = self.src, self.seq, session, write_path(path)
+                rest: tuple[object, ...] = self.src, self.seq, session, write_path(path)
             case Start():
                 rest = ()
             case Fail(peer) | Restore(peer):
@@ -156,8 +155,8 @@ class RouterLine:
     rib: Nodes
 
     def __str__(self) -> str:
-        counters = self.router, self.sent, self.handled, self.dropped, self.changed
-        return ROUTER_LINE.format(*counters, write_path(self.rib))
+        *counters, rib = astuple(self)
+        return ROUTER_LINE.format(*counters, write_path(rib))
 
 
 @dataclass(frozen=True, slots=True)
@@ -268,11 +267,9 @@ class Cursor:
 
     def take(self, pattern: str, wanted: str) -> re.Match[str]:
         """How the next line matches; refused where it is not there, not whole or does not match."""
-        line = self.next_line()
-        if not line:
+        if not (line := self.next_line()):
             raise Refused.at_line(self.number, f"the text ends where {wanted} should stand")
-        found = re.fullmatch(pattern, line.removesuffix("\n"))
-        if not found:
+        if not (found := re.fullmatch(pattern, line.removesuffix("\n"))):
             raise Refused.at_line(self.number, f"{quote(line)} stands where {wanted} should stand")
         if line[-1] != "\n":
             raise Refused.at_line(self.number, "the line is not ended")
@@ -296,8 +293,7 @@ class Cursor:
 
     def take_router(self, router: int, wanted: str) -> RouterLine:
         *counters, rib = self.take(ROUTER_LINE.format(router, *[f"({NUMBER})"] * 4, f"({PATH})"), wanted).groups()
-        sent, handled, dropped, changed = map(int, counters)
-        return RouterLine(router, sent, handled, dropped, changed, read_path(rib))
+        return RouterLine(router, *map(int, counters), rib=read_path(rib))
 
     def take_routers(self, nodes: int) -> list[RouterLine]:
         """The router line of each router, in ascending order."""
@@ -315,9 +311,8 @@ def read_report(text: bytes, nodes: int) -> Report:
     events, routers = cursor.take_events(), cursor.take_routers(nodes)
     last_change, start, period = cursor.take(VERDICT_LINE, "the verdict").groups()
     cursor.take_end()
-    if last_change:
-        return Report(stop, bound, events, routers, Quiet(int(last_change)))
-    return Report(stop, bound, events, routers, Oscillates(int(start), int(period)) if start else Open())
+    verdict: Verdict = Oscillates(int(start), int(period)) if start else Open()
+    return Report(stop, bound, events, routers, Quiet(int(last_change)) if last_change else verdict)
 
 
 def read_replay(text: bytes, nodes: int, steps: int) -> Replay:
@@ -351,8 +346,7 @@ def read_case_and_steps(text: bytes) -> tuple[Case, list[Step]]:
         raise Refused(f"refused: the text ends before the line `end` of its steps; {WHICH}")
     steps = []
     for number, line in rest[:-1]:
-        found = re.fullmatch(STEP_LINE, line)
-        if not found:
+        if not (found := re.fullmatch(STEP_LINE, line)):
             raise Refused.at_line(number, f"{quote(line)} is no step; {WHICH}")
         steps.append(Step(found[1], int(found[2])) if found[1] else Step("bound"))
     return case, steps

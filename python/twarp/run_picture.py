@@ -2,17 +2,16 @@
 
 from collections import defaultdict
 from collections.abc import Iterable, Iterator, Mapping, Sequence
-from dataclasses import dataclass
 from itertools import chain
-from typing import ClassVar
+from typing import ClassVar, NamedTuple
 from xml.etree.ElementTree import Element
 
 from twarp.case import Case, Nodes, write_path
 from twarp.machine import Handling, History
 from twarp.protocol import Change, Fate, Message, Run
 from twarp.report import Allow, Event, Fail, Forbid, Oscillates, Quiet, Replay, Report, Restore, Start, Step, Swap
-from twarp.svg import PLACES, TOP, Lanes, Picture, Sample, View, add, clipped, draw_legend, fit, place_of
-from twarp.svg import sample_box, sample_circle, sample_line, sample_path, sample_square
+from twarp.svg import MOST_LANES, MOST_MARKS, PLACES, TOP, Lanes, Picture, Sample, View, add, clipped, draw_legend, fit
+from twarp.svg import place_of, refuse_crowd, sample_box, sample_circle, sample_line, sample_path, sample_square
 
 # Beyond so many events of the scenario what happens to a link or a path stands in tooltips alone.
 MOST_NOTES = 16
@@ -37,8 +36,7 @@ def message_look(message: Message) -> str:
     fate = FATES.get(message.fate, "")
     if message.is_anti:
         return "message underway anti" if fate == " underway" else f"message anti{fate}"
-    is_withdrawal = message.fate is Fate.HEARD and not message.update.path
-    return "message withdrawal" if is_withdrawal else f"message{fate}"
+    return "message withdrawal" if message.fate is Fate.HEARD and not message.update.path else f"message{fate}"
 
 
 class LanePicture:
@@ -58,7 +56,9 @@ class LanePicture:
         self.messages = list(messages)
 
     def draw(self, title: str, subtitle: str) -> str:
-        self.view.refuse_crowd(sum(map(len, (self.messages, *self.marks))))
+        marks = sum(map(len, (self.messages, *self.marks)))
+        refuse_crowd(marks, MOST_MARKS, "marks to be drawn, and one can tell apart")
+        refuse_crowd(len(self.view.routers), MOST_LANES, "lanes to be drawn, and one can tell apart")
         picture = Picture(title, subtitle)
         self.draw_onto(picture.root, picture.root, picture.root)
         right = max(self.right, LEAST_WIDTH)
@@ -70,16 +70,12 @@ class LanePicture:
         raise NotImplementedError
 
     def legend(self) -> list[tuple[str, Sample]]:
-        """A sample of each mark that the picture has."""
-        raise NotImplementedError
-
-    def message_marks(self) -> list[tuple[str, Sample]]:
+        """A sample of each mark that the picture has, here of its messages."""
         seen = set(map(message_look, self.messages))
         return [(name, sample_line(class_=look)) for look, name in self.looks.items() if look in seen]
 
 
-@dataclass(frozen=True, slots=True)
-class Bar:
+class Bar(NamedTuple):
     """A router's path while it stays, in use or forbidden; `end` is None where it stays until the run's end.
 
     A path that is forbidden is drawn at `level`, from 0: no two of a router that meet have the same one.
@@ -93,9 +89,7 @@ class Bar:
 
     def is_seen(self, view: View) -> bool:
         """Whether the path stays at some time in view; one that is forbidden does so at its end too."""
-        last = view.last if self.end is None else self.end
-        if self.level is None and last == self.end:
-            last = max(self.start, last - 1)
+        last = view.last if self.end is None else self.end if self.level is not None else max(self.start, self.end - 1)
         return self.router in view.shown and view.meets(self.start, last)
 
     @property
@@ -172,7 +166,8 @@ class RunPicture(LanePicture):
         self.right = self.axis.x(view.last) + (REST if is_at_rest else 0.0)
 
     def draw_onto(self, ground: Element, times: Element, names: Element) -> None:
-        self.draw_period(ground)
+        if isinstance(self.verdict, Oscillates):
+            self.draw_period(ground, self.verdict.start, self.verdict.period)
         self.draw_axis(ground, times)
         self.lanes.draw(ground, names, self.right)
         left = self.axis.x(self.view.first) - 10
@@ -199,11 +194,8 @@ class RunPicture(LanePicture):
         x = self.axis.x(time)
         add(parent, "line", class_=look, x1=x, y1=TOP - 8, x2=x, y2=self.lanes.bottom)
 
-    def draw_period(self, parent: Element) -> None:
+    def draw_period(self, parent: Element, start: int, period: int) -> None:
         """Shades the period that the verdict found, and marks where it begins again."""
-        if not isinstance(self.verdict, Oscillates):
-            return
-        start, period = self.verdict.start, self.verdict.period
         first, last = max(start, self.view.first), min(start + period, self.view.last)
         if first < last:
             self.draw_stretch(parent, first, last, "period", f"the period from {start} to {start + period}")
@@ -274,8 +266,7 @@ class RunPicture(LanePicture):
     def draw_bar_scene(self, parent: Element, scene: Event, draw: Sample, x: float) -> None:
         """A mark where a path is forbidden or allowed. Words stand at the highest one of those that forbid alone."""
         path, level = self.ban_marks[scene]
-        y = self.ban_height(scene.dst, level)
-        words = "forbidden" if isinstance(scene.body, Forbid) else "allowed"
+        y, words = self.ban_height(scene.dst, level), "forbidden" if isinstance(scene.body, Forbid) else "allowed"
         group = add(parent, "g", "", f"{scene.time}: path {write_path(path)} is {words} at router {scene.dst}")
         draw(group, x, y)
         if words == "forbidden" and level == 0 and len(self.scenes) <= MOST_NOTES:
@@ -287,8 +278,7 @@ class RunPicture(LanePicture):
 
     def draw_link_scene(self, parent: Element, scene: Event, draw: Sample, x: float, peer: int) -> None:
         """A mark at this end of a link, and once for both ends the link between them and what happens to it."""
-        here = self.lanes.y(scene.dst)
-        is_whole = peer in self.lanes.places
+        here, is_whole = self.lanes.y(scene.dst), peer in self.lanes.places
         there = self.lanes.y(peer) if is_whole else here - 2 * self.lanes.bar
         toward = 1 if there > here else -1
         look, words = ("fail", "fails") if isinstance(scene.body, Fail) else ("repair", "is repaired")
@@ -307,7 +297,7 @@ class RunPicture(LanePicture):
         entries = [(f"{place.name} path", sample_box(fill=place.fill)) for place in PLACES if place in places]
         bodies = {type(scene.body) for scene in self.scenes}
         entries += [("no path", sample_box(class_="hollow"))] * (not all(bar.path for bar in self.bars))
-        entries += self.message_marks()
+        entries += super().legend()
         entries += [mark for body, mark in SCENES.items() if body in bodies]
         entries += [("while it is forbidden", sample_line(class_="ban"))] * bool(self.bans)
         entries += [("the period found", sample_box(class_="period"))] * isinstance(self.verdict, Oscillates)
@@ -358,11 +348,8 @@ class ReplayPicture(LanePicture):
         super().__init__(view, (message for message in seen if {message.event.src, message.event.dst} <= view.shown))
         numbered = enumerate(zip(steps, replay.answers), 1)
         self.steps = [(number, *answer) for number, answer in numbered if view.meets(number, number)]
-        self.handlings = [
-            handling
-            for handling in history.handlings
-            if handling.event.dst in view.shown and view.meets(handling.done_at, handling.undone_at or handling.done_at)
-        ]
+        handled = (handling for handling in history.handlings if handling.event.dst in view.shown)
+        self.handlings = [one for one in handled if view.meets(one.done_at, one.undone_at or one.done_at)]
         self.bounds = [(number, bound) for number, bound in history.bounds if view.meets(number, number)]
         self.marks = self.steps, self.handlings
         self.right = self.x(view.last) + COLUMN / 2
@@ -430,12 +417,8 @@ class ReplayPicture(LanePicture):
 
     def legend(self) -> list[tuple[str, Sample]]:
         seen = set(map(handling_look, self.handlings))
-        entries = [
-            (name, sample_box(class_="undone") if look == "undone" else sample_box(fill=fill))
-            for look, (name, fill, _) in HANDLINGS.items()
-            if look in seen
-        ]
-        entries += self.message_marks()
-        is_kept = any(message.fate is Fate.KEPT for message in self.messages)
-        entries += [("antimessage kept", draw_kept)] * is_kept
+        looks = {key: {"class_": key} if key == "undone" else {"fill": hue} for key, (_, hue, _) in HANDLINGS.items()}
+        entries = [(HANDLINGS[key][0], sample_box(**look)) for key, look in looks.items() if key in seen]
+        entries += super().legend()
+        entries += [("antimessage kept", draw_kept)] * any(message.fate is Fate.KEPT for message in self.messages)
         return entries + [("commit", draw_commit)] * any(step.word == "commit" for _, step, _ in self.steps)

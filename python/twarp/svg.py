@@ -110,7 +110,7 @@ class Picture:
 
     def text(self, width: float, height: float) -> str:
         """The picture as SVG, in this size."""
-        size = {"width": attribute(round(width)), "height": attribute(round(height))}
+        size = {"width": f"{round(width)}", "height": f"{round(height)}"}
         self.root.attrib |= {"viewBox": "0 0 {width} {height}".format(**size), **size}
         return written(self.root) + "\n"
 
@@ -137,8 +137,7 @@ def silences(first: int, last: int, busy: Iterable[Span]) -> list[Span]:
 
 def nice_step(least: float) -> int:
     """The least of 1, 2, 5, 10, 20, .. that is not below `least`."""
-    steps = (factor * 10**power for power in count() for factor in (1, 2, 5))
-    return next(step for step in steps if step >= least)
+    return next(step for power in count() for step in (10**power, 2 * 10**power, 5 * 10**power) if step >= least)
 
 
 @dataclass(frozen=True)
@@ -178,8 +177,7 @@ def fit(first: int, last: int, left: float, moments: int, busy: Iterable[Span]) 
     folds = silences(first, last, busy)
     ticks = max(1, last - first - sum(b - a for a, b in folds))
     width = 54.0 * min(moments, 40) + 16.0 * max(0, moments - 40)
-    scale = min(max(LEAST_WIDTH, width), GREATEST_WIDTH) / ticks
-    return TimeAxis(first, last, left, min(scale, 120.0), folds)
+    return TimeAxis(first, last, left, min(min(max(LEAST_WIDTH, width), GREATEST_WIDTH) / ticks, 120.0), folds)
 
 
 @dataclass(frozen=True)
@@ -200,13 +198,9 @@ class View:
         """Whether some of a stretch is in view."""
         return start <= self.last and end >= self.first
 
-    def refuse_crowd(self, marks: int) -> None:
-        """Refuses a picture in which nobody could tell the marks apart."""
-        refuse_crowd(marks, MOST_MARKS, "marks to be drawn, and one can tell apart")
-        refuse_crowd(len(self.routers), MOST_LANES, "lanes to be drawn, and one can tell apart")
-
 
 def refuse_crowd(count: int, most: int, what: str) -> None:
+    """Refuses a picture or a page in which nobody could tell so many things apart."""
     if count > most:
         raise Refused(f"there are {count:,} {what} at most {most:,}: choose some by --from, --to and --routers")
 

@@ -8,7 +8,7 @@ import zipfile
 from collections.abc import Iterator, Mapping, Sequence
 from concurrent.futures import Executor
 from dataclasses import dataclass, replace
-from functools import cached_property
+from functools import cached_property, lru_cache
 from pathlib import Path
 from typing import Any
 
@@ -22,6 +22,7 @@ from twarp.trials import RUNNER, Batches, Plan, Trial, workers_of
 SPLITS = 10_000
 
 
+@dataclass(frozen=True)
 class AtRest:
     """When each run of a sweep is at rest, by its own delays.
 
@@ -29,37 +30,34 @@ class AtRest:
     delays. So the program is asked once where only these are drawn, and else for each run.
     """
 
-    def __init__(self, program: str):
-        self.program = program
-        self.known: tuple[str, int] = "", 0
+    program: str
 
     def __call__(self, case: Case) -> int:
         # One more than the time of the last scripted event.
         script_end = 1 + max((scene.time for scene in case.scenes), default=0)
         # What elimination leaves is the same with the delay 1 for all links.
         text = str(replace(case, links=[Link(link.a, link.b, 1) for link in case.links]))
-        if self.known[0] != text:
-            self.known = text, self.rests_before(text, case.nodes) - script_end
         longest = max((max(link.delay, link.back) for link in case.links), default=0)
-        stop = script_end + self.known[1] * longest
+        stop = script_end + (rests_before(self.program, text, case.nodes) - script_end) * longest
         if stop > GREATEST_TIME:
             raise Refused(f"no --stop is named, and it is only known to rest before {stop:,}, past {GREATEST_TIME:,}")
         return stop
 
-    def rests_before(self, text: str, nodes: int) -> int:
-        """By when a run is at rest, as the program says of this text."""
-        status, out, why = RUNNER.run([self.program, "safe"], text.encode())
-        if status:
-            raise Refused(f"twarp-policy ends with status {status}: {why}")
-        found = read_safety(out, nodes).rests_before
-        if found is None:
-            raise Refused("no --stop is named, and it has a dispute wheel, so none is known by which it rests")
-        return found
+
+@lru_cache(1)
+def rests_before(program: str, text: str, nodes: int) -> int:
+    """By when each run of a case with this text is at rest, as the program says."""
+    status, out, why = RUNNER.run([program, "safe"], text.encode())
+    if status:
+        raise Refused(f"twarp-policy ends with status {status}: {why}")
+    if (found := read_safety(out, nodes).rests_before) is None:
+        raise Refused("no --stop is named, and it has a dispute wheel, so none is known by which it rests")
+    return found
 
 
 @dataclass(frozen=True)
 class Policy:
-    """What twarp-policy says of a case. Its stable assignments are asked for where it is not safe."""
+    """What twarp-policy says of a case. Its stable assignments are asked for where it is not safe, and only there."""
 
     safety: Safety
     stable: Stable | None
@@ -68,8 +66,7 @@ class Policy:
     @classmethod
     def of(cls, case: Case, program: str) -> Policy:
         found = safe(case, program=program)
-        known = None if found.is_safe else stable(case, SPLITS, program=program)
-        return cls(found, known, bool(case.scenes))
+        return cls(found, None if found.is_safe else stable(case, SPLITS, program=program), bool(case.scenes))
 
     @cached_property
     def numbers(self) -> Mapping[Ribs, int]:
@@ -85,27 +82,25 @@ class Policy:
     @property
     def notes(self) -> Mapping[str, str]:
         """What is known of a run whose verdict is open."""
-        if self.safety.is_safe:
+        if not self.stable:
             return {"open": "comes to rest after the stop"}
-        return {} if self.stable and self.stable.can_rest else {"open": self.never}
+        return {} if self.stable.can_rest else {"open": self.never}
 
     def words(self) -> str:
         """What holds of the case for all timings, in a line."""
-        if self.safety.is_safe:
+        if not self.stable:
             return f"{self.safety.verdict}: every run comes to rest, with the same paths, whatever the delays"
-        assert self.stable, "of what is not safe they were asked for"
         if not self.stable.can_rest:
             return f"no stable assignment: {self.never}, whatever the delays"
         count = len(self.stable.assignments)
-        many = f"{count:,} stable assignment{'' if count == 1 else 's'}"
-        return f"a dispute wheel, and {'' if self.stable.are_all else 'at least '}{many}"
+        many = f"{'' if self.stable.are_all else 'at least '}{count:,} stable assignment{'' if count == 1 else 's'}"
+        return f"a dispute wheel, and {many}"
 
     def record(self) -> dict[str, Any]:
         """The same as JSON has it."""
-        told: dict[str, Any] = {"verdict": self.safety.verdict, "rounds": self.safety.rounds}
-        if self.safety.is_safe:
+        told = {"verdict": self.safety.verdict, "rounds": self.safety.rounds}
+        if not self.stable:
             return told | {"rests_before": self.safety.rests_before, "paths": self.safety.uses}
-        assert self.stable, "of what is not safe they were asked for"
         return told | {"assignments": self.stable.assignments, "are_all": self.stable.are_all}
 
 
@@ -179,7 +174,6 @@ def cluster(address: str) -> Iterator[tuple[Executor, int]]:
             client.upload_file(str(archive))
         except (OSError, ValueError, TimeoutError) as fault:
             raise Stopped(f"scheduler: {address} does not answer: {fault}") from None
-        threads = sum(client.nthreads().values())
-        if not threads:
+        if not (threads := sum(client.nthreads().values())):
             raise Stopped(f"scheduler: {address} has no workers")
         yield client.get_executor(pure=False), threads

@@ -13,6 +13,7 @@ from contextlib import suppress
 from dataclasses import dataclass
 from functools import lru_cache
 from multiprocessing import get_context
+from subprocess import PIPE
 
 from twarp.calls import Ribs
 from twarp.case import Case
@@ -71,18 +72,16 @@ class Runner:
 
     def __init__(self) -> None:
         # A signal that stops it may come while it has the lock.
-        self.lock = threading.RLock()
+        self.lock, self.is_stopped = threading.RLock(), False
         self.running: set[subprocess.Popen[bytes]] = set()
-        self.is_stopped = False
 
     def run(self, command: list[str], text: bytes) -> tuple[int, bytes, str]:
         """Status, output, and what is wrong in words, of a run in a session of its own, which no terminal's INT reaches."""
-        pipe = subprocess.PIPE
         with self.lock:
             if self.is_stopped:
                 raise Ended
             try:
-                child = subprocess.Popen(command, stdin=pipe, stdout=pipe, stderr=pipe, start_new_session=True)
+                child = subprocess.Popen(command, stdin=PIPE, stdout=PIPE, stderr=PIPE, start_new_session=True)
             except OSError as error:
                 raise Stopped(f"program: {command[0]} does not start: {error.strerror}") from None
             self.running.add(child)
@@ -99,8 +98,8 @@ class Runner:
         with self.lock:
             self.is_stopped = True
             for child in self.running:
-                if child.poll() is None:
-                    with suppress(ProcessLookupError):
+                with suppress(ProcessLookupError):
+                    if child.poll() is None:
                         os.killpg(child.pid, signal.SIGKILL)
 
     def end(self, *_: object) -> None:
@@ -115,10 +114,7 @@ RUNNER = Runner()
 
 @dataclass(frozen=True)
 class Plan:
-    """What is run: a source's cases, by a program, to this stop, or to that which is told for a case.
-
-    `is_checked` asks whether paths at rest are stable.
-    """
+    """What is run, to this stop or to that of the case; if it `is_checked`, paths at rest are seen to be stable."""
 
     source: Source
     program: str
@@ -145,9 +141,8 @@ class Plan:
             raise Refused(f"its report is none: {fault}") from None
 
     def end(self, case: Case, report: Report) -> End:
-        lines = report.routers
-        sent, changed = sum(line.sent for line in lines), sum(line.changed for line in lines)
-        ribs, moving = tuple(line.rib for line in lines), self.moving(case, report)
+        sent, changed = (sum(getattr(line, name) for line in report.routers) for name in ("sent", "changed"))
+        ribs, moving = tuple(line.rib for line in report.routers), self.moving(case, report)
         return End(report.verdict, sent, changed, ribs, moving, self.fault(case, report))
 
     def moving(self, case: Case, report: Report) -> tuple[int, ...]:
@@ -185,15 +180,15 @@ class Local:
     plan: Plan
 
     def __init__(self, plan: Plan, jobs: int):
-        self.jobs = jobs
+        self.jobs, self.is_stopped = jobs, False
         # Each process sees that the other end of this pipe is closed, by a stop or since its owner is gone.
         self.ends = os.pipe()
-        self.is_stopped = False
         self.begin_with = (plan, self.ends, os.getpid())
-        self.executor = self.begin()
+        self.begin()
 
-    def begin(self) -> Executor:
-        return ProcessPoolExecutor(self.jobs, get_context("fork"), initializer=self.heed, initargs=self.begin_with)
+    def begin(self) -> None:
+        fork = get_context("fork")
+        self.executor = ProcessPoolExecutor(self.jobs, fork, initializer=self.heed, initargs=self.begin_with)
 
     @classmethod
     def heed(cls, plan: Plan, ends: tuple[int, int], parent: int) -> None:
@@ -217,12 +212,11 @@ class Local:
         return cls.plan.batch(seeds)
 
     def submit(self, seeds: Sequence[int]) -> Work:
-        try:
+        with suppress(BrokenExecutor):
             return self.executor.submit(self.batch, seeds)
-        except BrokenExecutor:
-            self.executor.shutdown()
-            self.executor = self.begin()
-            return self.executor.submit(self.batch, seeds)
+        self.executor.shutdown()
+        self.begin()
+        return self.executor.submit(self.batch, seeds)
 
     def stop(self) -> None:
         if not self.is_stopped:
@@ -268,14 +262,11 @@ class Batches:
     """The runs of a sweep, dealt out in batches of such a size that each takes some time, and put in order again."""
 
     def __init__(self, plan: Plan, seeds: Sequence[int], workers: Local | Given):
-        self.plan = plan
-        self.workers = workers
+        self.plan, self.workers, self.size, self.is_stopped = plan, workers, 1, False
         self.seeds = self.left = seeds
         # What is under way: the seeds of each batch, and how often it was begun.
         self.pending: dict[Work, tuple[Sequence[int], int]] = {}
         self.done: dict[int, list[Trial]] = {}
-        self.size = 1
-        self.is_stopped = False
 
     def stop(self) -> None:
         """Ends the runs that are not done."""
@@ -309,8 +300,7 @@ class Batches:
             if not self.is_stopped:
                 self.try_again(seeds, tries, fault)
         else:
-            if trials:
-                self.done[seeds[0]] = trials
+            self.done |= {seeds[0]: trials} if trials else {}
             wanted = round(BATCH_TIME * len(trials) / max(seconds, 1e-6))
             self.size = max(1, min(wanted, MOST_BATCH, 4 * self.size))
 

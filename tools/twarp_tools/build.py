@@ -28,7 +28,6 @@ NEARLY = 0.8
 
 # Which toolchain built the program, beside it: the script compares it with the one on the PATH.
 KEPT_NAME = "toolchain"
-
 TARGET = "x86_64-unknown-linux-gnu"
 # Git ignores this folder. Each library is an archive: it holds sources, and rt refuses those outside a crate's folder.
 KEPT = ROOT / "out/libraries"
@@ -124,16 +123,13 @@ class Compiler:
     def give(self, crate: str) -> bool:
         """Takes a library that an earlier build proved over the very libraries that are there."""
         with contextlib.suppress(FileNotFoundError):
-            archive = self.archive(crate)
-            if archive.exists():
-                shutil.unpack_archive(archive, self.folder)
-                return True
+            shutil.unpack_archive(self.archive(crate), self.folder)
+            return True
         return False
 
     def keep(self, crate: str) -> None:
         """Keeps a library that was made just now, in place of earlier ones, if nothing was changed meanwhile."""
-        archive = self.archive(crate)
-        if archive == self.noted[crate]:
+        if (archive := self.archive(crate)) == self.noted[crate]:
             made = shutil.make_archive(f"{KEPT / crate}.part", "tar", self.folder, f"{crate}.rlib")
             for old in KEPT.glob(f"{crate}-*.tar"):
                 old.unlink()
@@ -149,30 +145,26 @@ class Compiler:
         words += ["--antt-project", f"{kit}/rattle/logic/antt-project.json", "--logic-built", f"{kit}/logic_built"]
         # The crate declares no function of C, which rattle holds it to.
         words += [f"--links={crate}=", "--jobs", str(jobs)]
-        if is_program:
-            return [*words, "--toolchain", f"{kit}/toolchain", "-o", f"{self.folder}/{crate}.o"]
-        return [*words, "--statements", "-o", f"{self.folder}/{crate}.rlib"]
+        made = ["--toolchain", f"{kit}/toolchain"] if is_program else ["--statements"]
+        return [*words, *made, "-o", f"{self.folder}/{crate}.{'o' if is_program else 'rlib'}"]
 
     def start(self, crate: str, share: Share) -> None:
         """Begins to prove a crate, and notes what its proof reads. Those that it uses are built."""
         self.noted[crate] = self.archive(crate)
         words = ["nice"] * share.gives_way + [f"{self.kit}/bin/rattle", *self.words(crate, share.provers)]
-        with open(self.log(crate), "wb") as log, toolchain.signals_held_back():
+        with open(self.folder / f"{crate}.log", "wb") as log, toolchain.signals_held_back():
             how = {"stdin": subprocess.DEVNULL, "stdout": log, "stderr": subprocess.STDOUT}
             self.running[crate] = toolchain.begin(words, cwd=ROOT / "crates" / crate, **how)
-
-    def log(self, crate: str) -> Path:
-        return self.folder / f"{crate}.log"
 
     def ended(self) -> Iterator[tuple[str, str | None]]:
         """The crates whose proofs have ended, each with what rattle said where it is not built."""
         for crate, child in [*self.running.items()]:
             if child.poll() is not None:
                 del self.running[crate]
-                lines = self.log(crate).read_text(errors="replace").splitlines(keepends=True)
-                told = [line for line in lines if not line.endswith(": proved\n")]
-                killed = KILLED if child.returncode < 0 else ""
-                yield crate, "".join([f"== {crate}\n", *told, killed]) if child.returncode else None
+                with open(self.folder / f"{crate}.log", errors="replace") as log:
+                    told = [line for line in log if not line.endswith(": proved\n")]
+                told += [KILLED] * (child.returncode < 0)
+                yield crate, "".join([f"== {crate}\n", *told]) if child.returncode else None
 
     def prove(self, crates: list[str]) -> str | None:
         """Proves the crates side by side, and builds them. Gives what rattle said where one is not proved."""
@@ -222,18 +214,16 @@ def checks_at_once() -> int:
 def alone(made: Made) -> Iterator[bool]:
     """Lets one build at a time work in this clone. Whether another one had to end first."""
     KEPT.mkdir(parents=True, exist_ok=True)
-    folder = os.open(KEPT, os.O_RDONLY)
-    try:
-        fcntl.flock(folder, fcntl.LOCK_EX | fcntl.LOCK_NB)
-        has_waited = False
-    except BlockingIOError:
-        made.tell("waiting for another build in this clone to end")
-        fcntl.flock(folder, fcntl.LOCK_EX)
-        has_waited = True
-    try:
+    with contextlib.ExitStack() as ends:
+        folder, has_waited = os.open(KEPT, os.O_RDONLY), False
+        ends.callback(os.close, folder)
+        try:
+            fcntl.flock(folder, fcntl.LOCK_EX | fcntl.LOCK_NB)
+        except BlockingIOError:
+            made.tell("waiting for another build in this clone to end")
+            fcntl.flock(folder, fcntl.LOCK_EX)
+            has_waited = True
         yield has_waited
-    finally:
-        os.close(folder)
 
 
 def build(kit: Path, made: Made) -> str | None:
@@ -245,8 +235,7 @@ def build(kit: Path, made: Made) -> str | None:
         folder = Path(ends.enter_context(tempfile.TemporaryDirectory(prefix="twarp-build-")))
         compiler = Compiler(kit, text, folder, made)
         ends.callback(compiler.end)
-        refused = compiler.prove(crates) or compiler.link()
-        if refused is None:
+        if (refused := compiler.prove(crates) or compiler.link()) is None:
             # An edit during the build leaves it stale.
             os.utime(made.file, (began, began))
             made.file.with_name(KEPT_NAME).write_bytes((kit / "WHAT").read_bytes())
@@ -263,8 +252,7 @@ def run(program: Path, words: Sequence[str]) -> NoReturn:
 def main() -> int:
     """Builds the program of a crate, which the command line has, and runs it with the words behind `--then`."""
     made, words = Made(sys.argv[1]), sys.argv[2:]
-    kit = toolchain.find_kit(made)
-    if kit is None:
+    if (kit := toolchain.find_kit(made)) is None:
         return MISSING
     toolchain.end_with_signals()
     is_run = words[:1] == ["--then"]

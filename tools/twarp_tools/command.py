@@ -1,8 +1,8 @@
 """How every tool reads, writes and ends."""
-from __future__ import annotations
 
 import argparse
 import bz2
+import contextlib
 import enum
 import gzip
 import io
@@ -11,7 +11,6 @@ import re
 import sys
 import zlib
 from collections.abc import Callable, Iterator, Mapping
-from dataclasses import dataclass
 from pathlib import Path
 from typing import Any, BinaryIO, NoReturn, TypeVar
 
@@ -33,6 +32,7 @@ ROOM = 65_536
 MIB = 1_048_576
 LONGEST_LINE = MIB
 MOST_MIB = 1_048_576
+TOO_LARGE = "the input has more than {:,} MiB, unpacked: --size-limit allows more"
 
 CLOSING = """
 
@@ -43,10 +43,7 @@ tools/README.md tells more; where twarp is installed it stands in share/doc/twar
 class Status(enum.IntEnum):
     """Exit statuses, as those of twarp."""
 
-    DONE = 0
-    REFUSED = 1
-    STOPPED = 2
-    BAD_LINE = 3
+    DONE, REFUSED, STOPPED, BAD_LINE = range(4)
 
 
 class Parser(argparse.ArgumentParser):
@@ -62,31 +59,30 @@ class Parser(argparse.ArgumentParser):
     def option(
         self, name: str, metavar: str, told: str, kind: Callable[[str], Any] = str, default: Any = None, **how: Any
     ) -> None:
-        """Adds an option with a value, to the `group` if there is one. Of a wrong word the ValueError of `kind` is told."""
+        """Adds an option, to the `group` if there is one, with what `kind` makes of its word, whose ValueError is told.
+
+        Where the word `is_kept` it is the value itself.
+        """
+        group, is_kept = how.pop("group", self), how.pop("is_kept", False)
 
         def read(word: str) -> object:
             try:
-                return kind(word)
+                value = kind(word)
             except ValueError as fault:
                 raise argparse.ArgumentTypeError(str(fault)) from None
+            return word if is_kept else value
 
         told += "" if default is None else " (default %(default)s)"
-        holder = how.pop("group", self)
-        holder.add_argument(name, metavar=metavar, type=read, default=default, help=told, **how)
-
-    def size_limit(self, default: int) -> None:
-        told = "read an input of at most so many MiB, unpacked"
-        self.option("--size-limit", "MIB", told, number_between(1, MOST_MIB), default)
+        group.add_argument(name, metavar=metavar, type=read, default=default, help=told, **how)
 
     def parse_pair(self) -> argparse.Namespace:
         """The command line, where one alone of its files can be standard input, and one option ask for the policy."""
         line = self.parse_args()
-        policy = getattr(line, "policy", None)
-        names = {"CASE": line.case, "REPORT": line.report, "--policy": policy}
+        names = {"CASE": line.case, "REPORT": line.report, "--policy": getattr(line, "policy", None)}
         given = [name for name, file in names.items() if file == "-"]
         if len(given) > 1:
             self.error(f"only one of {' and '.join(given)} can be standard input")
-        if policy and line.ask_policy:
+        if names["--policy"] and line.ask_policy:
             self.error("--policy and --ask-policy ask for the same")
         return line
 
@@ -106,6 +102,9 @@ def number_between(least: int, most: int) -> Callable[[str], int]:
     return read
 
 
+SIZE_LIMIT = "--size-limit", "MIB", "read an input of at most so many MiB, unpacked", number_between(1, MOST_MIB)
+
+
 def title_of(title: str | None, file: str, unnamed: str = "case") -> str:
     """What a picture's title begins with: what was asked for, or else the name of the case."""
     return title or (unnamed if file == "-" else Path(file).stem)
@@ -121,21 +120,15 @@ def name_of(file: str) -> str:
     return "standard input" if file == "-" else file
 
 
-@dataclass(frozen=True)
 class Input:
-    """A text, with the name by which what is wrong with it is told."""
+    """The text of a file, with the name by which what is wrong with it is told; refused where it has too many bytes."""
 
-    name: str
-    text: bytes
-
-    @classmethod
-    def of(cls, file: str, most: int = MOST_BYTES) -> Input:
-        """The whole of a file; refused where it has more bytes than this."""
+    def __init__(self, file: str, most: int = MOST_BYTES):
+        self.name = name_of(file)
         with opened(file) as source:
-            text = source.read(most + 1)
-        if len(text) > most:
-            raise Refused(f"{name_of(file)}: refused: it has more than {most >> 20} MiB")
-        return cls(name_of(file), text)
+            self.text = source.read(most + 1)
+        if len(self.text) > most:
+            raise Refused(f"{self.name}: refused: it has more than {most >> 20} MiB")
 
     def read(self, reader: Callable[[bytes], Value]) -> Value:
         """What a reader makes of the text."""
@@ -146,20 +139,13 @@ class Input:
             raise fault if is_option else Refused(f"{self.name}: {fault}") from None
 
 
-def too_large(limit: int) -> str:
-    return f"the input has more than {limit:,} MiB, unpacked: --size-limit allows more"
-
-
 def lines_within(source: BinaryIO, limit: int) -> Iterator[tuple[int, bytes]]:
-    """The lines of a stream that are not empty, without their ends, each with its number.
-
-    None is longer than `LONGEST_LINE`, and the stream has at most so many MiB.
-    """
+    """The lines of a stream of at most so many MiB that are not empty, without their ends, each with its number."""
     number, left = 0, limit * MIB
     while line := source.readline(LONGEST_LINE + 1):
         number, left = number + 1, left - len(line)
         if left < 0:
-            raise Refused.at_line(number, too_large(limit))
+            raise Refused.at_line(number, TOO_LARGE.format(limit))
         line = line.removesuffix(b"\n")
         if len(line) > LONGEST_LINE:
             raise Refused.at_line(number, f"it has more than {LONGEST_LINE:,} bytes")
@@ -171,7 +157,7 @@ def read_within(source: BinaryIO, limit: int) -> bytes:
     """The whole of a stream of at most so many MiB."""
     text = source.read(limit * MIB + 1)
     if len(text) > limit * MIB:
-        raise Refused(f"refused: {too_large(limit)}")
+        raise Refused(f"refused: {TOO_LARGE.format(limit)}")
     return text
 
 
@@ -180,17 +166,17 @@ def read_stream(file: str, reader: Callable[[BinaryIO], Value]) -> Value:
     try:
         with opened(file) as source:
             head = source.peek(3)
-            unpack = next((unpack for mark, unpack in UNPACKERS.items() if head.startswith(mark)), None)
-            if unpack is None:
-                return reader(source)
-            # Python's own readers of packed files take several times as long for a line as this one does.
-            with unpack(source, "rb") as packed, io.BufferedReader(packed, ROOM) as buffered:
-                return reader(buffered)
+            for mark, unpack in UNPACKERS.items():
+                if head.startswith(mark):
+                    # Python's own readers of packed files take several times as long for a line as this one does.
+                    with unpack(source, "rb") as packed, io.BufferedReader(packed, ROOM) as buffered:
+                        return reader(buffered)
+            return reader(source)
     except Refused as fault:
         raise Refused(f"{name_of(file)}: {fault}") from None
     except (EOFError, zlib.error, OSError) as fault:
         # What a device refuses has a number; what bz2 and gzip don't understand has none.
-        if isinstance(fault, OSError) and fault.errno is not None:
+        if getattr(fault, "errno", None) is not None:
             raise
         raise Refused(f"{name_of(file)}: refused: it can't be unpacked: {fault}") from None
 
@@ -201,8 +187,7 @@ def refuse_own_input(option: str, output: str | None, source: str) -> None:
         return
     # Of what a descriptor is open on, a terminal or a device is not written over.
     is_written_over = os.path.isfile(output)
-    is_input = is_same_file(STANDARD_INPUT if source == "-" else source, output)
-    if is_input and (is_written_over or source != "-"):
+    if is_same_file(STANDARD_INPUT if source == "-" else source, output) and (is_written_over or source != "-"):
         raise Refused(f"refused option {option}: {output} is the input")
     if is_same_file(STANDARD_OUTPUT, output) and is_written_over:
         raise Refused(f"refused option {option}: {output} is where standard output goes")
@@ -210,10 +195,9 @@ def refuse_own_input(option: str, output: str | None, source: str) -> None:
 
 def is_same_file(one: str | int, other: str) -> bool:
     """Whether a file, or what a descriptor is open on, is this very file."""
-    try:
+    with contextlib.suppress(OSError):
         return os.path.samefile(one, other)
-    except OSError:
-        return False
+    return False
 
 
 def tell(message: object) -> None:
@@ -251,11 +235,10 @@ def tool(main: Callable[[], None]) -> Callable[[], Status]:
         except Refused as fault:
             tell(fault)
             return Status.REFUSED
-        except BrokenPipeError:
-            # Who reads a part alone has met no error.
-            return Status.STOPPED
         except (Stopped, MemoryError, KeyboardInterrupt, OSError) as why:
-            tell(f"stopped {reason(why)}")
+            # Who reads a part alone has met no error.
+            if not isinstance(why, BrokenPipeError):
+                tell(f"stopped {reason(why)}")
             return Status.STOPPED
         return Status.DONE
 

@@ -1,6 +1,7 @@
 """The tool draw: a case, and where a run of it stands, as Graphviz text; what all drawing tools are asked to show."""
 import argparse
 import re
+from functools import partial
 from typing import Any
 
 from twarp import calls, pictures
@@ -24,27 +25,24 @@ examples:
 NAME_LINE = re.compile(r"(0|[1-9][0-9]{0,3}) (\S.*)\n?")
 
 
-def add_names(parser: Parser) -> None:
-    parser.option("--names", "FILE", "names of routers: lines of a number and a name, as relationships --map writes")
+NAMES = "--names", "FILE", "names of routers: lines of a number and a name, as relationships --map writes"
 
 
 def names_of(file: str | None) -> dict[int, str]:
-    """The names in the file of the option, where one is given."""
-    return Input.of(file).read(read_names) if file else {}
+    """The names by router in the file of the option, where one is given. An AS number becomes `AS` and the number."""
 
+    def read(text: bytes) -> dict[int, str]:
+        names: dict[int, str] = {}
+        for number, line in enumerate(lines_of(text), 1):
+            if not (found := NAME_LINE.fullmatch(line)):
+                raise Refused.at_line(number, "a router's number, a space and its name are wanted")
+            router, name = int(found[1]), found[2]
+            if router in names:
+                raise Refused.at_line(number, f"router {router} has a name already")
+            names[router] = f"AS{name}" if name.isdigit() else name
+        return names
 
-def read_names(text: bytes) -> dict[int, str]:
-    """The names by router. An AS number becomes `AS` and the number."""
-    names: dict[int, str] = {}
-    for number, line in enumerate(lines_of(text), 1):
-        found = NAME_LINE.fullmatch(line)
-        if not found:
-            raise Refused.at_line(number, "a router's number, a space and its name are wanted")
-        router, name = int(found[1]), found[2]
-        if router in names:
-            raise Refused.at_line(number, f"router {router} has a name already")
-        names[router] = f"AS{name}" if name.isdigit() else name
-    return names
+    return Input(file).read(read) if file else {}
 
 
 def read_routers(words: str) -> list[int]:
@@ -70,7 +68,7 @@ def parser_of(description: str, example: str, case: str = "the case", unit: str 
     parser.option("--to", "TIME", f"leave out what is later{unit}", time, dest="last")
     parser.option("--routers", "LIST", "draw these routers' lanes alone, as in 0,2,5-9", read_routers)
     parser.option("--title", "TITLE", "what the title begins with (default: the case's name)")
-    add_names(parser)
+    parser.option(*NAMES)
     return parser
 
 
@@ -101,7 +99,7 @@ def safety_of(line: argparse.Namespace, case: Case) -> calls.Safety | None:
 
     if line.ask_policy:
         return calls.safe(case)
-    return Input.of(line.policy).read(read) if line.policy else None
+    return Input(line.policy).read(read) if line.policy else None
 
 
 @tool
@@ -114,15 +112,14 @@ def main() -> None:
     parser.option("--list", "N", "list at most N paths at a router and the one in use", count, 8, dest="most")
     parser.option("--title", "TITLE", "what stands above the picture (default: the case's name)")
     add_policy(parser, "the wheel, and which paths each router may still use whatever the delays")
-    add_names(parser)
+    parser.option(*NAMES)
     line = parser.parse_pair()
     if (line.policy or line.ask_policy) and (line.report or line.paths_of is not None):
         parser.error("--policy and --ask-policy go with neither a REPORT nor --paths-of")
-    case = Input.of(line.case).read(read_case)
+    case = Input(line.case).read(read_case)
     how: dict[str, Any] = {"names": names_of(line.names), "most": line.most, "paths_of": line.paths_of}
-    how["title"] = title_of(line.title, line.case)
+    draw = partial(pictures.network_text, case, title=title_of(line.title, line.case), **how)
     if line.report:
-        report_text = Input.of(line.report, MOST_OF_REPORT)
-        write_output(report_text.read(lambda text: pictures.network_text(case, read_report(text, case.nodes), **how)))
+        write_output(Input(line.report, MOST_OF_REPORT).read(lambda text: draw(read_report(text, case.nodes))))
     else:
-        write_output(pictures.network_text(case, safety=safety_of(line, case), **how))
+        write_output(draw(safety=safety_of(line, case)))

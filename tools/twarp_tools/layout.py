@@ -86,8 +86,7 @@ def part_points(points: list[Point], least: float) -> bool:
             way = points[right] - points[left]
             if way.real >= least:
                 break
-            length = length_of(way)
-            if length < least:
+            if (length := length_of(way)) < least:
                 is_near = True
                 share = (least - length + 1) / (2 * (length or 1.0))
                 points[left] -= share * (way or 1.0)
@@ -98,8 +97,7 @@ def part_points(points: list[Point], least: float) -> bool:
 def aside(point: Point, a: Point, b: Point, least: float) -> Point:
     """How a point is to be moved where the link from `a` to `b` passes nearer than `least`."""
     link, way = b - a, point - a
-    length = length_of(link)
-    if not length:
+    if not (length := length_of(link)):
         return 0j
     along = (way.real * link.real + way.imag * link.imag) / (length * length)
     off = (way.real * link.imag - way.imag * link.real) / length
@@ -123,8 +121,7 @@ def part_from_links(points: list[Point], links: list[tuple[int, int]], least: fl
 def turned_down(points: list[Point], first: Point) -> list[Point]:
     """The drawing turned so that `first` is straight below its middle, where it is not in the middle."""
     down = first - sum(point / len(points) for point in points)
-    length = length_of(down)
-    if length < 0.2:
+    if (length := length_of(down)) < 0.2:
         return points
     turn = complex(down.imag / length, down.real / length)
     return [point * turn for point in points]
@@ -140,12 +137,10 @@ def lay_out(neighbours: Neighbours, link: float, least: float, lowest: int | Non
         points = turned_down(points, points[lowest])
     points = [link * point for point in points]
     links = [(a, b) for a, row in enumerate(neighbours) for b in row if a < b]
-    is_cleared = len(points) * len(links) <= MOST_CLEARED
+    cleared = links if len(points) * len(links) <= MOST_CLEARED else []
     # Until none is near to another or to a link of others, or for so long as is reasonable.
     for _ in range(MOST_ROUNDS):
-        was_near = part_points(points, least)
-        was_crossed = is_cleared and part_from_links(points, links, least / 2)
-        if not (was_near or was_crossed):
+        if not part_points(points, least) | part_from_links(points, cleared, least / 2):
             break
     nearest = min((distance(a, b) for a, b in combinations(points, 2)), default=least)
     larger = max(1.0, least / (nearest or 1.0))
@@ -196,12 +191,10 @@ class NetworkDrawing:
             yield chosen
 
     def json(self) -> dict[str, Any]:
-        right, bottom = max(point.real for point in self.points), max(point.imag for point in self.points)
+        labelled = zip(self.links, self.label_parts())
         return {
-            "width": round(right + 2 * self.left),
-            "height": round(bottom + 2 * self.top),
+            "width": round(max(point.real for point in self.points) + 2 * self.left),
+            "height": round(max(point.imag for point in self.points) + 2 * self.top),
             "has_words": self.has_words,
-            "links": [
-                [link.a, link.b, link.delay, link.back, parts] for link, parts in zip(self.links, self.label_parts())
-            ],
+            "links": [[link.a, link.b, link.delay, link.back, parts] for link, parts in labelled],
         }

@@ -12,7 +12,7 @@ from pathlib import Path
 
 from twarp.program import Refused
 from twarp_tools.command import Parser, tool, write_output
-from twarp_tools.tutorial import ROOT, add_program
+from twarp_tools.tutorial import PROGRAM_OPTION, ROOT
 
 FORMATS = ROOT / "docs/FORMATS.md"
 
@@ -63,33 +63,30 @@ class Help:
             raise Refused("refused: the help has no line of usage")
         usage, *parts = A_SECTION.split(rest)
         sections = {name: body.splitlines() for name, body in zip(parts[::2], parts[1::2])}
-        self.about = about.strip("\n").splitlines()
+        # What is indented stands as it is, as code does in Markdown.
+        self.about = [re.sub("^  ", "    ", line) for line in about.strip("\n").splitlines()]
         self.usage = usage.partition("\n")[0]
         self.commands = entries_of(sections.get("Commands", []))
-        self.flags = flags_of(sections.get("Options", []))
+        flags = items_of(sections.get("Options", []), A_FLAG)
+        self.flags = [Flag(*found.groups()[:3], [found[4]] * bool(found[4]) + rest) for found, rest in flags]
+        self.names = [name for flag in self.flags for name in flag.names]
         self.statuses = entries_of(sections.get("Exit status", []))
 
 
-def entries_of(lines: list[str]) -> dict[str, str]:
+def items_of(lines: Iterable[str], first: re.Pattern[str]) -> list[tuple[re.Match[str], list[str]]]:
+    """The items of a section, each with how its first line matches, and its other lines."""
+    items: list[tuple[re.Match[str], list[str]]] = []
+    for line in lines:
+        if found := first.fullmatch(line):
+            items.append((found, []))
+        elif items:
+            items[-1][1].append(line.strip())
+    return items
+
+
+def entries_of(lines: Iterable[str]) -> dict[str, str]:
     """Words with what is said of them, which may go on over several lines."""
-    entries: dict[str, str] = {}
-    for line in lines:
-        found = AN_ENTRY.fullmatch(line)
-        if found and not line.startswith("   "):
-            entries[found[1]] = found[2]
-        elif entries and line.strip():
-            entries[[*entries][-1]] += f" {line.strip()}"
-    return entries
-
-
-def flags_of(lines: list[str]) -> list[Flag]:
-    flags: list[Flag] = []
-    for line in lines:
-        if found := A_FLAG.fullmatch(line):
-            flags.append(Flag(found[1], found[2], found[3], [found[4]] if found[4] else []))
-        elif flags:
-            flags[-1].lines.append(line.strip())
-    return flags
+    return {found[1]: " ".join(filter(None, [found[2], *rest])) for found, rest in items_of(lines, AN_ENTRY)}
 
 
 class Manual:
@@ -158,11 +155,6 @@ def roff_lines(document: Iterable[str]) -> Iterator[str]:
                 yield from map(inline, lines)
 
 
-def about_lines(lines: list[str]) -> Iterator[str]:
-    """What is said of a command; what is indented stands as it is."""
-    return roff_lines(re.sub("^  ", "    ", line) for line in lines)
-
-
 def flag_lines(flags: list[Flag]) -> Iterator[str]:
     for flag in flags:
         value = f" \\fI{flag.value}\\fR" if flag.value else ""
@@ -179,11 +171,11 @@ def page_lines(manual: Manual) -> Iterator[str]:
         yield from (f"\\fB{escaped(command.usage)}\\fR", ".br")
     # The first line stands under NAME.
     if text := top.about[2:]:
-        yield from (".SH DESCRIPTION", *about_lines(text))
+        yield from (".SH DESCRIPTION", *roff_lines(text))
     yield from (".SH OPTIONS", *flag_lines(top.flags), ".SH COMMANDS")
     for name, summary in top.commands.items():
         if page := manual.commands.get(name):
-            yield from (f".SS {escaped(page.usage)}", *about_lines(page.about), *flag_lines(page.flags))
+            yield from (f".SS {escaped(page.usage)}", *roff_lines(page.about), *flag_lines(page.flags))
         else:
             yield from (f".SS {escaped(manual.name)} {name}", escaped(summary))
     yield ".SH EXIT STATUS"
@@ -212,14 +204,10 @@ def formats_page(manual: Manual) -> str:
     return "\n".join([*head, *roff_lines(document), ".SH SEE ALSO", "\\fBtwarp\\fR(1)", ""])
 
 
-def flag_names(flags: list[Flag]) -> list[str]:
-    return [name for flag in flags for name in flag.names]
-
-
 def bash(manual: Manual) -> str:
     commands, top = manual.commands, manual.top
     valued = {name for page in commands.values() for flag in page.flags if flag.value for name in flag.names}
-    words = {name: flag_names(page.flags) for name, page in commands.items()}
+    words = {name: page.names for name, page in commands.items()}
     words |= {"help": [*commands]} if "help" in top.commands else {}
     cases = [f"    {name}) words='{' '.join(row)}' ;;\n" for name, row in words.items()]
     # What follows one of these is a number.
@@ -240,7 +228,7 @@ def bash(manual: Manual) -> str:
     '<' | '>' | '>>' | '2>') return ;;
     esac
     case $command in
-    '') words='{' '.join([*top.commands, *flag_names(top.flags)])}' ;;
+    '') words='{' '.join([*top.commands, *top.names])}' ;;
 {''.join(cases)}    esac
     mapfile -t COMPREPLY < <(compgen -W "$words" -- "$word")
 }}
@@ -264,12 +252,10 @@ def zsh_flag(flag: Flag) -> str:
 def zsh(manual: Manual) -> str:
     commands = [f"        {quoted_for_zsh(f'{name}:{summary}')}\n" for name, summary in manual.top.commands.items()]
     top = [f"        {zsh_flag(flag)} \\\n" for flag in manual.top.flags]
-    cases = []
-    for name, page in manual.commands.items():
-        flags = " \\\n            ".join(["_arguments", *map(zsh_flag, page.flags)]) if page.flags else ":"
-        cases.append(f"        {name}) {flags} ;;\n")
-    if "help" in manual.top.commands:
-        cases.append(f"        help) _values command {' '.join(manual.commands)} ;;\n")
+    rows = {name: ["_arguments", *map(zsh_flag, page.flags)] for name, page in manual.commands.items()}
+    rows |= {"help": [f"_values command {' '.join(manual.commands)}"]} if "help" in manual.top.commands else {}
+    words = {name: " \\\n            ".join(row) if row != ["_arguments"] else ":" for name, row in rows.items()}
+    cases = [f"        {name}) {said} ;;\n" for name, said in words.items()]
     return f"""\
 #compdef {manual.name}
 {manual.function}() {{
@@ -328,6 +314,6 @@ examples:
 def main() -> None:
     parser = Parser(DESCRIPTION, EXAMPLE)
     parser.add_argument("kind", choices=WRITERS, help="what is to be written")
-    add_program(parser)
+    parser.option(*PROGRAM_OPTION)
     line = parser.parse_args()
     write_output(WRITERS[line.kind](Manual(line.program.absolute())))

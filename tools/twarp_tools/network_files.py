@@ -3,6 +3,7 @@
 What both would let pass, or lose, is refused here: entities, hyperedges, a second graph or node, a link without an end.
 """
 
+import codecs
 import re
 import sys
 import warnings
@@ -22,9 +23,8 @@ Debian has them as python3-networkx and python3-defusedxml, for its own /usr/bin
 any other Python gets them by
     {sys.executable} -m pip install networkx defusedxml"""
 
-BYTE_ORDER_MARK = b"\xef\xbb\xbf"
 # How texts of two bytes a letter begin.
-WIDE = (b"\xff\xfe", b"\xfe\xff")
+WIDE = (codecs.BOM_UTF16_LE, codecs.BOM_UTF16_BE)
 
 # Names in the namespace of GraphML.
 GRAPHML = "{{http://graphml.graphdrawing.org/xmlns}}{}".format
@@ -58,11 +58,10 @@ class Item:
         if not self.has(name):
             return None
         name, text = self.attributes[name.lower()]
-        why = "this is no number"
-        if A_DECIMAL.fullmatch(text.strip()):
-            if least <= (number := Fraction(text.strip())) <= most:
-                return number
-            why = f"this is not between {least} and {most:,}"
+        is_number = A_DECIMAL.fullmatch(text.strip())
+        if is_number and least <= (number := Fraction(text.strip())) <= most:
+            return number
+        why = f"this is not between {least} and {most:,}" if is_number else "this is no number"
         raise Refused(f"refused {self.place}: {name} {quote(text)}: {why}")
 
 
@@ -87,19 +86,18 @@ def read_network(text: bytes) -> Network:
         import networkx
     except ImportError:
         raise Stopped(MISSING) from None
-    is_xml = text.removeprefix(BYTE_ORDER_MARK).lstrip().startswith(b"<")
+    is_xml = text.removeprefix(codecs.BOM_UTF8).lstrip().startswith(b"<")
     is_xml |= text.startswith(WIDE) and b"<" in text[:4]
     try:
         with warnings.catch_warnings():
             # What is not known to networkx is nothing that a case has.
             warnings.simplefilter("ignore")
             graph = read_graphml(text) if is_xml else read_gml(text)
-    except networkx.NetworkXError as fault:
-        raise refused_by_networkx(str(fault)) from None
     except RecursionError:
         raise Refused("refused: too much stands within one another") from None
-    except FAULTS as fault:
-        raise refused_by_networkx(f"{type(fault).__name__}: {fault}") from None
+    except (networkx.NetworkXError, *FAULTS) as fault:
+        kind = "" if isinstance(fault, networkx.NetworkXError) else f"{type(fault).__name__}: "
+        raise refused_by_networkx(f"{kind}{fault}") from None
     return network_of(graph)
 
 
@@ -123,11 +121,8 @@ def read_graphml(text: bytes) -> Any:
 
     root = read_xml(text)
     prepare(root)
-    graphs = root.findall(GRAPH)
-    if not graphs:
-        raise Refused("refused: there is no graph")
-    if len(graphs) > 1:
-        raise Refused("refused: a second graph stands beside the first")
+    if len(graphs := root.findall(GRAPH)) != 1:
+        raise Refused(f"refused: {'a second graph stands beside the first' if graphs else 'there is no graph'}")
     for fault in faults(root):
         raise Refused(f"refused {fault}")
     reader = GraphMLReader(force_multigraph=True)
@@ -146,8 +141,7 @@ def read_xml(text: bytes) -> Element:
     from defusedxml.ElementTree import ParseError, fromstring
 
     try:
-        root: Element = fromstring(text)
-        return root
+        return fromstring(text)
     except ParseError as fault:
         line, _ = fault.position
         raise Refused.at_line(line, f"this is no XML: {str(fault).partition(':')[0]}") from None
@@ -183,18 +177,17 @@ def faults(root: Element) -> Iterator[str]:
             if (part.find(GRAPH) is None) == is_group:
                 why = "it has no graph" if is_group else "it has a graph of its own, as only groups of yEd may"
                 yield f"{kind} {quote(part.get('id', ''))}: {why}"
-    known: set[str | None] = set()
+    known: set[str] = set()
     for place, node in enumerate(root.iter(NODE), 1):
-        id_ = node.get("id")
-        if id_ is None:
+        if (id_ := node.get("id")) is None:
             yield f"node: the {place}. has no id"
         elif id_ in known:
             yield f"node {quote(id_)}: there is a node of this id already"
-        known.add(id_)
+        else:
+            known.add(id_)
     for place, edge in enumerate(root.iter(EDGE), 1):
         for end in "source", "target":
-            id_ = edge.get(end)
-            if id_ is None:
+            if (id_ := edge.get(end)) is None:
                 yield f"link: the {place}. has no {end}"
             elif id_ not in known:
                 yield f"link: the {place}. has the {end} {quote(id_)}, and there is no node of this id"
@@ -236,14 +229,13 @@ def letters_of(text: bytes) -> str:
 def network_of(graph: Any) -> Network:
     """The nodes and links of a graph of networkx, with the defaults that it has for them."""
     network = Network(graph.is_directed())
-    defaults = graph.graph.get("node_default") or {}
+    of_nodes, of_links = (graph.graph.get(kind) or {} for kind in ("node_default", "edge_default"))
     for node, values in graph.nodes(data=True):
-        item = Item(f"node {quote(str(node))}", defaults | written(values))
+        item = Item(f"node {quote(str(node))}", of_nodes | written(values))
         if network.nodes.setdefault(str(node), item) is not item:
             raise Refused(f"refused {item.place}: there is a node of this id already")
-    defaults = graph.graph.get("edge_default") or {}
     for source, target, values in graph.edges(data=True):
-        item = Item(f"link from {quote(str(source))} to {quote(str(target))}", defaults | written(values))
+        item = Item(f"link from {quote(str(source))} to {quote(str(target))}", of_links | written(values))
         network.links.append((str(source), str(target), item))
     return network
 

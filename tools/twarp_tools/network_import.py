@@ -4,17 +4,15 @@ import heapq
 import math
 import re
 from bisect import insort
-from collections.abc import Callable
-from dataclasses import dataclass
 from fractions import Fraction
 from pathlib import Path
-from typing import BinaryIO
+from typing import BinaryIO, NamedTuple
 
 from twarp.case import GREATEST_DELAY, MOST_LINKS, MOST_NODES, MOST_PATHS, MOST_ROUTERS, ORIGIN, Case, Link, Nodes
 from twarp.case import hops_from
 from twarp.program import Refused, quote
-from twarp_tools.command import Parser, number_between, read_stream, read_within, refuse_own_input, tell_counts, tool
-from twarp_tools.command import write_output
+from twarp_tools.command import SIZE_LIMIT, Parser, number_between, read_stream, read_within, refuse_own_input
+from twarp_tools.command import tell_counts, tool, write_output
 from twarp_tools.network_files import Item, Network, read_network
 
 # MiB of an input, unpacked: as many nodes and links as a case has take less, with all that yEd tells of them.
@@ -43,41 +41,28 @@ example:
   tools/import --destination Vienna --map nodes.txt Geant2012.graphml > case.spp
   tools/draw --names nodes.txt case.spp | dot -Tsvg > geant.svg"""
 
-# What a link between two nodes has of something, where it has it.
-Measure = Callable[[str, str, Item], Fraction | None]
+
+def on_globe(node: Item) -> tuple[float, float, float]:
+    """Where a node is, on a globe of radius 1."""
+    latitude, longitude = (node.number(name, -most, most) for name, most in zip(PLACE, (90, 180)))
+    up, round_ = math.radians(latitude or 0), math.radians(longitude or 0)
+    return math.cos(up) * math.cos(round_), math.cos(up) * math.sin(round_), math.sin(up)
 
 
-def measure_by(name: str) -> Measure:
-    """What this attribute says, which is not below 0."""
-    return lambda _a, _b, link: link.number(name, 0, GREATEST_VALUE)
+def kilometres(one: Item, other: Item) -> Fraction | None:
+    """How far two nodes are from each other on the globe, where both have their place."""
+    places = [on_globe(node) for node in (one, other) if node.has(*PLACE)]
+    if len(places) < 2:
+        return None
+    # The arc of a great circle, by its chord.
+    return Fraction(round(2 * EARTH_RADIUS_KM * math.asin(min(1.0, math.dist(*places) / 2))))
 
 
-def measure_on_globe(network: Network) -> Measure:
-    """The kilometres between a link's ends, where both have their place."""
+class Measured(NamedTuple):
+    """A link's weight and delay; of two links the lesser is taken."""
 
-    def place_of(node: Item) -> tuple[float, float, float]:
-        """On a globe of radius 1."""
-        latitude, longitude = (node.number(name, -most, most) for name, most in zip(PLACE, (90, 180)))
-        up, round_ = math.radians(latitude or 0), math.radians(longitude or 0)
-        return math.cos(up) * math.cos(round_), math.cos(up) * math.sin(round_), math.sin(up)
-
-    def measure(a: str, b: str, _link: Item) -> Fraction | None:
-        one, other = network.nodes[a], network.nodes[b]
-        places = [place_of(node) for node in (one, other) if node.has(*PLACE)]
-        if len(places) < 2:
-            return None
-        # The arc of a great circle, by its chord.
-        return Fraction(round(2 * EARTH_RADIUS_KM * math.asin(min(1.0, math.dist(*places) / 2))))
-
-    return measure
-
-
-@dataclass(frozen=True, slots=True)
-class Measured:
-    """A link's delay and weight."""
-
-    delay: int
     weight: Fraction
+    delay: int
 
 
 class Joined:
@@ -89,17 +74,14 @@ class Joined:
         self.rows: dict[str, dict[str, Measured]] = {node: {} for node in network.nodes}
         self.peers: dict[str, dict[str, None]] = {node: {} for node in network.nodes}
         self.parallel = self.loops = self.unmeasured = 0
-        # How delays are found, and how much of it is a tick; none where all are 1.
-        self.distance: Measure | None = None
-        self.per_tick = per_tick or Fraction(1)
-        name = self.known_name("--delay", delay, DISTANCES)
-        if name is None and any(node.has(*PLACE) for node in network.nodes.values()):
-            self.distance, self.per_tick = measure_on_globe(network), per_tick or Fraction(KM_PER_TICK)
-        elif name := name or self.known_name("", None, WEIGHTS):
-            self.distance = measure_by(name)
+        # What has the delays: an attribute, or distances on the globe; all are 1 where nothing has.
+        self.delay = self.known_name("--delay", delay, DISTANCES)
+        self.is_on_globe = self.delay is None and any(node.has(*PLACE) for node in network.nodes.values())
+        if not self.is_on_globe:
+            self.delay = self.delay or self.known_name("", None, WEIGHTS)
+        self.per_tick = per_tick or Fraction(KM_PER_TICK if self.is_on_globe else 1)
         # Where there is none, weights are the delays.
-        name = self.known_name("--weight", weight, WEIGHTS)
-        self.weight = measure_by(name) if name else None
+        self.weight = self.known_name("--weight", weight, WEIGHTS)
         for link in network.links:
             self.join(*link)
 
@@ -115,16 +97,18 @@ class Joined:
         if a == b:
             self.loops += 1
             return
-        distance = self.distance(a, b, link) if self.distance else None
-        self.unmeasured += bool(self.distance) and distance is None
+        distance = link.number(self.delay, 0, GREATEST_VALUE) if self.delay else None
+        if self.is_on_globe:
+            distance = kilometres(self.network.nodes[a], self.network.nodes[b])
+        self.unmeasured += bool(self.delay or self.is_on_globe) and distance is None
         delay = 1 if distance is None else max(1, round(distance / self.per_tick))
         if delay > GREATEST_DELAY:
             raise Refused(f"refused {link.place}: its delay is {delay:,}, and at most {GREATEST_DELAY:,} can be")
-        weight = self.weight(a, b, link) if self.weight else Fraction(delay)
-        measured = Measured(delay, Fraction(1) if weight is None else weight)
+        weight = link.number(self.weight, 0, GREATEST_VALUE) if self.weight else Fraction(delay)
+        measured = Measured(Fraction(1) if weight is None else weight, delay)
         if known := self.rows[a].get(b):
             self.parallel += 1
-            measured = min(known, measured, key=lambda one: (one.weight, one.delay))
+            measured = min(known, measured)
         self.rows[a][b] = measured
         if not self.network.is_directed:
             self.rows[b][a] = measured
@@ -169,19 +153,14 @@ class Shortest:
                 continue
             self.rows[path[0]].append(path)
             for peer, more in weights[path[0]].items():
-                if peer in path:
-                    continue
-                if length == MOST_NODES:
+                if peer not in path and length == MOST_NODES:
                     self.too_long.add(peer)
-                else:
+                elif peer not in path:
                     self.offer(peer, (weight + more, length + 1, (peer, *path)))
 
     def offer(self, router: int, found: Found) -> None:
         """Keeps a path that a router may take, where it is among its best."""
         best = self.best[router]
-        if len(best) == self.most and found[0] > best[-1][0]:
-            self.crowded.add(router)
-            return
         insort(best, found)
         if len(best) > self.most:
             self.crowded.add(router)
@@ -221,15 +200,14 @@ def main() -> None:
     scale = f"how much of a distance or a weight is a tick (default {KM_PER_TICK} km on the globe, else 1)"
     parser.option("--per-tick", "NUMBER", scale, read_scale)
     parser.option("--paths", "N", "permit at most N paths at a router", number_between(1, MOST_PATHS), 20)
-    parser.size_limit(MOST_UNPACKED)
+    parser.option(*SIZE_LIMIT, MOST_UNPACKED)
     parser.option("--map", "FILE", "write the number and the label of each router into this file")
     line = parser.parse_args()
     refuse_own_input("--map", line.map, line.input)
 
     def read(source: BinaryIO) -> tuple[Joined, list[str]]:
         """The network and the nodes that become routers. Here too, since what is wrong is told by the file's name."""
-        network = read_network(read_within(source, line.size_limit))
-        joined = Joined(network, line.delay, line.weight, line.per_tick)
+        joined = Joined(read_network(read_within(source, line.size_limit)), line.delay, line.weight, line.per_tick)
         return joined, routers_of(joined, line.destination)
 
     joined, routers = read_stream(line.input, read)
@@ -254,6 +232,5 @@ def main() -> None:
         Path(line.map).write_text("".join(lines), encoding="utf-8")
     # The delay of one direction alone is that of both.
     pairs = sorted({(min(a, b), max(a, b)) for a, row in enumerate(rows) for b in row})
-    delays = ((rows[a].get(b) or rows[b][a], rows[b].get(a) or rows[a][b]) for a, b in pairs)
-    links = [Link(a, b, there.delay, back.delay) for (a, b), (there, back) in zip(pairs, delays)]
+    links = [Link(a, b, (rows[a].get(b) or rows[b][a]).delay, (rows[b].get(a) or rows[a][b]).delay) for a, b in pairs]
     write_output(str(Case(len(rows), links, [path for row in shortest.rows[1:] for path in row])))

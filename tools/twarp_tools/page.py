@@ -1,7 +1,7 @@
 """The tool page: the run of a case as one page to look at."""
 
 import json
-from collections.abc import Iterator, Sequence
+from collections.abc import Iterator
 from dataclasses import asdict
 from html import escape
 from pathlib import Path
@@ -17,7 +17,7 @@ from twarp.pictures import subtitle_of, view_of_run
 from twarp.protocol import Fate, Router, Run, follow
 from twarp.report import Allow, Event, Fail, Forbid, Report, Restore, Swap, Update
 from twarp.run_picture import LETTER_WIDTH, Bar, RunPicture
-from twarp.svg import TOP, TimeAxis, View, add, attribute, refuse_crowd, sample_circle, sample_line, written
+from twarp.svg import TOP, View, add, attribute, refuse_crowd, sample_circle, sample_line, written
 from twarp_tools.command import MOST_OF_REPORT, Input, title_of, tool, write_output
 from twarp_tools.draw import add_policy, parser_of, part_of, read_run, safety_of
 from twarp_tools.layout import NetworkDrawing
@@ -48,35 +48,35 @@ SAMPLE_WIDTH, SAMPLE_HEIGHT = 34.0, 22.0
 Json = dict[str, Any]
 
 
-class Recording:
-    """The witness of a run: how each router in view begins, and what each event changes at its router.
+class Recording(Run):
+    """A run, with how each router in view begins, and what each event changes at its router.
 
-    Paths stand in it by their numbers in `paths`, as the script wants them.
+    Paths stand in it by their numbers in `path_numbers`, as the script wants them.
     """
 
     def __init__(self, case: Case, view: View):
+        super().__init__(case)
         self.view = view
-        self.paths = case.path_numbers()
         # The routers in view as they are before the first event from the view's beginning on.
         self.opening: dict[int, Router] = {}
         self.events: list[Json] = []
 
-    def begin(self, routers: Sequence[Router]) -> None:
+    def begin(self) -> None:
         """Keeps the routers as they are, where that is not done yet."""
-        self.opening = self.opening or {router: routers[router].copy() for router in self.view.routers}
+        self.opening = self.opening or {router: self.routers[router].copy() for router in self.view.routers}
 
-    def __call__(self, event: Event, routers: Sequence[Router]) -> None:
-        if event.time < self.view.first:
-            return
-        self.begin(routers)
-        if event.dst in self.view.shown and event.time <= self.view.last:
-            before = routers[event.dst]
-            after = before.copy()
-            after.handle(event)
-            self.events.append(self.event(event, before, after))
+    def handle_least(self) -> None:
+        _, event, _ = self.pending[0]
+        if event.time >= self.view.first:
+            self.begin()
+            if event.dst in self.view.shown and event.time <= self.view.last:
+                self.events.append(self.event(event, self.routers[event.dst]))
+        super().handle_least()
 
-    def event(self, event: Event, before: Router, after: Router) -> Json:
+    def event(self, event: Event, before: Router) -> Json:
         """What happens, in words, and what is other than before at the router."""
+        after = before.copy()
+        after.handle(event)
         words = f"router {event.dst} {told(event, before, after)}"
         if before.rib != after.rib:
             words += f" and takes {write_path(after.rib)}" if after.rib else " and has no path any more"
@@ -89,25 +89,25 @@ class Recording:
 
     def state(self, router: Router) -> Json:
         return {
-            "rib": self.paths[router.rib],
-            "order": [self.paths[path] for path in router.order],
-            "barred": sorted(self.paths[path] for path in router.barred),
+            "rib": self.path_numbers[router.rib],
+            "order": [self.path_numbers[path] for path in router.order],
+            "barred": sorted(self.path_numbers[path] for path in router.barred),
             "rows": [self.row(router, peer) for peer in router.delays],
             "counters": router.counters,
         }
 
     def row(self, router: Router, peer: int) -> list[int]:
         """A neighbour, the delay to it, whether the link is up, its session, and the path heard last."""
-        heard = self.paths[router.heard.get(peer, ())]
+        heard = self.path_numbers[router.heard.get(peer, ())]
         return [peer, router.delays[peer], int(peer not in router.down), router.sessions[peer], heard]
 
-    def messages(self, run: Run) -> Iterator[Json]:
+    def seen_messages(self) -> Iterator[Json]:
         """The messages between routers in view that are under way at some time in view."""
-        for message in run.messages:
+        for message in self.messages:
             event = message.event
             if self.view.meets(message.sent, event.time) and {event.src, event.dst} <= self.view.shown:
-                path, is_dropped = self.paths[message.update.path], message.fate is Fate.DROPPED
                 ends = {"from": event.src, "to": event.dst, "sent": message.sent, "arrives": event.time}
+                path, is_dropped = self.path_numbers[message.update.path], message.fate is Fate.DROPPED
                 yield ends | {"path": path, "is_dropped": is_dropped}
 
 
@@ -132,19 +132,8 @@ def told(event: Event, before: Router, after: Router) -> str:
     return "starts"
 
 
-def stops_of(axis: TimeAxis, moments: set[int]) -> list[int]:
-    """The times at which the slider stops."""
-    folded = sum(end - start - 1 for start, end in axis.folds)
-    if axis.last - axis.first - folded >= MOST_TICKS:
-        return sorted({axis.first, axis.last, *moments})
-    return sorted({time for start, end in axis.stretches() for time in range(start, end + 1)})
-
-
 class PagePicture(RunPicture):
-    """The picture of a run that the page's script can widen.
-
-    What keeps its width says where it stands, and each bar has its words, which are seen where there is room.
-    """
+    """The picture of a run that the page's script can widen, in which what keeps its width says where it stands."""
 
     has_hidden_words = True
 
@@ -168,16 +157,18 @@ class PagePicture(RunPicture):
 class Page:
     """What the page of a part of a run has."""
 
-    def __init__(self, case: Case, report: Report, run: Run, recording: Recording, safety: Safety | None = None):
-        self.view = recording.view
-        self.recording = recording
-        self.safety = safety
+    def __init__(self, case: Case, report: Report, recording: Recording, safety: Safety | None = None):
+        self.recording, self.view, self.safety = recording, recording.view, safety
         self.network = NetworkDrawing(case, self.view)
-        self.picture = PagePicture(case, report, run, self.view)
-        self.messages = [*recording.messages(run)]
-        moments = {message[end] for message in self.messages for end in ("sent", "arrives")}
-        moments |= {event["time"] for event in recording.events}
-        self.stops = stops_of(self.picture.axis, {time for time in moments if self.view.meets(time, time)})
+        self.picture = PagePicture(case, report, recording, self.view)
+        self.messages, axis = [*recording.seen_messages()], self.picture.axis
+        # The times at which the slider stops.
+        if axis.last - axis.first - sum(end - start - 1 for start, end in axis.folds) < MOST_TICKS:
+            moments = {time for start, end in axis.stretches() for time in range(start, end + 1)}
+        else:
+            moments = {message[end] for message in self.messages for end in ("sent", "arrives")}
+            moments |= {axis.first, axis.last, *(event["time"] for event in recording.events)}
+        self.stops = sorted(time for time in moments if self.view.meets(time, time))
 
     def html(self, title: str, subtitle: str) -> str:
         parts = {
@@ -201,7 +192,7 @@ class Page:
             "axis": self.picture.axis_json(),
             "xs": [round(self.picture.axis.x(time), 1) for time in self.stops],
             "places": [asdict(place) for place in svg.PLACES],
-            "paths": list(self.recording.paths),
+            "paths": list(self.recording.path_numbers),
             "routers": list(self.routers()),
             "messages": self.messages,
             "events": self.recording.events,
@@ -209,27 +200,21 @@ class Page:
 
     def policy_json(self, safety: Safety) -> Json:
         """What holds for all timings: of the routers in view, with paths by their numbers, and steps between them."""
-        paths, shown = self.recording.paths, self.view.shown
+        paths, shown = self.recording.path_numbers, self.view.shown
         left = [[paths[path] for path in safety.left[router]] for router in self.view.routers]
         steps = {"rim": safety.rim_hops, "spokes": safety.spoke_hops}
         return {"left": left} | {name: [hop for hop in hops if shown.issuperset(hop)] for name, hops in steps.items()}
 
     def routers(self) -> Iterator[Json]:
-        network = self.network
-        for router, point, words in zip(self.view.routers, network.points, network.words):
-            yield {
-                "router": router,
-                "name": self.view.names.get(router, ""),
-                "x": point.real + network.left,
-                "y": point.imag + network.top,
-                "words_y": words.imag + network.top,
-                "opening": self.recording.state(self.recording.opening[router]),
-            }
+        left, top = self.network.left, self.network.top
+        for router, point, words in zip(self.view.routers, self.network.points, self.network.words):
+            place = {"x": point.real + left, "y": point.imag + top, "words_y": words.imag + top}
+            state = self.recording.state(self.recording.opening[router])
+            yield {"router": router, "name": self.view.names.get(router, ""), **place, "opening": state}
 
     def timeline(self) -> list[Element]:
         """The pictures that make the timeline: its corner, its times, its names, and its lanes with the cursor."""
-        lanes = self.picture.lanes
-        left, top = lanes.left - BESIDE, TOP - ABOVE
+        lanes, left, top = self.picture.lanes, self.picture.lanes.left - BESIDE, TOP - ABOVE
         width, height = self.picture.right - left + BESIDE, lanes.bottom - top + BELOW
         corner = pane("corner", 0, top - TIMES_HEIGHT, left, TIMES_HEIGHT)
         times = pane("times", left, top - TIMES_HEIGHT, width, TIMES_HEIGHT)
@@ -284,16 +269,16 @@ def main() -> None:
     parser = parser_of(DESCRIPTION, EXAMPLE)
     add_policy(parser, "the wheel in the network, and which paths each router may still use whatever the delays")
     line = parser.parse_pair()
-    case_text, report_text = Input.of(line.case), Input.of(line.report, MOST_OF_REPORT)
+    case_text, report_text = Input(line.case), Input(line.report, MOST_OF_REPORT)
     case, report = read_run(case_text, report_text)
     view = view_of_run(case, report, **part_of(line))
     refuse_crowd(len(view.routers), MOST_ROUTERS, "routers to be shown, and a page has")
     seen = sum(event.dst in view.shown and view.meets(event.time, event.time) for event in report.events)
     refuse_crowd(seen, MOST_EVENTS, "events to be shown, and a page has")
     recording = Recording(case, view)
-    run = report_text.read(lambda _: follow(case, report, recording))
-    recording.begin(run.routers)
+    report_text.read(lambda _: follow(case, report, recording))
+    recording.begin()
     safety = safety_of(line, case)
     subtitle = subtitle_of(report) + (f"; for all timings: {safety}" if safety else "")
     title = f"{title_of(line.title, line.case, 'run')}: verdict {report.verdict}"
-    write_output(Page(case, report, run, recording, safety).html(title, subtitle))
+    write_output(Page(case, report, recording, safety).html(title, subtitle))

@@ -11,8 +11,8 @@ from twarp.case import GREATEST_DELAY, GREATEST_TIME, MOST_LINKS, MOST_NODES, Ca
 from twarp.draws import Uniform, read_range, share
 from twarp.program import Refused
 from twarp_tools import topology
-from twarp_tools.command import Parser, lines_within, number_between, read_stream, refuse_own_input, tell, tell_counts
-from twarp_tools.command import tool, write_output
+from twarp_tools.command import SIZE_LIMIT, Parser, lines_within, number_between, read_stream, refuse_own_input, tell
+from twarp_tools.command import tell_counts, tool, write_output
 from twarp_tools.topology import GREATEST_AS, Neighbours, Permitted, Role, Topology
 
 # MiB of an input, unpacked: the relationships of the whole Internet are some 15.
@@ -53,7 +53,7 @@ def command_line(words: Sequence[str] | None = None) -> argparse.Namespace:
     parser.option("--seed", "N", "draw ASes, delays and failures by this number", number_between(0, GREATEST_TIME), 1)
     parser.option("--failures", "N", "let N links fail and be repaired", number_between(0, case.MOST_SCENES // 2), 0)
     parser.option("--until", "TIME", "repair no link later than this", number_between(2, GREATEST_TIME), 1000)
-    parser.size_limit(MOST_UNPACKED)
+    parser.option(*SIZE_LIMIT, MOST_UNPACKED)
     parser.option("--map", "FILE", "write the number and the AS number of each router into this file")
     return parser.parse_args(words)
 
@@ -98,10 +98,8 @@ def make(neighbours: Neighbours, line: argparse.Namespace) -> tuple[Topology, Pe
     def drawn(purpose: str, *ases: int) -> float:
         return share(line.seed, purpose, *sorted(ases))
 
-    if line.keep_connected is None:
-        taken = Topology(neighbours, line.destination, line.core or line.routers)
-    else:
-        taken = Topology(neighbours, line.destination, line.keep_connected, lambda _, *ends: drawn("part", *ends))
+    place = [lambda _, *ends: drawn("part", *ends)] if line.keep_connected else []
+    taken = Topology(neighbours, line.destination, line.keep_connected or line.core or line.routers, *place)
     if line.order == "near":
         taken.renumber(topology.near_order(taken.roles))
     permitted = Permitted(taken, line.paths)
@@ -113,14 +111,6 @@ def make(neighbours: Neighbours, line: argparse.Namespace) -> tuple[Topology, Pe
     scenes = sorted(failures(used, numbers, line), key=lambda scene: (scene.time, scene.a, scene.b))
     return taken, permitted, Case(len(numbers), links, paths, [*scenes])
 
-
-def tell_circle(made: Topology) -> None:
-    """Says where ASes are providers of one another in a circle, which Gao and Rexford's conditions exclude."""
-    try:
-        TopologicalSorter(dict(enumerate(made.in_role(Role.PROVIDER)))).prepare()
-    except CycleError as error:
-        circle = ", ".join(f"AS {made.numbers[router]}" for router in error.args[1])
-        tell(f"each of these is a provider of the next, so it is not sure that the case comes to rest: {circle}")
 
 
 @tool
@@ -142,7 +132,12 @@ def main() -> None:
         f"routers with paths left out because these have more than {MOST_NODES} nodes": len(permitted.too_long),
     }
     tell_counts(counts)
-    tell_circle(made)
+    try:
+        TopologicalSorter(dict(enumerate(made.in_role(Role.PROVIDER)))).prepare()
+    except CycleError as error:
+        # Gao and Rexford's conditions exclude that.
+        circle = ", ".join(f"AS {made.numbers[router]}" for router in error.args[1])
+        tell(f"each of these is a provider of the next, so it is not sure that the case comes to rest: {circle}")
     if line.map:
         Path(line.map).write_text("".join(f"{router} {number}\n" for router, number in enumerate(made.numbers)))
     write_output(str(result))

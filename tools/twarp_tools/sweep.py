@@ -9,19 +9,20 @@ import shlex
 import signal
 import sys
 import threading
-from collections.abc import Callable, Iterator, Sequence
+from collections.abc import Iterator, Sequence
+from functools import partial
 
 from twarp import program
 from twarp.calls import Ribs, version
 from twarp.case import GREATEST_TIME, MOST_ROUTERS, Case, read_case
 from twarp.draws import CaseSource, Ends, Source, read_law, read_range
-from twarp.outcomes import Outcomes, Table
+from twarp.outcomes import Outcomes, Table, read_table
 from twarp.program import Refused, Stopped
 from twarp.sweeps import AtRest, Policy, cluster
 from twarp.trials import Batches, Failed, Plan, Trial, workers_of
 from twarp_tools import relationships
 from twarp_tools.command import Input, Parser, number_between, tell, title_of, tool, write_output
-from twarp_tools.sweep_outputs import Outputs, Progress, read_csv
+from twarp_tools.sweep_outputs import Outputs, Progress
 
 MOST_RUNS = 1_000_000
 MOST_JOBS = 1_024
@@ -44,16 +45,6 @@ examples:
 NAMED = ("delays", "links", "apart", "failure_times", "relationships", "stop", "every", "outcomes", "seed")
 
 
-def as_written(read: Callable[[str], object]) -> Callable[[str], str]:
-    """Gives words as they are written, where they can be read."""
-
-    def check(words: str) -> str:
-        read(words)
-        return words
-
-    return check
-
-
 def read_links(words: str) -> list[Ends]:
     """The links of a list as 0-1,0-2."""
     links = []
@@ -68,18 +59,17 @@ def read_links(words: str) -> list[Ends]:
 def command_line() -> argparse.Namespace:
     parser = Parser(DESCRIPTION, EXAMPLE)
     flag, option, time = parser.add_argument, parser.option, number_between(1, GREATEST_TIME)
-    count, seed = number_between(1, MOST_RUNS), number_between(0, GREATEST_TIME - MOST_RUNS)
     flag("case", metavar="CASE", nargs="?", default="-", help="the case; - is standard input")
     law = "draw delays, in whole ticks, by LOW-HIGH, exponential:MEAN, or log-normal:MEDIAN:SIGMA"
-    option("--delays", "LAW", law, as_written(read_law))
-    option("--links", "LIST", "draw the delays of these links alone, as 0-1,0-2", as_written(read_links))
+    option("--delays", "LAW", law, read_law, is_kept=True)
+    option("--links", "LIST", "draw the delays of these links alone, as 0-1,0-2", read_links, is_kept=True)
     flag("--apart", action="store_true", help="draw a delay for each direction of a link")
-    times = as_written(lambda words: read_range(words, 0, GREATEST_TIME))
-    option("--failure-times", "LOW-HIGH", "draw each failure's time; its repair moves with it", times)
+    times = partial(read_range, least=0, greatest=GREATEST_TIME)
+    option("--failure-times", "LOW-HIGH", "draw each failure's time; its repair moves with it", times, is_kept=True)
     made = "CASE has AS relationships: make a case for each run, by tools/relationships with these options and the seed"
-    option("--relationships", "OPTIONS", made, as_written(shlex.split))
-    option("--runs", "N", "how many runs", count, 1_000)
-    option("--seed", "N", "the first run's seed", seed, 1)
+    option("--relationships", "OPTIONS", made, shlex.split, is_kept=True)
+    option("--runs", "N", "how many runs", number_between(1, MOST_RUNS), 1_000)
+    option("--seed", "N", "the first run's seed", number_between(0, GREATEST_TIME - MOST_RUNS), 1)
     rest = "where it is at rest whatever its delays, of a case that twarp-policy calls safe"
     option("--stop", "TIME", f"run each case to this time (default: {rest})", time)
     option("--every", "N", "look for oscillation each N ticks, as twarp does", time)
@@ -142,13 +132,12 @@ class RelationshipsSource:
 
 def source_of(line: argparse.Namespace) -> tuple[Source, str]:
     """Where the cases come from, and a checksum: of the case's text, or of that of seed 0."""
-    source: Source
     if line.relationships is not None:
-        source = RelationshipsSource(shlex.split(line.relationships), line.case)
+        source: Source = RelationshipsSource(shlex.split(line.relationships), line.case)
         case, _ = source.draw(0)
     else:
         named = None if line.scheduler else line.program
-        case = Input.of(line.case).read(lambda text: read_case(text, named))
+        case = Input(line.case).read(lambda text: read_case(text, named))
         links = read_links(line.links) if line.links else None
         source = CaseSource(case, line.delays, links, line.apart, line.failure_times)
     return source, hashlib.sha256(str(case).encode()).hexdigest()
@@ -156,24 +145,21 @@ def source_of(line: argparse.Namespace) -> tuple[Source, str]:
 
 def policy_program(line: argparse.Namespace) -> str | None:
     """The program twarp-policy, where it is there; stopped where it is not and an option asks for it."""
-    is_asked = line.policy_program or not line.stop or line.outcomes == "stable"
     try:
         return str(program.need_policy(line.policy_program, line.program))
     except Stopped:
-        if is_asked and not line.scheduler:
+        if not line.scheduler and (line.policy_program or not line.stop or line.outcomes == "stable"):
             raise
         return None
 
 
-def policy_of(line: argparse.Namespace, source: Source, file: str | None) -> Policy | None:
-    """What holds of the case for all timings, where the runs have one case and twarp-policy is there.
+def policy_of(line: argparse.Namespace, case: Case, file: str) -> Policy | None:
+    """What holds of the case for all timings, as the program twarp-policy says.
 
     Where nothing but delays is drawn, no stop has to be named for a case that is safe.
     """
-    if file is None or not isinstance(source, CaseSource):
-        return None
     try:
-        policy = Policy.of(source.case, file)
+        policy = Policy.of(case, file)
     except (OSError, Refused, Stopped, ValueError) as fault:
         if not line.stop:
             raise Stopped(f"policy: {file} does not tell when the runs are at rest: {fault}") from None
@@ -239,7 +225,7 @@ def main() -> None:
     with contextlib.ExitStack() as stack:
         where = str((program.find(line.program) or "twarp") if line.scheduler else program.need(line.program))
         judge = policy_program(line)
-        policy = policy_of(line, source, judge)
+        policy = policy_of(line, source.case, judge) if judge and isinstance(source, CaseSource) else None
         line.outcomes = "stable" if policy and policy.numbers and line.outcomes != "seen" else None
         plan = Plan(source, where, line.stop or AtRest(judge or "twarp-policy"), line.every, line.check == "stable")
         executor, threads = stack.enter_context(cluster(line.scheduler)) if line.scheduler else (None, None)
@@ -249,8 +235,7 @@ def main() -> None:
         notes = policy.notes if policy and not line.failure_times else {}
         given = program.words_of({name.replace("_", "-"): getattr(line, name) for name in NAMED})
         made_by = f"sweep {checksum[:16]} {shlex.join(given)}"
-        table = Table(source.columns, made_by, Outcomes((), numbers, notes))
-        outputs = Outputs(line, table, [line.case])
+        outputs = Outputs(line, Table(source.columns, made_by, Outcomes((), numbers, notes)), [line.case])
         known = {trial.seed for trial in outputs.known}
         seeds = [seed for seed in range(line.seed, line.seed + line.runs) if seed not in known]
         try:
@@ -274,10 +259,9 @@ def main() -> None:
 
 def version_of(file: str) -> str | None:
     """What a program says of its version, where it says something."""
-    try:
+    with contextlib.suppress(OSError, Refused, Stopped, ValueError):
         return version(program=file)
-    except (OSError, Refused, Stopped, ValueError):
-        return None
+    return None
 
 
 def without_seed(made_by: str) -> str:
@@ -298,11 +282,11 @@ def merge() -> None:
     tables: list[Table] = []
     for name in line.files:
         with open(name, newline="", errors="replace") as source:
-            table, trials = read_csv(name, source)
+            table, trials = read_table(source)
         tables.append(table)
         if [*map(without_seed, table.head)] != [*map(without_seed, tables[0].head)]:
-            first, other = tables[0].head[-1][:200], table.head[-1][:200]
-            raise Refused(f"{name}: it is of `{other}`, and {line.files[0]} of `{first}`")
+            made, first = table.head[-1][:200], tables[0].head[-1][:200]
+            raise Refused(f"{name}: it is of `{made}`, and {line.files[0]} of `{first}`")
         for trial in trials:
             if runs.setdefault(trial.seed, trial) is not trial:
                 raise Refused(f"{name}: a file before has the run with seed {trial.seed} too")

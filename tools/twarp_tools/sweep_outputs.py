@@ -60,8 +60,8 @@ class Outputs:
         self.table = table
         # Else standard output may have to hold something in place of these lines, or them in another order.
         self.is_handed_on = not (line.check or line.resume)
-        names = {"--resume": line.resume, "--csv": line.csv, "--json": line.json, "--picture": line.picture}
-        names = {option: name for option, name in names.items() if name}
+        outputs = ("--resume", line.resume), ("--csv", line.csv), ("--json", line.json), ("--picture", line.picture)
+        names = {option: name for option, name in outputs if name}
         refuse_clashes(names, inputs)
         # The lines for standard output that are not written yet, and the runs that the resumed CSV has.
         self.lines = [] if line.summary else [table.head_line]
@@ -81,7 +81,7 @@ class Outputs:
             file.write(self.table.head_line)
             return file
         file.seek(0)
-        found, self.known = read_csv(name, file, is_cut=True)
+        found, self.known = read_table(file, is_cut=True)
         if found.head != self.table.head:
             made, wanted = found.head[-1][:200], self.table.head[-1]
             raise Refused(f"{name}: refused line 1: it is of `{made}`, this one of `{wanted}`")
@@ -126,13 +126,6 @@ class Outputs:
         for file in self.files.values():
             file.flush()
         write_output(outcomes.summary() if self.line.summary else "".join(self.lines))
-
-
-def read_csv(name: str, source: TextIO, is_cut: bool = False) -> tuple[Table, list[Trial]]:
-    try:
-        return read_table(source, is_cut)
-    except Refused as fault:
-        raise Refused(f"{name}: {fault}") from None
 
 
 class Progress:

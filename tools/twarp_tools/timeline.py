@@ -16,7 +16,7 @@ example:
 @tool
 def main() -> None:
     line = parser_of(DESCRIPTION, EXAMPLE, "the case, or what was replayed", " (of a replay: steps)").parse_pair()
-    case_text, report_text = Input.of(line.case), Input.of(line.report, MOST_OF_REPORT)
+    case_text, report_text = Input(line.case), Input(line.report, MOST_OF_REPORT)
     how = part_of(line)
     how["title"] = title_of(line.title, line.case, "run")
     if report_text.text.startswith(REPLAY_HEADER.encode()):

@@ -52,7 +52,7 @@ TWARP = Made("twarp")
 def find_kit(made: Made = TWARP) -> Path | None:
     """The toolchain's folder, or None with a word on standard error where it is not on the PATH."""
     if found := shutil.which(RT):
-        return Path(found).resolve().parent.parent
+        return Path(found).resolve().parents[1]
     made.tell("the command rt of the Rattle toolchain is missing: put its folder bin on the PATH")
     return None
 

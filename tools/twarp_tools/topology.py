@@ -2,7 +2,6 @@
 
 tools/README.md tells of paths without a valley, and how they are ranked.
 """
-from __future__ import annotations
 
 import enum
 import heapq
@@ -41,12 +40,10 @@ def read_relationships(lines: Iterable[tuple[int, bytes]]) -> Neighbours:
     pairs, numbers = array("Q"), array("Q")
     for number, line in lines:
         found = A_RELATIONSHIP.fullmatch(line)
-        if not found:
-            refuse_other(number, line)
-            continue
-        a, b = int(found[1]), int(found[2])
+        a, b = (int(found[1]), int(found[2])) if found else (0, 0)
         if a == b or not (0 < a <= GREATEST_AS and 0 < b <= GREATEST_AS):
             refuse_other(number, line)
+            continue
         row = neighbours[a]
         if b in row:
             first = min(pairs.index(pair) for pair in (a << 32 | b, b << 32 | a) if pair in pairs)
@@ -61,8 +58,7 @@ def refuse_other(number: int, line: bytes) -> None:
     """Refuses a line that has no relationship, where it is neither empty nor a comment."""
     if line.lstrip()[:1] in (b"", b"#"):
         return
-    content = line.decode("utf-8", "replace").strip()
-    fields = content.split("|")
+    fields = line.decode("utf-8", "replace").strip().split("|")
     if len(fields) not in (3, 4):
         raise Refused.at_line(number, f"there are {len(fields)} fields where 3 or 4 are wanted, with | between them")
     for word in fields[:2]:
@@ -75,11 +71,8 @@ def refuse_other(number: int, line: bytes) -> None:
 
 def within(neighbours: Neighbours, kept: Container[int]) -> Neighbours:
     """The relationships between the ASes that are kept."""
-    return {
-        number: {peer: role for peer, role in row.items() if peer in kept}
-        for number, row in neighbours.items()
-        if number in kept
-    }
+    rows = ((number, row) for number, row in neighbours.items() if number in kept)
+    return {number: {peer: role for peer, role in row.items() if peer in kept} for number, row in rows}
 
 
 def coreness(neighbours: Neighbours) -> dict[int, int]:
@@ -88,9 +81,7 @@ def coreness(neighbours: Neighbours) -> dict[int, int]:
     S. B. Seidman: Network structure and minimum degree, Social Networks 5, 1983. The ASes with the fewest neighbours
     left are taken away again and again.
     """
-    left = {number: len(row) for number, row in neighbours.items()}
-    found: dict[int, int] = {}
-    k = 0
+    left, found, k = {number: len(row) for number, row in neighbours.items()}, dict[int, int](), 0
     while left:
         k = max(k, min(left.values()))
         taken = [number for number, count in left.items() if count <= k]
@@ -123,9 +114,8 @@ def core_around(neighbours: Neighbours, destination: int, most: int) -> tuple[in
     Where each is larger it is the one with the greatest k.
     """
     cores = coreness(neighbours)
-    greatest = max(cores.values())
-    k, part = greatest, set[int]()
-    for least in range(greatest, -1, -1):
+    k, part = max(cores.values()), set[int]()
+    for least in range(k, -1, -1):
         core = {number for number, core in cores.items() if core >= least}
         core |= reached_by(neighbours, destination, Role.PROVIDER, core)
         if part and len(core) > most:
@@ -159,8 +149,7 @@ class Topology:
         settled: set[tuple[int, bool]] = set()
         while self.found and len(self.routers) < most:
             _, hops, number, is_restricted, by = heapq.heappop(self.found)
-            is_known = settled & {(number, False), (number, is_restricted)}
-            if not is_known and self.is_linked(number, by):
+            if not settled & {(number, False), (number, is_restricted)} and self.is_linked(number, by):
                 settled.add((number, is_restricted))
                 self.offer(hops, number, is_restricted)
 
@@ -204,8 +193,8 @@ class Topology:
 
     def in_role(self, role: Role) -> list[list[int]]:
         """For each router its neighbours in this role, by AS number."""
-        rows = ([peer for peer, found in row.items() if found is role] for row in self.roles)
-        return [sorted(row, key=self.numbers.__getitem__) for row in rows]
+        order = self.numbers.__getitem__
+        return [sorted((peer for peer in row if row[peer] is role), key=order) for row in self.roles]
 
     def links(self) -> list[tuple[int, int]]:
         return [(a, b) for a, row in enumerate(self.roles) for b in sorted(row) if a < b]
@@ -223,23 +212,21 @@ def near_order(neighbours: Sequence[Collection[int]]) -> list[int]:
     new heuristic algorithm for the linear arrangement problem, University of New Brunswick, TR99-126a, 1999); of
     equal ones that which has had a neighbour among them longest. All routers have to be connected.
     """
-    order: list[int] = []
-    come: set[int] = set()
+    # The place of each router that has come.
+    places: dict[int, int] = {}
     # Of each router that is next to one that has come: how many more links will lead on once it comes too.
     front = {ORIGIN: len(neighbours[ORIGIN])}
     while front:
         router = min(front, key=front.__getitem__)
         del front[router]
-        order.append(router)
-        come.add(router)
+        places[router] = len(places)
         for peer in sorted(neighbours[router]):
-            if peer not in come:
+            if peer not in places:
                 front[peer] = front.get(peer, len(neighbours[peer])) - 2
     # How far apart the two ends of each link stand, summed over all links, here and in the order in which they were.
-    places = {router: place for place, router in enumerate(order)}
     links = [(a, b) for a, row in enumerate(neighbours) for b in row if a < b]
     is_nearer = sum(abs(places[a] - places[b]) for a, b in links) <= sum(b - a for a, b in links)
-    return order if is_nearer else [*range(len(neighbours))]
+    return [*places] if is_nearer else [*range(len(neighbours))]
 
 
 class Permitted:
@@ -266,16 +253,12 @@ class Permitted:
 
     def grow(self, router: int, role: Role, hops: int) -> None:
         """Adds a router's paths of so many hops by way of neighbours in this role, as far as there is room."""
-        found = self.offers(router, role, hops)
-        if hops == MOST_NODES:
-            taken, left_out = [], self.too_long
-        else:
-            room = self.most - sum(map(len, self.rows[router].values()))
-            taken, left_out = list(islice(found, room)), self.crowded
-        if taken:
+        found, is_too_long = self.offers(router, role, hops), hops == MOST_NODES
+        room = 0 if is_too_long else self.most - sum(map(len, self.rows[router].values()))
+        if taken := list(islice(found, room)):
             self.rows[router][role, hops] = taken
         if next(found, None):
-            left_out.add(router)
+            (self.too_long if is_too_long else self.crowded).add(router)
 
     def offers(self, router: int, role: Role, hops: int) -> Iterator[Nodes]:
         """The paths of so many hops by way of neighbours in this role, best first."""

@@ -18,6 +18,7 @@ PAGE = ROOT / "docs/TUTORIAL.md"
 PICTURES = ROOT / "docs/pictures"
 PROGRAM = ROOT / "crates/twarp/out/twarp"
 POLICY = ROOT / "crates/twarp_policy/out/twarp_policy"
+PROGRAM_OPTION = "--program", "FILE", "the built program", Path, PROGRAM
 
 # What the commands name of the clone, and the folder into which they write.
 NAMED = ("cases", "docs", "python", "tools")
@@ -41,8 +42,7 @@ class Command:
 
 
 def commands_of(page: str) -> list[Command]:
-    commands: list[Command] = []
-    is_console = False
+    commands, is_console = list[Command](), False
     for number, line in enumerate(page.splitlines(), 1):
         if line.startswith("```"):
             is_console = line == "```console"
@@ -82,14 +82,11 @@ def follow(page: str, folder: Path, programs: Programs) -> Iterator[tuple[Comman
         yield command, run(command, folder, programs)
 
 
-def add_program(parser: Parser) -> None:
-    parser.option("--program", "FILE", "the built program", Path, PROGRAM)
-
 
 @tool
 def main() -> None:
     parser = Parser(DESCRIPTION, "example:\n  tools/pictures")
-    add_program(parser)
+    parser.option(*PROGRAM_OPTION)
     parser.option("--policy", "FILE", "the built program twarp-policy", Path, POLICY)
     line = parser.parse_args()
     page, programs = PAGE.read_text(), {"twarp": line.program, "twarp-policy": line.policy}

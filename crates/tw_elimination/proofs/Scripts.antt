@@ -20,7 +20,7 @@ use Rattle.tw_model.proofs.Histories.{state_of_own}
 use Rattle.tw_model.proofs.Lawful.{lawful}
 use Rattle.tw_model.proofs.Within.{suits_within}
 use Rattle.tw_handlers.specs.Calls.{after_event}
-use Rattle.tw_queue.proofs.Spares.{sorted_whole}
+use Rattle.tw_ordered.proofs.Spares.{sorted_whole}
 use Rattle.tw_seq.specs.Run.{router_after, routers_after}
 use Rattle.tw_seq.specs.Turn.{receiver}
 use Rattle.tw_seq.proofs.Handled.{get_or-routers, set-routers}

@@ -1,5 +1,5 @@
 -- An exchange and shares at a time of the one-thread run are a parallel run that stands there, and a settled one stands at its stop.
-use Rattle.std.proofs.Common.{◌≡◌, ℕ, zero, suc, ◌+◌, ◌<◌, ◌≤◌, ◌==◌, ◌&&◌, Bool, true, cond, List, [], ◌∷◌, drop, flat_map, get_or, length, map, nat_lt, Option, Some, slice_get, refl, ap, sym, ◌∙◌, subst, inl, inr, arith}
+use Rattle.std.proofs.Common.{◌≡◌, ℕ, suc, ◌+◌, ◌<◌, ◌≤◌, ◌==◌, ◌&&◌, Bool, true, cond, List, [], ◌∷◌, drop, flat_map, get_or, length, map, nat_lt, Option, Some, slice_get, refl, ap, sym, ◌∙◌, subst, inl, inr, arith}
 use Rattle.std.proofs.lemmas.Bool.{and_parts, cases_Bool, cases_lt, lt-ltb, ltb-true}
 use Rattle.std.proofs.lemmas.List.{length-replicate}
 use Rattle.std.specs.List.{AllByRecursion, range_with_len}
@@ -36,13 +36,13 @@ use Rattle.tw_shard.specs.Timeline.{Timeline, history}
 use Rattle.tw_sim.proofs.Counts.{in_filter, times-filter-no, times-filter-yes}
 use Rattle.tw_sim.proofs.Unique.{all_below}
 use Rattle.tw_sim.specs.declared.machine.Cancel.{Cancel}
-use Rattle.tw_sim.specs.declared.machine.Signed.{Signed}
 use Rattle.tw_sim.specs.Ordered.{insert_all}
 use Rattle.tw_sim.specs.Seq.{log, rest, seq}
-use Rattle.tw_sim.specs.Simulation.{Simulation, below, only, times}
+use Rattle.tw_sim.specs.Simulation.{Simulation, below, times}
 use Rattle.tw_table.proofs.Deals.{long_map}
 use Rattle.tw_table.specs.declared.hand.Hand.{Hand}
 use Rattle.tw_table.specs.Shares.{IsRuled, Share, board_of, place_of, shares_of}
+use Rattle.tw_table.proofs.Openings.{no_mail}
 
 -- all that a router has handled of the run to a time is before it
 run_below : (case : Case) → IsCase case → (r time : ℕ) → below (simulation case) time (own_run case r time) ≡ own_run case r time
@@ -174,10 +174,6 @@ module _ (case : Case) (is : IsCase case) (whose : ℕ → ℕ) (time : ℕ) (ke
   )
 
 -- ---- an exchange at a time
-
-no_mail : (n : ℕ) → flat_map (λ (mail : List (Signed Event)). mail) (replicate n []) ≡ []
-no_mail zero = refl
-no_mail (suc n) = no_mail n
 
 -- one that begins there, whether a list says the worker of each router or not
 pub exchange_at : (n time stop : ℕ) (owners : Option (List ℕ)) → time ≤ stop → IsExchangeAt n time (record (opening n time stop) { owners = owners })

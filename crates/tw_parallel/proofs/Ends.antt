@@ -37,10 +37,6 @@ use Rattle.tw_table.specs.declared.hand.Hand.{Hand}
 use Rattle.tw_table.specs.Shares.{place_of, shares_of}
 use Rattle.tw_warp.proofs.Dealt.{all_there, together}
 
-pub empty_of : {X : Type 0} (xs : List X) → length xs ≡ 0 → xs ≡ []
-empty_of [] h = refl
-empty_of (x ∷ xs) h = absurd (omega arith)
-
 -- ---- what is on its way
 
 abbrev pub held : Hand → List (Signed Event)

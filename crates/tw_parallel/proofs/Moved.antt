@@ -1,15 +1,15 @@
 -- A run in which a router goes from one worker to another is one still, and its machine stays.
-use Rattle.std.proofs.Common.{◌≡◌, ℕ, zero, suc, ◌+◌, ◌<◌, ◌≤◌, ◌==◌, ◌||◌, not, true, cond, Err, List, [], ◌∷◌, None, Ok, Option, Some, get_or, length, map, set, slice_get, take, ◌++◌, refl, ap, sym, ◌∙◌, subst, inl, inr, arith}
+use Rattle.std.proofs.Common.{◌≡◌, ℕ, zero, suc, ◌+◌, ◌<◌, ◌≤◌, ◌==◌, ◌||◌, not, true, cond, Err, List, [], ◌∷◌, Ok, Some, get_or, length, map, set, slice_get, take, ◌++◌, refl, ap, sym, ◌∙◌, subst, inl, inr, arith}
 use Rattle.std.proofs.lemmas.Bool.{and_parts, cases_Bool, eqb-true, ne_eqb}
-use Rattle.std.proofs.lemmas.List.{get_or-set_same, length-map, length-set}
+use Rattle.std.proofs.lemmas.List.{length-map, length-set}
 use Rattle.std.proofs.lemmas.List.FromFn.{length-range_with_len}
 use Rattle.std.specs.List.{AllByRecursion, range_with_len}
-use Rattle.std.specs.Option.{IsSomeAnd, option_map}
 use Rattle.std.specs.Prelude.{OnErr, OnOk, Result, vec_len}
+use Rattle.std.proofs.Math.Seq.{take-append_seam}
 use Rattle.tw_core.proofs.Sums.{all_map}
 use Rattle.tw_core.specs.Machine.{Core, IsSameMachine}
 use Rattle.tw_event.specs.declared.event.Event.{Event}
-use Rattle.tw_exchange.specs.Board.{Board, IsListed, all_mail, listed, who, worker_for, workers}
+use Rattle.tw_exchange.specs.Board.{Board, IsListed, all_mail, listed, who, workers}
 use Rattle.tw_exchange.proofs.Moving.{same_listed}
 use Rattle.tw_model.proofs.Within.{suits_within}
 use Rattle.tw_model.specs.Case.{Case, simulation}
@@ -18,7 +18,7 @@ use Rattle.tw_parallel.proofs.Shares.{share_there, worker_there}
 use Rattle.tw_parallel.specs.declared.sim.Sim.TheInside.{Inside}
 use Rattle.tw_parallel.specs.Inside.{IsInside, sim_of}
 use Rattle.tw_parallel.specs.Moving.{AreEnds, HasMovedBetween, IsRearranged, MayPass}
-use Rattle.tw_parallel.specs.Sim.{AreOf, GoesOn, IsSim, KeepsEvents, Sim, machine}
+use Rattle.tw_parallel.specs.Sim.{AreOf, IsSim, Sim, machine}
 use Rattle.tw_rule.proofs.Moved.{get_beside}
 use Rattle.tw_rule.proofs.Places.{all_at, get_map}
 use Rattle.tw_table.proofs.Lists.{all_set}
@@ -31,7 +31,7 @@ use Rattle.tw_table.proofs.Moving.{machine_stays, ruled_moves}
 use Rattle.tw_table.specs.Moving.{HasMoved, moved_board}
 use Rattle.tw_shard.specs.Shard.{Shard, no_shard, owns}
 use Rattle.tw_table.specs.declared.hand.Hand.{Hand}
-use Rattle.tw_table.specs.Shares.{IsRuled, Share, board_of, place_of, share, shares_of}
+use Rattle.tw_table.specs.Shares.{IsRuled, Share, board_of, place_of, share}
 
 -- ---- machines that are the same but for the order of their lists
 
@@ -184,19 +184,7 @@ by_result (Ok x) A B C D P a b c d good bad = good a b
 by_result (Err e) A B C D P a b c d good bad = bad c d
 
 pub all_taken : {X : Type 0} (xs ys : List X) (n : ℕ) → length xs ≡ n → take n (xs ++ ys) ≡ xs
-all_taken xs ys n long = ap (λ k. take k (xs ++ ys)) (sym long) ∙ take_whole xs ys where
-  take_whole : {X : Type 0} (xs ys : List X) → take (length xs) (xs ++ ys) ≡ xs
-  take_whole [] ys = refl
-  take_whole (x ∷ xs) ys = ap (λ l. x ∷ l) (take_whole xs ys)
-
-pub on_ok : {T E : Type 0} (r : Result T E) (P Q : Type 0) → OnOk r P → (P → Q) → OnOk r Q
-on_ok (Ok x) P Q p f = f p
-on_ok (Err e) P Q p f = tt
-
--- the worker of the router from then on
-pub later_is : (owners : Option (List ℕ)) (n r w : ℕ) → IsSomeAnd owners (λ list. r < length list) → worker_for (option_map (λ list. set list r w) owners) n r ≡ w
-later_is None n r w listed = absurd listed
-later_is (Some list) n r w listed = get_or-set_same list r w n listed
+all_taken xs ys n long = ap (λ k. take k (xs ++ ys)) (sym long) ∙ take-append_seam xs ys
 
 module _ (s : Sim) (is : IsSim s) (r from to : ℕ) (apart : from ≡ to → ⊥) (listed : IsListed r s.board) (known : r < s.case.net.nodes) (was : who s.board r ≡ from) (x : Board) (later : List Share) where
   abbrev u : Sim

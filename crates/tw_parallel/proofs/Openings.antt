@@ -1,8 +1,9 @@
 -- A run that begins keeps the rule, and is a machine that begins.
-use Rattle.std.proofs.Common.{◌≡◌, ℕ, zero, suc, ◌+◌, ◌<◌, ◌==◌, ◌&&◌, Bool, List, [], ◌∷◌, ◌++◌, drop, flat_map, get_or, length, map, nat_lt, refl, ap, sym, ◌∙◌, subst, inl, inr, arith}
+use Rattle.std.proofs.Common.{◌≡◌, ℕ, suc, ◌+◌, ◌<◌, ◌==◌, ◌&&◌, Bool, List, [], ◌∷◌, ◌++◌, drop, flat_map, get_or, length, map, nat_lt, refl, ap, sym, ◌∙◌, subst, inl, inr, arith}
 use Rattle.std.proofs.lemmas.Bool.{and_parts, cases_Bool, lt-ltb, ltb-true}
 use Rattle.std.specs.List.{AllByRecursion, range_with_len}
 use Rattle.std.specs.Prelude.{Some, replicate}
+use Rattle.std.proofs.lemmas.List.{length-replicate}
 use Rattle.tw_core.specs.declared.limits.TheConstants.{OPENING_ROOM}
 use Rattle.tw_core.specs.Machine.{Core, IsOpening}
 use Rattle.tw_core.specs.Parts.{Part, at_owner}
@@ -21,20 +22,11 @@ use Rattle.tw_rule.specs.Rule.{AreOpeningPlaces, IsOpeningPlace, Rule}
 use Rattle.tw_shard.specs.Shard.{IsOpeningShard, Shard}
 use Rattle.tw_sim.specs.Simulation.{Simulation, times}
 use Rattle.tw_sim.specs.declared.machine.Cancel.{Cancel}
-use Rattle.tw_sim.specs.declared.machine.Signed.{Signed}
 use Rattle.tw_table.specs.declared.hand.Hand.{Hand}
 use Rattle.tw_table.specs.Shares.{Share, board_of, place_of, share, shares_of}
 use Rattle.tw_warp.proofs.Openings.{all_wait, waits}
 use Rattle.tw_warp.specs.Warp.{no_shard}
-
--- nothing waits on a new exchange
-no_mail : (n : ℕ) → flat_map (λ (mail : List (Signed Event)). mail) (replicate n []) ≡ []
-no_mail zero = refl
-no_mail (suc n) = no_mail n
-
-long_row : {X : Type 0} (n : ℕ) (x : X) → length (replicate n x) ≡ n
-long_row zero x = refl
-long_row (suc n) x = let more = long_row n x in omega arith
+use Rattle.tw_table.proofs.Openings.{no_mail}
 
 module _ (case : Case) (is : IsCase case) (n : ℕ) (keeps : Bool) (cancel : Cancel) where
   -- a shard and a hand that begin are a place that begins
@@ -171,7 +163,7 @@ module _ (case : Case) (is : IsCase case) (n : ℕ) (keeps : Bool) (cancel : Can
   new_places = places_open case is n keeps cancel 0 ss hs from_zero empty same
 
   many : workers (opening n 0 0) ≡ n
-  many = long_row n (Some 0)
+  many = length-replicate n (Some 0)
 
   long_places : (ts : List Share) → length (map place_of ts) ≡ length ts
   long_places [] = refl

@@ -1,7 +1,7 @@
 -- Routers leave the shards of their workers, one by one.
-use Rattle.std.proofs.Common.{◌≡◌, ℕ, zero, suc, ◌+◌, ◌<◌, ◌≤◌, ◌==◌, ◌&&◌, ◌++◌, ◌∷◌, Bool, true, not, List, [], get_or, length, map, set, slice_get, ◌-◌, ◌↔◌, refl, ap, sym, ◌∙◌, subst, inl, inr, arith}
+use Rattle.std.proofs.Common.{◌≡◌, ℕ, ◌+◌, ◌<◌, ◌≤◌, ◌&&◌, ◌++◌, ◌∷◌, Bool, true, not, List, [], get_or, length, map, set, slice_get, ◌-◌, ◌↔◌, refl, ap, sym, ◌∙◌, subst, inl, inr, arith}
 use Rattle.std.proofs.lemmas.Bool.{cases_eq, ne_eqb}
-use Rattle.std.proofs.lemmas.List.{get_or-set_other, get_or-set_same, length-append, length-map}
+use Rattle.std.proofs.lemmas.List.{get_or-set_other, get_or-set_same, length-append, length-map, nil_from_length}
 use Rattle.std.proofs.lemmas.List.FromFn.{length-map-range_with_len, map-range_with_len_more}
 use Rattle.std.specs.declared.vec.Vec.{Vec}
 use Rattle.std.specs.List.{range_with_len}
@@ -11,7 +11,7 @@ use Rattle.tw_core.specs.Machine.{Core, count_ahead}
 use Rattle.tw_exchange.specs.Board.{Board, who, workers}
 use Rattle.tw_model.specs.Case.{Case, simulation}
 use Rattle.tw_parallel.proofs.Cuts.{run_of_share}
-use Rattle.tw_parallel.proofs.Ends.{empty_of, ended}
+use Rattle.tw_parallel.proofs.Ends.{ended}
 use Rattle.tw_parallel.proofs.Owners.{has_at, has_there, law, long, own_at}
 use Rattle.tw_parallel.proofs.Shares.{long_shares, share_there}
 use Rattle.tw_parallel.specs.declared.into_run.Removal.{Removal}
@@ -35,6 +35,7 @@ use Rattle.tw_sim.specs.Seq.{rest}
 use Rattle.tw_sim.specs.Simulation.{only}
 use Rattle.tw_table.specs.declared.hand.Hand.{Hand}
 use Rattle.tw_table.specs.Shares.{Share, share, shares_of}
+use Rattle.tw_parallel.proofs.Coming.{kept_some}
 
 -- ---- what is added
 
@@ -53,10 +54,6 @@ one_kept : (f : ℕ → List Event) (r : ℕ) (log : List Event) (lists : Option
     → IfSome (option_map (λ lists. lists ++ log ∷ []) lists) (λ lists. lists ≡ map f (range_with_len 0 (r + 1)))
 one_kept f r log None are is = are
 one_kept f r log (Some lists) are is = (λ i. are i ++ is refl i ∷ []) ∙ sym (map-range_with_len_more f 0 r r (omega arith))
-
-kept_some : {Y Z : Type 0} (logs : Option (Vec (Vec Event Z) Y)) → is_some (kept logs) ≡ is_some logs
-kept_some (Some logs) = refl
-kept_some None = refl
 
 -- whether lists are kept stays
 pub still_some : {Y Z : Type 0} (logs later : Option (Vec (Vec Event Z) Y)) (log : List Event) → kept later ≡ option_map (λ lists. lists ++ log ∷ []) (kept logs) → is_some later ≡ is_some logs
@@ -139,7 +136,7 @@ none_records a is = (
   λ none r known.
       let has = has_there a is r known in
       let x = shard_for a.shards.items r in
-      empty_of (timeline x r).ahead (sym (ahead_count x r (machine (sim_of a)) has.own has.history has.past) ∙ none r known),
+      nil_from_length (timeline x r).ahead (sym (ahead_count x r (machine (sim_of a)) has.own has.history has.past) ∙ none r known),
 )
 
 -- of a settled run in which no router has a record, each may leave its worker's shard
@@ -164,7 +161,7 @@ may_leave s is settled none ss hs shares same keeps kept r known =
         own = own;
         case_is = has.case;
         keeps_are = λ all_do. has.keeps (kept all_do);
-        ahead = empty_of (timeline x r).ahead (sym (ahead_count x r (machine s) own has.history has.past) ∙ none r known);
+        ahead = nil_from_length (timeline x r).ahead (sym (ahead_count x r (machine s) own has.history has.past) ∙ none r known);
         run = run_of_share s is settled k r t there own;
       },
     )

@@ -8,8 +8,7 @@ use Rattle.tw_shard.specs.Roster.{has}
 use Rattle.tw_shard.specs.Shard.{IsSameShare, Shard}
 use Rattle.tw_sim.specs.declared.machine.Cancel.{Cancel}
 use Rattle.tw_table.specs.Seats.{bound_at, share_at, stop_at}
-use Rattle.tw_table.specs.Shares.{IsRuled, IsWhole, Share, shares_of}
-use Rattle.tw_table.specs.declared.hand.Hand.{Hand}
+use Rattle.tw_table.specs.Shares.{IsRuled, IsWhole, Share}
 use Rattle.tw_table.specs.declared.seat.Seat.{Seat}
 use Rattle.tw_workers.specs.Work.{AreSameShares}
 
@@ -106,12 +105,6 @@ same_numbers f g n [] [] e h k = refl
 same_numbers f g n [] (y ∷ ys) e h k = absurd (omega (arith, e))
 same_numbers f g n (x ∷ xs) [] e h k = absurd (omega (arith, e))
 same_numbers f g n (x ∷ xs) (y ∷ ys) e h k = λ i. (h.0 ∙ sym k.0) i ∷ same_numbers f g n xs ys (omega (arith, e)) h.1 k.1 i
-
-pub long_shares : (shards : List Shard) (hands : List Hand) → length hands ≡ length shards → length (shares_of shards hands) ≡ length shards
-long_shares [] [] e = refl
-long_shares [] (h ∷ hands) e = absurd (omega (arith, e))
-long_shares (s ∷ shards) [] e = absurd (omega (arith, e))
-long_shares (s ∷ shards) (h ∷ hands) e = ap suc (long_shares shards hands (omega (arith, e)))
 
 -- what all seats of a run know of its stop before and after is one number
 pub same_stop : (s : Sim) (stop : ℕ) (seats : List Seat) → IsSim s → map share_at seats ≡ s.shares → AllByRecursion (λ u. stop_at u ≡ s.board.stop) seats

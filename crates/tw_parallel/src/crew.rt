@@ -1,7 +1,7 @@
 //! Workers are made of shards and hands, and taken apart again.
 ghost use Rattle.std.specs.Prelude.{◌≡◌, ◌≤◌, [], IfOk, length, map, vec_capacity};
 ghost use Rattle.std.specs.List.{AllByRecursion};
-ghost use Rattle.tw_parallel.specs.Crew.{HasRoom};
+ghost use Rattle.tw_parallel.specs.Crew.{IsRoomForCrew};
 ghost use Rattle.tw_model.specs.declared.limits.TheConstants.{LATEST};
 ghost use Rattle.tw_table.specs.Shares.{shares_of};
 ghost use Rattle.tw_workers.specs.Work.{IsAtWork};
@@ -21,7 +21,7 @@ pub(crate) struct Room<'a> {
 
 /// Room for so many workers.
 pub(crate) fn room_for<'a>(alloc: Global, count: usize) -> Result<Room<'a>, AllocError>
-    ensures { IfOk result (λ room. HasRoom count room) }
+    ensures { IfOk result (λ room. IsRoomForCrew count room) }
 {
     Ok(Room {
         workers: Vec::with_capacity(alloc, count)?,

@@ -4,7 +4,7 @@ ghost use Rattle.std.specs.Result.{IsErrAnd};
 ghost use Rattle.tw_model.specs.declared.limits.TheConstants.{LATEST};
 ghost use Rattle.tw_parallel.specs.Settled.{IsSettled};
 ghost use Rattle.tw_parallel.specs.Inside.{HasHands, sim_of_parts};
-ghost use Rattle.tw_parallel.specs.Crew.{HasRoom};
+ghost use Rattle.tw_parallel.specs.Crew.{IsRoomForCrew};
 ghost use Rattle.tw_parallel.specs.Sim.{GoesOn, HasSameOwners, IsSim};
 ghost use Rattle.tw_threads.specs.Left.{IsFullAhead};
 ghost use Rattle.tw_threads.specs.declared.end_cause.EndCause.TheVariants as end_cause;
@@ -153,7 +153,7 @@ fn run_at_table<'a, G: Gate + Sync, R: Threads + Wait + Sync>(
 ) -> (Parts<'a>, Option<EndCause>)
     requires sim { IsSim (sim_of_parts parts) }
     requires hands { HasHands parts }
-    requires room { HasRoom (length parts.shards.items) room }
+    requires room { IsRoomForCrew (length parts.shards.items) room }
     ensures sim { IsSim (sim_of_parts result.0) }
     ensures hands { HasHands result.0 }
     ensures goes_on { GoesOn (sim_of_parts parts.entry) (sim_of_parts result.0) }

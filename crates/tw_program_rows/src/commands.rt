@@ -12,7 +12,7 @@ use std::time::Clock;
 use tw_commands::{Cause, Progress, Stages, Status, count_committed};
 use tw_model::Outcome;
 use tw_rows::texts::DISAGREE;
-use tw_run::{Dealing, Gate, Seat, Tally, run_io};
+use tw_run::{Asked, Dealing, Gate, Seat, Tally, run_io};
 use tw_sim::Cancel;
 
 /// What is told of a run.
@@ -88,24 +88,19 @@ fn run_by_two<X: Threads + Wait + Sync + Clock>(
     requires { page.old.failed ≡ false }
 {
     let mut tape = Tape::new(DISAGREE.as_bytes(), usize::MAX);
-    let dealing = Dealing {
-        blocks: false,
-        rotate: false,
+    let asked = Asked {
+        stop: 20,
+        every: None,
+        log: true,
+        workers: Some(2),
+        batch: 64,
+        cancel: Cancel::Aggressive,
+        dealing: Dealing {
+            blocks: false,
+            rotate: false,
+        },
     };
-    run_io(
-        rt,
-        alloc,
-        &mut tape,
-        page,
-        20,
-        None,
-        true,
-        Some(2),
-        64,
-        Cancel::Aggressive,
-        dealing,
-        told,
-    )
+    run_io(rt, alloc, &mut tape, page, asked, told)
 }
 
 /// Whether `run` by two workers writes the whole log of DISAGREE, and tells that its seven events are committed. It is run

@@ -11,15 +11,15 @@ use Rattle.tw_event.specs.Order.{event_before, event_same}
 use Rattle.tw_sim.specs.Ordered.{insert, one, take_out, times}
 use Rattle.tw_sim.proofs.Counts.{none}
 use Rattle.tw_sim.proofs.Ordered.{one_cases}
-use Rattle.tw_queue.specs.Buckets.{together}
+use Rattle.tw_ordered.specs.Buckets.{together}
 use Rattle.tw_queue.specs.Far.{AreFar, bucket_of}
-use Rattle.tw_queue.specs.InOrder.{earlier, in_order, least_with}
-use Rattle.tw_queue.specs.Times.{AreApart, IsLeastTime, never}
+use Rattle.tw_ordered.specs.InOrder.{earlier, in_order, least_with}
+use Rattle.tw_queue.specs.Times.{AreApart, IsLeastTime}
+use Rattle.tw_ordered.specs.Times.{never}
 use Rattle.tw_queue.specs.declared.far.FarEvents.TheInside.{Inside}
-use Rattle.tw_queue.proofs.Ordered.{in_order-inserted, in_order-taken, times-in_order}
-use Rattle.tw_queue.proofs.Events.{event_law}
-use Rattle.tw_queue.proofs.Lists.{none_placed, placed-set, placed_inserted, times-placed, times-push, times-set, times-take_out-le, together_none}
-use Rattle.tw_queue.proofs.Tables.{nothing, times-filter_no, times-filter_yes}
+use Rattle.tw_ordered.proofs.Ordered.{in_order-inserted, in_order-taken, times-in_order}
+use Rattle.tw_ordered.proofs.Events.{event_law, nothing, times-filter_no, times-filter_yes}
+use Rattle.tw_ordered.proofs.Lists.{none_placed, placed-set, placed_inserted, times-placed, times-push, times-set, times-take_out-le, together_none}
 use Rattle.tw_queue.proofs.Times.{least_of_lists, least_put}
 
 same_time : (d : Event) (t : ℕ) → d.time ≡ t → not (d.time == t) ≡ false

@@ -13,15 +13,16 @@ use Rattle.tw_event.specs.contracts.event.EventOrd.TheImpl as event_ord
 use Rattle.tw_sim.specs.Ordered.{insert, one, take_out, times}
 use Rattle.tw_sim.specs.Rising.{IsRising}
 use Rattle.tw_sim.proofs.Ordered.{all-insert, one_self, times-insert}
-use Rattle.tw_queue.specs.InOrder.{earlier_of, in_order}
-use Rattle.tw_queue.specs.Queue.{AreFor, IsQueue}
-use Rattle.tw_queue.specs.Table.{first_time, never}
-use Rattle.tw_queue.proofs.Ordered.{all-take_out, cases_zero, in_order-taken, in_order-times, in_order_removed, length-in_order, take_out_none, times-take_out}
-use Rattle.tw_queue.proofs.Events.{event_law, filter-in_order, least_is, not_earlier, same_some, sorted_list}
-use Rattle.tw_queue.proofs.Lists.{times-append}
-use Rattle.tw_queue.proofs.Merged.{all_both, all_rest, first_time_low, nil_of, none_of, queue_of_events}
-use Rattle.tw_queue.proofs.Stacked.{both_least, counted, order_less, order_more}
-use Rattle.tw_queue.proofs.Tables.{in_order_rising}
+use Rattle.tw_ordered.specs.InOrder.{earlier_of, in_order}
+use Rattle.tw_ordered.specs.Queue.{AreFor, IsQueue}
+use Rattle.tw_ordered.specs.Times.{first_time, never}
+use Rattle.tw_ordered.proofs.Ordered.{all-take_out, cases_zero, in_order-times, length-in_order, times-take_out}
+use Rattle.tw_ordered.proofs.Events.{event_law, filter-in_order, least_is, not_earlier, same_some, sorted_list, in_order_rising}
+use Rattle.tw_ordered.proofs.Lists.{times-append}
+use Rattle.tw_calendar.proofs.Merged.{all_both, all_rest, first_time_low, queue_of_events}
+use Rattle.tw_ordered.proofs.Released.{no_length, no_first_nothing}
+use Rattle.tw_ordered.proofs.Firsts.{both_least}
+use Rattle.tw_calendar.proofs.Stacked.{order_less, order_more}
 
 pub length-both : (xs ys : List Event) → length (in_order event_before (xs ++ ys)) ≡ length xs + length ys
 length-both xs ys = length-in_order event_before event_same (xs ++ ys) ∙ length-append xs ys
@@ -31,7 +32,7 @@ pub none_pending : (xs ys now : List Event) → in_order event_before (xs ++ ys)
 none_pending xs ys now h z =
     let l = length-both xs ys in
     let n = ap (λ zs. length zs) h in
-    nil_of now (omega arith)
+    no_length now (omega arith)
 
 -- where the ring has none, the rest is all
 pub rest_alone : (xs ys now : List Event) → xs ≡ [] → IsRising event_before event_same ys → in_order event_before (xs ++ ys) ≡ now → ys ≡ now
@@ -127,7 +128,7 @@ module _ (xs ys : List Event) (rx : IsRising event_before event_same xs) (ry : I
   least_option : (n : ℕ) → n ≡ min (first_time xs) (first_time ys) → first_time xs ≤ never → first_time ys ≤ never → 0 < length xs + length ys → (o : Option Event)
       → slice_get (in_order event_before (xs ++ ys)) 0 ≡ o → Some n ≡ option_map (λ e. e.time) o
   least_option n h lx ly some None k =
-      let z = ap length (none_of (in_order event_before (xs ++ ys)) k) in
+      let z = ap length (no_first_nothing (in_order event_before (xs ++ ys)) k) in
       let l = length-both xs ys in
       absurd (omega arith)
   least_option n h lx ly some (Some m) k =
@@ -165,28 +166,6 @@ right_less e xs ys ws first there less =
     let m = ap (times event_same d) less in
     let n = times-take_out event_before event_same event_law d e ys (first_there e ys there) in
     omega arith)
-
--- an event is taken out, of the ring where it is there, else of the rest
-module _ (e : Event) (xs ys vs ws : List Event) where
-  pub times_both : times event_same e (in_order event_before (xs ++ ys)) ≡ times event_same e xs + times event_same e ys
-  times_both = counted e xs ys (in_order event_before (xs ++ ys)) refl
-
-  pub left_taken : 0 < times event_same e xs → vs ≡ take_out event_same e xs → in_order event_before (vs ++ ys) ≡ take_out event_same e (in_order event_before (xs ++ ys))
-  left_taken there less =
-      in_order_removed event_before event_same event_law e (xs ++ ys) (vs ++ ys) (λ d.
-      let a = times-append d xs ys in
-      let b = times-append d vs ys in
-      let m = ap (times event_same d) less in
-      let n = times-take_out event_before event_same event_law d e xs there in
-      omega arith)
-
-  pub right_taken : times event_same e xs ≡ 0 → vs ≡ take_out event_same e xs → ws ≡ take_out event_same e ys → in_order event_before (vs ++ ws) ≡ take_out event_same e (in_order event_before (xs ++ ys))
-  right_taken absent same less =
-      in_order-taken event_before event_same event_law (xs ++ ys) (vs ++ ws) ys ws (λ d.
-      let a = times-append d xs ys in
-      let b = times-append d vs ws in
-      let m = ap (times event_same d) (same ∙ take_out_none event_before event_same event_law e xs absent) in
-      omega arith) e (let a = times-append e xs ys in omega arith) less
 
 -- what a ring has is for routers, also with one event more or less
 pub homes_insert : (n : ℕ) (e : Event) (xs vs : List Event) → vs ≡ insert event_before e xs → e.dst < n → AreFor n xs → AreFor n vs

@@ -1,25 +1,7 @@
-pub mod Ordered
-pub mod Events
-pub mod Places
-pub mod Lists
-pub mod Updates
-pub mod Rows
-pub mod Leaves
-pub mod Tables
-pub mod Spares
-pub mod Rings
-pub mod Merged
-pub mod Turns
-pub mod Stacked
-pub mod Sought
-pub mod Removed
-pub mod Stepped
-pub mod Halves
-pub mod Widths
-pub mod Rotated
-pub mod Keyed
-pub mod Released
-pub mod Times
-pub mod Fars
-pub mod Queues
-pub mod Early
+mod Tables
+mod Wholes
+mod Halves
+mod Leaves
+mod Queues
+mod Fars
+mod Times

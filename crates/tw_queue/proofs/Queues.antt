@@ -9,13 +9,12 @@ use Rattle.tw_event.specs.Order.{event_before, event_same}
 use Rattle.tw_sim.specs.Ordered.{insert, one, take_out, times}
 use Rattle.tw_sim.specs.Rising.{IsRising}
 use Rattle.tw_sim.proofs.Ordered.{one_cases}
-use Rattle.tw_queue.specs.InOrder.{in_order}
+use Rattle.tw_ordered.specs.InOrder.{in_order}
 use Rattle.tw_queue.specs.Times.{AreApart}
-use Rattle.tw_queue.proofs.Ordered.{cases_zero, in_order_removed, rising-in_order, take_out_none, times-take_out}
-use Rattle.tw_queue.proofs.Events.{event_law, first_is_least, first_of_least, no_first, not_before_first}
-use Rattle.tw_queue.proofs.Lists.{times-append}
-use Rattle.tw_queue.proofs.Stacked.{counted, order_more}
-use Rattle.tw_queue.proofs.Tables.{in_order_rising, nothing}
+use Rattle.tw_ordered.proofs.Ordered.{cases_zero, in_order_removed, rising-in_order, take_out_none, times-take_out}
+use Rattle.tw_ordered.proofs.Events.{event_law, first_is_least, first_of_least, no_first, not_before_first, in_order_rising, nothing}
+use Rattle.tw_ordered.proofs.Lists.{times-append}
+use Rattle.tw_calendar.proofs.Stacked.{counted, order_more}
 use Rattle.tw_queue.proofs.Times.{inserted_counts}
 
 module _ (near far now : List Event) (are : in_order event_before (near ++ far) ≡ now) where

@@ -12,25 +12,21 @@ use Rattle.std.proofs.lemmas.List.Sorted.{IsPermutation-swap_remove}
 use Rattle.tw_event.specs.declared.event.Event.{Event}
 use Rattle.tw_event.specs.Order.{event_before, event_same}
 use Rattle.tw_sim.specs.Ordered.{insert, one, times}
-use Rattle.tw_sim.specs.Rising.{IsRising}
 use Rattle.tw_sim.proofs.Counts.{none}
 use Rattle.tw_sim.proofs.Ordered.{in_cons, one_cases, one_self, times-insert}
-use Rattle.tw_queue.specs.Buckets.{IsPlaced, together}
-use Rattle.tw_queue.specs.Times.{IsLastTime, IsLeastTime, never}
-use Rattle.tw_queue.proofs.Ordered.{cases_zero, in_order-permutation, times-in_order}
-use Rattle.tw_queue.proofs.Events.{event_law, not_earlier}
-use Rattle.tw_queue.proofs.Lists.{times-placed}
-use Rattle.tw_queue.proofs.Tables.{nothing, times-filter_no, times-filter_yes}
+use Rattle.tw_ordered.specs.Buckets.{IsPlaced, together}
+use Rattle.tw_ordered.specs.Times.{never}
+use Rattle.tw_queue.specs.Times.{IsLeastTime}
+use Rattle.tw_ordered.proofs.Ordered.{cases_zero, in_order-permutation, times-in_order}
+use Rattle.tw_ordered.proofs.Events.{event_law, nothing, times-filter_no, times-filter_yes}
+use Rattle.tw_ordered.proofs.Lists.{times-placed}
+use Rattle.tw_ordered.proofs.Released.{no_length}
 
 pub some_one : (xs : List Event) → 0 < length xs → (e : Event) × (0 < times event_same e xs)
 some_one [] h = absurd (omega arith)
 some_one (x ∷ xs) h =
     let own = one_self event_before event_same event_law x in
     (x, omega arith)
-
-pub no_length : (xs : List Event) → length xs ≡ 0 → xs ≡ []
-no_length [] z = refl
-no_length (x ∷ xs) z = absurd (omega arith)
 
 pub not_none : (e : Event) (xs : List Event) → 0 < times event_same e xs → 0 < length xs
 not_none e [] h = absurd (omega arith)
@@ -152,40 +148,6 @@ module _ (key : Event → ℕ) (lists : List (List Event)) (placed : IsPlaced ke
             omega arith)) in
             sym value ∙ own.none all;
       }
-
--- the last of a list that rises
-pub last_of_rising : (xs : List Event) (n : ℕ) (e : Event) → IsRising event_before event_same xs → n ≡ length xs → 0 < n → e ≡ get_or xs (n - 1) e → IsLastTime xs e.time
-last_of_rising [] n e h long some is = absurd (omega arith)
-last_of_rising (x ∷ []) n e h long some is =
-    let place : n - 1 ≡ 0 = omega arith in
-    let x_is : e ≡ x = is ∙ ap (λ k. get_or (x ∷ []) k e) place in
-    let own = one_self event_before event_same event_law x in
-    let time = ap (λ y. y.time) x_is in
-    record {
-      bound = λ d there.
-          elim (in_cons event_before event_same event_law d x [] there) [
-            | inl q ↦ (let a = ap (λ y. y.time) q in omega arith)
-            | inr l ↦ absurd (omega arith)
-          ];
-      reached = (x, omega arith, sym time);
-    }
-last_of_rising (x ∷ y ∷ xs) n e h long some is =
-    let place : n - 1 ≡ suc (n - 1 - 1) = omega arith in
-    let r = last_of_rising (y ∷ xs) (n - 1) e h.1 (omega arith) (omega arith) (is ∙ ap (λ k. get_or (x ∷ y ∷ xs) k e) place) in
-    let at = r.reached in
-    let there = at.1 in
-    let time = at.2 in
-    record {
-      bound = λ d there.
-          elim (in_cons event_before event_same event_law d x (y ∷ xs) there) [
-            | inl q ↦
-                (let a = not_earlier at.0 x (h.0 at.0 at.1) in
-                let b = ap (λ z. z.time) q in
-                omega arith)
-            | inr l ↦ r.bound d l
-          ];
-      reached = (at.0, omega arith, time);
-    }
 
 suc_more : (i : ℕ) → suc (i + 1) ≡ suc i + 1
 suc_more i = omega arith

@@ -2,7 +2,7 @@
 use Rattle.std.specs.Prelude.{◌++◌, List}
 use Rattle.tw_event.specs.declared.event.Event.{Event}
 use Rattle.tw_event.specs.Order.{event_before}
-use Rattle.tw_queue.specs.InOrder.{in_order}
+use Rattle.tw_ordered.specs.InOrder.{in_order}
 use Rattle.tw_queue.specs.Times.{AreApart, in_buckets}
 use Rattle.tw_queue.specs.declared.bucket_queue.BucketQueue.TheInside.{Inside}
 

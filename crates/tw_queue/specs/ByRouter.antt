@@ -1,7 +1,8 @@
 -- What the fields of the events by router say, and what holds of them (own).
 use Rattle.std.specs.Prelude.{◌≡◌, ◌+◌, ◌-◌, ◌^◌, ℕ, length, min, slice_get, vec_capacity, vec_len}
 use Rattle.tw_event.specs.Order.{event_before}
-use Rattle.tw_queue.specs.Queue.{AreFor, IsInOrder}
+use Rattle.tw_ordered.specs.Queue.{AreFor}
+use Rattle.tw_queue.specs.InTable.{IsInOrder}
 use Rattle.tw_queue.specs.declared.by_router.ByRouter.TheInside.{Inside}
 use Rattle.tw_sim.specs.Ordered.{insert_all}
 

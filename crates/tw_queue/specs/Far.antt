@@ -4,9 +4,10 @@ use Rattle.std.specs.List.{slice_index_or}
 use Rattle.tw_event.specs.declared.event.Event.{Event}
 use Rattle.tw_event.specs.Order.{event_before, event_same}
 use Rattle.tw_sim.specs.Ordered.{times}
-use Rattle.tw_queue.specs.Buckets.{IsPlaced, together}
-use Rattle.tw_queue.specs.InOrder.{in_order}
-use Rattle.tw_queue.specs.Times.{IsLeastTime, never}
+use Rattle.tw_ordered.specs.Buckets.{IsPlaced, together}
+use Rattle.tw_ordered.specs.InOrder.{in_order}
+use Rattle.tw_queue.specs.Times.{IsLeastTime}
+use Rattle.tw_ordered.specs.Times.{never}
 use Rattle.tw_queue.specs.declared.far.FarEvents.TheInside.{Inside}
 
 -- the number of an event's bucket: each has 64 ticks, and every sixteenth of these has the same

@@ -2,7 +2,7 @@
 use Rattle.std.specs.Prelude.{◌≡◌, ◌<◌, ◌≤◌, ◌+◌, ◌*◌, ℕ, List, drop, length, min, take}
 use Rattle.std.specs.Int.{IsPowerOfTwo}
 use Rattle.std.specs.List.{slice_index_or}
-use Rattle.tw_queue.specs.Times.{never}
+use Rattle.tw_ordered.specs.Times.{never}
 use Rattle.tw_queue.specs.declared.least_times.LeastTimes.TheInside.{Inside}
 
 -- no time is less than the one at the place, and each before it is greater

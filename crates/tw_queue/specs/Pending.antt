@@ -2,9 +2,9 @@
 use Rattle.std.specs.Prelude.{◌≡◌, ◌+◌, ◌-◌, ◌^◌, ◌++◌, ℕ, false, List, [], length, min}
 use Rattle.tw_event.specs.declared.event.Event.{Event}
 use Rattle.tw_event.specs.Order.{event_before}
-use Rattle.tw_queue.specs.InOrder.{in_order}
-use Rattle.tw_queue.specs.Queue.{AreFor, Queue}
-use Rattle.tw_queue.specs.Table.{first_time}
+use Rattle.tw_ordered.specs.InOrder.{in_order}
+use Rattle.tw_ordered.specs.Queue.{AreFor, Queue}
+use Rattle.tw_ordered.specs.Times.{first_time}
 use Rattle.tw_queue.specs.declared.pending.Pending.TheInside.{Inside}
 
 -- the events of a calendar and of the rest, in order

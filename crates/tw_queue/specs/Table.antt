@@ -5,8 +5,8 @@ use Rattle.tw_event.specs.declared.event.Event.{Event}
 use Rattle.tw_event.specs.Order.{event_before, event_same}
 use Rattle.tw_sim.specs.Ordered.{times}
 use Rattle.tw_sim.specs.Rising.{IsRising}
-pub use Rattle.tw_queue.specs.Times.{first_time, never}
-use Rattle.tw_queue.specs.Buckets.{IsPlaced}
+use Rattle.tw_ordered.specs.Times.{first_time, never}
+use Rattle.tw_ordered.specs.Buckets.{IsPlaced}
 use Rattle.tw_queue.specs.declared.queue_table.QueueTable.TheInside.{Inside}
 
 -- each queue is in order, has events of its router alone, before the last tick, and its first time stands in the row

@@ -1,29 +1,16 @@
 -- The times of events that stand in buckets, and of those that stand before them (own).
-use Rattle.std.specs.Prelude.{◌≡◌, ◌≤◌, ◌<◌, ◌-◌, ◌^◌, ℕ, Option, Some, None, List, [], ◌∷◌, length}
+use Rattle.std.specs.Prelude.{◌≡◌, ◌≤◌, ◌<◌, ◌-◌, ℕ, Option, Some, None, List, [], length}
 use Rattle.std.specs.declared.boxed.Box.{Box}
 use Rattle.tw_event.specs.declared.event.Event.{Event}
 use Rattle.tw_event.specs.Order.{event_same}
 use Rattle.tw_sim.specs.Ordered.{times}
-
--- the time that stands for no event
-abbrev pub never : ℕ
-never = 2 ^ 64 - 1
-
--- the time of the first event
-abbrev pub first_time : List Event → ℕ
-first_time [] = never
-first_time (e ∷ events) = e.time
+use Rattle.tw_ordered.specs.Times.{never}
 
 -- no event is before the time, one is at it, and where there is no event it is the one that stands for none
 pub record IsLeastTime (events : List Event) (time : ℕ) : Type 0 where
   pub bound : (e : Event) → 0 < times event_same e events → time ≤ e.time
   pub reached : 0 < length events → (e : Event) × (0 < times event_same e events) × (e.time ≡ time)
   pub none : events ≡ [] → time ≡ never
-
--- no event is after the time, and one is at it
-pub record IsLastTime (events : List Event) (time : ℕ) : Type 0 where
-  pub bound : (e : Event) → 0 < times event_same e events → e.time ≤ time
-  pub reached : (e : Event) × (0 < times event_same e events) × (e.time ≡ time)
 
 -- each of the near events is before all of the far ones, by their times
 abbrev pub AreApart : List Event → List Event → Type 0

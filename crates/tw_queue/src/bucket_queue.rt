@@ -1,6 +1,6 @@
 //! The events that wait for one router: the first ones in order, the others in buckets.
 
-ghost use Rattle.std.specs.Prelude.{◌≡◌, ◌<◌, ◌+◌, ◌^◌, ◌↔◌, [], IfNone, IfSome, IsTrue, OnErr, OnOk, slice_get};
+ghost use Rattle.std.specs.Prelude.{◌≡◌, ◌<◌, ◌+◌, ◌^◌, ◌↔◌, [], IsTrue, OnErr, OnOk, slice_get};
 ghost use Rattle.std.specs.Bool.{OnFalse, OnTrue};
 ghost use Rattle.std.specs.Option.{option_copied};
 ghost use Rattle.tw_event.specs.declared.event.Event.{Event as AnEvent};
@@ -11,10 +11,10 @@ ghost use Rattle.tw_sim.specs.Rising.{IsRising};
 
 use crate::far::FarEvents;
 use crate::policy::are_few;
-use crate::router_queue::RouterQueue;
 use std::alloc::{AllocError, Global};
 use std::marker::Model;
 use tw_event::Event;
+use tw_ordered::OrderedQueue;
 
 /// The events that are pending for one router.
 ///
@@ -23,7 +23,7 @@ use tw_event::Event;
 #[derive(Drop)]
 pub(crate) struct BucketQueue {
     alloc: Global,
-    near: RouterQueue,
+    near: OrderedQueue,
     far: Option<Box<FarEvents>>,
 }
 
@@ -46,7 +46,7 @@ impl BucketQueue {
     {
         BucketQueue {
             alloc,
-            near: RouterQueue::new(alloc),
+            near: OrderedQueue::new(alloc),
             far: None,
         }
     }
@@ -101,14 +101,6 @@ impl BucketQueue {
         }
     }
 
-    /// The least event, which is copied.
-    pub(crate) fn least(&self) -> Option<Event>
-        ensures first { result ≡ slice_get self.now 0 }
-        ensures rising { IsRising event_before event_same self.now }
-    {
-        self.first().copied()
-    }
-
     /// Puts its events at the end of a list.
     pub(crate) fn append_to(&self, events: &mut Vec<Event>) -> Result<(), AllocError>
         ensures ok { OnOk result ((e : AnEvent) → times event_same e events.new.items ≡ times event_same e self.now + times event_same e events.old.items) }
@@ -121,7 +113,7 @@ impl BucketQueue {
 // Whether an event at this time, in ticks, belongs to the near ones: it does not where these are many or others
 // are far, unless it is no later than all of the near ones.
 #[inline(always)]
-fn is_near(near: &RouterQueue, far: &Option<Box<FarEvents>>, time: u64) -> bool
+fn is_near(near: &OrderedQueue, far: &Option<Box<FarEvents>>, time: u64) -> bool
     ensures near { OnTrue result ((e d : AnEvent) → e.time ≡ time → 0 < times event_same d (in_buckets far.now) → AreApart near.now (in_buckets far.now) → e.time < d.time) }
     ensures far { OnFalse result ((e d : AnEvent) → e.time ≡ time → 0 < times event_same d near.now → d.time < e.time) }
 {
@@ -183,7 +175,7 @@ fn remove_far(far: &mut Option<Box<FarEvents>>, event: &Event) -> bool
 
 // Moves the far events of the least time to the near ones, of which there are none, where memory is not refused.
 #[inline(always)]
-fn move_tick(near: &mut RouterQueue, far: &mut Option<Box<FarEvents>>)
+fn move_tick(near: &mut OrderedQueue, far: &mut Option<Box<FarEvents>>)
     requires { near.old ≡ [] }
     ensures all { (e : AnEvent) → times event_same e near.new + times event_same e (in_buckets far.new) ≡ times event_same e (in_buckets far.old) }
     ensures apart { AreApart near.new (in_buckets far.new) }

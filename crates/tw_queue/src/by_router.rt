@@ -6,15 +6,16 @@ ghost use Rattle.std.specs.List.{list_any};
 ghost use Rattle.std.specs.Option.{option_copied};
 ghost use Rattle.tw_event.specs.declared.event.Event.{Event as AnEvent};
 ghost use Rattle.tw_event.specs.Order.{event_before, event_same};
-ghost use Rattle.tw_queue.specs.InOrder.{least_with};
-ghost use Rattle.tw_queue.specs.Queue.{AreFor, IsInOrder, IsQueue, is_before};
+ghost use Rattle.tw_ordered.specs.InOrder.{least_with};
+ghost use Rattle.tw_ordered.specs.Queue.{AreFor, IsQueue, is_before};
+ghost use Rattle.tw_queue.specs.InTable.{IsInOrder};
 ghost use Rattle.tw_sim.specs.Ordered.{insert, insert_all, take_out, times};
 
 use crate::queue_table::QueueTable;
-use crate::search::{count_of, earlier, least_of, remove_from, sooner};
 use std::alloc::{AllocError, Global};
 use std::marker::Model;
 use tw_event::Event;
+use tw_ordered::{count_of, earlier, least_of, remove_from, sooner};
 
 /// Events that wait to be handled, each as often as it was inserted, by router.
 ///
@@ -35,7 +36,7 @@ pub(crate) struct ByRouter {
 impl Model for ByRouter {
     ghost use Rattle.tw_event.specs.Order.{event_before};
     ghost use Rattle.tw_sim.specs.Ordered.{insert_all};
-    ghost use Rattle.tw_queue.specs.Queue.{Queue};
+    ghost use Rattle.tw_ordered.specs.Queue.{Queue};
     ghost use Rattle.tw_queue.specs.ByRouter.{AreByRouter, room_of};
 
     ghost Value = { Queue };

@@ -5,20 +5,19 @@ ghost use Rattle.std.specs.Bool.{OnFalse, OnTrue};
 ghost use Rattle.std.specs.Option.{option_copied};
 ghost use Rattle.tw_event.specs.declared.event.Event.{Event as AnEvent};
 ghost use Rattle.tw_event.specs.Order.{event_before, event_same};
-ghost use Rattle.tw_queue.specs.Buckets.{together};
-ghost use Rattle.tw_queue.specs.InOrder.{least_with};
+ghost use Rattle.tw_ordered.specs.Buckets.{together};
+ghost use Rattle.tw_ordered.specs.InOrder.{least_with};
 ghost use Rattle.tw_queue.specs.Times.{AreApart};
 ghost use Rattle.tw_sim.specs.Ordered.{insert, take_out, times};
 ghost use Rattle.tw_sim.specs.Rising.{IsRising};
 
-use crate::router_queue::RouterQueue;
-use crate::search::{count_of, sooner};
 use crate::timed_events::TimedEvents;
 use std::alloc::{AllocError, Global};
 use std::array;
 use std::marker::Model;
 use tw_event::Event;
 use tw_lanes::least_time;
+use tw_ordered::{OrderedQueue, count_of, soonest_of};
 
 /// How many buckets there are.
 const BUCKETS: u64 = 16;
@@ -98,7 +97,7 @@ impl FarEvents {
     }
 
     /// Moves the events of the least time into an empty queue, where memory is not refused.
-    pub(crate) fn move_tick(&mut self, queue: &mut RouterQueue)
+    pub(crate) fn move_tick(&mut self, queue: &mut OrderedQueue)
         requires { queue.old ≡ [] }
         ensures all { (e : AnEvent) → times event_same e queue.new + times event_same e self.new ≡ times event_same e self.old }
         ensures apart { AreApart queue.new self.new }
@@ -166,18 +165,7 @@ fn first_of_all(buckets: &[TimedEvents]) -> Option<&Event>
 {
     let mut least = None;
     for bucket in buckets {
-        least = first_of(bucket.events(), least);
-    }
-    least
-}
-
-// The least of an event, if there is one, and of these, where it stands.
-fn first_of<'a>(events: &'a [Event], first: Option<&'a Event>) -> Option<&'a Event>
-    ensures { option_copied result ≡ least_with (option_copied first.entry) events.now }
-{
-    let mut least = first;
-    for event in events {
-        least = Some(sooner(event, least));
+        least = soonest_of(least, bucket.events());
     }
     least
 }

@@ -3,7 +3,7 @@
 ghost use Rattle.std.specs.Prelude.{ℕ, ◌≡◌, ◌<◌, ◌*◌, ◌+◌, ◌/◌, ◌%◌, IfNone, IfOk, IfSome, [], drop, length, min, replicate, slice_index_or, slice_set};
 ghost use Rattle.std.specs.Int.{IsPowerOfTwo};
 ghost use Rattle.tw_queue.specs.Least.{AreLesser, AreLesserBut, IsFirstLeast, IsFirstOfLevel};
-ghost use Rattle.tw_queue.specs.Table.{never};
+ghost use Rattle.tw_ordered.specs.Times.{never};
 
 use std::alloc::{AllocError, Global};
 use std::marker::Model;

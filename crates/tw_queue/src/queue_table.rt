@@ -2,12 +2,12 @@
 
 ghost use Rattle.std.specs.Prelude.{◌≡◌, ◌<◌, ◌+◌, ◌==◌, ◌↔◌, ◌^◌, filter, IfNone, IfOk, IfSome, IsTrue, [], OnOk, replicate, slice_get, slice_index_or};
 ghost use Rattle.tw_event.specs.Order.{event_before, event_same};
-ghost use Rattle.tw_queue.specs.Buckets.{together};
+ghost use Rattle.tw_ordered.specs.Buckets.{together};
 ghost use Rattle.std.specs.Bool.{OnFalse, OnTrue};
 ghost use Rattle.std.specs.Option.{option_copied};
 ghost use Rattle.tw_event.specs.declared.event.Event.{Event};
-ghost use Rattle.tw_queue.specs.Queue.{IsInOrder};
-ghost use Rattle.tw_queue.specs.Table.{first_time, never};
+ghost use Rattle.tw_queue.specs.InTable.{IsInOrder};
+ghost use Rattle.tw_ordered.specs.Times.{first_time};
 ghost use Rattle.tw_sim.specs.Ordered.{insert, take_out, times};
 ghost use Rattle.tw_sim.specs.Rising.{IsRising};
 
@@ -27,9 +27,9 @@ pub(crate) struct QueueTable {
 impl Model for QueueTable {
     ghost use Rattle.std.specs.Prelude.{length};
     ghost use Rattle.tw_event.specs.Order.{event_before};
-    ghost use Rattle.tw_queue.specs.Buckets.{together};
-    ghost use Rattle.tw_queue.specs.InOrder.{in_order};
-    ghost use Rattle.tw_queue.specs.Queue.{Table};
+    ghost use Rattle.tw_ordered.specs.Buckets.{together};
+    ghost use Rattle.tw_ordered.specs.InOrder.{in_order};
+    ghost use Rattle.tw_queue.specs.InTable.{Table};
     ghost use Rattle.tw_queue.specs.Table.{IsTable};
 
     ghost Value = { Table };
@@ -109,7 +109,7 @@ impl QueueTable {
         ensures { result ≡ slice_get self.now.events 0 }
     {
         let router = self.least_times.first_least()?;
-        self.queues[router].least()
+        self.queues[router].first().copied()
     }
 
     /// The least event of one router.

@@ -1,18 +1,17 @@
 //! Events beside a row of their times.
 
-ghost use Rattle.std.specs.Prelude.{ℕ, ◌≡◌, ◌==◌, ◌<◌, ◌+◌, ◌++◌, ◌↔◌, [], ◌∷◌, IsTrue, filter, map, not};
+ghost use Rattle.std.specs.Prelude.{◌≡◌, ◌==◌, ◌<◌, ◌+◌, ◌++◌, ◌↔◌, [], ◌∷◌, IsTrue, filter, map, not};
 ghost use Rattle.std.specs.Bool.{OnFalse, OnTrue};
 ghost use Rattle.tw_event.specs.declared.event.Event.{Event as AnEvent};
 ghost use Rattle.tw_event.specs.Order.{event_same};
 ghost use Rattle.tw_queue.specs.Times.{IsLeastTime};
 ghost use Rattle.tw_sim.specs.Ordered.{take_out, times};
 
-use crate::router_queue::RouterQueue;
-use crate::search::place_of;
 use std::alloc::Global;
 use std::marker::Model;
 use tw_event::Event;
 use tw_lanes::least_time;
+use tw_ordered::{OrderedQueue, place_of};
 
 /// Events in the order in which they were put in, and a row of their times, which is searched.
 #[derive(Drop)]
@@ -93,7 +92,7 @@ impl TimedEvents {
 
     /// Puts a copy of each event at a time, in ticks, into a queue, and tells whether it did: not where memory
     /// is refused.
-    pub(crate) fn copy_tick(&self, time: u64, queue: &mut RouterQueue) -> bool
+    pub(crate) fn copy_tick(&self, time: u64, queue: &mut OrderedQueue) -> bool
         ensures { OnTrue result ((e : AnEvent) → times event_same e queue.new ≡ times event_same e (filter (λ d. d.time == time) self.now) + times event_same e queue.old) }
     {
         copy_tick(&self.events, time, queue)
@@ -109,7 +108,7 @@ impl TimedEvents {
 
 // Puts a copy of each event at a time, in ticks, into a queue, and tells whether it did: not where memory is
 // refused.
-fn copy_tick(events: &[Event], time: u64, queue: &mut RouterQueue) -> bool
+fn copy_tick(events: &[Event], time: u64, queue: &mut OrderedQueue) -> bool
     ensures { OnTrue result ((e : AnEvent) → times event_same e queue.new ≡ times event_same e (filter (λ d. d.time == time) events.now) + times event_same e queue.old) }
 {
     for event in events {
@@ -123,7 +122,7 @@ fn copy_tick(events: &[Event], time: u64, queue: &mut RouterQueue) -> bool
 // Puts a copy of an event into a queue, if it is at a time, in ticks, and tells whether it did where it is: not
 // where memory is refused.
 #[inline(always)]
-fn copy_at(event: &Event, time: u64, queue: &mut RouterQueue) -> bool
+fn copy_at(event: &Event, time: u64, queue: &mut OrderedQueue) -> bool
     ensures { OnTrue result ((e : AnEvent) → times event_same e queue.new ≡ times event_same e (filter (λ d. d.time == time) (event.now ∷ [])) + times event_same e queue.old) }
 {
     if event.time != time {

@@ -13,8 +13,8 @@ use smallvec::SmallVec;
 use std::alloc::Global;
 use tw_event::{Body, Event};
 use tw_handlers::{Trail, handle, undo};
+use tw_held::HeldSends;
 use tw_instance::{Case, Instance};
-use tw_queue::HeldSends;
 use tw_router::Router;
 use tw_seq::LoggedRun;
 use tw_text::read_steps;
@@ -24,15 +24,15 @@ fn steps_are_read(rt: HostRuntime) {
     assert!(rt; read_steps(rt.alloc(), b"bound\nend\n").is_ok());
 }
 
-/// Whether an event is held by its sender, and listed.
+/// Whether an event is held by its sender, and counted.
 fn is_held(held: &mut HeldSends) -> bool
     requires { held.old.routers ≡ 1 }
 {
-    held.insert(Event::default()).is_ok() && held.list().is_ok()
+    held.insert(Event::default()).is_ok() && held.count_of_sender(0) == 1
 }
 
 #[test]
-fn what_is_held_is_listed(rt: HostRuntime) {
+fn what_is_held_is_counted(rt: HostRuntime) {
     assert!(rt; is_held(&mut HeldSends::new(rt.alloc(), 1)));
 }
 

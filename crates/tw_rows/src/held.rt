@@ -4,7 +4,7 @@ ghost use Rattle.std.specs.Prelude.{◌≡◌, ◌<◌, ◌≤◌};
 
 use std::alloc::{AllocError, Global};
 use tw_event::{Body, Event, PathNo};
-use tw_queue::HeldSends;
+use tw_held::HeldSends;
 use tw_sim::Signed;
 
 /// An update of this router for router 0.
@@ -74,7 +74,7 @@ enum Line<'a> {
     /// The event is removed, and whether it was there.
     Remove(Sent, bool),
     /// These events are held.
-    Lists(&'a [Sent]),
+    Has(&'a [Sent]),
     /// Some are held.
     Some,
     /// The least time.
@@ -102,7 +102,7 @@ fn holds_on(held: &mut HeldSends, line: Line<'_>) -> bool
 /// Whether what is held is as a line says, which changes nothing.
 fn shows(held: &HeldSends, line: Line<'_>) -> bool {
     match line {
-        Line::Lists(updates) => lists(held, updates),
+        Line::Has(updates) => has(held, updates),
         Line::Some => !held.is_empty(),
         Line::LeastTime(time) => held.least_time() == Some(time),
         Line::LeastTimeOf(sender, time) => held.least_time_of(sender) == time,
@@ -124,22 +124,17 @@ fn goes_by(held: &mut HeldSends, lines: &[Line<'_>]) -> bool
     true
 }
 
-/// Whether these are the events that were sent.
-fn are_these(events: &[Event], updates: &[Sent]) -> bool {
-    events.len() == updates.len()
-        && events
-            .iter()
-            .zip(updates)
-            .all(|(event, update)| *event == event_of(*update))
+/// Whether so many events of a sender are held as these have, the first at the same time.
+fn has_of(held: &HeldSends, sender: u32, updates: &[Sent]) -> bool {
+    let count = updates.iter().filter(|update| update.1 == sender).count();
+    let first = updates.iter().find(|update| update.1 == sender);
+    held.count_of_sender(sender) == count
+        && held.least_time_of(sender) == first.map(|update| update.0)
 }
 
-/// Whether these events are held, listed once more where memory was refused.
-fn lists(held: &HeldSends, updates: &[Sent]) -> bool {
-    let list = match held.list() {
-        Err(_) => held.list(),
-        done => done,
-    };
-    held.len() == updates.len() && list.is_ok_and(|list| are_these(&list, updates))
+/// Whether as many events are held as these are, which are in order, and as many of each sender.
+fn has(held: &HeldSends, updates: &[Sent]) -> bool {
+    held.len() == updates.len() && (0..3).all(|sender| has_of(held, sender, updates))
 }
 
 /// What routers 1 and 2 have sent: router 2 twice at time 6, and at time 10, router 1 at time 8.
@@ -152,7 +147,7 @@ const SOME_HELD: [Line<'static>; 4] = [
 
 /// After these, what is held is counted and found by its sender, as often as it was inserted.
 const FOUND: [Line<'static>; 9] = [
-    Line::Lists(&[(6, 2, 0), (6, 2, 0), (8, 1, 0), (10, 2, 1)]),
+    Line::Has(&[(6, 2, 0), (6, 2, 0), (8, 1, 0), (10, 2, 1)]),
     Line::Some,
     Line::LeastTime(6),
     Line::LeastTimeOf(0, None),
@@ -169,7 +164,7 @@ const SENT_AGAIN: [Line<'static>; 6] = [
     Line::Remove((6, 2, 0), true),
     Line::Remove((6, 2, 0), false),
     Line::Remove((10, 1, 1), false),
-    Line::Lists(&[(8, 1, 0), (10, 2, 1)]),
+    Line::Has(&[(8, 1, 0), (10, 2, 1)]),
     Line::LeastTime(8),
 ];
 
@@ -183,7 +178,7 @@ const WITH_ROOM: [Line<'static>; 9] = [
     Line::LeastTimeOf(2, Some(6)),
     Line::Counts(2, 3),
     Line::Remove((10, 2, 1), true),
-    Line::Lists(&[(6, 2, 0), (6, 2, 0), (8, 1, 0)]),
+    Line::Has(&[(6, 2, 0), (6, 2, 0), (8, 1, 0)]),
 ];
 
 /// Whether the lines hold of what is held after these.
@@ -233,7 +228,7 @@ fn is_released(held: &mut HeldSends, outgoing: &mut Vec<Signed<Event>>) -> bool 
     outgoing.push(there).is_ok()
         && release(held, outgoing)
         && outgoing.as_slice() == &[there, first, first, last][..]
-        && lists(held, &[(8, 1, 0)])
+        && has(held, &[(8, 1, 0)])
 }
 
 /// The same of some held sends.
@@ -267,8 +262,8 @@ fn goes_to_another(alloc: Global, router: u32, left: &[Sent], given: &[Sent]) ->
     goes_by(held, &SOME_HELD)
         && holds_on(to, Line::Insert((7, 2, 4)))
         && hand_over(held, router, to).is_ok()
-        && lists(held, left)
-        && lists(to, given)
+        && has(held, left)
+        && has(to, given)
 }
 
 /// What is left and what is given where a router's sends go to others.

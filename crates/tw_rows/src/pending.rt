@@ -64,6 +64,15 @@ fn insert(pending: &mut Pending, event: Event) -> Result<(), AllocError>
     }
 }
 
+/// Takes the least event out, and tells whether it was this one.
+fn takes(pending: &mut Pending, event: Event) -> bool
+    ensures { pending.new.routers ≡ pending.old.routers }
+{
+    let least = pending.least();
+    pending.skip_least();
+    least == Some(event)
+}
+
 /// Whether the event is the least and before the limit, and is taken out.
 fn comes_before(pending: &mut Pending, limit: u64, event: Event) -> bool
     ensures { pending.new.routers ≡ pending.old.routers }
@@ -102,7 +111,7 @@ fn takes_many(pending: &mut Pending) -> bool
     ensures { pending.new.routers ≡ 3 }
 {
     for seq in 0..MANY {
-        if pending.take_least() != Some(offer(0, 1, seq)) {
+        if !takes(pending, offer(0, 1, seq)) {
             return false;
         }
     }
@@ -163,7 +172,7 @@ fn holds_on(pending: &mut Pending, line: Line<'_>) -> bool
         Line::Insert(offered) => offered.1 < 3 && insert(pending, event_of(offered)).is_ok(),
         Line::InsertMany => insert_many(pending).is_ok(),
         Line::Remove(offered, there) => pending.remove_one(&event_of(offered)) == there,
-        Line::Take(offered) => pending.take_least() == Some(event_of(offered)),
+        Line::Take(offered) => takes(pending, event_of(offered)),
         Line::TakeMany => takes_many(pending),
         Line::Before(limit, offered) => comes_before(pending, limit, event_of(offered)),
         Line::NoneBefore(limit) => has_none_before(pending, limit),
@@ -360,7 +369,7 @@ fn removes_thirds(pending: &mut Pending, events: &[Event]) -> bool {
 /// Takes out as many events as the list has others, and tells whether they came in its order.
 fn takes_others(pending: &mut Pending, events: &[Event]) -> bool {
     for event in events {
-        if event.seq % 3 != 0 && pending.take_least() != Some(*event) {
+        if event.seq % 3 != 0 && !takes(pending, *event) {
             return false;
         }
     }

@@ -17,17 +17,28 @@ use Rattle.tw_run.specs.declared.dealing.Dealing.{Dealing as ADealing}
 use Rattle.tw_run.specs.declared.ran.By.{By}
 use Rattle.tw_run.specs.declared.ran.By.TheVariants as by
 use Rattle.tw_pace.specs.declared.pace.TheConstants.{MOST_WORKERS_CHOSEN}
-use Rattle.tw_run.specs.Stopped.{HasStopped, stopped_alone}
+use Rattle.tw_run.specs.Stopped.{HasStopped, TellsEnd, stopped_alone}
 use Rattle.tw_run.specs.declared.cause.Stopped.{Stopped}
-use Rattle.tw_run.specs.declared.cause.Stopped.TheVariants.{Memory, CounterFull, Ended}
+use Rattle.tw_run.specs.declared.cause.Stopped.TheVariants.{Memory, CounterFull, NoThread, FullAhead}
 use Rattle.tw_run.specs.declared.run.Asked.{Asked as AnAsked}
 use Rattle.tw_seq.specs.Run.{GetsStuck}
+use Rattle.tw_threads.specs.Left.{IsFullAhead}
+use Rattle.tw_threads.specs.declared.end_cause.EndCause.{EndCause}
+use Rattle.tw_threads.specs.declared.end_cause.EndCause.TheVariants as ended
 
 -- what stops a later run stops the one before it
 pub stopped_before : (s t : Sim) (why : Stopped) → GoesOn s t → HasStopped t why → HasStopped s why
 stopped_before s t Memory on h = tt
 stopped_before s t CounterFull on h = h
-stopped_before s t (Ended e) on h = record { goes_on = goes_on_both s t e.sim on h.goes_on; lower = h.lower; full = h.full }
+stopped_before s t NoThread on h = tt
+stopped_before s t (FullAhead u) on h = (goes_on_both s t u on h.0, h.1)
+
+-- workers that ended have stopped so
+pub ended_so : (s t : Sim) (why : EndCause) (told : Stopped) → GoesOn s t → (why ≡ ended.CounterFull → IsFullAhead t.board.stop t.shares) → TellsEnd why t told → HasStopped s told
+ended_so s t ended.Memory told on full tells = subst (HasStopped s) (sym tells) tt
+ended_so s t ended.CounterFull told on full tells = subst (HasStopped s) (sym tells) (on, full refl)
+ended_so s t ended.NoThread told on full tells = subst (HasStopped s) (sym tells) tt
+ended_so s t ended.StopLower told on full tells = absurd tells
 
 -- the workers of a run that goes on are those that it began with
 pub by_later : (case : Case) (asked : AnAsked) (n : ℕ) (s t : Sim) → IsBy case asked n s → GoesOn s t → IsBy case asked n t
@@ -37,7 +48,8 @@ by_later case asked n s t by on = record { of_case = on.case ∙ by.of_case; wor
 pub stopped_by : (case : Case) (asked : AnAsked) (n : ℕ) (s : Sim) (why : Stopped) → IsBy case asked n s → HasStopped s why → HasStoppedBy case asked n why
 stopped_by case asked n s Memory by h = tt
 stopped_by case asked n s CounterFull by h = h
-stopped_by case asked n s (Ended e) by h = (by_later case asked n s e.sim by h.goes_on, h.lower, h.full)
+stopped_by case asked n s NoThread by h = tt
+stopped_by case asked n s (FullAhead t) by h = record { by = by_later case asked n s t by h.0; full = h.1 }
 
 -- their routers stay dealt out
 pub dealt_later : (d : ADealing) (k : ℕ) (s : Sim) (result : Result Sim Stopped) → AreDealt d k s → IfOk result (λ t. GoesOn s t) → IfOk result (λ t. HasSameOwners s t) → IfOk result (λ t. AreDealt d k t)
@@ -60,13 +72,15 @@ any_left case asked s (by.OneThreadAfter t) left come = absurd left
 pub alone_stops : (case : Case) (asked : AnAsked) (why : Stopped) → MayStopAlone case asked.stop why → MayStop case asked why
 alone_stops case asked Memory may = tt
 alone_stops case asked CounterFull may = may
-alone_stops case asked (Ended e) may = absurd may
+alone_stops case asked NoThread may = absurd may
+alone_stops case asked (FullAhead s) may = absurd may
 
 -- and what stops the workers that were told
-pub told_stops : (case : Case) (asked : AnAsked) (n : ℕ) (why : Stopped) → 1 < n → asked.workers ≡ Some n → MayStopBy case asked n why → MayStop case asked why
+pub told_stops : (case : Case) (asked : AnAsked) (n : ℕ) (why : Stopped) → 1 < n → asked.workers ≡ Some n → MayStopBy case asked.stop why → MayStop case asked why
 told_stops case asked n Memory many told may = tt
 told_stops case asked n CounterFull many told may = may
-told_stops case asked n (Ended e) many told may = (n, many, told, may)
+told_stops case asked n NoThread many told may = (n, many, told)
+told_stops case asked n (FullAhead s) many told may = absurd may
 
 -- ---- workers that are chosen
 

@@ -3,37 +3,29 @@ use Rattle.std.proofs.Common.{◌≡◌, ℕ, Bool, false, List, Option, Ok, Err
 use Rattle.std.proofs.KnownBytes.{Keeps-refl}
 use Rattle.std.specs.Prelude.{IsOk, ◌⊎◌}
 use Rattle.tw_commands.specs.declared.cause.Cause.{Cause}
-use Rattle.tw_commands.specs.declared.cause.Cause.TheVariants as cause
 use Rattle.tw_commands.specs.declared.cause.Status.{Status}
 use Rattle.tw_commands.specs.ForCase.{StuckFor, for_case}
 use Rattle.tw_commands.specs.Output.{Leaves, Output}
 use Rattle.tw_model.specs.Case.{Case}
 use Rattle.tw_run.specs.Ran.{MayStop}
-use Rattle.tw_run.specs.Stopped.{IsAllowed, Tells}
+use Rattle.tw_run.specs.Stopped.{cause_of}
 use Rattle.tw_run.specs.Threaded.{LacksThread, LeavesThreaded, LeavesThreadedFor}
 use Rattle.tw_run.specs.declared.cause.Stopped.{Stopped}
-use Rattle.tw_run.specs.declared.cause.Stopped.TheVariants.{Memory, CounterFull, Ended}
+use Rattle.tw_run.specs.declared.cause.Stopped.TheVariants.{Memory, CounterFull, NoThread, FullAhead}
 use Rattle.tw_run.specs.declared.run.Asked.{Asked as AnAsked}
 use Rattle.tw_seq.specs.Run.{GetsStuck}
 use Rattle.tw_text.specs.Reading.{case_of}
 use Rattle.tw_text.specs.declared.text_fault.TextFault.{TextFault}
 
 pub leaves_told : (why : Stopped) (told : Cause) (case : Case) (asked : AnAsked) (output : Output) (old : Option (List ℕ)) (failed : Bool) → failed ≡ false
-    → Tells why told → MayStop case asked why → LeavesThreaded (Err told) output (GetsStuck case asked.stop) old old failed
-leaves_told Memory told case asked output old failed still is may =
-    subst (λ t. LeavesThreaded (Err t) output (GetsStuck case asked.stop) old old failed) (sym is) (inl (record { nothing = Keeps-refl old; still = still }))
-leaves_told CounterFull told case asked output old failed still is may =
-    subst (λ t. LeavesThreaded (Err t) output (GetsStuck case asked.stop) old old failed) (sym is) (inl (may, record { nothing = Keeps-refl old; still = still }))
-leaves_told (Ended e) cause.Memory case asked output old failed still is may = inl (record { nothing = Keeps-refl old; still = still })
-leaves_told (Ended e) cause.CounterFull case asked output old failed still is may = absurd (may.3.2 (is.full.0 refl))
-leaves_told (Ended e) cause.NoThread case asked output old failed still is may = inr (record { no_thread = refl; sink = record { nothing = Keeps-refl old; still = still } })
-leaves_told (Ended e) cause.Device case asked output old failed still is may = absurd (is.device refl)
-
--- a stop that was refused is not told
-pub may_tell : (why : Stopped) (case : Case) (asked : AnAsked) → MayStop case asked why → IsAllowed why
-may_tell Memory case asked may = tt
-may_tell CounterFull case asked may = tt
-may_tell (Ended e) case asked may = may.3.1
+    → told ≡ cause_of why → MayStop case asked why → LeavesThreaded (Err told) output (GetsStuck case asked.stop) old old failed
+leaves_told why told case asked output old failed still is may = subst (λ t. LeavesThreaded (Err t) output (GetsStuck case asked.stop) old old failed) (sym is) (go why may)
+  where
+    go : (why : Stopped) → MayStop case asked why → LeavesThreaded (Err (cause_of why)) output (GetsStuck case asked.stop) old old failed
+    go Memory may = inl (record { nothing = Keeps-refl old; still = still })
+    go CounterFull may = inl (may, record { nothing = Keeps-refl old; still = still })
+    go NoThread may = inr (record { no_thread = refl; sink = record { nothing = Keeps-refl old; still = still } })
+    go (FullAhead s) may = absurd may
 
 -- of a text that is a case
 pub leaves_for : (text : List ℕ) (case : Case) → case_of text ≡ Ok case → (result : Result Status Cause) (report : Case → Output) (stop : ℕ) (old new : Option (List ℕ)) (failed : Bool)

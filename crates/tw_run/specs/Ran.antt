@@ -1,11 +1,10 @@
 -- What a run leaves at its stop, and who ran it (own).
-use Rattle.std.specs.Prelude.{ℕ, ◌≡◌, ◌<◌, ◌≤◌, true, List, Option, Some, replicate}
+use Rattle.std.specs.Prelude.{ℕ, ◌≡◌, ◌<◌, ◌≤◌, true, Some, replicate}
 use Rattle.tw_commands.specs.Seq.{found_to, shown}
 use Rattle.tw_exchange.specs.Board.{workers}
 use Rattle.tw_model.specs.Case.{Case}
 use Rattle.tw_model.specs.Summary.{summary_of}
 use Rattle.tw_parallel.specs.Settled.{IsSettled}
-use Rattle.tw_parallel.specs.declared.run.Ended.{Ended as AnEnd}
 use Rattle.tw_parallel.specs.Sim.{KeepsEvents, Sim, cancels_of}
 use Rattle.tw_run.specs.Dealing.{AreDealt}
 use Rattle.tw_run.specs.declared.cause.Stopped.{Stopped}
@@ -13,7 +12,7 @@ use Rattle.tw_run.specs.declared.chosen.Come.{Come}
 use Rattle.tw_run.specs.declared.chosen.Come.TheVariants as come
 use Rattle.tw_run.specs.declared.chosen.Tried.{Tried}
 use Rattle.tw_run.specs.declared.chosen.Tried.TheVariants as tried
-use Rattle.tw_run.specs.declared.cause.Stopped.TheVariants.{Memory, CounterFull, Ended}
+use Rattle.tw_run.specs.declared.cause.Stopped.TheVariants.{Memory, CounterFull, NoThread, FullAhead}
 use Rattle.tw_run.specs.declared.ran.By.{By}
 use Rattle.tw_run.specs.declared.ran.By.TheVariants.{OneThread, Workers, OneThreadAfter}
 use Rattle.tw_run.specs.declared.ran.Ran.{Ran as ARun}
@@ -22,7 +21,6 @@ use Rattle.tw_run.specs.declared.run.Asked.{Asked as AnAsked}
 use Rattle.tw_seq.specs.Outcome.{outcome_of}
 use Rattle.tw_seq.specs.Run.{GetsStuck, complete_run}
 use Rattle.tw_threads.specs.Left.{IsFullAhead}
-use Rattle.tw_threads.specs.declared.end_cause.EndCause.TheVariants as ended
 
 -- it leaves what the sequential run of the case leaves at the stop that was asked for
 pub record IsRunOf (case : Case) (asked : AnAsked) (ran : ARun) : Type 0 where
@@ -98,34 +96,32 @@ IsRunByAny case asked (OneThreadAfter s) = ⊥
 abbrev pub HasStoppedBy : Case → AnAsked → ℕ → Stopped → Type 0
 HasStoppedBy case asked n Memory = Unit {0}
 HasStoppedBy case asked n CounterFull = ⊥
-HasStoppedBy case asked n (Ended e) = IsBy case asked n e.sim × (e.cause ≡ ended.StopLower → ⊥) × (e.cause ≡ ended.CounterFull → IsFullAhead e.sim.board.stop e.sim.shares)
+HasStoppedBy case asked n NoThread = Unit {0}
+HasStoppedBy case asked n (FullAhead s) = HasMetFull case asked n s
 
 -- one thread stops for want of memory, or where the sequential run gets stuck
 abbrev pub MayStopAlone : Case → ℕ → Stopped → Type 0
 MayStopAlone case stop Memory = Unit {0}
 MayStopAlone case stop CounterFull = GetsStuck case stop
-MayStopAlone case stop (Ended e) = ⊥
+MayStopAlone case stop NoThread = ⊥
+MayStopAlone case stop (FullAhead s) = ⊥
 
--- where workers had ended so, one thread ran: they met a full counter
-abbrev pub HasRunAnew : AnEnd → By → Type 0
-HasRunAnew e OneThread = ⊥
-HasRunAnew e (Workers s) = ⊥
-HasRunAnew e (OneThreadAfter s) = (s.value ≡ e.sim) × (e.cause ≡ ended.CounterFull)
+-- where workers had come so far, one thread ran
+abbrev pub HasRunAnew : Sim → By → Type 0
+HasRunAnew s OneThread = ⊥
+HasRunAnew s (Workers t) = ⊥
+HasRunAnew s (OneThreadAfter t) = t.value ≡ s
 
--- the run ended as its workers did, for no full counter; or it stopped as one thread may
-abbrev pub IsEndOr : AnEnd → (Stopped → Type 0) → Stopped → Type 0
-IsEndOr e Alone Memory = Alone Memory
-IsEndOr e Alone CounterFull = Alone CounterFull
-IsEndOr e Alone (Ended x) = (x ≡ e) × (e.cause ≡ ended.CounterFull → ⊥)
+-- workers, or one thread after them, stop for this: for no full counter but the sequential run's
+abbrev pub MayStopBy : Case → ℕ → Stopped → Type 0
+MayStopBy case stop Memory = Unit {0}
+MayStopBy case stop CounterFull = GetsStuck case stop
+MayStopBy case stop NoThread = Unit {0}
+MayStopBy case stop (FullAhead s) = ⊥
 
--- n workers who ran the case, or one thread after them, stop for this: for no full counter but the sequential run's
-abbrev pub MayStopBy : Case → AnAsked → ℕ → Stopped → Type 0
-MayStopBy case asked n Memory = Unit {0}
-MayStopBy case asked n CounterFull = GetsStuck case asked.stop
-MayStopBy case asked n (Ended e) = IsBy case asked n e.sim × (e.cause ≡ ended.StopLower → ⊥) × (e.cause ≡ ended.CounterFull → ⊥)
-
--- a run stops for want of memory, or where the sequential run gets stuck, or as the workers did that it was told
+-- a run stops for want of memory, or where the sequential run gets stuck, or for want of a thread where it was told workers
 abbrev pub MayStop : Case → AnAsked → Stopped → Type 0
 MayStop case asked Memory = Unit {0}
 MayStop case asked CounterFull = GetsStuck case asked.stop
-MayStop case asked (Ended e) = (n : ℕ) × (1 < n) × (asked.workers ≡ Some n) × MayStopBy case asked n (Ended e)
+MayStop case asked NoThread = (n : ℕ) × (1 < n) × (asked.workers ≡ Some n)
+MayStop case asked (FullAhead s) = ⊥

@@ -1,25 +1,26 @@
 //! Why a run did not come to its stop, and why the program stops then.
-ghost use Rattle.std.specs.Prelude.{◌≡◌, ◌↔◌};
-ghost use Rattle.tw_commands.specs.declared.cause.Cause.TheVariants as cause;
-ghost use Rattle.tw_run.specs.Stopped.{IsAllowed, Tells, stopped_alone};
+ghost use Rattle.std.specs.Prelude.{◌≡◌};
+ghost use Rattle.tw_run.specs.Stopped.{TellsEnd, cause_of, stopped_alone};
 ghost use Rattle.tw_run.specs.declared.cause.Stopped.TheVariants as stopped;
-ghost use Rattle.tw_threads.specs.declared.end_cause.EndCause.TheVariants as ended;
+ghost use Rattle.tw_threads.specs.declared.end_cause.EndCause.TheVariants as end_cause;
 
 use std::alloc::AllocError;
 use tw_commands::Cause;
 use tw_model::OrMemory;
-use tw_parallel::{EndCause, Ended};
+use tw_parallel::{EndCause, Ended, Sim};
 use tw_seq::CounterFull;
 
 /// Why a run did not come to its stop.
 #[derive(Drop)]
 pub(crate) enum Stopped<'a> {
-    /// Memory was refused while no worker was at work.
+    /// Memory was refused.
     Memory,
     /// A counter of the one-thread run would pass its limit.
     CounterFull,
-    /// The workers ended before their stop, and have come so far.
-    Ended(Ended<'a>),
+    /// A thread was refused.
+    NoThread,
+    /// A counter would pass its limit where workers run ahead, who have come so far.
+    FullAhead(Sim<'a>),
 }
 
 impl From<AllocError> for Stopped<'_> {
@@ -41,32 +42,28 @@ impl From<OrMemory<CounterFull>> for Stopped<'_> {
     }
 }
 
-impl Stopped<'_> {
-    /// Why the program stops. The stop of the run was allowed.
+impl<'a> Stopped<'a> {
+    /// Why workers ended whose stop was allowed.
+    pub(crate) fn of(ended: Ended<'a>) -> Stopped<'a>
+        requires { ended.cause ≡ end_cause.StopLower → ⊥ }
+        ensures { TellsEnd ended.entry.cause ended.entry.sim result }
+    {
+        match ended.cause {
+            EndCause::Memory => Stopped::Memory,
+            EndCause::CounterFull => Stopped::FullAhead(ended.sim),
+            EndCause::NoThread => Stopped::NoThread,
+            EndCause::StopLower => unreachable!(),
+        }
+    }
+
+    /// Why the program stops.
     pub(crate) fn cause(&self) -> Cause
-        requires { IsAllowed self.now }
-        ensures { Tells self.now result }
+        ensures { result ≡ cause_of self.now }
     {
         match self {
             Stopped::Memory => Cause::Memory,
-            Stopped::CounterFull => Cause::CounterFull,
-            Stopped::Ended(ended) => cause_of(ended.cause),
+            Stopped::CounterFull | Stopped::FullAhead(_) => Cause::CounterFull,
+            Stopped::NoThread => Cause::NoThread,
         }
-    }
-}
-
-/// Why the program stops whose workers have ended for this. The stop of that run was allowed.
-fn cause_of(why: EndCause) -> Cause
-    requires { why ≡ ended.StopLower → ⊥ }
-    ensures memory { (result ≡ cause.Memory) ↔ (why ≡ ended.Memory) }
-    ensures full { (result ≡ cause.CounterFull) ↔ (why ≡ ended.CounterFull) }
-    ensures thread { (result ≡ cause.NoThread) ↔ (why ≡ ended.NoThread) }
-    ensures device { result ≡ cause.Device → ⊥ }
-{
-    match why {
-        EndCause::Memory => Cause::Memory,
-        EndCause::CounterFull => Cause::CounterFull,
-        EndCause::NoThread => Cause::NoThread,
-        EndCause::StopLower => unreachable!(),
     }
 }

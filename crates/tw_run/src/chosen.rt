@@ -247,7 +247,7 @@ fn go_on<'a, X: Threads + Wait + Sync + Clock, O: Stages + Gate + Sync>(
     ensures { IfSome result (λ later. HasComeTo end sim.entry.case asked later.0) }
 {
     let start = micros(rt);
-    let Ok(sim) = run_to(rt, alloc, sim, asked.dealing, 0, end, asked.batch, observer) else {
+    let Ok(sim) = run_to(rt, alloc, sim, asked, 0, end, observer) else {
         return None;
     };
     Some((sim, micros(rt).saturating_sub(start)))

@@ -5,10 +5,11 @@ ghost use Rattle.tw_model.specs.declared.limits.TheConstants.{LATEST};
 ghost use Rattle.tw_parallel.specs.Sim.{GoesOn, KeepsEvents, cancels_of};
 ghost use Rattle.tw_run.specs.Dealing.{AreDealt, first_owner, owner_after, owners_after};
 
+use crate::run::Asked;
 use std::alloc::{AllocError, Global};
 use tw_instance::Case;
 use tw_parallel::{OrMemory, Sim, UnfitOwners};
-use tw_sim::{Cancel, owner};
+use tw_sim::owner;
 
 /// How routers are dealt out to workers.
 #[derive(Clone, Copy, Debug)]
@@ -34,23 +35,21 @@ pub(crate) fn open_dealt<'a>(
     alloc: Global,
     case: &'a Case,
     crew: u32,
-    keeps: bool,
-    cancel: Cancel,
-    dealing: Dealing,
+    asked: Asked,
 ) -> Result<Sim<'a>, AllocError>
     requires { 0 < crew }
     ensures case { IfOk result (λ sim. sim.case ≡ case.now) }
     ensures workers { IfOk result (λ sim. workers sim.board ≡ crew) }
     ensures stop { IfOk result (λ sim. sim.board.stop ≡ 0) }
-    ensures keeps { keeps ≡ true → IfOk result (λ sim. KeepsEvents sim) }
-    ensures cancels { IfOk result (λ sim. cancels_of sim ≡ replicate crew cancel) }
-    ensures dealt { IfOk result (λ sim. AreDealt dealing 0 sim) }
+    ensures keeps { asked.log ≡ true → IfOk result (λ sim. KeepsEvents sim) }
+    ensures cancels { IfOk result (λ sim. cancels_of sim ≡ replicate crew asked.cancel) }
+    ensures dealt { IfOk result (λ sim. AreDealt asked.dealing 0 sim) }
 {
-    let mut sim = Sim::open_with(alloc, case, crew, keeps, cancel)?;
-    if !dealing.is_told() {
+    let mut sim = Sim::open_with(alloc, case, crew, asked.log, asked.cancel)?;
+    if !asked.dealing.is_told() {
         return Ok(sim);
     }
-    deal(alloc, &mut sim, dealing, 0)?;
+    deal(alloc, &mut sim, asked.dealing, 0)?;
     Ok(sim)
 }
 

@@ -18,7 +18,7 @@ mod run;
 mod segments;
 
 pub use dealing::Dealing;
-pub use run::run_io;
+pub use run::{Asked, run_io};
 pub use tw_commands::{Cause, Stages, Status};
 pub use tw_parallel::Gate;
 pub use tw_shard::Tally;

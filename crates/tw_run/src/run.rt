@@ -1,10 +1,9 @@
 //! The command `run`: from the text of a case to its report.
-ghost use Rattle.std.specs.Prelude.{◌≡◌, ◌≤◌, ◌<◌, ℕ, false, true, IfErr, IfOk, IfSome, None, OnOk, Some};
+ghost use Rattle.std.specs.Prelude.{◌≡◌, ◌<◌, ℕ, false, IfErr, IfOk, OnOk, Some};
 ghost use Rattle.tw_commands.specs.Seq.{GetsStuckFor, seq_output, seq_report};
 ghost use Rattle.tw_device.specs.Source.{LosesInput, TakesInput};
-ghost use Rattle.tw_model.specs.declared.limits.TheConstants.{LATEST};
 ghost use Rattle.tw_run.specs.Asked.{IsReady};
-ghost use Rattle.tw_run.specs.Ran.{HasRunAnew, HasStoppedBy, IsEndOr, IsRunBy, IsRunByAny, IsRunOf, MayStop, MayStopAlone, MayStopBy};
+ghost use Rattle.tw_run.specs.Ran.{HasRunAnew, HasStoppedBy, IsRunBy, IsRunByAny, IsRunOf, MayStop, MayStopAlone, MayStopBy};
 ghost use Rattle.tw_run.specs.Threaded.{AnswersThreaded, LeavesThreaded, LeavesThreadedFor};
 ghost use Rattle.tw_run.specs.declared.ran.By.TheVariants as by;
 ghost use Rattle.tw_seq.specs.Run.{GetsStuck};
@@ -23,25 +22,32 @@ use tw_commands::{Cause, Progress, Stages, Status, hand_back, refuse, run_on_one
 use tw_device::{Sink, Source, read_all};
 use tw_instance::Case;
 use tw_model::OrMemory;
-use tw_parallel::{EndCause, Ended, Gate};
+use tw_parallel::{Gate, Sim};
 use tw_report::write_report;
 use tw_shape::Verdict;
 use tw_sim::Cancel;
 use tw_text::read_case;
 
 /// The options of `run`.
-#[derive(Clone, Copy)]
-pub(crate) struct Asked {
-    pub(crate) stop: u64,
-    pub(crate) every: Option<u64>,
-    pub(crate) log: bool,
-    pub(crate) workers: Option<u32>,
-    pub(crate) batch: u32,
-    pub(crate) cancel: Cancel,
-    pub(crate) dealing: Dealing,
+#[derive(Clone, Copy, Debug)]
+pub struct Asked {
+    /// The time up to which the case runs, in ticks, at most 1,000,000,000.
+    pub stop: u64,
+    /// The ticks between two checkpoints, 1 to 1,000,000,000, where there are any.
+    pub every: Option<u64>,
+    /// Whether the events are written too.
+    pub log: bool,
+    /// How many workers run the case, where that is told, one at least.
+    pub workers: Option<u32>,
+    /// How many events a worker handles at most between two meetings.
+    pub batch: u32,
+    /// When what an undone event has sent is taken back.
+    pub cancel: Cancel,
+    /// Which worker has which router.
+    pub dealing: Dealing,
 }
 
-/// Reads a case, runs it to the stop, in ticks, and writes what `seq_io` writes: the report of the one-thread run, or
+/// Reads a case, runs it to the stop, and writes what `seq_io` writes: the report of the one-thread run, or
 /// where and why the text is refused.
 ///
 /// Where a number of workers is told, one at least, that many run the case from its first tick to the stop, each that
@@ -60,35 +66,18 @@ pub fn run_io<
     alloc: Global,
     source: &mut R,
     sink: &mut W,
-    stop: u64,
-    every: Option<u64>,
-    log: bool,
-    workers: Option<u32>,
-    batch: u32,
-    cancel: Cancel,
-    dealing: Dealing,
+    asked: Asked,
     observer: &O,
 ) -> Result<Status, Cause>
     requires source { R.failed source.old ≡ false }
     requires sink { W.failed sink.old ≡ false }
-    requires stop { stop ≤ LATEST }
-    requires every { IfSome every (λ n. (0 < n) × (n ≤ LATEST)) }
-    requires workers { IfSome workers (λ n. 0 < n) }
-    ensures answer { AnswersThreaded result (seq_output stop every log) (GetsStuckFor stop)
+    requires ready { IsReady asked }
+    ensures answer { AnswersThreaded result (seq_output asked.stop asked.every asked.log) (GetsStuckFor asked.stop)
         (R.remaining source.old) (W.written sink.old) (W.written sink.new) (R.failed source.new) (W.failed sink.new) }
     ensures read { OnOk result (LosesInput (R.remaining source.old) (R.remaining source.new)) }
     ensures most { TakesInput (R.remaining source.old) (R.remaining source.new) }
 {
     let text = read_all(alloc, source)?;
-    let asked = Asked {
-        stop,
-        every,
-        log,
-        workers,
-        batch,
-        cancel,
-        dealing,
-    };
     let ended = answer_text(rt, alloc, &text, asked, sink, observer);
     hand_back(source, text, &ended);
     ended
@@ -219,12 +208,13 @@ fn run_by_all<'a, X: Threads + Wait + Sync, O: Progress + Stages + Gate + Sync>(
     requires some { 0 < workers }
     ensures ran { IfOk result (λ ran. IsRunOf case.now asked ran) }
     ensures by { IfOk result (λ ran. IsRunBy case.now asked workers ran.by) }
-    ensures stopped { IfErr result (λ why. MayStopBy case.now asked workers why) }
+    ensures stopped { IfErr result (λ why. MayStopBy case.now asked.stop why) }
 {
     match run_by_workers(rt, alloc, case, asked, workers, observer) {
         Ok(ran) => Ok(ran),
-        Err(Stopped::Ended(ended)) => run_anew(alloc, case, asked, ended, observer),
+        Err(Stopped::FullAhead(sim)) => run_anew(alloc, case, asked, sim, observer),
         Err(Stopped::Memory) => Err(Stopped::Memory),
+        Err(Stopped::NoThread) => Err(Stopped::NoThread),
         Err(Stopped::CounterFull) => Err(Stopped::CounterFull),
     }
 }
@@ -244,42 +234,30 @@ fn run_by_workers<'a, X: Threads + Wait + Sync, O: Progress + Stages + Gate + Sy
     ensures by { IfOk result (λ ran. IsRunBy case.now asked workers ran.by) }
     ensures stopped { IfErr result (λ why. HasStoppedBy case.now asked workers why) }
 {
-    let sim = open_dealt(alloc, case, workers, asked.log, asked.cancel, asked.dealing)?;
-    let (sim, found) = run_through(
-        rt,
-        alloc,
-        sim,
-        asked.dealing,
-        asked.stop,
-        asked.every,
-        asked.batch,
-        observer,
-    )?;
+    let sim = open_dealt(alloc, case, workers, asked)?;
+    let (sim, found) = run_through(rt, alloc, sim, asked, observer)?;
     let _ = observer.reached(asked.stop, asked.stop, handled_by(&sim));
     Ok(left_by(sim, found, asked.log)?)
 }
 
-/// Runs a case to the stop on one thread, where workers have met a full counter: they run ahead, and may meet it
-/// where the one-thread run never comes to it. Where they ended for something else, so does the run.
+/// Runs a case to the stop on one thread, where workers have met a full counter and stand so: they run ahead, and may
+/// meet it where the one-thread run never comes to it.
 fn run_anew<'a, O: Progress + Stages>(
     alloc: Global,
     case: &'a Case,
     asked: Asked,
-    ended: Ended<'a>,
+    sim: Sim<'a>,
     observer: &O,
 ) -> Result<Ran<'a>, Stopped<'a>>
     requires ready { IsReady asked }
     ensures ran { IfOk result (λ ran. IsRunOf case.now asked ran) }
-    ensures by { IfOk result (λ ran. HasRunAnew ended.entry ran.by) }
-    ensures stopped { IfErr result (λ why. IsEndOr ended.entry (MayStopAlone case.now asked.stop) why) }
+    ensures by { IfOk result (λ ran. HasRunAnew sim.entry ran.by) }
+    ensures stopped { IfErr result (λ why. MayStopAlone case.now asked.stop why) }
 {
-    if ended.cause != EndCause::CounterFull {
-        return Err(Stopped::Ended(ended));
-    }
     observer.begins_anew();
     let ran = run_alone(alloc, case, asked, observer)?;
     Ok(Ran {
-        by: By::OneThreadAfter(Snapshot::of(&ended.sim)),
+        by: By::OneThreadAfter(Snapshot::of(&sim)),
         ..ran
     })
 }
@@ -296,13 +274,14 @@ fn run_alone<'a, O: Progress + Stages>(
     ensures by { IfOk result (λ ran. ran.by ≡ by.OneThread) }
     ensures stopped { IfErr result (λ why. MayStopAlone case.now asked.stop why) }
 {
-    let Asked {
-        stop,
-        every,
-        log,
-        ..
-    } = asked;
     observer.goes_alone();
-    let (outcome, found) = run_on_one_thread(alloc, case, stop, every, log, observer)?;
+    let (outcome, found) = run_on_one_thread(
+        alloc,
+        case,
+        asked.stop,
+        asked.every,
+        asked.log,
+        observer,
+    )?;
     Ok(left_alone(outcome, found))
 }

@@ -5,13 +5,15 @@ ghost use Rattle.tw_commands.specs.Seq.{found_to};
 ghost use Rattle.tw_model.specs.declared.limits.TheConstants.{LATEST};
 ghost use Rattle.tw_parallel.specs.Settled.{IsSettled};
 ghost use Rattle.tw_parallel.specs.Sim.{GoesOn, HasSameOwners, IsSim};
+ghost use Rattle.tw_run.specs.Asked.{IsReady};
 ghost use Rattle.tw_run.specs.Dealing.{AreDealt, AreDealtToAll};
 ghost use Rattle.tw_run.specs.Stopped.{HasStopped};
 ghost use Rattle.tw_shape.specs.Shape.{shape as shape_at};
 ghost use Rattle.tw_shape.specs.Verdict.{finding};
 
 use crate::cause::Stopped;
-use crate::dealing::{Dealing, deal};
+use crate::dealing::deal;
+use crate::run::Asked;
 use std::alloc::{AllocError, Global};
 use std::sync::Wait;
 use std::thread::Threads;
@@ -41,7 +43,7 @@ fn run_on<'a, X: Threads + Wait + Sync, O: Stages + Gate + Sync>(
     observer.goes_by_all(sim.workers());
     match run_until(rt, sim, stop, Options { batch }, observer) {
         Ok(sim) => Ok(sim),
-        Err(ended) => Err(Stopped::Ended(ended)),
+        Err(ended) => Err(Stopped::of(ended)),
     }
 }
 
@@ -51,14 +53,13 @@ pub(crate) fn run_to<'a, X: Threads + Wait + Sync, O: Stages + Gate + Sync>(
     rt: &X,
     alloc: Global,
     sim: Sim<'a>,
-    dealing: Dealing,
+    asked: Asked,
     checkpoints: u64,
     stop: u64,
-    batch: u32,
     observer: &O,
 ) -> Result<Sim<'a>, Stopped<'a>>
     requires some { 0 < workers sim.board }
-    requires dealt { dealing.rotate ≡ false → AreDealt dealing checkpoints sim }
+    requires dealt { asked.dealing.rotate ≡ false → AreDealt asked.dealing checkpoints sim }
     requires checkpoints { checkpoints ≤ LATEST }
     requires stop { sim.board.stop ≤ stop }
     requires latest { stop ≤ LATEST }
@@ -66,31 +67,29 @@ pub(crate) fn run_to<'a, X: Threads + Wait + Sync, O: Stages + Gate + Sync>(
     ensures sim { IfOk result (λ s. IsSim s) }
     ensures goes_on { IfOk result (λ s. GoesOn sim.entry s) }
     ensures stop { IfOk result (λ s. s.board.stop ≡ stop) }
-    ensures dealt { IfOk result (λ s. AreDealt dealing checkpoints s) }
+    ensures dealt { IfOk result (λ s. AreDealt asked.dealing checkpoints s) }
     ensures stopped { IfErr result (λ why. HasStopped sim.entry why) }
 {
-    if !dealing.rotate {
-        return run_on(rt, sim, stop, batch, observer);
+    if !asked.dealing.rotate {
+        return run_on(rt, sim, stop, asked.batch, observer);
     }
     let mut sim = sim;
-    deal(alloc, &mut sim, dealing, checkpoints)?;
-    run_on(rt, sim, stop, batch, observer)
+    deal(alloc, &mut sim, asked.dealing, checkpoints)?;
+    run_on(rt, sim, stop, asked.batch, observer)
 }
 
-/// Does the same in pieces, and tells between them how far the run is on its way to the stop of the whole, in ticks.
+/// Does the same in pieces, and tells between them how far the run is on its way to the stop that was asked for.
 fn run_in_pieces<'a, X: Threads + Wait + Sync, O: Progress + Stages + Gate + Sync>(
     rt: &X,
     alloc: Global,
     sim: Sim<'a>,
-    dealing: Dealing,
+    asked: Asked,
     checkpoints: u64,
     time: u64,
-    stop: u64,
-    batch: u32,
     observer: &O,
 ) -> Result<Sim<'a>, Stopped<'a>>
     requires some { 0 < workers sim.board }
-    requires dealt { dealing.rotate ≡ false → AreDealt dealing checkpoints sim }
+    requires dealt { asked.dealing.rotate ≡ false → AreDealt asked.dealing checkpoints sim }
     requires checkpoints { checkpoints ≤ LATEST }
     requires time { sim.board.stop ≤ time }
     requires latest { time ≤ LATEST }
@@ -98,14 +97,14 @@ fn run_in_pieces<'a, X: Threads + Wait + Sync, O: Progress + Stages + Gate + Syn
     ensures sim { IfOk result (λ s. IsSim s) }
     ensures goes_on { IfOk result (λ s. GoesOn sim.entry s) }
     ensures stop { IfOk result (λ s. s.board.stop ≡ time) }
-    ensures dealt { IfOk result (λ s. AreDealt dealing checkpoints s) }
+    ensures dealt { IfOk result (λ s. AreDealt asked.dealing checkpoints s) }
     ensures stopped { IfErr result (λ why. HasStopped sim.entry why) }
 {
     let mut run = sim;
-    while let Some(end) = end_of_piece(&run, time, stop, observer) {
-        run = run_to(rt, alloc, run, dealing, checkpoints, end, batch, observer)?;
+    while let Some(end) = end_of_piece(&run, time, asked.stop, observer) {
+        run = run_to(rt, alloc, run, asked, checkpoints, end, observer)?;
     }
-    run_to(rt, alloc, run, dealing, checkpoints, time, batch, observer)
+    run_to(rt, alloc, run, asked, checkpoints, time, observer)
 }
 
 /// Tells how far a run is on its way to a stop, and answers where its next piece ends, if it ends before a time.
@@ -127,41 +126,36 @@ pub(crate) fn handled_by(sim: &Sim<'_>) -> u64 {
     events
 }
 
-/// Runs to a stop, in ticks, and answers what was found at the checkpoints, the multiples of `every`. The
-/// run is at its beginning.
+/// Runs to the stop that was asked for, and answers what was found at the checkpoints. The run is at its beginning.
 pub(crate) fn run_through<'a, X: Threads + Wait + Sync, O: Progress + Stages + Gate + Sync>(
     rt: &X,
     alloc: Global,
     sim: Sim<'a>,
-    dealing: Dealing,
-    stop: u64,
-    every: Option<u64>,
-    batch: u32,
+    asked: Asked,
     observer: &O,
 ) -> Result<(Sim<'a>, Option<Finding>), Stopped<'a>>
     requires some { 0 < workers sim.board }
-    requires dealt { AreDealt dealing 0 sim }
+    requires dealt { AreDealt asked.dealing 0 sim }
     requires opening { sim.board.stop ≡ 0 }
-    requires stop { stop ≤ LATEST }
-    requires every { IfSome every (λ n. (0 < n) × (n ≤ LATEST)) }
+    requires ready { IsReady asked }
     ensures settled { IfOk result (λ left. IsSettled left.0) }
     ensures goes_on { IfOk result (λ left. GoesOn sim.entry left.0) }
-    ensures stop { IfOk result (λ left. left.0.board.stop ≡ stop) }
-    ensures dealt { IfOk result (λ left. (checkpoints : ℕ) × AreDealt dealing checkpoints left.0) }
-    ensures found { IfOk result (λ left. left.1 ≡ found_to sim.entry.case stop every) }
+    ensures stop { IfOk result (λ left. left.0.board.stop ≡ asked.stop) }
+    ensures dealt { IfOk result (λ left. (checkpoints : ℕ) × AreDealt asked.dealing checkpoints left.0) }
+    ensures found { IfOk result (λ left. left.1 ≡ found_to sim.entry.case asked.stop asked.every) }
     ensures stopped { IfErr result (λ why. HasStopped sim.entry why) }
 {
-    match every {
-        Some(every) => run_watched(rt, alloc, sim, dealing, stop, every, batch, observer),
+    match asked.every {
+        Some(every) => run_watched(rt, alloc, sim, asked, every, observer),
         None => {
-            let run = run_in_pieces(rt, alloc, sim, dealing, 0, stop, stop, batch, observer)?;
+            let run = run_in_pieces(rt, alloc, sim, asked, 0, asked.stop, observer)?;
             Ok((run, None))
         }
     }
 }
 
-/// Runs to a stop, and shows a watch the shapes at the multiples of `every` up to it. The run is at its
-/// beginning.
+/// Runs to the stop that was asked for, and shows a watch the shapes at the multiples of `every` up to it. The run is at
+/// its beginning.
 ///
 /// Workers come together at a checkpoint only where something was handled since the one before it, and at none
 /// once something is found, since the first finding decides. Going on from there each router has the worker
@@ -170,36 +164,34 @@ fn run_watched<'a, X: Threads + Wait + Sync, O: Progress + Stages + Gate + Sync>
     rt: &X,
     alloc: Global,
     sim: Sim<'a>,
-    dealing: Dealing,
-    stop: u64,
+    asked: Asked,
     every: u64,
-    batch: u32,
     observer: &O,
 ) -> Result<(Sim<'a>, Option<Finding>), Stopped<'a>>
     requires workers { 0 < workers sim.board }
-    requires dealt { AreDealt dealing 0 sim }
+    requires dealt { AreDealt asked.dealing 0 sim }
     requires opening { sim.board.stop ≡ 0 }
-    requires stop { stop ≤ LATEST }
+    requires stop { asked.stop ≤ LATEST }
     requires some { 0 < every }
     requires most { every ≤ LATEST }
     ensures settled { IfOk result (λ left. IsSettled left.0) }
     ensures goes_on { IfOk result (λ left. GoesOn sim.entry left.0) }
-    ensures stop { IfOk result (λ left. left.0.board.stop ≡ stop) }
-    ensures dealt { IfOk result (λ left. (checkpoints : ℕ) × AreDealt dealing checkpoints left.0) }
-    ensures found { IfOk result (λ left. left.1 ≡ finding sim.entry.case every (stop / every)) }
+    ensures stop { IfOk result (λ left. left.0.board.stop ≡ asked.stop) }
+    ensures dealt { IfOk result (λ left. (checkpoints : ℕ) × AreDealt asked.dealing checkpoints left.0) }
+    ensures found { IfOk result (λ left. left.1 ≡ finding sim.entry.case every (asked.stop / every)) }
     ensures stopped { IfErr result (λ why. HasStopped sim.entry why) }
 {
     let mut watch = Watch::new(alloc, every)?;
-    let last = stop / every;
+    let last = asked.stop / every;
     let mut run = sim;
     let mut seen = 0;
     while seen < last && watch.finding().is_none() {
         let time = (seen + 1) * every;
-        run = run_in_pieces(rt, alloc, run, dealing, seen, time, stop, batch, observer)?;
+        run = run_in_pieces(rt, alloc, run, asked, seen, time, observer)?;
         let shape = shape_of(&run)?;
         seen += watch.push(time, shape, last - seen);
     }
-    let run = run_in_pieces(rt, alloc, run, dealing, seen, stop, stop, batch, observer)?;
+    let run = run_in_pieces(rt, alloc, run, asked, seen, asked.stop, observer)?;
     Ok((run, watch.finding()))
 }
 

@@ -18,12 +18,12 @@ use crate::turn::{fault_at, handle_at, move_each, opening_queue};
 use smallvec::SmallVec;
 use std::alloc::{AllocError, Global};
 use std::marker::Model;
+use tw_calendar::EventList;
 use tw_event::Event;
 use tw_handlers::CounterFull;
 use tw_instance::Case;
 use tw_model::limits::MOST_LINKS;
 use tw_model::{OrMemory, Outcome};
-use tw_queue::EventList;
 use tw_router::Router;
 use tw_shape::{Shape, ShapeBuilder};
 

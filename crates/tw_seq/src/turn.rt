@@ -8,16 +8,16 @@ ghost use Rattle.tw_model.specs.Effect.{fits};
 ghost use Rattle.tw_sim.specs.Ordered.{insert_all};
 ghost use Rattle.tw_handlers.specs.Calls.{after_event, counter_full, effect_at, is_full_at};
 ghost use Rattle.tw_handlers.specs.Record.{IsHandled};
-ghost use Rattle.tw_queue.specs.Queue.{AreFor};
+ghost use Rattle.tw_ordered.specs.Queue.{AreFor};
 ghost use Rattle.tw_seq.specs.Turn.{receiver};
 
 use smallvec::SmallVec;
 use std::alloc::{AllocError, Global};
+use tw_calendar::EventList;
 use tw_event::Event;
 use tw_handlers::{CounterFull, UndoRecord, handle_fitting, take_back};
 use tw_instance::{Case, Instance};
 use tw_model::OrMemory;
-use tw_queue::EventList;
 use tw_router::Router;
 
 /// Handles an event at its router, puts what it sends at the end of `sends`, and answers what undoing it

@@ -11,7 +11,7 @@ use Rattle.tw_shard.specs.declared.timeline.HandledEvent.{HandledEvent}
 use Rattle.tw_shard.specs.Timeline.{events_of}
 use Rattle.tw_event.specs.declared.event.Event.{Event}
 use Rattle.tw_model.specs.Effect.{suits}
-use Rattle.tw_queue.specs.Queue.{Queue}
+use Rattle.tw_ordered.specs.Queue.{Queue}
 use Rattle.tw_shard.specs.declared.shard.Shard.TheInside.{Inside}
 use Rattle.tw_shard.specs.Inside.{IsShard}
 use Rattle.tw_shard.specs.declared.tally.Tally.{Tally}

@@ -12,7 +12,7 @@ use Rattle.tw_event.specs.contracts.event.EventOrd.TheImpl as event_ord
 use Rattle.tw_model.specs.Case.{Case, IsCase, simulation}
 use Rattle.tw_model.proofs.Lawful.{lawful}
 use Rattle.tw_model.specs.State.{Router}
-use Rattle.tw_queue.proofs.Spares.{sorted_whole}
+use Rattle.tw_ordered.proofs.Spares.{sorted_whole}
 use Rattle.tw_shard.specs.Shard.{Shard, core, owns}
 use Rattle.tw_shard.specs.Shards.{HaveAll, KeepAll, ahead_in, committed_of_all, committed_in, greatest, history_in, oldest_in, shard_for}
 use Rattle.tw_shard.specs.Timeline.{last_change_at}

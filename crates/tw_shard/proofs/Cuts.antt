@@ -16,9 +16,9 @@ use Rattle.tw_model.proofs.Within.{suits_within}
 use Rattle.tw_model.specs.Case.{Case, IsCase, simulation}
 use Rattle.tw_model.specs.Effect.{suits}
 use Rattle.tw_model.specs.State.{Router}
-use Rattle.tw_queue.proofs.Events.{event_law, filter-in_order}
-use Rattle.tw_queue.proofs.Ordered.{all-filter, all-from_in_order, insert_all_in_order}
-use Rattle.tw_queue.specs.Queue.{AreFor}
+use Rattle.tw_ordered.proofs.Events.{event_law, filter-in_order}
+use Rattle.tw_ordered.proofs.Ordered.{all-filter, all-from_in_order, insert_all_in_order}
+use Rattle.tw_ordered.specs.Queue.{AreFor}
 use Rattle.tw_shard.proofs.Laid.{IsLaid, laid, latest_laid, whole_laid}
 use Rattle.tw_shard.proofs.Openings.{owned_by, same_filter}
 use Rattle.tw_shard.specs.Cut.{IsShardAt, left_for, timeline_at}

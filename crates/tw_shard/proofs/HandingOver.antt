@@ -7,10 +7,10 @@ use Rattle.std.proofs.lemmas.List.{get_or_append_left, length-append}
 use Rattle.tw_event.specs.declared.event.Event.{Event}
 use Rattle.tw_event.specs.Order.{event_before, event_same}
 use Rattle.tw_model.specs.Effect.{suits}
-use Rattle.tw_queue.specs.Held.{sent_by, sent_by_others}
-use Rattle.tw_queue.specs.Queue.{for_others, for_router}
-use Rattle.tw_queue.proofs.Events.{event_law}
-use Rattle.tw_queue.proofs.Ordered.{all-filter}
+use Rattle.tw_held.specs.Held.{sent_by, sent_by_others}
+use Rattle.tw_ordered.specs.Queue.{for_others, for_router}
+use Rattle.tw_ordered.proofs.Events.{event_law}
+use Rattle.tw_ordered.proofs.Ordered.{all-filter}
 use Rattle.tw_sim.proofs.Ordered.{rising-insert_all}
 use Rattle.tw_sim.specs.Ordered.{insert_all}
 use Rattle.tw_sim.specs.Rising.{IsRising}

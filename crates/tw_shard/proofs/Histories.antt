@@ -13,7 +13,7 @@ use Rattle.tw_model.specs.Rules.{IsNet}
 use Rattle.tw_model.specs.State.{State}
 use Rattle.tw_model.proofs.Sends.{tells_effect}
 use Rattle.tw_model.proofs.Within.{suits_within}
-use Rattle.tw_queue.specs.Held.{AreFrom}
+use Rattle.tw_held.specs.Held.{AreFrom}
 use Rattle.tw_shard.specs.declared.timeline.HandledEvent.{HandledEvent}
 use Rattle.tw_shard.specs.Timeline.{AreNoted, events_of, known}
 use Rattle.tw_sim.proofs.Members.{In}

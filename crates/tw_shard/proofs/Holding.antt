@@ -7,8 +7,8 @@ use Rattle.tw_event.specs.declared.event.Event.{Event}
 use Rattle.tw_event.specs.Order.{event_before, event_same}
 use Rattle.tw_model.specs.Case.{Case, simulation}
 use Rattle.tw_shard.specs.Timeline.{signed}
-use Rattle.tw_queue.proofs.Events.{event_law}
-use Rattle.tw_queue.proofs.Rows.{rising-take_out}
+use Rattle.tw_ordered.proofs.Events.{event_law}
+use Rattle.tw_ordered.proofs.Rows.{rising-take_out}
 use Rattle.tw_sim.specs.declared.machine.Cancel.{Cancel}
 use Rattle.tw_sim.specs.declared.machine.Cancel.TheVariants.{Aggressive, Lazy}
 use Rattle.tw_sim.specs.declared.machine.Signed.{Signed}

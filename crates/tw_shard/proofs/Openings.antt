@@ -13,7 +13,7 @@ use Rattle.tw_model.specs.Case.{Case, IsCase, opening_events, simulation}
 use Rattle.tw_model.specs.Effect.{suits}
 use Rattle.tw_model.proofs.Lawful.{lawful}
 use Rattle.tw_model.proofs.Within.{suits_within}
-use Rattle.tw_queue.proofs.Ordered.{all-filter}
+use Rattle.tw_ordered.proofs.Ordered.{all-filter}
 use Rattle.tw_shard.specs.Inside.{HasHandledTo}
 use Rattle.tw_shard.specs.Roster.{AreApart, Stands, has}
 use Rattle.tw_shard.specs.Shard.{IsOpeningBy, IsWhole, Shard, core, opening_core_by, owns, timeline}

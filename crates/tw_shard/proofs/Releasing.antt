@@ -7,7 +7,7 @@ use Rattle.tw_event.specs.declared.event.Event.{Event}
 use Rattle.tw_event.specs.Order.{event_before, event_same}
 use Rattle.tw_model.specs.Case.{Case, IsCase, simulation}
 use Rattle.tw_model.proofs.Lawful.{lawful}
-use Rattle.tw_queue.proofs.Released.{no_length, none_passes}
+use Rattle.tw_ordered.proofs.Released.{no_length, none_passes}
 use Rattle.tw_shard.specs.declared.shard.Shard.TheInside.{Inside}
 use Rattle.tw_shard.specs.Inside.{IsShard}
 use Rattle.tw_shard.specs.Shard.{Shard, core, owns, released_at, releasing}

@@ -1,8 +1,8 @@
 -- A router that goes from one shard to another (own).
 use Rattle.std.specs.Prelude.{ℕ, ◌≡◌, ◌==◌, ◌&&◌, ◌||◌, true, not, max}
 use Rattle.tw_event.specs.Order.{event_before}
-use Rattle.tw_queue.specs.Held.{sent_by, sent_by_others}
-use Rattle.tw_queue.specs.Queue.{for_others, for_router}
+use Rattle.tw_held.specs.Held.{sent_by, sent_by_others}
+use Rattle.tw_ordered.specs.Queue.{for_others, for_router}
 use Rattle.tw_shard.specs.Shard.{Shard, owns, timeline}
 use Rattle.tw_sim.specs.Ordered.{insert_all}
 

@@ -2,9 +2,10 @@
 use Rattle.std.proofs.Common.{◌≡◌, ℕ, zero, suc, ◌+◌, ◌<◌, ◌≤◌, Bool, false, List, [], ◌∷◌, ◌++◌, Option, drop, get_or, length, map, take, refl, ap, sym, ◌∙◌, subst, arith}
 use Rattle.crossbeam_queue.specs.Passes.{Pass, view}
 use Rattle.std.specs.List.{AllByRecursion}
+use Rattle.tw_core.proofs.Sums.{all_map}
 use Rattle.tw_exchange.specs.Board.{Board, workers}
 use Rattle.tw_table.proofs.Joins.{only_share}
-use Rattle.tw_table.proofs.Lists.{all_append, all_map}
+use Rattle.tw_table.proofs.Lists.{all_append}
 use Rattle.tw_table.proofs.Seats.{worker_of}
 use Rattle.tw_table.specs.declared.rule.View.{View}
 use Rattle.tw_table.specs.declared.seat.Seat.{Seat}

@@ -1,7 +1,7 @@
 -- Seats that become one.
 use Rattle.std.proofs.Common.{◌≡◌, ℕ, ◌+◌, ◌<◌, ◌≤◌, ◌||◌, Bool, false, true, List, [], ◌∷◌, ◌++◌, length, map, max, refl, ap, sym, ◌∙◌, subst, append_assoc, arith}
 use Rattle.crossbeam_queue.specs.Passes.{IsPassOf, IsSamePass, Pass, view}
-use Rattle.std.proofs.lemmas.List.{length-append}
+use Rattle.std.proofs.lemmas.List.{length-append, nil_from_length}
 use Rattle.std.specs.List.{AllByRecursion}
 use Rattle.tw_exchange.specs.Board.{Board}
 use Rattle.tw_table.proofs.Rules.{whole_of}
@@ -13,10 +13,6 @@ use Rattle.tw_table.specs.declared.table.Table.{Table}
 use Rattle.tw_table.specs.Seats.{IsSeatOf, bound_at, halted_at, share_at, stop_at}
 use Rattle.tw_table.specs.Shares.{IsRuled, IsWhole, Share, no_share}
 use Rattle.tw_table.specs.Views.{IsMet, Knows, joined}
-
-no_more : {X : Type 0} (xs : List X) → length xs ≡ 0 → xs ≡ []
-no_more [] h = refl
-no_more (x ∷ xs) h = absurd (omega arith)
 
 or_true : (b : Bool) → (b || true) ≡ true
 or_true true = refl
@@ -107,7 +103,7 @@ closed x v shares n is count long more met knows =
     let b = knows.workers (omega arith) in
     let c = met.ruled.count in
     let d = length-append v.shares met.others in
-    let none : met.others ≡ [] = no_more met.others (omega arith) in
+    let none : met.others ≡ [] = nil_from_length met.others (omega arith) in
     whole_of met.case x shares
     (subst (IsRuled met.case x) (ap (λ l. v.shares ++ l) none ∙ (nil_right v.shares ∙ is)) met.ruled)
 

@@ -39,10 +39,6 @@ module _ {X : Type 0} where
   all_right P [] ys h = h
   all_right P (x ∷ xs) ys h = all_right P xs ys h.1
 
-  pub all_map : (P Q : X → Type 0) → ((x : X) → P x → Q x) → (xs : List X) → AllByRecursion P xs → AllByRecursion Q xs
-  all_map P Q f [] h = tt
-  all_map P Q f (x ∷ xs) h = (f x h.0, all_map P Q f xs h.1)
-
 module _ {X Y : Type 0} (g : X → List Y) where
   pub total_flat : (f : Y → ℕ) (xs : List X) → total f (flat_map g xs) ≡ total (λ x. total f (g x)) xs
   total_flat f [] = refl

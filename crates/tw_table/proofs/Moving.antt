@@ -145,7 +145,7 @@ or_other true k r ne = refl
 or_other false k r ne = ne_eqb k r ne
 
 -- the worker of each router, once router r is worker w's
-later_is : (owners : Option (List ℕ)) (n r w : ℕ) → IsSomeAnd owners (λ list. r < length list) → worker_for (option_map (λ list. set list r w) owners) n r ≡ w
+pub later_is : (owners : Option (List ℕ)) (n r w : ℕ) → IsSomeAnd owners (λ list. r < length list) → worker_for (option_map (λ list. set list r w) owners) n r ≡ w
 later_is None n r w listed = absurd listed
 later_is (Some list) n r w listed = get_or-set_same list r w n listed
 

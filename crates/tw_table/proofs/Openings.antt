@@ -2,6 +2,7 @@
 use Rattle.std.proofs.Common.{◌≡◌, ℕ, zero, suc, ◌+◌, ◌<◌, ◌==◌, ◌&&◌, cond, List, [], ◌∷◌, Option, Some, filter, flat_map, length, map, replicate, refl, ap, sym, ◌∙◌, subst, inl, inr, arith}
 use Rattle.std.proofs.lemmas.Bool.{cases_Bool, lt-ltb}
 use Rattle.std.specs.List.{AllByRecursion, range_with_len}
+use Rattle.std.proofs.lemmas.List.{length-replicate}
 use Rattle.tw_core.specs.Machine.{Core}
 use Rattle.tw_event.specs.declared.event.Event.{Event}
 use Rattle.tw_event.specs.Order.{event_before}
@@ -20,13 +21,10 @@ use Rattle.tw_table.proofs.Deals.{long_map}
 use Rattle.tw_table.specs.Openings.{AreNew, IsNew}
 use Rattle.tw_table.specs.Shares.{IsRuled, Share, board_of, place_of}
 
-no_mail : (n : ℕ) → flat_map (λ (mail : List (Signed Event)). mail) (replicate n []) ≡ []
+-- nothing waits on a new exchange
+pub no_mail : (n : ℕ) → flat_map (λ (mail : List (Signed Event)). mail) (replicate n []) ≡ []
 no_mail zero = refl
 no_mail (suc n) = no_mail n
-
-long_replicate : {X : Type 0} (n : ℕ) (x : X) → length (replicate n x) ≡ n
-long_replicate zero x = refl
-long_replicate (suc n) x = let s = long_replicate n x in omega arith
 
 module _ (case : Case) (is : IsCase case) (n : ℕ) where
   -- how often an event waits at a new share
@@ -87,7 +85,7 @@ new_ruled case stop shares is some new =
     let m = simulation case in
     let many : length (map place_of shares) ≡ n = long_map place_of shares in
     let zero_time : Option ℕ = Some 0 in
-    let count : length (replicate n zero_time) ≡ n = long_replicate n zero_time in
+    let count : length (replicate n zero_time) ≡ n = length-replicate n zero_time in
     record {
       is_case = is;
       cases = new_cases case is n 0 shares new;

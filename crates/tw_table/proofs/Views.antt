@@ -5,10 +5,11 @@ use lib.ListN.{get_elem?}
 use Rattle.crossbeam_queue.proofs.Lists.{at_set}
 use Rattle.crossbeam_queue.specs.Fifo.{Forks, Learns, Merges, Pops, Pushes}
 use Rattle.std.specs.List.{AllByRecursion}
+use Rattle.tw_core.proofs.Sums.{all_map}
 use Rattle.tw_core.specs.Parts.{total}
 use Rattle.tw_exchange.specs.Board.{Board, IsBoard, workers}
 use Rattle.tw_model.specs.Case.{Case, IsCase, simulation}
-use Rattle.tw_table.proofs.Lists.{all_append, all_apart, all_at, all_flat, all_left, all_map, all_right, all_set, around, flat_append, total_append, total_flat, total_set}
+use Rattle.tw_table.proofs.Lists.{all_append, all_apart, all_at, all_flat, all_left, all_right, all_set, around, flat_append, total_append, total_flat, total_set}
 use Rattle.tw_rule.specs.Board as rule
 use Rattle.tw_table.proofs.Rules.{AreSame, IsGiven, any_order, given_one, with_visits}
 use Rattle.tw_table.specs.declared.rule.View.{View}

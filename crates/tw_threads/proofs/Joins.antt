@@ -8,7 +8,7 @@ use Rattle.tw_table.specs.Seats.{IsSeatOf, halted_at, share_at}
 use Rattle.tw_table.specs.Shares.{Share}
 use Rattle.tw_table.specs.declared.seat.Seat.{Seat}
 use Rattle.tw_table.specs.declared.table.Table.{Table}
-use Rattle.tw_threads.specs.Left.{HasLeft, IsLeft}
+use Rattle.tw_threads.specs.Left.{IsLaterSeat, IsLeft}
 use Rattle.tw_threads.specs.Started.{HaveLeft, IsSomeFull, IsSomeHalted, IsStarted, MaySit}
 use Rattle.tw_threads.specs.declared.end_cause.EndCause.{EndCause}
 use Rattle.tw_threads.specs.declared.end_cause.EndCause.TheVariants as cause
@@ -28,7 +28,7 @@ same_again a b c first then = record {
 }
 
 -- one that left a seat had left the one before
-pub left_again : (s : Share) (t : Table) (before seat after : Seat) (why : Leaving) → HasLeft t before seat → IsLeft s t seat after why → IsLeft s t before after why
+pub left_again : (s : Share) (t : Table) (before seat after : Seat) (why : Leaving) → IsLaterSeat t before seat → IsLeft s t seat after why → IsLeft s t before after why
 left_again s t before seat after why first then = record {
   left = record {
     seat = then.left.seat;
@@ -70,7 +70,7 @@ module _ {W : Type 0} (share : W → Share) (stop : W → ℕ) where
   pub record AreJoined (t : Table) (before : List Seat) (rest : List (Started W)) (workers : List W) (seats : List Seat) (why : Option EndCause) : Type 0 where
     pub waiting : List Seat
     pub each : AllZip (IsStarted share stop t) waiting rest
-    pub left : (more : List Seat) → AllZip (HasLeft t) waiting more → AllZip (HasLeft t) before (seats ++ more)
+    pub left : (more : List Seat) → AllZip (IsLaterSeat t) waiting more → AllZip (IsLaterSeat t) before (seats ++ more)
     pub shares : map share_at seats ≡ map share workers
     pub full : why ≡ Some cause.CounterFull → IsSomeFull seats
     pub thread : why ≡ Some cause.NoThread → IsSomeHalted seats
@@ -128,7 +128,7 @@ module _ {W : Type 0} (share : W → Share) (stop : W → ℕ) where
   next_joined : (t : Table) (before waiting : List Seat) (one : Started W) (rest : List (Started W)) (workers : List W) (seats : List Seat) (why : Option EndCause)
       (w : W) (seat : Seat) (reason : Leaving) (later : Option EndCause)
       → AllZip (IsStarted share stop t) waiting (one ∷ rest)
-      → ((more : List Seat) → AllZip (HasLeft t) waiting more → AllZip (HasLeft t) before (seats ++ more))
+      → ((more : List Seat) → AllZip (IsLaterSeat t) waiting more → AllZip (IsLaterSeat t) before (seats ++ more))
       → map share_at seats ≡ map share workers
       → (why ≡ Some cause.CounterFull → IsSomeFull seats)
       → (why ≡ Some cause.NoThread → IsSomeHalted seats)
@@ -144,7 +144,7 @@ module _ {W : Type 0} (share : W → Share) (stop : W → ℕ) where
       record {
         waiting = waiting;
         each = each.1;
-        left = λ more h. subst (AllZip (HasLeft t) before) (sym (append_assoc seats (seat ∷ []) more)) (left (seat ∷ more) (mine.left, h));
+        left = λ more h. subst (AllZip (IsLaterSeat t) before) (sym (append_assoc seats (seat ∷ []) more)) (left (seat ∷ more) (mine.left, h));
         shares = map-append share_at seats (seat ∷ []) ∙ ((λ i. shares i ++ mine.share i ∷ []) ∙ sym (map-append share workers (w ∷ [])));
         full = next_full t s seats (share w) seat reason why later mine told full;
         thread = next_halted t s seats (share w) seat reason why later mine refused thread;
@@ -166,8 +166,8 @@ module _ {W : Type 0} (share : W → Share) (stop : W → ℕ) where
       (next_joined t before h.waiting one rest workers seats why w seat reason later h.each h.left h.shares h.full h.thread h.lower is told refused none))
 
   all_waited : (t : Table) (before waiting seats : List Seat) → AllZip (IsStarted share stop t) waiting []
-      → ((more : List Seat) → AllZip (HasLeft t) waiting more → AllZip (HasLeft t) before (seats ++ more)) → AllZip (HasLeft t) before seats
-  all_waited t before [] seats each left = subst (AllZip (HasLeft t) before) (append-nil seats) (left [] tt)
+      → ((more : List Seat) → AllZip (IsLaterSeat t) waiting more → AllZip (IsLaterSeat t) before (seats ++ more)) → AllZip (IsLaterSeat t) before seats
+  all_waited t before [] seats each left = subst (AllZip (IsLaterSeat t) before) (append-nil seats) (left [] tt)
   all_waited t before (s ∷ waiting) seats each left = absurd each
 
   pub all_joined : (t : Table) (before : List Seat) (workers : List W) (seats : List Seat) (why : Option EndCause) → AreJoined t before [] workers seats why
@@ -175,7 +175,7 @@ module _ {W : Type 0} (share : W → Share) (stop : W → ℕ) where
   all_joined t before workers seats why h = record { left = all_waited t before h.waiting seats h.each h.left; shares = h.shares; full = h.full; thread = h.thread; lower = h.lower }
 
 module _ {W : Type 0} (share : W → Share) where
-  stay : (t : Table) (seats : List Seat) → AllByRecursion (IsSeatOf t) seats → AllZip (HasLeft t) seats seats
+  stay : (t : Table) (seats : List Seat) → AllByRecursion (IsSeatOf t) seats → AllZip (IsLaterSeat t) seats seats
   stay t [] h = tt
   stay t (s ∷ seats) h = (record { seat = h.0; stop = refl; bound = omega arith; same = record { case = refl; worker = refl; workers = refl; routers = refl; keeps = refl; cancel = refl } }, stay t seats h.1)
 
@@ -183,7 +183,7 @@ module _ {W : Type 0} (share : W → Share) where
   pub have_stayed : (t : Table) (before after : List Seat) (were are : List W) (why : Option EndCause) → after ≡ before → are ≡ were → why ≡ Some cause.Memory
       → AllByRecursion (IsSeatOf t) before → map share_at before ≡ map share were → HaveLeft share t before after are why
   have_stayed t before after were are why seats workers is mine shares = record {
-    left = subst (AllZip (HasLeft t) before) (sym seats) (stay t before mine);
+    left = subst (AllZip (IsLaterSeat t) before) (sym seats) (stay t before mine);
     shares = ap (map share_at) seats ∙ (shares ∙ ap (map share) (sym workers));
     full = λ e. absurd (other_cause (same_Some _ _ (sym is ∙ e)));
     thread = λ e. absurd (one_cause (same_Some _ _ (sym is ∙ e)));

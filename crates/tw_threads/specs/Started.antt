@@ -5,12 +5,13 @@ use Rattle.tw_table.specs.Seats.{IsSeatOf, halted_at, share_at, stop_at}
 use Rattle.tw_table.specs.Shares.{Share}
 use Rattle.tw_table.specs.declared.seat.Seat.{Seat}
 use Rattle.tw_table.specs.declared.table.Table.{Table}
-use Rattle.tw_threads.specs.Left.{HasLeft, IsFull, IsLeft}
+use Rattle.tw_threads.specs.Left.{IsLaterSeat, IsLeft}
 use Rattle.tw_threads.specs.declared.end_cause.EndCause.{EndCause}
 use Rattle.tw_threads.specs.declared.end_cause.EndCause.TheVariants as cause
 use Rattle.tw_threads.specs.declared.start.Started.{Started}
 use Rattle.tw_threads.specs.declared.start.Started.TheVariants.{Aside, Here, Running}
 use Rattle.tw_workers.specs.Seated.{IsSeated}
+use Rattle.tw_workers.specs.Work.{IsFull}
 
 -- some of these seats is of a worker that has a full counter
 pub record IsSomeFull (seats : List Seat) : Type 0 where
@@ -43,7 +44,7 @@ module _ {W : Type 0} (share : W → Share) (stop : W → ℕ) where
   abbrev pub IsStarted : Table → Seat → Started W → Type 0
   IsStarted t s (Running h) = (h.promise.table.value ≡ t) × (h.promise.seat.value ≡ s)
   IsStarted t s (Here l) = IsLeft (share l.worker) t s l.seat l.why
-  IsStarted t s (Aside worker seat) = HasLeft t s seat × IsSeated t seat (share worker) (stop worker)
+  IsStarted t s (Aside worker seat) = IsLaterSeat t s seat × IsSeated t seat (share worker) (stop worker)
 
   -- one that waits has its seat
   abbrev pub MaySit : Table → Started W → Type 0
@@ -54,7 +55,7 @@ module _ {W : Type 0} (share : W → Share) (stop : W → ℕ) where
 module _ {W : Type 0} (share : W → Share) where
   -- the workers of these seats have left those seats, and why
   pub record HaveLeft (t : Table) (before after : List Seat) (workers : List W) (why : Option EndCause) : Type 0 where
-    pub left : AllZip (HasLeft t) before after
+    pub left : AllZip (IsLaterSeat t) before after
     pub shares : map share_at after ≡ map share workers
     pub full : why ≡ Some cause.CounterFull → IsSomeFull after
     pub thread : why ≡ Some cause.NoThread → IsSomeHalted after

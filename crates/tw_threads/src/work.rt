@@ -2,9 +2,9 @@
 ghost use Rattle.std.specs.Prelude.{◌≡◌, ◌↔◌, ℕ, false, true};
 ghost use Rattle.tw_table.specs.Seats.{halted_at, share_at, stop_at};
 ghost use Rattle.tw_table.specs.Shares.{Share};
-ghost use Rattle.tw_threads.specs.Left.{HasLeft, IsFull};
+ghost use Rattle.tw_threads.specs.Left.{IsLaterSeat};
 ghost use Rattle.tw_workers.specs.Seated.{IsSeated};
-ghost use Rattle.tw_workers.specs.Work.{IsIdle};
+ghost use Rattle.tw_workers.specs.Work.{IsFull, IsIdle};
 ghost use Rattle.tw_workers.specs.declared.working.Leaving.TheVariants.{CounterFull, Halted, Settled};
 
 use std::sync::Wait;
@@ -27,7 +27,7 @@ pub trait Work {
         seat: Seat,
     ) -> (Seat, Leaving)
         requires { IsSeated table.now seat (share self.old) (stop self.old) }
-        ensures left { HasLeft table.now seat result.0 }
+        ensures left { IsLaterSeat table.now seat result.0 }
         ensures share { share_at result.0 ≡ share self.new }
         ensures halts { (result.1 ≡ Settled → ⊥) → halted_at result.0 ≡ true }
         ensures open { result.1 ≡ Settled → halted_at result.0 ≡ false }
@@ -38,7 +38,7 @@ pub trait Work {
     /// nothing changes. The seat is its own, at this table, and what it gave there last it still has.
     fn step_aside<R: Wait>(&mut self, rt: &R, table: &Table, seat: Seat) -> (Seat, bool)
         requires { IsSeated table.now seat (share self.old) (stop self.old) }
-        ensures left { HasLeft table.now seat result.0 }
+        ensures left { IsLaterSeat table.now seat result.0 }
         ensures seated { IsSeated table.now result.0 (share self.new) (stop self.new) }
         ensures aside { (result.1 ≡ true) ↔ IsIdle (share self.old) }
         ensures stays { result.1 ≡ false → (result.0 ≡ seat) × (self.new ≡ self.old) };
@@ -47,7 +47,7 @@ pub trait Work {
     /// what it gave there last it still has.
     fn leave<R: Wait>(&self, rt: &R, table: &Table, seat: Seat) -> Seat
         requires { IsSeated table.now seat (share self.now) (stop self.now) }
-        ensures left { HasLeft table.now seat result }
+        ensures left { IsLaterSeat table.now seat result }
         ensures share { share_at result ≡ share self.now }
         ensures halts { halted_at result ≡ true };
 }

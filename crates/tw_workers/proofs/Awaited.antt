@@ -1,5 +1,5 @@
 -- What is held by a worker's routers once they have taken back what they can't send again.
-use Rattle.std.proofs.Common.{◌≡◌, ◌⊎◌, ℕ, zero, suc, ◌<◌, ◌≤◌, ◌==◌, List, [], ◌∷◌, true, false, not, map, min, nat_lt, slice_get, Option, Some, None, Result, Ok, Err, refl, ap, sym, ◌∙◌, subst, inl, inr, arith, if◌then◌else◌}
+use Rattle.std.proofs.Common.{◌≡◌, ◌⊎◌, ℕ, ◌<◌, ◌≤◌, ◌==◌, List, [], ◌∷◌, true, false, not, map, min, nat_lt, slice_get, Option, Some, None, Result, Ok, Err, refl, ap, sym, ◌∙◌, subst, inl, inr, arith, if◌then◌else◌}
 use Rattle.std.proofs.lemmas.Bool.{cases_Bool, cases_eq, eq-eqb, eqb-true, false≢true, ltb-true}
 use Rattle.std.specs.List.{list_any, reduce}
 use Rattle.std.specs.Option.{IsSomeAnd}
@@ -9,7 +9,7 @@ use Rattle.tw_core.specs.Machine.{Core}
 use Rattle.tw_core.specs.Steps.{from, with_release}
 use Rattle.tw_event.specs.declared.event.Event.{Event}
 use Rattle.tw_model.specs.Case.{Case, simulation}
-use Rattle.tw_queue.specs.Queue.{is_before}
+use Rattle.tw_ordered.specs.Queue.{is_before}
 use Rattle.tw_rule.proofs.Least.{events_told}
 use Rattle.tw_shard.proofs.Shares.{listed}
 use Rattle.tw_shard.specs.Roster.{has}
@@ -18,6 +18,7 @@ use Rattle.tw_sim.proofs.Counts.{in_filter, one_self, times-filter-yes}
 use Rattle.tw_sim.specs.Simulation.{IsLawful, Simulation, times}
 use Rattle.tw_table.specs.Shares.{Share}
 use Rattle.tw_workers.specs.Work.{AreAwaited, AreAwaitedFrom, IsAtWork, IsAwaited}
+use Rattle.tw_workers.proofs.Commits.{behind}
 
 -- for the routers that are not left, what is held may be sent again
 abbrev pub AreReleased : List ℕ → ℕ → Shard → Type 0
@@ -41,13 +42,9 @@ awaited_more n stop left rest s is old now r mine =
       | inl here ↦ inl (subst (λ k. AreAwaitedFrom k stop s) (sym here) now)
       | inr other ↦ elim (old r mine) [
         | inl was ↦ inl was
-        | inr at ↦ inr (behind at.0 (ap (λ rs. slice_get rs at.0) (sym is) ∙ at.1) other)
+        | inr at ↦ inr (behind n r rest at.0 (ap (λ rs. slice_get rs at.0) (sym is) ∙ at.1) other)
       ]
     ]
-  where
-    behind : (k : ℕ) → slice_get (n ∷ rest) k ≡ Some r → (r ≡ n → ⊥) → (j : ℕ) × (slice_get rest j ≡ Some r)
-    behind zero got apart = absurd (apart (cc got))
-    behind (suc j) got apart = (j, got)
 
 -- ---- a router whose next event may send again what is held for it
 

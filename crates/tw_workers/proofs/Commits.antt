@@ -57,6 +57,11 @@ same_owns s t same r = ap (λ p. p.owns r) (place_after 0 (record { shard = s; m
 pub own_still : (s t : Shard) → IsSameShare s t → (left : List ℕ) → AllByRecursion (λ r. owns s r ≡ true) left → AllByRecursion (λ r. owns t r ≡ true) left
 own_still s t same left own = all_map (λ r. owns s r ≡ true) (λ r. owns t r ≡ true) (λ r mine. same_owns s t same r ∙ mine) left own
 
+-- what stands in a list and isn't its first stands behind that
+pub behind : (n r : ℕ) (rest : List ℕ) (k : ℕ) → slice_get (n ∷ rest) k ≡ Some r → (r ≡ n → ⊥) → (j : ℕ) × (slice_get rest j ≡ Some r)
+behind n r rest zero got apart = absurd (apart (cc got))
+behind n r rest (suc j) got apart = (j, got)
+
 -- one more has committed
 pub done_more : (n : ℕ) (left rest : List ℕ) (s t : Shard) → left ≡ n ∷ rest → AreDone left s → IsSameShare s t → core 0 t ≡ with_commit (simulation s.case) (core 0 s) n → AreDone rest t
 done_more n left rest s t is old same now r mine =
@@ -66,13 +71,9 @@ done_more n left rest s t is old same now r mine =
       | inl here ↦ inl (done ∙ (ap (λ b. cond b s.bound ((core 0 s).done r)) (eq-eqb r n here) ∙ sym bound))
       | inr other ↦ elim (old r (sym (same_owns s t same r) ∙ mine)) [
         | inl was ↦ inl (done ∙ (ap (λ b. cond b s.bound ((core 0 s).done r)) (ne_eqb r n other) ∙ (was ∙ sym bound)))
-        | inr at ↦ inr (behind at.0 (ap (λ rs. slice_get rs at.0) (sym is) ∙ at.1) other)
+        | inr at ↦ inr (behind n r rest at.0 (ap (λ rs. slice_get rs at.0) (sym is) ∙ at.1) other)
       ]
     ]
-  where
-    behind : (k : ℕ) → slice_get (n ∷ rest) k ≡ Some r → (r ≡ n → ⊥) → (j : ℕ) × (slice_get rest j ≡ Some r)
-    behind zero got apart = absurd (apart (cc got))
-    behind (suc j) got apart = (j, got)
 
 -- and nothing is sent
 pub same_outgoing : (r : ℕ) (s t : Shard) → core 0 t ≡ with_commit (simulation s.case) (core 0 s) r → t.outgoing ≡ s.outgoing

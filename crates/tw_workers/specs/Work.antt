@@ -1,10 +1,11 @@
 -- A worker at its work, and what each call at it keeps (own, after Jefferson, Virtual Time, 1985).
-use Rattle.std.specs.Prelude.{ℕ, ◌≡◌, ◌<◌, [], true, List}
+use Rattle.std.specs.Prelude.{ℕ, ◌≡◌, ◌<◌, [], Err, true, List}
 use Rattle.std.specs.List.{AllZip}
+use Rattle.tw_core.specs.declared.refusal.Refusal.TheVariants as refusal
 use Rattle.tw_event.specs.declared.event.Event.{Event}
 use Rattle.tw_model.specs.Case.{IsCase, simulation}
 use Rattle.tw_rule.specs.Place.{IsPlace, IsRunBefore, Keeps}
-use Rattle.tw_shard.specs.Shard.{IsSameShare, Shard, core, owns}
+use Rattle.tw_shard.specs.Shard.{IsSameShare, Shard, core, handling, owns}
 use Rattle.tw_sim.specs.Simulation.{times}
 use Rattle.tw_table.specs.Shares.{Share, place_of}
 
@@ -41,6 +42,10 @@ pub record IsIdle (s : Share) : Type 0 where
   pub mail : s.mail ≡ []
   pub unsent : s.unsent ≡ []
   pub outgoing : s.shard.outgoing ≡ []
+
+-- a counter of one of a shard's routers would pass its limit at its next event
+abbrev pub IsFull : ℕ → Shard → Type 0
+IsFull stop shard = (r : ℕ) × (handling stop shard r ≡ Err refusal.CounterFull)
 
 -- its routers have committed all before its stop
 abbrev pub HasCommitted : Worker → Type 0

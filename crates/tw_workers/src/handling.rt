@@ -1,12 +1,11 @@
 //! Events are handled, and what they send is sorted: what is for the worker's own routers comes to them
 //! at once.
 ghost use Rattle.std.specs.List.{list_all};
-ghost use Rattle.std.specs.Prelude.{◌≡◌, ◌++◌, ◌≤◌, ◌+◌, [], ℕ, Err, not, true, IsErrOf, OnOk, filter, length, vec_capacity, vec_len};
-ghost use Rattle.tw_core.specs.declared.refusal.Refusal.TheVariants as refusal;
+ghost use Rattle.std.specs.Prelude.{◌≡◌, ◌++◌, ◌≤◌, ◌+◌, [], not, true, IsErrOf, OnOk, filter, length, vec_capacity, vec_len};
 ghost use Rattle.tw_handlers.specs.Calls.{counter_full};
 ghost use Rattle.tw_model.specs.declared.memory.OrMemory.TheVariants as or_memory;
-ghost use Rattle.tw_shard.specs.Shard.{handling, owns};
-ghost use Rattle.tw_workers.specs.Work.{AreAwaited, StillKeeps};
+ghost use Rattle.tw_shard.specs.Shard.{owns};
+ghost use Rattle.tw_workers.specs.Work.{AreAwaited, IsFull, StillKeeps};
 
 use crate::worker::Worker;
 use std::alloc::AllocError;
@@ -30,8 +29,7 @@ impl<'a> Worker<'a> {
         ensures kept { StillKeeps self.old self.new }
         ensures empty { OnOk result (self.new.share.mail ≡ []) }
         ensures sorted { OnOk result (self.new.share.shard.outgoing ≡ []) }
-        ensures full { IsErrOf result (or_memory.Fault counter_full)
-            → (r : ℕ) × (handling self.new.stop self.new.share.shard r ≡ Err refusal.CounterFull) }
+        ensures full { IsErrOf result (or_memory.Fault counter_full) → IsFull self.new.stop self.new.share.shard }
         ensures stop { self.new.stop ≡ self.old.stop }
     {
         self.deliver()?;
@@ -51,8 +49,7 @@ impl<'a> Worker<'a> {
         ensures kept { StillKeeps self.old self.new }
         ensures empty { OnOk result (self.new.share.mail ≡ []) }
         ensures awaited { OnOk result (AreAwaited self.new.stop self.new.share.shard) }
-        ensures full { IsErrOf result (or_memory.Fault counter_full)
-            → (r : ℕ) × (handling self.new.stop self.new.share.shard r ≡ Err refusal.CounterFull) }
+        ensures full { IsErrOf result (or_memory.Fault counter_full) → IsFull self.new.stop self.new.share.shard }
         ensures stop { self.new.stop ≡ self.old.stop }
     {
         let at_window = self.handle_until(limit)?;
@@ -68,8 +65,7 @@ impl<'a> Worker<'a> {
         requires limit { limit ≤ self.old.stop }
         ensures kept { StillKeeps self.old self.new }
         ensures empty { OnOk result (self.new.share.mail ≡ []) }
-        ensures full { IsErrOf result (or_memory.Fault counter_full)
-            → (r : ℕ) × (handling self.new.stop self.new.share.shard r ≡ Err refusal.CounterFull) }
+        ensures full { IsErrOf result (or_memory.Fault counter_full) → IsFull self.new.stop self.new.share.shard }
         ensures stop { self.new.stop ≡ self.old.stop }
     {
         for _ in 0..self.pace.batch() {
@@ -161,8 +157,7 @@ impl<'a> Worker<'a> {
     fn handle_before(&mut self, limit: u64) -> Result<bool, OrMemory<CounterFull>>
         requires { limit ≤ self.old.stop }
         ensures kept { StillKeeps self.old self.new }
-        ensures full { IsErrOf result (or_memory.Fault counter_full)
-            → (r : ℕ) × (handling self.new.stop self.new.share.shard r ≡ Err refusal.CounterFull) }
+        ensures full { IsErrOf result (or_memory.Fault counter_full) → IsFull self.new.stop self.new.share.shard }
         ensures mail { self.new.share.mail ≡ self.old.share.mail }
         ensures stop { self.new.stop ≡ self.old.stop }
     {

@@ -23,7 +23,6 @@ mod worker;
 mod working;
 
 pub use gate::{Gate, OpenGate};
-pub use meeting::Meeting;
 pub use tw_handlers::CounterFull;
 pub use tw_model::OrMemory;
 pub use worker::Worker;

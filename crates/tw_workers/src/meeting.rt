@@ -1,5 +1,5 @@
 //! A worker meets the table.
-ghost use Rattle.std.specs.Prelude.{ℕ, ◌≡◌, ◌≤◌, ◌<◌, [], ◌∷◌, ◌⊎◌, Err, IsTrue, OnErr, OnOk, length, true};
+ghost use Rattle.std.specs.Prelude.{ℕ, ◌≡◌, ◌≤◌, ◌<◌, [], ◌∷◌, ◌⊎◌, Err, IsTrue, None, OnErr, OnOk, Some, length, true};
 ghost use Rattle.tw_exchange.specs.Board.{AreDealt, IsBoard, is_homeless, report_of, workers};
 ghost use Rattle.tw_exchange.specs.declared.visit.VisitFault.TheVariants.{Early, NoRouter, NoWorker};
 ghost use Rattle.tw_model.specs.Case.{simulation};
@@ -9,27 +9,15 @@ ghost use Rattle.tw_shard.specs.Shard.{IsSameShare, core};
 ghost use Rattle.tw_table.specs.Seats.{IsSameSeat, IsSeatOf, bound_at, exchange_of, halted_at, report_at, share_at, share_of, stop_at, taken_by, was_halted_at};
 ghost use Rattle.tw_table.specs.Shares.{MayBeGiven, board_of, place_of, share};
 ghost use Rattle.tw_table.specs.Views.{IsMet};
-ghost use Rattle.tw_workers.specs.declared.meeting.Meeting.TheVariants.{Halted, Open, Refused, Settled};
+ghost use Rattle.tw_workers.specs.declared.working.Leaving.TheVariants as leaving;
 ghost use Rattle.tw_workers.specs.Seated.{HasTurned};
 ghost use Rattle.tw_workers.specs.Work.{IsAtWork, Kept};
 
 use crate::worker::Worker;
+use crate::working::Leaving;
 use std::sync::Wait;
 use tw_shard::Shard;
 use tw_table::{Hand, Held, OrMemory, Parcels, Seat, Table, VisitFault};
-
-/// What a worker is told at a meeting.
-#[derive(Clone, Copy, PartialEq, Eq, Debug)]
-pub enum Meeting {
-    /// It goes on.
-    Open,
-    /// The bound is the stop.
-    Settled,
-    /// The workers shall take no further turn.
-    Halted,
-    /// Memory was refused for what it would deposit, and it has told all workers to take no further turn.
-    Refused,
-}
 
 impl<'a> Worker<'a> {
     /// The worker deals what is unsent to the workers that it is for. Then it takes the exchange from the table,
@@ -37,9 +25,10 @@ impl<'a> Worker<'a> {
     /// and gives the exchange back, with its shard and hand as they are then. The seat is its own, at this table, and what it gave there last
     /// has been kept since. It has delivered its hand.
     ///
-    /// It is answered `Refused` exactly where memory was refused for what it would deposit; then it has told all
+    /// It is answered nothing where it goes on, and `Settled` where the bound is the stop; `Halted` where the workers shall
+    /// take no further turn; and `Memory` exactly where memory was refused for what it would deposit; then it has told all
     /// workers to take no further turn. Its visit is never refused as early, nor for a router without a worker.
-    pub fn meet<R: Wait>(&mut self, rt: &R, table: &Table, seat: Seat) -> (Seat, Meeting)
+    pub fn meet<R: Wait>(&mut self, rt: &R, table: &Table, seat: Seat) -> (Seat, Option<Leaving>)
         requires seat { IsSeatOf table.now seat }
         requires kept { Kept self.old.stop (share_at seat) self.old.share }
         requires stop { stop_at seat ≡ self.old.stop }
@@ -49,22 +38,23 @@ impl<'a> Worker<'a> {
         ensures kept { Kept self.new.stop (share_at result.0) self.new.share }
         ensures done { (r : ℕ) → (core 0 self.new.share.shard).done r ≡ (core 0 self.old.share.shard).done r }
         ensures held { self.new.share.shard.held ≡ self.old.share.shard.held }
-        ensures told { (result.1 ≡ Refused → ⊥) → self.new.share.shard.bound ≡ bound_at result.0 }
-        ensures sent { (result.1 ≡ Refused → ⊥) → self.new.share.unsent ≡ [] }
+        ensures told { (result.1 ≡ Some leaving.Memory → ⊥) → self.new.share.shard.bound ≡ bound_at result.0 }
+        ensures sent { (result.1 ≡ Some leaving.Memory → ⊥) → self.new.share.unsent ≡ [] }
         // It has reported the least time of all that waits for its routers, is held for them, or is in its hand.
-        ensures report { (result.1 ≡ Refused → ⊥) → report_at result.0 ≡ report_time (simulation self.new.share.shard.case) (place_of self.new.share) }
+        ensures report { (result.1 ≡ Some leaving.Memory → ⊥) → report_at result.0 ≡ report_time (simulation self.new.share.shard.case) (place_of self.new.share) }
         ensures was_halted { was_halted_at result.0 ≡ halted_at seat }
-        ensures open { result.1 ≡ Open → bound_at result.0 < self.new.stop }
-        ensures settled { result.1 ≡ Settled → bound_at result.0 ≡ self.new.stop }
-        ensures refused { result.1 ≡ Refused → 0 < length self.old.share.unsent }
-        ensures halts { result.1 ≡ Refused → halted_at result.0 ≡ true }
-        ensures heard { result.1 ≡ Halted → halted_at result.0 ≡ true }
-        ensures obeys { halted_at result.0 ≡ true → (result.1 ≡ Halted) ⊎ (result.1 ≡ Refused) }
+        ensures open { result.1 ≡ None → bound_at result.0 < self.new.stop }
+        ensures settled { result.1 ≡ Some leaving.Settled → bound_at result.0 ≡ self.new.stop }
+        ensures full { result.1 ≡ Some leaving.CounterFull → ⊥ }
+        ensures refused { result.1 ≡ Some leaving.Memory → 0 < length self.old.share.unsent }
+        ensures halts { result.1 ≡ Some leaving.Memory → halted_at result.0 ≡ true }
+        ensures heard { result.1 ≡ Some leaving.Halted → halted_at result.0 ≡ true }
+        ensures obeys { halted_at result.0 ≡ true → (result.1 ≡ Some leaving.Halted) ⊎ (result.1 ≡ Some leaving.Memory) }
     {
         // What is dealt before takes no time at the table.
         let dealt = table.deal(&mut self.parcels, &self.hand.out);
         let mut held = table.take(rt, seat);
-        let meeting = visit(
+        let leaving = visit(
             &mut held,
             &mut self.shard,
             &mut self.hand,
@@ -73,7 +63,7 @@ impl<'a> Worker<'a> {
             self.stop,
         );
         let seat = table.give(rt, held, &self.shard, &self.hand);
-        (seat, meeting)
+        (seat, leaving)
     }
 
     /// The worker tells all workers to take no further turn, and leaves its shard and hand as they are. The
@@ -101,7 +91,7 @@ fn visit(
     parcels: &mut Parcels,
     dealt: Result<(), OrMemory<VisitFault>>,
     stop: u64,
-) -> Meeting
+) -> Option<Leaving>
     requires met { IsMet (share_of held.old ∷ []) (taken_by held.old) }
     requires fresh { exchange_of held.old ≡ taken_by held.old }
     requires board { IsBoard (taken_by held.old) }
@@ -122,17 +112,18 @@ fn visit(
     ensures done { (r : ℕ) → (core 0 shard.new).done r ≡ (core 0 shard.old).done r }
     ensures held { shard.new.held ≡ shard.old.held }
     ensures rises { (taken_by held.old).bound ≤ (exchange_of held.new).bound }
-    ensures told { (result ≡ Refused → ⊥) → shard.new.bound ≡ (exchange_of held.new).bound }
-    ensures sent { (result ≡ Refused → ⊥) → hand.new.out.items ≡ [] }
-    ensures report { (result ≡ Refused → ⊥) → report_of (share_of held.old).shard.worker (exchange_of held.new)
+    ensures told { (result ≡ Some leaving.Memory → ⊥) → shard.new.bound ≡ (exchange_of held.new).bound }
+    ensures sent { (result ≡ Some leaving.Memory → ⊥) → hand.new.out.items ≡ [] }
+    ensures report { (result ≡ Some leaving.Memory → ⊥) → report_of (share_of held.old).shard.worker (exchange_of held.new)
         ≡ report_time (simulation shard.new.case) (place_of (share shard.new hand.new)) }
-    ensures open { result ≡ Open → (exchange_of held.new).bound < stop }
-    ensures settled { result ≡ Settled → (exchange_of held.new).bound ≡ stop }
-    ensures refused { result ≡ Refused → 0 < length hand.old.out.items }
-    ensures wanted { OnErr dealt (result ≡ Refused) }
-    ensures halts { result ≡ Refused → (exchange_of held.new).halted ≡ true }
-    ensures heard { result ≡ Halted → (exchange_of held.new).halted ≡ true }
-    ensures obeys { (exchange_of held.new).halted ≡ true → (result ≡ Halted) ⊎ (result ≡ Refused) }
+    ensures open { result ≡ None → (exchange_of held.new).bound < stop }
+    ensures settled { result ≡ Some leaving.Settled → (exchange_of held.new).bound ≡ stop }
+    ensures full { result ≡ Some leaving.CounterFull → ⊥ }
+    ensures refused { result ≡ Some leaving.Memory → 0 < length hand.old.out.items }
+    ensures wanted { OnErr dealt (result ≡ Some leaving.Memory) }
+    ensures halts { result ≡ Some leaving.Memory → (exchange_of held.new).halted ≡ true }
+    ensures heard { result ≡ Some leaving.Halted → (exchange_of held.new).halted ≡ true }
+    ensures obeys { (exchange_of held.new).halted ≡ true → (result ≡ Some leaving.Halted) ⊎ (result ≡ Some leaving.Memory) }
 {
     if let Err(why) = dealt {
         return refuse(held, why);
@@ -151,9 +142,9 @@ fn visit(
 }
 
 /// All workers are told to take no further turn, since memory was refused, which alone can refuse a visit.
-fn refuse(held: &mut Held, why: OrMemory<VisitFault>) -> Meeting
+fn refuse(held: &mut Held, why: OrMemory<VisitFault>) -> Option<Leaving>
     requires memory { why ≡ or_memory.Memory }
-    ensures refused { result ≡ Refused }
+    ensures refused { result ≡ Some leaving.Memory }
     ensures same { IsSameSeat held.old held.new }
     ensures board { board_of (exchange_of held.new) ≡ board_of (exchange_of held.old) }
     ensures halts { (exchange_of held.new).halted ≡ true }
@@ -161,7 +152,7 @@ fn refuse(held: &mut Held, why: OrMemory<VisitFault>) -> Meeting
     match why {
         OrMemory::Memory => {
             halt_all(held);
-            Meeting::Refused
+            Some(Leaving::Memory)
         }
         OrMemory::Fault(_) => unreachable!(),
     }
@@ -177,19 +168,20 @@ fn halt_all(held: &mut Held)
 }
 
 /// What a worker is told that knows this bound.
-fn told(bound: u64, halted: bool, stop: u64) -> Meeting
+fn told(bound: u64, halted: bool, stop: u64) -> Option<Leaving>
     requires { bound ≤ stop }
-    ensures not_refused { result ≡ Refused → ⊥ }
-    ensures open { result ≡ Open → bound < stop }
-    ensures settled { result ≡ Settled → bound ≡ stop }
-    ensures heard { result ≡ Halted → halted ≡ true }
-    ensures obeys { halted ≡ true → result ≡ Halted }
+    ensures not_refused { result ≡ Some leaving.Memory → ⊥ }
+    ensures not_full { result ≡ Some leaving.CounterFull → ⊥ }
+    ensures open { result ≡ None → bound < stop }
+    ensures settled { result ≡ Some leaving.Settled → bound ≡ stop }
+    ensures heard { result ≡ Some leaving.Halted → halted ≡ true }
+    ensures obeys { halted ≡ true → result ≡ Some leaving.Halted }
 {
     if halted {
-        Meeting::Halted
+        Some(Leaving::Halted)
     } else if bound == stop {
-        Meeting::Settled
+        Some(Leaving::Settled)
     } else {
-        Meeting::Open
+        None
     }
 }

@@ -1,17 +1,17 @@
 //! A worker takes turn after turn, until it may leave.
-ghost use Rattle.std.specs.Prelude.{◌≡◌, ◌⊎◌, [], ℕ, Err, IfSome, IsErrOf, None, OnOk, Some, false, true};
-ghost use Rattle.tw_core.specs.declared.refusal.Refusal.TheVariants as refusal;
-ghost use Rattle.tw_shard.specs.Shard.{handling};
+ghost use Rattle.std.specs.Prelude.{◌≡◌, [], IfSome, IsErrOf, None, OnOk, Some, false, true};
+ghost use Rattle.tw_handlers.specs.Calls.{counter_full};
+ghost use Rattle.tw_model.specs.declared.memory.OrMemory.TheVariants as or_memory;
 ghost use Rattle.tw_table.specs.Seats.{bound_at, halted_at, was_halted_at};
-ghost use Rattle.tw_workers.specs.declared.meeting.Meeting.TheVariants as meetings;
 ghost use Rattle.tw_workers.specs.declared.working.Leaving.TheVariants as leaving;
 ghost use Rattle.tw_workers.specs.Seated.{HasTurned, IsSeated};
-ghost use Rattle.tw_workers.specs.Work.{HasCommitted, IsAtWork, StillKeeps};
+ghost use Rattle.tw_workers.specs.Work.{HasCommitted, IsAtWork, IsFull, StillKeeps};
 
 use crate::gate::Gate;
-use crate::meeting::Meeting;
 use crate::worker::Worker;
+use std::alloc::AllocError;
 use std::sync::Wait;
+use tw_handlers::CounterFull;
 use tw_model::OrMemory;
 use tw_table::{Seat, Table};
 
@@ -52,7 +52,7 @@ impl<'a> Worker<'a> {
         ensures open { result.1 ≡ leaving.Settled → halted_at result.0 ≡ false }
         ensures last { halted_at seat ≡ false → was_halted_at result.0 ≡ false }
         ensures obeys { halted_at seat ≡ true → (result.0 ≡ seat) × (result.1 ≡ leaving.Halted) × (self.new ≡ self.old) }
-        ensures full { result.1 ≡ leaving.CounterFull → (r : ℕ) × (handling self.new.stop self.new.share.shard r ≡ Err refusal.CounterFull) }
+        ensures full { result.1 ≡ leaving.CounterFull → IsFull self.new.stop self.new.share.shard }
     {
         if seat.is_halted() {
             return (seat, Leaving::Halted);
@@ -92,10 +92,14 @@ impl<'a> Worker<'a> {
         ensures goes_on { result.1 ≡ None → halted_at result.0 ≡ false }
         ensures last { was_halted_at result.0 ≡ false }
         ensures open { result.1 ≡ Some leaving.Settled → halted_at result.0 ≡ false }
-        ensures full { result.1 ≡ Some leaving.CounterFull → (r : ℕ) × (handling self.new.stop self.new.share.shard r ≡ Err refusal.CounterFull) }
+        ensures full { result.1 ≡ Some leaving.CounterFull → IsFull self.new.stop self.new.share.shard }
     {
-        if let Err(leaving) = self.prepare(rt, gate, seat.worker(), turn) {
-            return (self.leave(rt, table, seat), Some(leaving));
+        match self.prepare(rt, gate, seat.worker(), turn) {
+            Ok(()) => {}
+            Err(OrMemory::Memory) => return (self.leave(rt, table, seat), Some(Leaving::Memory)),
+            Err(OrMemory::Fault(_)) => {
+                return (self.leave(rt, table, seat), Some(Leaving::CounterFull));
+            }
         }
         let work = self.pace.turn();
         gate.worked(seat.worker(), work.handled, work.undone);
@@ -103,9 +107,12 @@ impl<'a> Worker<'a> {
         // is taken back in the next turn.
         let last = self.shard.bound() == self.stop && self.shard.held_len() == 0;
         gate.enter(rt, seat.worker(), turn);
-        let (seat, meeting) = self.meet(rt, table, seat);
+        let (seat, leaving) = self.meet(rt, table, seat);
         gate.turned(&seat, turn);
-        (seat, leaving_after(meeting, last))
+        match leaving {
+            Some(Leaving::Settled) if !last => (seat, None),
+            _ => (seat, leaving),
+        }
     }
 
     /// The worker does all that it does in a turn before it takes the exchange. Where it can't, it is told
@@ -116,82 +123,37 @@ impl<'a> Worker<'a> {
         gate: &G,
         worker: u32,
         turn: u64,
-    ) -> Result<(), Leaving>
+    ) -> Result<(), OrMemory<CounterFull>>
         ensures kept { StillKeeps self.old self.new }
         ensures mail { OnOk result (self.new.share.mail ≡ []) }
         ensures sorted { OnOk result (self.new.share.shard.outgoing ≡ []) }
         ensures stop { self.new.stop ≡ self.old.stop }
         ensures work { IsAtWork self.old.stop self.old.share }
         ensures committed { OnOk result (self.new.share.shard.bound ≡ self.new.stop → HasCommitted self.new) }
-        ensures settled { IsErrOf result leaving.Settled → ⊥ }
-        ensures halted { IsErrOf result leaving.Halted → ⊥ }
-        ensures full { IsErrOf result leaving.CounterFull → (r : ℕ) × (handling self.new.stop self.new.share.shard r ≡ Err refusal.CounterFull) }
+        ensures full { IsErrOf result (or_memory.Fault counter_full) → IsFull self.new.stop self.new.share.shard }
     {
         // What a worker keeps is told by a read of it.
         let _ = &self.shard;
-        if self.deliver().is_err() {
-            return Err(Leaving::Memory);
-        }
+        self.deliver()?;
         gate.handling(rt, worker, turn);
-        self.handle_more()?;
-        self.commit_where_due()
-    }
-
-    /// Its routers handle events, as many as they may. Where they can't, it is told why.
-    fn handle_more(&mut self) -> Result<(), Leaving>
-        ensures kept { StillKeeps self.old self.new }
-        ensures mail { OnOk result (self.new.share.mail ≡ []) }
-        ensures sorted { OnOk result (self.new.share.shard.outgoing ≡ []) }
-        ensures stop { self.new.stop ≡ self.old.stop }
-        ensures settled { IsErrOf result leaving.Settled → ⊥ }
-        ensures halted { IsErrOf result leaving.Halted → ⊥ }
-        ensures full { IsErrOf result leaving.CounterFull → (r : ℕ) × (handling self.new.stop self.new.share.shard r ≡ Err refusal.CounterFull) }
-    {
-        match self.handle_some() {
-            Ok(()) => Ok(()),
-            Err(OrMemory::Memory) => Err(Leaving::Memory),
-            Err(OrMemory::Fault(_)) => Err(Leaving::CounterFull),
-        }
+        self.handle_some()?;
+        self.commit_where_due()?;
+        Ok(())
     }
 
     /// It commits where it knows that the bound is the stop, and now and then before.
-    fn commit_where_due(&mut self) -> Result<(), Leaving>
+    fn commit_where_due(&mut self) -> Result<(), AllocError>
         ensures kept { StillKeeps self.old self.new }
         ensures mail { self.new.share.mail ≡ self.old.share.mail }
         ensures sorted { self.new.share.shard.outgoing ≡ self.old.share.shard.outgoing }
         ensures stop { self.new.stop ≡ self.old.stop }
         ensures committed { OnOk result (self.new.share.shard.bound ≡ self.new.stop → HasCommitted self.new) }
-        ensures settled { IsErrOf result leaving.Settled → ⊥ }
-        ensures halted { IsErrOf result leaving.Halted → ⊥ }
-        ensures full { IsErrOf result leaving.CounterFull → ⊥ }
     {
         if !self.pace.is_commit_due(self.shard.bound(), self.stop) {
             return Ok(());
         }
-        if self.commit().is_err() {
-            return Err(Leaving::Memory);
-        }
+        self.commit()?;
         self.pace.count_commit();
         Ok(())
-    }
-}
-
-/// Whether a worker leaves after a meeting, where it was told this. The last is one that it entered when
-/// it knew that the bound is the stop, with nothing held.
-fn leaving_after(meeting: Meeting, last: bool) -> Option<Leaving>
-    ensures settled { result ≡ Some leaving.Settled → (meeting ≡ meetings.Settled) × (last ≡ true) }
-    ensures halted { result ≡ Some leaving.Halted → meeting ≡ meetings.Halted }
-    ensures memory { result ≡ Some leaving.Memory → meeting ≡ meetings.Refused }
-    ensures full { result ≡ Some leaving.CounterFull → ⊥ }
-    ensures leaves { meeting ≡ meetings.Settled → last ≡ true → result ≡ Some leaving.Settled }
-    ensures stops { meeting ≡ meetings.Halted → result ≡ Some leaving.Halted }
-    ensures refused { meeting ≡ meetings.Refused → result ≡ Some leaving.Memory }
-    ensures halts { IfSome result (λ why. (why ≡ leaving.Settled → ⊥) → (meeting ≡ meetings.Halted) ⊎ (meeting ≡ meetings.Refused)) }
-{
-    match meeting {
-        Meeting::Settled if last => Some(Leaving::Settled),
-        Meeting::Settled | Meeting::Open => None,
-        Meeting::Halted => Some(Leaving::Halted),
-        Meeting::Refused => Some(Leaving::Memory),
     }
 }

@@ -13,7 +13,7 @@ use tw_commands::{
 };
 use tw_device::{Sink, Source};
 use tw_options::CommandLine;
-use tw_run::{Dealing, Gate, run_io};
+use tw_run::{Asked, Dealing, Gate, run_io};
 use tw_sim::Cancel;
 
 /// Does what a command line asks: reads its input from the source and writes the answer that is due
@@ -58,12 +58,16 @@ pub(crate) fn perform<
             rotate,
             ..
         } => {
-            let cancel = cancel_of(lazy);
-            let dealing = Dealing { blocks, rotate };
-            run_io(
-                rt, alloc, source, sink, stop, every, log, workers, batch, cancel, dealing,
-                observer,
-            )
+            let asked = Asked {
+                stop,
+                every,
+                log,
+                workers,
+                batch,
+                cancel: cancel_of(lazy),
+                dealing: Dealing { blocks, rotate },
+            };
+            run_io(rt, alloc, source, sink, asked, observer)
         }
         CommandLine::Trail { router, stop, keep } => {
             trail_io(alloc, source, sink, router, stop, keep)

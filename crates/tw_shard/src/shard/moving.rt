@@ -5,21 +5,22 @@ ghost use Rattle.tw_core.specs.declared.refusal.Refusal.{Refusal as ARefusal};
 ghost use Rattle.tw_core.specs.declared.refusal.Refusal.TheVariants.{NotMine};
 ghost use Rattle.tw_event.specs.Order.{event_before};
 ghost use Rattle.tw_model.specs.declared.memory.OrMemory.TheVariants as or_memory;
-ghost use Rattle.tw_queue.specs.Held.{sent_by, sent_by_others};
-ghost use Rattle.tw_queue.specs.Queue.{for_others, for_router};
+ghost use Rattle.tw_held.specs.Held.{sent_by, sent_by_others};
+ghost use Rattle.tw_ordered.specs.Queue.{for_others, for_router};
 ghost use Rattle.tw_shard.specs.Moving.{HasCome, HasLeft};
 ghost use Rattle.tw_shard.specs.Roster.{IsWithout, has, place_in};
 ghost use Rattle.tw_shard.specs.Shard.{no_timeline, owns};
 ghost use Rattle.tw_shard.specs.Timeline.{Timeline as ATimeline};
 ghost use Rattle.tw_sim.specs.Ordered.{insert_all};
 
-use super::Shard;
 use crate::roster::Roster;
 use crate::timeline::Timeline;
 use std::alloc::AllocError;
+use super::Shard;
 use tw_core::Refusal;
+use tw_held::HeldSends;
 use tw_model::OrMemory;
-use tw_queue::{HeldSends, Pending};
+use tw_queue::Pending;
 
 impl<'a> Shard<'a> {
     /// One of its routers goes to another shard, with all that is its own: its state, its history with the records,

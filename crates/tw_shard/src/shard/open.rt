@@ -4,22 +4,23 @@ ghost use Rattle.std.specs.Prelude.{◌≡◌, ◌==◌, ◌<◌, [], ℕ, filte
 ghost use Rattle.std.specs.List.{AllByRecursion, range_with_len};
 ghost use Rattle.tw_event.specs.Order.{event_before};
 ghost use Rattle.tw_model.specs.Case.{opening_events};
-ghost use Rattle.tw_queue.specs.Queue.{AreFor};
+ghost use Rattle.tw_ordered.specs.Queue.{AreFor};
 ghost use Rattle.tw_shard.specs.Roster.{has};
 ghost use Rattle.tw_shard.specs.Shard.{IsOpeningBy, IsOpeningShard};
 ghost use Rattle.tw_shard.specs.Timeline.{opening_timeline};
 ghost use Rattle.tw_sim.specs.declared.machine.Cancel.TheVariants.{Aggressive};
 ghost use Rattle.tw_sim.specs.Ordered.{insert, insert_all};
 
-use super::Shard;
 use crate::roster::Roster;
 use crate::tally::Tally;
 use crate::timeline::Timeline;
 use smallvec::SmallVec;
 use std::alloc::{AllocError, Global};
+use super::Shard;
 use tw_event::Event;
+use tw_held::HeldSends;
 use tw_instance::Case;
-use tw_queue::{HeldSends, Pending};
+use tw_queue::Pending;
 use tw_sim::Cancel;
 
 impl<'a> Shard<'a> {

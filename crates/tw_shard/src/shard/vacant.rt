@@ -5,14 +5,12 @@ ghost use Rattle.std.specs.List.{AllByRecursion, range_with_len};
 ghost use Rattle.tw_event.specs.Order.{event_before};
 ghost use Rattle.tw_model.specs.Case.{simulation};
 ghost use Rattle.tw_shard.specs.Cut.{IsRouterOf, IsShardAt, timeline_at};
-ghost use Rattle.tw_queue.specs.Queue.{AreFor};
+ghost use Rattle.tw_ordered.specs.Queue.{AreFor};
 ghost use Rattle.tw_shard.specs.Roster.{has};
 ghost use Rattle.tw_shard.specs.Shard.{routers};
 ghost use Rattle.tw_sim.specs.Ordered.{insert_all};
 ghost use Rattle.tw_sim.specs.Seq.{rest};
 
-use super::Shard;
-use super::open::insert_own;
 use crate::ahead::Ahead;
 use crate::roster::Roster;
 use crate::router_at::RouterAt;
@@ -21,9 +19,12 @@ use crate::timeline::Timeline;
 use smallvec::SmallVec;
 use std::alloc::{AllocError, Global};
 use std::marker::Model;
+use super::Shard;
+use super::open::insert_own;
 use tw_event::Event;
+use tw_held::HeldSends;
 use tw_instance::Case;
-use tw_queue::{HeldSends, Pending};
+use tw_queue::Pending;
 use tw_sim::Cancel;
 
 /// A worker's shard where all workers stand at one time of the run, before its routers come: there is room for

@@ -1,6 +1,6 @@
 use Rattle.std.proofs.Common.{◌≡◌, [], drop}
 use Rattle.tw_event.specs.Order.{event_before}
-use Rattle.tw_queue.specs.Queue.{AreFor}
+use Rattle.tw_ordered.specs.Queue.{AreFor}
 use Rattle.tw_sim.specs.Ordered.{insert_all}
 use Rattle.tw_parallel.proofs.into_run.event_list.Given as goal
 

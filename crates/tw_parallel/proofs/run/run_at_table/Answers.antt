@@ -2,7 +2,7 @@ use Rattle.std.proofs.Common.{◌≡◌, List, length, map, ap, refl, sym, ◌�
 use Rattle.std.proofs.lemmas.List.{length-map}
 use Rattle.std.specs.List.{AllByRecursion}
 use Rattle.tw_parallel.proofs.Crews.{all_at_work}
-use Rattle.tw_parallel.proofs.Rounds.{as_long, goes_on, long_shares, not_below, same_numbers, same_stop, still_sim}
+use Rattle.tw_parallel.proofs.Rounds.{as_long, goes_on, not_below, same_numbers, same_stop, still_sim}
 use Rattle.tw_parallel.proofs.SameOwners.{same_owners}
 use Rattle.tw_parallel.specs.Inside.{sim_of_parts}
 use Rattle.tw_parallel.specs.Sim.{GoesOn, HasSameOwners, IsSim}
@@ -11,6 +11,7 @@ use Rattle.tw_table.specs.Shares.{Share, shares_of}
 use Rattle.tw_threads.specs.Left.{IsFullAhead}
 use Rattle.tw_workers.specs.Work.{AreSameShares, IsAtWork, Worker}
 use Rattle.tw_parallel.proofs.run.run_at_table.Goals as goal
+use Rattle.tw_parallel.proofs.Shares.{long_shares}
 
 pub workers_of-workers-requires-clause-work : goal.workers_of-workers-requires-clause-work
 workers_of-workers-requires-clause-work g c =

@@ -2,8 +2,9 @@ use Rattle.std.proofs.Common.{ap, sym, ◌∙◌}
 use Rattle.tw_event.proofs.Order.{event_eq}
 use Rattle.tw_event.specs.Order.{event_before}
 use Rattle.tw_sim.specs.Ordered.{insert_all}
-use Rattle.tw_queue.specs.InOrder.{least_with}
-use Rattle.tw_queue.proofs.Spares.{least_whole, none_left, unmoved}
+use Rattle.tw_ordered.specs.InOrder.{least_with}
+use Rattle.tw_ordered.proofs.Spares.{least_whole}
+use Rattle.tw_queue.proofs.Wholes.{none_left, unmoved}
 use Rattle.tw_queue.proofs.by_router.first_without.Goals as goal
 
 pub returns-in_err-least : goal.returns-in_err-least

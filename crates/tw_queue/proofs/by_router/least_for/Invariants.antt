@@ -1,6 +1,6 @@
 use Rattle.std.proofs.Common.{◌≡◌, ◌==◌, drop, filter}
 use Rattle.std.specs.Option.{option_copied}
-use Rattle.tw_queue.specs.InOrder.{least_with}
+use Rattle.tw_ordered.specs.InOrder.{least_with}
 use Rattle.tw_queue.proofs.by_router.least_for.Given as goal
 
 abbrev pub invariant-loop-event : goal.invariant-loop-event

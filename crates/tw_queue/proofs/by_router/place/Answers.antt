@@ -2,7 +2,7 @@ use Rattle.std.proofs.Common.{◌++◌, ◌∷◌, [], length, ap, ◌∙◌, ar
 use Rattle.tw_event.specs.Order.{event_before}
 use Rattle.tw_sim.specs.Ordered.{insert_all}
 use Rattle.tw_sim.proofs.Ordered.{length-insert}
-use Rattle.tw_queue.proofs.Spares.{insert_all_in, insert_all_more}
+use Rattle.tw_ordered.proofs.Spares.{insert_all_in, insert_all_more}
 use Rattle.tw_queue.proofs.by_router.place.Goals as goal
 
 pub returns-then-insert-clause-ok : goal.returns-then-insert-clause-ok

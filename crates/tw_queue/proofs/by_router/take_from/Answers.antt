@@ -1,10 +1,10 @@
 use Rattle.std.proofs.Common.{◌<◌, length, refl, ap, sym, subst, ◌∙◌, arith}
 use Rattle.tw_event.specs.Order.{event_before, event_same}
 use Rattle.tw_sim.specs.Ordered.{take_out}
-use Rattle.tw_queue.proofs.Events.{event_law}
-use Rattle.tw_queue.proofs.Ordered.{all-take_out, length-take_out, take_out_none}
-use Rattle.tw_queue.specs.Queue.{AreFor}
-use Rattle.tw_queue.proofs.Spares.{left_spare, length_left, less_table, missing, times_whole}
+use Rattle.tw_ordered.proofs.Events.{event_law}
+use Rattle.tw_ordered.proofs.Ordered.{all-take_out, length-take_out, take_out_none}
+use Rattle.tw_ordered.specs.Queue.{AreFor}
+use Rattle.tw_ordered.proofs.Spares.{left_spare, length_left, less_table, missing, times_whole}
 use Rattle.tw_queue.proofs.by_router.take_from.Goals as goal
 
 pub returns-then-remove-clause-found : goal.returns-then-remove-clause-found

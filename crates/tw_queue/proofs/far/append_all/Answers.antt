@@ -1,8 +1,8 @@
 use Rattle.tw_event.specs.Order.{event_same}
 use Rattle.tw_sim.specs.Ordered.{times}
-use Rattle.tw_queue.specs.Buckets.{together}
+use Rattle.tw_ordered.specs.Buckets.{together}
 use Rattle.std.proofs.Common.{◌+◌, drop, ap, ◌∙◌, arith}
-use Rattle.tw_queue.proofs.Lists.{times-append, together_from}
+use Rattle.tw_ordered.proofs.Lists.{times-append, together_from}
 use Rattle.tw_queue.proofs.far.append_all.Goals as goal
 
 pub loop-bucket-preserved : goal.loop-bucket-preserved

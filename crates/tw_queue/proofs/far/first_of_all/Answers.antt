@@ -1,9 +1,9 @@
 use Rattle.std.proofs.Common.{◌+◌, drop, ap, sym, ◌∙◌}
 use Rattle.std.specs.Option.{option_copied}
-use Rattle.tw_queue.specs.Buckets.{together}
-use Rattle.tw_queue.specs.InOrder.{least_with}
+use Rattle.tw_ordered.specs.Buckets.{together}
+use Rattle.tw_ordered.specs.InOrder.{least_with}
 use Rattle.tw_queue.proofs.Fars.{least_with-append}
-use Rattle.tw_queue.proofs.Lists.{together_from}
+use Rattle.tw_ordered.proofs.Lists.{together_from}
 use Rattle.tw_queue.proofs.far.first_of_all.Goals as goal
 
 pub loop-bucket-preserved : goal.loop-bucket-preserved
@@ -13,5 +13,5 @@ loop-bucket-preserved c =
     let bucket = c.bucket-item.result in
     let rest = together (drop (i + 1) lists) in
     let old = option_copied c.loop-bucket.least in
-    ap (λ o. least_with o rest) (c.first_of-least.ensures ∙ ap (least_with old) c.events.ensures) ∙ sym (least_with-append old bucket rest)
+    ap (λ o. least_with o rest) (c.soonest_of-least.ensures ∙ ap (least_with old) c.events.ensures) ∙ sym (least_with-append old bucket rest)
     ∙ ap (least_with old) (sym (together_from i bucket lists c.loop-bucket-test.true c.bucket-item.is)) ∙ c.loop-bucket.invariant

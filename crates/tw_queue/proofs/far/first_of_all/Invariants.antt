@@ -1,7 +1,7 @@
 use Rattle.std.proofs.Common.{◌≡◌, None, drop}
 use Rattle.std.specs.Option.{option_copied}
-use Rattle.tw_queue.specs.Buckets.{together}
-use Rattle.tw_queue.specs.InOrder.{least_with}
+use Rattle.tw_ordered.specs.Buckets.{together}
+use Rattle.tw_ordered.specs.InOrder.{least_with}
 use Rattle.tw_queue.proofs.far.first_of_all.Given as goal
 
 abbrev pub invariant-loop-bucket : goal.invariant-loop-bucket

@@ -1,7 +1,7 @@
 use Rattle.std.proofs.Common.{◌≡◌, ◌≤◌, drop, length}
 use Rattle.tw_event.specs.Order.{event_before}
 use Rattle.tw_sim.specs.Ordered.{insert_all}
-use Rattle.tw_queue.specs.Queue.{AreFor}
+use Rattle.tw_ordered.specs.Queue.{AreFor}
 use Rattle.tw_seq.proofs.turn.insert_each.Given as goal
 
 abbrev pub invariant-loop-event : goal.invariant-loop-event

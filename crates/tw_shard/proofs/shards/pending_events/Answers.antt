@@ -1,6 +1,6 @@
 use Rattle.std.proofs.Common.{[], flat_map, ap, ◌∙◌, arith}
 use Rattle.tw_event.specs.Order.{event_same}
-use Rattle.tw_queue.proofs.Spares.{sorted_whole}
+use Rattle.tw_ordered.proofs.Spares.{sorted_whole}
 use Rattle.tw_shard.specs.Shard.{Shard}
 use Rattle.tw_sim.specs.Ordered.{times}
 use Rattle.tw_shard.proofs.shards.pending_events.Goals as goal

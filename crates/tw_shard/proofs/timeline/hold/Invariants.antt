@@ -1,6 +1,6 @@
 use Rattle.std.proofs.Common.{◌≡◌, ◌≤◌, drop, length}
 use Rattle.tw_event.specs.Order.{event_before}
-use Rattle.tw_queue.specs.Held.{AreFrom}
+use Rattle.tw_held.specs.Held.{AreFrom}
 use Rattle.tw_sim.specs.Ordered.{insert_all}
 use Rattle.tw_shard.proofs.timeline.hold.Given as goal
 

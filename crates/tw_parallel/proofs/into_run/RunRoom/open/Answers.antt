@@ -5,7 +5,7 @@ use Rattle.tw_parallel.proofs.Ends.{change_of_run}
 use Rattle.tw_parallel.proofs.Removing.{rest_again}
 use Rattle.tw_parallel.specs.Removal.{HaveLeft}
 use Rattle.tw_parallel.specs.Sim.{IsSim, Sim}
-use Rattle.tw_queue.specs.Queue.{AreFor}
+use Rattle.tw_ordered.specs.Queue.{AreFor}
 use Rattle.tw_shard.proofs.Cuts.{given_home}
 use Rattle.tw_sim.specs.Ordered.{insert_all}
 use Rattle.tw_sim.specs.Seq.{rest}

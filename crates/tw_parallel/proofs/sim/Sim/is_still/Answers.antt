@@ -1,6 +1,7 @@
 use Rattle.std.proofs.Common.{◌==◌, false, true≢false, flat_map, length, ap, sym, ◌∙◌, subst, arith}
 use Rattle.std.proofs.lemmas.Bool.{eq-eqb, eqb-true}
-use Rattle.tw_parallel.proofs.Ends.{TellsStill, empty_of, held, in_flight}
+use Rattle.std.proofs.lemmas.List.{nil_from_length}
+use Rattle.tw_parallel.proofs.Ends.{TellsStill, held, in_flight}
 use Rattle.tw_shard.specs.Shard.{Shard}
 use Rattle.tw_parallel.proofs.sim.Sim.is_still.Goals as goal
 
@@ -27,6 +28,6 @@ returns c =
     let no_hands = c.if-count_in_hands-gt0.false in
     let shards = c.count_outgoing.ensures ∙ ap (λ ss. length (flat_map (λ (s : Shard). s.outgoing) ss)) c.deref-2.ensures.value in
     subst (TellsStill (c.count_outgoing.result == 0)) c.self.view_is (
-      (λ h. empty_of _ (let none = eqb-true c.count_outgoing.result 0 h in omega arith)),
+      (λ h. nil_from_length _ (let none = eqb-true c.count_outgoing.result 0 h in omega arith)),
       (λ none. eq-eqb c.count_outgoing.result 0 (let long = ap length none in omega arith)),
     )

@@ -1,14 +1,15 @@
-use Rattle.std.proofs.Common.{◌≡◌, ℕ, ◌<◌, List, drop, length, ap, sym, refl, ◌∙◌, subst, arith}
-use Rattle.std.proofs.lemmas.Result.{on_err_weaker}
+use Rattle.std.proofs.Common.{◌≡◌, ◌<◌, drop, length, ap, sym, ◌∙◌, subst, arith}
+use Rattle.std.proofs.lemmas.Result.{on_err_weaker, on_ok_weaker}
 use Rattle.std.specs.Vec.{with_items}
-use Rattle.tw_exchange.specs.Board.{Board, IsListed, who, worker_for, workers}
-use Rattle.tw_parallel.proofs.Moved.{all_taken, are_ends, as_many, by_result, later_is, may_pass, on_ok, sim_kept, sim_later}
+use Rattle.tw_exchange.specs.Board.{Board, IsListed, who, workers}
+use Rattle.tw_parallel.proofs.Moved.{all_taken, are_ends, as_many, by_result, may_pass, sim_kept, sim_later}
 use Rattle.tw_parallel.specs.declared.sim.Sim.TheInside.{Inside}
-use Rattle.tw_parallel.specs.Inside.{IsInside, sim_of}
+use Rattle.tw_parallel.specs.Inside.{sim_of}
 use Rattle.tw_parallel.specs.Moving.{HasMovedBetween, IsRearranged}
 use Rattle.tw_parallel.specs.Sim.{IsSim, Sim}
 use Rattle.tw_table.specs.Shares.{shares_of}
 use Rattle.tw_parallel.proofs.sim.Sim.move_router.Goals as goal
+use Rattle.tw_table.proofs.Moving.{later_is}
 
 -- the router is one of the case, and its worker and the other one are two of the run's
 module _ (c : goal.After-deref_mut) where
@@ -81,8 +82,7 @@ invariant_of-self c = record {
 
 pub returns-in-Some-clause-moved : goal.returns-in-Some-clause-moved
 returns-in-Some-clause-moved c =
-    on_ok c.hand_over.result _ _ c.hand_over.ensures.board
-    (λ same. ap (λ (x : Board). who x c.args.router) same ∙ later_is c.self.inside.exchange.owners _ c.args.router c.args.worker (listed_then c))
+    on_ok_weaker c.hand_over.result (λ same. ap (λ (x : Board). who x c.args.router) same ∙ later_is c.self.inside.exchange.owners _ c.args.router c.args.worker (listed_then c)) c.hand_over.ensures.board
 
 pub returns-in-Some-clause-rearranged : goal.returns-in-Some-clause-rearranged
 returns-in-Some-clause-rearranged c = subst (λ (s : Sim). IsRearranged s (sim_of (after c))) c.self.view_is (moved c).1

@@ -1,5 +1,5 @@
 use Rattle.std.proofs.Common.{refl}
-use Rattle.tw_queue.specs.InOrder.{in_order}
+use Rattle.tw_ordered.specs.InOrder.{in_order}
 use Rattle.tw_queue.proofs.bucket_queue.BucketQueue.new.Goals as goal
 
 pub returns : goal.returns

@@ -3,11 +3,11 @@ use Rattle.std.proofs.lemmas.Bool.{false≢true}
 use Rattle.tw_event.specs.Order.{event_before, event_same}
 use Rattle.tw_sim.specs.Ordered.{times}
 use Rattle.tw_queue.specs.Times.{in_buckets}
-use Rattle.tw_queue.proofs.Events.{event_law}
-use Rattle.tw_queue.proofs.Lists.{times-take_out-le}
-use Rattle.tw_queue.proofs.Ordered.{take_out_none, times-take_out}
+use Rattle.tw_ordered.proofs.Events.{event_law}
+use Rattle.tw_ordered.proofs.Lists.{times-take_out-le}
+use Rattle.tw_ordered.proofs.Ordered.{take_out_none, times-take_out}
 use Rattle.tw_queue.proofs.Queues.{come_out, none_near, out_far, queue_counts}
-use Rattle.tw_queue.proofs.Times.{no_length}
+use Rattle.tw_ordered.proofs.Released.{no_length}
 use Rattle.tw_queue.proofs.bucket_queue.BucketQueue.remove.Goals as goal
 
 absent : (c : goal.After-remove_far) → times event_same c.args.event.now c.self.inside.near ≡ 0

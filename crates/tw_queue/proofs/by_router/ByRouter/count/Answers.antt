@@ -1,8 +1,8 @@
 use Rattle.std.proofs.Common.{◌+◌, count_by, ap, sym, ◌∙◌}
 use Rattle.tw_event.specs.Order.{event_same}
 use Rattle.tw_sim.specs.Ordered.{times}
-use Rattle.tw_queue.proofs.Places.{count_times, equals}
-use Rattle.tw_queue.proofs.Spares.{times_whole}
+use Rattle.tw_ordered.proofs.Places.{count_times, equals}
+use Rattle.tw_ordered.proofs.Spares.{times_whole}
 use Rattle.tw_queue.proofs.by_router.ByRouter.count.Goals as goal
 
 pub returns : goal.returns

@@ -1,11 +1,12 @@
 use Rattle.std.proofs.Common.{◌≡◌, ◌==◌, Bor, IfSome, None, Option, Some, filter, slice_get, ap, sym, subst, ◌∙◌, ℕ}
 use Rattle.tw_event.specs.declared.event.Event.{Event}
 use Rattle.std.specs.Option.{option_copied}
-use Rattle.tw_queue.specs.InOrder.{least_with}
+use Rattle.tw_ordered.specs.InOrder.{least_with}
 use Rattle.tw_queue.specs.ByRouter.{room_of}
-use Rattle.tw_queue.specs.Queue.{IsQueue}
-use Rattle.tw_queue.proofs.Events.{home_of_first}
-use Rattle.tw_queue.proofs.Spares.{least_passing, whole_queue}
+use Rattle.tw_ordered.specs.Queue.{IsQueue}
+use Rattle.tw_ordered.proofs.Events.{home_of_first}
+use Rattle.tw_ordered.proofs.Spares.{least_passing}
+use Rattle.tw_queue.proofs.Wholes.{whole_queue}
 use Rattle.tw_queue.proofs.by_router.ByRouter.first_at.Goals as goal
 
 home_copied : (r : ℕ) (o : Option (Bor Event)) → IfSome (option_copied o) (λ e. e.dst ≡ r) → IfSome o (λ e. e.now.dst ≡ r)

@@ -1,6 +1,6 @@
 use Rattle.std.proofs.Common.{ap, sym, ◌∙◌}
 use Rattle.std.specs.Option.{option_copied}
-use Rattle.tw_queue.proofs.Early.{first_early, none_for}
+use Rattle.tw_calendar.proofs.Early.{first_early, none_for}
 use Rattle.tw_queue.proofs.by_router.ByRouter.has_before.Goals as goal
 
 pub returns-in-Some : goal.returns-in-Some

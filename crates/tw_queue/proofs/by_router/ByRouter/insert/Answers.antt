@@ -1,9 +1,9 @@
 use Rattle.std.proofs.Common.{Some, slice_get, ap, sym, subst, ◌∙◌, arith}
 use Rattle.tw_event.specs.Order.{event_before}
 use Rattle.tw_sim.specs.Ordered.{insert_all}
-use Rattle.tw_queue.specs.InOrder.{earlier}
-use Rattle.tw_queue.specs.Queue.{AreFor}
-use Rattle.tw_queue.proofs.Events.{first-insert}
+use Rattle.tw_ordered.specs.InOrder.{earlier}
+use Rattle.tw_ordered.specs.Queue.{AreFor}
+use Rattle.tw_ordered.proofs.Events.{first-insert}
 use Rattle.tw_queue.proofs.by_router.ByRouter.insert.Goals as goal
 
 pub invariant_of-self-2 : goal.invariant_of-self-2

@@ -1,7 +1,7 @@
 use Rattle.std.proofs.Common.{◌<◌, IfSome, slice_get, ap, sym, subst, ◌∙◌}
 use Rattle.tw_queue.specs.ByRouter.{room_of}
-use Rattle.tw_queue.specs.Queue.{IsQueue}
-use Rattle.tw_queue.proofs.Spares.{first_home, whole_queue}
+use Rattle.tw_ordered.specs.Queue.{IsQueue}
+use Rattle.tw_queue.proofs.Wholes.{first_home, whole_queue}
 use Rattle.tw_queue.proofs.by_router.ByRouter.least.Goals as goal
 
 pub returns-clause-first : goal.returns-clause-first

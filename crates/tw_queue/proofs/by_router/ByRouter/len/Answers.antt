@@ -2,8 +2,8 @@ use Rattle.std.proofs.Common.{length, ap, sym, subst, ◌∙◌}
 use Rattle.tw_event.specs.Order.{event_before}
 use Rattle.tw_sim.proofs.Ordered.{length-insert_all}
 use Rattle.tw_queue.specs.ByRouter.{room_of}
-use Rattle.tw_queue.specs.Queue.{IsQueue}
-use Rattle.tw_queue.proofs.Spares.{whole_queue}
+use Rattle.tw_ordered.specs.Queue.{IsQueue}
+use Rattle.tw_queue.proofs.Wholes.{whole_queue}
 use Rattle.tw_queue.proofs.by_router.ByRouter.len.Goals as goal
 
 pub returns-clause-len : goal.returns-clause-len

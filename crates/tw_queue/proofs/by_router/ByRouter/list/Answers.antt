@@ -3,8 +3,9 @@ use Rattle.tw_event.specs.declared.event.Event.{Event}
 use Rattle.tw_event.specs.Order.{event_same}
 use Rattle.tw_sim.specs.Ordered.{times}
 use Rattle.tw_queue.specs.ByRouter.{room_of}
-use Rattle.tw_queue.specs.Queue.{IsQueue}
-use Rattle.tw_queue.proofs.Spares.{sorted_whole, whole_queue}
+use Rattle.tw_ordered.specs.Queue.{IsQueue}
+use Rattle.tw_ordered.proofs.Spares.{sorted_whole}
+use Rattle.tw_queue.proofs.Wholes.{whole_queue}
 use Rattle.tw_queue.proofs.by_router.ByRouter.list.Goals as goal
 
 pub returns-in_err-events-clause-queue : goal.returns-in_err-events-clause-queue

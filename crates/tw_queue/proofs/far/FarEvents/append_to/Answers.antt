@@ -1,4 +1,4 @@
-use Rattle.tw_queue.specs.Buckets.{together}
+use Rattle.tw_ordered.specs.Buckets.{together}
 use Rattle.tw_queue.proofs.Fars.{appended}
 use Rattle.tw_queue.proofs.far.FarEvents.append_to.Goals as goal
 

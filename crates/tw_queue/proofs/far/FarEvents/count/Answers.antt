@@ -3,7 +3,7 @@ use Rattle.std.proofs.lemmas.List.{get_or_read}
 use Rattle.tw_event.specs.Order.{event_same}
 use Rattle.tw_sim.specs.Ordered.{times}
 use Rattle.tw_queue.proofs.Fars.{far_found}
-use Rattle.tw_queue.proofs.Places.{count_times}
+use Rattle.tw_ordered.proofs.Places.{count_times}
 use Rattle.tw_queue.proofs.far.FarEvents.count.Goals as goal
 
 pub returns-clause-times : goal.returns-clause-times

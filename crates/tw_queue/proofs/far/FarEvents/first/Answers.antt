@@ -1,9 +1,9 @@
 use Rattle.std.proofs.Common.{slice_get, ap, ◌∙◌, subst}
 use Rattle.tw_event.specs.Order.{event_before, event_same}
 use Rattle.tw_sim.specs.Rising.{IsRising}
-use Rattle.tw_queue.specs.Buckets.{together}
-use Rattle.tw_queue.proofs.Events.{event_law, least_first}
-use Rattle.tw_queue.proofs.Ordered.{rising-in_order}
+use Rattle.tw_ordered.specs.Buckets.{together}
+use Rattle.tw_ordered.proofs.Events.{event_law, least_first}
+use Rattle.tw_ordered.proofs.Ordered.{rising-in_order}
 use Rattle.tw_queue.proofs.far.FarEvents.first.Goals as goal
 
 pub returns-clause-first : goal.returns-clause-first

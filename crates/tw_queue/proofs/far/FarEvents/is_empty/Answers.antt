@@ -1,6 +1,6 @@
 use Rattle.std.proofs.Common.{◌≡◌, ◌==◌, [], sym, ◌∙◌}
 use Rattle.std.proofs.lemmas.Bool.{OnTrue_from, eqb-true}
-use Rattle.tw_queue.specs.Times.{never}
+use Rattle.tw_ordered.specs.Times.{never}
 use Rattle.tw_queue.proofs.Fars.{far_none}
 use Rattle.tw_queue.proofs.far.FarEvents.is_empty.Goals as goal
 

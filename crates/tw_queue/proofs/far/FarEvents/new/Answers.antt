@@ -1,8 +1,8 @@
 use Rattle.std.proofs.Common.{◌≡◌, ◌<◌, ℕ, [], length, get_or, refl, rules, arith}
 use Rattle.std.proofs.lemmas.List.{get_or-replicate}
-use Rattle.tw_queue.specs.Times.{never}
+use Rattle.tw_ordered.specs.Times.{never}
 use Rattle.tw_queue.proofs.Fars.{no_far}
-use Rattle.tw_queue.proofs.Lists.{in_order_none}
+use Rattle.tw_ordered.proofs.Lists.{in_order_none}
 use Rattle.tw_queue.proofs.far.FarEvents.new.Goals as goal
 
 empty : (c : goal.After-from_fn) → (i : ℕ) → i < length c.from_fn.result → get_or c.from_fn.result i [] ≡ []

@@ -1,5 +1,5 @@
 use Rattle.std.proofs.Common.{◌<◌, sym, arith}
-use Rattle.tw_queue.specs.Table.{never}
+use Rattle.tw_ordered.specs.Times.{never}
 use Rattle.tw_queue.proofs.Leaves.{first_of_row}
 use Rattle.tw_queue.proofs.least_times.LeastTimes.first_least.Goals as goal
 

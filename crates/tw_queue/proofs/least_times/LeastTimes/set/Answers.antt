@@ -3,7 +3,7 @@ use Rattle.std.specs.Vec.{with_item, with_items}
 use Rattle.std.proofs.lemmas.Bool.{cases_eq}
 use Rattle.std.proofs.lemmas.List.{with_items_is}
 use Rattle.tw_queue.specs.Least.{AreLesser}
-use Rattle.tw_queue.specs.Times.{never}
+use Rattle.tw_ordered.specs.Times.{never}
 use Rattle.tw_queue.proofs.Leaves.{length_row, row_set, same_from}
 use Rattle.tw_queue.proofs.least_times.LeastTimes.set.Goals as goal
 

@@ -2,9 +2,10 @@ use Rattle.std.proofs.Common.{◌≡◌, ◌<◌, ◌≤◌, ◌++◌, Some, sli
 use Rattle.std.specs.Bool.{OnFalse, OnTrue}
 use Rattle.tw_event.specs.declared.event.Event.{Event}
 use Rattle.tw_queue.specs.Pending.{room_of}
-use Rattle.tw_queue.specs.Queue.{IsQueue}
+use Rattle.tw_ordered.specs.Queue.{IsQueue}
 use Rattle.tw_queue.proofs.Halves.{queue_of_both}
-use Rattle.tw_queue.proofs.Merged.{all_both, home_first, on_true}
+use Rattle.tw_calendar.proofs.Merged.{all_both, home_first}
+use Rattle.tw_ordered.proofs.Told.{on_true}
 use Rattle.tw_queue.proofs.pending.Pending.copy_least_before.Goals as goal
 
 pub returns-clause-some : goal.returns-clause-some

@@ -1,7 +1,8 @@
 use Rattle.std.proofs.Common.{ap, sym, arith}
 use Rattle.tw_event.specs.Order.{event_same}
 use Rattle.tw_sim.specs.Ordered.{times}
-use Rattle.tw_queue.proofs.Halves.{none_pending, times-length, times_both}
+use Rattle.tw_queue.proofs.Halves.{none_pending, times-length}
+use Rattle.tw_calendar.proofs.Stacked.{times_both}
 use Rattle.tw_queue.proofs.pending.Pending.count.Goals as goal
 
 pub returns-then-self-eq0 : goal.returns-then-self-eq0

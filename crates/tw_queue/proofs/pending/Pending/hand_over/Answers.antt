@@ -1,8 +1,8 @@
 use Rattle.std.proofs.Common.{◌==◌, drop, refl, ap, sym, ◌∙◌, arith}
 use Rattle.tw_event.specs.Order.{event_before}
-use Rattle.tw_queue.specs.Queue.{for_router}
+use Rattle.tw_ordered.specs.Queue.{for_router}
 use Rattle.tw_sim.specs.Ordered.{insert_all}
-use Rattle.tw_queue.proofs.Released.{length-filter-le, no_first_nothing, none_passes}
+use Rattle.tw_ordered.proofs.Released.{length-filter-le, no_first_nothing, none_passes}
 use Rattle.tw_queue.proofs.pending.Pending.hand_over.Goals as goal
 
 pub loop-event-init : goal.loop-event-init

@@ -1,6 +1,6 @@
 use Rattle.std.proofs.Common.{◌≡◌, ◌≤◌, length}
 use Rattle.tw_event.specs.Order.{event_before}
-use Rattle.tw_queue.specs.Queue.{for_others, for_router}
+use Rattle.tw_ordered.specs.Queue.{for_others, for_router}
 use Rattle.tw_sim.specs.Ordered.{insert_all}
 use Rattle.tw_queue.proofs.pending.Pending.hand_over.Given as goal
 

@@ -1,6 +1,6 @@
 use Rattle.std.proofs.Common.{ap}
-use Rattle.tw_queue.specs.Queue.{is_before}
-use Rattle.tw_queue.proofs.Early.{found_before, found_behind}
+use Rattle.tw_ordered.specs.Queue.{is_before}
+use Rattle.tw_calendar.proofs.Early.{found_before, found_behind}
 use Rattle.tw_queue.proofs.pending.Pending.has_before.Goals as goal
 
 pub returns-then-has_before : goal.returns-then-has_before

@@ -3,11 +3,11 @@ use Rattle.std.proofs.lemmas.Bool.{false≢true}
 use Rattle.tw_event.specs.Order.{event_before}
 use Rattle.tw_sim.specs.Ordered.{insert}
 use Rattle.tw_sim.proofs.Ordered.{length-insert}
-use Rattle.tw_queue.specs.InOrder.{in_order}
-use Rattle.tw_queue.specs.Queue.{AreFor}
-use Rattle.tw_queue.specs.Table.{first_time, never}
+use Rattle.tw_ordered.specs.InOrder.{in_order}
+use Rattle.tw_ordered.specs.Queue.{AreFor}
+use Rattle.tw_ordered.specs.Times.{first_time, never}
 use Rattle.tw_queue.proofs.Halves.{first_time-insert, homes_insert, right_more}
-use Rattle.tw_queue.proofs.Merged.{ring_more}
+use Rattle.tw_calendar.proofs.Merged.{ring_more}
 use Rattle.tw_queue.proofs.pending.Pending.insert.Goals as goal
 
 pub invariant_of-self : goal.invariant_of-self

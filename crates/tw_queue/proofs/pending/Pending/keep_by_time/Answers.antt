@@ -1,6 +1,6 @@
 use Rattle.std.proofs.Common.{◌++◌, ap, sym, ◌∙◌}
 use Rattle.tw_event.specs.Order.{event_before}
-use Rattle.tw_queue.specs.InOrder.{in_order}
+use Rattle.tw_ordered.specs.InOrder.{in_order}
 use Rattle.tw_queue.specs.Pending.{room_of}
 use Rattle.tw_queue.proofs.pending.Pending.keep_by_time.Goals as goal
 

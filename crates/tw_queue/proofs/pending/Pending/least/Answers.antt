@@ -1,8 +1,8 @@
 use Rattle.std.proofs.Common.{◌<◌, IfSome, slice_get, ap, sym, subst, ◌∙◌}
 use Rattle.tw_queue.specs.Pending.{room_of}
-use Rattle.tw_queue.specs.Queue.{IsQueue}
+use Rattle.tw_ordered.specs.Queue.{IsQueue}
 use Rattle.tw_queue.proofs.Halves.{queue_of_both}
-use Rattle.tw_queue.proofs.Spares.{first_home}
+use Rattle.tw_queue.proofs.Wholes.{first_home}
 use Rattle.tw_queue.proofs.pending.Pending.least.Goals as goal
 
 pub returns-clause-first : goal.returns-clause-first

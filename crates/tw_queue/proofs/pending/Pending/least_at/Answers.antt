@@ -1,7 +1,7 @@
 use Rattle.std.proofs.Common.{◌≡◌, ◌==◌, IfSome, filter, slice_get, ap, sym, subst, ◌∙◌}
 use Rattle.tw_queue.specs.Pending.{room_of}
-use Rattle.tw_queue.specs.Queue.{IsQueue}
-use Rattle.tw_queue.proofs.Events.{home_of_first}
+use Rattle.tw_ordered.specs.Queue.{IsQueue}
+use Rattle.tw_ordered.proofs.Events.{home_of_first}
 use Rattle.tw_queue.proofs.Halves.{both_passed, queue_of_both, rest_alone}
 use Rattle.tw_queue.proofs.pending.Pending.least_at.Goals as goal
 
@@ -10,7 +10,7 @@ returns-clause-first c =
     let a = c.self.inside in
     let r = c.args.router in
     c.earlier_of.ensures
-    ∙ both_passed a.calendar a.rest.events c.taken.ensures c.least_at-3.ensures.queue.rising (λ e. e.dst == r) c.least_at-2.result c.least_at-3.result c.least_at-2.ensures c.least_at-3.ensures.first
+    ∙ both_passed a.calendar a.rest.events c.are_in_order.ensures c.least_at-3.ensures.queue.rising (λ e. e.dst == r) c.least_at-2.result c.least_at-3.result c.least_at-2.ensures c.least_at-3.ensures.first
     ∙ ap (λ q. slice_get (filter (λ e. e.dst == r) q.events) 0) c.self.view_is
 
 pub returns-clause-queue : goal.returns-clause-queue

@@ -16,5 +16,5 @@ returns c =
     let m = c.min.ensures in
     let n = v.len in
     let r = v.rest_time in
-    least_told a.calendar a.rest.events c.taken.ensures c.len.ensures.queue.rising c.min.result (omega arith) (omega (arith, c.least_time.type_inv)) (omega arith) (omega (arith, c.if-self-eq0.false))
+    least_told a.calendar a.rest.events c.are_in_order.ensures c.len.ensures.queue.rising c.min.result (omega arith) (omega (arith, c.least_time.type_inv)) (omega arith) (omega (arith, c.if-self-eq0.false))
     ∙ ap (λ q. option_map (λ e. e.time) (slice_get q.events 0)) c.self.view_is

@@ -1,6 +1,6 @@
 use Rattle.std.proofs.Common.{length, ap, sym, subst, ◌∙◌}
 use Rattle.tw_queue.specs.Pending.{room_of}
-use Rattle.tw_queue.specs.Queue.{IsQueue}
+use Rattle.tw_ordered.specs.Queue.{IsQueue}
 use Rattle.tw_queue.proofs.Halves.{length-both, queue_of_both}
 use Rattle.tw_queue.proofs.pending.Pending.len.Goals as goal
 

@@ -2,7 +2,7 @@ use Rattle.std.proofs.Common.{ap, subst, ◌∙◌, arith}
 use Rattle.tw_event.specs.Order.{event_same}
 use Rattle.tw_sim.specs.Ordered.{times}
 use Rattle.tw_queue.specs.Pending.{room_of}
-use Rattle.tw_queue.specs.Queue.{IsQueue}
+use Rattle.tw_ordered.specs.Queue.{IsQueue}
 use Rattle.tw_queue.proofs.Halves.{queue_of_both, sorted_both}
 use Rattle.tw_queue.proofs.pending.Pending.list.Goals as goal
 

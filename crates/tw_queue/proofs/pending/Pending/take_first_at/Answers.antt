@@ -1,6 +1,6 @@
 use Rattle.std.proofs.Common.{◌≡◌, ◌<◌, ◌==◌, Some, slice_get, ap, sym, ◌∙◌}
-use Rattle.tw_queue.specs.Queue.{for_others, for_router}
-use Rattle.tw_queue.proofs.Released.{all_first, first_out, others_stay}
+use Rattle.tw_ordered.specs.Queue.{for_others, for_router}
+use Rattle.tw_ordered.proofs.Released.{all_first, first_out, others_stay}
 use Rattle.tw_queue.proofs.pending.Pending.take_first_at.Goals as goal
 
 first_is : (c : goal.After-remove_one) → slice_get (for_router c.args.router c.args.self.now.events) 0 ≡ Some c.in_ok-first.first

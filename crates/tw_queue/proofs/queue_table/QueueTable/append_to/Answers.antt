@@ -1,9 +1,9 @@
 use Rattle.std.proofs.Common.{ap, arith}
 use Rattle.tw_event.specs.Order.{event_before, event_same}
 use Rattle.tw_sim.specs.Ordered.{times}
-use Rattle.tw_queue.specs.Buckets.{together}
-use Rattle.tw_queue.proofs.Events.{event_law}
-use Rattle.tw_queue.proofs.Ordered.{times-in_order}
+use Rattle.tw_ordered.specs.Buckets.{together}
+use Rattle.tw_ordered.proofs.Events.{event_law}
+use Rattle.tw_ordered.proofs.Ordered.{times-in_order}
 use Rattle.tw_queue.proofs.queue_table.QueueTable.append_to.Goals as goal
 
 pub returns : goal.returns

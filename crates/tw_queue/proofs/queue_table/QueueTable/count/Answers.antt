@@ -1,7 +1,7 @@
 use Rattle.std.proofs.Common.{[], get_or, sym, ap, ◌∙◌}
 use Rattle.tw_event.specs.Order.{event_same}
 use Rattle.tw_sim.specs.Ordered.{times}
-use Rattle.tw_queue.proofs.Lists.{times-lists}
+use Rattle.tw_ordered.proofs.Lists.{times-lists}
 use Rattle.tw_queue.proofs.queue_table.QueueTable.count.Goals as goal
 
 pub returns-in-Some-clause-times : goal.returns-in-Some-clause-times

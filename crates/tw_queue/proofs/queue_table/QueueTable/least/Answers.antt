@@ -14,5 +14,5 @@ returns c =
     let a = c.self.inside in
     let v = c.self.invariant in
     let first = c.in_ok-router.ensures.some in
-    c.least.ensures.first ∙ read_first a.queues.items v.placed v.rising v.early a.least_times v.first c.in_ok-router.router first c.index.result.now c.index.ensures
+    c.copied.ensures ∙ c.first.ensures.first ∙ read_first a.queues.items v.placed v.rising v.early a.least_times v.first c.in_ok-router.router first c.index.result.now c.index.ensures
     ∙ ap (λ t. slice_get t.events 0) c.self.view_is

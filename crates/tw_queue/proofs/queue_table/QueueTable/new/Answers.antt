@@ -1,6 +1,7 @@
 use Rattle.std.proofs.Common.{sym, ap, map, ◌∙◌}
-use Rattle.tw_queue.specs.Table.{first_time}
-use Rattle.tw_queue.proofs.Tables.{empty_early, empty_events, empty_placed, empty_rising, empty_row}
+use Rattle.tw_ordered.specs.Times.{first_time}
+use Rattle.tw_ordered.proofs.Keyed.{empty_events, empty_placed, empty_rising}
+use Rattle.tw_queue.proofs.Tables.{empty_early, empty_row}
 use Rattle.tw_queue.proofs.queue_table.QueueTable.new.Goals as goal
 
 pub invariant_of-result : goal.invariant_of-result
@@ -9,7 +10,7 @@ invariant_of-result c =
     let n = c.args.routers in
     let are = c.in_ok-queues.ensures in
     record {
-      placed = empty_placed n lists are;
+      placed = empty_placed n lists are (λ e. e.dst);
       rising = empty_rising n lists are;
       early = empty_early n lists are;
       first = c.in_ok-least_times.ensures ∙ empty_row n ∙ ap (map first_time) (sym are);

@@ -2,9 +2,9 @@ use Rattle.std.proofs.Common.{◌<◌, map, position, refl, remove, ap, sym, ◌
 use Rattle.std.proofs.lemmas.Bool.{false≢true}
 use Rattle.tw_event.specs.Order.{event_before, event_same}
 use Rattle.tw_sim.specs.Ordered.{take_out, times}
-use Rattle.tw_queue.proofs.Events.{event_law}
-use Rattle.tw_queue.proofs.Ordered.{take_out_none}
-use Rattle.tw_queue.proofs.Places.{equals, map-remove, nowhere, taken_at, there}
+use Rattle.tw_ordered.proofs.Events.{event_law}
+use Rattle.tw_ordered.proofs.Ordered.{take_out_none}
+use Rattle.tw_ordered.proofs.Places.{equals, map-remove, nowhere, taken_at, there}
 use Rattle.tw_queue.proofs.timed_events.TimedEvents.remove.Goals as goal
 
 pub invariant_of-self : goal.invariant_of-self

@@ -4,7 +4,7 @@ use Rattle.tw_event.specs.Order.{event_before}
 use Rattle.tw_model.proofs.Lawful.{lawful}
 use Rattle.tw_model.specs.Case.{simulation}
 use Rattle.tw_model.specs.Effect.{suits}
-use Rattle.tw_queue.proofs.Merged.{on_false, on_true}
+use Rattle.tw_ordered.proofs.Told.{on_false, on_true}
 use Rattle.tw_shard.specs.Inside.{IsShard}
 use Rattle.tw_shard.specs.Shard.{Shard, core}
 use Rattle.tw_shard.proofs.Queues.{head_next, head_suits, least_first}

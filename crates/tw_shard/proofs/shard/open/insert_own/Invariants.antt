@@ -1,6 +1,6 @@
 use Rattle.std.proofs.Common.{◌≡◌, drop, filter}
 use Rattle.tw_event.specs.Order.{event_before}
-use Rattle.tw_queue.specs.Queue.{AreFor}
+use Rattle.tw_ordered.specs.Queue.{AreFor}
 use Rattle.tw_shard.specs.Roster.{has}
 use Rattle.tw_sim.specs.Ordered.{insert_all}
 use Rattle.tw_shard.proofs.shard.open.insert_own.Given as goal

@@ -7,7 +7,7 @@ use Rattle.tw_model.specs.Effect.{effect, fits}
 use Rattle.tw_model.specs.Rules.{IsNet}
 use Rattle.tw_event.specs.declared.event.Event.{Event}
 use Rattle.tw_model.specs.State.{Router, State}
-use Rattle.tw_queue.specs.Held.{AreFrom}
+use Rattle.tw_held.specs.Held.{AreFrom}
 use Rattle.tw_shard.specs.Timeline.{AreNoted, IsTimeline, Timeline, events_of, known, sends_after}
 use Rattle.tw_shard.specs.declared.timeline.HandledEvent.{HandledEvent}
 use Rattle.tw_shard.proofs.Histories.{few_sends, newest_first, newest_noted, sends_from}

@@ -2,7 +2,7 @@ use Rattle.std.proofs.Common.{◌∙◌, ap, arith, subst, sym}
 use Rattle.std.proofs.lemmas.Bool.{not-false}
 use Rattle.std.specs.List.{list_any}
 use Rattle.tw_model.proofs.Lawful.{lawful}
-use Rattle.tw_queue.specs.Queue.{is_before}
+use Rattle.tw_ordered.specs.Queue.{is_before}
 use Rattle.tw_workers.proofs.Awaited.{early_awaited, none_awaited}
 use Rattle.tw_workers.specs.Work.{AreAwaitedFrom, Worker}
 use Rattle.tw_workers.proofs.worker.Worker.is_release_due.Goals as goal

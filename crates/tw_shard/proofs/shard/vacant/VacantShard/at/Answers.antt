@@ -1,6 +1,6 @@
 use Rattle.std.proofs.Common.{◌≡◌, ◌<◌, ◌==◌, [], drop, filter, length, map, slice_index_or, take, ap, sym, ◌∙◌, subst, arith}
 use Rattle.std.specs.List.{range_with_len}
-use Rattle.tw_queue.specs.Queue.{AreFor}
+use Rattle.tw_ordered.specs.Queue.{AreFor}
 use Rattle.tw_shard.specs.Cut.{timeline_at}
 use Rattle.tw_shard.specs.Roster.{has}
 use Rattle.tw_shard.proofs.Cuts.{given_home, given_own}

@@ -1,0 +1,6 @@
+pub mod Heap
+pub mod Update
+pub mod Ring
+pub mod Turn
+pub mod Level
+pub mod Wheels

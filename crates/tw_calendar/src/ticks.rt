@@ -1,0 +1,98 @@
+//! The events of several ticks.
+
+ghost use Rattle.std.specs.Prelude.{◌≡◌, ◌==◌, ◌+◌, ◌++◌, ◌<◌, ◌≤◌, [], OnOk, filter};
+ghost use Rattle.std.specs.Bool.{OnTrue};
+ghost use Rattle.std.specs.List.{list_any};
+ghost use Rattle.tw_event.specs.declared.event.Event.{Event as AnEvent};
+ghost use Rattle.tw_event.specs.Order.{event_same};
+ghost use Rattle.tw_ordered.specs.Buckets.{together};
+ghost use Rattle.tw_ordered.specs.InOrder.{least_with};
+ghost use Rattle.tw_ordered.specs.Queue.{is_before};
+ghost use Rattle.tw_calendar.specs.Update.{events_at};
+ghost use Rattle.tw_sim.specs.Ordered.{times};
+
+use crate::tick::Tick;
+use crate::update::{End, Update};
+use std::alloc::AllocError;
+use tw_event::Event;
+
+/// Puts the events of ticks at the end of a list.
+pub(crate) fn append_all(ticks: &[Tick], events: &mut Vec<Event>) -> Result<(), AllocError>
+    ensures { OnOk result (events.new.items ≡ events.old.items ++ together ticks.now) }
+{
+    for tick in ticks {
+        tick.append_from(0, events)?;
+    }
+    Ok(())
+}
+
+/// Whether no event of ticks is after a time, in ticks.
+pub(crate) fn end_by(ticks: &[Tick], latest: u64) -> bool
+    ensures { OnTrue result ((e : AnEvent) → 0 < times event_same e (together ticks.now) → e.time ≤ latest) }
+{
+    for tick in ticks {
+        if tick.len() > 0 && tick.time() > latest {
+            return false;
+        }
+    }
+    true
+}
+
+/// Whether one of the events of ticks is for a router and before a limit, in ticks.
+pub(crate) fn any_in_ticks(ticks: &[Tick], router: u32, limit: u64) -> bool
+    ensures { result ≡ list_any (λ events. list_any (is_before router limit) events) ticks.now }
+{
+    ticks.iter().any(|tick| tick.has_before(0, router, limit))
+}
+
+/// The least of an event, if there is one, and of those events of ticks that are for a router.
+pub(crate) fn least_of_all(ticks: &[Tick], router: u32, first: Option<Event>) -> Option<Event>
+    ensures { result ≡ least_with first (filter (λ e. e.dst == router) (together ticks.now)) }
+{
+    let mut least = first;
+    for tick in ticks {
+        least = tick.least_at(0, router, least);
+    }
+    least
+}
+
+/// Puts the updates of ticks at the end of a list of updates of this time, and tells whether it did: not where
+/// one of theirs is of another time, nor where memory is refused.
+pub(crate) fn gather(time: u64, ticks: &[Tick], updates: &mut Vec<Update>) -> bool
+    ensures { OnTrue result (events_at time updates.new.items ≡ events_at time updates.old.items ++ together ticks.now) }
+{
+    for tick in ticks {
+        if !tick.append_updates(time, updates) {
+            return false;
+        }
+    }
+    true
+}
+
+/// Takes all events out of ticks.
+pub(crate) fn clear_all(ticks: &mut [Tick])
+    ensures { together ticks.new ≡ [] }
+{
+    for place in 0..ticks.len() {
+        ticks[place].clear();
+    }
+}
+
+/// Puts each update of a time at the end of the list of its router at one end, and tells whether each went in: not
+/// where one is for no router of these, nor where memory is refused.
+#[inline(always)]
+pub(crate) fn put_by(end: End, time: u64, updates: &[Update], routers: &mut [Tick]) -> bool
+    ensures { OnTrue result ((e : AnEvent)
+        → times event_same e (together routers.new) ≡ times event_same e (events_at time updates.now) + times event_same e (together routers.old)) }
+{
+    for update in updates {
+        let router = update.router_at(end) as usize;
+        if router >= routers.len() {
+            return false;
+        }
+        if !routers[router].push(time, update) {
+            return false;
+        }
+    }
+    true
+}

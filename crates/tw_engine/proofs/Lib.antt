@@ -1,0 +1,4 @@
+pub mod Heaps
+pub mod Machine
+pub mod Openings
+pub mod Undoing

@@ -1,0 +1,151 @@
+-- The machine's steps at the state that a logical process is.
+use Rattle.std.proofs.Common.{◌≡◌, ℕ, ◌-◌, ◌<◌, ◌≤◌, ◌==◌, ◌↔◌, ◌^◌, Bool, true, false, List, [], ◌∷◌, ◌++◌, drop, length, map, slice_get, Option, Some, None, Result, Ok, Err, refl, ap, sym, ◌∙◌, subst, inl, inr, arith}
+use Rattle.std.proofs.Math.Path.{fun_ext}
+use Rattle.std.proofs.lemmas.Bool.{cases_Bool, cond-true, eq-eqb, false_from_ne_true, le-ltb, lt-ltb}
+use Rattle.std.specs.Result.{IsErrOf}
+use Rattle.tw_core.specs.Machine.{Core, count_ahead}
+use Rattle.tw_core.specs.Steps.{after_handling, first_pending, handle, is_newest, message, put, take_out}
+use Rattle.tw_core.specs.declared.refusal.Refusal.{Refusal}
+use Rattle.tw_core.specs.declared.refusal.Refusal.TheVariants.{CounterFull, Double, Nothing}
+use Rattle.tw_engine.specs.Process.{AreOwn, Logical, core_of, joined}
+use Rattle.tw_engine.specs.Past.{Handled}
+use Rattle.tw_engine.specs.declared.stopped.Stopped.{Stopped}
+use Rattle.tw_engine.specs.declared.stopped.Stopped.TheVariants as stopped
+use Rattle.tw_process.specs.declared.refused.Refused.{Refused}
+use Rattle.tw_process.specs.declared.refused.Refused.TheVariants as refused
+use Rattle.tw_sim.specs.declared.machine.Cancel.TheVariants.{Aggressive}
+use Rattle.tw_sim.specs.declared.machine.Signed.{Signed}
+use Rattle.tw_sim.specs.Ordered.{least}
+use Rattle.tw_sim.specs.Simulation.{Simulation, IsLawful, only, state}
+use Rattle.tw_sim.proofs.Least.{least_rising}
+use Rattle.tw_sim.proofs.Rising.{IsRising}
+
+pub nil : {X : Type 0} (xs : List X) → length xs ≡ 0 → xs ≡ []
+nil [] h = refl
+nil (x ∷ xs) h = absurd (omega arith)
+
+-- where the machine refuses the step, that is what is told, and nothing else
+pub told : {D T : Type 0} (o : Result D Refusal) (x : Refusal) → o ≡ Err x → (f : Refusal) → IsErrOf {T = T} (Err (stopped.Refused x)) (stopped.Refused f) ↔ (o ≡ Err f)
+told o x h f = (λ k. cc, λ k. cc)
+
+-- where it does not, no refusal is told
+pub untold : {D T : Type 0} (o : Result D Refusal) (d : D) → o ≡ Ok d → (f : Refusal) → IsErrOf {T = T} (Err stopped.Memory) (stopped.Refused f) ↔ (o ≡ Err f)
+untold o d h f = (λ k. cc, λ k. cc)
+
+pub untold_ok : {D T : Type 0} (t : T) (o : Result D Refusal) (d : D) → o ≡ Ok d → (f : Refusal) → IsErrOf {E = Stopped} (Ok t) (stopped.Refused f) ↔ (o ≡ Err f)
+untold_ok t o d h f = (λ k. cc, λ k. cc)
+
+-- a full counter is told exactly where one is full
+pub is_full : {T : Type 0} (x : Refused) (b : Bool) → x ≡ refused.CounterFull → (IsErrOf {T = T} (Err x) refused.CounterFull ↔ (b ≡ true)) → b ≡ true
+is_full x b is h = h.0 (ap Err is)
+
+pub not_full : {T : Type 0} (x : Refused) (b : Bool) → x ≡ refused.Memory → (IsErrOf {T = T} (Err x) refused.CounterFull ↔ (b ≡ true)) → b ≡ false
+not_full x b is h = false_from_ne_true b (λ t. let k = h.1 t in cc)
+
+pub not_full_ok : {T : Type 0} (t : T) (b : Bool) → (IsErrOf {E = Refused} (Ok t) refused.CounterFull ↔ (b ≡ true)) → b ≡ false
+not_full_ok t b h = false_from_ne_true b (λ is. let k = h.1 is in cc)
+
+module _ {S E : Type 0} (m : Simulation S E) where
+  -- a machine with these lists
+  abbrev core_at : ℕ → (ℕ → List E) → List E → List (Signed E) → Core E
+  core_at stop history pending flight = record {
+    history = history;
+    pending = pending;
+    kept = [];
+    flight = flight;
+    held = [];
+    done = λ r. 0;
+    past = λ r. 0;
+    room = λ r. 2 ^ 64;
+    bound = 0;
+    stop = stop;
+    cancel = Aggressive;
+  }
+
+  same_core : (stop : ℕ) (h k : ℕ → List E) (a b : List E) (f g : List (Signed E)) → h ≡ k → a ≡ b → f ≡ g → core_at stop h a f ≡ core_at stop k b g
+  same_core stop h k a b f g x y z = ap (λ v. core_at stop v a f) x ∙ (ap (λ v. core_at stop k v f) y ∙ ap (λ v. core_at stop k b v) z)
+
+  -- one history, put in place of another
+  same_put : (r : ℕ) (h k : List E) → put (put (λ q. []) r h) r k ≡ put (λ q. []) r k
+  same_put r h k = fun_ext (λ q. elim (cases_Bool (q == r)) [ inl b ↦ rw b refl | inr b ↦ rw b refl ])
+
+  -- the machine's tests, one by one
+  handle_full : (C : Core E) (r : ℕ) (e : E) → m.time e < C.stop → is_newest m e (C.history r) ≡ false → count_ahead C r < C.room r → m.full (state m r (C.history r)) e ≡ true
+      → handle m C r (Some e) ≡ Err CounterFull
+  handle_full C r e l n few f = rw (lt-ltb (m.time e) C.stop l, n, lt-ltb (count_ahead C r) (C.room r) few, f) refl
+
+  handle_done : (C : Core E) (r : ℕ) (e : E) → m.time e < C.stop → is_newest m e (C.history r) ≡ false → count_ahead C r < C.room r → m.full (state m r (C.history r)) e ≡ false
+      → handle m C r (Some e) ≡ Ok (after_handling m C r e)
+  handle_done C r e l n few f = rw (lt-ltb (m.time e) C.stop l, n, lt-ltb (count_ahead C r) (C.room r) few, f) refl
+
+  -- what stands first is the process's own
+  pub head_own : (r : ℕ) (xs : List E) (e : E) → AreOwn m r xs → slice_get xs 0 ≡ Some e → (m.dst e ≡ r) × (m.suits e ≡ true)
+  head_own r [] e h g = cc
+  head_own r (x ∷ xs) e h g = let is : x ≡ e = cc in subst (λ y. (m.dst y ≡ r) × (m.suits y ≡ true)) is h.0
+
+  own_only : (r : ℕ) (xs : List E) → AreOwn m r xs → only m r xs ≡ xs
+  own_only r [] h = refl
+  own_only r (x ∷ xs) h = rw (eq-eqb (m.dst x) r h.0.0) (ap (λ ys. x ∷ ys) (own_only r xs h.1))
+
+  module _ (law : IsLawful m) {M : Type 0} (stop : ℕ) (p : Logical M E) (own : AreOwn m p.number p.pending) (rising : IsRising m p.pending) where
+    -- the machine's answer
+    abbrev answer : Result (Core E) Refusal
+    answer = handle m (core_of stop p) p.number (first_pending m (core_of stop p) p.number)
+
+    here : (p.number == p.number) ≡ true
+    here = eq-eqb p.number p.number refl
+
+    -- what waits first is what the machine handles
+    first : (o : Option E) → slice_get p.pending 0 ≡ o → answer ≡ handle m (core_of stop p) p.number o
+    first o h = ap (handle m (core_of stop p) p.number) (ap (least m.before) (own_only p.number p.pending own) ∙ least_rising m law p.pending rising ∙ h)
+
+    pub none : slice_get p.pending 0 ≡ None → answer ≡ Err Nothing
+    none h = first None h
+
+    pub late : (e : E) → slice_get p.pending 0 ≡ Some e → stop ≤ m.time e → answer ≡ Err Nothing
+    late e h l = first (Some e) h ∙ rw (le-ltb (m.time e) stop l) refl
+
+    pub double : (e : E) → slice_get p.pending 0 ≡ Some e → m.time e < stop → is_newest m e p.history ≡ true → answer ≡ Err Double
+    double e h l n = first (Some e) h ∙ rw (lt-ltb (m.time e) stop l, here, n) refl
+
+    module _ (e : E) (h : slice_get p.pending 0 ≡ Some e) (l : m.time e < stop) (n : is_newest m e p.history ≡ false) (few : length p.history < 2 ^ 64) where
+      -- the machine sees the process's own history
+      there : (core_of stop p).history p.number ≡ p.history
+      there = cond-true (p.number == p.number) p.history [] here
+
+      n_there : is_newest m e ((core_of stop p).history p.number) ≡ false
+      n_there = subst (λ older. is_newest m e older ≡ false) (sym there) n
+
+      fits : count_ahead (core_of stop p) p.number < (core_of stop p).room p.number
+      fits = subst (λ older. length older - 0 < 2 ^ 64) (sym there) (omega arith)
+
+      pub counter_full : m.full (state m p.number p.history) e ≡ true → answer ≡ Err CounterFull
+      counter_full f = first (Some e) h ∙ handle_full (core_of stop p) p.number e l n_there fits (subst (λ older. m.full (state m p.number older) e ≡ true) (sym there) f)
+
+      pub done : m.full (state m p.number p.history) e ≡ false → answer ≡ Ok (after_handling m (core_of stop p) p.number e)
+      done f = first (Some e) h ∙ handle_done (core_of stop p) p.number e l n_there fits (subst (λ older. m.full (state m p.number older) e ≡ false) (sym there) f)
+
+      taken : (xs : List E) → slice_get xs 0 ≡ Some e → take_out m e xs ≡ drop 1 xs
+      taken [] g = cc
+      taken (x ∷ xs) g = let is : x ≡ e = cc in rw is (rw (law.same_self e) refl)
+
+      -- what the process is then
+      pub handled : after_handling m (core_of stop p) p.number e
+          ≡ core_of stop (record p { history = e ∷ p.history; pending = drop 1 p.pending; flight = p.flight ++ map message (m.sends (state m p.number p.history) e) })
+      handled =
+          same_core stop _ _ _ _ _ _
+          (ap (λ older. put (put (λ q. []) p.number p.history) p.number (e ∷ older)) there ∙ same_put p.number p.history (e ∷ p.history))
+          (taken p.pending h)
+          (ap (λ older. p.flight ++ map message (m.sends (state m p.number older) e)) there)
+
+      -- and so it is, where its parts are these
+      pub as_told : (q : Handled M E) (rest sent before : List E) (flight reserved : List (Signed E)) → q ≡ record { model = p.model; number = p.number; history = e ∷ p.history }
+          → rest ≡ drop 1 p.pending → before ≡ [] → sent ≡ before ++ m.sends (state m p.number p.history) e → flight ≡ reserved ++ map message sent → reserved ≡ p.flight
+          → m.full (state m p.number p.history) e ≡ false → answer ≡ Ok (core_of stop (joined q rest flight))
+      as_told q rest sent before flight reserved a b nothing of out same f =
+          let to : Handled M E = record { model = p.model; number = p.number; history = e ∷ p.history } in
+          let all : sent ≡ m.sends (state m p.number p.history) e = of ∙ ap (λ xs. xs ++ m.sends (state m p.number p.history) e) nothing in
+          let flies : flight ≡ p.flight ++ map message (m.sends (state m p.number p.history) e) = out ∙ (ap (λ xs. xs ++ map message sent) same ∙ ap (λ xs. p.flight ++ map message xs) all) in
+          let joins : joined q rest flight ≡ joined to (drop 1 p.pending) (p.flight ++ map message (m.sends (state m p.number p.history) e)) =
+          ap (λ x. joined x rest flight) a ∙ (ap (λ x. joined to x flight) b ∙ ap (λ x. joined to (drop 1 p.pending) x) flies) in
+          done f ∙ ap Ok (handled ∙ sym (ap (core_of stop) joins))

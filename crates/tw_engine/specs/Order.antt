@@ -1,0 +1,27 @@
+-- Events in the order of their comparison (own).
+use Rattle.std.specs.Prelude.{Bool, List, [], map}
+use Rattle.std.specs.Ordering.{is_eq, is_lt}
+use Rattle.std.specs.declared.cmp.Ordering.{Ordering}
+use Rattle.std.specs.declared.cmp.Reverse.{Reverse}
+use Rattle.tw_sim.specs.Ordered.{insert_all}
+use Rattle.tw_sim.specs.Rising.{IsRising}
+
+module _ {E : Type 0} (cmp : E → E → Ordering) where
+  -- whether an event is handled before another, and whether two are one
+  abbrev pub is_before : E → E → Bool
+  is_before d e = is_lt (cmp d e)
+
+  abbrev pub is_same : E → E → Bool
+  is_same d e = is_eq (cmp d e)
+
+  -- the order in which a heap has the least event on top
+  abbrev pub reversed : Reverse E → Reverse E → Ordering
+  reversed x y = cmp y.0 x.0
+
+  -- the events of a heap, in rising order
+  abbrev pub in_order : List (Reverse E) → List E
+  in_order items = insert_all is_before (map (λ x. x.0) items) []
+
+  -- the first ones first
+  abbrev pub IsInOrder : List E → Type 0
+  IsInOrder events = IsRising is_before is_same events

@@ -1,0 +1,10 @@
+pub mod Ordered
+pub mod Events
+pub mod Lists
+pub mod Places
+pub mod Rows
+pub mod Spares
+pub mod Released
+pub mod Keyed
+pub mod Firsts
+pub mod Told

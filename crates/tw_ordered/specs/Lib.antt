@@ -1,0 +1,4 @@
+pub mod InOrder
+pub mod Queue
+pub mod Buckets
+pub mod Times

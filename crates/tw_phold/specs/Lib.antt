@@ -1,0 +1,2 @@
+pub mod Random
+pub mod Phold

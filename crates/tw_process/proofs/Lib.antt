@@ -1,0 +1,3 @@
+pub mod Lawful
+pub mod First
+pub mod Plain

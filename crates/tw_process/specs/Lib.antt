@@ -1,0 +1,5 @@
+pub mod Parts
+pub mod Behaviour
+pub mod First
+pub mod Order
+pub mod Exact

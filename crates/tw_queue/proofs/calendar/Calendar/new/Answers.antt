@@ -1,7 +1,0 @@
-use Rattle.tw_queue.specs.InOrder.{in_order}
-use Rattle.std.proofs.Common.{refl}
-use Rattle.tw_queue.proofs.calendar.Calendar.new.Goals as goal
-
-pub returns : goal.returns
-unfolding in_order
-returns c = rw (c.in_ok-new.ensures, c.new-2.ensures) refl

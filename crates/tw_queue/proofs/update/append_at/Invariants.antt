@@ -1,7 +1,0 @@
-use Rattle.std.proofs.Common.{◌≡◌, ◌++◌, drop}
-use Rattle.tw_queue.specs.Update.{events_at}
-use Rattle.tw_queue.proofs.update.append_at.Given as goal
-
-abbrev pub invariant-loop-update : goal.invariant-loop-update
-invariant-loop-update l =
-    l.events.items ++ events_at l.time (drop l.update-index l.updates) ≡ l.fn.events.items ++ events_at l.time l.updates
