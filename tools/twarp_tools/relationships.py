@@ -112,7 +112,6 @@ def make(neighbours: Neighbours, line: argparse.Namespace) -> tuple[Topology, Pe
     return taken, permitted, Case(len(numbers), links, paths, [*scenes])
 
 
-
 @tool
 def main() -> None:
     line = command_line()

@@ -82,7 +82,6 @@ def follow(page: str, folder: Path, programs: Programs) -> Iterator[tuple[Comman
         yield command, run(command, folder, programs)
 
 
-
 @tool
 def main() -> None:
     parser = Parser(DESCRIPTION, "example:\n  tools/pictures")

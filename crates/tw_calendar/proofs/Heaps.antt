@@ -1,5 +1,5 @@
 -- What a heap of events holds, and the events of a ring beside it.
-use Rattle.std.proofs.Common.{◌+◌, ◌≡◌, ℕ, ◌<◌, false}
+use Rattle.std.proofs.Common.{◌≡◌, ℕ, ◌<◌, false}
 use Rattle.std.proofs.Common.{Some, List, [], ◌∷◌, length, slice_get, get_or, drop, refl, ap, sym, ◌∙◌, subst, arith}
 use Rattle.std.specs.BinaryHeap.{IsUpperBound}
 use Rattle.std.specs.List.{AllByRecursion}

@@ -18,7 +18,6 @@ use Rattle.tw_ordered.proofs.Lists.{times-append, times-set}
 use Rattle.tw_calendar.proofs.Merged.{insert_taken}
 use Rattle.tw_ordered.proofs.Released.{no_length}
 use Rattle.std.proofs.Common.{length, drop, slice_get, refl, ap, sym, ◌∙◌, arith}
-use Rattle.tw_event.specs.contracts.event.EventOrd.TheImpl as event_ord
 
 -- an event goes into a level
 pub level_put : (lists : List (List Event)) (i : ℕ) (was new : List Event) (e : Event) → i < length lists → was ≡ get_or lists i was → new ≡ insert event_before e (get_or lists i was) → (d : Event)

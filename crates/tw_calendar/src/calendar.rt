@@ -199,6 +199,7 @@ impl Calendar {
     }
 
     /// Takes one event that equals `event` out, and tells whether there was one.
+    #[inline(always)]
     pub fn remove(&mut self, event: &Event) -> bool
         ensures found { IsTrue result ↔ (0 < times event_same event.now self.old) }
         ensures events { self.new ≡ take_out event_same event.now self.old }
@@ -222,6 +223,7 @@ impl Calendar {
     }
 
     /// Whether one of its events is for a router and before a limit, in ticks.
+    #[inline(always)]
     pub fn has_before(&self, router: u32, limit: u64) -> bool
         ensures { result ≡ list_any (is_before router limit) self.now }
     {

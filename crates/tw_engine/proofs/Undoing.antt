@@ -1,6 +1,6 @@
 -- Undoing events one by one.
 use Rattle.std.proofs.Common.{◌≡◌, ℕ, ◌<◌, ◌==◌, Bool, true, false, List, [], ◌∷◌, length, nat_lt, Ok, refl, ap, sym, ◌∙◌, subst, arith}
-use Rattle.std.proofs.lemmas.Bool.{cond-false, cond-true, eq-eqb, le-ltb}
+use Rattle.std.proofs.lemmas.Bool.{cond-true, eq-eqb, le-ltb}
 use Rattle.tw_core.specs.Machine.{Core}
 use Rattle.tw_core.specs.Steps.{after_undoing, after_undoing_while, undo}
 use Rattle.tw_engine.specs.Process.{IsOneUndone, Logical, core_of, has_newest, is_from}
@@ -36,11 +36,6 @@ module _ {S E : Type 0} (m : Simulation S E) where
         ap (after_undoing_while m test r left) u.undone
         ∙ sym (ap (λ x. after_undoing_while m test r x C) u.was ∙ cond-true (test u.newest) (after_undoing_while m test r left (after_undoing m C r u.newest left)) C passes)
 
-    -- where the newest fails the test, nothing more is undone
-    pub undone_end : (C : Core E) (h : List E) → has_newest test h ≡ false → after_undoing_while m test r h C ≡ C
-    undone_end C [] t = refl
-    undone_end C (e ∷ older) t = cond-false (test e) (after_undoing_while m test r older (after_undoing m C r e older)) C t
-
   -- a history with an event is shorter without it
   pub shorter : (C D : Core E) (r : ℕ) (h left : List E) → IsOneUndone m r h left C D → length left < length h
   shorter C D r h left u = let k = ap length u.was in omega arith
@@ -54,13 +49,3 @@ module _ {S E M : Type 0} (sim : M → Simulation S E) (time stop : ℕ) (o p q 
       (subst (λ r. IsOneUndone (sim o.model) r p.history q.history (core_of stop p) (core_of stop q)) number
       (subst (λ x. IsOneUndone (sim x) p.number p.history q.history (core_of stop p) (core_of stop q)) model u))
       (subst (λ x. has_newest (is_from (sim x) time) p.history ≡ true) model t)
-
-  -- nothing more is
-  pub loop_end : has_newest (is_from (sim p.model) time) p.history ≡ false → after_undoing_while (sim o.model) (is_from (sim o.model) time) o.number p.history (core_of stop p) ≡ core_of stop p
-  loop_end t = undone_end (sim o.model) (is_from (sim o.model) time) o.number (core_of stop p) p.history (subst (λ x. has_newest (is_from (sim x) time) p.history ≡ false) model t)
-
-  pub has_some : has_newest (is_from (sim p.model) time) p.history ≡ true → 0 < length p.history
-  has_some t = at p.history t where
-    at : (h : List E) → has_newest (is_from (sim p.model) time) h ≡ true → 0 < length h
-    at [] k = cc
-    at (e ∷ older) k = omega arith

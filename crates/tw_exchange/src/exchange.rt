@@ -1,6 +1,6 @@
 //! The exchange: mail, reports and the bound.
 
-ghost use Rattle.std.specs.Prelude.{◌≡◌, ◌↔◌, ◌<◌, ◌≤◌, IfErr, IfOk, IsTrue, OnErr, OnOk, [], false, true, length, Err};
+ghost use Rattle.std.specs.Prelude.{◌≡◌, ◌↔◌, ◌<◌, ◌≤◌, IfErr, IfOk, IsTrue, OnErr, OnOk, false, true, length, Err};
 ghost use Rattle.std.specs.Result.{IsErrAnd};
 ghost use Rattle.tw_exchange.specs.Board.{IsBoard, handed, is_early, is_homeless, mail_of, opening, opening_owned, report_of, visited, workers};
 ghost use Rattle.tw_exchange.specs.Owners.{list_of};
@@ -15,7 +15,7 @@ use crate::owners::Owners;
 use crate::parcels::Parcels;
 use crate::rows::{no_mail, row};
 use crate::times::is_early;
-use crate::visit::{Back, Told, Visit, VisitFault};
+use crate::visit::{Back, Visit, VisitFault};
 use std::alloc::{AllocError, Global};
 use std::marker::Model;
 use tw_event::Event;
@@ -182,14 +182,18 @@ impl Exchange {
         ensures rising { self.old.bound ≤ self.new.bound }
         ensures whole { IsBoard self.new }
     {
-        if let Err(fault) = self.may_visit(worker, &out, report) {
+        if let Err(fault) = self.may_visit(worker, is_early(&out, report, self.bound())) {
             return Err(Back {
                 out,
                 why: OrMemory::Fault(fault),
             });
         }
+        let mut parcels = Parcels::new(self.alloc);
+        if let Err(why) = parcels.deal(&self.owners, self.workers, &out) {
+            return Err(Back { out, why });
+        }
         let mut mail = Vec::new(self.alloc);
-        match self.deal_and_visit(worker, &out, report, &mut mail) {
+        match self.visit_dealt(worker, &mut parcels, report, &mut mail) {
             Ok(told) => Ok(Visit {
                 mail,
                 bound: told.bound,
@@ -199,54 +203,19 @@ impl Exchange {
         }
     }
 
-    /// Whether there is such a worker, and it may deposit these messages and report this at the bound.
-    fn may_visit(
-        &self,
-        worker: u32,
-        out: &[Signed<Event>],
-        report: Option<u64>,
-    ) -> Result<(), VisitFault>
+    /// Whether there is such a worker, and nothing that it may deposit or report is early.
+    fn may_visit(&self, worker: u32, is_early: bool) -> Result<(), VisitFault>
         ensures no_worker { result ≡ Err NoWorker ↔ (workers self.now ≤ worker) }
-        ensures early { result ≡ Err Early ↔ ((worker < workers self.now) × IsTrue (is_early out.now report self.now)) }
+        ensures early { result ≡ Err Early ↔ ((worker < workers self.now) × IsTrue is_early) }
         ensures no_router { result ≡ Err NoRouter → ⊥ }
         ensures board { IsBoard self.now }
     {
         if worker >= self.workers {
             Err(VisitFault::NoWorker)
-        } else if is_early(out, report, self.bound) {
+        } else if is_early {
             Err(VisitFault::Early)
         } else {
             Ok(())
-        }
-    }
-
-    /// Deals messages to their workers, and visits with what is dealt.
-    fn deal_and_visit(
-        &mut self,
-        worker: u32,
-        out: &[Signed<Event>],
-        report: Option<u64>,
-        mail: &mut Vec<Signed<Event>>,
-    ) -> Result<Told, OrMemory<VisitFault>>
-        requires within { worker < workers self.old }
-        requires late { is_early out.now report self.old ≡ false }
-        requires empty { mail.old.items ≡ [] }
-        ensures board { OnOk result (self.new ≡ visited worker out.now report self.old) }
-        ensures mail { OnOk result (mail.new.items ≡ handed worker out.now self.old) }
-        ensures bound { IfOk result (λ told. told.bound ≡ self.new.bound) }
-        ensures halted { IfOk result (λ told. told.halted ≡ self.old.halted) }
-        ensures no_worker { result ≡ Err (or_memory.Fault NoWorker) → ⊥ }
-        ensures early { result ≡ Err (or_memory.Fault Early) → ⊥ }
-        ensures no_router { result ≡ Err (or_memory.Fault NoRouter) ↔ IsTrue (is_homeless out.now self.old) }
-        ensures wanted { OnErr result (0 < length out.now) }
-        ensures err { OnErr result (self.new ≡ self.old) }
-        ensures rising { self.old.bound ≤ self.new.bound }
-        ensures whole { IsBoard self.new }
-    {
-        let mut parcels = Parcels::new(self.alloc);
-        match parcels.deal(&self.owners, self.workers, out) {
-            Ok(()) => self.visit_dealt(worker, &mut parcels, report, mail),
-            Err(why) => Err(why),
         }
     }
 

@@ -12,14 +12,13 @@ use Rattle.tw_event.specs.declared.event.Event.{Event}
 use Rattle.tw_event.specs.Order.{event_before, event_same}
 use Rattle.tw_event.specs.contracts.event.EventOrd.TheImpl as event_ord
 use Rattle.tw_event.proofs.Order.{before_not_self, before_trans, before_total, same_is, same_self, event_order}
-use Rattle.tw_sim.specs.Ordered.{insert, insert_all, take_out, times, one}
+use Rattle.tw_sim.specs.Ordered.{insert, insert_all, take_out, times}
 use Rattle.tw_ordered.specs.InOrder.{earlier, in_order, least_with}
 use Rattle.tw_sim.specs.Rising.{IsRising}
 use Rattle.tw_sim.proofs.Ordered.{IsOrder, all_counted, in_cons, not_before, one_self, one_cases}
 use Rattle.tw_ordered.proofs.Ordered.{insert_least, insert-take_out, times-take_out, ahead, all-filter, behind, times-in_order, insert_all_in_order, rising-in_order, in_order-permutation, in_order_sorted}
 use Rattle.std.proofs.Common.{Some, List, [], ◌∷◌}
 use Rattle.std.proofs.Common.{get_or, slice_get, refl, ap, sym, ◌∙◌, subst, inl, inr, arith}
-use Rattle.tw_sim.proofs.Counts.{none}
 
 pub event_law : IsOrder event_before event_same
 event_law = record {

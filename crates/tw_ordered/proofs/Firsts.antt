@@ -3,13 +3,13 @@ use Rattle.std.proofs.Common.{◌≡◌, ◌<◌, ◌++◌, ℕ, true, false, Op
 use Rattle.std.proofs.lemmas.Bool.{cases_Bool}
 use Rattle.tw_event.specs.declared.event.Event.{Event}
 use Rattle.tw_event.specs.Order.{event_before, event_same}
-use Rattle.tw_sim.specs.Ordered.{times, one}
+use Rattle.tw_sim.specs.Ordered.{times}
 use Rattle.tw_sim.proofs.Ordered.{not_back, not_before}
 use Rattle.tw_ordered.specs.InOrder.{in_order, earlier_of}
 use Rattle.tw_ordered.proofs.Ordered.{cases_zero, in_order-times}
 use Rattle.tw_ordered.proofs.Events.{IsLeast, event_law, first_of_least, least_is, none_first, nothing}
 use Rattle.tw_ordered.proofs.Lists.{times-append}
-use Rattle.std.proofs.Common.{◌+◌, ◌-◌, suc, zero}
+use Rattle.std.proofs.Common.{◌+◌, suc, zero}
 use Rattle.std.proofs.Common.{take, get_or}
 use Rattle.tw_ordered.specs.Buckets.{together}
 

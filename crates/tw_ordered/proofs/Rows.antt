@@ -6,7 +6,7 @@ use Rattle.std.proofs.lemmas.Bool.{cases_Bool, false≢true}
 use Rattle.std.proofs.lemmas.List.{get_or_read}
 use Rattle.tw_event.specs.declared.event.Event.{Event}
 use Rattle.tw_event.specs.Order.{event_before, event_same}
-use Rattle.tw_sim.specs.Ordered.{insert, take_out, times, one}
+use Rattle.tw_sim.specs.Ordered.{insert, take_out, times}
 use Rattle.tw_sim.specs.Rising.{IsRising}
 use Rattle.tw_sim.proofs.Counts.{none}
 use Rattle.tw_sim.proofs.Ordered.{before_from, not_before, one_self, in_cons}
@@ -14,7 +14,6 @@ use Rattle.tw_ordered.specs.InOrder.{IsPlace}
 use Rattle.tw_ordered.proofs.Ordered.{not_same}
 use Rattle.tw_ordered.proofs.Events.{event_law, not_earlier}
 use Rattle.tw_ordered.proofs.Lists.{times-take_out-le}
-use Rattle.std.proofs.Common.{not}
 use Rattle.tw_ordered.specs.Times.{IsLastTime}
 
 -- an element is counted

@@ -10,7 +10,6 @@ use Rattle.tw_sim.proofs.Ordered.{all-insert, rising-insert_all}
 use Rattle.tw_ordered.specs.Queue.{AreFor, IsQueue}
 use Rattle.tw_queue.specs.InTable.{IsInOrder, Table}
 use Rattle.tw_ordered.proofs.Events.{event_law}
-use Rattle.tw_event.specs.contracts.event.EventOrd.TheImpl as event_ord
 use Rattle.std.specs.List.{AllByRecursion}
 
 pub all-insert_all : (P : Event → Type 0) (xs ys : List Event) → AllByRecursion P xs → AllByRecursion P ys → AllByRecursion P (insert_all event_before xs ys)

@@ -54,7 +54,7 @@ impl Exchange {
         ensures rising { self.old.bound ≤ self.new.bound }
         ensures whole { IsBoard self.new }
     {
-        if let Err(fault) = self.may_visit_dealt(worker, parcels, report) {
+        if let Err(fault) = self.may_visit(worker, parcels.is_early(report, self.bound())) {
             return Err(OrMemory::Fault(fault));
         }
         match self.pass_on_dealt(worker, parcels, report, mail) {
@@ -63,27 +63,6 @@ impl Exchange {
                 halted: self.halted,
             }),
             Err(_) => Err(OrMemory::Memory),
-        }
-    }
-
-    /// Whether a worker may deposit what is dealt and report this.
-    fn may_visit_dealt(
-        &self,
-        worker: u32,
-        parcels: &Parcels,
-        report: Option<u64>,
-    ) -> Result<(), VisitFault>
-        ensures no_worker { result ≡ Err NoWorker ↔ (workers self.now ≤ worker) }
-        ensures early { result ≡ Err Early ↔ ((worker < workers self.now) × IsTrue (any_early report self.now.bound parcels.now)) }
-        ensures no_router { result ≡ Err NoRouter → ⊥ }
-        ensures board { IsBoard self.now }
-    {
-        if worker >= self.workers {
-            Err(VisitFault::NoWorker)
-        } else if parcels.is_early(report, self.bound) {
-            Err(VisitFault::Early)
-        } else {
-            Ok(())
         }
     }
 

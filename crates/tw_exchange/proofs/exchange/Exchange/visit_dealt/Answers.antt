@@ -13,7 +13,7 @@ use Rattle.tw_model.specs.declared.memory.OrMemory.TheVariants.{Fault}
 pub returns-in-Err-clause-early : goal.returns-in-Err-clause-early
 returns-in-Err-clause-early c = λ out is.
     let x = c.args.self.now in
-    let same : any_early c.args.report x.bound c.args.parcels.now ≡ is_early out c.args.report x = early_dealt x out c.args.parcels.now c.args.report is in
+    let same : c.is_early.result ≡ is_early out c.args.report x = (c.is_early.ensures ∙ ap (λ n. any_early c.args.report n c.args.parcels.now) c.bound.ensures.value) ∙ early_dealt x out c.args.parcels.now c.args.report is in
     let told = c.in-Err.ensures.early in (
       (λ e.
           let f : c.in-Err.fault ≡ Early = cc e in
@@ -36,10 +36,10 @@ returns-clause-halted c =
 pub returns-clause-early : goal.returns-clause-early
 returns-clause-early c = λ out is.
     let x = c.args.self.now in
-    let same : any_early c.args.report x.bound c.args.parcels.now ≡ is_early out c.args.report x = early_dealt x out c.args.parcels.now c.args.report is in (
+    let same : c.is_early.result ≡ is_early out c.args.report x = (c.is_early.ensures ∙ ap (λ n. any_early c.args.report n c.args.parcels.now) c.bound.ensures.value) ∙ early_dealt x out c.args.parcels.now c.args.report is in (
       (λ e. elim c.match-pass_on_dealt.branch [
         | in-Ok w ↦ absurd (cc (e, w.result-is))
         | in-Err-pass_on_dealt w ↦ absurd (cc (e, w.result-is))
       ]),
-      (λ h. absurd (c.in_default.not-Err Early (c.may_visit_dealt.ensures.early.1 (h.0, subst (λ b. IsTrue b) (sym same) h.1)))),
+      (λ h. absurd (c.in_default.not-Err Early (c.may_visit.ensures.early.1 (h.0, subst (λ b. IsTrue b) (sym same) h.1)))),
     )
