@@ -13,10 +13,10 @@ ghost use Rattle.tw_shard.specs.Shard.{no_timeline, owns};
 ghost use Rattle.tw_shard.specs.Timeline.{Timeline as ATimeline};
 ghost use Rattle.tw_sim.specs.Ordered.{insert_all};
 
+use super::Shard;
 use crate::roster::Roster;
 use crate::timeline::Timeline;
 use std::alloc::AllocError;
-use super::Shard;
 use tw_core::Refusal;
 use tw_held::HeldSends;
 use tw_model::OrMemory;

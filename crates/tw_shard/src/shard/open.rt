@@ -11,12 +11,12 @@ ghost use Rattle.tw_shard.specs.Timeline.{opening_timeline};
 ghost use Rattle.tw_sim.specs.declared.machine.Cancel.TheVariants.{Aggressive};
 ghost use Rattle.tw_sim.specs.Ordered.{insert, insert_all};
 
+use super::Shard;
 use crate::roster::Roster;
 use crate::tally::Tally;
 use crate::timeline::Timeline;
 use smallvec::SmallVec;
 use std::alloc::{AllocError, Global};
-use super::Shard;
 use tw_event::Event;
 use tw_held::HeldSends;
 use tw_instance::Case;

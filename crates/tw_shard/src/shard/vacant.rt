@@ -11,6 +11,8 @@ ghost use Rattle.tw_shard.specs.Shard.{routers};
 ghost use Rattle.tw_sim.specs.Ordered.{insert_all};
 ghost use Rattle.tw_sim.specs.Seq.{rest};
 
+use super::Shard;
+use super::open::insert_own;
 use crate::ahead::Ahead;
 use crate::roster::Roster;
 use crate::router_at::RouterAt;
@@ -19,8 +21,6 @@ use crate::timeline::Timeline;
 use smallvec::SmallVec;
 use std::alloc::{AllocError, Global};
 use std::marker::Model;
-use super::Shard;
-use super::open::insert_own;
 use tw_event::Event;
 use tw_held::HeldSends;
 use tw_instance::Case;
