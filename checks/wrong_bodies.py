@@ -115,6 +115,8 @@ class WrongBody:
             elif word == "new" and file and old:
                 bodies[-1].changes.append((file, old, rest))
                 old = ""
+            elif line.strip():
+                sys.exit(f"{path}: no line begins so, and none goes on in the next: {line.strip()}")
         return bodies[1:] or bodies
 
     def applied(self, texts: Texts, read: Read) -> Texts:
