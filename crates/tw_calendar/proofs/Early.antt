@@ -1,20 +1,24 @@
 -- Whether one of some events is for a router and before a limit.
 use Rattle.std.proofs.Common.{◌≡◌, ◌≤◌, ◌<◌, ◌==◌, ◌&&◌, ◌||◌, ◌++◌, ℕ, ◌⊎◌, Bool, true, false, Some, None, List, [], ◌∷◌}
-use Rattle.std.proofs.Common.{filter, nat_lt, slice_get, refl, ap, sym, ◌∙◌, inl, inr, arith}
+use Rattle.std.proofs.Common.{◌+◌, ◌*◌, suc, drop, take, length, get_or, filter, nat_lt, slice_get, refl, ap, sym, ◌∙◌, inl, inr, arith}
 use Rattle.std.specs.List.{list_any}
 use Rattle.std.proofs.lemmas.Bool.{cases_Bool, le-ltb, lt-ltb, ltb-false}
+use Rattle.std.proofs.lemmas.List.{drop-drop, get_or-drop, get_or-take, length-take, take-append-drop}
 use Rattle.std.proofs.lemmas.List.Folds.{list_any-append}
 use Rattle.std.proofs.lemmas.Option.{none-some}
 use Rattle.tw_event.specs.declared.event.Event.{Event}
 use Rattle.tw_event.specs.Order.{event_before, event_same}
 use Rattle.tw_sim.specs.Ordered.{insert, times}
 use Rattle.tw_sim.specs.Rising.{IsRising}
+use Rattle.tw_sim.proofs.Counts.{none}
 use Rattle.tw_sim.proofs.Ordered.{one_self}
 use Rattle.tw_ordered.specs.Buckets.{together}
 use Rattle.tw_ordered.specs.InOrder.{in_order}
 use Rattle.tw_ordered.specs.Queue.{is_before}
+use Rattle.tw_calendar.specs.Turn.{mark_at}
 use Rattle.tw_calendar.specs.Update.{event_at, events_at}
 use Rattle.tw_calendar.specs.declared.update.Update.{Update}
+use Rattle.tw_ordered.proofs.Released.{no_length}
 use Rattle.tw_ordered.proofs.Events.{event_law, not_earlier, same_some}
 
 -- the order of events does not count
@@ -145,3 +149,28 @@ module _ (router limit : ℕ) where
             let later : slice_get (filter (λ e. e.dst == router) xs) 0 ≡ None = rw other at h in
             rw other (none_for xs later)
       ]
+
+-- ---- lists 64 at a time
+
+module _ (p : List Event → Bool) where
+  -- the next 64 lists and those behind them
+  pub any_split : (start : ℕ) (lists : List (List Event)) → list_any p (drop start lists) ≡ (list_any p (take 64 (drop start lists)) || list_any p (drop (start + 64) lists))
+  any_split start lists =
+      ap (list_any p) (sym (take-append-drop 64 (drop start lists))) ∙ list_any-append p (take 64 (drop start lists)) (drop 64 (drop start lists))
+      ∙ ap (λ xs. list_any p (take 64 (drop start lists)) || list_any p xs) (drop-drop 64 start lists)
+
+  none_each : (lists : List (List Event)) → ((i : ℕ) → i < length lists → p (get_or lists i []) ≡ false) → list_any p lists ≡ false
+  none_each [] h = refl
+  none_each (xs ∷ lists) h = rw (h 0 (omega arith), none_each lists (λ i l. h (suc i) (omega arith))) refl
+
+-- where no place of a word is marked, its lists are empty
+pub none_of_word : (router limit : ℕ) (lists : List (List Event)) (words : List ℕ) (word : ℕ) → length lists ≡ 1024 → ((i : ℕ) → i < 1024 → 0 < length (get_or lists i []) → mark_at words i ≡ 1)
+    → ((i : ℕ) → i < 64 → mark_at words (word * 64 + i) ≡ 0) → word < 16 → false ≡ list_any (λ events. list_any (is_before router limit) events) (take 64 (drop (word * 64) lists))
+none_of_word router limit lists words word number marked clear within =
+    sym (none_each (λ events. list_any (is_before router limit) events) (take 64 (drop (word * 64) lists)) (λ i l.
+    let short : i < 64 = let m = length-take 64 (drop (word * 64) lists) in omega arith in
+    let is : get_or (take 64 (drop (word * 64) lists)) i [] ≡ get_or lists (word * 64 + i) [] = get_or-take 64 (drop (word * 64) lists) i [] short ∙ get_or-drop (word * 64) lists i [] in
+    ap (list_any (is_before router limit)) (is ∙ no_length (get_or lists (word * 64 + i) [])
+    (none (length (get_or lists (word * 64 + i) [])) (λ some.
+    let c : 0 ≡ 1 = sym (clear i short) ∙ marked (word * 64 + i) (omega arith) some in
+    absurd (omega (arith, c)))))))

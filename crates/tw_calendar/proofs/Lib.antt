@@ -9,4 +9,4 @@ mod Sought
 mod Removed
 mod Stepped
 mod Widths
-mod Rotated
+mod Words

@@ -18,29 +18,29 @@ use Rattle.tw_calendar.proofs.Sought.{least_behind}
 use Rattle.tw_calendar.proofs.Turns.{cut_counts, placed_count}
 
 module _ (a : Inside) (v : IsRing a) (e : Event) where
-  all_counts : (d : Event) → times event_same d (ring_events a) ≡ times event_same d (hand_of a ++ together a.buckets)
-  all_counts d = times-in_order event_before event_same event_law d (hand_of a ++ together a.buckets)
+  all_counts : (d : Event) → times event_same d (ring_events a) ≡ times event_same d (hand_of a ++ together a.buckets.items)
+  all_counts d = times-in_order event_before event_same event_law d (hand_of a ++ together a.buckets.items)
 
   -- at the time of the tick at hand, or before it, the event can only be at hand
   module _ (soon : e.time ≤ a.tick) where
-    hand_alone : times event_same e (hand_of a ++ together a.buckets) ≡ times event_same e (hand_of a)
+    hand_alone : times event_same e (hand_of a ++ together a.buckets.items) ≡ times event_same e (hand_of a)
     hand_alone =
-        let n = times-append e (hand_of a) (together a.buckets) in
-        let z = none (times event_same e (together a.buckets)) (λ there. let l = v.turn.after e there in omega arith) in
+        let n = times-append e (hand_of a) (together a.buckets.items) in
+        let z = none (times event_same e (together a.buckets.items)) (λ there. let l = v.turn.after e there in omega arith) in
         omega arith
 
     pub hand_count : times event_same e (hand_of a) ≡ times event_same e (ring_events a)
     hand_count = sym (all_counts e ∙ hand_alone)
 
     module _ (left : List Event) (less : left ≡ take_out event_same e (hand_of a)) where
-      pub hand_order : in_order event_before (left ++ together a.buckets) ≡ take_out event_same e (ring_events a)
+      pub hand_order : in_order event_before (left ++ together a.buckets.items) ≡ take_out event_same e (ring_events a)
       hand_order =
-          in_order-taken event_before event_same event_law (hand_of a ++ together a.buckets) (left ++ together a.buckets) (hand_of a) left (λ d.
-          let n = times-append d (hand_of a) (together a.buckets) in
-          let m = times-append d left (together a.buckets) in
+          in_order-taken event_before event_same event_law (hand_of a ++ together a.buckets.items) (left ++ together a.buckets.items) (hand_of a) left (λ d.
+          let n = times-append d (hand_of a) (together a.buckets.items) in
+          let m = times-append d left (together a.buckets.items) in
           omega arith) e hand_alone less
 
-      pub hand_less : (b : Inside) → b.tick ≡ a.tick → b.marks ≡ a.marks → b.buckets ≡ a.buckets → b.taken ≤ length b.hand → hand_of b ≡ left → IsRing b
+      pub hand_less : (b : Inside) → b.tick ≡ a.tick → b.marks ≡ a.marks → b.buckets.items ≡ a.buckets.items → b.taken ≤ length b.hand → hand_of b ≡ left → IsRing b
       hand_less b tick marks buckets taken is = record {
         taken = taken;
         rising = rw (is, less) (rising-take_out e (hand_of a) v.rising);
@@ -54,24 +54,24 @@ module _ (a : Inside) (v : IsRing a) (e : Event) where
       }
 
   -- later it can only be in its bucket
-  module _ (late : a.tick < e.time) (p : ℕ) (p_is : p ≡ e.time % 64) (bucket : List Event) (is : bucket ≡ get_or a.buckets p bucket) where
-    bucket_alone : times event_same e (hand_of a ++ together a.buckets) ≡ times event_same e (get_or a.buckets p bucket)
+  module _ (late : a.tick < e.time) (p : ℕ) (p_is : p ≡ e.time % 1024) (bucket : List Event) (is : bucket ≡ get_or a.buckets.items p bucket) where
+    bucket_alone : times event_same e (hand_of a ++ together a.buckets.items) ≡ times event_same e bucket
     bucket_alone =
-        let n = times-append e (hand_of a) (together a.buckets) in
+        let n = times-append e (hand_of a) (together a.buckets.items) in
         let z = none (times event_same e (hand_of a)) (λ there. let l = v.begun e there in omega arith) in
-        let c = placed_count (λ d. d.time) a.tick a.marks a.buckets v.turn e p p_is bucket is (take_out event_same e (get_or a.buckets p bucket)) refl in
+        let c = placed_count (λ d. d.time) a.tick a.marks a.buckets.items v.turn e p p_is bucket is (take_out event_same e bucket) refl in
         omega arith
 
-    pub bucket_count : times event_same e (get_or a.buckets p bucket) ≡ times event_same e (ring_events a)
+    pub bucket_count : times event_same e bucket ≡ times event_same e (ring_events a)
     bucket_count = sym (all_counts e ∙ bucket_alone)
 
-    module _ (less : List Event) (less_is : less ≡ take_out event_same e (get_or a.buckets p bucket)) where
-      pub bucket_order : in_order event_before (hand_of a ++ together (set a.buckets p less)) ≡ take_out event_same e (ring_events a)
+    module _ (less : List Event) (less_is : less ≡ take_out event_same e bucket) where
+      pub bucket_order : in_order event_before (hand_of a ++ together (set a.buckets.items p less)) ≡ take_out event_same e (ring_events a)
       bucket_order =
-          in_order-taken event_before event_same event_law (hand_of a ++ together a.buckets) (hand_of a ++ together (set a.buckets p less)) (get_or a.buckets p bucket) less (λ d.
-          let n = times-append d (hand_of a) (together a.buckets) in
-          let m = times-append d (hand_of a) (together (set a.buckets p less)) in
-          let c = cut_counts (λ x. x.time) a.tick a.marks a.buckets v.turn e p p_is bucket is less less_is d in
+          in_order-taken event_before event_same event_law (hand_of a ++ together a.buckets.items) (hand_of a ++ together (set a.buckets.items p less)) bucket less (λ d.
+          let n = times-append d (hand_of a) (together a.buckets.items) in
+          let m = times-append d (hand_of a) (together (set a.buckets.items p less)) in
+          let c = cut_counts (λ x. x.time) a.tick a.marks a.buckets.items v.turn e p p_is bucket is less less_is d in
           omega arith) e bucket_alone less_is
 
 -- whether it is there, by an equal count

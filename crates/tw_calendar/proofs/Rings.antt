@@ -1,7 +1,7 @@
 -- Events by time: the tick at hand, and later ticks, each in its bucket.
 use Rattle.std.proofs.Common.{◌≡◌, ◌≢◌, ◌≤◌, ◌<◌, ◌+◌, ◌%◌, ◌++◌, ℕ, suc, zero, false, Option, Some, None, List, [], ◌∷◌}
 use Rattle.std.proofs.Common.{IfSome, length, drop, get_or, set, slice_get, refl, ap, sym, ◌∙◌, subst, inl, inr, arith, get_or-set_same}
-use Rattle.std.specs.Int.{bit_at}
+use Rattle.tw_calendar.specs.Turn.{mark_at}
 use Rattle.std.proofs.lemmas.Bool.{cases_lt}
 use Rattle.std.proofs.lemmas.List.{drop_all, get_or_read}
 use Rattle.tw_event.specs.declared.event.Event.{Event}
@@ -131,7 +131,7 @@ first_before (x ∷ xs) n some h =
     h x (omega arith)
 
 -- the first bucket of a ring
-module _ (tick marks : ℕ) (lists : List (List Event)) (t : IsTurn (λ e. e.time) tick marks lists) (p : ℕ) (f : IsFirstMark marks tick p) where
+module _ (tick : ℕ) (marks : List ℕ) (lists : List (List Event)) (t : IsTurn (λ e. e.time) tick marks lists) (p : ℕ) (f : IsFirstMark marks tick p) where
   pub inside : p < length lists
   inside =
       let n = t.number in
@@ -178,7 +178,7 @@ module _ (tick marks : ℕ) (lists : List (List Event)) (t : IsTurn (λ e. e.tim
       let s = stamp e (omega arith) in
       omega arith
 
-  module _ (new : ℕ) (unmark : bit_at new p ≡ 0) (others : (i : ℕ) → i < 64 → i ≢ p → bit_at new i ≡ bit_at marks i) (some : 0 < length (get_or lists p [])) where
+  module _ (new : List ℕ) (unmark : mark_at new p ≡ 0) (others : (i : ℕ) → i < 1024 → i ≢ p → mark_at new i ≡ mark_at marks i) (some : 0 < length (get_or lists p [])) where
     emptied : IsTurn (λ e. e.time) tick new (set lists p [])
     emptied = turn_emptied (λ e. e.time) tick marks lists t p (place_within (λ e. e.time) tick marks lists t p f) new unmark others
 
@@ -196,7 +196,7 @@ module _ (tick marks : ℕ) (lists : List (List Event)) (t : IsTurn (λ e. e.tim
           | inr l ↦
               let d = some_event (get_or lists p []) some in
               let s = stamp d.0 d.1 in
-              let at : e.time % 64 ≡ p = ap (λ n. n % 64) (let q : e.time ≡ d.0.time = omega arith in q) ∙ t.placed p d.0 d.1 in
+              let at : e.time % 1024 ≡ p = ap (λ n. n % 1024) (let q : e.time ≡ d.0.time = omega arith in q) ∙ t.placed p d.0 d.1 in
               let own = in_slot (λ e. e.time) tick new (set lists p []) emptied e there in
               let at_it : 0 < times event_same e (get_or (set lists p []) p []) = subst (λ k. 0 < times event_same e (get_or (set lists p []) k [])) at own in
               let z = ap (times event_same e) (get_or-set_same lists p [] [] inside) in
@@ -213,27 +213,27 @@ module _ (tick marks : ℕ) (lists : List (List Event)) (t : IsTurn (λ e. e.tim
         ) begin_after
 
 -- what the bucket had is at hand
-pub taken_over : (lists : List (List Event)) → length lists ≡ 64 → (p : ℕ) → p < 64 → (bucket : List Event) → bucket ≡ get_or lists p bucket → (hand : List Event)
+pub taken_over : (lists : List (List Event)) → length lists ≡ 1024 → (p : ℕ) → p < 1024 → (bucket : List Event) → bucket ≡ get_or lists p bucket → (hand : List Event)
     → hand ≡ in_order event_before (get_or lists p bucket) → hand ≡ in_order event_before (get_or lists p [])
 taken_over lists number p within bucket is hand h =
     h ∙ ap (in_order event_before) (sym is ∙ get_or_read lists p bucket (omega arith) is [])
 
 -- the first bucket, as it is read
-pub read_first : (a : Inside) → IsRing a → (p : ℕ) → IsFirstMark a.marks a.tick p → (bucket : List Event) → bucket ≡ get_or a.buckets p bucket → get_or a.buckets p bucket ≡ get_or a.buckets p []
-read_first a v p f bucket is = sym is ∙ get_or_read a.buckets p bucket (inside a.tick a.marks a.buckets v.turn p f) is []
+pub read_first : (a : Inside) → IsRing a → (p : ℕ) → IsFirstMark a.marks a.tick p → (bucket : List Event) → bucket ≡ get_or a.buckets.items p bucket → bucket ≡ get_or a.buckets.items p []
+read_first a v p f bucket is = get_or_read a.buckets.items p bucket (inside a.tick a.marks a.buckets.items v.turn p f) is []
 
 -- a ring b, whose hand is what the first bucket of a ring a had, some of it taken out
-pub begun_ring : (a b : Inside) → IsRing a → (p : ℕ) → IsFirstMark a.marks a.tick p → 0 < length (get_or a.buckets p []) → b.hand ≡ in_order event_before (get_or a.buckets p [])
-    → b.taken ≤ length b.hand → b.tick ≡ first_time (get_or a.buckets p []) → b.buckets ≡ set a.buckets p [] → bit_at b.marks p ≡ 0
-    → ((i : ℕ) → i < 64 → i ≢ p → bit_at b.marks i ≡ bit_at a.marks i) → IsRing b
+pub begun_ring : (a b : Inside) → IsRing a → (p : ℕ) → IsFirstMark a.marks a.tick p → 0 < length (get_or a.buckets.items p []) → b.hand ≡ in_order event_before (get_or a.buckets.items p [])
+    → b.taken ≤ length b.hand → b.tick ≡ first_time (get_or a.buckets.items p []) → b.buckets.items ≡ set a.buckets.items p [] → mark_at b.marks p ≡ 0
+    → ((i : ℕ) → i < 1024 → i ≢ p → mark_at b.marks i ≡ mark_at a.marks i) → IsRing b
 begun_ring a b v p f some hand taken tick buckets unmark others = record {
   taken = taken;
   rising =
-      rw hand (rising_left b.taken (in_order event_before (get_or a.buckets p [])) (rising-in_order event_before event_same event_law (get_or a.buckets p [])));
+      rw hand (rising_left b.taken (in_order event_before (get_or a.buckets.items p [])) (rising-in_order event_before event_same event_law (get_or a.buckets.items p [])));
   begun =
       rw (hand, tick) (λ e there.
-      begin_begun a.tick a.marks a.buckets v.turn p f e (times_left b.taken e (in_order event_before (get_or a.buckets p [])) there));
-  turn = rw (buckets, tick) (begin_turn a.tick a.marks a.buckets v.turn p f b.marks unmark others some);
+      begin_begun a.tick a.marks a.buckets.items v.turn p f e (times_left b.taken e (in_order event_before (get_or a.buckets.items p [])) there));
+  turn = rw (buckets, tick) (begin_turn a.tick a.marks a.buckets.items v.turn p f b.marks unmark others some);
 }
 
 -- the tick at hand is over: the rest is in the buckets

@@ -1,12 +1,9 @@
--- One level of the wheels: its buckets, and what they have of time.
-use Rattle.std.proofs.Common.{◌≡◌, ◌≤◌, ◌<◌, ◌+◌, ◌*◌, ◌/◌, ◌%◌, ◌^◌, ◌↔◌, ◌++◌, ℕ, true, false, Bool, IsTrue, nat_lt, Some, None, List, [], ◌∷◌}
+-- The wheel: its buckets, and what they have of time.
+use Rattle.std.proofs.Common.{◌≡◌, ◌≢◌, ◌≤◌, ◌<◌, ◌+◌, ◌*◌, ◌/◌, ◌%◌, ◌↔◌, ◌++◌, ℕ, true, false, Bool, IsTrue, nat_lt, Some, None, List, [], ◌∷◌}
 use Rattle.std.proofs.Common.{length, get_or, set, option_map, slice_get, refl, ap, sym, ◌∙◌, subst, inl, inr, arith}
 use Rattle.std.specs.Bool.{OnFalse, OnTrue}
-use Rattle.std.proofs.Math.Nat.{mod-le, mul-le-mul_right}
-use Rattle.std.proofs.Math.Pow.{shr_mono}
 use Rattle.std.proofs.lemmas.Bool.{false≢true, lt-ltb}
 use Rattle.std.proofs.lemmas.List.{get_or_read}
-use Rattle.std.proofs.lemmas.Nat.{shr_split}
 use Rattle.std.proofs.lemmas.Option.{none-some}
 use Rattle.tw_event.specs.declared.event.Event.{Event}
 use Rattle.tw_event.specs.Order.{event_before, event_same}
@@ -16,12 +13,12 @@ use Rattle.tw_sim.proofs.Counts.{none}
 use Rattle.tw_sim.proofs.Ordered.{one_cases, one_self}
 use Rattle.tw_ordered.specs.Buckets.{together}
 use Rattle.tw_ordered.specs.InOrder.{in_order, least_with}
-use Rattle.tw_calendar.specs.Level.{width_of}
-use Rattle.tw_calendar.specs.Turn.{IsFirstMark, IsTurn}
+use Rattle.tw_calendar.specs.Wheel.{width_of}
+use Rattle.tw_calendar.specs.Turn.{IsFirstMark, IsTurn, mark_at}
 use Rattle.tw_ordered.proofs.Ordered.{in_order-taken, take_out_none, times-in_order}
 use Rattle.tw_ordered.proofs.Events.{event_law, same_some}
 use Rattle.tw_ordered.proofs.Lists.{times-push, times-set, times-take_out-le}
-use Rattle.tw_calendar.proofs.Turns.{cut_counts, first_least, least_all, none_marked, placed_count, taken_is}
+use Rattle.tw_calendar.proofs.Turns.{cut_counts, first_least, least_all, none_marked, place_within, placed_count, taken_is, turn_less}
 
 no_first : (xs : List Event) → None ≡ option_map (λ e. e.time) (slice_get xs 0) → xs ≡ []
 no_first [] h = refl
@@ -34,18 +31,15 @@ first_has (x ∷ xs) time h =
     let own = one_self event_before event_same event_law x in
     (x, omega arith, same_some time x.time h)
 
-pub begun_low : (shift time : ℕ) (e : Event) → time / 2 ^ shift ≤ width_of shift e → time / 2 ^ shift * 2 ^ shift % 2 ^ 64 ≤ e.time
-begun_low shift time e l =
-    let a = mod-le (time / 2 ^ shift * 2 ^ shift) (2 ^ 64) in
-    let b = mul-le-mul_right (2 ^ shift) l in
-    let c = shr_split e.time shift in
-    omega arith
+pub begun_low : (time : ℕ) (e : Event) → time / 1024 ≤ width_of e → time / 1024 * 1024 ≤ e.time
+begun_low time e l = omega arith
+
+width_mono : {m n : ℕ} → m ≤ n → m / 1024 ≤ n / 1024
+width_mono l = omega arith
 
 -- a start before all events is in a width that is not after theirs
-pub later_width : (shift start width : ℕ) (e : Event) → start ≤ e.time → (start / 2 ^ shift ≤ width → ⊥) → width < width_of shift e
-later_width shift start width e l h =
-    let a = shr_mono shift l in
-    omega arith
+pub later_width : (start width : ℕ) (e : Event) → start ≤ e.time → (start / 1024 ≤ width → ⊥) → width < width_of e
+later_width start width e l h = omega arith
 
 -- what is in order is what there is
 pub in_all : (e : Event) (xs : List Event) → 0 < times event_same e xs → 0 < times event_same e (in_order event_before xs)
@@ -78,73 +72,93 @@ start_less start p lists within qs less before d there =
     let n = less d in
     before d (omega arith)
 
-module _ (shift base marks : ℕ) (lists : List (List Event)) (t : IsTurn (width_of shift) base marks lists) where
-  module _ (p : ℕ) (f : IsFirstMark marks base p) (bucket : List Event) (is : bucket ≡ get_or lists p bucket) where
-    read : get_or lists p bucket ≡ get_or lists p []
-    read =
-        let n = t.number in
-        let at = f.at in
-        sym is ∙ get_or_read lists p bucket (omega arith) is []
-
-    -- the width of the first bucket is begun before all events
-    pub start_low : (time : ℕ) → Some time ≡ option_map (λ e. e.time) (slice_get (get_or lists p bucket) 0) → (e : Event) → 0 < times event_same e (in_order event_before (together lists))
-        → time / 2 ^ shift * 2 ^ shift % 2 ^ 64 ≤ e.time
-    start_low time h e there =
-        let d = first_has (get_or lists p bucket) time h in
-        let in_it = subst (λ xs. 0 < times event_same d.0 xs) read d.1 in
-        let l = first_least (width_of shift) base marks lists t p f d.0 e in_it (of_all e (together lists) there) in
-        begun_low shift time e (subst (λ n. n / 2 ^ shift ≤ width_of shift e) (sym d.2) l)
-
-    -- without a first event there are none
-    pub start_none : None ≡ option_map (λ e. e.time) (slice_get (get_or lists p bucket) 0) → (e : Event) → 0 < times event_same e (in_order event_before (together lists)) → ⊥
-    start_none h e there =
-        let z = none_marked (width_of shift) base marks lists t p f (sym read ∙ no_first (get_or lists p bucket) h) in
-        let n = ap (times event_same e) z in
-        let l = of_all e (together lists) there in
-        omega arith
-
-    -- the least event of the first bucket is the least of all
-    pub least_of_bucket : least_with None (get_or lists p bucket) ≡ slice_get (in_order event_before (together lists)) 0
-    least_of_bucket = ap (least_with None) read ∙ least_all (width_of shift) base marks lists t p f (λ d e b. shr_mono shift (before_time d e b))
-
-    -- the first bucket is taken out
-    pub first_taken : (e : Event) → times event_same e (in_order event_before (together (set lists p []))) + times event_same e (get_or lists p bucket) ≡ times event_same e (in_order event_before (together lists))
-    first_taken e =
-        let n = t.number in
-        let at = f.at in
-        let s = times-set p [] lists (omega arith) e in
-        let a = times-in_order event_before event_same event_law e (together (set lists p [])) in
-        let b = times-in_order event_before event_same event_law e (together lists) in
-        let r = ap (times event_same e) read in
-        omega arith
-
-  -- one event is taken out of its bucket
-  module _ (e : Event) (p : ℕ) (p_is : p ≡ width_of shift e % 64) (bucket : List Event) (is : bucket ≡ get_or lists p bucket) (less : List Event) (less_is : less ≡ take_out event_same e (get_or lists p bucket)) where
-    pub found_there : (found : Bool) → IsTrue found ↔ (0 < times event_same e (get_or lists p bucket)) → IsTrue found ↔ (0 < times event_same e (in_order event_before (together lists)))
-    found_there found h =
-        let q : times event_same e (get_or lists p bucket) ≡ times event_same e (in_order event_before (together lists)) =
-        sym (placed_count (width_of shift) base marks lists t e p p_is bucket is less less_is) ∙ sym (times-in_order event_before event_same event_law e (together lists)) in
-        subst (λ n. IsTrue found ↔ (0 < n)) q h
-
-    pub order_taken : in_order event_before (together (set lists p less)) ≡ take_out event_same e (in_order event_before (together lists))
-    order_taken =
-        in_order-taken event_before event_same event_law (together lists) (together (set lists p less)) (get_or lists p bucket) less
-        (cut_counts (width_of shift) base marks lists t e p p_is bucket is less less_is) e (placed_count (width_of shift) base marks lists t e p p_is bucket is less less_is) less_is
-
-    pub start_taken : (start : ℕ) → ((d : Event) → 0 < times event_same d (together lists) → start ≤ d.time) → (d : Event) → 0 < times event_same d (together (set lists p less)) → start ≤ d.time
-    start_taken start before =
-        let n = t.number in
-        start_less start p lists (omega arith) less (λ d.
-        let c = ap (times event_same d) (taken_is (width_of shift) base marks lists t e p p_is bucket is less less_is) in
-        let l = times-take_out-le d e (get_or lists p []) in
-        omega arith) before
-
 -- a mark that is told by how many events there are
 pub marked_more : {P : Type 0} (n : ℕ) → 0 < n → OnTrue (nat_lt 0 n) P → P
 marked_more {P = P} n l h = subst (λ b. OnTrue b P) (lt-ltb 0 n l) h
 
 pub marked_none : {P : Type 0} (n : ℕ) → n ≡ 0 → OnFalse (nat_lt 0 n) P → P
 marked_none {P = P} n q h = subst (λ m. OnFalse (nat_lt 0 m) P) q h
+
+module _ (base : ℕ) (marks : List ℕ) (lists : List (List Event)) (t : IsTurn width_of base marks lists) where
+  module _ (p : ℕ) (f : IsFirstMark marks base p) (bucket : List Event) (is : bucket ≡ get_or lists p bucket) where
+    read : bucket ≡ get_or lists p []
+    read =
+        let n = t.number in
+        let at = f.at in
+        get_or_read lists p bucket (omega arith) is []
+
+    -- the width of the first bucket is begun before all events
+    pub start_low : (time : ℕ) → Some time ≡ option_map (λ e. e.time) (slice_get bucket 0) → (e : Event) → 0 < times event_same e (in_order event_before (together lists))
+        → time / 1024 * 1024 ≤ e.time
+    start_low time h e there =
+        let d = first_has bucket time h in
+        let in_it = subst (λ xs. 0 < times event_same d.0 xs) read d.1 in
+        let l = first_least width_of base marks lists t p f d.0 e in_it (of_all e (together lists) there) in
+        begun_low time e (subst (λ n. n / 1024 ≤ width_of e) (sym d.2) l)
+
+    -- without a first event there are none
+    pub start_none : None ≡ option_map (λ e. e.time) (slice_get bucket 0) → (e : Event) → 0 < times event_same e (in_order event_before (together lists)) → ⊥
+    start_none h e there =
+        let z = none_marked width_of base marks lists t p f (sym read ∙ no_first bucket h) in
+        let n = ap (times event_same e) z in
+        let l = of_all e (together lists) there in
+        omega arith
+
+    -- the least event of the first bucket is the least of all
+    pub least_of_bucket : least_with None bucket ≡ slice_get (in_order event_before (together lists)) 0
+    least_of_bucket = ap (least_with None) read ∙ least_all width_of base marks lists t p f (λ d e b. width_mono (before_time d e b))
+
+    -- some events of the first bucket go down
+    module _ (less : List Event) (fewer : (e : Event) → times event_same e less ≤ times event_same e bucket) where
+      fewer_there : (e : Event) → times event_same e less ≤ times event_same e (get_or lists p [])
+      fewer_there e =
+          let l = fewer e in
+          let r = ap (times event_same e) read in
+          omega arith
+
+      within : p < length lists
+      within =
+          let n = t.number in
+          let at = f.at in
+          omega arith
+
+      pub turn_sent : (n : ℕ) → n ≡ length less → (new : List ℕ) → OnTrue (nat_lt 0 n) (mark_at new p ≡ 1) → OnFalse (nat_lt 0 n) (mark_at new p ≡ 0)
+          → ((i : ℕ) → i < 1024 → i ≢ p → mark_at new i ≡ mark_at marks i) → IsTurn width_of base new (set lists p less)
+      turn_sent n is_length new mark unmark others =
+          turn_less width_of base marks lists t p (place_within width_of base marks lists t p f) less fewer_there new (λ l. marked_more n (omega (arith, is_length, l)) mark)
+          (λ z. marked_none n (is_length ∙ ap length z) unmark) others
+
+      pub start_sent : (start : ℕ) → ((d : Event) → 0 < times event_same d (together lists) → start ≤ d.time) → (d : Event) → 0 < times event_same d (together (set lists p less)) → start ≤ d.time
+      start_sent start before = start_less start p lists within less fewer_there before
+
+      pub count_sent : (e : Event) → times event_same e (in_order event_before (together (set lists p less))) + times event_same e bucket ≡ times event_same e (in_order event_before (together lists)) + times event_same e less
+      count_sent e =
+          let s = times-set p less lists within e in
+          let a = times-in_order event_before event_same event_law e (together (set lists p less)) in
+          let b = times-in_order event_before event_same event_law e (together lists) in
+          let r = ap (times event_same e) read in
+          omega arith
+
+  -- one event is taken out of its bucket
+  module _ (e : Event) (p : ℕ) (p_is : p ≡ width_of e % 1024) (bucket : List Event) (is : bucket ≡ get_or lists p bucket) (less : List Event) (less_is : less ≡ take_out event_same e bucket) where
+    pub found_there : (found : Bool) → IsTrue found ↔ (0 < times event_same e bucket) → IsTrue found ↔ (0 < times event_same e (in_order event_before (together lists)))
+    found_there found h =
+        let q : times event_same e bucket ≡ times event_same e (in_order event_before (together lists)) =
+        sym (placed_count width_of base marks lists t e p p_is bucket is less less_is) ∙ sym (times-in_order event_before event_same event_law e (together lists)) in
+        subst (λ n. IsTrue found ↔ (0 < n)) q h
+
+    pub order_taken : in_order event_before (together (set lists p less)) ≡ take_out event_same e (in_order event_before (together lists))
+    order_taken =
+        in_order-taken event_before event_same event_law (together lists) (together (set lists p less)) bucket less
+        (cut_counts width_of base marks lists t e p p_is bucket is less less_is) e (placed_count width_of base marks lists t e p p_is bucket is less less_is) less_is
+
+    pub start_taken : (start : ℕ) → ((d : Event) → 0 < times event_same d (together lists) → start ≤ d.time) → (d : Event) → 0 < times event_same d (together (set lists p less)) → start ≤ d.time
+    start_taken start before =
+        let n = t.number in
+        start_less start p lists (omega arith) less (λ d.
+        let c = ap (times event_same d) (taken_is width_of base marks lists t e p p_is bucket is less less_is) in
+        let l = times-take_out-le d e (get_or lists p []) in
+        omega arith) before
 
 -- where an event is not found, nothing is taken out
 pub not_found : (found : Bool) (e : Event) (old new : List Event) → IsTrue found ↔ (0 < times event_same e old) → new ≡ take_out event_same e old → OnFalse found (new ≡ old)

@@ -2,5 +2,4 @@ pub mod Heap
 pub mod Update
 pub mod Ring
 pub mod Turn
-pub mod Level
-pub mod Wheels
+pub mod Wheel

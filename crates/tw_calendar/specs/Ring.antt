@@ -15,11 +15,11 @@ hand_of a = drop a.taken a.hand
 
 -- all events of a ring, in order
 abbrev pub ring_events : Inside → List Event
-ring_events a = in_order event_before (hand_of a ++ together a.buckets)
+ring_events a = in_order event_before (hand_of a ++ together a.buckets.items)
 
 -- the tick at hand is in order and not after its time, and each bucket has the events of one of the 64 ticks after it
 pub record IsRing (a : Inside) : Type 0 where
   pub taken : a.taken ≤ length a.hand
   pub rising : IsRising event_before event_same (hand_of a)
   pub begun : (e : Event) → 0 < times event_same e (hand_of a) → e.time ≤ a.tick
-  pub turn : IsTurn (λ e. e.time) a.tick a.marks a.buckets
+  pub turn : IsTurn (λ e. e.time) a.tick a.marks a.buckets.items

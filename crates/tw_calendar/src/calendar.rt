@@ -1,4 +1,4 @@
-//! Paths that arrive, by time: the ring and the levels of the wheels above it.
+//! Paths that arrive, by time: the ring, and the wheel above it.
 
 ghost use Rattle.std.specs.Prelude.{◌≡◌, ◌==◌, ◌<◌, ◌≤◌, ◌+◌, ◌++◌, ◌↔◌, [], None, Some, IfNone, IfOk, IfSome, IsTrue, OnOk, drop, filter, slice_get};
 ghost use Rattle.std.specs.Bool.{OnFalse, OnTrue};
@@ -12,7 +12,7 @@ ghost use Rattle.tw_sim.specs.Ordered.{insert, take_out, times};
 ghost use Rattle.tw_sim.specs.Rising.{IsRising};
 
 use crate::ring::Ring;
-use crate::wheels::Wheels;
+use crate::wheel::Wheel;
 use std::alloc::{AllocError, Global};
 use std::marker::Model;
 use tw_event::Event;
@@ -22,7 +22,7 @@ use tw_ordered::comes_before;
 #[derive(Drop)]
 pub struct Calendar {
     ring: Ring,
-    wheels: Wheels,
+    wheel: Wheel,
 }
 
 impl Model for Calendar {
@@ -33,7 +33,7 @@ impl Model for Calendar {
 
     ghost Value = { List Event };
 
-    ghost view = { λ a. in_order event_before (a.ring ++ a.wheels) };
+    ghost view = { λ a. in_order event_before (a.ring ++ a.wheel) };
 }
 
 impl Calendar {
@@ -43,7 +43,7 @@ impl Calendar {
     {
         Ok(Calendar {
             ring: Ring::new(alloc, routers)?,
-            wheels: Wheels::new(alloc),
+            wheel: Wheel::new(alloc)?,
         })
     }
 
@@ -57,7 +57,7 @@ impl Calendar {
         if self.ring.insert(event) {
             return true;
         }
-        self.wheels.insert(event)
+        self.wheel.insert(event)
     }
 
     /// Copies the least event, where there is one, and tells whether there is.
@@ -67,7 +67,7 @@ impl Calendar {
         ensures beyond { OnFalse result (slice_get self.now 0 ≡ None) }
         ensures none { OnFalse result (event.new ≡ event.old) }
     {
-        match first_of_wheels(&self.ring, &self.wheels) {
+        match first_of_wheel(&self.ring, &self.wheel) {
             None => self.ring.copy_least(event),
             Some(first) => {
                 *event = first;
@@ -84,10 +84,10 @@ impl Calendar {
         let _ = self.ring.taken();
         let time = self.ring.least_time();
         // Of most calls this is the answer, and costs little.
-        if time < self.wheels.soonest() {
+        if time < self.wheel.soonest() {
             return time;
         }
-        time_by_search(&self.ring, &self.wheels)
+        time_by_search(&self.ring, &self.wheel)
     }
 
     /// Copies the least event, where it is one of the tick at hand and before a limit, in ticks, and tells whether
@@ -100,7 +100,7 @@ impl Calendar {
         ensures none { OnFalse result (event.new ≡ event.old) }
     {
         let _ = self.ring.taken();
-        self.ring.copy_hand(limit.min(self.wheels.soonest()), event)
+        self.ring.copy_hand(limit.min(self.wheel.soonest()), event)
     }
 
     /// Takes out the least event, where it is one of the tick at hand and before a limit, in ticks, and tells
@@ -113,7 +113,7 @@ impl Calendar {
         ensures same { OnFalse result (self.new ≡ self.old) }
     {
         let _ = self.ring.taken();
-        self.ring.skip_hand(limit.min(self.wheels.soonest()))
+        self.ring.skip_hand(limit.min(self.wheel.soonest()))
     }
 
     /// A time, in ticks, that no event is before. The events are in order.
@@ -123,7 +123,7 @@ impl Calendar {
         ensures soonest { IfSome (slice_get self.now 0) (λ e. result ≤ e.time) }
     {
         let _ = self.ring.taken();
-        self.ring.least_time().min(self.wheels.soonest())
+        self.ring.least_time().min(self.wheel.soonest())
     }
 
     /// An event at this time, in ticks, was taken out elsewhere, so that the next ticks may have buckets. No
@@ -132,7 +132,7 @@ impl Calendar {
         ensures { self.new ≡ self.old }
     {
         self.ring.go_to(time);
-        self.wheels.go_to(time);
+        self.wheel.go_to(time);
     }
 
     /// Puts the events of the next tick at hand, in order, where those at hand are all taken out, and that tick
@@ -166,8 +166,8 @@ impl Calendar {
     pub(crate) fn begin_next(&mut self, latest: u64)
         ensures { self.new ≡ self.old }
     {
-        send_down(&mut self.ring, &mut self.wheels, latest);
-        begin_first(&mut self.ring, &mut self.wheels, latest);
+        send_down(&mut self.ring, &mut self.wheel, latest);
+        begin_first(&mut self.ring, &mut self.wheel, latest);
     }
 
     /// Takes out the least event, where there is one.
@@ -175,10 +175,10 @@ impl Calendar {
     pub fn skip_least(&mut self)
         ensures { self.new ≡ drop 1 self.old }
     {
-        match first_of_wheels(&self.ring, &self.wheels) {
+        match first_of_wheel(&self.ring, &self.wheel) {
             None => self.ring.skip_least(),
             Some(first) => {
-                self.wheels.remove(&first);
+                self.wheel.remove(&first);
             }
         }
     }
@@ -204,14 +204,14 @@ impl Calendar {
         ensures found { IsTrue result ↔ (0 < times event_same event.now self.old) }
         ensures events { self.new ≡ take_out event_same event.now self.old }
     {
-        self.ring.remove(event) || self.wheels.remove(event)
+        self.ring.remove(event) || self.wheel.remove(event)
     }
 
     /// How often an event is there.
     pub fn count(&self, event: &Event) -> usize
         ensures { result ≡ times event_same event.now self.now }
     {
-        self.ring.count(event) + self.wheels.count(event)
+        self.ring.count(event) + self.wheel.count(event)
     }
 
     /// The least event for a router.
@@ -219,7 +219,7 @@ impl Calendar {
         ensures { result ≡ slice_get (filter (λ e. e.dst == router) self.now) 0 }
     {
         let _ = self.ring.taken();
-        self.wheels.least_for(router, self.ring.least_at(router))
+        self.wheel.least_for(router, self.ring.least_at(router))
     }
 
     /// Whether one of its events is for a router and before a limit, in ticks.
@@ -227,7 +227,7 @@ impl Calendar {
     pub fn has_before(&self, router: u32, limit: u64) -> bool
         ensures { result ≡ list_any (is_before router limit) self.now }
     {
-        self.ring.has_before(router, limit) || self.wheels.has_before(router, limit)
+        self.ring.has_before(router, limit) || self.wheel.has_before(router, limit)
     }
 
     /// Puts its events at the end of a list.
@@ -235,69 +235,81 @@ impl Calendar {
         ensures ok { OnOk result ((e : AnEvent) → times event_same e events.new.items ≡ times event_same e self.now + times event_same e events.old.items) }
     {
         self.ring.append_to(events)?;
-        self.wheels.append_to(events)
+        self.wheel.append_to(events)
     }
 }
 
-// Sends the events of the next ticks down into a ring that has no tick at hand, as far as `latest`, in ticks.
+// Sends the events of the next width down into a ring that has no tick at hand, where none of the ring's events is
+// before it and it begins at `latest`, in ticks, at the latest.
 #[inline(always)]
-fn send_down(ring: &mut Ring, wheels: &mut Wheels, latest: u64)
-    ensures { in_order event_before (ring.new ++ wheels.new) ≡ in_order event_before (ring.old ++ wheels.old) }
+fn send_down(ring: &mut Ring, wheel: &mut Wheel, latest: u64)
+    ensures { in_order event_before (ring.new ++ wheel.new) ≡ in_order event_before (ring.old ++ wheel.old) }
 {
-    if ring.has_tick_at_hand() || wheels.soonest() > latest.min(ring.least_time()) {
+    if ring.has_tick_at_hand() || wheel.soonest() > latest.min(ring.least_time()) {
         return;
     }
-    wheels.send_down(ring, latest);
+    send_down_apart(ring, wheel);
 }
 
-// Begins the ring's next tick, where it is at `latest`, in ticks, at the latest and before all in the wheels.
+#[inline(never)]
+fn send_down_apart(ring: &mut Ring, wheel: &mut Wheel)
+    ensures { in_order event_before (ring.new ++ wheel.new) ≡ in_order event_before (ring.old ++ wheel.old) }
+{
+    // So that ring and wheel have buckets from the width's begin on.
+    let before = wheel.soonest().saturating_sub(1);
+    ring.go_to(before);
+    wheel.go_to(before);
+    wheel.send_down(ring);
+}
+
+// Begins the ring's next tick, where it is at `latest`, in ticks, at the latest and before all in the wheel.
 #[inline(always)]
-fn begin_first(ring: &mut Ring, wheels: &mut Wheels, latest: u64)
+fn begin_first(ring: &mut Ring, wheel: &mut Wheel, latest: u64)
     ensures ring { ring.new ≡ ring.old }
-    ensures wheels { wheels.new ≡ wheels.old }
+    ensures wheel { wheel.new ≡ wheel.old }
 {
     let time = ring.least_time();
-    if time > latest || time >= wheels.soonest() || ring.has_tick_at_hand() {
+    if time > latest || time >= wheel.soonest() || ring.has_tick_at_hand() {
         return;
     }
     ring.begin_tick();
-    wheels.go_to(time);
+    wheel.go_to(time);
 }
 
-// The time of the least event of a ring and of wheels, in ticks, and `u64::MAX` where there is none.
+// The time of the least event of a ring and of the wheel, in ticks, and `u64::MAX` where there is none.
 #[inline(never)]
-fn time_by_search(ring: &Ring, wheels: &Wheels) -> u64
-    ensures { result ≡ first_time (in_order event_before (ring.now ++ wheels.now)) }
+fn time_by_search(ring: &Ring, wheel: &Wheel) -> u64
+    ensures { result ≡ first_time (in_order event_before (ring.now ++ wheel.now)) }
 {
-    match first_by_search(ring, wheels) {
+    match first_by_search(ring, wheel) {
         None => ring.least_time(),
         Some(first) => first.time,
     }
 }
 
-// The least event of all, where it is in the wheels and not in the ring.
+// The least event of all, where it is in the wheel and not in the ring.
 #[inline(always)]
-fn first_of_wheels(ring: &Ring, wheels: &Wheels) -> Option<Event>
-    ensures wheels { IfSome result (λ e. slice_get (in_order event_before (ring.now ++ wheels.now)) 0 ≡ Some e) }
-    ensures there { IfSome result (λ e. slice_get wheels.now 0 ≡ Some e) }
-    ensures ring { IfNone result (slice_get (in_order event_before (ring.now ++ wheels.now)) 0 ≡ slice_get ring.now 0) }
+fn first_of_wheel(ring: &Ring, wheel: &Wheel) -> Option<Event>
+    ensures wheel { IfSome result (λ e. slice_get (in_order event_before (ring.now ++ wheel.now)) 0 ≡ Some e) }
+    ensures there { IfSome result (λ e. slice_get wheel.now 0 ≡ Some e) }
+    ensures ring { IfNone result (slice_get (in_order event_before (ring.now ++ wheel.now)) 0 ≡ slice_get ring.now 0) }
 {
     let _ = ring.taken();
-    if ring.least_time() < wheels.soonest() {
+    if ring.least_time() < wheel.soonest() {
         return None;
     }
-    first_by_search(ring, wheels)
+    first_by_search(ring, wheel)
 }
 
-// The least event of all, where it is in the wheels and not in the ring, sought in both.
+// The least event of all, where it is in the wheel and not in the ring, sought in both.
 #[inline(never)]
-fn first_by_search(ring: &Ring, wheels: &Wheels) -> Option<Event>
-    ensures wheels { IfSome result (λ e. slice_get (in_order event_before (ring.now ++ wheels.now)) 0 ≡ Some e) }
-    ensures there { IfSome result (λ e. slice_get wheels.now 0 ≡ Some e) }
-    ensures ring { IfNone result (slice_get (in_order event_before (ring.now ++ wheels.now)) 0 ≡ slice_get ring.now 0) }
+fn first_by_search(ring: &Ring, wheel: &Wheel) -> Option<Event>
+    ensures wheel { IfSome result (λ e. slice_get (in_order event_before (ring.now ++ wheel.now)) 0 ≡ Some e) }
+    ensures there { IfSome result (λ e. slice_get wheel.now 0 ≡ Some e) }
+    ensures ring { IfNone result (slice_get (in_order event_before (ring.now ++ wheel.now)) 0 ≡ slice_get ring.now 0) }
 {
     let _ = ring.taken();
-    let first = match wheels.least() {
+    let first = match wheel.least() {
         None => return None,
         Some(first) => first,
     };

@@ -20,9 +20,9 @@ use tw_ordered::comes_before;
 
 /// Events that wait to be handled, each as often as it was inserted.
 ///
-/// The least one comes out fast. Paths that arrive in the next 64 ticks stand in buckets of one tick, which is
-/// put in order when it is begun, and later ones in wheels of wider and wider buckets, up to 2^24 ticks ahead. All
-/// other events stand in a heap. `Pending` of `tw_queue` also answers for one router, and takes an event out wherever
+/// The least one comes out fast. Paths that arrive in the next 1,024 ticks stand in buckets of one tick, which is
+/// put in order when it is begun, and later ones in buckets of 1,024 ticks, up to 2^20 ticks ahead. All other events
+/// stand in a heap. `Pending` of `tw_queue` also answers for one router, and takes an event out wherever
 /// it stands.
 #[derive(Drop)]
 pub struct EventList {

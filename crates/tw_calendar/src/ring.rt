@@ -1,8 +1,9 @@
 //! The tick at hand, and the ticks after it in a ring of buckets.
 
-ghost use Rattle.std.specs.Prelude.{◌≡◌, ◌<◌, ◌==◌, ◌+◌, ◌^◌, ◌↔◌, None, Some, [], drop, filter, slice_get, IfOk, IsTrue, OnOk};
+ghost use Rattle.std.specs.Prelude.{ℕ, ◌≡◌, ◌≤◌, length, ◌<◌, ◌==◌, ◌+◌, ◌^◌, ◌↔◌, None, Some, [], drop, filter, slice_get, take, ◌*◌, IfOk, IsTrue, OnOk};
 ghost use Rattle.std.specs.Bool.{OnFalse, OnTrue};
-ghost use Rattle.std.specs.List.{list_any};
+ghost use Rattle.std.specs.List.{list_any, slice_index_or};
+ghost use Rattle.tw_calendar.specs.Turn.{IsTurn, mark_at};
 ghost use Rattle.tw_event.specs.declared.event.Event.{Event};
 ghost use Rattle.tw_event.specs.Order.{event_before, event_same};
 ghost use Rattle.tw_ordered.specs.Buckets.{together};
@@ -11,28 +12,27 @@ ghost use Rattle.tw_ordered.specs.Times.{first_time};
 ghost use Rattle.tw_sim.specs.Ordered.{insert, take_out, times};
 ghost use Rattle.tw_sim.specs.Rising.{IsRising};
 
-use crate::marks::{BUCKETS, first_place, is_ahead, marked_as, slot_of, with_mark, without_mark};
+use crate::marks::{BUCKETS, Marks, PLACES, WORDS, is_ahead, slot_of};
 use crate::tick::Tick;
-use crate::ticks::{any_in_ticks, append_all, end_by, least_of_all};
+use crate::ticks::{any_in_ticks, append_all, empty_ticks, least_of_all};
 use crate::update::Update;
 use std::alloc::{AllocError, Global};
-use std::array;
 use std::marker::Model;
 use tw_event::Event;
 
 /// The events of a tick in order, and those of later ticks in buckets, a tick in each.
 ///
-/// An event at time t, in ticks, is in the bucket with the number t mod 64. Only the 64 ticks after the tick at
+/// An event at time t, in ticks, is in the bucket with the number t mod 1,024. Only the 1,024 ticks after the tick at
 /// hand have buckets, so that each bucket has one tick.
 #[derive(Drop)]
 pub(crate) struct Ring {
     hand: Tick,
     taken: usize,
     tick: u64,
-    marks: u64,
-    buckets: [Tick; 64],
-    // A bit for each empty bucket that has memory, as far as that is known.
-    spares: u64,
+    marks: Marks,
+    buckets: Vec<Tick>,
+    // The places of empty buckets that have memory, as far as that is known.
+    spares: Vec<usize>,
     // A list for each router, for ticks that are dealt out.
     routers: Vec<Tick>,
 }
@@ -54,19 +54,20 @@ impl Ring {
     pub(crate) fn new(alloc: Global, routers: u32) -> Result<Ring, AllocError>
         ensures { IfOk result (λ events. events ≡ []) }
     {
-        let routers = (0..routers).map(|_| Tick::new(alloc)).collect(alloc)?;
+        let routers = empty_ticks(alloc, u64::from(routers))?;
+        let buckets = empty_ticks(alloc, BUCKETS)?;
         Ok(Ring {
             hand: Tick::new(alloc),
             taken: 0,
             tick: 0,
-            marks: 0,
-            buckets: array::from_fn(|_| Tick::new(alloc)),
-            spares: 0,
+            marks: Marks::new(),
+            buckets,
+            spares: Vec::new(alloc),
             routers,
         })
     }
 
-    /// Adds an event where it is a path that arrives, in one of the 64 ticks after the tick at hand, and memory is
+    /// Adds an event where it is a path that arrives, in one of the 1,024 ticks after the tick at hand, and memory is
     /// not refused, and tells whether it did.
     #[inline(always)]
     pub(crate) fn insert(&mut self, event: &Event) -> bool
@@ -85,7 +86,7 @@ impl Ring {
         if !self.buckets[slot].push(time, &update) {
             return false;
         }
-        self.marks = with_mark(self.marks, slot);
+        self.marks.set(slot, true);
         true
     }
 
@@ -99,7 +100,7 @@ impl Ring {
         if self.hand.copy(self.taken, event) {
             return true;
         }
-        self.buckets[first_place(self.marks, self.tick)].copy_least(event)
+        self.buckets[self.marks.first_after(self.tick)].copy_least(event)
     }
 
     /// The time of the least event, in ticks, and `u64::MAX` where there is none.
@@ -110,7 +111,7 @@ impl Ring {
         if self.taken < self.hand.len() {
             return self.hand.time();
         }
-        self.buckets[first_place(self.marks, self.tick)].first_time()
+        self.buckets[self.marks.first_after(self.tick)].first_time()
     }
 
     /// Copies the next event of the tick at hand, where there is one and it is before a limit, in ticks, and tells
@@ -157,7 +158,7 @@ impl Ring {
         if self.taken < self.hand.len() || time <= self.tick {
             return;
         }
-        if time < self.buckets[first_place(self.marks, self.tick)].first_time() {
+        if time < self.buckets[self.marks.first_after(self.tick)].first_time() {
             self.tick = time;
         }
     }
@@ -173,7 +174,7 @@ impl Ring {
             return;
         }
         let base = time - 1;
-        if !end_by(&self.buckets, base.saturating_add(BUCKETS)) {
+        if !are_ahead(&self.buckets, &self.marks, self.tick, base) {
             return;
         }
         if self.taken >= self.hand.len() {
@@ -190,7 +191,7 @@ impl Ring {
             return;
         }
         self.taken = self.hand.len();
-        self.marks = with_mark(self.marks, slot);
+        self.marks.set(slot, true);
         self.tick = base;
     }
 
@@ -208,7 +209,7 @@ impl Ring {
         if self.taken < self.hand.len() {
             return;
         }
-        let place = first_place(self.marks, self.tick);
+        let place = self.marks.first_after(self.tick);
         if self.buckets[place].len() == 0 {
             return;
         }
@@ -216,8 +217,8 @@ impl Ring {
         self.tick = bucket.first_time();
         self.hand.take_over(bucket, &mut self.routers);
         self.taken = 0;
-        self.marks = without_mark(self.marks, place);
-        self.spares = with_mark(self.spares, place);
+        self.marks.set(place, false);
+        let _ = self.spares.push(place);
     }
 
     /// Takes out the least event, where there is one.
@@ -229,7 +230,7 @@ impl Ring {
             self.taken += 1;
             return;
         }
-        let place = first_place(self.marks, self.tick);
+        let place = self.marks.first_after(self.tick);
         if self.buckets[place].len() == 0 {
             return;
         }
@@ -237,8 +238,8 @@ impl Ring {
         self.tick = bucket.first_time();
         self.hand.take_over(bucket, &mut self.routers);
         self.taken = 1;
-        self.marks = without_mark(self.marks, place);
-        self.spares = with_mark(self.spares, place);
+        self.marks.set(place, false);
+        let _ = self.spares.push(place);
     }
 
     /// Takes one event that equals `event` out, and tells whether there was one.
@@ -253,7 +254,7 @@ impl Ring {
         let bucket = &mut self.buckets[slot];
         let found = bucket.remove(0, event);
         let has_more = bucket.len() > 0;
-        self.marks = marked_as(self.marks, slot, has_more);
+        self.marks.set(slot, has_more);
         found
     }
 
@@ -281,7 +282,7 @@ impl Ring {
         ensures { result ≡ list_any (is_before router limit) self.now }
     {
         self.hand.has_before(self.taken, router, limit)
-            || any_in_ticks(&self.buckets, router, limit)
+            || any_in_buckets(&self.buckets, &self.marks, router, limit)
     }
 
     /// Puts its events at the end of a list.
@@ -296,6 +297,50 @@ impl Ring {
     }
 }
 
+// Whether all events of buckets, which are after a tick, have buckets after a base before it too.
+fn are_ahead(buckets: &[Tick], marks: &Marks, tick: u64, base: u64) -> bool
+    requires turn { IsTurn (λ e. e.time) tick marks.now buckets.now }
+    requires back { base < tick }
+    ensures { OnTrue result ((e : Event) → 0 < times event_same e (together buckets.now) → e.time ≤ base + 1024) }
+{
+    let first = &buckets[marks.first_after(base)];
+    if first.len() == 0 {
+        return true;
+    }
+    if first.first_time() > base.saturating_add(BUCKETS) {
+        return false;
+    }
+    true
+}
+
+// Whether one of the events of buckets is for a router and before a limit, in ticks.
+fn any_in_buckets(buckets: &[Tick], marks: &Marks, router: u32, limit: u64) -> bool
+    requires number { length buckets.now ≡ 1024 }
+    requires marked { (i : ℕ) → i < 1024 → 0 < length (slice_index_or buckets.now i []) → mark_at marks.now i ≡ 1 }
+    ensures { result ≡ list_any (λ events. list_any (is_before router limit) events) buckets.now }
+{
+    for word in 0..WORDS {
+        if any_of_word(buckets, marks, word, router, limit) {
+            return true;
+        }
+    }
+    false
+}
+
+// Whether one of the events of the buckets that a word of marks is for is for a router and before a limit, in ticks.
+fn any_of_word(buckets: &[Tick], marks: &Marks, word: usize, router: u32, limit: u64) -> bool
+    requires number { length buckets.now ≡ 1024 }
+    requires marked { (i : ℕ) → i < 1024 → 0 < length (slice_index_or buckets.now i []) → mark_at marks.now i ≡ 1 }
+    requires word { word < 16 }
+    ensures { result ≡ list_any (λ events. list_any (is_before router limit) events) (take 64 (drop (word * 64) buckets.now)) }
+{
+    if !marks.has_any(word) {
+        return false;
+    }
+    let start = word * PLACES;
+    any_in_ticks(&buckets[start..start + PLACES], router, limit)
+}
+
 // At least as many as there are events in these.
 fn count_all(ticks: &[Tick]) -> usize {
     ticks
@@ -306,16 +351,17 @@ fn count_all(ticks: &[Tick]) -> usize {
 // Gives an empty bucket the memory of another empty one, so that the buckets together have the memory that all
 // events need, and not each its own.
 #[inline(always)]
-fn reuse_memory(buckets: &mut [Tick; 64], spares: &mut u64, to: usize)
-    requires { to < 64 }
-    ensures { buckets.new ≡ buckets.old }
+fn reuse_memory(buckets: &mut Vec<Tick>, spares: &mut Vec<usize>, to: usize)
+    requires { to < length buckets.old.items }
+    ensures { buckets.new.items ≡ buckets.old.items }
 {
-    if buckets[to].len() != 0 || *spares == 0 {
+    if buckets[to].len() != 0 {
         return;
     }
-    let from = slot_of(u64::from(spares.trailing_zeros()));
-    if buckets[from].len() == 0 {
+    let Some(from) = spares.pop() else {
+        return;
+    };
+    if from < buckets.len() && buckets[from].len() == 0 {
         buckets.swap(from, to);
     }
-    *spares = without_mark(*spares, from);
 }

@@ -1,8 +1,8 @@
 //! The events of several ticks.
 
-ghost use Rattle.std.specs.Prelude.{◌≡◌, ◌==◌, ◌+◌, ◌++◌, ◌<◌, ◌≤◌, [], OnOk, filter};
+ghost use Rattle.std.specs.Prelude.{◌≡◌, ◌==◌, ◌+◌, ◌++◌, ◌<◌, ◌≤◌, [], IfOk, OnOk, filter, length};
 ghost use Rattle.std.specs.Bool.{OnTrue};
-ghost use Rattle.std.specs.List.{list_any};
+ghost use Rattle.std.specs.List.{All, list_any};
 ghost use Rattle.tw_event.specs.declared.event.Event.{Event as AnEvent};
 ghost use Rattle.tw_event.specs.Order.{event_same};
 ghost use Rattle.tw_ordered.specs.Buckets.{together};
@@ -13,7 +13,7 @@ ghost use Rattle.tw_sim.specs.Ordered.{times};
 
 use crate::tick::Tick;
 use crate::update::{End, Update};
-use std::alloc::AllocError;
+use std::alloc::{AllocError, Global};
 use tw_event::Event;
 
 /// Puts the events of ticks at the end of a list.
@@ -21,21 +21,33 @@ pub(crate) fn append_all(ticks: &[Tick], events: &mut Vec<Event>) -> Result<(), 
     ensures { OnOk result (events.new.items ≡ events.old.items ++ together ticks.now) }
 {
     for tick in ticks {
-        tick.append_from(0, events)?;
+        append_tick(tick, events)?;
     }
     Ok(())
 }
 
-/// Whether no event of ticks is after a time, in ticks.
-pub(crate) fn end_by(ticks: &[Tick], latest: u64) -> bool
-    ensures { OnTrue result ((e : AnEvent) → 0 < times event_same e (together ticks.now) → e.time ≤ latest) }
+// Puts the events of a tick at the end of a list.
+#[inline(always)]
+fn append_tick(tick: &Tick, events: &mut Vec<Event>) -> Result<(), AllocError>
+    ensures { OnOk result (events.new.items ≡ events.old.items ++ tick.now) }
 {
-    for tick in ticks {
-        if tick.len() > 0 && tick.time() > latest {
-            return false;
-        }
+    // Most ticks of a ring have none.
+    if tick.len() == 0 {
+        return Ok(());
     }
-    true
+    tick.append_from(0, events)
+}
+
+/// So many ticks, without events.
+pub(crate) fn empty_ticks(alloc: Global, count: u64) -> Result<Vec<Tick>, AllocError>
+    ensures number { IfOk result (λ ticks. length ticks.items ≡ count) }
+    ensures empty { IfOk result (λ ticks. All (λ events. events ≡ []) ticks.items) }
+{
+    let mut ticks = Vec::new(alloc);
+    for number in 0..count {
+        ticks.push(Tick::new(alloc))?;
+    }
+    Ok(ticks)
 }
 
 /// Whether one of the events of ticks is for a router and before a limit, in ticks.

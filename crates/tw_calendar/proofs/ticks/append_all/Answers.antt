@@ -11,5 +11,5 @@ loop-tick-preserved c =
     let old = c.loop-tick.events.items in
     let rest = together (drop (i + 1) lists) in
     let parts = together_from i bucket lists c.loop-tick-test.true c.tick-item.is in
-    let more = c.in_ok-append_from.ensures in
+    let more = c.in_ok-append_tick.ensures in
     ap (λ xs. xs ++ rest) more ∙ append_assoc old bucket rest ∙ ap (λ xs. old ++ xs) (sym parts) ∙ c.loop-tick.invariant

@@ -8,4 +8,4 @@ use Rattle.tw_calendar.proofs.calendar.Calendar.are_in_order.Goals as goal
 pub returns : goal.returns
 returns c =
     let a = c.self.inside in
-    subst (λ xs. IsRising event_before event_same xs) c.self.view_is (rising-in_order event_before event_same event_law (a.ring ++ a.wheels))
+    subst (λ xs. IsRising event_before event_same xs) c.self.view_is (rising-in_order event_before event_same event_law (a.ring ++ a.wheel))

@@ -9,11 +9,11 @@ use Rattle.tw_ordered.proofs.Told.{on_both, on_true}
 use Rattle.tw_ordered.proofs.Ordered.{rising-in_order}
 use Rattle.tw_calendar.proofs.calendar.Calendar.copy_hand.Goals as goal
 
-first : (c : goal.After-copy_hand) → first_time c.self.inside.ring < c.min.result → slice_get (in_order event_before (c.self.inside.ring ++ c.self.inside.wheels)) 0 ≡ slice_get c.self.inside.ring 0
+first : (c : goal.After-copy_hand) → first_time c.self.inside.ring < c.min.result → slice_get (in_order event_before (c.self.inside.ring ++ c.self.inside.wheel)) 0 ≡ slice_get c.self.inside.ring 0
 first c l =
     let a = c.self.inside in
     let m = c.min.ensures in
-    sooner_ring a.ring a.wheels c.min.result c.taken.ensures (omega (arith, c.soonest.type_inv)) l (λ e there.
+    sooner_ring a.ring a.wheel c.min.result c.taken.ensures (omega (arith, c.soonest.type_inv)) l (λ e there.
     let k = c.soonest.ensures e there in
     omega arith)
 
@@ -26,11 +26,11 @@ returns-clause-before c =
     let a = c.self.inside in
     on_true c.copy_hand.result (λ before.
     let m = c.min.ensures in
-    let t = first_time_of (in_order event_before (a.ring ++ a.wheels)) a.ring (first c before) in
+    let t = first_time_of (in_order event_before (a.ring ++ a.wheel)) a.ring (first c before) in
     let v = ap first_time c.self.view_is in
     omega (arith, before)) c.copy_hand.ensures.before
 
 pub returns-clause-rising : goal.returns-clause-rising
 returns-clause-rising c =
     let a = c.self.inside in
-    subst (λ xs. IsRising event_before event_same xs) c.self.view_is (rising-in_order event_before event_same event_law (a.ring ++ a.wheels))
+    subst (λ xs. IsRising event_before event_same xs) c.self.view_is (rising-in_order event_before event_same event_law (a.ring ++ a.wheel))

@@ -5,7 +5,7 @@ use Rattle.tw_calendar.proofs.calendar.Calendar.count.Goals as goal
 pub returns : goal.returns
 returns c =
     let a = c.self.inside in
-    let n = counted c.args.event.now a.ring a.wheels c.args.self.now c.self.view_is in
+    let n = counted c.args.event.now a.ring a.wheel c.args.self.now c.self.view_is in
     let r = c.count.ensures.times in
     let s = c.count-2.ensures.times in
     omega arith

@@ -10,7 +10,7 @@ pub returns : goal.returns
 returns c =
     let a = c.self.inside in
     let r = c.args.router in
-    c.least_for.ensures ∙ ap (λ o. least_with o (filter (λ e. e.dst == r) a.wheels)) (c.least_at.ensures ∙ first_passed (λ e. e.dst == r) a.ring c.taken.ensures)
-    ∙ least_for_both (λ e. e.dst == r) None a.ring a.wheels
-    ∙ sym (first_passed (λ e. e.dst == r) (in_order event_before (a.ring ++ a.wheels)) (rising-in_order event_before event_same event_law (a.ring ++ a.wheels)))
+    c.least_for.ensures ∙ ap (λ o. least_with o (filter (λ e. e.dst == r) a.wheel)) (c.least_at.ensures ∙ first_passed (λ e. e.dst == r) a.ring c.taken.ensures)
+    ∙ least_for_both (λ e. e.dst == r) None a.ring a.wheel
+    ∙ sym (first_passed (λ e. e.dst == r) (in_order event_before (a.ring ++ a.wheel)) (rising-in_order event_before event_same event_law (a.ring ++ a.wheel)))
     ∙ ap (λ xs. slice_get (filter (λ e. e.dst == r) xs) 0) c.self.view_is

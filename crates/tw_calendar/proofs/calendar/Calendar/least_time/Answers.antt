@@ -8,5 +8,5 @@ use Rattle.tw_calendar.proofs.calendar.Calendar.least_time.Goals as goal
 pub returns-then-time-soonest : goal.returns-then-time-soonest
 returns-then-time-soonest c =
     let a = c.self.inside in
-    let first = sooner_ring a.ring a.wheels c.soonest.result c.taken.ensures (omega (arith, c.soonest.type_inv)) (omega (arith, sym c.least_time-time.ensures, c.if-time-soonest.true)) c.soonest.ensures in
-    c.least_time-time.ensures ∙ sym (first_time_of (in_order event_before (a.ring ++ a.wheels)) a.ring first) ∙ ap first_time c.self.view_is
+    let first = sooner_ring a.ring a.wheel c.soonest.result c.taken.ensures (omega (arith, c.soonest.type_inv)) (omega (arith, sym c.least_time-time.ensures, c.if-time-soonest.true)) c.soonest.ensures in
+    c.least_time-time.ensures ∙ sym (first_time_of (in_order event_before (a.ring ++ a.wheel)) a.ring first) ∙ ap first_time c.self.view_is

@@ -12,7 +12,7 @@ returns-clause-some c =
     let v = c.self.invariant in
     let l : a.taken < length a.hand = omega (arith, c.len.ensures, c.if-self-len.false) in
     on_true c.copy.result (λ first.
-    first ∙ slice_left a.taken a.hand ∙ first_taken a.tick (together a.buckets) v.turn.after (hand_of a) (some_left a.taken a.hand l) v.rising v.begun ∙ ap (λ r. slice_get r 0) c.self.view_is) c.copy.ensures.some
+    first ∙ slice_left a.taken a.hand ∙ first_taken a.tick (together a.buckets.items) v.turn.after (hand_of a) (some_left a.taken a.hand l) v.rising v.begun ∙ ap (λ r. slice_get r 0) c.self.view_is) c.copy.ensures.some
 
 pub returns-clause-before : goal.returns-clause-before
 returns-clause-before c =
@@ -21,5 +21,5 @@ returns-clause-before c =
     let l : a.taken < length a.hand = omega (arith, c.len.ensures, c.if-self-len.false) in
     let time : c.time.result ≡ first_time c.args.self.now =
     time_left c.time.result a.hand a.taken l (c.time.ensures a.taken)
-    ∙ time_taken a.tick (together a.buckets) v.turn.after (hand_of a) (some_left a.taken a.hand l) v.rising v.begun ∙ ap first_time c.self.view_is in
+    ∙ time_taken a.tick (together a.buckets.items) v.turn.after (hand_of a) (some_left a.taken a.hand l) v.rising v.begun ∙ ap first_time c.self.view_is in
     on_true c.copy.result (λ first. omega (arith, time, c.if-time-limit.false)) c.copy.ensures.some

@@ -1,4 +1,4 @@
-use Rattle.std.proofs.Common.{◌≡◌, ◌<◌, ◌++◌, None, Some, [], length, get_or, slice_get, ap, sym, ◌∙◌, subst}
+use Rattle.std.proofs.Common.{◌≡◌, ◌<◌, ◌++◌, None, Some, [], length, slice_get, ap, sym, ◌∙◌, subst}
 use Rattle.std.specs.Bool.{OnFalse, OnTrue}
 use Rattle.std.proofs.lemmas.List.{drop_all, get_or_read}
 use Rattle.tw_event.specs.Order.{event_before}
@@ -13,20 +13,20 @@ returns-then-copy-clause-some c =
     let a = c.self.inside in
     let v = c.self.invariant in
     let told = c.if-copy.ensures in
-    told.some ∙ slice_left a.taken a.hand ∙ first_taken a.tick (together a.buckets) v.turn.after (hand_of a) (some_left a.taken a.hand told.within) v.rising v.begun
+    told.some ∙ slice_left a.taken a.hand ∙ first_taken a.tick (together a.buckets.items) v.turn.after (hand_of a) (some_left a.taken a.hand told.within) v.rising v.begun
     ∙ ap (λ r. slice_get r 0) c.self.view_is
 
 -- the least of the first bucket
-least : (c : goal.After-copy_least) → least_with None (get_or c.self.inside.buckets c.first_place.result c.index-self-first_place.result) ≡ slice_get c.args.self.now 0
+least : (c : goal.After-copy_least) → least_with None c.index.result.now ≡ slice_get c.args.self.now 0
 least c =
     let a = c.self.inside in
     let v = c.self.invariant in
-    let p = c.first_place.result in
+    let p = c.first_after.result in
     let none : hand_of a ≡ [] = drop_all a.taken a.hand c.if-copy.ensures.beyond in
-    let in_it : p < length a.buckets = inside a.tick a.marks a.buckets v.turn p c.first_place.ensures in
-    ap (least_with None) (sym c.index-self-first_place.is ∙ get_or_read a.buckets p c.index-self-first_place.result in_it c.index-self-first_place.is [])
-    ∙ first_of_place a.tick a.marks a.buckets v.turn p c.first_place.ensures
-    ∙ ap (λ hand. slice_get (in_order event_before (hand ++ together a.buckets)) 0) (sym none) ∙ ap (λ r. slice_get r 0) c.self.view_is
+    let in_it : p < length a.buckets.items = inside a.tick a.marks a.buckets.items v.turn p c.first_after.ensures in
+    ap (least_with None) (get_or_read a.buckets.items p c.index.result.now in_it c.index.ensures [])
+    ∙ first_of_place a.tick a.marks a.buckets.items v.turn p c.first_after.ensures
+    ∙ ap (λ hand. slice_get (in_order event_before (hand ++ together a.buckets.items)) 0) (sym none) ∙ ap (λ r. slice_get r 0) c.self.view_is
 
 pub returns-clause-some : goal.returns-clause-some
 returns-clause-some c =

@@ -14,6 +14,6 @@ pub returns-clause-times : goal.returns-clause-times
 returns-clause-times c =
     let a = c.self.inside in
     let e = c.args.event.now in
-    let b = c.index-self-slot_of in
-    c.count-2.ensures.times ∙ bucket_count a c.self.invariant e (omega (arith, c.if-event-self.false)) c.slot_of.result c.slot_of.ensures b.result b.is
+    let b = c.index in
+    c.count-2.ensures.times ∙ bucket_count a c.self.invariant e (omega (arith, c.if-event-self.false)) c.slot_of.result c.slot_of.ensures b.result.now b.ensures
     ∙ ap (times event_same e) c.self.view_is

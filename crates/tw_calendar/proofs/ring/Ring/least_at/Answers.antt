@@ -9,5 +9,5 @@ pub returns : goal.returns
 returns c =
     let a = c.self.inside in
     let r = c.args.router in
-    c.least_of_all.ensures ∙ ap (λ o. least_with o (filter (λ e. e.dst == r) (together a.buckets))) c.least_at-least.ensures
-    ∙ least_passed (λ e. e.dst == r) (hand_of a) (together a.buckets) ∙ ap (λ xs. slice_get (filter (λ e. e.dst == r) xs) 0) c.self.view_is
+    rw c.deref.ensures.value at c.least_of_all.ensures ∙ ap (λ o. least_with o (filter (λ e. e.dst == r) (together a.buckets.items))) c.least_at-least.ensures
+    ∙ least_passed (λ e. e.dst == r) (hand_of a) (together a.buckets.items) ∙ ap (λ xs. slice_get (filter (λ e. e.dst == r) xs) 0) c.self.view_is

@@ -27,18 +27,18 @@ pub invariant_of-self-2 : goal.invariant_of-self-2
 invariant_of-self-2 c =
     let a = c.self.inside in
     let v = c.self.invariant in
-    let m = c.marked_as-self-inside in
+    let m = c.set in
     record {
       taken = v.taken;
       rising = v.rising;
       begun = v.begun;
       turn =
-          turn_taken (λ e. e.time) a.tick a.marks a.buckets v.turn c.args.event.now c.slot_of-slot.result c.slot_of-slot.ensures c.index-self-slot.result c.index-self-slot.is c.remove-found.new.self
-          c.remove-found.ensures.left m.result (λ l. marked_more c.len-has_more.result (omega (arith, c.len-has_more.ensures, l)) m.ensures.marked)
+          turn_taken (λ e. e.time) a.tick a.marks a.buckets.items v.turn c.args.event.now c.slot_of-slot.result c.slot_of-slot.ensures c.index_mut-bucket.result.now c.index_mut-bucket.ensures.value c.remove-found.new.self
+          c.remove-found.ensures.left m.new.self (λ l. marked_more c.len-has_more.result (omega (arith, c.len-has_more.ensures, l)) m.ensures.marked)
           (λ z. marked_none c.len-has_more.result (c.len-has_more.ensures ∙ ap length z) m.ensures.clear) m.ensures.others;
     }
 
-late : (c : goal.After-self-1) → c.self.inside.tick < c.args.event.now.time
+late : (c : goal.After-set) → c.self.inside.tick < c.args.event.now.time
 late c = omega (arith, c.if-event-self.false)
 
 pub returns-clause-found : goal.returns-clause-found
@@ -46,12 +46,12 @@ returns-clause-found c =
     let a = c.self.inside in
     let e = c.args.event.now in
     found_by c.remove-found.result _ _
-    (bucket_count a c.self.invariant e (late c) c.slot_of-slot.result c.slot_of-slot.ensures c.index-self-slot.result c.index-self-slot.is ∙ ap (times event_same e) c.self.view_is)
+    (bucket_count a c.self.invariant e (late c) c.slot_of-slot.result c.slot_of-slot.ensures c.index_mut-bucket.result.now c.index_mut-bucket.ensures.value ∙ ap (times event_same e) c.self.view_is)
     c.remove-found.ensures.found
 
 pub returns-clause-events : goal.returns-clause-events
 returns-clause-events c =
     let a = c.self.inside in
     let e = c.args.event.now in
-    bucket_order a c.self.invariant e (late c) c.slot_of-slot.result c.slot_of-slot.ensures c.index-self-slot.result c.index-self-slot.is c.remove-found.new.self c.remove-found.ensures.left
+    bucket_order a c.self.invariant e (late c) c.slot_of-slot.result c.slot_of-slot.ensures c.index_mut-bucket.result.now c.index_mut-bucket.ensures.value c.remove-found.new.self c.remove-found.ensures.left
     ∙ ap (take_out event_same e) c.self.view_is

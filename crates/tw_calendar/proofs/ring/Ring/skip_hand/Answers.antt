@@ -27,8 +27,8 @@ returns-clause-taken c =
     let a = c.self.inside in
     let v = c.self.invariant in
     let l : a.taken < length a.hand = omega (arith, c.len.ensures, c.if-self-len.false) in
-    ap (λ hand. in_order event_before (hand ++ together a.buckets)) (drop_more a.taken a.hand)
-    ∙ rest_taken a.tick (together a.buckets) v.turn.after (hand_of a) (some_left a.taken a.hand l) v.rising v.begun ∙ ap (drop 1) c.self.view_is
+    ap (λ hand. in_order event_before (hand ++ together a.buckets.items)) (drop_more a.taken a.hand)
+    ∙ rest_taken a.tick (together a.buckets.items) v.turn.after (hand_of a) (some_left a.taken a.hand l) v.rising v.begun ∙ ap (drop 1) c.self.view_is
 
 pub returns-clause-before : goal.returns-clause-before
 returns-clause-before c =
@@ -37,5 +37,5 @@ returns-clause-before c =
     let l : a.taken < length a.hand = omega (arith, c.len.ensures, c.if-self-len.false) in
     let time : c.time.result ≡ first_time c.args.self.now =
     time_left c.time.result a.hand a.taken l (c.time.ensures a.taken)
-    ∙ time_taken a.tick (together a.buckets) v.turn.after (hand_of a) (some_left a.taken a.hand l) v.rising v.begun ∙ ap first_time c.self.view_is in
+    ∙ time_taken a.tick (together a.buckets.items) v.turn.after (hand_of a) (some_left a.taken a.hand l) v.rising v.begun ∙ ap first_time c.self.view_is in
     omega (arith, time, c.if-time-limit.false)

@@ -32,8 +32,8 @@ returns-then-self-len c =
     let a = c.self.inside in
     let v = c.self.invariant in
     let l : a.taken < length a.hand = omega (arith, c.len.ensures, c.if-self-len.true) in
-    ap (λ hand. in_order event_before (hand ++ together a.buckets)) (drop_more a.taken a.hand)
-    ∙ rest_taken a.tick (together a.buckets) v.turn.after (hand_of a) (some_left a.taken a.hand l) v.rising v.begun ∙ ap (drop 1) c.self.view_is
+    ap (λ hand. in_order event_before (hand ++ together a.buckets.items)) (drop_more a.taken a.hand)
+    ∙ rest_taken a.tick (together a.buckets.items) v.turn.after (hand_of a) (some_left a.taken a.hand l) v.rising v.begun ∙ ap (drop 1) c.self.view_is
 
 over : (lists : List (List Event)) (now : List Event) → in_order event_before (together lists) ≡ now → together lists ≡ [] → now ≡ []
 unfolding in_order
@@ -43,48 +43,48 @@ pub returns-then-len-eq0 : goal.returns-then-len-eq0
 returns-then-len-eq0 c =
     let a = c.self.inside in
     let v = c.self.invariant in
-    let p = c.first_place-place.result in
-    let f = c.first_place-place.ensures in
-    let b = c.index-self-place in
-    let old = read_first a v p f b.result b.is in
+    let p = c.first_after-place.result in
+    let f = c.first_after-place.ensures in
+    let b = c.index in
+    let old = read_first a v p f b.result.now b.ensures in
     let beyond : length a.hand ≤ a.taken = omega (arith, c.len.ensures, c.if-self-len.false) in
-    let none = none_marked (λ e. e.time) a.tick a.marks a.buckets v.turn p f (no_length (get_or a.buckets p []) (omega (arith, c.len-2.ensures, ap length old, c.if-len-eq0.true))) in
-    let z = over a.buckets c.args.self.now (later_ticks a.hand a.taken a.buckets c.args.self.now beyond c.self.view_is) none in
+    let none = none_marked (λ e. e.time) a.tick a.marks a.buckets.items v.turn p f (no_length (get_or a.buckets.items p []) (omega (arith, c.len-2.ensures, ap length old, c.if-len-eq0.true))) in
+    let z = over a.buckets.items c.args.self.now (later_ticks a.hand a.taken a.buckets.items c.args.self.now beyond c.self.view_is) none in
     z ∙ ap (drop 1) (sym z)
 
 pub invariant_of-self-2 : goal.invariant_of-self-2
 invariant_of-self-2 c =
     let a = c.self.inside in
     let v = c.self.invariant in
-    let p = c.first_place-place.result in
-    let f = c.first_place-place.ensures in
-    let m = c.without_mark-self-inside in
-    let b = c.index-self-place in
-    let b2 = c.index-self-place-2 in
-    let old = read_first a v p f b.result b.is in
-    let read = read_first a v p f b2.result b2.is in
-    let filled : c.take_over.new.self ≡ in_order event_before (get_or a.buckets p []) = c.take_over.ensures.events ∙ ap (in_order event_before) read in
-    let some : 0 < length (get_or a.buckets p []) = omega (arith, c.len-2.ensures, ap length old, c.if-len-eq0.false) in
+    let p = c.first_after-place.result in
+    let f = c.first_after-place.ensures in
+    let m = c.set in
+    let b = c.index in
+    let b2 = c.index_mut-bucket in
+    let old = read_first a v p f b.result.now b.ensures in
+    let read = read_first a v p f b2.result.now b2.ensures.value in
+    let filled : c.take_over.new.self ≡ in_order event_before (get_or a.buckets.items p []) = c.take_over.ensures.events ∙ ap (in_order event_before) read in
+    let some : 0 < length (get_or a.buckets.items p []) = omega (arith, c.len-2.ensures, ap length old, c.if-len-eq0.false) in
     let beyond : length a.hand ≤ a.taken = omega (arith, c.len.ensures, c.if-self-len.false) in
-    let long = ap length filled ∙ length-in_order event_before event_same (get_or a.buckets p []) in
-    begun_ring a _ v p f some filled (omega (arith, some, long)) (c.first_time-self-inside.ensures ∙ ap first_time read) (ap (set a.buckets p) c.take_over.ensures.empty) m.ensures.same m.ensures.others
+    let long = ap length filled ∙ length-in_order event_before event_same (get_or a.buckets.items p []) in
+    begun_ring a _ v p f some filled (omega (arith, some, long)) (c.first_time-self-inside.ensures ∙ ap first_time read) (ap (set a.buckets.items p) c.take_over.ensures.empty) m.ensures.clear m.ensures.others
 
 pub returns : goal.returns
 returns c =
     let a = c.self.inside in
     let v = c.self.invariant in
-    let p = c.first_place-place.result in
-    let f = c.first_place-place.ensures in
-    let m = c.without_mark-self-inside in
-    let b = c.index-self-place in
-    let b2 = c.index-self-place-2 in
-    let old = read_first a v p f b.result b.is in
-    let read = read_first a v p f b2.result b2.is in
-    let filled : c.take_over.new.self ≡ in_order event_before (get_or a.buckets p []) = c.take_over.ensures.events ∙ ap (in_order event_before) read in
-    let some : 0 < length (get_or a.buckets p []) = omega (arith, c.len-2.ensures, ap length old, c.if-len-eq0.false) in
+    let p = c.first_after-place.result in
+    let f = c.first_after-place.ensures in
+    let m = c.set in
+    let b = c.index in
+    let b2 = c.index_mut-bucket in
+    let old = read_first a v p f b.result.now b.ensures in
+    let read = read_first a v p f b2.result.now b2.ensures.value in
+    let filled : c.take_over.new.self ≡ in_order event_before (get_or a.buckets.items p []) = c.take_over.ensures.events ∙ ap (in_order event_before) read in
+    let some : 0 < length (get_or a.buckets.items p []) = omega (arith, c.len-2.ensures, ap length old, c.if-len-eq0.false) in
     let beyond : length a.hand ≤ a.taken = omega (arith, c.len.ensures, c.if-self-len.false) in
-    let long = length-in_order event_before event_same (get_or a.buckets p []) in
-    rw (filled, c.take_over.ensures.empty) (rest_taken (first_time (get_or a.buckets p [])) (together (set a.buckets p []))
-    (begin_after a.tick a.marks a.buckets v.turn p f m.result m.ensures.same m.ensures.others some) (in_order event_before (get_or a.buckets p []))
-    (omega (arith, some, long)) (rising-in_order event_before event_same event_law (get_or a.buckets p [])) (begin_begun a.tick a.marks a.buckets v.turn p f)
-    ∙ ap (drop 1) (begin_order a.tick a.marks a.buckets v.turn p f ∙ later_ticks a.hand a.taken a.buckets c.args.self.now beyond c.self.view_is))
+    let long = length-in_order event_before event_same (get_or a.buckets.items p []) in
+    rw (filled, c.take_over.ensures.empty) (rest_taken (first_time (get_or a.buckets.items p [])) (together (set a.buckets.items p []))
+    (begin_after a.tick a.marks a.buckets.items v.turn p f m.new.self m.ensures.clear m.ensures.others some) (in_order event_before (get_or a.buckets.items p []))
+    (omega (arith, some, long)) (rising-in_order event_before event_same event_law (get_or a.buckets.items p [])) (begin_begun a.tick a.marks a.buckets.items v.turn p f)
+    ∙ ap (drop 1) (begin_order a.tick a.marks a.buckets.items v.turn p f ∙ later_ticks a.hand a.taken a.buckets.items c.args.self.now beyond c.self.view_is))

@@ -10,4 +10,4 @@ use Rattle.tw_calendar.proofs.ring.Ring.taken.Goals as goal
 pub returns : goal.returns
 returns c =
     let a = c.self.inside in
-    subst (λ xs. IsRising event_before event_same xs) c.self.view_is (rising-in_order event_before event_same event_law (hand_of a ++ together a.buckets))
+    subst (λ xs. IsRising event_before event_same xs) c.self.view_is (rising-in_order event_before event_same event_law (hand_of a ++ together a.buckets.items))
