@@ -1,6 +1,6 @@
 //! Making shapes.
 
-ghost use Rattle.std.specs.Prelude.{◌≡◌, [], ◌∷◌, ◌++◌, map, slice_index, OnErr, OnOk};
+ghost use Rattle.std.specs.Prelude.{◌≡◌, ◌≤◌, ◌+◌, [], ◌∷◌, ◌++◌, length, map, slice_index, vec_capacity, vec_len, OnErr, OnOk};
 ghost use Rattle.tw_event.specs.Order.{event_before};
 ghost use Rattle.tw_shape.specs.Shape.{seen_from};
 ghost use Rattle.tw_sim.specs.Ordered.{insert_all};
@@ -86,9 +86,9 @@ impl ShapeBuilder {
             order: order.len(),
             barred: barred.len(),
         });
-        self.rows.extend_from_slice(rows).unwrap();
-        self.order.extend_from_slice(order).unwrap();
-        self.barred.extend_from_slice(barred).unwrap();
+        put_each(&mut self.rows, rows);
+        put_each(&mut self.order, order);
+        put_each(&mut self.barred, barred);
         Ok(())
     }
 
@@ -111,5 +111,23 @@ impl ShapeBuilder {
             events: pending,
         };
         Shape::of_parts(parts, pending)
+    }
+}
+
+// So many items are put in one by one: a call to copy them all costs more.
+const FEW_ITEMS: usize = 8;
+
+/// Puts items at the end of a list that has room for them.
+#[inline(always)]
+fn put_each<T: Copy>(list: &mut Vec<T>, items: &[T])
+    requires { vec_len list.old + length items.now ≤ vec_capacity list.old }
+    ensures { list.new.items ≡ list.old.items ++ items.now }
+{
+    if items.len() > FEW_ITEMS {
+        list.extend_from_slice(items).unwrap();
+        return;
+    }
+    for item in items {
+        list.push_reserved(*item);
     }
 }

@@ -151,10 +151,11 @@ impl Watch {
         ensures same { self.new ≡ self.old }
         ensures gap_same { gap.new ≡ gap.old }
     {
-        if !gap.shape.can_repeat() {
+        // Of most shapes this is the answer, and costs little.
+        if !self.may_have(&gap.shape) {
             return None;
         }
-        if !self.may_have(&gap.shape) {
+        if !gap.shape.can_repeat() {
             return None;
         }
         first_finding(self.window.make_contiguous(), self.every, gap)
