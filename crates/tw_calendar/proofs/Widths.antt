@@ -17,6 +17,7 @@ use Rattle.tw_calendar.specs.Wheel.{width_of}
 use Rattle.tw_calendar.specs.Turn.{IsFirstMark, IsTurn, mark_at}
 use Rattle.tw_ordered.proofs.Ordered.{in_order-taken, take_out_none, times-in_order}
 use Rattle.tw_ordered.proofs.Events.{event_law, same_some}
+use Rattle.tw_ordered.proofs.Released.{no_length}
 use Rattle.tw_ordered.proofs.Lists.{times-push, times-set, times-take_out-le}
 use Rattle.tw_calendar.proofs.Turns.{cut_counts, first_least, least_all, none_marked, place_within, placed_count, taken_is, turn_less}
 
@@ -102,6 +103,13 @@ module _ (base : ℕ) (marks : List ℕ) (lists : List (List Event)) (t : IsTurn
         let z = none_marked width_of base marks lists t p f (sym read ∙ no_first bucket h) in
         let n = ap (times event_same e) z in
         let l = of_all e (together lists) there in
+        omega arith
+
+    pub none_there : length bucket ≡ 0 → (e : Event) → times event_same e (in_order event_before (together lists)) ≡ 0
+    none_there h e =
+        let z = none_marked width_of base marks lists t p f (sym read ∙ no_length bucket h) in
+        let n = ap (times event_same e) z in
+        let l = times-in_order event_before event_same event_law e (together lists) in
         omega arith
 
     -- the least event of the first bucket is the least of all

@@ -55,9 +55,6 @@ abbrev pub IsClear : List ℕ → ℕ → ℕ → ℕ → Type 0
 IsClear words from base n = (k : ℕ) → k + from % 64 < n → k < 1024 → mark_at words ((base + 1 + k) % 1024) ≡ 0
 
 module _ (words : List ℕ) (from base : ℕ) (same : (base + 1) % 1024 ≡ from) where
-  pub nothing_clear : IsClear words from base (from % 64)
-  nothing_clear k l m = absurd (omega arith)
-
   module _ (step word value : ℕ) (word_is : word ≡ (from / 64 + step) % 16) (value_is : value ≡ get_or words word 0) where
     read : (k : ℕ) → step * 64 ≤ k + from % 64 → k + from % 64 < step * 64 + 64 → mark_at words ((base + 1 + k) % 1024) ≡ bit_at value (k + from % 64 - step * 64)
     read k l m =

@@ -166,8 +166,7 @@ impl Calendar {
     pub(crate) fn begin_next(&mut self, latest: u64)
         ensures { self.new ≡ self.old }
     {
-        send_down(&mut self.ring, &mut self.wheel, latest);
-        begin_first(&mut self.ring, &mut self.wheel, latest);
+        begin_in(&mut self.ring, &mut self.wheel, latest);
     }
 
     /// Takes out the least event, where there is one.
@@ -239,41 +238,58 @@ impl Calendar {
     }
 }
 
-// Sends the events of the next width down into a ring that has no tick at hand, where none of the ring's events is
-// before it and it begins at `latest`, in ticks, at the latest.
+// Begins the next tick of a ring that has none at hand, where it is at `latest`, in ticks, at the latest. Where the
+// wheel's next width begins by then and by the ring's least event, its events go down before.
 #[inline(always)]
-fn send_down(ring: &mut Ring, wheel: &mut Wheel, latest: u64)
+fn begin_in(ring: &mut Ring, wheel: &mut Wheel, latest: u64)
     ensures { in_order event_before (ring.new ++ wheel.new) ≡ in_order event_before (ring.old ++ wheel.old) }
 {
-    if ring.has_tick_at_hand() || wheel.soonest() > latest.min(ring.least_time()) {
+    let time = ring.least_time();
+    if wheel.soonest() > latest.min(time) {
+        begin_at(ring, wheel, latest, time);
         return;
     }
-    send_down_apart(ring, wheel);
+    send_down(ring, wheel);
+    begin_first(ring, wheel, latest);
 }
 
+// Sends the events of the wheel's next width, where there is one, down into a ring.
 #[inline(never)]
-fn send_down_apart(ring: &mut Ring, wheel: &mut Wheel)
+fn send_down(ring: &mut Ring, wheel: &mut Wheel)
     ensures { in_order event_before (ring.new ++ wheel.new) ≡ in_order event_before (ring.old ++ wheel.old) }
 {
+    let start = wheel.soonest();
+    if start == u64::MAX {
+        return;
+    }
     // So that ring and wheel have buckets from the width's begin on.
-    let before = wheel.soonest().saturating_sub(1);
+    let before = start.saturating_sub(1);
     ring.go_to(before);
     wheel.go_to(before);
     wheel.send_down(ring);
 }
 
 // Begins the ring's next tick, where it is at `latest`, in ticks, at the latest and before all in the wheel.
-#[inline(always)]
 fn begin_first(ring: &mut Ring, wheel: &mut Wheel, latest: u64)
     ensures ring { ring.new ≡ ring.old }
     ensures wheel { wheel.new ≡ wheel.old }
 {
     let time = ring.least_time();
-    if time > latest || time >= wheel.soonest() || ring.has_tick_at_hand() {
-        return;
+    if time < wheel.soonest() {
+        begin_at(ring, wheel, latest, time);
     }
-    ring.begin_tick();
-    wheel.go_to(time);
+}
+
+// Begins the ring's next tick, which is at a time, where this is `latest`, in ticks, at the latest.
+#[inline(always)]
+fn begin_at(ring: &mut Ring, wheel: &mut Wheel, latest: u64, time: u64)
+    ensures ring { ring.new ≡ ring.old }
+    ensures wheel { wheel.new ≡ wheel.old }
+{
+    if time <= latest {
+        ring.begin_tick();
+        wheel.go_to(time);
+    }
 }
 
 // The time of the least event of a ring and of the wheel, in ticks, and `u64::MAX` where there is none.

@@ -177,6 +177,10 @@ impl Wheel {
     pub(crate) fn append_to(&self, events: &mut Vec<Event>) -> Result<(), AllocError>
         ensures { OnOk result ((e : AnEvent) → times event_same e events.new.items ≡ times event_same e self.now + times event_same e events.old.items) }
     {
+        // Where delays are short there are none.
+        if self.buckets[self.marks.first_after(self.base)].len() == 0 {
+            return Ok(());
+        }
         append_buckets(&self.buckets, events)
     }
 }

@@ -2,7 +2,7 @@ use Rattle.std.proofs.Common.{ap, arith}
 use Rattle.tw_event.specs.Order.{event_same}
 use Rattle.tw_sim.specs.Ordered.{times}
 use Rattle.tw_calendar.proofs.Stacked.{same_order}
-use Rattle.tw_calendar.proofs.calendar.send_down_apart.Goals as goal
+use Rattle.tw_calendar.proofs.calendar.send_down.Goals as goal
 
 pub returns : goal.returns
 returns c =
