@@ -11,6 +11,14 @@ pub(crate) fn is_full(events: usize, receivers: usize) -> bool {
     events >= FEWEST_EVENTS && events >= receivers / RECEIVERS_FOR_ONE_EVENT
 }
 
+// Lists of so many events each are sorted sooner than all are dealt once more.
+const SHORT_LIST: usize = 4;
+
+/// Whether so many events that are dealt to so many receivers leave short lists.
+pub(crate) fn has_short_lists(events: usize, receivers: usize) -> bool {
+    events / SHORT_LIST < receivers
+}
+
 // Once in so many ticks that are dealt it is looked whether those of a receiver come in the order of their senders:
 // they mostly do, or don't, for long.
 const TICKS_FOR_ONE_LOOK: u32 = 16;

@@ -11,8 +11,8 @@ ghost use Rattle.tw_ordered.specs.Times.{first_time, never};
 ghost use Rattle.tw_calendar.specs.Update.{event_at, events_at};
 ghost use Rattle.tw_sim.specs.Ordered.{take_out, times};
 
-use crate::policy::{is_full, is_look_due};
-use crate::ticks::{clear_all, gather, put_by};
+use crate::policy::{has_short_lists, is_full, is_look_due};
+use crate::ticks::{clear_all, gather, put_by, sort_each};
 use crate::update::{
     End, Update, append_at, count_of, first_of, has_receiver, least_for, place_of,
 };
@@ -214,6 +214,16 @@ impl Tick {
         updates.extend_from_slice(&self.updates).is_ok()
     }
 
+    /// Puts its events in order.
+    #[inline(always)]
+    pub(crate) fn sort(&mut self)
+        ensures { (e : AnEvent) → times event_same e self.new ≡ times event_same e self.old }
+    {
+        if self.updates.len() > 1 {
+            self.updates.sort_unstable()
+        }
+    }
+
     /// Takes all events out. The memory is kept.
     pub(crate) fn clear(&mut self)
         ensures { self.new ≡ [] }
@@ -273,33 +283,39 @@ impl Tick {
 
     // Takes the events of another list in the place of its own, by rising receiver, and tells whether it did:
     // not where they are few for so many routers, nor where memory is refused. Where those of a receiver come
-    // mixed, as by links with several delays or from several workers, they are dealt by sender before.
+    // mixed, as by links with several delays or from several workers, they are put in order receiver by receiver
+    // where these have few each, and else dealt by sender before.
     fn deal(&mut self, other: &Tick, routers: &mut [Tick]) -> bool
         ensures { OnTrue result ((e : AnEvent) → times event_same e self.new ≡ times event_same e other.now) }
     {
-        if !is_full(other.updates.len(), routers.len()) {
+        let count = other.updates.len();
+        if !is_full(count, routers.len()) {
             return false;
         }
         let looks = is_look_due(self.dealt);
         self.dealt = self.dealt.wrapping_add(1);
-        if self.is_mixed && !looks {
-            return self.deal_by(End::Sender, other, routers) && self.deal_again(routers);
+        let sorts = self.is_mixed && !looks;
+        if sorts && !has_short_lists(count, routers.len()) {
+            return self.deal_by(End::Sender, false, other, routers) && self.deal_again(routers);
         }
-        let is_dealt = self.deal_by(End::Receiver, other, routers);
+        let is_dealt = self.deal_by(End::Receiver, sorts, other, routers);
         if looks {
             self.is_mixed = !self.updates.is_sorted();
         }
         is_dealt
     }
 
-    // Takes the events of another list in the place of its own, by rising router at one end, and tells whether it
-    // did: not where memory is refused.
-    fn deal_by(&mut self, end: End, other: &Tick, routers: &mut [Tick]) -> bool
+    // Takes the events of another list in the place of its own, by rising router at one end, and those of a router
+    // in order where it sorts. It is told whether it did: not where memory is refused.
+    fn deal_by(&mut self, end: End, sorts: bool, other: &Tick, routers: &mut [Tick]) -> bool
         ensures { OnTrue result ((e : AnEvent) → times event_same e self.new ≡ times event_same e other.now) }
     {
         clear_all(routers);
         if !put_by(end, other.time, &other.updates, routers) {
             return false;
+        }
+        if sorts {
+            sort_each(routers);
         }
         self.clear();
         self.time = other.time;

@@ -81,6 +81,15 @@ pub(crate) fn gather(time: u64, ticks: &[Tick], updates: &mut Vec<Update>) -> bo
     true
 }
 
+/// Puts the events of each tick in order.
+pub(crate) fn sort_each(ticks: &mut [Tick])
+    ensures { (e : AnEvent) → times event_same e (together ticks.new) ≡ times event_same e (together ticks.old) }
+{
+    for place in 0..ticks.len() {
+        ticks[place].sort();
+    }
+}
+
 /// Takes all events out of ticks.
 pub(crate) fn clear_all(ticks: &mut [Tick])
     ensures { together ticks.new ≡ [] }

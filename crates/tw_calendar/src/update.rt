@@ -114,7 +114,8 @@ pub(crate) fn append_at(
 pub(crate) fn place_of(time: u64, updates: &[Update], event: &Event) -> Option<usize>
     ensures { result ≡ position (λ update. ⟦<Event as PartialEq>⟧.eq event.now (event_at time update)) updates.now }
 {
-    updates.iter().position(|update| *event == update.at(time))
+    // Most others differ in their number, which is read at once.
+    updates.iter().position(|update| update.seq == event.seq && *event == update.at(time))
 }
 
 /// How often an event stands among updates of a time, in ticks.

@@ -36,8 +36,9 @@ const FIRST_STRETCH: u64 = 500;
 const TWENTIETHS: u64 = 19;
 
 /// A stretch by several that takes less is followed by one of twice the ticks: between stretches all threads are joined
-/// and started anew, some hundredth of this. A longer one could cost much where other work comes to the processors.
-const LONG_STRETCH: u64 = 50_000;
+/// and started anew, some fortieth of this. Where other work comes to the processors in its middle, it may take ten times
+/// as long, which a user should hardly see.
+const LONG_STRETCH: u64 = 12_000;
 
 /// Several are tried again when one thread has gone on for so many times what the last trial lost, so that all trials
 /// together cost a twentieth at most.
