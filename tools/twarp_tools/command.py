@@ -49,12 +49,14 @@ class Status(enum.IntEnum):
 class Parser(argparse.ArgumentParser):
     """Reads a command line; one that it does not take ends with the status that twarp has for it."""
 
-    def __init__(self, description: str, example: str):
-        how = argparse.RawDescriptionHelpFormatter
+    def __init__(self, told: str | None):
+        """`told` is what a tool's module says of itself: what the tool does, and then examples."""
+        description, begin, examples = (told or "").partition("\nexample")
         if Path(sys.argv[0]).name.startswith("twarp-"):
             # Where twarp is installed its tools have these names.
-            example = re.sub(r"tools/(?=\w+ )", "twarp-", example).replace("./twarp", "twarp")
-        super().__init__(description=description, epilog=example + CLOSING, formatter_class=how)
+            examples = re.sub(r"tools/(?=\w+ )", "twarp-", examples).replace("./twarp", "twarp")
+        how = argparse.RawDescriptionHelpFormatter
+        super().__init__(description=description, epilog=begin + examples + CLOSING, formatter_class=how)
 
     def option(
         self, name: str, metavar: str, told: str, kind: Callable[[str], Any] = str, default: Any = None, **how: Any

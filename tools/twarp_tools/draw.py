@@ -1,4 +1,14 @@
-"""The tool draw: a case, and where a run of it stands, as Graphviz text; what all drawing tools are asked to show."""
+"""Draws a case as Graphviz text on standard output; dot -Tsvg makes the picture. Each router is a box with its permitted
+paths, the best at the top. With a report the path that a router uses is coloured by its place, and so is the arrow to
+the router that it goes to next. With what twarp-policy safe wrote the paths are shown that are left for all timings, and
+a dispute wheel.
+
+examples:
+  tools/draw cases/disagree.spp | dot -Tsvg > disagree.svg
+  ./twarp seq --stop 20 < cases/disagree.spp | tools/draw cases/disagree.spp - | dot -Tsvg > disagree.svg
+  tools/draw --paths-of 3 cases/bad-gadget.spp | dot -Tsvg > paths.svg
+  ./twarp-policy safe < cases/disagree.spp | tools/draw --policy - cases/disagree.spp | dot -Tsvg > wheel.svg
+"""
 import argparse
 import re
 from functools import partial
@@ -9,18 +19,6 @@ from twarp.case import GREATEST_TIME, MOST_PATHS, MOST_ROUTERS, Case, lines_of, 
 from twarp.program import Refused
 from twarp.report import Report, read_report
 from twarp_tools.command import MOST_OF_REPORT, Input, Parser, number_between, title_of, tool, write_output
-
-DESCRIPTION = """\
-Draws a case as Graphviz text on standard output; dot -Tsvg makes the picture. Each router is a box with its permitted
-paths, the best at the top. With a report the path that a router uses is coloured by its place, and so is the arrow to
-the router that it goes to next. With what twarp-policy safe wrote the paths are shown that are left for all timings, and
-a dispute wheel."""
-EXAMPLE = """\
-examples:
-  tools/draw cases/disagree.spp | dot -Tsvg > disagree.svg
-  ./twarp seq --stop 20 < cases/disagree.spp | tools/draw cases/disagree.spp - | dot -Tsvg > disagree.svg
-  tools/draw --paths-of 3 cases/bad-gadget.spp | dot -Tsvg > paths.svg
-  ./twarp-policy safe < cases/disagree.spp | tools/draw --policy - cases/disagree.spp | dot -Tsvg > wheel.svg"""
 
 NAME_LINE = re.compile(r"(0|[1-9][0-9]{0,3}) (\S.*)\n?")
 
@@ -58,9 +56,9 @@ def read_routers(words: str) -> list[int]:
     return list(routers)
 
 
-def parser_of(description: str, example: str, case: str = "the case", unit: str = "") -> Parser:
+def parser_of(told: str | None, case: str = "the case", unit: str = "") -> Parser:
     """Of a case, its report and a part of it, with names; `unit` says what else than times is counted."""
-    parser = Parser(description, example)
+    parser = Parser(told)
     parser.add_argument("case", metavar="CASE", help=f"{case}; - is standard input")
     parser.add_argument("report", metavar="REPORT", nargs="?", default="-", help="the report; else standard input")
     time = number_between(0, GREATEST_TIME)
@@ -104,7 +102,7 @@ def safety_of(line: argparse.Namespace, case: Case) -> calls.Safety | None:
 
 @tool
 def main() -> None:
-    parser = Parser(DESCRIPTION, EXAMPLE)
+    parser = Parser(__doc__)
     parser.add_argument("case", metavar="CASE", nargs="?", default="-", help="the case; else standard input")
     parser.add_argument("report", metavar="REPORT", nargs="?", help="the report of a run of it; - is standard input")
     router, count = number_between(0, MOST_ROUTERS - 1), number_between(0, MOST_PATHS)

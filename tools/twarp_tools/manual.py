@@ -1,6 +1,10 @@
-"""The tool manual: man pages and completions of twarp and twarp-policy, made of their --help and docs/FORMATS.md.
+"""Writes the man page twarp(1), man, or completions for a shell on standard output, made of what twarp --help and the
+--help of each command say; or twarp(5), formats, made of docs/FORMATS.md. Where --program names twarp-policy the page is
+twarp-policy(1), and the completions are its own.
 
-The help is read as clap writes it: usage, commands, options and exit statuses. The pages are in the macros of man(7).
+examples:
+  tools/manual man > twarp.1 && man -l twarp.1
+  tools/manual --program crates/twarp_policy/out/twarp_policy man > twarp-policy.1
 """
 
 import re
@@ -300,19 +304,10 @@ def fish(manual: Manual) -> str:
 
 WRITERS = {"man": man_page, "formats": formats_page, "bash": bash, "zsh": zsh, "fish": fish}
 
-DESCRIPTION = """\
-Writes the man page twarp(1), man, or completions for a shell on standard output, made of what twarp --help and the
---help of each command say; or twarp(5), formats, made of docs/FORMATS.md. Where --program names twarp-policy the page is
-twarp-policy(1), and the completions are its own."""
-EXAMPLE = """\
-examples:
-  tools/manual man > twarp.1 && man -l twarp.1
-  tools/manual --program crates/twarp_policy/out/twarp_policy man > twarp-policy.1"""
-
 
 @tool
 def main() -> None:
-    parser = Parser(DESCRIPTION, EXAMPLE)
+    parser = Parser(__doc__)
     parser.add_argument("kind", choices=WRITERS, help="what is to be written")
     parser.option(*PROGRAM_OPTION)
     line = parser.parse_args()

@@ -1,19 +1,29 @@
-"""The tool import: a network in GraphML or GML becomes a case."""
+"""Makes a case of a network in GraphML or GML, on standard output.
 
-import heapq
+It may be packed by gzip or bzip2. The destination becomes router 0. The delay of a link is the first that some link has
+of delay, latency, distance, dist, length; else the distance of its ends on the globe; else the first of weight, metric, cost; else 1.
+All paths without a repeated node are permitted, as far as --paths goes, those of less weight first. What is left out is
+told on standard error. It needs networkx and defusedxml (Debian: python3-networkx, python3-defusedxml).
+
+example:
+  tools/import --destination Vienna --map nodes.txt Geant2012.graphml > case.spp
+  tools/draw --names nodes.txt case.spp | dot -Tsvg > geant.svg
+"""
+
 import math
 import re
-from bisect import insort
+from collections.abc import Iterator
 from fractions import Fraction
 from pathlib import Path
 from typing import BinaryIO, NamedTuple
 
-from twarp.case import GREATEST_DELAY, MOST_LINKS, MOST_NODES, MOST_PATHS, MOST_ROUTERS, ORIGIN, Case, Link, Nodes
+from twarp.case import GREATEST_DELAY, MOST_LINKS, MOST_NODES, MOST_PATHS, MOST_ROUTERS, Case, Link, Nodes
 from twarp.case import hops_from
 from twarp.program import Refused, quote
 from twarp_tools.command import SIZE_LIMIT, Parser, number_between, read_stream, read_within, refuse_own_input
 from twarp_tools.command import tell_counts, tool, write_output
 from twarp_tools.network_files import Item, Network, read_network
+from twarp_tools.topology import Permitted, Rank
 
 # MiB of an input, unpacked: as many nodes and links as a case has take less, with all that yEd tells of them.
 MOST_UNPACKED = 8
@@ -28,18 +38,6 @@ PLACE = ("latitude", "longitude")
 EARTH_RADIUS_KM = 6_371
 # What light goes in glass in a millisecond.
 KM_PER_TICK = 200
-
-DESCRIPTION = f"""\
-Makes a case of a network in GraphML or GML, on standard output.
-
-It may be packed by gzip or bzip2. The destination becomes router 0. The delay of a link is the first that some link has
-of {", ".join(DISTANCES)}; else the distance of its ends on the globe; else the first of {", ".join(WEIGHTS)}; else 1.
-All paths without a repeated node are permitted, as far as --paths goes, those of less weight first. What is left out is
-told on standard error. It needs networkx and defusedxml (Debian: python3-networkx, python3-defusedxml)."""
-EXAMPLE = """\
-example:
-  tools/import --destination Vienna --map nodes.txt Geant2012.graphml > case.spp
-  tools/draw --names nodes.txt case.spp | dot -Tsvg > geant.svg"""
 
 
 def on_globe(node: Item) -> tuple[float, float, float]:
@@ -118,55 +116,20 @@ class Joined:
                 raise Refused(f"refused node {quote(self.network.name(one))}: it has more than {MOST_LINKS} neighbours")
 
 
-# For each router those to which a link leads.
-Rows = list[dict[int, Measured]]
-# A path with its weight and how many nodes it has, which is the order of paths.
-Found = tuple[int, int, Nodes]
+def by_weight(rows: list[dict[int, Measured]], most: int) -> Permitted:
+    """The paths by weight and length; `rows` has for each router those to which a link leads from it."""
+    # For each router those from which a link leads to it, with weights as whole numbers in the same proportions.
+    shares = math.lcm(*(one.weight.denominator for row in rows for one in row.values()))
+    weights: list[dict[int, int]] = [{} for _ in rows]
+    for peer, row in enumerate(rows):
+        for router, one in row.items():
+            weights[router][peer] = int(one.weight * shares)
 
+    def offers(rank: Rank, path: Nodes, _: int) -> Iterator[tuple[int, Rank]]:
+        for peer, more in weights[path[0]].items():
+            yield peer, (rank[0] + more, len(path) + 1)
 
-class Shortest:
-    """Each router's paths to the origin without a repeated node, ranked by weight as tools/README.md tells.
-
-    The rest of each path is permitted at its next router, which could not offer it otherwise.
-    """
-
-    def __init__(self, rows: Rows, most: int):
-        self.most = most
-        # For each router those from which a link leads to it, with weights as whole numbers in the same proportions.
-        shares = math.lcm(*(one.weight.denominator for row in rows for one in row.values()))
-        weights: list[dict[int, int]] = [{} for _ in rows]
-        for peer, row in enumerate(rows):
-            for router in sorted(row):
-                weights[router][peer] = int(row[router].weight * shares)
-        # Each router's permitted paths, best first.
-        self.rows: list[list[Nodes]] = [[] for _ in rows]
-        # For each router the best of what is found until now, in order: what is behind these is never taken.
-        self.best: list[list[Found]] = [[] for _ in rows]
-        # Routers at which paths are left out, because there are too many or because they are too long.
-        self.crowded: set[int] = set()
-        self.too_long: set[int] = set()
-        self.ahead: list[Found] = [(0, 1, (ORIGIN,))]
-        while self.ahead:
-            weight, length, path = heapq.heappop(self.ahead)
-            if len(self.rows[path[0]]) == most:
-                self.crowded.add(path[0])
-                continue
-            self.rows[path[0]].append(path)
-            for peer, more in weights[path[0]].items():
-                if peer not in path and length == MOST_NODES:
-                    self.too_long.add(peer)
-                elif peer not in path:
-                    self.offer(peer, (weight + more, length + 1, (peer, *path)))
-
-    def offer(self, router: int, found: Found) -> None:
-        """Keeps a path that a router may take, where it is among its best."""
-        best = self.best[router]
-        insort(best, found)
-        if len(best) > self.most:
-            self.crowded.add(router)
-            if best.pop() is found:
-                return
-        heapq.heappush(self.ahead, found)
+    return Permitted(len(rows), most, (0, 1), offers)
 
 
 def read_scale(word: str) -> Fraction:
@@ -192,7 +155,7 @@ def routers_of(joined: Joined, name: str) -> list[str]:
 
 @tool
 def main() -> None:
-    parser = Parser(DESCRIPTION, EXAMPLE)
+    parser = Parser(__doc__)
     parser.add_argument("input", metavar="FILE", nargs="?", default="-", help="the network; - is standard input")
     parser.option("--destination", "NODE", "where all paths lead to: a label or an id", required=True)
     parser.option("--delay", "NAME", "read the delays from this attribute of links")
@@ -213,7 +176,7 @@ def main() -> None:
     joined, routers = read_stream(line.input, read)
     numbers = {node: router for router, node in enumerate(routers)}
     rows = [{numbers[peer]: one for peer, one in joined.rows[node].items() if peer in numbers} for node in routers]
-    shortest = Shortest(rows, line.paths)
+    permitted = by_weight(rows, line.paths)
     one_way = sum(a not in rows[b] for a, row in enumerate(rows) for b in row)
     counts = {
         "nodes left out that no path leads from": len(joined.rows) - len(rows),
@@ -221,8 +184,8 @@ def main() -> None:
         "links left out because their ends have a lighter or equal one": joined.parallel,
         "links that lead in one direction alone, and have its delay in both": one_way,
         "links with the delay 1, because they have no value for it": joined.unmeasured,
-        f"routers with paths left out because each has at most {line.paths}": len(shortest.crowded),
-        f"routers with paths left out because these have more than {MOST_NODES} nodes": len(shortest.too_long),
+        f"routers with paths left out because each has at most {line.paths}": len(permitted.crowded),
+        f"routers with paths left out because these have more than {MOST_NODES} nodes": len(permitted.too_long),
     }
     tell_counts(counts)
     if line.map:
@@ -233,4 +196,4 @@ def main() -> None:
     # The delay of one direction alone is that of both.
     pairs = sorted({(min(a, b), max(a, b)) for a, row in enumerate(rows) for b in row})
     links = [Link(a, b, (rows[a].get(b) or rows[b][a]).delay, (rows[b].get(a) or rows[a][b]).delay) for a, b in pairs]
-    write_output(str(Case(len(rows), links, [path for row in shortest.rows[1:] for path in row])))
+    write_output(str(Case(len(rows), links, [path for row in permitted.rows[1:] for path in row])))

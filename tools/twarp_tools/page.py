@@ -1,4 +1,12 @@
-"""The tool page: the run of a case as one page to look at."""
+"""Makes a page of the run of a case on standard output, one HTML file that needs no network: the network, the timeline, a
+slider of time that moves both, and each router's table. The report has to be one with --log. A page has at most 300
+routers and 5,000 events; of more, choose a part. With what twarp-policy safe wrote the network has the dispute wheel and
+the routers that have a choice, and the tables which paths are left for all timings.
+
+examples:
+  ./twarp seq --stop 20 --every 1 --log < cases/bad-gadget.spp | tools/page cases/bad-gadget.spp > bad-gadget.html
+  ./twarp seq --stop 20 --log < cases/disagree.spp | tools/page --ask-policy cases/disagree.spp > disagree.html
+"""
 
 import json
 from collections.abc import Iterator
@@ -21,16 +29,6 @@ from twarp.svg import TOP, View, add, attribute, refuse_crowd, sample_circle, sa
 from twarp_tools.command import MOST_OF_REPORT, Input, title_of, tool, write_output
 from twarp_tools.draw import add_policy, parser_of, part_of, read_run, safety_of
 from twarp_tools.layout import NetworkDrawing
-
-DESCRIPTION = """\
-Makes a page of the run of a case on standard output, one HTML file that needs no network: the network, the timeline, a
-slider of time that moves both, and each router's table. The report has to be one with --log. A page has at most 300
-routers and 5,000 events; of more, choose a part. With what twarp-policy safe wrote the network has the dispute wheel and
-the routers that have a choice, and the tables which paths are left for all timings."""
-EXAMPLE = """\
-examples:
-  ./twarp seq --stop 20 --every 1 --log < cases/bad-gadget.spp | tools/page cases/bad-gadget.spp > bad-gadget.html
-  ./twarp seq --stop 20 --log < cases/disagree.spp | tools/page --ask-policy cases/disagree.spp > disagree.html"""
 
 PARTS = Path(__file__).resolve().parent / "page_parts"
 MOST_ROUTERS = 300
@@ -266,7 +264,7 @@ def style() -> str:
 
 @tool
 def main() -> None:
-    parser = parser_of(DESCRIPTION, EXAMPLE)
+    parser = parser_of(__doc__)
     add_policy(parser, "the wheel in the network, and which paths each router may still use whatever the delays")
     line = parser.parse_pair()
     case_text, report_text = Input(line.case), Input(line.report, MOST_OF_REPORT)

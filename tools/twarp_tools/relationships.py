@@ -1,4 +1,15 @@
-"""The tool relationships: AS relationships become a case."""
+"""Makes a case of AS relationships, on standard output.
+
+The input has lines as provider|customer|-1 and peer|peer|0, as CAIDA publishes them, packed or not. The destination
+becomes router 0. A path is permitted where it has no valley; paths by way of customers are better than those by way of
+peers, and these better than those by way of providers (Gao and Rexford 2001). What is cut off is told on standard
+error. Of a large input take a part; --core keeps the shape of the whole.
+
+examples:
+  tools/relationships --destination 2603 tools/examples/research-networks.txt > case.spp
+  tools/relationships --destination 1653 --core 200 --delays 1-50 --seed 7 \\
+      --failures 10 --until 5000 --map ases.txt 20260101.as-rel2.txt.bz2 > case.spp
+"""
 
 import argparse
 from collections.abc import Iterable, Iterator, Sequence
@@ -13,28 +24,15 @@ from twarp.program import Refused
 from twarp_tools import topology
 from twarp_tools.command import SIZE_LIMIT, Parser, lines_within, number_between, read_stream, refuse_own_input, tell
 from twarp_tools.command import tell_counts, tool, write_output
-from twarp_tools.topology import GREATEST_AS, Neighbours, Permitted, Role, Topology
+from twarp_tools.topology import GREATEST_AS, Neighbours, Permitted, Role, Topology, without_valley
 
 # MiB of an input, unpacked: the relationships of the whole Internet are some 15.
 MOST_UNPACKED = 32
 
-DESCRIPTION = """\
-Makes a case of AS relationships, on standard output.
-
-The input has lines as provider|customer|-1 and peer|peer|0, as CAIDA publishes them, packed or not. The destination
-becomes router 0. A path is permitted where it has no valley; paths by way of customers are better than those by way of
-peers, and these better than those by way of providers (Gao and Rexford 2001). What is cut off is told on standard
-error. Of a large input take a part; --core keeps the shape of the whole."""
-EXAMPLE = """\
-examples:
-  tools/relationships --destination 2603 tools/examples/research-networks.txt > case.spp
-  tools/relationships --destination 1653 --core 200 --delays 1-50 --seed 7 \\
-      --failures 10 --until 5000 --map ases.txt 20260101.as-rel2.txt.bz2 > case.spp"""
-
 
 def command_line(words: Sequence[str] | None = None) -> argparse.Namespace:
     """What the words ask for, or the tool's own command line where none are given."""
-    parser = Parser(DESCRIPTION, EXAMPLE)
+    parser = Parser(__doc__)
     if words is not None:
         parser.prog = "relationships"
     number, most = number_between(1, GREATEST_AS), number_between(1, case.MOST_ROUTERS)
@@ -102,11 +100,11 @@ def make(neighbours: Neighbours, line: argparse.Namespace) -> tuple[Topology, Pe
     taken = Topology(neighbours, line.destination, line.keep_connected or line.core or line.routers, *place)
     if line.order == "near":
         taken.renumber(topology.near_order(taken.roles))
-    permitted = Permitted(taken, line.paths)
+    permitted = without_valley(taken, line.paths)
     delays: Uniform = line.delays
     numbers = taken.numbers
     links = [Link(a, b, delays.ticks(drawn("delay", numbers[a], numbers[b]))) for a, b in taken.links()]
-    paths = [path for router in range(1, len(numbers)) for path in permitted.paths(router)]
+    paths = [path for row in permitted.rows[1:] for path in row]
     used = {(min(hop), max(hop)) for path in paths for hop in zip(path, path[1:])}
     scenes = sorted(failures(used, numbers, line), key=lambda scene: (scene.time, scene.a, scene.b))
     return taken, permitted, Case(len(numbers), links, paths, [*scenes])

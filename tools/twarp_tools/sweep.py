@@ -1,4 +1,17 @@
-"""The tool sweep: many runs of a case over what isn't known of it."""
+"""Runs a case many times, each time with other delays, other times of its failures, or both, and tells how the runs end.
+
+A line for each run is written on standard output, as CSV; with --summary tables of the outcomes stand there instead.
+What is drawn for a run depends on its seed alone, so the same options write the same bytes, however many runs go on
+side by side. INT or TERM ends the sweep with what there is; --resume goes on.
+
+sweep merge A.csv B.csv .. puts several sweeps with one case and the same options, and with other seeds, together.
+
+examples:
+  tools/sweep --delays 1-10 --links 0-1,0-2 --stop 100 --every 1 --summary cases/disagree.spp
+  tools/sweep --failure-times 0-50 --stop 1000 --csv runs.csv --picture runs.svg --summary cases/failure-and-repair.spp
+  tools/sweep --relationships '--destination 2603 --paths 4 --failures 2 --until 100' --stop 1000 --runs 200 \\
+      tools/examples/research-networks.txt > runs.csv
+"""
 
 import argparse
 import contextlib
@@ -27,20 +40,6 @@ from twarp_tools.sweep_outputs import Outputs, Progress
 MOST_RUNS = 1_000_000
 MOST_JOBS = 1_024
 
-DESCRIPTION = """\
-Runs a case many times, each time with other delays, other times of its failures, or both, and tells how the runs end.
-
-A line for each run is written on standard output, as CSV; with --summary tables of the outcomes stand there instead.
-What is drawn for a run depends on its seed alone, so the same options write the same bytes, however many runs go on
-side by side. INT or TERM ends the sweep with what there is; --resume goes on.
-
-sweep merge A.csv B.csv .. puts several sweeps with one case and the same options, and with other seeds, together."""
-EXAMPLE = """\
-examples:
-  tools/sweep --delays 1-10 --links 0-1,0-2 --stop 100 --every 1 --summary cases/disagree.spp
-  tools/sweep --failure-times 0-50 --stop 1000 --csv runs.csv --picture runs.svg --summary cases/failure-and-repair.spp
-  tools/sweep --relationships '--destination 2603 --paths 4 --failures 2 --until 100' --stop 1000 --runs 200 \\
-      tools/examples/research-networks.txt > runs.csv"""
 # The options that say what the runs are; a CSV names them, and goes on with the same ones alone.
 NAMED = ("delays", "links", "apart", "failure_times", "relationships", "stop", "every", "outcomes", "seed")
 
@@ -57,7 +56,7 @@ def read_links(words: str) -> list[Ends]:
 
 
 def command_line() -> argparse.Namespace:
-    parser = Parser(DESCRIPTION, EXAMPLE)
+    parser = Parser(__doc__)
     flag, option, time = parser.add_argument, parser.option, number_between(1, GREATEST_TIME)
     flag("case", metavar="CASE", nargs="?", default="-", help="the case; - is standard input")
     law = "draw delays, in whole ticks, by LOW-HIGH, exponential:MEAN, or log-normal:MEDIAN:SIGMA"
@@ -269,8 +268,8 @@ def without_seed(made_by: str) -> str:
 
 
 def merge() -> None:
-    example = "example:\n  tools/sweep merge first.csv second.csv > both.csv"
-    parser = Parser("Puts CSVs of sweep with one case and the same options together, by rising seeds.", example)
+    about = "Puts CSVs of sweep with one case and the same options together, by rising seeds."
+    parser = Parser(f"{about}\n\nexample:\n  tools/sweep merge first.csv second.csv > both.csv\n")
     parser.prog += " merge"
     parser.add_argument("files", metavar="FILE", nargs="+", help="a CSV of sweep")
     add_outputs(parser)

@@ -1,21 +1,19 @@
-"""The tool timeline: the run or the replay of a case as a picture."""
+"""Draws the run of a case as an SVG picture on standard output: a lane for each router, bars for the paths that it uses,
+arrows for messages. The report has to be one with --log. Of a replay it draws the steps and which of them were undone;
+the first file is then the text that was replayed.
+
+example:
+  ./twarp seq --stop 20 --log < cases/disagree.spp | tools/timeline cases/disagree.spp > disagree.svg
+"""
 from twarp import pictures
 from twarp.report import REPLAY_HEADER, read_case_and_steps, read_replay
 from twarp_tools.command import MOST_OF_REPORT, Input, title_of, tool, write_output
 from twarp_tools.draw import parser_of, part_of, read_run
 
-DESCRIPTION = """\
-Draws the run of a case as an SVG picture on standard output: a lane for each router, bars for the paths that it uses,
-arrows for messages. The report has to be one with --log. Of a replay it draws the steps and which of them were undone;
-the first file is then the text that was replayed."""
-EXAMPLE = """\
-example:
-  ./twarp seq --stop 20 --log < cases/disagree.spp | tools/timeline cases/disagree.spp > disagree.svg"""
-
 
 @tool
 def main() -> None:
-    line = parser_of(DESCRIPTION, EXAMPLE, "the case, or what was replayed", " (of a replay: steps)").parse_pair()
+    line = parser_of(__doc__, "the case, or what was replayed", " (of a replay: steps)").parse_pair()
     case_text, report_text = Input(line.case), Input(line.report, MOST_OF_REPORT)
     how = part_of(line)
     how["title"] = title_of(line.title, line.case, "run")

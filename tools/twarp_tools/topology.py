@@ -7,9 +7,9 @@ import enum
 import heapq
 import re
 from array import array
+from bisect import insort
 from collections import defaultdict
 from collections.abc import Callable, Collection, Container, Iterable, Iterator, Sequence
-from itertools import islice
 
 from twarp.case import MOST_LINKS, MOST_NODES, ORIGIN, Nodes, hops_from
 from twarp.program import Refused, quote
@@ -229,43 +229,60 @@ def near_order(neighbours: Sequence[Collection[int]]) -> list[int]:
     return [*places] if is_nearer else [*range(len(neighbours))]
 
 
-class Permitted:
-    """Each router's paths without a valley, ranked. The rest of each is permitted at its next router, which offers it."""
+# What ranks a path among those of its router, the best first.
+Rank = tuple[float, ...]
+# To which routers a path is offered, by its rank and by its place at its own router; each with the rank that it has there.
+Offers = Callable[[Rank, Nodes, int], Iterable[tuple[int, Rank]]]
 
-    def __init__(self, topology: Topology, most: int):
+
+class Permitted:
+    """Each router's paths to the origin without a repeated node, ranked, at most so many.
+
+    The rest of each is permitted at its next router, which could not offer it otherwise.
+    """
+
+    def __init__(self, count: int, most: int, first: Rank, offers: Offers):
+        """`first` ranks the origin's own path. None that is offered is better where it comes to than where it is from."""
         self.most = most
-        self.neighbours = {role: topology.in_role(role) for role in Role}
-        # Each router's paths by the role of the next router and the number of hops.
-        self.rows: list[dict[tuple[Role, int], list[Nodes]]] = [{} for _ in topology.numbers]
-        self.rows[ORIGIN] = {(Role.CUSTOMER, 0): [(ORIGIN,)]}
+        # Each router's permitted paths, best first.
+        self.rows: list[list[Nodes]] = [[] for _ in range(count)]
+        # For each router the best of what is found until now, in order: what is behind these is never taken.
+        self.best: list[list[tuple[Rank, Nodes]]] = [[] for _ in range(count)]
         # Routers at which paths are left out, because there are too many or because they are too long.
         self.crowded: set[int] = set()
         self.too_long: set[int] = set()
-        for role in Role:
-            for hops in range(1, MOST_NODES + 1):
-                for router in range(1, len(self.rows)):
-                    self.grow(router, role, hops)
+        self.ahead: list[tuple[Rank, Nodes]] = [(first, (ORIGIN,))]
+        while self.ahead:
+            rank, path = heapq.heappop(self.ahead)
+            if len(self.rows[path[0]]) == most:
+                self.crowded.add(path[0])
+                continue
+            self.rows[path[0]].append(path)
+            for peer, there in offers(rank, path, len(self.rows[path[0]])):
+                if peer not in path and len(path) == MOST_NODES:
+                    self.too_long.add(peer)
+                elif peer not in path:
+                    self.offer(there, (peer, *path))
 
-    def paths(self, router: int) -> list[Nodes]:
-        """A router's permitted paths, best first."""
-        rows = self.rows[router]
-        return [path for key in sorted(rows) for path in rows[key]]
+    def offer(self, rank: Rank, path: Nodes) -> None:
+        """Keeps a path that its router may take, where it is among the best there."""
+        best, found = self.best[path[0]], (rank, path)
+        insort(best, found)
+        if len(best) > self.most:
+            self.crowded.add(path[0])
+            if best.pop() is found:
+                return
+        heapq.heappush(self.ahead, found)
 
-    def grow(self, router: int, role: Role, hops: int) -> None:
-        """Adds a router's paths of so many hops by way of neighbours in this role, as far as there is room."""
-        found, is_too_long = self.offers(router, role, hops), hops == MOST_NODES
-        room = 0 if is_too_long else self.most - sum(map(len, self.rows[router].values()))
-        if taken := list(islice(found, room)):
-            self.rows[router][role, hops] = taken
-        if next(found, None):
-            (self.too_long if is_too_long else self.crowded).add(router)
 
-    def offers(self, router: int, role: Role, hops: int) -> Iterator[Nodes]:
-        """The paths of so many hops by way of neighbours in this role, best first."""
-        # An AS tells its peers and providers only of paths by way of its customers.
-        offered = tuple(Role) if role is Role.PROVIDER else (Role.CUSTOMER,)
-        for peer in self.neighbours[role][router]:
-            for first in offered:
-                for path in self.rows[peer].get((first, hops - 1), ()):
-                    if router not in path:
-                        yield (router, *path)
+def without_valley(topology: Topology, most: int) -> Permitted:
+    """The paths without a valley, by what the next router is, their length, and the next router's AS and own order."""
+
+    def offers(rank: Rank, path: Nodes, place: int) -> Iterator[tuple[int, Rank]]:
+        for peer in topology.roles[path[0]]:
+            role = topology.roles[peer][path[0]]
+            # An AS tells its peers and providers only of paths by way of its customers.
+            if role is Role.PROVIDER or rank[0] == Role.CUSTOMER:
+                yield peer, (role, len(path), topology.numbers[path[0]], place)
+
+    return Permitted(len(topology.numbers), most, (Role.CUSTOMER,), offers)

@@ -1,4 +1,9 @@
-"""The tutorial's commands, run one after the other as a reader would; the tool pictures keeps what they draw."""
+"""Makes the pictures of docs/TUTORIAL.md again: runs the page's commands in a folder of their own, sees that each writes
+what the page says, and keeps the pictures that the page shows in docs/pictures.
+
+example:
+  tools/pictures
+"""
 
 import os
 import re
@@ -26,10 +31,6 @@ WRITTEN = "out"
 
 # The built programs by their names.
 Programs = Mapping[str, Path]
-
-DESCRIPTION = """\
-Makes the pictures of docs/TUTORIAL.md again: runs the page's commands in a folder of their own, sees that each writes
-what the page says, and keeps the pictures that the page shows in docs/pictures."""
 
 
 @dataclass
@@ -84,7 +85,7 @@ def follow(page: str, folder: Path, programs: Programs) -> Iterator[tuple[Comman
 
 @tool
 def main() -> None:
-    parser = Parser(DESCRIPTION, "example:\n  tools/pictures")
+    parser = Parser(__doc__)
     parser.option(*PROGRAM_OPTION)
     parser.option("--policy", "FILE", "the built program twarp-policy", Path, POLICY)
     line = parser.parse_args()
