@@ -20,7 +20,7 @@ from random import Random
 from at_scale import cliques
 from measuring import measure, parser_of, stored
 from twarp.case import Case
-from twarp.machine import History, Machine
+from twarp.protocol import History, Machine
 from twarp.report import Step
 
 # The stop of the machine: routers of the case always have something to do before it.

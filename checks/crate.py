@@ -17,8 +17,7 @@ import time
 from pathlib import Path
 
 from common import TOP
-from twarp_tools import toolchain
-from twarp_tools.build import KEPT, Compiler, Share, below
+from twarp_tools.build import KEPT, MISSING, Compiler, Made, Share, below, end_with_signals, find_kit, started
 
 CRATES = TOP / "crates.txt"
 SECONDS_BETWEEN_LOOKS = 0.2
@@ -29,10 +28,10 @@ class Checker:
 
     def __init__(self, crate: str, folder: Path) -> None:
         is_program = (TOP / "crates" / crate / "src/main.rt").exists()
-        made = toolchain.Made(crate if is_program else "")
-        kit = toolchain.find_kit(made)
+        made = Made(crate if is_program else "")
+        kit = find_kit(made)
         if kit is None:
-            sys.exit(toolchain.MISSING)
+            sys.exit(MISSING)
         KEPT.mkdir(parents=True, exist_ok=True)
         self.compiler = Compiler(kit, CRATES.read_text(), folder, made)
         for name in below(self.compiler.graph, crate)[:-1]:
@@ -61,11 +60,11 @@ def main() -> int:
         return 2
     crate, *options = sys.argv[1:]
     folder = TOP / "crates" / crate
-    toolchain.end_with_signals()
+    end_with_signals()
     with tempfile.TemporaryDirectory(prefix="twarp-crate-") as libraries:
         command = [*Checker(crate, Path(libraries)).command, *options]
         (folder / "out").mkdir(exist_ok=True)
-        with toolchain.started(command, folder) as child:
+        with started(command, folder) as child:
             return child.wait()
 
 

@@ -30,7 +30,7 @@ from tools_common import (
     texts,
     tool,
 )
-from twarp.draws import read_law
+from twarp.sweeps import read_law
 
 
 def by_hand(one: int, two: int) -> dict[str, str]:

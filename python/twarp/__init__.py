@@ -14,12 +14,11 @@ python3-networkx), and `cluster` needs distributed (Debian: python3-distributed)
 from twarp import pictures
 from twarp.calls import Pivot, Safety, Size, Stable, check, replay, run, safe, seq, stable, trail, upgrade, version
 from twarp.case import BarScene, Case, Link, LinkScene, SwapScene
-from twarp.draws import Exponential, LogNormal, Uniform
 from twarp.outcomes import Outcome, Outcomes
 from twarp.program import Refused, Stopped
 from twarp.report import Allow, Event, Fail, Forbid, Open, Oscillates, Quiet, Replay, Report, Restore, RouterLine, Start
 from twarp.report import Step, Swap, Trail, Undone, Update
-from twarp.sweeps import Sweep, cluster, sweep
+from twarp.sweeps import Exponential, LogNormal, Sweep, Uniform, cluster, sweep
 from twarp.trials import End, Failed, Trial
 
 # fmt: off

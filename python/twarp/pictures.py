@@ -10,11 +10,10 @@ from typing import Any
 
 from twarp.calls import Hop, Safety, standing
 from twarp.case import GREATEST_TIME, ORIGIN, Case, Link, Nodes, hops_from, write_path
-from twarp.machine import follow_replay
 from twarp.outcome_picture import OutcomePicture
 from twarp.outcomes import Outcomes
 from twarp.program import Refused, Stopped
-from twarp.protocol import Router, follow, opening_routers, reached
+from twarp.protocol import Router, follow, follow_replay, opening_routers, reached
 from twarp.report import Quiet, Replay, Report, Step
 from twarp.run_picture import ReplayPicture, RunPicture, last_time
 from twarp.svg import LIGHT, View, place_of

@@ -7,8 +7,7 @@ from typing import ClassVar, NamedTuple
 from xml.etree.ElementTree import Element
 
 from twarp.case import Case, Nodes, write_path
-from twarp.machine import Handling, History
-from twarp.protocol import Change, Fate, Message, Run
+from twarp.protocol import Change, Fate, Handling, History, Message, Run
 from twarp.report import Allow, Event, Fail, Forbid, Oscillates, Quiet, Replay, Report, Restore, Start, Step, Swap
 from twarp.svg import MOST_LANES, MOST_MARKS, PLACES, TOP, Lanes, Picture, Sample, View, add, clipped, draw_legend, fit
 from twarp.svg import place_of, refuse_crowd, sample_box, sample_circle, sample_line, sample_path, sample_square

@@ -14,10 +14,10 @@ from dataclasses import dataclass
 from functools import lru_cache
 from multiprocessing import get_context
 from subprocess import PIPE
+from typing import Protocol
 
 from twarp.calls import Ribs
 from twarp.case import Case
-from twarp.draws import Source
 from twarp.program import Refused, Stopped, words_of
 from twarp.protocol import reached, unstable_routers
 from twarp.report import Oscillates, Quiet, Report, Verdict, read_report
@@ -29,6 +29,17 @@ MOST_BATCH = 256
 MOST_WAIT = 0.2
 # How often a run is begun whose executor ends in it.
 MOST_TRIES = 5
+
+
+class Source(Protocol):
+    """Where the cases of a sweep come from."""
+
+    columns: list[str]
+    words: str
+
+    def draw(self, seed: int) -> tuple[Case, tuple[int, ...]]:
+        """The case of the run with this seed, and what was drawn for it, a value for each column."""
+        ...
 
 
 @dataclass(frozen=True, slots=True)

@@ -19,8 +19,8 @@ from pathlib import Path
 
 from twarp import case
 from twarp.case import GREATEST_DELAY, GREATEST_TIME, MOST_LINKS, MOST_NODES, Case, Link, LinkScene
-from twarp.draws import Uniform, read_range, share
 from twarp.program import Refused
+from twarp.sweeps import Uniform, read_range, share
 from twarp_tools import topology
 from twarp_tools.command import SIZE_LIMIT, Parser, lines_within, number_between, read_stream, refuse_own_input, tell
 from twarp_tools.command import tell_counts, tool, write_output

@@ -28,11 +28,10 @@ from functools import partial
 from twarp import program
 from twarp.calls import Ribs, version
 from twarp.case import GREATEST_TIME, MOST_ROUTERS, Case, read_case
-from twarp.draws import CaseSource, Ends, Source, read_law, read_range
 from twarp.outcomes import Outcomes, Table, read_table
 from twarp.program import Refused, Stopped
-from twarp.sweeps import AtRest, Policy, cluster
-from twarp.trials import Batches, Failed, Plan, Trial, workers_of
+from twarp.sweeps import AtRest, CaseSource, Ends, Policy, cluster, read_law, read_range
+from twarp.trials import Batches, Failed, Plan, Source, Trial, workers_of
 from twarp_tools import relationships
 from twarp_tools.command import Input, Parser, number_between, tell, title_of, tool, write_output
 from twarp_tools.sweep_outputs import Outputs, Progress
