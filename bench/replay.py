@@ -20,7 +20,7 @@ from random import Random
 from at_scale import cliques
 from measuring import measure, parser_of, stored
 from twarp.case import Case
-from twarp.protocol import History, Machine
+from twarp.protocol import Machine
 from twarp.report import Step
 
 # The stop of the machine: routers of the case always have something to do before it.
@@ -57,7 +57,8 @@ class Schedule:
     def do(self, step: Step) -> None:
         """Does the step, and forgets what is kept for pictures, and what is committed."""
         self.machine.do(step)
-        self.machine.history = History()
+        for kept in self.machine.handlings, self.machine.messages, self.machine.bounds:
+            kept.clear()
         if step.word == "commit":
             handled = self.machine.handled[step.number]
             handled[:] = [handling for handling in handled if handling.committed_at is None]

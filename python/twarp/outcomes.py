@@ -90,30 +90,21 @@ def percentiles(counts: Counter[int]) -> list[int]:
     return [values[max(0, ceil(len(values) * percent / 100) - 1)] for percent in PERCENTS]
 
 
-@dataclass(frozen=True)
-class Columns:
-    """The columns of a histogram: how many values each has room for, and the numbers of the first and the last one."""
+def width_of(counts: Counter[int]) -> int:
+    """How many values a column of a histogram has room for."""
+    return nice_step((max(counts) + 1 - min(counts)) / MOST_COLUMNS)
 
-    width: int
-    first: int
-    last: int
 
-    @classmethod
-    def of(cls, counts: Counter[int]) -> "Columns":
-        width = nice_step((max(counts) + 1 - min(counts)) / MOST_COLUMNS)
-        return cls(width, min(counts) // width, max(counts) // width)
-
-    def count(self, counts: Counter[int]) -> Counter[int]:
-        """How many values stand in each column."""
-        return Counter(value // self.width for value in counts.elements())
+def columns_of(counts: Counter[int], width: int) -> Counter[int]:
+    """How many values stand in each column, the first one's number being 0 if it has the value 0."""
+    return Counter(value // width for value in counts.elements())
 
 
 def spread(counts: Counter[int]) -> dict[str, Any]:
     """Percentiles and a histogram: column k counts the values from `first + k * width` on, below the next column's."""
-    columns = Columns.of(counts)
-    counted = columns.count(counts)
-    heights = [counted[number] for number in range(columns.first, columns.last + 1)]
-    histogram = {"first": columns.first * columns.width, "width": columns.width, "counts": heights}
+    columns = columns_of(counts, width := width_of(counts))
+    heights = [columns[number] for number in range(min(columns), max(columns) + 1)]
+    histogram = {"first": min(columns) * width, "width": width, "counts": heights}
     return dict(zip(["least", "p50", "p90", "p99", "greatest"], percentiles(counts))) | {"histogram": histogram}
 
 

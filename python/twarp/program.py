@@ -19,23 +19,20 @@ class Refused(Exception):
     (docs/FORMATS.md), as `I4` and `Delay`; each is None where it is not known.
     """
 
-    line: int | None = None
-    code: str | None = None
-    name: str | None = None
+    def __init__(self, why: str, line: int | None = None, code: str | None = None, name: str | None = None):
+        super().__init__(why)
+        self.line, self.code, self.name = line, code, name
 
     @classmethod
     def at_line(cls, number: int, why: str) -> Refused:
-        fault = cls(f"refused line {number}: {why}")
-        fault.line = number
-        return fault
+        return cls(f"refused line {number}: {why}", number)
 
     @classmethod
     def told(cls, words: str, advice: str) -> Refused:
         """What twarp says on standard output where it refuses its input or an option, and to people beside that."""
-        fault = cls(f"{words}\n{advice}".rstrip())
-        if found := re.fullmatch(r"refused (?:line (\d+)|option) ([A-Z]\d+) (\w+)", words):
-            fault.line, fault.code, fault.name = found[1] and int(found[1]), found[2], found[3]
-        return fault
+        found = re.fullmatch(r"refused (?:line (\d+)|option) ([A-Z]\d+) (\w+)", words)
+        line, code, name = found.groups() if found else (None, None, None)
+        return cls(f"{words}\n{advice}".rstrip(), line and int(line), code, name)
 
 
 class Stopped(Exception):

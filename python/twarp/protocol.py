@@ -241,18 +241,10 @@ class Handling:
     committed_at: int | None = None
 
 
-@dataclass
-class History:
-    """What the steps did, in their order; a bound stands with the step that found it."""
-
-    handlings: list[Handling] = field(default_factory=list)
-    messages: list[Message] = field(default_factory=list)
-    bounds: list[tuple[int, int]] = field(default_factory=list)
-
-
 class Machine:
-    """The Time Warp machine of a replay: routers with what is pending, handled, in flight, kept and held. `number` is that of the step under way, from 1.
+    """The Time Warp machine of a replay: routers with what is pending, handled, in flight, kept and held.
 
+    `number` is that of the step under way, from 1.
     Where it `is_lazy`, what an undone event had sent is held until its router sends it again or releases it.
 
     The run's stop is not told. The last bound is the stop where nothing loose is at it or before it, and else a time
@@ -275,7 +267,10 @@ class Machine:
         self.last_bound = last_bound
         self.is_at_stop = False
         self.number = 0
-        self.history = History()
+        # What the steps did, in their order; a bound stands with the step that found it.
+        self.handlings: list[Handling] = []
+        self.messages: list[Message] = []
+        self.bounds: list[tuple[int, int]] = []
         for event in opening_events(case):
             self.pending[event.dst].append(event)
 
@@ -305,7 +300,7 @@ class Machine:
         loose = [event.time for event in chain(flying, self.kept, self.held, *self.pending)]
         self.is_at_stop |= all(time > self.last_bound for time in loose)
         self.bound = max(self.bound, min(loose + [self.last_bound]))
-        self.history.bounds.append((self.number, self.bound))
+        self.bounds.append((self.number, self.bound))
 
     def commit(self, router: int) -> None:
         for handling in self.handled[router]:
@@ -317,7 +312,7 @@ class Machine:
         self.pending[router].remove(event)
         handling = Handling(event, before, self.routers[router].handle(event), self.number)
         self.handled[router].append(handling)
-        self.history.handlings.append(handling)
+        self.handlings.append(handling)
         # What is held was sent before, and is held no more.
         going = [event for event in handling.sends if event not in self.held]
         self.held = [event for event in self.held if event not in handling.sends]
@@ -326,7 +321,7 @@ class Machine:
     def send(self, events: Iterable[Event], is_anti: bool) -> None:
         messages = [Message(self.number, event, Fate.IN_FLIGHT, is_anti) for event in events]
         self.flight += messages
-        self.history.messages += messages
+        self.messages += messages
 
     def undo_last(self, router: int) -> None:
         handling = self.handled[router].pop()
@@ -374,13 +369,13 @@ class Machine:
         return f"flight {len(self.flight)} pending {pending} kept {len(self.kept)} ahead {ahead}{held}"
 
 
-def follow_replay(case: Case, steps: list[Step], replay: Replay) -> History:
+def follow_replay(case: Case, steps: list[Step], replay: Replay) -> Machine:
     """What the steps did; refused at the first line that is not what they lead to."""
     machine = Machine(case, replay.bound, replay.is_lazy)
     for machine.number, (step, refusal) in enumerate(zip(steps, replay.answers), 1):
         if refusal is None and not machine.do(step):
             raise Refused.at_line(machine.number + 1, f"`{step}` can't be done here")
-    latest = max((handling.event.time for handling in machine.history.handlings), default=0)
+    latest = max((handling.event.time for handling in machine.handlings), default=0)
     number = replay.bound_number
     if machine.is_at_stop and latest >= machine.last_bound:
         raise Refused.at_line(number, f"an event at {latest} was handled, so the bound is later")
@@ -394,4 +389,4 @@ def follow_replay(case: Case, steps: list[Step], replay: Replay) -> History:
         if event is None or event != wanted:
             raise Refused.at_line(min(number, replay.router_number), f"the steps lead to {written(wanted)} here")
     compare_routers(replay, machine.routers)
-    return machine.history
+    return machine

@@ -7,7 +7,7 @@ from typing import ClassVar, NamedTuple
 from xml.etree.ElementTree import Element
 
 from twarp.case import Case, Nodes, write_path
-from twarp.protocol import Change, Fate, Handling, History, Message, Run
+from twarp.protocol import Change, Fate, Handling, Machine, Message, Run
 from twarp.report import Allow, Event, Fail, Forbid, Oscillates, Quiet, Replay, Report, Restore, Start, Step, Swap
 from twarp.svg import MOST_LANES, MOST_MARKS, PLACES, TOP, Lanes, Picture, Sample, View, add, clipped, draw_legend, fit
 from twarp.svg import place_of, refuse_crowd, sample_box, sample_circle, sample_line, sample_path, sample_square
@@ -342,14 +342,14 @@ class ReplayPicture(LanePicture):
     }
     legend_below = 36.0
 
-    def __init__(self, steps: list[Step], replay: Replay, history: History, view: View):
-        seen = (message for message in history.messages if view.meets(message.sent, message.delivered or view.last))
+    def __init__(self, steps: list[Step], replay: Replay, machine: Machine, view: View):
+        seen = (message for message in machine.messages if view.meets(message.sent, message.delivered or view.last))
         super().__init__(view, (message for message in seen if {message.event.src, message.event.dst} <= view.shown))
         numbered = enumerate(zip(steps, replay.answers), 1)
         self.steps = [(number, *answer) for number, answer in numbered if view.meets(number, number)]
-        handled = (handling for handling in history.handlings if handling.event.dst in view.shown)
+        handled = (handling for handling in machine.handlings if handling.event.dst in view.shown)
         self.handlings = [one for one in handled if view.meets(one.done_at, one.undone_at or one.done_at)]
-        self.bounds = [(number, bound) for number, bound in history.bounds if view.meets(number, number)]
+        self.bounds = [(number, bound) for number, bound in machine.bounds if view.meets(number, number)]
         self.marks = self.steps, self.handlings
         self.right = self.x(view.last) + COLUMN / 2
 

@@ -1,4 +1,4 @@
-"""Sweeps: what is drawn for a run, by its seed alone; runs here or on a cluster; what twarp-policy says of their case."""
+"""Sweeps: what is drawn for a run, by its seed alone; runs here or on a cluster; what twarp-policy says of a case."""
 from __future__ import annotations
 
 import contextlib

@@ -220,28 +220,25 @@ def write_output(text: str) -> None:
         output.write(text.encode())
 
 
-def reason(why: BaseException) -> str:
-    """What stands behind `stopped`."""
-    if isinstance(why, OSError):
-        where = f"{why.filename}: " if why.filename else ""
-        return f"device: {where}{why.strerror or why}"
-    return {MemoryError: "memory", KeyboardInterrupt: "interrupt"}.get(type(why), str(why))
-
-
 def tool(main: Callable[[], None]) -> Callable[[], Status]:
     """A tool's `main`, which gives its status."""
 
     def run() -> Status:
         try:
             main()
+            return Status.DONE
         except Refused as fault:
             tell(fault)
             return Status.REFUSED
-        except (Stopped, MemoryError, KeyboardInterrupt, OSError) as why:
+        except BrokenPipeError:
             # Who reads a part alone has met no error.
-            if not isinstance(why, BrokenPipeError):
-                tell(f"stopped {reason(why)}")
-            return Status.STOPPED
-        return Status.DONE
+            pass
+        except OSError as error:
+            where = f"{error.filename}: " if error.filename else ""
+            tell(f"stopped device: {where}{error.strerror or error}")
+        except (Stopped, MemoryError, KeyboardInterrupt) as why:
+            words = {MemoryError: "memory", KeyboardInterrupt: "interrupt"}
+            tell(f"stopped {words.get(type(why), why)}")
+        return Status.STOPPED
 
     return run

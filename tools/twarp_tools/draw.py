@@ -17,8 +17,17 @@ from typing import Any
 from twarp import calls, pictures
 from twarp.case import GREATEST_TIME, MOST_PATHS, MOST_ROUTERS, Case, lines_of, read_case
 from twarp.program import Refused
-from twarp.report import Report, read_report
+from twarp.report import REPLAY_HEADER, Report, read_case_and_steps, read_replay, read_report
 from twarp_tools.command import MOST_OF_REPORT, Input, Parser, number_between, title_of, tool, write_output
+
+# What the help of timeline says.
+TIMELINE = """\
+Draws the run of a case as an SVG picture on standard output: a lane for each router, bars for the paths that it uses,
+arrows for messages. The report has to be one with --log. Of a replay it draws the steps and which of them were undone;
+the first file is then the text that was replayed.
+
+example:
+  ./twarp seq --stop 20 --log < cases/disagree.spp | tools/timeline cases/disagree.spp > disagree.svg"""
 
 NAME_LINE = re.compile(r"(0|[1-9][0-9]{0,3}) (\S.*)\n?")
 
@@ -121,3 +130,18 @@ def main() -> None:
         write_output(Input(line.report, MOST_OF_REPORT).read(lambda text: draw(read_report(text, case.nodes))))
     else:
         write_output(draw(safety=safety_of(line, case)))
+
+
+@tool
+def timeline() -> None:
+    line = parser_of(TIMELINE, "the case, or what was replayed", " (of a replay: steps)").parse_pair()
+    case_text, report_text = Input(line.case), Input(line.report, MOST_OF_REPORT)
+    how = part_of(line)
+    how["title"] = title_of(line.title, line.case, "run")
+    if report_text.text.startswith(REPLAY_HEADER.encode()):
+        case, steps = case_text.read(read_case_and_steps)
+        replay = report_text.read(lambda text: read_replay(text, case.nodes, len(steps)))
+        write_output(report_text.read(lambda _: pictures.replayed(case, steps, replay, **how)))
+    else:
+        case, report = read_run(case_text, report_text)
+        write_output(report_text.read(lambda _: pictures.timeline(case, report, **how)))

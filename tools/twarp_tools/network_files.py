@@ -10,6 +10,7 @@ import warnings
 from collections.abc import Iterator, Mapping
 from dataclasses import dataclass, field
 from fractions import Fraction
+from itertools import chain, repeat
 from typing import Any
 from xml.etree.ElementTree import Element
 
@@ -30,8 +31,7 @@ WIDE = (codecs.BOM_UTF16_LE, codecs.BOM_UTF16_BE)
 GRAPHML = "{{http://graphml.graphdrawing.org/xmlns}}{}".format
 KEY, GRAPH, NODE, EDGE = map(GRAPHML, ("key", "graph", "node", "edge"))
 # What the reader of networkx says of a word that it does not know, with the rest of the line.
-AT_A_WORD = re.compile(r"cannot tokenize (.*) at \(([0-9]+), [0-9]+\)", re.DOTALL)
-AT_A_LINE = re.compile(r"(.*) at \(([0-9]+), [0-9]+\)", re.DOTALL)
+AT_A_LINE = re.compile(r"(?:cannot tokenize (.*)|(.*)) at \(([0-9]+), [0-9]+\)", re.DOTALL)
 
 # Parts of a GML text that may hide others, and where its graph begins.
 A_PART = re.compile(r'#[^\n]*|"[^"]*"|"|\bgraph\s*\[')
@@ -96,18 +96,12 @@ def read_network(text: bytes) -> Network:
     except RecursionError:
         raise Refused("refused: too much stands within one another") from None
     except (networkx.NetworkXError, *FAULTS) as fault:
-        kind = "" if isinstance(fault, networkx.NetworkXError) else f"{type(fault).__name__}: "
-        raise refused_by_networkx(f"{kind}{fault}") from None
+        words = str(fault) if isinstance(fault, networkx.NetworkXError) else f"{type(fault).__name__}: {fault}"
+        if not (found := AT_A_LINE.fullmatch(words)):
+            raise Refused(f"refused: {shortened(words)}") from None
+        why = shortened(found[2]) if found[1] is None else f"this is no GML: {quote(found[1])}"
+        raise Refused.at_line(int(found[3]), why) from None
     return network_of(graph)
-
-
-def refused_by_networkx(words: str) -> Refused:
-    """What networkx says, by the line that it names."""
-    if found := AT_A_WORD.fullmatch(words):
-        return Refused.at_line(int(found[2]), f"this is no GML: {quote(found[1])}")
-    if found := AT_A_LINE.fullmatch(words):
-        return Refused.at_line(int(found[2]), shortened(found[1]))
-    return Refused(f"refused: {shortened(words)}")
 
 
 def shortened(words: str) -> str:
@@ -196,21 +190,18 @@ def faults(root: Element) -> Iterator[str]:
 def read_gml(text: bytes) -> Any:
     from networkx import parse_gml
 
-    has_graph = False
+    # The first graph is told to have several links between two nodes.
+    marks = chain([" multigraph 1 "], repeat(""))
 
     def prepared(found: re.Match[str]) -> str:
-        """Puts texts over several lines into one, with as many line ends behind, and lets nodes have several links."""
-        nonlocal has_graph
+        """Puts texts over several lines into one, with as many line ends behind."""
         part = found[0]
         if part == '"':
             raise Refused.at_line(found.string.count("\n", 0, found.start()) + 1, "this quote has no end")
         if part.startswith('"'):
             lines = part.splitlines()
             return " ".join(lines) + "\n" * (len(lines) - 1)
-        if part.startswith("#") or has_graph:
-            return part
-        has_graph = True
-        return f"{part} multigraph 1 "
+        return part if part.startswith("#") else part + next(marks)
 
     return parse_gml(A_PART.sub(prepared, letters_of(text)), label="id")
 

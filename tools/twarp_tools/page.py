@@ -67,14 +67,13 @@ class Recording(Run):
         _, event, _ = self.pending[0]
         if event.time >= self.view.first:
             self.begin()
-            if event.dst in self.view.shown and event.time <= self.view.last:
-                self.events.append(self.event(event, self.routers[event.dst]))
+        before = self.routers[event.dst].copy()
         super().handle_least()
+        if event.dst in self.view.shown and self.view.meets(event.time, event.time):
+            self.events.append(self.event(event, before, self.routers[event.dst]))
 
-    def event(self, event: Event, before: Router) -> Json:
+    def event(self, event: Event, before: Router, after: Router) -> Json:
         """What happens, in words, and what is other than before at the router."""
-        after = before.copy()
-        after.handle(event)
         words = f"router {event.dst} {told(event, before, after)}"
         if before.rib != after.rib:
             words += f" and takes {write_path(after.rib)}" if after.rib else " and has no path any more"

@@ -11,7 +11,7 @@ from datetime import timedelta
 from pathlib import Path
 from typing import TextIO
 
-from twarp.outcome_picture import OutcomePicture
+from twarp import pictures
 from twarp.outcomes import Outcomes, Table, read_table
 from twarp.program import Refused
 from twarp.trials import Trial
@@ -120,7 +120,7 @@ class Outputs:
         """Writes what is told of all runs together."""
         outcomes = self.table.outcomes
         if file := self.files.get("--picture"):
-            file.write(OutcomePicture(outcomes).draw(title, drawn))
+            file.write(pictures.outcomes(outcomes, title=title, drawn=drawn))
         if file := self.files.get("--json"):
             file.write(json.dumps({**told, **outcomes.record()}, indent=1) + "\n")
         for file in self.files.values():
