@@ -13,12 +13,14 @@ from collections.abc import Iterable, Iterator
 from dataclasses import dataclass
 from itertools import groupby
 from pathlib import Path
+from string import Template
 
 from twarp.program import Refused
 from twarp_tools.command import Parser, tool, write_output
 from twarp_tools.tutorial import PROGRAM_OPTION, ROOT
 
 FORMATS = ROOT / "docs/FORMATS.md"
+SHELLS = Path(__file__).resolve().parent / "shells"
 
 A_FLAG = re.compile(r"\s{2,6}(?:(-\w), )?(--[\w-]+)(?: <(\w+)>)?(?:\s{2,}(\S.*))?")
 AN_ENTRY = re.compile(r"  (\S+)\s+(\S.*)")
@@ -102,8 +104,6 @@ class Manual:
         self.commands = {name: Help(ask(program, name, "--help")) for name in self.top.commands if name != "help"}
         self.version = ask(program, "--version").strip()
         self.name = self.version.split()[0]
-        # The name of the function that completes the program's words.
-        self.function = f"_{self.name.replace('-', '_')}"
 
 
 def ask(program: Path, *words: str) -> str:
@@ -208,36 +208,28 @@ def formats_page(manual: Manual) -> str:
     return "\n".join([*head, *roff_lines(document), ".SH SEE ALSO", "\\fBtwarp\\fR(1)", ""])
 
 
+class Shell(Template):
+    """The text of a completion, in the folder `shells`, whose shell has a meaning for $."""
+
+    delimiter = "@"
+
+    @classmethod
+    def write(cls, shell: str, manual: Manual, **parts: str) -> str:
+        function = f"_{manual.name.replace('-', '_')}"
+        return cls((SHELLS / f"{shell}.sh").read_text()).substitute(parts, name=manual.name, function=function)
+
+
 def bash(manual: Manual) -> str:
     commands, top = manual.commands, manual.top
     valued = {name for page in commands.values() for flag in page.flags if flag.value for name in flag.names}
-    words = {name: page.names for name, page in commands.items()}
-    words |= {"help": [*commands]} if "help" in top.commands else {}
-    cases = [f"    {name}) words='{' '.join(row)}' ;;\n" for name, row in words.items()]
+    rows = {name: page.names for name, page in commands.items()}
+    rows |= {"help": [*commands]} if "help" in top.commands else {}
     # What follows one of these is a number.
     shown = "compopt +o default 2>/dev/null\n        return ;;"
     numbers = f"    {'|'.join(sorted(valued))})\n        {shown}\n" if valued else ""
-    return f"""\
-# bash completion for {manual.name}
-{manual.function}() {{
-    local word=${{COMP_WORDS[COMP_CWORD]}} command='' words='' place
-    COMPREPLY=()
-    for ((place = 1; place < COMP_CWORD; place++)); do
-        case ${{COMP_WORDS[place]}} in
-        {'|'.join(top.commands)}) command=${{COMP_WORDS[place]}} && break ;;
-        esac
-    done
-    case ${{COMP_WORDS[COMP_CWORD - 1]}} in
-{numbers}    # After an arrow bash completes the names of files.
-    '<' | '>' | '>>' | '2>') return ;;
-    esac
-    case $command in
-    '') words='{' '.join([*top.commands, *top.names])}' ;;
-{''.join(cases)}    esac
-    mapfile -t COMPREPLY < <(compgen -W "$words" -- "$word")
-}}
-complete -o default -F {manual.function} {manual.name}
-"""
+    cases = "".join(f"    {name}) words='{' '.join(row)}' ;;\n" for name, row in rows.items())
+    words, names = " ".join([*top.commands, *top.names]), "|".join(top.commands)
+    return Shell.write("bash", manual, commands=names, numbers=numbers, words=words, cases=cases)
 
 
 def quoted_for_zsh(text: str) -> str:
@@ -254,33 +246,13 @@ def zsh_flag(flag: Flag) -> str:
 
 
 def zsh(manual: Manual) -> str:
-    commands = [f"        {quoted_for_zsh(f'{name}:{summary}')}\n" for name, summary in manual.top.commands.items()]
-    top = [f"        {zsh_flag(flag)} \\\n" for flag in manual.top.flags]
+    commands = (f"        {quoted_for_zsh(f'{name}:{summary}')}\n" for name, summary in manual.top.commands.items())
+    options = (f"        {zsh_flag(flag)} \\\n" for flag in manual.top.flags)
     rows = {name: ["_arguments", *map(zsh_flag, page.flags)] for name, page in manual.commands.items()}
     rows |= {"help": [f"_values command {' '.join(manual.commands)}"]} if "help" in manual.top.commands else {}
     words = {name: " \\\n            ".join(row) if row != ["_arguments"] else ":" for name, row in rows.items()}
-    cases = [f"        {name}) {said} ;;\n" for name, said in words.items()]
-    return f"""\
-#compdef {manual.name}
-{manual.function}() {{
-    local context state state_descr line
-    typeset -A opt_args
-    local -a commands
-    commands=(
-{''.join(commands)}    )
-    _arguments -C \\
-{''.join(top)}        '1:command:->command' \\
-        '*::option:->option' && return
-    case $state in
-    command) _describe command commands ;;
-    option)
-        case $words[1] in
-{''.join(cases)}        esac
-        ;;
-    esac
-}}
-{manual.function} "$@"
-"""
+    cases = "".join(f"        {name}) {said} ;;\n" for name, said in words.items())
+    return Shell.write("zsh", manual, commands="".join(commands), options="".join(options), cases=cases)
 
 
 def quoted_for_fish(text: str) -> str:

@@ -1,7 +1,8 @@
 """Makes a case of a network in GraphML or GML, on standard output.
 
 It may be packed by gzip or bzip2. The destination becomes router 0. The delay of a link is the first that some link has
-of delay, latency, distance, dist, length; else the distance of its ends on the globe; else the first of weight, metric, cost; else 1.
+of delay, latency, distance, dist, length; else the distance of its ends on the globe; else the first of weight, metric, \
+cost; else 1.
 All paths without a repeated node are permitted, as far as --paths goes, those of less weight first. What is left out is
 told on standard error. It needs networkx and defusedxml (Debian: python3-networkx, python3-defusedxml).
 
