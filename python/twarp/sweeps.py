@@ -11,7 +11,7 @@ from collections import Counter
 from collections.abc import Iterator, Mapping, Sequence
 from concurrent.futures import Executor
 from dataclasses import dataclass, replace
-from functools import cached_property, lru_cache
+from functools import cached_property, lru_cache, partial
 from math import exp, log
 from pathlib import Path
 from statistics import NormalDist
@@ -202,26 +202,20 @@ class CaseSource:
         return case, drawn
 
 
-@dataclass(frozen=True)
-class AtRest:
-    """When each run of a sweep is at rest, by its own delays.
+def at_rest(program: str, case: Case) -> int:
+    """By when a run of a safe case is at rest, by its own delays: so many longest delays after its last scripted event.
 
-    A safe case is so many longest delays after its last scripted event, and how many they are does not depend on the
-    delays. So the program is asked once where only these are drawn, and else for each run.
+    How many they are does not depend on the delays: so the program is asked once where only these are drawn.
     """
-
-    program: str
-
-    def __call__(self, case: Case) -> int:
-        # One more than the time of the last scripted event.
-        script_end = 1 + max((scene.time for scene in case.scenes), default=0)
-        # What elimination leaves is the same with the delay 1 for all links.
-        text = str(replace(case, links=[Link(link.a, link.b, 1) for link in case.links]))
-        longest = max((max(link.delay, link.back) for link in case.links), default=0)
-        stop = script_end + (rests_before(self.program, text, case.nodes) - script_end) * longest
-        if stop > GREATEST_TIME:
-            raise Refused(f"no --stop is named, and it is only known to rest before {stop:,}, past {GREATEST_TIME:,}")
-        return stop
+    # One more than the time of the last scripted event.
+    script_end = 1 + max((scene.time for scene in case.scenes), default=0)
+    # What elimination leaves is the same with the delay 1 for all links.
+    text = str(replace(case, links=[Link(link.a, link.b, 1) for link in case.links]))
+    longest = max((max(link.delay, link.back) for link in case.links), default=0)
+    stop = script_end + (rests_before(program, text, case.nodes) - script_end) * longest
+    if stop > GREATEST_TIME:
+        raise Refused(f"no --stop is named, and it is only known to rest before {stop:,}, past {GREATEST_TIME:,}")
+    return stop
 
 
 @lru_cache(1)
@@ -325,7 +319,7 @@ def sweep(
     rest whatever its delays, as twarp-policy tells (the file `policy`, or where it is found), and others fail.
     """
     file = str(program) if executor and program else str(need(program))
-    end = stop or AtRest(str(policy) if executor and policy else str(need_policy(policy, program)))
+    end = stop or partial(at_rest, str(policy) if executor and policy else str(need_policy(policy, program)))
     plan = Plan(CaseSource(case, delays, links, apart, failure_times), file, end, every, check)
     return Sweep(plan, Batches(plan, range(seed, seed + runs), workers_of(plan, executor, jobs)))
 

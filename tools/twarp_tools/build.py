@@ -17,7 +17,7 @@ import time
 from collections.abc import Iterator, Sequence
 from functools import partial
 from pathlib import Path
-from typing import IO, NamedTuple, NoReturn
+from typing import NamedTuple, NoReturn
 
 ROOT = Path(__file__).resolve().parents[2]
 RT = "rt"
@@ -320,32 +320,6 @@ def become(program: Path, words: Sequence[str]) -> NoReturn:
     os.execv(program, [str(program), *words])
 
 
-def main() -> int:
-    """Builds the program of a crate, which the command line has, and runs it with the words behind `--then`."""
-    made, words = Made(sys.argv[1]), sys.argv[2:]
-    if (kit := find_kit(made)) is None:
-        return MISSING
-    end_with_signals()
-    is_run = words[:1] == ["--then"]
-    try:
-        with alone(made) as has_waited:
-            if has_waited:
-                # What the other build left need not be built again.
-                become(ROOT / made.name, words[1:] if is_run else ["--build"])
-            refused = build(kit, made)
-    except OSError as error:
-        made.tell(f"the program was not built: {error}")
-        return NOT_RUN
-    if refused is not None:
-        print(refused, end="", file=sys.stderr)
-        made.tell("the program was not built; what rattle said stands above")
-        return NOT_RUN
-    made.tell("the program is proved and built")
-    if is_run:
-        become(made.file, words[1:])
-    return 0
-
-
 def explain(made: Made, status: int, said: bytes) -> int:
     """Gives the program's exit status, and writes its standard error; or says why it has none."""
     ended = ENDED.search(said)
@@ -361,29 +335,45 @@ def explain(made: Made, status: int, said: bytes) -> int:
     return NOT_RUN
 
 
-def run_unproved(made: Made, words: list[str], room: IO[bytes]) -> int:
+def unproved(made: Made, words: list[str]) -> int:
     """Runs the program on all of standard input, kept in a file: rt reads no terminal, and waits little for a pipe."""
-    # A program that is asked for help reads none.
-    if words and not {"help", "--help", "-h", "--version", "-V"} & {*words}:
-        with open(STANDARD_INPUT, "rb", closefd=False) as source:
-            if room.write(source.read(INPUT_LIMIT + 1)) > INPUT_LIMIT:
-                made.tell("a run by --try reads at most 64 MiB")
-                return NOT_RUN
-    room.seek(0)
-    with started([RT, "try", "--", *words], made.folder, stdin=room, stderr=subprocess.PIPE) as child:
-        said = child.stderr.read()
+    made.tell(f"{NOTICE} (proved: ./{made.name} --build)")
+    with tempfile.TemporaryFile() as room:
+        # A program that is asked for help reads none.
+        if words and not {"help", "--help", "-h", "--version", "-V"} & {*words}:
+            with open(STANDARD_INPUT, "rb", closefd=False) as source:
+                if room.write(source.read(INPUT_LIMIT + 1)) > INPUT_LIMIT:
+                    made.tell("a run by --try reads at most 64 MiB")
+                    return NOT_RUN
+        room.seek(0)
+        with started([RT, "try", "--", *words], made.folder, stdin=room, stderr=subprocess.PIPE) as child:
+            said = child.stderr.read()
     return explain(made, child.returncode, said)
 
 
-def unproved() -> int:
-    """Runs the program of a crate with some words, as the command line has both."""
-    made = Made(sys.argv[1])
-    if find_kit(made) is None:
+def main() -> int:
+    """Builds the program of a crate, and runs it with the words behind `--then`; or runs it without proofs, by `--try`."""
+    made, mode, words = Made(sys.argv[1]), sys.argv[2:3], sys.argv[3:]
+    if (kit := find_kit(made)) is None:
         return MISSING
-    made.tell(f"{NOTICE} (proved: ./{made.name} --build)")
     try:
-        with tempfile.TemporaryFile() as room:
-            return run_unproved(made, sys.argv[2:], room)
+        if mode == ["--try"]:
+            return unproved(made, words)
+        end_with_signals()
+        with alone(made) as has_waited:
+            if has_waited:
+                # What the other build left need not be built again.
+                become(ROOT / made.name, words if mode else ["--build"])
+            refused = build(kit, made)
     except OSError as error:
-        made.tell(f"standard input or rt can't be read: {error}")
+        what = "standard input or rt can't be read" if mode == ["--try"] else "the program was not built"
+        made.tell(f"{what}: {error}")
         return NOT_RUN
+    if refused is not None:
+        print(refused, end="", file=sys.stderr)
+        made.tell("the program was not built; what rattle said stands above")
+        return NOT_RUN
+    made.tell("the program is proved and built")
+    if mode:
+        become(made.file, words)
+    return 0

@@ -16,8 +16,9 @@ from pathlib import Path
 from string import Template
 
 from twarp.program import Refused
+from twarp_tools.build import ROOT
 from twarp_tools.command import Parser, tool, write_output
-from twarp_tools.tutorial import PROGRAM_OPTION, ROOT
+from twarp_tools.tutorial import PROGRAM_OPTION
 
 FORMATS = ROOT / "docs/FORMATS.md"
 SHELLS = Path(__file__).resolve().parent / "shells"

@@ -30,7 +30,7 @@ from twarp.calls import Ribs, version
 from twarp.case import GREATEST_TIME, MOST_ROUTERS, Case, read_case
 from twarp.outcomes import Outcomes, Table, read_table
 from twarp.program import Refused, Stopped
-from twarp.sweeps import AtRest, CaseSource, Ends, Policy, cluster, read_law, read_range
+from twarp.sweeps import CaseSource, Ends, Policy, at_rest, cluster, read_law, read_range
 from twarp.trials import Batches, Failed, Plan, Source, Trial, workers_of
 from twarp_tools import relationships
 from twarp_tools.command import Input, Parser, number_between, tell, title_of, tool, write_output
@@ -225,7 +225,7 @@ def main() -> None:
         judge = policy_program(line)
         policy = policy_of(line, source.case, judge) if judge and isinstance(source, CaseSource) else None
         line.outcomes = "stable" if policy and policy.numbers and line.outcomes != "seen" else None
-        plan = Plan(source, where, line.stop or AtRest(judge or "twarp-policy"), line.every, line.check == "stable")
+        plan = Plan(source, where, line.stop or partial(at_rest, judge or "twarp-policy"), line.every, line.check == "stable")
         executor, threads = stack.enter_context(cluster(line.scheduler)) if line.scheduler else (None, None)
         workers = workers_of(plan, executor, line.jobs or threads)
         numbers = policy.numbers if policy and line.outcomes else {}

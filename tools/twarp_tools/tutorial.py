@@ -16,14 +16,12 @@ from pathlib import Path
 from subprocess import DEVNULL, PIPE, STDOUT
 
 from twarp.program import Refused
+from twarp_tools.build import ROOT, Made
 from twarp_tools.command import Parser, tool
 
-ROOT = Path(__file__).resolve().parents[2]
 PAGE = ROOT / "docs/TUTORIAL.md"
 PICTURES = ROOT / "docs/pictures"
-PROGRAM = ROOT / "crates/twarp/out/twarp"
-POLICY = ROOT / "crates/twarp_policy/out/twarp_policy"
-PROGRAM_OPTION = "--program", "FILE", "the built program", Path, PROGRAM
+PROGRAM_OPTION = "--program", "FILE", "the built program", Path, Made("twarp").file
 
 # What the commands name of the clone, and the folder into which they write.
 NAMED = ("cases", "docs", "python", "tools")
@@ -87,7 +85,7 @@ def follow(page: str, folder: Path, programs: Programs) -> Iterator[tuple[Comman
 def main() -> None:
     parser = Parser(__doc__)
     parser.option(*PROGRAM_OPTION)
-    parser.option("--policy", "FILE", "the built program twarp-policy", Path, POLICY)
+    parser.option("--policy", "FILE", "the built program twarp-policy", Path, Made("twarp_policy").file)
     line = parser.parse_args()
     page, programs = PAGE.read_text(), {"twarp": line.program, "twarp-policy": line.policy}
     with tempfile.TemporaryDirectory() as name:
