@@ -49,16 +49,8 @@ def seq(case: Case, *, stop: int, every: int | None = None, log: bool = False, p
 
 
 def run(
-    case: Case,
-    *,
-    stop: int,
-    every: int | None = None,
-    log: bool = False,
-    workers: int | None = None,
-    batch: int | None = None,
-    lazy: bool = False,
-    blocks: bool = False,
-    rotate: bool = False,
+    case: Case, *, stop: int, every: int | None = None, log: bool = False, workers: int | None = None,
+    batch: int | None = None, lazy: bool = False, blocks: bool = False, rotate: bool = False,
     program: File | None = None,
 ) -> Report:
     """The same report as that of `seq`, by workers in threads that run ahead of one another (docs/FORMATS.md)."""
@@ -67,12 +59,7 @@ def run(
 
 
 def replay(
-    case: Case,
-    steps: Sequence[Step | str],
-    *,
-    stop: int,
-    workers: int | None = None,
-    lazy: bool = False,
+    case: Case, steps: Sequence[Step | str], *, stop: int, workers: int | None = None, lazy: bool = False,
     program: File | None = None,
 ) -> Replay:
     """What a Time Warp machine answers to these steps, as `handle 0`, `deliver 2` and `bound`."""
@@ -94,10 +81,8 @@ def version(*, program: File | None = None) -> str:
 # Each router's path, and a step from a router to a neighbour.
 Ribs = tuple[Nodes, ...]
 Hop = tuple[int, int]
-
-# The line of router 0 in an answer, and what a pivot's says.
+# The line of router 0 in an answer.
 FIRST_ROUTER = 3
-PIVOT = "`wheel`, a router, its spoke and its rim path"
 
 
 @dataclass(frozen=True, slots=True)
@@ -206,7 +191,8 @@ def read_safety(text: bytes, nodes: int) -> Safety:
     rests_before = cursor.take_number("rests before") if is_safe else None
     wheel = []
     while cursor.next_line().startswith("wheel "):
-        pivot, spoke, rim = cursor.take(f"wheel ({NUMBER}) ({PATH}) ({PATH})", PIVOT).groups()
+        wanted = "`wheel`, a router, its spoke and its rim path"
+        pivot, spoke, rim = cursor.take(f"wheel ({NUMBER}) ({PATH}) ({PATH})", wanted).groups()
         wheel.append(Pivot(int(pivot), read_path(spoke), read_path(rim)))
     number, (verdict,) = cursor.number, cursor.take("verdict (robust|safe|wheel)", "the verdict").groups()
     if is_safe == (verdict == "wheel"):

@@ -284,14 +284,8 @@ NO_NAMES: Mapping[int, str] = {}
 
 
 def network_text(
-    case: Case,
-    report: Report | None = None,
-    *,
-    title: str = "case",
-    names: Mapping[int, str] = NO_NAMES,
-    most: int = 8,
-    paths_of: int | None = None,
-    safety: Safety | None = None,
+    case: Case, report: Report | None = None, *, title: str = "case", names: Mapping[int, str] = NO_NAMES,
+    most: int = 8, paths_of: int | None = None, safety: Safety | None = None,
 ) -> str:
     """A network as Graphviz text: each router with at most so many of its paths, and, with a report, those in use.
 
@@ -318,13 +312,8 @@ def network(case: Case, report: Report | None = None, **how: Any) -> str:
 
 
 def view_of(
-    nodes: int,
-    whole: range,
-    end: int,
-    first: int | None = None,
-    last: int | None = None,
-    routers: Sequence[int] | None = None,
-    names: Mapping[int, str] = NO_NAMES,
+    nodes: int, whole: range, end: int, first: int | None = None, last: int | None = None,
+    routers: Sequence[int] | None = None, names: Mapping[int, str] = NO_NAMES,
 ) -> View:
     """A part of a run of so many routers, from the beginning of `whole` to `end`; nothing beyond `whole` is known."""
     routers = routers or range(nodes)
@@ -349,14 +338,8 @@ def subtitle_of(report: Report) -> str:
 
 
 def timeline(
-    case: Case,
-    report: Report,
-    *,
-    title: str = "run",
-    first: int | None = None,
-    last: int | None = None,
-    routers: Sequence[int] | None = None,
-    names: Mapping[int, str] = NO_NAMES,
+    case: Case, report: Report, *, title: str = "run", first: int | None = None, last: int | None = None,
+    routers: Sequence[int] | None = None, names: Mapping[int, str] = NO_NAMES,
 ) -> str:
     """The picture of a run: a lane for each router, or for those named, from one time to another.
 

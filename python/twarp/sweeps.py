@@ -180,11 +180,7 @@ class CaseSource:
     """One case, of which delays by a law, or times of failures from a range, or both are drawn for each run."""
 
     def __init__(
-        self,
-        case: Case,
-        delays: Law | str | None = None,
-        links: Sequence[Ends] | None = None,
-        apart: bool = False,
+        self, case: Case, delays: Law | str | None = None, links: Sequence[Ends] | None = None, apart: bool = False,
         failure_times: Uniform | str | None = None,
     ):
         self.case = case
@@ -294,21 +290,10 @@ class Sweep(Iterator[Trial]):
 
 
 def sweep(
-    case: Case,
-    *,
-    stop: int | None = None,
-    every: int | None = None,
-    runs: int = 1_000,
-    seed: int = 1,
-    delays: Law | str | None = None,
-    links: Sequence[Ends] | None = None,
-    apart: bool = False,
-    failure_times: Uniform | str | None = None,
-    check: bool = False,
-    jobs: int | None = None,
-    executor: Executor | None = None,
-    program: File | None = None,
-    policy: File | None = None,
+    case: Case, *, stop: int | None = None, every: int | None = None, runs: int = 1_000, seed: int = 1,
+    delays: Law | str | None = None, links: Sequence[Ends] | None = None, apart: bool = False,
+    failure_times: Uniform | str | None = None, check: bool = False, jobs: int | None = None,
+    executor: Executor | None = None, program: File | None = None, policy: File | None = None,
 ) -> Sweep:
     """The runs of a case with the seeds `seed`, `seed` + 1, .., in this order, as they end.
 

@@ -153,8 +153,13 @@ class Plan:
 
     def end(self, case: Case, report: Report) -> End:
         sent, changed = (sum(getattr(line, name) for line in report.routers) for name in ("sent", "changed"))
-        ribs, moving = tuple(line.rib for line in report.routers), self.moving(case, report)
-        return End(report.verdict, sent, changed, ribs, moving, self.fault(case, report))
+        ribs, fault = tuple(line.rib for line in report.routers), None
+        if self.is_checked and isinstance(report.verdict, Quiet):
+            try:
+                fault = next(unstable_routers(reached(case, report)), None)
+            except Refused as refused:
+                fault = str(refused)
+        return End(report.verdict, sent, changed, ribs, self.moving(case, report), fault)
 
     def moving(self, case: Case, report: Report) -> tuple[int, ...]:
         """The routers that change paths from the beginning of a period, or from half of the stop, up to the stop."""
@@ -163,14 +168,6 @@ class Plan:
         since = report.verdict.start if isinstance(report.verdict, Oscillates) else report.stop // 2
         before = [line.changed for line in self.report(case, since).routers] if since else [0] * case.nodes
         return tuple(line.router for line, count in zip(report.routers, before) if line.changed > count)
-
-    def fault(self, case: Case, report: Report) -> str | None:
-        if not (self.is_checked and isinstance(report.verdict, Quiet)):
-            return None
-        try:
-            return next(unstable_routers(reached(case, report)), None)
-        except Refused as fault:
-            return str(fault)
 
     def batch(self, seeds: Sequence[int]) -> tuple[list[Trial], float]:
         """The runs with these seeds, up to where the sweep is stopped, and how many seconds they took."""

@@ -7,8 +7,7 @@ import codecs
 import re
 import sys
 import warnings
-from collections.abc import Iterator, Mapping
-from dataclasses import dataclass, field
+from collections.abc import Mapping
 from fractions import Fraction
 from itertools import chain, repeat
 from typing import Any
@@ -44,11 +43,13 @@ A_DECIMAL = re.compile(r"[+-]?([0-9]{1,20}(\.[0-9]{0,20})?|\.[0-9]{1,20})([eE][+
 class Item:
     """A node or a link: its place in messages, and its attributes, whose names may have letters of any case."""
 
-    def __init__(self, place: str, attributes: Mapping[str, str]):
+    def __init__(self, place: str, defaults: Mapping[str, str], values: Mapping[str, Any]):
         self.place = place
+        # Values as they are written: of several the first, and none that is empty or has parts.
+        firsts = {name: value[0] if isinstance(value, list) and value else value for name, value in values.items()}
+        own = {name: str(one) for name, one in firsts.items() if one != "" and isinstance(one, (str, int, float))}
         # One without a value counts as not given, and of two names that are alike the first counts.
-        given = [(name, text) for name, text in attributes.items() if text]
-        self.attributes = {name.lower(): (name, text) for name, text in reversed(given)}
+        self.attributes = {name.lower(): (name, text) for name, text in reversed((defaults | own).items()) if text}
 
     def has(self, *names: str) -> bool:
         return all(name.lower() in self.attributes for name in names)
@@ -65,13 +66,22 @@ class Item:
         raise Refused(f"refused {self.place}: {name} {quote(text)}: {why}")
 
 
-@dataclass
 class Network:
-    """Nodes by their ids, in the order of the file, and links, which lead one way in a directed network."""
+    """The nodes of a graph of networkx by their ids, in the order of the file, and its links, which may lead one way."""
 
-    is_directed: bool
-    nodes: dict[str, Item] = field(default_factory=dict)
-    links: list[tuple[str, str, Item]] = field(default_factory=list)
+    def __init__(self, graph: Any):
+        self.is_directed: bool = graph.is_directed()
+        self.nodes: dict[str, Item] = {}
+        # What the graph has for all of them.
+        of_nodes, of_links = (graph.graph.get(kind) or {} for kind in ("node_default", "edge_default"))
+        for node, values in graph.nodes(data=True):
+            item = Item(f"node {quote(str(node))}", of_nodes, values)
+            if self.nodes.setdefault(str(node), item) is not item:
+                raise Refused(f"refused {item.place}: there is a node of this id already")
+        self.links: list[tuple[str, str, Item]] = []
+        for source, target, values in graph.edges(data=True):
+            item = Item(f"link from {quote(str(source))} to {quote(str(target))}", of_links, values)
+            self.links.append((str(source), str(target), item))
 
     def name(self, node: str) -> str:
         """What a node is called: its label, and its id where it has none."""
@@ -101,7 +111,7 @@ def read_network(text: bytes) -> Network:
             raise Refused(f"refused: {shortened(words)}") from None
         why = shortened(found[2]) if found[1] is None else f"this is no GML: {quote(found[1])}"
         raise Refused.at_line(int(found[3]), why) from None
-    return network_of(graph)
+    return Network(graph)
 
 
 def shortened(words: str) -> str:
@@ -117,8 +127,7 @@ def read_graphml(text: bytes) -> Any:
     prepare(root)
     if len(graphs := root.findall(GRAPH)) != 1:
         raise Refused(f"refused: {'a second graph stands beside the first' if graphs else 'there is no graph'}")
-    for fault in faults(root):
-        raise Refused(f"refused {fault}")
+    refuse_faults(root)
     reader = GraphMLReader(force_multigraph=True)
     keys, defaults = reader.find_graphml_keys(root)
     graph = reader.make_graph(graphs[0], keys, defaults)
@@ -159,32 +168,32 @@ def prepare(root: Element) -> None:
         edge.attrib.pop("id", None)
 
 
-def faults(root: Element) -> Iterator[str]:
-    """Hyperedges, graphs within nodes that are no groups, nodes without an id of their own, and links without ends."""
+def refuse_faults(root: Element) -> None:
+    """Refuses hyperedges, graphs within nodes that are no groups, nodes without an id of their own, and links without ends."""
     for hyperedge in root.iter(GRAPHML("hyperedge")):
         ends = [quote(end.get("node", "")) for end in hyperedge.findall(GRAPHML("endpoint"))]
         why = f"a link has two ends, and this has {len(ends)}: {shortened(', '.join(ends))}"
-        yield f"hyperedge {quote(hyperedge.get('id', ''))}: {why}"
+        raise Refused(f"refused hyperedge {quote(hyperedge.get('id', ''))}: {why}")
     for kind, tag in ("node", NODE), ("edge", EDGE):
         for part in root.iter(tag):
             is_group = part.get("yfiles.foldertype") == "group"
             if (part.find(GRAPH) is None) == is_group:
                 why = "it has no graph" if is_group else "it has a graph of its own, as only groups of yEd may"
-                yield f"{kind} {quote(part.get('id', ''))}: {why}"
+                raise Refused(f"refused {kind} {quote(part.get('id', ''))}: {why}")
     known: set[str] = set()
     for place, node in enumerate(root.iter(NODE), 1):
         if (id_ := node.get("id")) is None:
-            yield f"node: the {place}. has no id"
-        elif id_ in known:
-            yield f"node {quote(id_)}: there is a node of this id already"
-        else:
-            known.add(id_)
+            raise Refused(f"refused node: the {place}. has no id")
+        if id_ in known:
+            raise Refused(f"refused node {quote(id_)}: there is a node of this id already")
+        known.add(id_)
     for place, edge in enumerate(root.iter(EDGE), 1):
         for end in "source", "target":
             if (id_ := edge.get(end)) is None:
-                yield f"link: the {place}. has no {end}"
-            elif id_ not in known:
-                yield f"link: the {place}. has the {end} {quote(id_)}, and there is no node of this id"
+                raise Refused(f"refused link: the {place}. has no {end}")
+            if id_ not in known:
+                why = f"has the {end} {quote(id_)}, and there is no node of this id"
+                raise Refused(f"refused link: the {place}. {why}")
 
 
 def read_gml(text: bytes) -> Any:
@@ -215,23 +224,3 @@ def letters_of(text: bytes) -> str:
     except UnicodeDecodeError:
         letters = text.decode("latin-1")
     return letters.replace("\r\n", "\n").replace("\r", "\n")
-
-
-def network_of(graph: Any) -> Network:
-    """The nodes and links of a graph of networkx, with the defaults that it has for them."""
-    network = Network(graph.is_directed())
-    of_nodes, of_links = (graph.graph.get(kind) or {} for kind in ("node_default", "edge_default"))
-    for node, values in graph.nodes(data=True):
-        item = Item(f"node {quote(str(node))}", of_nodes | written(values))
-        if network.nodes.setdefault(str(node), item) is not item:
-            raise Refused(f"refused {item.place}: there is a node of this id already")
-    for source, target, values in graph.edges(data=True):
-        item = Item(f"link from {quote(str(source))} to {quote(str(target))}", of_links | written(values))
-        network.links.append((str(source), str(target), item))
-    return network
-
-
-def written(values: Mapping[str, Any]) -> dict[str, str]:
-    """Values as they are written; of several the first, and none that is empty or has parts."""
-    firsts = {name: value[0] if isinstance(value, list) and value else value for name, value in values.items()}
-    return {name: str(value) for name, value in firsts.items() if value != "" and isinstance(value, (str, int, float))}

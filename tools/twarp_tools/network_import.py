@@ -41,16 +41,14 @@ EARTH_RADIUS_KM = 6_371
 KM_PER_TICK = 200
 
 
-def on_globe(node: Item) -> tuple[float, float, float]:
-    """Where a node is, on a globe of radius 1."""
-    latitude, longitude = (node.number(name, -most, most) for name, most in zip(PLACE, (90, 180)))
-    up, round_ = math.radians(latitude or 0), math.radians(longitude or 0)
-    return math.cos(up) * math.cos(round_), math.cos(up) * math.sin(round_), math.sin(up)
-
-
 def kilometres(one: Item, other: Item) -> Fraction | None:
     """How far two nodes are from each other on the globe, where both have their place."""
-    places = [on_globe(node) for node in (one, other) if node.has(*PLACE)]
+    places = []
+    for node in (node for node in (one, other) if node.has(*PLACE)):
+        latitude, longitude = (node.number(name, -most, most) for name, most in zip(PLACE, (90, 180)))
+        up, round_ = math.radians(latitude or 0), math.radians(longitude or 0)
+        # On a globe of radius 1.
+        places.append((math.cos(up) * math.cos(round_), math.cos(up) * math.sin(round_), math.sin(up)))
     if len(places) < 2:
         return None
     # The arc of a great circle, by its chord.

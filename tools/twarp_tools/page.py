@@ -144,12 +144,6 @@ class PagePicture(RunPicture):
             # The path was given up at once: its bar ends where it began.
             parent[-1].set("data-at", attribute(self.axis.x(bar.start)))
 
-    def axis_json(self) -> Json:
-        """What the script has to know to write the times anew."""
-        widths = {"fold_width": svg.FOLD_WIDTH, "digit_width": svg.DIGIT_WIDTH, "letter_width": LETTER_WIDTH}
-        heights = {"right": self.right, "top": TOP - 8, "bottom": self.lanes.bottom, "times": TOP - 14}
-        return asdict(self.axis) | widths | heights
-
 
 class Page:
     """What the page of a part of a run has."""
@@ -182,17 +176,20 @@ class Page:
 
     def json(self) -> Json:
         """What the script has to know."""
+        picture, recording, safety = self.picture, self.recording, self.safety
+        widths = {"fold_width": svg.FOLD_WIDTH, "digit_width": svg.DIGIT_WIDTH, "letter_width": LETTER_WIDTH}
+        heights = {"right": picture.right, "top": TOP - 8, "bottom": picture.lanes.bottom, "times": TOP - 14}
         return {
             **self.network.json(),
-            **({"policy": self.policy_json(self.safety)} if self.safety else {}),
+            **({"policy": self.policy_json(safety)} if safety else {}),
             "stops": self.stops,
-            "axis": self.picture.axis_json(),
-            "xs": [round(self.picture.axis.x(time), 1) for time in self.stops],
+            "axis": asdict(picture.axis) | widths | heights,
+            "xs": [round(picture.axis.x(time), 1) for time in self.stops],
             "places": [asdict(place) for place in svg.PLACES],
-            "paths": list(self.recording.path_numbers),
+            "paths": list(recording.path_numbers),
             "routers": list(self.routers()),
             "messages": self.messages,
-            "events": self.recording.events,
+            "events": recording.events,
         }
 
     def policy_json(self, safety: Safety) -> Json:

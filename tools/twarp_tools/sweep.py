@@ -141,33 +141,31 @@ def source_of(line: argparse.Namespace) -> tuple[Source, str]:
     return source, hashlib.sha256(str(case).encode()).hexdigest()
 
 
-def policy_program(line: argparse.Namespace) -> str | None:
-    """The program twarp-policy, where it is there; stopped where it is not and an option asks for it."""
-    try:
-        return str(program.need_policy(line.policy_program, line.program))
-    except Stopped:
-        if not line.scheduler and (line.policy_program or not line.stop or line.outcomes == "stable"):
-            raise
-        return None
-
-
-def policy_of(line: argparse.Namespace, case: Case, file: str) -> Policy | None:
-    """What holds of the case for all timings, as the program twarp-policy says.
+def judged(line: argparse.Namespace, source: Source) -> tuple[str, Policy | None]:
+    """The program twarp-policy, and what it says of the one case; stopped where it is not there and an option asks for it.
 
     Where nothing but delays is drawn, no stop has to be named for a case that is safe.
     """
     try:
-        policy = Policy.of(case, file)
+        file = str(program.need_policy(line.policy_program, line.program))
+    except Stopped:
+        if not line.scheduler and (line.policy_program or not line.stop or line.outcomes == "stable"):
+            raise
+        return "twarp-policy", None
+    if not isinstance(source, CaseSource):
+        return file, None
+    try:
+        policy = Policy.of(source.case, file)
     except (OSError, Refused, Stopped, ValueError) as fault:
         if not line.stop:
             raise Stopped(f"policy: {file} does not tell when the runs are at rest: {fault}") from None
         tell(f"{file} does not judge the case: {fault}")
-        return None
+        return file, None
     if not (line.stop or line.failure_times or policy.safety.is_safe):
         raise Refused(f"refused option --stop: it is missing, and no time is known by which all rest: {policy.words()}")
     if not line.quiet:
         tell(policy.words())
-    return policy
+    return file, policy
 
 
 @contextlib.contextmanager
@@ -220,19 +218,20 @@ def main() -> None:
     if line.show:
         case, _ = source.draw(line.seed)
         return write_output(str(case))
-    with contextlib.ExitStack() as stack:
-        where = str((program.find(line.program) or "twarp") if line.scheduler else program.need(line.program))
-        judge = policy_program(line)
-        policy = policy_of(line, source.case, judge) if judge and isinstance(source, CaseSource) else None
-        line.outcomes = "stable" if policy and policy.numbers and line.outcomes != "seen" else None
-        plan = Plan(source, where, line.stop or partial(at_rest, judge or "twarp-policy"), line.every, line.check == "stable")
-        executor, threads = stack.enter_context(cluster(line.scheduler)) if line.scheduler else (None, None)
+    where = str((program.find(line.program) or "twarp") if line.scheduler else program.need(line.program))
+    judge, policy = judged(line, source)
+    line.outcomes = "stable" if policy and policy.numbers and line.outcomes != "seen" else None
+    plan = Plan(source, where, line.stop or partial(at_rest, judge), line.every, line.check == "stable")
+    numbers = policy.numbers if policy and line.outcomes else {}
+    # With other times of failures a run may stand elsewhere once its script is over.
+    notes = policy.notes if policy and not line.failure_times else {}
+    given = program.words_of({name.replace("_", "-"): getattr(line, name) for name in NAMED})
+    made_by = f"sweep {checksum[:16]} {shlex.join(given)}"
+    record: dict[str, object] = {"sweep": made_by, "case": checksum, "first_seed": line.seed}
+    if policy:
+        record["policy"] = policy.record()
+    with cluster(line.scheduler) if line.scheduler else contextlib.nullcontext((None, None)) as (executor, threads):
         workers = workers_of(plan, executor, line.jobs or threads)
-        numbers = policy.numbers if policy and line.outcomes else {}
-        # With other times of failures a run may stand elsewhere once its script is over.
-        notes = policy.notes if policy and not line.failure_times else {}
-        given = program.words_of({name.replace("_", "-"): getattr(line, name) for name in NAMED})
-        made_by = f"sweep {checksum[:16]} {shlex.join(given)}"
         outputs = Outputs(line, Table(source.columns, made_by, Outcomes((), numbers, notes)), [line.case])
         known = {trial.seed for trial in outputs.known}
         seeds = [seed for seed in range(line.seed, line.seed + line.runs) if seed not in known]
@@ -242,9 +241,6 @@ def main() -> None:
             outputs.flush()
         if seeds and known and min(seeds) < max(known):
             outputs.put_in_order()
-        record: dict[str, object] = {"sweep": made_by, "case": checksum, "first_seed": line.seed}
-        if policy:
-            record["policy"] = policy.record()
         if line.json:
             told = executor.submit(version_of, where).result() if executor else version_of(where)
             record["versions"] = {"program": told, "python": platform.python_version()}
