@@ -215,10 +215,7 @@ def read_stable(text: bytes, nodes: int) -> Stable:
 
 
 def standing(case: Case, safety: Safety) -> list[Router]:
-    """The routers as they stand when the script is over, those without a choice with the path that they use.
-
-    Refused where the answer is of another case: at the line of the first router that has no such path.
-    """
+    """The routers as the script leaves them, with what they use; refused at the first line that is of another case."""
     routers = after_script(case)
     for number, (router, left) in enumerate(zip(routers, safety.left), FIRST_ROUTER):
         for path in left:

@@ -307,7 +307,7 @@ def read_table(source: TextIO, is_cut: bool = False) -> tuple[Table, list[Trial]
             number += 1
     except (ValueError, KeyError, IndexError, csv.Error) as fault:
         raise Refused(f"{source.name}: refused line {number}: this is no CSV of a sweep: {fault}") from None
-    numbers = {paths: number_of(name) for name, paths in ribs.items()}
+    numbers = {paths: int(name) for name, paths in ribs.items()}
     return Table(head[1 : 1 + count], head[-1], Outcomes(numbers=numbers)), [*trials.values()]
 
 
@@ -326,7 +326,7 @@ def read_row(row: list[str], count: int, ribs: dict[str, Ribs]) -> Trial:
             return Trial(seed, tuple(values), Failed("it failed before"))
         case "quiet":
             verdict: Verdict = Quiet(number_of(rest))
-            if paths:
+            if paths and number_of(number):
                 ribs[number] = tuple(map(read_path, re.findall(PATH, paths)))
             if len(ribs[number]) != len(next(iter(ribs.values()))):
                 raise ValueError("the paths are those of another number of routers")

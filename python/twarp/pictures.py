@@ -155,24 +155,14 @@ OTHERS = "#b8bfc6"
 WHISKER = {"stroke": "#222", "stroke_width": 1.3, "fill": "none"}
 
 
-@dataclass(frozen=True)
 class Lane:
-    """Outcomes that share a lane, which are one but for the rarest ones, with how they look."""
+    """Outcomes that share a lane, which are one but for the rarest ones, with their look and their names."""
 
-    name: str
-    look: dict[str, str]
-    outcomes: Sequence[Outcome]
-
-    @property
-    def words(self) -> str:
-        """What its runs have in common."""
-        if len(self.outcomes) > 1:
-            return f"{len(self.outcomes):,} other outcomes"
-        return f"outcome {self.name}" if self.outcomes[0].number else self.name
-
-    @property
-    def count(self) -> int:
-        return sum(outcome.runs for outcome in self.outcomes)
+    def __init__(self, name: str, look: dict[str, str], outcomes: Sequence[Outcome]):
+        self.name, self.look, self.outcomes = name, look, outcomes
+        self.count = sum(outcome.runs for outcome in outcomes)
+        alone = f"outcome {name}" if outcomes[0].number else name
+        self.words = f"{len(outcomes):,} other outcomes" if len(outcomes) > 1 else alone
 
 
 def lanes_of(ranked: Sequence[Outcome]) -> list[Lane]:

@@ -103,10 +103,7 @@ def words_of(options: Options) -> list[str]:
 
 
 def answer(file: Path, words: list[str], text: bytes) -> bytes:
-    """What the program writes with these words and this input.
-
-    Refused or Stopped where it says so; ValueError where it does not take the words.
-    """
+    """What the program writes; Refused or Stopped where it says so, and ValueError where it does not take the words."""
     done = subprocess.run([file, *words], input=text, capture_output=True, check=False)
     out, err = (told.decode("utf-8", "replace").strip() for told in (done.stdout, done.stderr))
     if done.returncode == 0:

@@ -142,10 +142,7 @@ class Fate(enum.Enum):
 
 @dataclass(slots=True)
 class Message:
-    """A message, or an antimessage that takes one back, with the time at which it was sent.
-
-    In a replay that is a step, and so is that which delivered it.
-    """
+    """A message, or an antimessage that takes one back, with the time, in a replay the step, at which it was sent."""
 
     sent: int
     event: Event
@@ -177,12 +174,8 @@ class Run:
         self.messages: list[Message] = []
         self.scenes: list[Event] = []
         self.path_numbers = case.path_numbers()
-        self.pending: list[tuple[tuple[int, ...], Event, Message | None]] = []
-        for event in opening_events(case):
-            self.expect(event, None)
-
-    def expect(self, event: Event, message: Message | None) -> None:
-        heapq.heappush(self.pending, (event.key(self.path_numbers), event, message))
+        opening = ((event.key(self.path_numbers), event) for event in opening_events(case))
+        self.pending: list[tuple[tuple[int, ...], Event, Message | None]] = [(*one, None) for one in sorted(opening)]
 
     def least(self) -> Event | None:
         return self.pending[0][1] if self.pending else None
@@ -193,7 +186,7 @@ class Run:
         changed, dropped = router.changed, router.dropped
         for send in router.handle(event):
             self.messages.append(Message(event.time, send))
-            self.expect(send, self.messages[-1])
+            heapq.heappush(self.pending, (send.key(self.path_numbers), send, self.messages[-1]))
         if router.changed > changed:
             self.changes.append(Change(event.time, router.node, router.rib))
         if message is None:

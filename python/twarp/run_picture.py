@@ -20,8 +20,7 @@ LEAST_WIDTH = 640.0
 MOMENT = 4.0
 # How far the bars of a run that is at rest go on beyond its last event.
 REST = 36.0
-# How far below a router's bar the time in which a path is forbidden is drawn, how far apart those of several paths are,
-# and how many stand below one another; further ones share the last place.
+# How far below a bar, and from one another, times in which paths are forbidden are drawn; others share the last place.
 BAN_BELOW = 7.0
 BAN_STEP = 6.0
 MOST_BANS = 3
@@ -75,10 +74,7 @@ class LanePicture:
 
 
 class Bar(NamedTuple):
-    """A router's path while it stays, in use or forbidden; `end` is None where it stays until the run's end.
-
-    A path that is forbidden is drawn at `level`, from 0: no two of a router that meet have the same one.
-    """
+    """A router's path while it stays, to the run's end if there is no `end`: in use, or forbidden and at a `level`."""
 
     router: int
     path: Nodes
@@ -111,7 +107,7 @@ def bans_of(run: Run) -> tuple[list[Bar], dict[Event, tuple[Nodes, int]]]:
     """The times in which paths are forbidden; and of each event that forbids or allows one, the path and its level."""
     bans: list[Bar] = []
     marks: dict[Event, tuple[Nodes, int]] = {}
-    # For each router the paths forbidden now, each with its level and the time from which on it is.
+    # For each router the paths forbidden now, each with a level of its own, from 0, and the time from which on it is.
     now: dict[int, dict[Nodes, tuple[int, int]]] = defaultdict(dict)
     for scene in run.scenes:
         if isinstance(scene.body, (Forbid, Allow)):

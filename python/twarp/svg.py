@@ -41,23 +41,12 @@ def place_of(number: int) -> Place:
 
 # What else has a colour, on light ground and on dark ground.
 COLOURS = {
-    "ground": ("#fff", "#15181c"),
-    "ink": ("#222", "#e6e8ea"),
-    "quiet": ("#666", "#a3abb4"),
-    "lane": ("#bbb", "#4a525b"),
-    "grid": ("#ececec", "#262b31"),
-    "hollow": ("#999", "#8a939d"),
-    "wire": ("#84898f", "#747d87"),
-    "message": ("#43505e", "#b4bec9"),
-    "underway": ("#9aa5b1", "#78828d"),
-    "bad": ("#c1121f", "#ff7b7b"),
-    "faint": ("#e5a3a7", "#8f5257"),
-    "good": ("#1a7f37", "#5fc97e"),
-    "swap": ("#7b2cbf", "#c69bf0"),
-    "period": ("#f4d35e", "#8a7426"),
-    "again": ("#c79a00", "#d9b13b"),
-    "hatch": ("#e3e3e3", "#333941"),
-    "focus": ("#0b57d0", "#8ab4f8"),
+    "ground": ("#fff", "#15181c"), "ink": ("#222", "#e6e8ea"), "quiet": ("#666", "#a3abb4"),
+    "lane": ("#bbb", "#4a525b"), "grid": ("#ececec", "#262b31"), "hollow": ("#999", "#8a939d"),
+    "wire": ("#84898f", "#747d87"), "message": ("#43505e", "#b4bec9"), "underway": ("#9aa5b1", "#78828d"),
+    "bad": ("#c1121f", "#ff7b7b"), "faint": ("#e5a3a7", "#8f5257"), "good": ("#1a7f37", "#5fc97e"),
+    "swap": ("#7b2cbf", "#c69bf0"), "period": ("#f4d35e", "#8a7426"), "again": ("#c79a00", "#d9b13b"),
+    "hatch": ("#e3e3e3", "#333941"), "focus": ("#0b57d0", "#8ab4f8"),
 }
 LIGHT = {name: light for name, (light, _) in COLOURS.items()}
 DARK = {name: dark for name, (_, dark) in COLOURS.items()}

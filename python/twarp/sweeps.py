@@ -29,10 +29,8 @@ SPLITS = 10_000
 
 
 def share(*what: object) -> float:
-    """A number from 0 to below 1, drawn for this purpose alone: it stays whatever else is drawn.
-
-    Of Python's generator only random() is promised to give the same numbers in each version.
-    """
+    """A number from 0 to below 1, drawn for this purpose alone: it stays whatever else is drawn."""
+    # Of Python's generator only random() is promised to give the same numbers in each version.
     return random.Random(" ".join(map(str, what))).random()
 
 

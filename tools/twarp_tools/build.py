@@ -352,7 +352,7 @@ def unproved(made: Made, words: list[str]) -> int:
 
 
 def main() -> int:
-    """Builds the program of a crate, and runs it with the words behind `--then`; or runs it without proofs, by `--try`."""
+    """Builds the program of a crate, and runs it with the words behind `--then`; or `--try`, without proofs."""
     made, mode, words = Made(sys.argv[1]), sys.argv[2:3], sys.argv[3:]
     if (kit := find_kit(made)) is None:
         return MISSING

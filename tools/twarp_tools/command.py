@@ -61,10 +61,7 @@ class Parser(argparse.ArgumentParser):
     def option(
         self, name: str, metavar: str, told: str, kind: Callable[[str], Any] = str, default: Any = None, **how: Any
     ) -> None:
-        """Adds an option, to the `group` if there is one, with what `kind` makes of its word, whose ValueError is told.
-
-        Where the word `is_kept` it is the value itself.
-        """
+        """Adds an option, to a `group` or not, whose word is read by `kind`, with its ValueError told, or `is_kept`."""
         group, is_kept = how.pop("group", self), how.pop("is_kept", False)
 
         def read(word: str) -> object:
@@ -153,14 +150,6 @@ def lines_within(source: BinaryIO, limit: int) -> Iterator[tuple[int, bytes]]:
             raise Refused.at_line(number, f"it has more than {LONGEST_LINE:,} bytes")
         if line:
             yield number, line
-
-
-def read_within(source: BinaryIO, limit: int) -> bytes:
-    """The whole of a stream of at most so many MiB."""
-    text = source.read(limit * MIB + 1)
-    if len(text) > limit * MIB:
-        raise Refused(f"refused: {TOO_LARGE.format(limit)}")
-    return text
 
 
 def read_stream(file: str, reader: Callable[[BinaryIO], Value]) -> Value:

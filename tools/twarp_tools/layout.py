@@ -94,26 +94,19 @@ def part_points(points: list[Point], least: float) -> bool:
     return is_near
 
 
-def aside(point: Point, a: Point, b: Point, least: float) -> Point:
-    """How a point is to be moved where the link from `a` to `b` passes nearer than `least`."""
-    link, way = b - a, point - a
-    if not (length := length_of(link)):
-        return 0j
-    along = (way.real * link.real + way.imag * link.imag) / (length * length)
-    off = (way.real * link.imag - way.imag * link.real) / length
-    if not 0 < along < 1 or abs(off) >= least:
-        return 0j
-    share = (least - abs(off) + 1) / length * (1 if off >= 0 else -1)
-    return complex(share * link.imag, -share * link.real)
-
-
 def part_from_links(points: list[Point], links: list[tuple[int, int]], least: float) -> bool:
     """Moves points aside from the links of others that pass nearer than `least`, and says whether any did."""
     has_moved = False
     for number in range(len(points)):
-        for a, b in links:
-            if number not in (a, b) and (move := aside(points[number], points[a], points[b], least)):
-                points[number] += move
+        for a, b in (link for link in links if number not in link):
+            link, way = points[b] - points[a], points[number] - points[a]
+            if not (length := length_of(link)):
+                continue
+            along = (way.real * link.real + way.imag * link.imag) / (length * length)
+            off = (way.real * link.imag - way.imag * link.real) / length
+            if 0 < along < 1 and abs(off) < least:
+                share = (least - abs(off) + 1) / length * (1 if off >= 0 else -1)
+                points[number] += complex(share * link.imag, -share * link.real)
                 has_moved = True
     return has_moved
 

@@ -10,7 +10,6 @@ examples:
 import re
 import subprocess
 from collections.abc import Iterable, Iterator
-from dataclasses import dataclass
 from itertools import groupby
 from pathlib import Path
 from string import Template
@@ -42,23 +41,14 @@ KINDS = {
 }
 
 
-@dataclass
 class Flag:
-    """An option with its names, its value's name where it has one, and what is said of it."""
+    """An option with its names, its value's name where it has one, and what is said of it, in full and short."""
 
-    short: str | None
-    long: str
-    value: str | None
-    lines: list[str]
-
-    @property
-    def names(self) -> list[str]:
-        return [name for name in (self.short, self.long) if name]
-
-    @property
-    def summary(self) -> str:
-        """The first paragraph of what is said of it."""
-        return " ".join("\n".join(self.lines).partition("\n\n")[0].split())
+    def __init__(self, found: re.Match[str], rest: list[str]):
+        self.short, self.long, self.value, first = found.groups()
+        self.lines = [first, *rest] if first else rest
+        self.names: list[str] = [name for name in (self.short, self.long) if name]
+        self.summary = " ".join("\n".join(self.lines).partition("\n\n")[0].split())
 
 
 class Help:
@@ -74,8 +64,7 @@ class Help:
         self.about = [re.sub("^  ", "    ", line) for line in about.strip("\n").splitlines()]
         self.usage = usage.partition("\n")[0]
         self.commands = entries_of(sections.get("Commands", []))
-        flags = items_of(sections.get("Options", []), A_FLAG)
-        self.flags = [Flag(*found.groups()[:3], [found[4]] * bool(found[4]) + rest) for found, rest in flags]
+        self.flags = [Flag(*item) for item in items_of(sections.get("Options", []), A_FLAG)]
         self.names = [name for flag in self.flags for name in flag.names]
         self.statuses = entries_of(sections.get("Exit status", []))
 

@@ -1,7 +1,4 @@
-"""Networks in GraphML and GML, read by networkx, and XML by defusedxml.
-
-What both would let pass, or lose, is refused here: entities, hyperedges, a second graph or node, a link without an end.
-"""
+"""Networks in GraphML and GML, read by networkx and defusedxml; what both would let pass, or lose, is refused here."""
 
 import codecs
 import re
@@ -67,7 +64,7 @@ class Item:
 
 
 class Network:
-    """The nodes of a graph of networkx by their ids, in the order of the file, and its links, which may lead one way."""
+    """The nodes of a graph of networkx by their ids, in the file's order, and its links, which may lead one way."""
 
     def __init__(self, graph: Any):
         self.is_directed: bool = graph.is_directed()
@@ -169,7 +166,7 @@ def prepare(root: Element) -> None:
 
 
 def refuse_faults(root: Element) -> None:
-    """Refuses hyperedges, graphs within nodes that are no groups, nodes without an id of their own, and links without ends."""
+    """Refuses hyperedges, graphs in nodes that are no groups, nodes without own ids, and links without ends."""
     for hyperedge in root.iter(GRAPHML("hyperedge")):
         ends = [quote(end.get("node", "")) for end in hyperedge.findall(GRAPHML("endpoint"))]
         why = f"a link has two ends, and this has {len(ends)}: {shortened(', '.join(ends))}"

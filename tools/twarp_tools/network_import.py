@@ -21,7 +21,7 @@ from typing import BinaryIO, NamedTuple
 from twarp.case import GREATEST_DELAY, MOST_LINKS, MOST_NODES, MOST_PATHS, MOST_ROUTERS, Case, Link, Nodes
 from twarp.case import hops_from
 from twarp.program import Refused, quote
-from twarp_tools.command import SIZE_LIMIT, Parser, number_between, read_stream, read_within, refuse_own_input
+from twarp_tools.command import MIB, SIZE_LIMIT, TOO_LARGE, Parser, number_between, read_stream, refuse_own_input
 from twarp_tools.command import tell_counts, tool, write_output
 from twarp_tools.network_files import Item, Network, read_network
 from twarp_tools.topology import Permitted, Rank
@@ -169,7 +169,9 @@ def main() -> None:
 
     def read(source: BinaryIO) -> tuple[Joined, list[str]]:
         """The network and the nodes that become routers. Here too, since what is wrong is told by the file's name."""
-        joined = Joined(read_network(read_within(source, line.size_limit)), line.delay, line.weight, line.per_tick)
+        if len(text := source.read(line.size_limit * MIB + 1)) > line.size_limit * MIB:
+            raise Refused(f"refused: {TOO_LARGE.format(line.size_limit)}")
+        joined = Joined(read_network(text), line.delay, line.weight, line.per_tick)
         return joined, routers_of(joined, line.destination)
 
     joined, routers = read_stream(line.input, read)

@@ -47,10 +47,7 @@ Json = dict[str, Any]
 
 
 class Recording(Run):
-    """A run, with how each router in view begins, and what each event changes at its router.
-
-    Paths stand in it by their numbers in `path_numbers`, as the script wants them.
-    """
+    """A run, with how each router in view begins, and what each event changes there, with numbers for paths."""
 
     def __init__(self, case: Case, view: View):
         super().__init__(case)
@@ -162,11 +159,14 @@ class Page:
         self.stops = sorted(time for time in moments if self.view.meets(time, time))
 
     def html(self, title: str, subtitle: str) -> str:
+        light, dark = ("".join(f"--{name}: {hue}; " for name, hue in table.items()) for table in (svg.LIGHT, svg.DARK))
+        root = f":root {{ color-scheme: light dark; {light}}}\n"
+        root += f"@media (prefers-color-scheme: dark) {{ :root {{ {dark}}} }}\n"
         parts = {
             "title": escape(title),
             "subtitle": escape(subtitle),
             "last_stop": str(len(self.stops) - 1),
-            "style": style(),
+            "style": root + svg.STYLE.substitute(VARIABLES) + (PARTS / "page.css").read_text(),
             "timeline": "\n".join(map(written, self.timeline())),
             "marks": "\n".join(self.marks()),
             "run": json.dumps(self.json(), separators=(",", ":")).replace("<", "\\u003c"),
@@ -249,13 +249,6 @@ def pane(look: str, x: float, y: float, width: float, height: float) -> Element:
     """A picture that shows a part of a drawing, a pixel for each of its units."""
     box = f"{x:.1f} {y:.1f} {width:.1f} {height:.1f}"
     return Element("svg", {"class": look, "viewBox": box, "width": f"{width:.1f}", "height": f"{height:.1f}"})
-
-
-def style() -> str:
-    light, dark = ("".join(f"--{name}: {hue}; " for name, hue in table.items()) for table in (svg.LIGHT, svg.DARK))
-    root = f":root {{ color-scheme: light dark; {light}}}\n"
-    root += f"@media (prefers-color-scheme: dark) {{ :root {{ {dark}}} }}\n"
-    return root + svg.STYLE.substitute(VARIABLES) + (PARTS / "page.css").read_text()
 
 
 @tool

@@ -20,11 +20,11 @@ from pathlib import Path
 from twarp import case
 from twarp.case import GREATEST_DELAY, GREATEST_TIME, MOST_LINKS, MOST_NODES, Case, Link, LinkScene
 from twarp.program import Refused
-from twarp.sweeps import Uniform, read_range, share
+from twarp.sweeps import read_range, share
 from twarp_tools import topology
 from twarp_tools.command import SIZE_LIMIT, Parser, lines_within, number_between, read_stream, refuse_own_input, tell
 from twarp_tools.command import tell_counts, tool, write_output
-from twarp_tools.topology import GREATEST_AS, Neighbours, Permitted, Role, Topology, without_valley
+from twarp_tools.topology import GREATEST_AS, Neighbours, Permitted, Role, Topology, read_relationships, without_valley
 
 # MiB of an input, unpacked: the relationships of the whole Internet are some 15.
 MOST_UNPACKED = 32
@@ -71,8 +71,7 @@ def failures(used: Iterable[tuple[int, int]], numbers: list[int], line: argparse
 
 def read(line: argparse.Namespace) -> Neighbours:
     """The relationships of the input: those in the customer cone, and of these in the core, where the line asks for it."""
-    reader = topology.read_relationships
-    neighbours = read_stream(line.input, lambda source: reader(lines_within(source, line.size_limit)))
+    neighbours = read_stream(line.input, lambda source: read_relationships(lines_within(source, line.size_limit)))
     for option, number in ("--destination", line.destination), ("--cone", line.cone):
         if number and number not in neighbours:
             raise Refused(f"refused option {option}: the input has no AS {number}")
@@ -101,8 +100,7 @@ def make(neighbours: Neighbours, line: argparse.Namespace) -> tuple[Topology, Pe
     if line.order == "near":
         taken.renumber(topology.near_order(taken.roles))
     permitted = without_valley(taken, line.paths)
-    delays: Uniform = line.delays
-    numbers = taken.numbers
+    numbers, delays = taken.numbers, line.delays
     links = [Link(a, b, delays.ticks(drawn("delay", numbers[a], numbers[b]))) for a, b in taken.links()]
     paths = [path for row in permitted.rows[1:] for path in row]
     used = {(min(hop), max(hop)) for path in paths for hop in zip(path, path[1:])}

@@ -142,7 +142,7 @@ def source_of(line: argparse.Namespace) -> tuple[Source, str]:
 
 
 def judged(line: argparse.Namespace, source: Source) -> tuple[str, Policy | None]:
-    """The program twarp-policy, and what it says of the one case; stopped where it is not there and an option asks for it.
+    """The program twarp-policy, and what it says of the one case; stopped where it is missing and asked for.
 
     Where nothing but delays is drawn, no stop has to be named for a case that is safe.
     """

@@ -60,8 +60,8 @@ class Outputs:
         self.table = table
         # Else standard output may have to hold something in place of these lines, or them in another order.
         self.is_handed_on = not (line.check or line.resume)
-        outputs = ("--resume", line.resume), ("--csv", line.csv), ("--json", line.json), ("--picture", line.picture)
-        names = {option: name for option, name in outputs if name}
+        options = ("resume", "csv", "json", "picture")
+        names = {f"--{option}": name for option in options if (name := getattr(line, option))}
         refuse_clashes(names, inputs)
         # The lines for standard output that are not written yet, and the runs that the resumed CSV has.
         self.lines = [] if line.summary else [table.head_line]
@@ -139,9 +139,8 @@ class Progress:
 
     def show(self, done: int, is_end: bool = False) -> None:
         """Tells how far it is, where that is due, and at the end."""
-        now = time.monotonic()
-        is_due = is_end or now - self.told >= (REDRAW if self.is_terminal else NOW_AND_THEN)
-        if self.is_quiet or not is_due:
+        now, pause = time.monotonic(), REDRAW if self.is_terminal else NOW_AND_THEN
+        if self.is_quiet or not (is_end or now - self.told >= pause):
             return
         self.told, seconds = now, max(now - self.begun, 1e-9)
         rate = (done - self.before) / seconds

@@ -1,7 +1,4 @@
-"""AS relationships, the part of them that is taken for a case, how its routers are numbered, and which paths they have.
-
-tools/README.md tells of paths without a valley, and how they are ranked.
-"""
+"""AS relationships: what of them is taken for a case, how routers are numbered, and which paths they have."""
 
 import enum
 import heapq
@@ -109,10 +106,7 @@ def reached_by(neighbours: Neighbours, start: int, role: Role, kept: Container[i
 
 
 def core_around(neighbours: Neighbours, destination: int, most: int) -> tuple[int, set[int]]:
-    """The k-core that is the largest of at most so many ASes, with the destination and the providers above it.
-
-    Where each is larger it is the one with the greatest k.
-    """
+    """The largest k-core of at most so many ASes, or that with the greatest k; and the destination and those above it."""
     cores = coreness(neighbours)
     k, part = max(cores.values()), set[int]()
     for least in range(k, -1, -1):
@@ -231,18 +225,15 @@ def near_order(neighbours: Sequence[Collection[int]]) -> list[int]:
 
 # What ranks a path among those of its router, the best first.
 Rank = tuple[float, ...]
-# To which routers a path is offered, by its rank and by its place at its own router; each with the rank that it has there.
+# To which routers a path is offered, by its rank and its place at its own router; each with the rank that it has there.
 Offers = Callable[[Rank, Nodes, int], Iterable[tuple[int, Rank]]]
 
 
 class Permitted:
-    """Each router's paths to the origin without a repeated node, ranked, at most so many.
-
-    The rest of each is permitted at its next router, which could not offer it otherwise.
-    """
+    """Each router's best paths to the origin without a repeated node, the rest of which the next router has."""
 
     def __init__(self, count: int, most: int, first: Rank, offers: Offers):
-        """`first` ranks the origin's own path. None that is offered is better where it comes to than where it is from."""
+        """`first` ranks the origin's own path. No path is better where it is offered than at its own router."""
         self.most = most
         # Each router's permitted paths, best first.
         self.rows: list[list[Nodes]] = [[] for _ in range(count)]

@@ -27,9 +27,6 @@ PROGRAM_OPTION = "--program", "FILE", "the built program", Path, Made("twarp").f
 NAMED = ("cases", "docs", "python", "tools")
 WRITTEN = "out"
 
-# The built programs by their names.
-Programs = Mapping[str, Path]
-
 
 @dataclass
 class Command:
@@ -56,7 +53,7 @@ def pictures_of(page: str) -> list[str]:
     return re.findall(r"\]\(pictures/([^)]+)\)", page)
 
 
-def lay_out(folder: Path, programs: Programs) -> None:
+def lay_out(folder: Path, programs: Mapping[str, Path]) -> None:
     """Makes a folder look like the root of a clone in which the programs are built."""
     for name in NAMED:
         (folder / name).symlink_to(ROOT / name)
@@ -66,7 +63,7 @@ def lay_out(folder: Path, programs: Programs) -> None:
         script.chmod(0o755)
 
 
-def run(command: Command, folder: Path, programs: Programs) -> str:
+def run(command: Command, folder: Path, programs: Mapping[str, Path]) -> str:
     """What a terminal shows of a command that is run in the folder, where tools that start a program start these."""
     named = {name.upper().replace("-", "_"): str(program.resolve()) for name, program in programs.items()}
     words, env = ["sh", "-c", command.text], os.environ | named
@@ -74,7 +71,7 @@ def run(command: Command, folder: Path, programs: Programs) -> str:
     return done.stdout.decode()
 
 
-def follow(page: str, folder: Path, programs: Programs) -> Iterator[tuple[Command, str]]:
+def follow(page: str, folder: Path, programs: Mapping[str, Path]) -> Iterator[tuple[Command, str]]:
     """Runs the page's commands in an empty folder, one after the other, and gives what each writes."""
     lay_out(folder, programs)
     for command in commands_of(page):
