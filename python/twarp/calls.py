@@ -15,6 +15,12 @@ from twarp.program import File, Options, Refused, answer, need, need_policy, wor
 from twarp.protocol import Router, after_script
 from twarp.report import Cursor, Replay, Report, Step, Trail, read_replay, read_report, read_trail
 
+# Each router's path, and a step from a router to a neighbour.
+Ribs = tuple[Nodes, ...]
+Hop = tuple[int, int]
+# The line of router 0 in an answer.
+FIRST_ROUTER = 3
+
 
 @dataclass(frozen=True)
 class Size:
@@ -76,13 +82,6 @@ def trail(case: Case, router: int, *, stop: int, keep: int, program: File | None
 def version(*, program: File | None = None) -> str:
     """What the program says of its version."""
     return answer(need(program), ["--version"], b"").decode().strip()
-
-
-# Each router's path, and a step from a router to a neighbour.
-Ribs = tuple[Nodes, ...]
-Hop = tuple[int, int]
-# The line of router 0 in an answer.
-FIRST_ROUTER = 3
 
 
 @dataclass(frozen=True, slots=True)

@@ -26,13 +26,14 @@ MOST_BYTES = 67_108_864
 
 ORIGIN = 0
 
-
 # As a path is written between brackets, and a number in any text that twarp writes.
 NUMBER = r"(?:0|[1-9][0-9]{0,19})"
 PATH = rf"\((?:{NUMBER}(?: {NUMBER})*)?\)"
 
 # The nodes of a path, the owner first; the empty path has none.
 Nodes = tuple[int, ...]
+NumberedLine = tuple[int, str]
+WHICH = "which rule is broken is told by the program, which is not here"
 
 
 @dataclass(frozen=True, slots=True)
@@ -277,10 +278,6 @@ def lines_of(text: bytes) -> list[str]:
 def path_line(path: Nodes) -> str:
     """The line of a permitted path, which is kept since a sweep writes each of them many times."""
     return f"path {path[0]} {' '.join(map(str, path))}"
-
-
-NumberedLine = tuple[int, str]
-WHICH = "which rule is broken is told by the program, which is not here"
 
 
 def read_case(text: bytes, named: program.File | None = None) -> Case:

@@ -21,8 +21,7 @@ from twarp.trials import End, Failed, Ribs, Trial
 # The intervals are such that 95 of 100 hold the share that infinitely many runs would have.
 DEVIATIONS = NormalDist().inv_cdf(0.975)
 # How many routers' paths tell an outcome from the others in a line, and how many lines a table of routers has.
-MOST_TOLD = 4
-MOST_LINES = 20
+MOST_TOLD, MOST_LINES = 4, 20
 MOST_COLUMNS = 40
 # More letters than the names of 65,536 delays take.
 MOST_LINE = 1 << 22
@@ -32,6 +31,8 @@ NOTHING: Mapping[Any, Any] = {}
 
 HEAD = ["outcome", "runs", "share", "95 % interval", "time", "first seed", "paths"]
 RUN_COLUMNS = ["verdict", "rest", "from", "period", "sent", "changed", "outcome", "moving", "paths"]
+# Numbers, and shares and their intervals, in a table.
+NUMERIC = re.compile(r"[\d,]*|[\d.]+ %|[\d.]+ to [\d.]+ %")
 # The columns of what a verdict says.
 TIMES = {"quiet": ["rest"], "oscillates": ["from", "period"], "open": []}
 
@@ -235,10 +236,6 @@ def interval(count: int, total: int) -> tuple[float, float]:
     middle = share + square / (2 * total)
     reach = DEVIATIONS * sqrt(share * (1 - share) / total + square / (4 * total**2))
     return max(0.0, (middle - reach) / (1 + square / total)), min(1.0, (middle + reach) / (1 + square / total))
-
-
-# Numbers, and shares and their intervals, in a table.
-NUMERIC = re.compile(r"[\d,]*|[\d.]+ %|[\d.]+ to [\d.]+ %")
 
 
 def aligned(rows: list[list[str]]) -> str:

@@ -37,6 +37,22 @@ SPOKE = f'color="{LIGHT["swap"]}", penwidth=1.5, style=dashed'
 WHEEL = "the wheel: its rim solid, its spokes dashed; routers in yellow have a choice, among the paths in black"
 REST = "so every run comes to rest, whatever the delays"
 
+# How the outcomes of a sweep are drawn.
+LANE, BAR = 48.0, 18.0
+WIDTH, BESIDE = 460.0, 240.0
+GAP, HEIGHT, WIDEST_COLUMN = 86.0, 200.0, 48.0
+# Beyond so many outcomes the rarest share a lane.
+MOST_LANES = 12
+MOST_LETTERS = 96
+# Room for the names of the axes.
+LEAST_LETTERS = 8
+OTHERS = "#b8bfc6"
+# On white ground; the whiskers are those of the intervals.
+WHISKER = {"stroke": "#222", "stroke_width": 1.3, "fill": "none"}
+
+# How many undone steps the title of a replay names.
+MOST_TOLD = 8
+NO_NAMES: Mapping[int, str] = {}
 # For each step from a router to a neighbour the places, from 0, of the paths that take it.
 Uses = Mapping[Hop, list[int]]
 
@@ -137,22 +153,6 @@ class Drawing:
         for look in [arrows[hop] + look for hop, look in self.looks(link, (tail, head), uses)] or [line]:
             yield f"{tail} -> {head} [{label}{look}{level}]"
             label = ""
-
-
-LANE, BAR = 48.0, 18.0
-WIDTH = 460.0
-BESIDE = 240.0
-GAP = 86.0
-HEIGHT = 200.0
-WIDEST_COLUMN = 48.0
-# Beyond so many outcomes the rarest share a lane.
-MOST_LANES = 12
-MOST_LETTERS = 96
-# Room for the names of the axes.
-LEAST_LETTERS = 8
-OTHERS = "#b8bfc6"
-# On white ground; the whiskers are those of the intervals.
-WHISKER = {"stroke": "#222", "stroke_width": 1.3, "fill": "none"}
 
 
 class Lane:
@@ -266,11 +266,6 @@ class OutcomePicture:
             y = base - HEIGHT * count / tallest
             add(parent, "line", class_="grid", x1=self.left, y1=y, x2=right, y2=y)
             add(parent, "text", f"{count:,}", class_="quiet", text_anchor="end", x=self.left - 18, y=y + 4)
-
-
-# How many undone steps the title of a replay names.
-MOST_TOLD = 8
-NO_NAMES: Mapping[int, str] = {}
 
 
 def network_text(

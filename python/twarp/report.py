@@ -9,6 +9,15 @@ from twarp.case import NUMBER, PATH, WHICH, BarScene, Case, LinkScene, Nodes, Sw
 from twarp.case import read_path, write_path
 from twarp.program import Refused, quote
 
+REPLAY_HEADER = "spp-replay 1"
+# The number of a report's first line behind its head.
+FIRST_EVENT = 4
+ROUTER_LINE = "router {} sent {} handled {} dropped {} changed {} rib {}"
+VERDICT_LINE = f"verdict (?:quiet ({NUMBER})|oscillates from ({NUMBER}) period ({NUMBER})|open)"
+ANSWER_LINE = "step {step} (?:ok|refused ([A-Z][0-9]+ [A-Za-z]+))"
+LOOSE_LINE = f"flight {NUMBER} pending {NUMBER} kept {NUMBER} ahead {NUMBER}(?: held {NUMBER})?"
+STEP_LINE = rf"(?:(handle|undo|deliver|commit|release) ({NUMBER})|(bound))\n"
+
 
 @dataclass(frozen=True, slots=True)
 class Start:
@@ -131,16 +140,6 @@ def opening_events(case: Case) -> list[Event]:
             case BarScene(word, time, router, place):
                 events.append(Event(time, router, router, seq, KINDS[word](place)))
     return events
-
-
-REPLAY_HEADER = "spp-replay 1"
-# The number of a report's first line behind its head.
-FIRST_EVENT = 4
-ROUTER_LINE = "router {} sent {} handled {} dropped {} changed {} rib {}"
-VERDICT_LINE = f"verdict (?:quiet ({NUMBER})|oscillates from ({NUMBER}) period ({NUMBER})|open)"
-ANSWER_LINE = "step {step} (?:ok|refused ([A-Z][0-9]+ [A-Za-z]+))"
-LOOSE_LINE = f"flight {NUMBER} pending {NUMBER} kept {NUMBER} ahead {NUMBER}(?: held {NUMBER})?"
-STEP_LINE = rf"(?:(handle|undo|deliver|commit|release) ({NUMBER})|(bound))\n"
 
 
 @dataclass(frozen=True, slots=True)

@@ -21,9 +21,7 @@ MOMENT = 4.0
 # How far the bars of a run that is at rest go on beyond its last event.
 REST = 36.0
 # How far below a bar, and from one another, times in which paths are forbidden are drawn; others share the last place.
-BAN_BELOW = 7.0
-BAN_STEP = 6.0
-MOST_BANS = 3
+BAN_BELOW, BAN_STEP, MOST_BANS = 7.0, 6.0, 3
 # How wide the column of a step is.
 COLUMN = 52.0
 

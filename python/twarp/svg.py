@@ -12,6 +12,13 @@ from xml.etree.ElementTree import Element
 
 from twarp.program import Refused
 
+Span = tuple[int, int]
+FOLD_WIDTH = 40.0
+DIGIT_WIDTH = 7.0
+LEAST_WIDTH, GREATEST_WIDTH = 760.0, 12_000.0
+TOP = 104.0
+MOST_MARKS, MOST_LANES = 5_000, 200
+
 
 @dataclass(frozen=True, slots=True)
 class Place:
@@ -102,17 +109,6 @@ class Picture:
         size = {"width": f"{round(width)}", "height": f"{round(height)}"}
         self.root.attrib |= {"viewBox": "0 0 {width} {height}".format(**size), **size}
         return written(self.root) + "\n"
-
-
-Span = tuple[int, int]
-
-FOLD_WIDTH = 40.0
-DIGIT_WIDTH = 7.0
-LEAST_WIDTH = 760.0
-GREATEST_WIDTH = 12_000.0
-TOP = 104.0
-MOST_MARKS = 5_000
-MOST_LANES = 200
 
 
 def silences(first: int, last: int, busy: Iterable[Span]) -> list[Span]:

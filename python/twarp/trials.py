@@ -23,8 +23,7 @@ from twarp.protocol import reached, unstable_routers
 from twarp.report import Oscillates, Quiet, Report, Verdict, read_report
 
 # How long, in seconds, a batch should take, and how many runs it has at most.
-BATCH_TIME = 0.25
-MOST_BATCH = 256
+BATCH_TIME, MOST_BATCH = 0.25, 256
 # How long, in seconds, a stop may wait until it is seen.
 MOST_WAIT = 0.2
 # How often a run is begun whose executor ends in it.
@@ -39,7 +38,6 @@ class Source(Protocol):
 
     def draw(self, seed: int) -> tuple[Case, tuple[int, ...]]:
         """The case of the run with this seed, and what was drawn for it, a value for each column."""
-        ...
 
 
 @dataclass(frozen=True, slots=True)

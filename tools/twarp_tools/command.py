@@ -20,8 +20,7 @@ from twarp.program import MOST_QUOTED, Refused, Stopped, quote
 Value = TypeVar("Value")
 
 # Descriptors, since Python's own streams are not there where one of these is closed.
-STANDARD_INPUT = 0
-STANDARD_OUTPUT = 1
+STANDARD_INPUT, STANDARD_OUTPUT = 0, 1
 
 # A report of this size has some five million events, which take 3 GB here.
 MOST_OF_REPORT = 256 << 20

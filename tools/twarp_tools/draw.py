@@ -30,8 +30,6 @@ example:
   ./twarp seq --stop 20 --log < cases/disagree.spp | tools/timeline cases/disagree.spp > disagree.svg"""
 
 NAME_LINE = re.compile(r"(0|[1-9][0-9]{0,3}) (\S.*)\n?")
-
-
 NAMES = "--names", "FILE", "names of routers: lines of a number and a name, as relationships --map writes"
 
 
@@ -124,8 +122,8 @@ def main() -> None:
     if (line.policy or line.ask_policy) and (line.report or line.paths_of is not None):
         parser.error("--policy and --ask-policy go with neither a REPORT nor --paths-of")
     case = Input(line.case).read(read_case)
-    how: dict[str, Any] = {"names": names_of(line.names), "most": line.most, "paths_of": line.paths_of}
-    draw = partial(pictures.network_text, case, title=title_of(line.title, line.case), **how)
+    title, names = title_of(line.title, line.case), names_of(line.names)
+    draw = partial(pictures.network_text, case, title=title, names=names, most=line.most, paths_of=line.paths_of)
     if line.report:
         write_output(Input(line.report, MOST_OF_REPORT).read(lambda text: draw(read_report(text, case.nodes))))
     else:

@@ -22,8 +22,7 @@ Neighbours = Sequence[Sequence[int]]
 FIRST_SEED = 1
 # How much smaller each round's steps are than those of the round before, where there are few pairs of routers, or many.
 FEW_PAIRS = 2_000
-SMALLER_OF_FEW = 0.95
-SMALLER = 0.7
+SMALLER_OF_FEW, SMALLER = 0.95, 0.7
 LEAST_STEP = 0.02
 MOST_ROUNDS = 60
 # Beyond so many pairs of a router and a link, links may pass under routers.
@@ -121,10 +120,7 @@ def turned_down(points: list[Point], first: Point) -> list[Point]:
 
 
 def lay_out(neighbours: Neighbours, link: float, least: float, lowest: int | None) -> list[Point]:
-    """A place for each router; `lowest` is below the others where it is not amid them.
-
-    A link is about `link` long, no two routers are nearer to one another than `least`, and the least coordinates are 0.
-    """
+    """Places of routers, from 0 on, `least` apart or more, with links of about `link`, and `lowest` below if not amid."""
     points = place_by_hops(neighbours)
     if lowest is not None:
         points = turned_down(points, points[lowest])

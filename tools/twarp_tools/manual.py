@@ -177,17 +177,14 @@ def page_lines(manual: Manual) -> Iterator[str]:
         yield from (".TP", f"\\fB{status}\\fR", escaped(meaning))
 
 
-# What the other program does.
-OTHERS = {
-    "twarp": "\\fBtwarp\\-policy\\fR(1) judges a case for all timings.",
-    "twarp-policy": "\\fBtwarp\\fR(1) runs a case.",
-}
-
-
 def man_page(manual: Manual) -> str:
-    others = [OTHERS[manual.name], ".PP"] if manual.name in OTHERS else []
+    # What the other program does.
+    others = {
+        "twarp": ["\\fBtwarp\\-policy\\fR(1) judges a case for all timings.", ".PP"],
+        "twarp-policy": ["\\fBtwarp\\fR(1) runs a case.", ".PP"],
+    }
     see = "\\fBtwarp\\fR(5) has the texts, the codes of what is refused, and the exit statuses."
-    return "\n".join([*page_lines(manual), ".SH SEE ALSO", *others, see, ""])
+    return "\n".join([*page_lines(manual), ".SH SEE ALSO", *others.get(manual.name, []), see, ""])
 
 
 def formats_page(manual: Manual) -> str:

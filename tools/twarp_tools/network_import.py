@@ -24,7 +24,7 @@ from twarp.program import Refused, quote
 from twarp_tools.command import MIB, SIZE_LIMIT, TOO_LARGE, Parser, number_between, read_stream, refuse_own_input
 from twarp_tools.command import tell_counts, tool, write_output
 from twarp_tools.network_files import Item, Network, read_network
-from twarp_tools.topology import Permitted, Rank
+from twarp_tools.relationships import Permitted, Rank
 
 # MiB of an input, unpacked: as many nodes and links as a case has take less, with all that yEd tells of them.
 MOST_UNPACKED = 8

@@ -36,8 +36,7 @@ from twarp_tools import relationships
 from twarp_tools.command import Input, Parser, number_between, tell, title_of, tool, write_output
 from twarp_tools.sweep_outputs import Outputs, Progress
 
-MOST_RUNS = 1_000_000
-MOST_JOBS = 1_024
+MOST_RUNS, MOST_JOBS = 1_000_000, 1_024
 
 # The options that say what the runs are; a CSV names them, and goes on with the same ones alone.
 NAMED = ("delays", "links", "apart", "failure_times", "relationships", "stop", "every", "outcomes", "seed")

@@ -18,8 +18,7 @@ from twarp.trials import Trial
 from twarp_tools.command import is_same_file, refuse_own_input, tell, write_output
 
 # Seconds from one telling to the next: on a terminal, where the line is drawn again, and elsewhere.
-REDRAW = 0.1
-NOW_AND_THEN = 10.0
+REDRAW, NOW_AND_THEN = 0.1, 10.0
 # Begins the line of a terminal again, and clears what stands behind.
 BEGIN, CLEAR = "\r", "\x1b[K"
 
