@@ -98,8 +98,14 @@ def runnable(file: Path | None, name: str, variable: str) -> Path:
 
 def words_of(options: Options) -> list[str]:
     """The words of a command line that say so."""
-    given = {f"--{name}": value for name, value in options.items() if value is not None and value is not False}
-    return [word for name, value in given.items() for word in ([name] if value is True else [name, str(value)])]
+    words: list[str] = []
+    for name, value in options.items():
+        if isinstance(value, int) and value < 0:
+            # By itself it would be taken for an option.
+            words.append(f"--{name}={value}")
+        elif value is not None and value is not False:
+            words += [f"--{name}"] if value is True else [f"--{name}", str(value)]
+    return words
 
 
 def answer(file: Path, words: list[str], text: bytes) -> bytes:
