@@ -25,7 +25,7 @@ RT = "rt"
 # Exit statuses of a shell: a command that is there and did not run, and one that is missing.
 NOT_RUN, MISSING = 126, 127
 
-NOTICE = "this run is not proved: the program is built without proofs, in about a minute, and checked while it runs"
+NOTICE = "this run is not proved: the program is built without proofs, in a minute or two, and checked while it runs"
 LIMITS = "A run by --try writes at most 1 MiB and takes at most a minute; {} makes a program without these limits"
 INPUT_LIMIT = 64 << 20
 STANDARD_INPUT = 0
