@@ -1,4 +1,3 @@
-pub mod Heaps
 pub mod Machine
 pub mod Openings
 pub mod Undoing

@@ -8,10 +8,8 @@
 
 mod logical;
 mod past;
-mod pending;
 mod steps;
 mod stopped;
 
 pub use logical::LogicalProcess;
-pub use pending::Pending;
 pub use stopped::Stopped;

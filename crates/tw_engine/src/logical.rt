@@ -11,11 +11,11 @@ ghost use Rattle.tw_sim.specs.Seq.{insert_all};
 ghost use Rattle.tw_sim.specs.Simulation.{only, state};
 
 use crate::past::Past;
-use crate::pending::Pending;
 use crate::steps::{handle_first, undo_newest};
 use crate::stopped::Stopped;
 use std::alloc::{AllocError, Global};
 use std::marker::Model;
+use tw_pending::Pending;
 use tw_process::laws::model_is_lawful;
 use tw_process::{ProcessModel, Timed};
 use tw_sim::Signed;

@@ -9,9 +9,9 @@ ghost use Rattle.tw_process.specs.Behaviour.{simulation_of};
 ghost use Rattle.tw_process.specs.declared.limits.TheConstants.{LATEST};
 
 use crate::past::Past;
-use crate::pending::Pending;
 use crate::stopped::Stopped;
 use tw_core::Refusal;
+use tw_pending::Pending;
 use tw_process::{ProcessModel, Refused, Timed};
 use tw_sim::Signed;
 

@@ -1,13 +1,18 @@
 -- PHOLD (Fujimoto, Performance of Time Warp under synthetic workloads, 1990): each job that comes to a process goes on, after a
 -- random delay.
-use Rattle.std.specs.Prelude.{ℕ, ◌+◌, ◌-◌, ◌*◌, ◌/◌, ◌%◌, ◌^◌, not, List, [], ◌∷◌, nat_lt, if◌then◌else◌}
-use Rattle.tw_process.specs.Behaviour.{Behaviour}
+use Rattle.std.specs.Prelude.{ℕ, ◌+◌, ◌-◌, ◌*◌, ◌/◌, ◌%◌, ◌^◌, bit_xor, not, List, [], ◌∷◌, nat_lt, if◌then◌else◌}
+use Rattle.std.specs.List.{fold}
+use Rattle.std.specs.declared.cmp.Ordering.{Ordering}
+use Rattle.std.specs.declared.cmp.Ordering.TheVariants.{Equal}
+use Rattle.tw_process.specs.Behaviour.{Behaviour, simulation_of}
 use Rattle.tw_process.specs.First.{first}
+use Rattle.tw_process.specs.Order.{event_cmp, event_parts}
 use Rattle.tw_process.specs.declared.event.Event.{Event}
 use Rattle.tw_phold.specs.Random.{stepped, word_of}
 use Rattle.tw_phold.specs.declared.phold.Phold.{Phold}
 use Rattle.tw_phold.specs.declared.state.State.{State}
 use Rattle.tw_phold.specs.declared.state.TheConstants.{MOST_HANDLED}
+use Rattle.tw_sim.specs.Simulation.{Simulation}
 
 -- a job carries nothing
 abbrev pub Job : Type 0
@@ -60,3 +65,18 @@ behaviour_of m = record {
   full = λ s e. not (nat_lt s.handled MOST_HANDLED);
   lookahead = m.lookahead;
 }
+
+-- jobs are ordered by time, receiver, sender and number
+abbrev pub job_cmp : Job → Job → Ordering
+job_cmp = event_cmp (λ a b. Equal)
+
+-- PHOLD as a simulation
+abbrev pub simulation : Phold → Simulation State Job
+simulation m = simulation_of event_parts job_cmp (behaviour_of m)
+
+-- of some states one word: of each state its random word and its count are mixed into what the states before it gave
+abbrev pub mixed_in : ℕ → State → ℕ
+mixed_in sum s = word_of ((bit_xor sum s.random + s.handled) % 2 ^ 64)
+
+abbrev pub checksum : List State → ℕ
+checksum states = fold mixed_in 0 states

@@ -9,6 +9,7 @@
 #![tactic(auto)]
 
 mod handlers;
+pub mod laws;
 mod phold;
 mod random;
 mod state;

@@ -1,5 +1,5 @@
 use Rattle.std.proofs.Common.{sym, subst, ◌∙◌}
-use Rattle.tw_engine.specs.Order.{is_before}
+use Rattle.tw_pending.specs.Order.{is_before}
 use Rattle.tw_engine.specs.Process.{AreOwn}
 use Rattle.tw_engine.proofs.Openings.{taken}
 use Rattle.tw_process.specs.Behaviour.{simulation_of}

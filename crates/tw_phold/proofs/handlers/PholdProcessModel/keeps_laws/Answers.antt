@@ -1,5 +1,5 @@
 use Rattle.tw_process.specs.Exact.{event_exact, exact_unit}
-use Rattle.tw_phold.proofs.Laws.{behaved, numbered}
+use Rattle.tw_phold.proofs.Kept.{behaved, numbered}
 use Rattle.tw_phold.proofs.handlers.PholdProcessModel.keeps_laws.Goals as goal
 
 pub returns-clause-behaved : goal.returns-clause-behaved

@@ -1,9 +1,9 @@
 use Rattle.std.proofs.Common.{ap, ◌∙◌}
 use Rattle.std.specs.BinaryHeap.{heap_items}
 use Rattle.tw_sim.specs.Ordered.{insert}
-use Rattle.tw_engine.specs.Order.{is_before}
-use Rattle.tw_engine.proofs.Heaps.{put}
-use Rattle.tw_engine.proofs.pending.Pending.insert.Goals as goal
+use Rattle.tw_pending.specs.Order.{is_before}
+use Rattle.tw_pending.proofs.Heaps.{put}
+use Rattle.tw_pending.proofs.pending.Pending.insert.Goals as goal
 
 pub returns-clause-ok : goal.returns-clause-ok
 returns-clause-ok g c =

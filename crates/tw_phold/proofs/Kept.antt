@@ -1,7 +1,6 @@
 -- What PHOLD keeps: jobs are stamped, go to processes that are there, and open once.
-use Rattle.std.proofs.Common.{◌≡◌, ℕ, ◌+◌, ◌-◌, ◌*◌, ◌/◌, ◌%◌, ◌<◌, ◌≤◌, Bool, true, false, not, List, [], ◌∷◌, nat_lt, refl, ap, sym, ◌∙◌, subst, inl, inr, arith}
-use Rattle.std.proofs.lemmas.Bool.{cases_Bool, ltb-true, ltb-false, lt-ltb, false≢true}
-use Rattle.std.specs.Ordering.{is_eq, is_lt}
+use Rattle.std.proofs.Common.{◌≡◌, ℕ, ◌+◌, ◌*◌, ◌/◌, ◌%◌, ◌<◌, true, nat_lt, refl, ap, sym, subst, inl, inr, arith}
+use Rattle.std.proofs.lemmas.Bool.{cases_Bool, ltb-true, lt-ltb, false≢true}
 use Rattle.std.specs.declared.cmp.Ordering.{Ordering}
 use Rattle.std.specs.declared.cmp.Ordering.TheVariants.{Equal}
 use Rattle.tw_process.specs.Behaviour.{IsBehaved, simulation_of}
@@ -9,11 +8,9 @@ use Rattle.tw_process.specs.Order.{event_parts}
 use Rattle.tw_process.proofs.First.{first_once, in_first}
 use Rattle.tw_process.proofs.Plain as plain
 use Rattle.tw_process.proofs.Plain.{IsPlain}
-use Rattle.tw_sim.proofs.Members.{In}
 use Rattle.tw_sim.specs.Simulation.{IsNumbered}
-use Rattle.tw_phold.specs.Phold.{Job, behaviour_of, job, opening_job, target_by}
+use Rattle.tw_phold.specs.Phold.{Job, behaviour_of, opening_job, target_by}
 use Rattle.tw_phold.specs.declared.phold.Phold.{Phold}
-use Rattle.tw_phold.specs.declared.state.State.{State}
 use Rattle.tw_phold.specs.declared.state.TheConstants.{MOST_HANDLED}
 
 module _ (m : Phold) where

@@ -1,8 +1,8 @@
 use Rattle.std.proofs.Common.{slice_get, ap, sym, ◌∙◌, subst}
 use Rattle.std.specs.BinaryHeap.{heap_items}
-use Rattle.tw_engine.specs.Order.{IsInOrder}
-use Rattle.tw_engine.proofs.Heaps.{first, rising}
-use Rattle.tw_engine.proofs.pending.Pending.least.Goals as goal
+use Rattle.tw_pending.specs.Order.{IsInOrder}
+use Rattle.tw_pending.proofs.Heaps.{first, rising}
+use Rattle.tw_pending.proofs.pending.Pending.least.Goals as goal
 
 pub returns-clause-first : goal.returns-clause-first
 returns-clause-first g c =

@@ -1,5 +1,5 @@
 -- The events of a heap in rising order: one more goes into its place, and the top comes out first.
-use Rattle.std.proofs.Common.{◌≡◌, ℕ, ◌<◌, false, List, [], ◌∷◌, get_or, length, map, slice_get, Some, refl, ap, sym, ◌∙◌, subst, inl, inr, arith}
+use Rattle.std.proofs.Common.{◌≡◌, ℕ, suc, ◌+◌, ◌<◌, false, List, [], ◌∷◌, add-one, drop, drop-cons, get_or, length, map, slice_get, Some, refl, ap, sym, ◌∙◌, subst, inl, inr, arith}
 use Rattle.std.specs.Cmp.{IsTotalOrder}
 use Rattle.std.specs.List.{AllByRecursion, sum_by}
 use Rattle.std.specs.List.Sorted.{IsPermutation}
@@ -13,7 +13,11 @@ use Rattle.tw_process.proofs.Lawful.{order_law}
 use Rattle.tw_sim.specs.Ordered.{insert, one, times}
 use Rattle.tw_sim.specs.Rising.{IsRising}
 use Rattle.tw_sim.proofs.Ordered.{IsOrder, counted_is, in_cons, one_self, rising-insert, rising-insert_all, times-insert, times-insert_all}
-use Rattle.tw_engine.specs.Order.{in_order, is_before, is_same}
+use Rattle.tw_pending.specs.Order.{in_order, is_before, is_same}
+
+-- the next of a list, and what is behind it
+pub step : {E : Type 0} (xs : List E) (i : ℕ) (x : E) → i < length xs → x ≡ get_or xs i x → drop i xs ≡ x ∷ drop (i + 1) xs
+step xs i x l is = drop-cons xs i x l ∙ (ap (λ y. y ∷ drop (suc i) xs) (sym is) ∙ ap (λ k. x ∷ drop k xs) (sym (add-one i)))
 
 module _ {E : Type 0} (cmp : E → E → Ordering) (order : IsTotalOrder cmp) (exact : (d e : E) → cmp d e ≡ Equal → d ≡ e) where
   law : IsOrder (is_before cmp) (is_same cmp)

@@ -1,7 +1,7 @@
 use Rattle.std.proofs.Common.{drop, slice_get, ap, sym, ◌∙◌}
 use Rattle.std.specs.BinaryHeap.{heap_items}
-use Rattle.tw_engine.proofs.Heaps.{taken}
-use Rattle.tw_engine.proofs.pending.Pending.take_least.Goals as goal
+use Rattle.tw_pending.proofs.Heaps.{taken}
+use Rattle.tw_pending.proofs.pending.Pending.take_least.Goals as goal
 
 pub returns : goal.returns
 returns g c =
