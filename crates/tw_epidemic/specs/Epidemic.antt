@@ -15,19 +15,16 @@ Contact = Event (Unit {0})
 abbrev pub beyond : Epidemic → ℕ → ℕ → ℕ
 beyond m here places = (here + places) % m.cells
 
--- the delay of a contact from one cell to another, in ticks: some number from 1 to the longest
-abbrev pub delay : Epidemic → ℕ → ℕ → ℕ
-delay m here there = 1 + (31 * here + 17 * there) % m.longest
-
--- a contact with a neighbour; a cell makes each of them once, so its numbers are fixed
+-- a contact with the cell so many places on, after some number of ticks from 1 to the longest; a cell makes each of them once, so
+-- its numbers are fixed
 abbrev pub contact : Epidemic → Contact → ℕ → ℕ → Contact
-contact m e there number = record { time = e.time + delay m e.dst there; dst = there; src = e.dst; seq = number; body = tt }
+contact m e places number =
+    let there = beyond m e.dst places in
+    record { time = e.time + (1 + (31 * e.dst + 17 * there) % m.longest); dst = there; src = e.dst; seq = number; body = tt }
 
 -- the contacts that an infected cell makes: to the right, to the left, below and above
 abbrev pub contacts : Epidemic → Contact → List Contact
-contacts m e =
-    contact m e (beyond m e.dst 1) 1 ∷ contact m e (beyond m e.dst (m.cells - 1)) 2
-    ∷ contact m e (beyond m e.dst m.width) 3 ∷ contact m e (beyond m e.dst (m.cells - m.width)) 4 ∷ []
+contacts m e = contact m e 1 1 ∷ contact m e (m.cells - 1) 2 ∷ contact m e m.width 3 ∷ contact m e (m.cells - m.width) 4 ∷ []
 
 -- the contact that begins it
 abbrev pub first_contact : Epidemic → Contact

@@ -40,7 +40,7 @@ impl Epidemic {
 pub const MOST_CONTACTS: u64 = 1 << 63;
 
 /// A cell of the grid.
-#[derive(Clone, Copy, PartialEq, Eq, Debug)]
+#[derive(Clone, Copy, Default, PartialEq, Eq, Debug)]
 pub struct Cell {
     /// Whether it is infected.
     pub infected: bool,

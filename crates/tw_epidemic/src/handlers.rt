@@ -2,7 +2,7 @@
 
 ghost use Rattle.std.specs.Prelude.{◌≡◌, ◌+◌, ◌-◌, ◌<◌, ◌≤◌, ◌++◌, not, vec_capacity, vec_len};
 ghost use Rattle.tw_process.specs.declared.limits.TheConstants.{LATEST};
-ghost use Rattle.tw_epidemic.specs.Epidemic.{behaviour_of, beyond, contact, contacts, delay};
+ghost use Rattle.tw_epidemic.specs.Epidemic.{behaviour_of, contact, contacts};
 
 use crate::epidemic::{Cell, Epidemic, MOST_CONTACTS};
 use std::alloc::{AllocError, Global};
@@ -10,27 +10,16 @@ use tw_process::limits::LATEST;
 use tw_process::{Event, ProcessModel, Refused};
 
 impl Epidemic {
-    // The cell that is so many places further on, and round.
-    fn beyond(&self, here: u32, places: u32) -> u32
-        ensures { result ≡ beyond self.now here places }
-    {
-        let Epidemic { cells, .. } = *self;
-        ((u64::from(here) + u64::from(places)) % u64::from(cells)) as u32
-    }
-
-    // A contact with a neighbour.
-    fn contact(&self, event: &Event<()>, there: u32, number: u64) -> Event<()>
+    // A contact with the cell that is so many places further on, and round.
+    fn contact(&self, event: &Event<()>, places: u32, number: u64) -> Event<()>
         requires { event.now.time < LATEST }
-        ensures { result ≡ contact self.now event.now there number }
+        ensures { result ≡ contact self.now event.now places number }
     {
-        let mixed = 31 * u64::from(event.dst) + 17 * u64::from(there);
-        Event {
-            time: event.time + 1 + mixed % u64::from(self.longest),
-            dst: there,
-            src: event.dst,
-            seq: number,
-            body: (),
-        }
+        let Epidemic { cells, longest, .. } = *self;
+        let here = u64::from(event.dst);
+        let there = (here + u64::from(places)) % u64::from(cells);
+        let delay = 1 + (31 * here + 17 * there) % u64::from(longest);
+        event.send(delay, there as u32, number, ())
     }
 
     // The contacts that an infected cell makes.
@@ -40,13 +29,10 @@ impl Epidemic {
         ensures sends { sends.new.items ≡ sends.old.items ++ contacts self.now event.now }
         ensures capacity { vec_capacity sends.old ≤ vec_capacity sends.new }
     {
-        let here = event.dst;
-        let last = self.cells - 1;
-        let above = self.cells - self.width;
-        sends.push_reserved(self.contact(event, self.beyond(here, 1), 1));
-        sends.push_reserved(self.contact(event, self.beyond(here, last), 2));
-        sends.push_reserved(self.contact(event, self.beyond(here, self.width), 3));
-        sends.push_reserved(self.contact(event, self.beyond(here, above), 4));
+        sends.push_reserved(self.contact(event, 1, 1));
+        sends.push_reserved(self.contact(event, self.cells - 1, 2));
+        sends.push_reserved(self.contact(event, self.width, 3));
+        sends.push_reserved(self.contact(event, self.cells - self.width, 4));
     }
 }
 
@@ -83,22 +69,11 @@ impl ProcessModel for Epidemic {
     }
 
     fn begin(&self, _alloc: Global, _number: u32) -> Result<Cell, AllocError> {
-        Ok(Cell {
-            infected: false,
-            contacts: 0,
-        })
+        Ok(Cell::default())
     }
 
     fn openings(&self, alloc: Global) -> Result<Vec<Event<()>>, AllocError> {
-        let mut events = Vec::new(alloc);
-        events.push(Event {
-            time: 1,
-            dst: self.first,
-            src: self.first,
-            seq: 0,
-            body: (),
-        })?;
-        Ok(events)
+        Ok(Vec::from_array(alloc, [Event::opening(1, self.first, 0, ())])?)
     }
 
     fn does_suit(&self, event: &Event<()>) -> bool {

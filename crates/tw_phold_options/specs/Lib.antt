@@ -1,0 +1,3 @@
+pub mod App
+pub mod Says
+pub mod Fit

@@ -1,0 +1,59 @@
+//! What a command line asks for.
+
+ghost use Rattle.std.specs.Prelude.{◌≡◌, ◌≤◌, Some, codes};
+ghost use Rattle.clap.specs.Words.{found_of, rows_of, subcommand_rows_of};
+ghost use Rattle.tw_phold_options.specs.Fit.{HasSeq, IsFit};
+ghost use Rattle.tw_phold_options.specs.Says.{Says};
+
+use crate::flag::STATS;
+use crate::numbers::{
+    LONGEST, LONGEST_IF_NONE, LOOKAHEAD, LOOKAHEAD_IF_NONE, POPULATION, POPULATION_IF_NONE,
+    PROCESSES, PROCESSES_IF_NONE, REMOTE, REMOTE_IF_NONE, SEED, SEED_IF_NONE, STOP,
+};
+use clap::ArgMatches;
+
+/// What a command line asks for: the run of PHOLD on one thread. Times are in ticks.
+#[derive(Clone, Copy, PartialEq, Eq, Debug)]
+pub struct CommandLine {
+    /// How many processes there are, from 1 to 1,000,000.
+    pub processes: u32,
+    /// How many jobs each process begins with, from 0 to 1,000,000.
+    pub population: u32,
+    /// The shortest delay of a job, from 1 to 1,000,000.
+    pub lookahead: u32,
+    /// The longest delay of a job, from 1 to 1,000,000; it may be shorter than the lookahead.
+    pub longest: u32,
+    /// Of 1,000 jobs so many go to a process that is drawn.
+    pub remote: u32,
+    /// What all random words come from, from 0 to 1,000,000,000.
+    pub seed: u64,
+    /// The time before which jobs are handled, from 1 to 1,000,000,000.
+    pub stop: u64,
+    /// Whether what was counted and how long it took is told.
+    pub stats: bool,
+}
+
+/// The command line that the parser's matches stand for.
+pub(crate) fn command_line_of(matches: &ArgMatches<'_>) -> CommandLine
+    requires { IsFit (subcommand_rows_of matches.now) }
+    ensures { Says (subcommand_rows_of matches.now) result }
+{
+    let (_, given) = matches.subcommand().unwrap();
+    seq_of(given)
+}
+
+fn seq_of(given: &ArgMatches<'_>) -> CommandLine
+    requires { HasSeq (rows_of (found_of given.now)) }
+    ensures { Says (Some (codes "seq", rows_of (found_of given.now))) result }
+{
+    CommandLine {
+        processes: PROCESSES.read_or(given, PROCESSES_IF_NONE) as u32,
+        population: POPULATION.read_or(given, POPULATION_IF_NONE) as u32,
+        lookahead: LOOKAHEAD.read_or(given, LOOKAHEAD_IF_NONE) as u32,
+        longest: LONGEST.read_or(given, LONGEST_IF_NONE) as u32,
+        remote: REMOTE.read_or(given, REMOTE_IF_NONE) as u32,
+        seed: SEED.read_or(given, SEED_IF_NONE),
+        stop: STOP.read(given),
+        stats: STATS.is_set(given),
+    }
+}

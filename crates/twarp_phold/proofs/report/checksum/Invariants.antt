@@ -1,0 +1,9 @@
+use Rattle.std.proofs.Common.{◌≡◌, map}
+use Rattle.std.specs.List.{range_with_len}
+use Rattle.tw_phold.specs.Phold.{checksum}
+use Rattle.twarp_phold.specs.Report.{knows}
+use Rattle.twarp_phold.proofs.report.checksum.Given as goal
+
+-- the checksum of the states before
+abbrev pub invariant-loop-number : goal.invariant-loop-number
+invariant-loop-number l = l.sum ≡ checksum (map (knows l.run.model l.run.log) (range_with_len 0 l.number))
