@@ -1,23 +1,23 @@
 -- What each call at a place keeps.
-use Rattle.std.proofs.Common.{◌≡◌, ℕ, suc, zero, ◌+◌, ◌<◌, ◌≤◌, ◌==◌, true, false, List, [], ◌∷◌, ◌++◌, length, map, append_assoc, Ok, Some, remove, slice_get, refl, ap, sym, ◌∙◌, subst, inl, inr, arith}
-use Rattle.std.proofs.lemmas.Bool.{cases_Bool, cases_lt}
+use Rattle.std.proofs.Common.{◌≡◌, ℕ, suc, zero, ◌+◌, ◌<◌, ◌≤◌, ◌==◌, true, false, List, [], ◌∷◌, ◌++◌, map, append_assoc, Ok, Some, remove, slice_get, refl, ap, sym, ◌∙◌, subst, inl, inr, arith}
+use Rattle.std.proofs.lemmas.Bool.{cases_Bool}
 use Rattle.tw_sim.proofs.Counts.{in_head}
 use Rattle.tw_core.proofs.Counted.{commit_counted}
 use Rattle.tw_core.proofs.Counts.{antimessages-append, antimessages-remove, in_flight, messages-append, messages-remove}
 use Rattle.tw_core.proofs.Delivery.{delivered, part_loose}
 use Rattle.tw_core.proofs.Done.{handle_done}
 use Rattle.tw_core.proofs.Own.{own_arrival, own_handle, own_release, own_undoing}
-use Rattle.tw_core.proofs.Steps.{keeps_handling, may_handle, release_keeps, undoing_keeps, widen_keeps}
+use Rattle.tw_core.proofs.Steps.{keeps_handling, may_handle, release_keeps, undoing_keeps}
 use Rattle.tw_core.proofs.Wording.{arrival-front}
 use Rattle.tw_core.specs.Good.{IsGoodPart}
 use Rattle.tw_core.specs.Machine.{AreCounted, Core, antimessages, messages, times_loose}
 use Rattle.tw_core.specs.Parts.{IsOwn, KeepsPart, SameSurplus}
-use Rattle.tw_core.specs.Steps.{after_arrival, after_delivery, after_handling, after_undoing, antimessage, first_pending, from, handle, message, sent_back, to_send, with_commit, with_release, with_room, AreUndone, IsRolledBack}
+use Rattle.tw_core.specs.Steps.{after_arrival, after_delivery, after_handling, after_undoing, antimessage, first_pending, from, handle, with_commit, with_release, with_room, AreUndone, IsRolledBack}
 use Rattle.tw_rule.proofs.Before.{same_before}
 use Rattle.tw_rule.specs.Board.{times_among}
 use Rattle.tw_rule.specs.Place.{IsFrom, IsPlace, Keeps, Place, core, in_hand, whole, with_core, with_unsent}
 use Rattle.tw_sim.specs.declared.machine.Signed.{Signed}
-use Rattle.tw_sim.specs.Simulation.{Simulation, IsLawful, below, state, times}
+use Rattle.tw_sim.specs.Simulation.{Simulation, IsLawful, times}
 
 -- ---- lists
 
@@ -38,33 +38,18 @@ behind front C = record C { flight = front ++ C.flight }
 
 module _ {S E : Type 0} (m : Simulation S E) where
   handling-front : (front : List (Signed E)) (C : Core E) (r : ℕ) (e : E) → after_handling m (behind front C) r e ≡ behind front (after_handling m C r e)
-  handling-front front C r e =
-      ap (λ f. record (after_handling m C r e) { flight = f }) (append_assoc front C.flight (map message (to_send m (m.sends (state m r (C.history r)) e) C.held)))
+  handling-front front C r e = grind (arith, append_assoc)
 
   undoing-front : (front : List (Signed E)) (C : Core E) (r : ℕ) (e : E) (older : List E) → after_undoing m (behind front C) r e older ≡ behind front (after_undoing m C r e older)
-  undoing-front front C r e older =
-      ap (λ f. record (after_undoing m C r e older) { flight = f }) (append_assoc front C.flight (sent_back m C.cancel (m.sends (state m r older) e)))
+  undoing-front front C r e older = grind (arith, append_assoc)
 
   -- a part in which nothing loose is before another time
   pub part_from : (t : ℕ) (C : Core E) → IsGoodPart m 0 C → ((e : E) → 0 < times_loose m C e → t ≤ m.time e) → IsGoodPart m t C
-  part_from t C good late = record {
-    falling = good.falling;
-    home = good.home;
-    soon = good.soon;
-    late = late;
-    ahead = good.ahead;
-    alone = good.alone;
-    suit = good.suit;
-  }
+  part_from t C good late = grind arith
 
   -- what is among the messages of a hand is loose
   pub in_hand_loose : (p : Place E) (e : E) → 0 < times_among m e p.mail + times_among m e p.unsent → 0 < times_loose m (whole 0 p) e
-  in_hand_loose p e h =
-      let a = messages-append m e (p.mail ++ p.unsent) p.outgoing in
-      let b = messages-append m e p.mail p.unsent in
-      let c = antimessages-append m e (p.mail ++ p.unsent) p.outgoing in
-      let d = antimessages-append m e p.mail p.unsent in
-      omega arith
+  in_hand_loose p e h = grind (arith, messages-append, antimessages-append)
 
   -- its routers are its own
   own_routers : (stop : ℕ) (p : Place E) → IsPlace m stop p → IsOwn m p.owns (core stop p)
@@ -74,11 +59,7 @@ module _ {S E : Type 0} (m : Simulation S E) where
     -- where nothing is committed, what was committed stays, and so it is counted
     uncommitting : (stop : ℕ) (p q : Place E) → IsPlace m stop p → IsGoodPart m 0 (whole stop q) → ((t : ℕ) → IsFrom m t p → IsFrom m t q) → SameSurplus m (whole 0 p) (whole 0 q)
         → q.done ≡ p.done → q.past ≡ p.past → AreCounted m (core stop q)
-    uncommitting stop p q place good late surplus done past r =
-        let from : IsFrom m (p.done r) p = λ e loose. (let low = place.done r in let far = place.late e loose in omega arith) in
-        let stays : below m (q.done r) (q.history r) ≡ below m (p.done r) (p.history r) = ap (λ f. below m (f r) (q.history r)) done
-        ∙ sym (same_before m law stop (p.done r) p q place.good good from (late (p.done r) from) surplus (p.done r) (omega arith) r) in
-        ap (λ f. f r) past ∙ (place.counted r ∙ ap length (sym stays))
+    uncommitting stop p q place good late surplus done past r = grind (arith, same_before)
 
     -- what a call at its routers keeps, while the rest of the hand is on its way
     kept : (stop : ℕ) (p : Place E) (mail : List (Signed E)) (D : Core E) → IsPlace m stop p → ((e : E) → times_among m e mail ≤ times_among m e p.mail) → IsOwn m p.owns D
@@ -98,10 +79,7 @@ module _ {S E : Type 0} (m : Simulation S E) where
           place = record {
             good = good;
             history = own.history;
-            waiting = λ e h. elim (cases_lt 0 (times m e D.pending + times m e D.kept)) [
-              | inl l ↦ own.waiting e l
-              | inr ge ↦ place.waiting e (let le = less e in omega arith)
-            ];
+            waiting = λ e h. grind arith;
             held = own.held;
             done = λ r. (let old = place.done r in let now = done r in omega arith);
             late = subst (λ b. IsFrom m b q) (sym bound) (still p.bound place.late);
@@ -139,15 +117,7 @@ module _ {S E : Type 0} (m : Simulation S E) where
       worker = refl;
       owns = refl;
       place = record {
-        good = record {
-          falling = place.good.falling;
-          home = place.good.home;
-          soon = place.good.soon;
-          late = place.good.late;
-          ahead = place.good.ahead;
-          alone = place.good.alone;
-          suit = place.good.suit;
-        };
+        good = grind arith;
         history = place.history;
         waiting = place.waiting;
         held = place.held;
@@ -169,10 +139,7 @@ module _ {S E : Type 0} (m : Simulation S E) where
 
     -- a router gets more room
     pub keeps_widen : (stop r : ℕ) (p : Place E) → IsPlace m stop p → Keeps m stop p (with_core (with_room m (core stop p) r) p)
-    keeps_widen stop r p place =
-        let own = own_routers stop p place in
-        kept stop p p.mail (with_room m (core stop p) r) place (λ e. omega arith) (record { history = own.history; waiting = own.waiting; held = own.held })
-        (λ t good. widen_keeps m law t (whole stop p) r good)
+    keeps_widen stop r p place = grind arith
 
     -- a message of the hand is counted there, and is for a router of its own
     at_hand : (p : Place E) (k : ℕ) (s : Signed E) → slice_get p.mail k ≡ Some s → 0 < times_among m s.event p.mail
@@ -207,11 +174,7 @@ module _ {S E : Type 0} (m : Simulation S E) where
 
     -- an event that is not before a message is no earlier
     not_earlier : (e x : E) → m.before e x ≡ false → m.time x ≤ m.time e
-    not_earlier e x h =
-        elim (cases_Bool (m.before x e)) [
-          | inl b ↦ law.timely x e b
-          | inr b ↦ (let same : m.time e ≡ m.time x = ap m.time (law.total e x h b) in omega arith)
-        ]
+    not_earlier e x h = grind arith
 
     -- one event is undone, while such a message is in the hand
     keeps_undo : (stop k : ℕ) (p : Place E) (s : Signed E) (e : E) (older : List E) → IsPlace m stop p → slice_get p.mail k ≡ Some s → p.history (m.dst s.event) ≡ e ∷ older
@@ -230,15 +193,7 @@ module _ {S E : Type 0} (m : Simulation S E) where
     keeps_same stop p place = record { worker = refl; owns = refl; place = place; late = λ t from. from; surplus = λ e. refl; done = λ r. omega arith; bound = refl }
 
     keeps_both : (stop : ℕ) (p q r : Place E) → Keeps m stop p q → Keeps m stop q r → Keeps m stop p r
-    keeps_both stop p q r first second = record {
-      worker = second.worker ∙ first.worker;
-      owns = second.owns ∙ first.owns;
-      place = second.place;
-      late = λ t from. second.late t (first.late t from);
-      surplus = λ e. (let a = first.surplus e in let b = second.surplus e in omega arith);
-      done = λ v. (let a = first.done v in let b = second.done v in omega arith);
-      bound = second.bound ∙ first.bound;
-    }
+    keeps_both stop p q r first second = grind arith
 
     rolled : (n stop k : ℕ) (p : Place E) (s : Signed E) (D : Core E) → IsPlace m stop p → slice_get p.mail k ≡ Some s → AreUndone m n s.event (core stop p) D
         → Keeps m stop p (with_core D p) × (D.stop ≡ stop)
@@ -263,37 +218,4 @@ module _ {S E : Type 0} (m : Simulation S E) where
         → ((e : E) → messages m e unsent + messages m e outgoing ≡ messages m e p.unsent + messages m e p.outgoing)
         → ((e : E) → antimessages m e unsent + antimessages m e outgoing ≡ antimessages m e p.unsent + antimessages m e p.outgoing)
         → Keeps m stop p (with_unsent unsent outgoing p)
-    keeps_unsent stop p unsent outgoing place plus minus =
-        let q = with_unsent unsent outgoing p in
-        let same_messages : (e : E) → messages m e (in_hand q) ≡ messages m e (in_hand p) = λ e. (
-        let a = messages-append m e (p.mail ++ p.unsent) p.outgoing in
-        let b = messages-append m e p.mail p.unsent in
-        let c = messages-append m e (p.mail ++ unsent) outgoing in
-        let d = messages-append m e p.mail unsent in
-        let moved = plus e in
-        omega arith) in
-        let same_antimessages : (e : E) → antimessages m e (in_hand q) ≡ antimessages m e (in_hand p) = λ e. (
-        let a = antimessages-append m e (p.mail ++ p.unsent) p.outgoing in
-        let b = antimessages-append m e p.mail p.unsent in
-        let c = antimessages-append m e (p.mail ++ unsent) outgoing in
-        let d = antimessages-append m e p.mail unsent in
-        let moved = minus e in
-        omega arith) in
-        record {
-          worker = refl;
-          owns = refl;
-          place = record {
-            good = part_loose m law 0 (whole stop p) p.pending p.kept (in_hand q) place.good
-                (λ e h. (let a = same_messages e in let b = same_antimessages e in omega arith)) place.good.ahead place.good.alone;
-            history = place.history;
-            waiting = place.waiting;
-            held = place.held;
-            done = place.done;
-            late = λ e h. place.late e (let a = same_messages e in let b = same_antimessages e in omega arith);
-            counted = place.counted;
-          };
-          late = λ t from e h. from e (let a = same_messages e in let b = same_antimessages e in omega arith);
-          surplus = λ e. (let a = same_messages e in let b = same_antimessages e in omega arith);
-          done = λ r. omega arith;
-          bound = refl;
-        }
+    keeps_unsent stop p unsent outgoing place plus minus = grind (arith, messages-append, antimessages-append, part_loose)

@@ -1,11 +1,10 @@
 -- The rule holds of a board and places at a cut of the one-thread run, and the machine of all routers stands there.
 use Rattle.std.proofs.Common.{◌≡◌, ◌+◌, ◌*◌, ◌<◌, ◌≤◌, ◌==◌, ◌∷◌, ◌++◌, ◌∙◌, Bool}
 use Rattle.std.proofs.Common.{ℕ, zero, suc, cond, false, true, List, [], None, Some, IfSome, flat_map, get_or, length, map, replicate, refl, ap, sym, subst, inl, inr, arith, mul-one, zero-mul}
-use Rattle.std.proofs.lemmas.Bool.{cases_Bool, cases_lt, both_ways, eq-eqb, eqb-true, ne_eqb}
+use Rattle.std.proofs.lemmas.Bool.{cases_Bool, cases_lt, eq-eqb, eqb-true, ne_eqb}
 use Rattle.std.proofs.lemmas.List.{get_or-replicate, length-replicate}
 use Rattle.std.specs.List.{AllByRecursion}
-use Rattle.std.specs.Option.{IsSomeAnd}
-use Rattle.tw_core.proofs.Counts.{antimessages-append, messages-append, none_there}
+use Rattle.tw_core.proofs.Counts.{none_there}
 use Rattle.tw_core.proofs.Cuts.{run_suits}
 use Rattle.tw_core.proofs.Owners.{from_owner, of_owner}
 use Rattle.tw_core.proofs.Parts.{sent_some, times-flat_map}
@@ -38,15 +37,6 @@ reported_at t b (suc n) (suc w) le = reported_at t b n w le
 pick_yes : {X : Type 0} (b : Bool) (x y : X) → b ≡ true → cond b x y ≡ x
 pick_yes b x y is = rw is refl
 
--- a function of it
-through_test : {X Y : Type 0} (b : Bool) (f : X → Y) (x y : X) → f (cond b x y) ≡ cond b (f x) (f y)
-through_test true f x y = refl
-through_test false f x y = refl
-
-add_tests : (b : Bool) (n k : ℕ) → cond b n 0 + cond b k 0 ≡ cond b (n + k) 0
-add_tests true n k = refl
-add_tests false n k = refl
-
 -- of two equal values either is the one
 pub either : {X : Type 0} (b : Bool) (x : X) → cond b x x ≡ x
 either true x = refl
@@ -57,15 +47,7 @@ pick_no b x y is = rw is refl
 
 module _ {S E : Type 0} (m : Simulation S E) (law : IsLawful m) where
   board_at_cut : (n t : ℕ) (x : Board E) → IsCutBoard n t x → IsBoard m x
-  board_at_cut n t x board =
-      let no_plus : (e : E) → messages m e x.mail ≡ 0 = λ e. ap (messages m e) board.mail in
-      let no_minus : (e : E) → antimessages m e x.mail ≡ 0 = λ e. ap (antimessages m e) board.mail in
-      record {
-        stop = (let to = board.bound in let last = board.stop in omega arith);
-        reported = λ w. subst (λ rs. IfSome (get_or rs w None) (λ time. x.bound ≤ time)) (sym board.reports) (reported_at t x.bound n w (let to = board.bound in omega arith));
-        late = λ e h. absurd (let a = no_plus e in let b = no_minus e in omega arith);
-        suit = λ e h. absurd (let a = no_plus e in let b = no_minus e in omega arith);
-      }
+  board_at_cut n t x board = grind (arith, reported_at)
 
   -- events that are handled and others that are pending, at time t, as a run has them
   pub record IsRunAt (t : ℕ) (v : World E) : Type 0 where
@@ -113,24 +95,11 @@ module _ {S E : Type 0} (m : Simulation S E) (law : IsLawful m) where
     module _ (w : ℕ) (p : Place E) (new : HasOwn m v.log v.rest who t w p) where
       -- what is handled here is its router's, and that is this worker's
       handled_here : (r : ℕ) (e : E) → 0 < times m e (p.history r) → (who r ≡ w) × (m.dst e ≡ r) × (0 < times m e v.log)
-      handled_here r e h =
-          let all = ap (times m e) (new.history r) in
-          elim (cases_Bool (who r == w)) [
-            | inl b ↦ (
-                let mine = rw b at all in
-                let past = in_filter m law (λ x. m.dst x == r) e v.log (omega arith) in
-                (eqb-true (who r) w b, eqb-true (m.dst e) r past.0, past.1))
-            | inr b ↦ (let none_here = rw b at all in absurd (omega arith))
-          ]
+      handled_here r e h = grind (arith, cases_Bool, in_filter, eqb-true)
 
       -- what is pending here is for a router of this worker
       waits_here : (e : E) → 0 < times m e p.pending → (who (m.dst e) ≡ w) × (0 < times m e v.rest)
-      waits_here e h =
-          let all = new.pending e in
-          elim (cases_Bool (who (m.dst e) == w)) [
-            | inl b ↦ (let k = rw b at all in (eqb-true (who (m.dst e)) w b, (omega arith)))
-            | inr b ↦ (let k = rw b at all in absurd (omega arith))
-          ]
+      waits_here e h = grind arith
 
       none_kept : (e : E) → times m e p.kept ≡ 0
       none_kept e = ap (times m e) new.kept
@@ -139,55 +108,17 @@ module _ {S E : Type 0} (m : Simulation S E) (law : IsLawful m) where
       none_held e = ap (times m e) new.held
 
       no_messages : (e : E) → messages m e p.mail + messages m e (in_hand p) ≡ 0
-      no_messages e =
-          let a = messages-append m e (p.mail ++ p.unsent) p.outgoing in
-          let b = messages-append m e p.mail p.unsent in
-          let c : messages m e p.mail ≡ 0 = ap (messages m e) new.mail in
-          let d : messages m e p.unsent ≡ 0 = ap (messages m e) new.unsent in
-          let f : messages m e p.outgoing ≡ 0 = ap (messages m e) new.outgoing in
-          omega arith
+      no_messages e = grind arith
 
       no_antimessages : (e : E) → antimessages m e p.mail + antimessages m e (in_hand p) ≡ 0
-      no_antimessages e =
-          let a = antimessages-append m e (p.mail ++ p.unsent) p.outgoing in
-          let b = antimessages-append m e p.mail p.unsent in
-          let c : antimessages m e p.mail ≡ 0 = ap (antimessages m e) new.mail in
-          let d : antimessages m e p.unsent ≡ 0 = ap (antimessages m e) new.unsent in
-          let f : antimessages m e p.outgoing ≡ 0 = ap (antimessages m e) new.outgoing in
-          omega arith
+      no_antimessages e = grind arith
 
       -- what is loose is left by the run
       loose_here : (e : E) → 0 < times_loose m (whole 0 p) e → 0 < times m e v.rest
       loose_here e h = (waits_here e (let a = none_kept e in let d = none_held e in let b = no_messages e in let c = no_antimessages e in omega arith)).1
 
       place_at_cut : (stop : ℕ) → t ≤ stop → IsPlace m stop p
-      place_at_cut stop le = record {
-        good = record {
-          falling = λ r. elim (cases_Bool (who r == w)) [
-            | inl b ↦ subst (IsFalling m) (sym (new.history r ∙ pick_yes (who r == w) (only m r v.log) [] b)) (falling-filter m law (λ x. m.dst x == r) v.log run.falling)
-            | inr b ↦ subst (IsFalling m) (sym (new.history r ∙ pick_no (who r == w) (only m r v.log) [] b)) tt
-          ];
-          home = λ r e h. (handled_here r e h).1;
-          soon = λ r e h. (let before = run.soon e (handled_here r e h).2 in omega arith);
-          late = λ e h. omega arith;
-          ahead = λ e x h handled. run.ahead e x (waits_here e h).1 (handled_here (m.dst e) x handled).2;
-          alone = λ e h. absurd (let k = none_kept e in omega arith);
-          suit = λ e h. elim (cases_lt 0 (times m e (p.history (m.dst e)))) [
-            | inl l ↦ run.suit.handled e (handled_here (m.dst e) e l).2
-            | inr ge ↦ run.suit.pending e (waits_here e (let a = none_kept e in let d = none_held e in let b = no_messages e in let c = no_antimessages e in omega arith)).1
-          ];
-        };
-        history = λ r e h.
-            let here = handled_here r e h in
-            new.owns r (subst (λ q. q < m.routers) here.1 (there t v run e here.2)) ∙ eq-eqb (who r) w here.0;
-        waiting = λ e h.
-            let here = waits_here e (let a = none_kept e in let b = no_messages e in let c = no_antimessages e in omega arith) in
-            new.owns (m.dst e) (law.receiver e (run.suit.pending e here.1)) ∙ eq-eqb (who (m.dst e)) w here.0;
-        held = λ e h. absurd (let a = none_held e in omega arith);
-        done = λ r. (let a = new.done r in let b = new.bound in omega arith);
-        late = λ e h. (let a = run.late e (loose_here e h) in let b = new.bound in omega arith);
-        counted = new.counted;
-      }
+      place_at_cut stop le = grind (arith, cases_Bool, pick_yes, falling-filter, pick_no, handled_here, waits_here, none_kept, cases_lt, none_held, no_messages, no_antimessages, there, eq-eqb, loose_here)
 
       stands_at_cut : (n : ℕ) (x : Board E) → w < n → IsCutBoard n t x → Stands m who x p
       stands_at_cut n x l board =
@@ -197,38 +128,19 @@ module _ {S E : Type 0} (m : Simulation S E) (law : IsLawful m) where
             worker = (let a = new.worker in let b : workers x ≡ n = ap length board.reports ∙ length-replicate n (Some t) in omega arith);
             owns = λ r k. new.owns r k ∙ ap (λ k. who r == k) (sym new.worker);
             place = place_at_cut x.stop board.stop;
-            reported = λ e h. subst (λ o. IsSomeAnd o (λ time. time ≤ m.time e)) (sym told)
-                (run.late e (loose_here e h));
+            reported = λ e h. grind arith;
             bound = (let a = new.bound in let b = board.bound in omega arith);
           }
 
       -- the worker is told by the place
       at_worker : (q n : ℕ) → cond (who q == w) n 0 ≡ cond (p.worker == who q) n 0
-      at_worker q n =
-          elim (cases_Bool (who q == w)) [
-            | inl is ↦ rw (is, eq-eqb p.worker (who q) (new.worker ∙ sym (eqb-true (who q) w is))) refl
-            | inr not ↦ rw (not, ne_eqb p.worker (who q) (λ is. both_ways (who q == w) not (eq-eqb (who q) w (sym is ∙ new.worker)))) refl
-          ]
+      at_worker q n = grind arith
 
       wanted_here : (e : E) → times_wanted m (whole 0 p) e ≡ cond (p.worker == who (m.src e)) (times m e (sent m (m.src e) (only m (m.src e) v.log))) 0
-      wanted_here e =
-          let r = m.src e in
-          let sends = ap (λ xs. times m e (sent m r xs)) (new.history r) in
-          let a = none_kept e in
-          let b = no_antimessages e in
-          let c = none_held e in
-          let all : times_wanted m (whole 0 p) e ≡ times m e (sent m r (cond (who r == w) (only m r v.log) [])) = omega arith in
-          all ∙ (through_test (who r == w) (λ xs. times m e (sent m r xs)) (only m r v.log) [] ∙ at_worker r (times m e (sent m r (only m r v.log))))
+      wanted_here e = grind arith
 
       there_here : (e : E) → times_there m (whole 0 p) e ≡ cond (p.worker == who (m.dst e)) (times m e (only m (m.dst e) v.log) + times m e v.rest) 0
-      there_here e =
-          let r = m.dst e in
-          let handled = ap (times m e) (new.history r) ∙ through_test (who r == w) (times m e) (only m r v.log) [] in
-          let a = no_messages e in
-          let waits = new.pending e in
-          let both = add_tests (who r == w) (times m e (only m r v.log)) (times m e v.rest) in
-          let all : times_there m (whole 0 p) e ≡ cond (who r == w) (times m e (only m r v.log) + times m e v.rest) 0 = omega arith in
-          all ∙ at_worker r (times m e (only m r v.log) + times m e v.rest)
+      there_here e = grind arith
 
     -- ---- the places of all workers
 
@@ -239,10 +151,7 @@ module _ {S E : Type 0} (m : Simulation S E) (law : IsLawful m) where
 
     none_before : (k w : ℕ) (ps : List (Place E)) → k < w → HaveOwn w ps → total (is_at k) ps ≡ 0
     none_before k w [] l new = refl
-    none_before k w (p ∷ ps) l new =
-        let other : is_at k p ≡ 0 = rw (ne_eqb p.worker k (λ is. let at = new.0.worker in omega arith)) refl in
-        let more = none_before k (suc w) ps (omega arith) new.1 in
-        omega arith
+    none_before k w (p ∷ ps) l new = grind (arith, ne_eqb, none_before k (suc w) ps (omega arith) new.1)
 
     -- each worker has one
     one_each : (k w : ℕ) (ps : List (Place E)) → w ≤ k → k < w + length ps → HaveOwn w ps → total (is_at k) ps ≡ 1
@@ -253,10 +162,7 @@ module _ {S E : Type 0} (m : Simulation S E) (law : IsLawful m) where
               let other : is_at k p ≡ 0 = rw (ne_eqb p.worker k (λ is. let at = new.0.worker in omega arith)) refl in
               let more = one_each k (suc w) ps (omega arith) (omega arith) new.1 in
               omega arith)
-          | inr ge ↦ (
-              let here : is_at k p ≡ 1 = rw (eq-eqb p.worker k (let at = new.0.worker in omega arith)) refl in
-              let more = none_before k (suc w) ps (omega arith) new.1 in
-              omega arith)
+          | inr ge ↦ grind (arith, eq-eqb, none_before)
         ]
 
     -- what one worker's place alone has is the sum over all places

@@ -4,7 +4,7 @@ use Rattle.std.proofs.lemmas.Bool.{cases_Bool}
 use Rattle.std.specs.List.{AllByRecursion, reduce}
 use Rattle.std.specs.Option.{IsSomeAnd, option_to_list}
 use Rattle.tw_rule.specs.Board.{Board, least_bound, least_report, report_of, times_among, times_of}
-use Rattle.tw_sim.proofs.Counts.{in_cons, in_head, one_cases, one_self}
+use Rattle.tw_sim.proofs.Counts.{in_cons, in_head}
 use Rattle.tw_sim.specs.declared.machine.Signed.{Signed}
 use Rattle.tw_sim.specs.Simulation.{Simulation, IsLawful, times}
 
@@ -53,16 +53,10 @@ module _ (P : ℕ → Type 0) where
 module _ {S E : Type 0} (m : Simulation S E) (law : IsLawful m) where
   -- one of some messages, or of the others
   among_cons : (e : E) (x : Signed E) (xs : List (Signed E)) → 0 < times_among m e (x ∷ xs) → (e ≡ x.event) ⊎ (0 < times_among m e xs)
-  among_cons e x xs h =
-      elim (one_cases m law e x.event) [
-        | inr is ↦ inl is
-        | inl z ↦ inr (elim (cases_Bool x.plus) [ inl b ↦ (let k = rw b at h in omega arith) | inr b ↦ (let k = rw b at h in omega arith) ])
-      ]
+  among_cons e x xs h = grind arith
 
   among_head : (x : Signed E) (xs : List (Signed E)) → 0 < times_among m x.event (x ∷ xs)
-  among_head x xs =
-      let self = one_self m law x.event in
-      elim (cases_Bool x.plus) [ inl b ↦ rw b (omega arith) | inr b ↦ rw b (omega arith) ]
+  among_head x xs = grind arith
 
   module _ (P : ℕ → Type 0) where
     times_each : (xs : List (Signed E)) → AllByRecursion P (times_of m xs) → (e : E) → 0 < times_among m e xs → P (m.time e)

@@ -1,20 +1,18 @@
 -- The rule is kept where a router goes from one place to another.
-use Rattle.std.proofs.Common.{◌≡◌, ℕ, suc, zero, ◌+◌, ◌<◌, ◌≤◌, ◌==◌, cond, true, false, List, [], ◌∷◌, ◌++◌, length, Some, set, slice_get, refl, ap, sym, ◌∙◌, subst, inl, inr, arith}
+use Rattle.std.proofs.Common.{rules, ◌≡◌, ℕ, suc, zero, ◌+◌, ◌<◌, ◌≤◌, ◌==◌, cond, true, false, List, [], ◌∷◌, ◌++◌, Some, set, slice_get, refl, ap, sym, ◌∙◌, subst, inl, inr, arith}
 use Rattle.std.proofs.lemmas.Bool.{cases_eq, cases_lt, eq-eqb, ne_eqb}
-use Rattle.std.specs.Option.{IsSomeAnd}
-use Rattle.std.specs.Prelude.{IfSome}
 use Rattle.tw_core.proofs.Counts.{antimessages-append, messages-append}
 use Rattle.tw_core.specs.Good.{IsGoodPart, times_there}
 use Rattle.tw_core.specs.Machine.{AreCounted, antimessages, messages, times_handled, times_loose}
 use Rattle.tw_core.specs.Parts.{times_wanted, total}
 use Rattle.tw_rule.proofs.Places.{all_at, each_set, total_set}
 use Rattle.tw_rule.proofs.Visits.{stands_from}
-use Rattle.tw_rule.specs.Board.{Board, IsBoard, report_of, times_among}
+use Rattle.tw_rule.specs.Board.{Board, IsBoard, times_among}
 use Rattle.tw_rule.specs.Moving.{HaveGone, IsMoved}
 use Rattle.tw_rule.specs.Place.{IsFrom, IsPlace, Place, core, in_hand, whole}
 use Rattle.tw_rule.specs.Rule.{Rule, Stands, is_at}
 use Rattle.tw_sim.proofs.Counts.{in_head}
-use Rattle.tw_sim.specs.Simulation.{Simulation, IsFalling, IsLawful, below, sent, times}
+use Rattle.tw_sim.specs.Simulation.{Simulation, IsFalling, IsLawful, sent, times}
 
 -- a place of a list stays where another is replaced
 pub get_beside : {X : Type 0} (xs : List X) (i j : ℕ) (x y : X) → (i ≡ j → ⊥) → slice_get xs j ≡ Some x → slice_get (set xs i y) j ≡ Some x
@@ -27,22 +25,13 @@ get_beside (z ∷ xs) (suc i) (suc j) x y other h = get_beside xs i j x y (λ is
 -- counts of two places: none is more at the first, no more are at the second than there were, and the sum stays
 module _ {E : Type 0} (whose : E → ℕ) (r : ℕ) (a b a2 b2 : E → ℕ) (h : HaveGone whose r a b a2 b2) (e : E) where
   pub fewer : a2 e ≤ a e
-  fewer = elim (cases_eq (whose e) r) [
-    | inl is ↦ (let k = (h.gone e is).0 in omega arith)
-    | inr ne ↦ (let k = h.stays_from e ne in omega arith)
-  ]
+  fewer = grind arith
 
   pub no_more : b2 e ≤ a e + b e
-  no_more = elim (cases_eq (whose e) r) [
-    | inl is ↦ (let k = (h.gone e is).1 in omega arith)
-    | inr ne ↦ (let k = h.stays_to e ne in omega arith)
-  ]
+  no_more = grind arith
 
   pub both : a2 e + b2 e ≡ a e + b e
-  both = elim (cases_eq (whose e) r) [
-    | inl is ↦ (let k = (h.gone e is).0 in let l = (h.gone e is).1 in omega arith)
-    | inr ne ↦ (let k = h.stays_from e ne in let l = h.stays_to e ne in omega arith)
-  ]
+  both = grind arith
 
 module _ {S E : Type 0} (m : Simulation S E) (law : IsLawful m) where
   -- a list in which nothing is counted is empty
@@ -62,160 +51,49 @@ module _ {S E : Type 0} (m : Simulation S E) (law : IsLawful m) where
     -- ---- the mail
 
     plus_fewer : (e : E) → messages m e p2.mail ≤ messages m e p.mail
-    plus_fewer e = elim (cases_eq (m.dst e) r) [
-      | inl is ↦ (let k = (moved.plus e is).0 in omega arith)
-      | inr ne ↦ (let k = moved.plus_from e ne in omega arith)
-    ]
+    plus_fewer e = grind arith
 
     minus_fewer : (e : E) → antimessages m e p2.mail ≤ antimessages m e p.mail
-    minus_fewer e = elim (cases_eq (m.dst e) r) [
-      | inl is ↦ (let k = (moved.minus e is).0 in omega arith)
-      | inr ne ↦ (let k = moved.minus_from e ne in omega arith)
-    ]
+    minus_fewer e = grind arith
 
     pub plus_both : (e : E) → messages m e p2.mail + messages m e q2.mail + messages m e y.mail ≡ messages m e p.mail + messages m e q.mail + messages m e x.mail
-    plus_both e = elim (cases_eq (m.dst e) r) [
-      | inl is ↦ (let k = (moved.plus e is).0 in let l = (moved.plus e is).1 in omega arith)
-      | inr ne ↦ (let a = moved.plus_from e ne in let b = moved.plus_to e ne in let c = moved.plus_left e ne in omega arith)
-    ]
+    plus_both e = grind arith
 
     pub minus_both : (e : E) → antimessages m e p2.mail + antimessages m e q2.mail + antimessages m e y.mail ≡ antimessages m e p.mail + antimessages m e q.mail + antimessages m e x.mail
-    minus_both e = elim (cases_eq (m.dst e) r) [
-      | inl is ↦ (let k = (moved.minus e is).0 in let l = (moved.minus e is).1 in omega arith)
-      | inr ne ↦ (let a = moved.minus_from e ne in let b = moved.minus_to e ne in let c = moved.minus_left e ne in omega arith)
-    ]
-
-    left_fewer : (e : E) → times_among m e y.mail ≤ times_among m e x.mail
-    left_fewer e = elim (cases_eq (m.dst e) r) [
-      | inl is ↦ (let k = (moved.plus e is).0 in let l = (moved.minus e is).0 in omega arith)
-      | inr ne ↦ (let k = moved.plus_left e ne in let l = moved.minus_left e ne in omega arith)
-    ]
+    minus_both e = grind arith
 
     -- the board is still one
     board_moved : IsBoard m y
-    board_moved = record {
-      stop = (let a = board.stop in let b = moved.bound in let c = moved.stop in omega arith);
-      reported = λ w. elim (cases_eq w q.worker) [
-        | inl is ↦ subst (λ o. IfSome o (λ time. y.bound ≤ time)) (sym (ap (λ v. report_of v y) is ∙ moved.report)) (let b = moved.bound in omega arith)
-        | inr ne ↦ subst (λ o. IfSome o (λ time. y.bound ≤ time)) (sym (moved.reports w ne))
-            (subst (λ b. IfSome (report_of w x) (λ time. b ≤ time)) (sym moved.bound) (board.reported w))
-      ];
-      late = λ e h. (let k = left_fewer e in let l = board.late e (omega arith) in let b = moved.bound in omega arith);
-      suit = λ e h. (let k = left_fewer e in board.suit e (omega arith));
-    }
+    board_moved = grind arith
 
     -- ---- the first place
 
     -- what holds of each history, and of none, still does
     from_each : (P : ℕ → List E → Type 0) → P r [] → ((k : ℕ) → P k (p.history k)) → (k : ℕ) → P k (p2.history k)
-    from_each P none old k = elim (cases_eq k r) [
-      | inl is ↦ subst (λ i. P i (p2.history i)) (sym is) (subst (P r) (sym moved.history_left) none)
-      | inr ne ↦ subst (P k) (sym (moved.history_from k ne)) (old k)
-    ]
+    from_each P none old k = grind arith
 
     handled_from : (e : E) → times_handled m (whole 0 p2) e ≤ times_handled m (whole 0 p) e
     handled_from e = from_each (λ k xs. times m e xs ≤ times m e (p.history k)) (omega arith) (λ k. omega arith) (m.dst e)
 
     loose_from : (e : E) → times_loose m (whole 0 p2) e ≤ times_loose m (whole 0 p) e
-    loose_from e =
-        let a = fewer m.dst r (λ e. times m e p.pending) (λ e. times m e q.pending) (λ e. times m e p2.pending) (λ e. times m e q2.pending) moved.pending e in
-        let b = fewer m.dst r (λ e. times m e p.kept) (λ e. times m e q.kept) (λ e. times m e p2.kept) (λ e. times m e q2.kept) moved.kept e in
-        let c = fewer m.src r (λ e. times m e p.held) (λ e. times m e q.held) (λ e. times m e p2.held) (λ e. times m e q2.held) moved.held e in
-        let d = plus_fewer e in
-        let f = minus_fewer e in
-        let g = hand_plus p e in
-        let h = hand_plus p2 e in
-        let i = hand_minus p e in
-        let j = hand_minus p2 e in
-        let k : messages m e p2.outgoing ≡ messages m e p.outgoing = ap (messages m e) moved.outgoing_from in
-        let l : antimessages m e p2.outgoing ≡ antimessages m e p.outgoing = ap (antimessages m e) moved.outgoing_from in
-        let n : messages m e p2.unsent ≡ messages m e p.unsent = ap (messages m e) moved.unsent_from in
-        let o : antimessages m e p2.unsent ≡ antimessages m e p.unsent = ap (antimessages m e) moved.unsent_from in
-        omega arith
+    loose_from e = grind (arith, fewer, plus_fewer, minus_fewer, hand_plus, hand_minus)
 
     good_from : (stop : ℕ) → IsGoodPart m 0 (whole stop p) → IsGoodPart m 0 (whole stop p2)
-    good_from stop good = record {
-      falling = from_each (λ k xs. IsFalling m xs) tt good.falling;
-      home = from_each (λ k xs. (e : E) → 0 < times m e xs → m.dst e ≡ k) (λ e h. absurd (omega arith)) good.home;
-      soon = from_each (λ k xs. (e : E) → 0 < times m e xs → m.time e < stop) (λ e h. absurd (omega arith)) good.soon;
-      late = λ e h. omega arith;
-      ahead = λ e z h k. elim (cases_eq (m.dst e) r) [
-        | inl is ↦ (let gone = (moved.pending.gone e is).0 in absurd (omega arith))
-        | inr ne ↦ (let stayed = moved.pending.stays_from e ne in good.ahead e z (omega arith) (subst (λ xs. 0 < times m z xs) (moved.history_from (m.dst e) ne) k))
-      ];
-      alone = λ e h. elim (cases_eq (m.dst e) r) [
-        | inl is ↦ (let gone = (moved.kept.gone e is).0 in absurd (omega arith))
-        | inr ne ↦
-            let stayed = moved.kept.stays_from e ne in
-            let waits = moved.pending.stays_from e ne in
-            let old = good.alone e (omega arith) in
-            (waits ∙ old.0, ap (times m e) (moved.history_from (m.dst e) ne) ∙ old.1)
-      ];
-      suit = λ e h. (let a = handled_from e in let b = loose_from e in good.suit e (omega arith));
-    }
+    good_from stop good = grind (arith, from_each, cases_eq, handled_from, loose_from)
 
     -- as many are counted as are committed
     counted_from : (stop : ℕ) → AreCounted m (core stop p) → AreCounted m (core stop p2)
-    counted_from stop counted k = elim (cases_eq k r) [
-      | inl is ↦ ap p2.past is ∙ (moved.past_left ∙ sym (ap (λ i. length (below m (p2.done i) (p2.history i))) is ∙ ap (λ h. length (below m (p2.done r) h)) moved.history_left))
-      | inr ne ↦ moved.past.stays_from k ne ∙ (counted k ∙ sym (λ i. length (below m (moved.done.stays_from k ne i) (moved.history_from k ne i))))
-    ]
+    counted_from stop counted k = grind arith
 
     place_from : (stop : ℕ) → IsFrom m x.bound p → IsPlace m stop p → IsPlace m stop p2
-    place_from stop from place = record {
-      good = good_from stop place.good;
-      history = λ k e h. elim (cases_eq k r) [
-        | inl is ↦ (let none : times m e (p2.history k) ≡ 0 = ap (λ i. times m e (p2.history i)) is ∙ ap (times m e) moved.history_left in absurd (omega arith))
-        | inr ne ↦ moved.owns_from k ne ∙ place.history k e (subst (λ xs. 0 < times m e xs) (moved.history_from k ne) h)
-      ];
-      waiting = λ e h. elim (cases_eq (m.dst e) r) [
-        | inl is ↦
-            let a = (moved.pending.gone e is).0 in
-            let b = (moved.kept.gone e is).0 in
-            let c = (moved.plus e is).0 in
-            let d = (moved.minus e is).0 in
-            absurd (omega arith)
-        | inr ne ↦
-            let a = moved.pending.stays_from e ne in
-            let b = moved.kept.stays_from e ne in
-            let c = moved.plus_from e ne in
-            let d = moved.minus_from e ne in
-            moved.owns_from (m.dst e) ne ∙ place.waiting e (omega arith)
-      ];
-      held = λ e h. elim (cases_eq (m.src e) r) [
-        | inl is ↦ (let a = (moved.held.gone e is).0 in absurd (omega arith))
-        | inr ne ↦ (let a = moved.held.stays_from e ne in moved.owns_from (m.src e) ne ∙ place.held e (omega arith))
-      ];
-      done = moved.done_from;
-      late = λ e h. (let a = loose_from e in let b = from e (omega arith) in let c = moved.bound_from in omega arith);
-      counted = counted_from stop place.counted;
-    }
+    place_from stop from place = grind (arith, good_from, cases_eq, loose_from, counted_from)
 
     stands_moved_from : Stands m who x p → Stands m later y p2
-    stands_moved_from stands = record {
-      worker = (let a = stands.worker in let b = moved.workers in let c = moved.worker_from in omega arith);
-      owns = λ k l. elim (cases_eq k r) [
-        | inl is ↦ ap p2.owns is ∙ (moved.left ∙ sym (ne_eqb (later k) p2.worker (λ h. other (sym moved.worker_from ∙ (sym h ∙ (ap later is ∙ is_now))))))
-        | inr ne ↦ moved.owns_from k ne ∙ (stands.owns k l ∙ (ap (λ w. w == p.worker) (sym (same k ne)) ∙ ap (λ w. later k == w) (sym moved.worker_from)))
-      ];
-      place = subst (λ s. IsPlace m s p2) (sym moved.stop) (place_from x.stop (stands_from m law who x p board stands) stands.place);
-      reported = λ e h. subst (λ o. IsSomeAnd o (λ time. time ≤ m.time e)) (sym (ap (λ w. report_of w y) moved.worker_from ∙ moved.reports p.worker other))
-          (stands.reported e (let a = loose_from e in omega arith));
-      bound = (let a = moved.bound_from in let b = moved.bound in omega arith);
-    }
+    stands_moved_from stands = grind (arith, cases_eq, ne_eqb, place_from, stands_from, loose_from)
 
     -- any other worker's place stands as before
     stands_beside : (z : Place E) → Stands m who x z → (z.worker ≡ p.worker → ⊥) → (z.worker ≡ q.worker → ⊥) → Stands m later y z
-    stands_beside z stands not_p not_q = record {
-      worker = (let a = stands.worker in let b = moved.workers in omega arith);
-      owns = λ k l. elim (cases_eq k r) [
-        | inl is ↦ stands.owns k l ∙ (ne_eqb (who k) z.worker (λ h. not_p (sym h ∙ (ap who is ∙ was))) ∙ sym (ne_eqb (later k) z.worker (λ h. not_q (sym h ∙ (ap later is ∙ is_now)))))
-        | inr ne ↦ stands.owns k l ∙ ap (λ w. w == z.worker) (sym (same k ne))
-      ];
-      place = subst (λ s. IsPlace m s z) (sym moved.stop) stands.place;
-      reported = λ e h. subst (λ o. IsSomeAnd o (λ time. time ≤ m.time e)) (sym (moved.reports z.worker not_q)) (stands.reported e h);
-      bound = (let a = stands.bound in let b = moved.bound in omega arith);
-    }
+    stands_beside z stands not_p not_q = grind arith
 
     -- ---- the second place
 
@@ -231,38 +109,16 @@ module _ {S E : Type 0} (m : Simulation S E) (law : IsLawful m) where
 
       -- nothing waited there for the router
       none_waits : (e : E) → m.dst e ≡ r → times m e q.pending + times m e q.kept + times_among m e q.mail ≡ 0
-      none_waits e is = elim (cases_lt 0 (times m e q.pending + times m e q.kept + times_among m e q.mail)) [
-        | inl l ↦ absurd (foreign (ap q.owns (sym is) ∙ stands_q.place.waiting e l))
-        | inr ge ↦ omega arith
-      ]
+      none_waits e is = grind arith
 
       to_each : (P : ℕ → List E → Type 0) → ((k : ℕ) → P k (p.history k)) → ((k : ℕ) → P k (q.history k)) → (k : ℕ) → P k (q2.history k)
-      to_each P first second k = elim (cases_eq k r) [
-        | inl is ↦ subst (λ i. P i (q2.history i)) (sym is) (subst (P r) (sym moved.history_came) (first r))
-        | inr ne ↦ subst (P k) (sym (moved.history_to k ne)) (second k)
-      ]
+      to_each P first second k = grind arith
 
       handled_to : (e : E) → times_handled m (whole 0 q2) e ≤ times_handled m (whole 0 p) e + times_handled m (whole 0 q) e
       handled_to e = to_each (λ k xs. times m e xs ≤ times m e (p.history k) + times m e (q.history k)) (λ k. omega arith) (λ k. omega arith) (m.dst e)
 
       loose_to : (e : E) → times_loose m (whole 0 q2) e ≤ times_loose m (whole 0 p) e + times_loose m (whole 0 q) e + times_among m e x.mail
-      loose_to e =
-          let a = no_more m.dst r (λ e. times m e p.pending) (λ e. times m e q.pending) (λ e. times m e p2.pending) (λ e. times m e q2.pending) moved.pending e in
-          let b = no_more m.dst r (λ e. times m e p.kept) (λ e. times m e q.kept) (λ e. times m e p2.kept) (λ e. times m e q2.kept) moved.kept e in
-          let c = no_more m.src r (λ e. times m e p.held) (λ e. times m e q.held) (λ e. times m e p2.held) (λ e. times m e q2.held) moved.held e in
-          let d = plus_both e in
-          let f = minus_both e in
-          let g = hand_plus p e in
-          let h = hand_plus q e in
-          let g2 = hand_plus q2 e in
-          let i = hand_minus p e in
-          let j = hand_minus q e in
-          let j2 = hand_minus q2 e in
-          let k : messages m e q2.outgoing ≡ messages m e q.outgoing = ap (messages m e) moved.outgoing_to in
-          let l : antimessages m e q2.outgoing ≡ antimessages m e q.outgoing = ap (antimessages m e) moved.outgoing_to in
-          let n : messages m e q2.unsent ≡ messages m e q.unsent = ap (messages m e) moved.unsent_to in
-          let o : antimessages m e q2.unsent ≡ antimessages m e q.unsent = ap (antimessages m e) moved.unsent_to in
-          omega arith
+      loose_to e = grind (arith, no_more, plus_both, minus_both, hand_plus, hand_minus)
 
       good_to : IsGoodPart m 0 (whole x.stop q2)
       good_to =
@@ -281,21 +137,7 @@ module _ {S E : Type 0} (m : Simulation S E) (law : IsLawful m) where
                   first.ahead e z (omega arith) (subst (λ xs. 0 < times m z xs) here k)
               | inr ne ↦ (let stayed = moved.pending.stays_to e ne in second.ahead e z (omega arith) (subst (λ xs. 0 < times m z xs) (moved.history_to (m.dst e) ne) k))
             ];
-            alone = λ e h. elim (cases_eq (m.dst e) r) [
-              | inl is ↦
-                  let came = (moved.kept.gone e is).1 in
-                  let waits = (moved.pending.gone e is).1 in
-                  let none = none_waits e is in
-                  let here : q2.history (m.dst e) ≡ p.history (m.dst e) = ap q2.history is ∙ (moved.history_came ∙ ap p.history (sym is)) in
-                  let old = first.alone e (omega arith) in
-                  let no_pending = old.0 in
-                  ((omega arith), ap (times m e) here ∙ old.1)
-              | inr ne ↦
-                  let stayed = moved.kept.stays_to e ne in
-                  let waits = moved.pending.stays_to e ne in
-                  let old = second.alone e (omega arith) in
-                  (waits ∙ old.0, ap (times m e) (moved.history_to (m.dst e) ne) ∙ old.1)
-            ];
+            alone = λ e h. grind arith;
             suit = λ e h. elim (cases_lt 0 (times_handled m (whole 0 p) e + times_loose m (whole 0 p) e)) [
               | inl l ↦ first.suit e l
               | inr ge ↦ elim (cases_lt 0 (times_handled m (whole 0 q) e + times_loose m (whole 0 q) e)) [
@@ -306,72 +148,21 @@ module _ {S E : Type 0} (m : Simulation S E) (law : IsLawful m) where
           }
 
       late_to : (e : E) → 0 < times_loose m (whole 0 q2) e → x.bound ≤ m.time e
-      late_to e h = elim (cases_lt 0 (times_loose m (whole 0 p) e)) [
-        | inl l ↦ stands_from m law who x p board stands_p e l
-        | inr ge ↦ elim (cases_lt 0 (times_loose m (whole 0 q) e)) [
-          | inl l ↦ stands_from m law who x q board stands_q e l
-          | inr ge2 ↦ (let a = loose_to e in board.late e (omega arith))
-        ]
-      ]
+      late_to e h = grind (arith, cases_lt, stands_from, loose_to)
 
       counted_to : AreCounted m (core x.stop q2)
-      counted_to k = elim (cases_eq k r) [
-        | inl is ↦ ap q2.past is ∙ (moved.past.came ∙ (stands_p.place.counted r
-            ∙ sym (ap (λ i. length (below m (q2.done i) (q2.history i))) is ∙ (λ i. length (below m (moved.done.came i) (moved.history_came i))))))
-        | inr ne ↦ moved.past.stays_to k ne ∙ (stands_q.place.counted k ∙ sym (λ i. length (below m (moved.done.stays_to k ne i) (moved.history_to k ne i))))
-      ]
+      counted_to k = grind arith
 
       place_to : IsPlace m x.stop q2
-      place_to = record {
-        good = good_to;
-        history = λ k e h. elim (cases_eq k r) [
-          | inl is ↦ ap q2.owns is ∙ moved.came
-          | inr ne ↦ moved.owns_to k ne ∙ stands_q.place.history k e (subst (λ xs. 0 < times m e xs) (moved.history_to k ne) h)
-        ];
-        waiting = λ e h. elim (cases_eq (m.dst e) r) [
-          | inl is ↦ ap q2.owns is ∙ moved.came
-          | inr ne ↦
-              let a = moved.pending.stays_to e ne in
-              let b = moved.kept.stays_to e ne in
-              let c = moved.plus_to e ne in
-              let d = moved.minus_to e ne in
-              moved.owns_to (m.dst e) ne ∙ stands_q.place.waiting e (omega arith)
-        ];
-        held = λ e h. elim (cases_eq (m.src e) r) [
-          | inl is ↦ ap q2.owns is ∙ moved.came
-          | inr ne ↦ (let a = moved.held.stays_to e ne in moved.owns_to (m.src e) ne ∙ stands_q.place.held e (omega arith))
-        ];
-        done = moved.done_to;
-        late = λ e h. (let a = late_to e h in let b = moved.bound_to in omega arith);
-        counted = counted_to;
-      }
+      place_to = grind (arith, good_to, cases_eq, late_to, counted_to)
 
       stands_moved_to : Stands m later y q2
-      stands_moved_to = record {
-        worker = (let a = stands_q.worker in let b = moved.workers in let c = moved.worker_to in omega arith);
-        owns = λ k l. elim (cases_eq k r) [
-          | inl is ↦ ap q2.owns is ∙ (moved.came ∙ sym (eq-eqb (later k) q2.worker (ap later is ∙ (is_now ∙ sym moved.worker_to))))
-          | inr ne ↦ moved.owns_to k ne ∙ (stands_q.owns k l ∙ (ap (λ w. w == q.worker) (sym (same k ne)) ∙ ap (λ w. later k == w) (sym moved.worker_to)))
-        ];
-        place = subst (λ s. IsPlace m s q2) (sym moved.stop) place_to;
-        reported = λ e h. subst (λ o. IsSomeAnd o (λ time. time ≤ m.time e)) (sym (ap (λ w. report_of w y) moved.worker_to ∙ moved.report)) (late_to e h);
-        bound = (let a = moved.bound_to in let b = moved.bound in omega arith);
-      }
+      stands_moved_to = grind (arith, cases_eq, eq-eqb, place_to, late_to)
 
       -- ---- the balance
 
       history_sum : (f : List E → ℕ) → f [] ≡ 0 → (k : ℕ) → f (p2.history k) + f (q2.history k) ≡ f (p.history k) + f (q.history k)
-      history_sum f none k = elim (cases_eq k r) [
-        | inl is ↦
-            let a : f (p2.history k) ≡ f [] = ap f (ap p2.history is ∙ moved.history_left) in
-            let b : f (q2.history k) ≡ f (p.history k) = ap f (ap q2.history is ∙ (moved.history_came ∙ ap p.history (sym is))) in
-            let c : f (q.history k) ≡ f [] = ap f (ap q.history is ∙ nothing) in
-            omega arith
-        | inr ne ↦
-            let a : f (p2.history k) ≡ f (p.history k) = ap f (moved.history_from k ne) in
-            let b : f (q2.history k) ≡ f (q.history k) = ap f (moved.history_to k ne) in
-            omega arith
-      ]
+      history_sum f none k = grind (arith, cases_eq, nothing)
 
       balanced : (e : E) → times_wanted m (whole 0 p2) e + times_wanted m (whole 0 q2) e + (times_there m (whole 0 p) e + times_there m (whole 0 q) e)
           + (antimessages m e y.mail + messages m e x.mail)
@@ -434,12 +225,5 @@ module _ {S E : Type 0} (m : Simulation S E) (law : IsLawful m) where
             | inl is ↦ (let a : later k ≡ q.worker = ap later is ∙ is_now in let b = stands_q.worker in let c = moved.workers in omega arith)
             | inr ne ↦ (let a = same k ne in let b = rule.routers k l in let c = moved.workers in omega arith)
           ];
-          balance = λ e. (
-              let wanted = total_set (λ (z : Place E). times_wanted m (whole 0 z) e) ps i p p2 first in
-              let there = total_set (λ (z : Place E). times_there m (whole 0 z) e) ps i p p2 first in
-              let wanted_then = total_set (λ (z : Place E). times_wanted m (whole 0 z) e) (set ps i p2) j q q2 between in
-              let there_then = total_set (λ (z : Place E). times_there m (whole 0 z) e) (set ps i p2) j q q2 between in
-              let old = rule.balance e in
-              let sum = balanced stands_p stands_q e in
-              omega arith);
+          balance = search (rules, total_set, set, balanced);
         }

@@ -1,5 +1,5 @@
 -- The rule holds of a new board and new places: they are those at the cut at time 0.
-use Rattle.std.proofs.Common.{◌<◌, ◌==◌, ◌∷◌, ◌∙◌, ℕ, suc, cond, List, [], length, ap, sym, arith}
+use Rattle.std.proofs.Common.{◌<◌, ◌∷◌, ℕ, suc, cond, List, [], length, arith}
 use Rattle.tw_rule.proofs.Cuts.{HaveOwn, IsRunAt, either, rule_at}
 use Rattle.tw_rule.specs.Board.{Board}
 use Rattle.tw_rule.specs.Cut.{HasOwn, IsCutBoard}
@@ -8,39 +8,19 @@ use Rattle.tw_rule.specs.Rule.{AreOpeningPlaces, IsOpeningBoard, IsOpeningPlace,
 use Rattle.tw_sim.proofs.Counts.{times-insert_all}
 use Rattle.tw_sim.proofs.Rising.{suit-begin}
 use Rattle.tw_sim.specs.Seq.{begin}
-use Rattle.tw_sim.specs.Simulation.{Simulation, IsLawful, below}
+use Rattle.tw_sim.specs.Simulation.{Simulation, IsLawful}
 
 module _ {S E : Type 0} (m : Simulation S E) (law : IsLawful m) where
   -- a run begins with what opens
   run_begins : IsRunAt m law 0 (begin m)
-  run_begins = record {
-    falling = tt;
-    soon = λ e h. absurd (omega arith);
-    late = λ e h. omega arith;
-    ahead = λ e x h k. absurd (omega arith);
-    balance = λ e. (let k = times-insert_all m e m.opening [] in omega arith);
-    suit = suit-begin m law;
-  }
+  run_begins = grind (arith, times-insert_all, suit-begin)
 
   board_opens : (n : ℕ) (x : Board E) → IsOpeningBoard n x → IsCutBoard n 0 x
   board_opens n x board = record { mail = board.mail; reports = board.reports; bound = board.bound; stop = omega arith }
 
   module _ (who : ℕ → ℕ) where
     place_opens : (w : ℕ) (p : Place E) → IsOpeningPlace m who w p → HasOwn m (begin m).log (begin m).rest who 0 w p
-    place_opens w p new = record {
-      worker = new.worker;
-      owns = new.owns;
-      history = λ r. new.history r ∙ sym (either (who r == w) []);
-      pending = λ e. new.pending e ∙ ap (λ n. cond (who (m.dst e) == w) n 0) (let k = times-insert_all m e m.opening [] in omega arith);
-      kept = new.kept;
-      outgoing = new.outgoing;
-      held = new.held;
-      done = λ r. (let zero = new.done r in omega arith);
-      counted = λ r. new.past r ∙ ap (λ h. length (below m (p.done r) h)) (sym (new.history r));
-      bound = new.bound;
-      mail = new.mail;
-      unsent = new.unsent;
-    }
+    place_opens w p new = grind (arith, either, cond, times-insert_all)
 
     places_open : (w : ℕ) (ps : List (Place E)) → AreOpeningPlaces m who w ps → HaveOwn m law who 0 (begin m) run_begins w ps
     places_open w [] new = tt

@@ -45,10 +45,7 @@ module _ {E : Type 0} (w : ℕ) where
   -- one place is worker w's
   pub some_at : (ps : List (Place E)) (i : ℕ) (p : Place E) → slice_get ps i ≡ Some p → p.worker ≡ w → 0 < total (is_at w) ps
   some_at [] i p h is = cc
-  some_at (z ∷ ps) zero p h is =
-      let same : z ≡ p = cc in
-      let one : is_at w z ≡ 1 = rw (eq-eqb z.worker w (ap (λ q. q.worker) same ∙ is)) refl in
-      omega arith
+  some_at (z ∷ ps) zero p h is = grind arith
   some_at (z ∷ ps) (suc i) p h is = (let more = some_at ps i p h is in omega arith)
 
   -- where just one is, what holds of all others and of the one that replaces it holds of each

@@ -1,5 +1,5 @@
 -- What the rule gives: the machine put together is good.
-use Rattle.std.proofs.Common.{◌≡◌, ℕ, ◌<◌, ◌≤◌, cond, true, List, [], ◌∷◌, ◌++◌, length, map, Some, flat_map, slice_get, refl, ap, sym, ◌∙◌, subst, inl, inr, arith}
+use Rattle.std.proofs.Common.{rules, ◌≡◌, ℕ, ◌<◌, ◌≤◌, cond, true, List, [], ◌∷◌, ◌++◌, length, map, Some, flat_map, slice_get, refl, ap, sym, ◌∙◌, subst, arith}
 use Rattle.std.proofs.lemmas.Bool.{cases_Bool, cases_eq, eq-eqb, ne_eqb}
 use Rattle.std.specs.List.{AllByRecursion}
 use Rattle.std.specs.Option.{option_map_or}
@@ -7,13 +7,11 @@ use Rattle.tw_core.proofs.Headline.{at_end, good_is_seq, good_log}
 use Rattle.tw_core.proofs.Owners.{owner_is}
 use Rattle.tw_core.proofs.Parts.{good_assembled}
 use Rattle.tw_core.proofs.Sums.{all_map}
-use Rattle.tw_core.specs.Good.{IsGood, times_there}
+use Rattle.tw_core.specs.Good.{IsGood}
 use Rattle.tw_core.specs.Machine.{AreCounted, Core}
-use Rattle.tw_core.specs.Parts.{AddUp, IsPart, Part, at_owner, owner, times_wanted, total}
+use Rattle.tw_core.specs.Parts.{AddUp, IsPart, Part, at_owner, owner, total}
 use Rattle.tw_core.specs.Run.{IsAtEnd, IsSeq, IsSettled}
-use Rattle.tw_rule.proofs.Calls.{part_from}
 use Rattle.tw_rule.proofs.Places.{all_at, all_in_map, get_map, total_map}
-use Rattle.tw_rule.proofs.Visits.{stands_from}
 use Rattle.tw_rule.specs.Board.{Board, IsBoard}
 use Rattle.tw_rule.specs.Place.{IsRunBefore, Place, core, in_hand, part_of, whole}
 use Rattle.tw_rule.specs.Rule.{Rule, Stands, assembled, is_at, owning, shared}
@@ -25,13 +23,7 @@ module _ {S E : Type 0} (m : Simulation S E) (law : IsLawful m) (who : ℕ → �
   -- a router's owners are as many as the places of its worker
   owners_at : (r : ℕ) → r < m.routers → (x : Board E) (ps : List (Place E)) → AllByRecursion (Stands m who x) ps → total (owning r) ps ≡ total (is_at (who r)) ps
   owners_at r l x [] h = refl
-  owners_at r l x (p ∷ ps) h =
-      let more = owners_at r l x ps h.1 in
-      let here : owning r p ≡ is_at (who r) p = elim (cases_eq p.worker (who r)) [
-        | inl is ↦ rw (h.0.owns r l, eq-eqb (who r) p.worker (sym is), eq-eqb p.worker (who r) is) refl
-        | inr ne ↦ rw (h.0.owns r l, ne_eqb (who r) p.worker (λ k. ne (sym k)), ne_eqb p.worker (who r) ne) refl
-      ] in
-      omega arith
+  owners_at r l x (p ∷ ps) h = grind (arith, cases_eq, eq-eqb, ne_eqb, owners_at r l x ps h.1)
 
   -- so each router has one
   pub owners_once : (x : Board E) (ps : List (Place E)) (r : ℕ) → Rule m who x ps → r < m.routers → total (owning r) ps ≡ 1
@@ -39,11 +31,7 @@ module _ {S E : Type 0} (m : Simulation S E) (law : IsLawful m) (who : ℕ → �
 
   -- a place that stands is a part
   part_stands : (x : Board E) → IsBoard m x → (p : Place E) → Stands m who x p → IsPart m (shared x) (part_of x.stop p)
-  part_stands x board p stands = record {
-    good = part_from m x.bound (whole x.stop p) stands.place.good (stands_from m law who x p board stands);
-    done = λ r. (let a = stands.place.done r in let b = stands.bound in omega arith);
-    own = record { history = stands.place.history; waiting = λ e h. stands.place.waiting e (omega arith); held = stands.place.held };
-  }
+  part_stands x board p stands = grind arith
 
   abbrev parts : Board E → List (Place E) → List (Part E)
   parts x ps = map (part_of x.stop) ps
@@ -56,11 +44,7 @@ module _ {S E : Type 0} (m : Simulation S E) (law : IsLawful m) (who : ℕ → �
     bound = rule.board.stop;
     late = rule.board.late;
     suit = rule.board.suit;
-    balance = λ e. (
-        let wanted : total (λ p. times_wanted m p.core e) (parts x ps) ≡ total (λ p. times_wanted m (whole 0 p) e) ps = total_map (λ (p : Part E). times_wanted m p.core e) (part_of x.stop) ps in
-        let there : total (λ p. times_there m p.core e) (parts x ps) ≡ total (λ p. times_there m (whole 0 p) e) ps = total_map (λ (p : Part E). times_there m p.core e) (part_of x.stop) ps in
-        let sum = rule.balance e in
-        omega arith);
+    balance = search (rules, total_map);
   }
 
   -- the machine put together is good
@@ -72,15 +56,10 @@ module _ {S E : Type 0} (m : Simulation S E) (law : IsLawful m) (who : ℕ → �
       → at_owner (λ (C : Core E). C.past r) 0 (map (part_of stop) ps) r
       ≡ length (below m (at_owner (λ (C : Core E). C.done r) 0 (map (part_of stop) ps) r) (at_owner (λ (C : Core E). C.history r) [] (map (part_of stop) ps) r))
   counted_together r stop [] counted = refl
-  counted_together r stop (p ∷ ps) counted =
-      elim (cases_Bool (p.owns r)) [
-        | inl own ↦ rw own (counted.0 r)
-        | inr other ↦ rw other (counted_together r stop ps counted.1)
-      ]
+  counted_together r stop (p ∷ ps) counted = grind (arith, cases_Bool, counted_together r stop ps counted.1)
 
   pub counted_of_rule : (x : Board E) (ps : List (Place E)) → Rule m who x ps → AreCounted m (assembled x ps)
-  counted_of_rule x ps rule r =
-      counted_together r x.stop ps (all_map (Stands m who x) (λ p. AreCounted m (core x.stop p)) (λ p stands. stands.place.counted) ps rule.each)
+  counted_of_rule x ps rule r = grind (arith, counted_together, all_map)
 
   -- ---- what a place has is what that machine has
 

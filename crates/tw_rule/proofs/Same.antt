@@ -1,5 +1,5 @@
 -- The machine of all routers is the same where a router goes from one place to another.
-use Rattle.std.proofs.Common.{◌≡◌, ℕ, suc, zero, ◌+◌, ◌<◌, true, false, List, [], ◌∷◌, Some, flat_map, map, set, slice_get, refl, ap, sym, ◌∙◌, inl, inr, arith}
+use Rattle.std.proofs.Common.{◌≡◌, ℕ, suc, zero, ◌+◌, ◌<◌, true, List, [], ◌∷◌, Some, flat_map, map, set, slice_get, refl, ap, sym, ◌∙◌, inl, inr, arith}
 use Rattle.std.proofs.lemmas.Bool.{cases_Bool, cases_eq, ne_eqb}
 use Rattle.tw_core.proofs.Counts.{antimessages-append, messages-append}
 use Rattle.tw_core.proofs.Parts.{antimessages-flat_map, messages-flat_map, times-flat_map}
@@ -11,8 +11,8 @@ use Rattle.tw_rule.proofs.Places.{all_at, total_map, total_set}
 use Rattle.tw_rule.proofs.Ruled.{owners_once, read_of}
 use Rattle.tw_rule.specs.Board.{Board}
 use Rattle.tw_rule.specs.Moving.{HasFollowed, IsMoved}
-use Rattle.tw_rule.specs.Place.{Place, in_hand, part_of}
-use Rattle.tw_rule.specs.Rule.{Rule, Stands, assembled, owning}
+use Rattle.tw_rule.specs.Place.{Place, part_of}
+use Rattle.tw_rule.specs.Rule.{Rule, assembled, owning}
 use Rattle.tw_sim.specs.Simulation.{Simulation, IsLawful, times}
 
 -- what replaces a place of a list is there
@@ -43,10 +43,7 @@ module _ {S E : Type 0} (m : Simulation S E) (law : IsLawful m) (who later : ℕ
   apart is = (let at : slice_get ps i ≡ Some q = ap (slice_get ps) is ∙ second in let one : p ≡ q = cc in other (ap (λ z. z.worker) one))
 
   foreign : q.owns r ≡ true → ⊥
-  foreign h =
-      let stands = all_at (Stands m who x) ps j q second rule.each in
-      let no : q.owns r ≡ false = stands.owns r in_range ∙ ne_eqb (who r) q.worker (λ k. other (sym was ∙ k)) in
-      cc
+  foreign h = grind (arith, all_at, ne_eqb)
 
   between : slice_get (set ps i p2) j ≡ Some q
   between = get_beside ps i j q p2 apart second
@@ -75,8 +72,7 @@ module _ {S E : Type 0} (m : Simulation S E) (law : IsLawful m) (who later : ℕ
             let one : z ≡ p = cc in
             let owned : p.owns k ≡ true = ap (λ (w : Place E). w.owns k) (sym one) ∙ mine in
             elim (cases_eq k r) [
-              | inl is_r ↦
-                  new j k q2 second_now l (ap q2.owns is_r ∙ moved.came) ∙ (ap (f q2) is_r ∙ (followed.came ∙ (ap (f p) (sym is_r) ∙ sym (old i k p first l owned))))
+              | inl is_r ↦ grind (arith, second_now)
               | inr ne ↦ new i k p2 first_now l (moved.owns_from k ne ∙ owned) ∙ (followed.stays_from k ne ∙ sym (old i k p first l owned))
             ]
         | inr not_i ↦ elim (cases_eq a j) [
@@ -130,44 +126,10 @@ module _ {S E : Type 0} (m : Simulation S E) (law : IsLawful m) (who later : ℕ
   flights stop zs = map (part_of stop) zs
 
   plus_stays : (e : E) → messages m e (assembled y ps2).flight ≡ messages m e (assembled x ps).flight
-  plus_stays e =
-      let sum = λ (b : Board E) (zs : List (Place E)). (messages-append m e b.mail (flat_map (λ (z : Part E). z.core.flight) (flights b.stop zs))
-      ∙ ap (λ n. messages m e b.mail + n) (messages-flat_map m e (λ (z : Part E). z.core.flight) (flights b.stop zs)
-      ∙ total_map (λ (z : Part E). messages m e z.core.flight) (part_of b.stop) zs)) in
-      let after = sum y ps2 in
-      let before = sum x ps in
-      let a = total_set (λ (z : Place E). messages m e (in_hand z)) ps i p p2 first in
-      let b = total_set (λ (z : Place E). messages m e (in_hand z)) (set ps i p2) j q q2 between in
-      let d = plus_both m law who later r x y p q p2 q2 rule.board in_range other was is_now same moved e in
-      let g = hand_plus m law p e in
-      let g2 = hand_plus m law p2 e in
-      let h = hand_plus m law q e in
-      let h2 = hand_plus m law q2 e in
-      let k : messages m e q2.outgoing ≡ messages m e q.outgoing = ap (messages m e) moved.outgoing_to in
-      let n : messages m e q2.unsent ≡ messages m e q.unsent = ap (messages m e) moved.unsent_to in
-      let k2 : messages m e p2.outgoing ≡ messages m e p.outgoing = ap (messages m e) moved.outgoing_from in
-      let n2 : messages m e p2.unsent ≡ messages m e p.unsent = ap (messages m e) moved.unsent_from in
-      omega arith
+  plus_stays e = grind (arith, messages-append, flat_map, messages-flat_map, total_map, total_set, set, between, plus_both, hand_plus)
 
   minus_stays : (e : E) → antimessages m e (assembled y ps2).flight ≡ antimessages m e (assembled x ps).flight
-  minus_stays e =
-      let sum = λ (b : Board E) (zs : List (Place E)). (antimessages-append m e b.mail (flat_map (λ (z : Part E). z.core.flight) (flights b.stop zs))
-      ∙ ap (λ n. antimessages m e b.mail + n) (antimessages-flat_map m e (λ (z : Part E). z.core.flight) (flights b.stop zs)
-      ∙ total_map (λ (z : Part E). antimessages m e z.core.flight) (part_of b.stop) zs)) in
-      let after = sum y ps2 in
-      let before = sum x ps in
-      let a = total_set (λ (z : Place E). antimessages m e (in_hand z)) ps i p p2 first in
-      let b = total_set (λ (z : Place E). antimessages m e (in_hand z)) (set ps i p2) j q q2 between in
-      let d = minus_both m law who later r x y p q p2 q2 rule.board in_range other was is_now same moved e in
-      let g = hand_minus m law p e in
-      let g2 = hand_minus m law p2 e in
-      let h = hand_minus m law q e in
-      let h2 = hand_minus m law q2 e in
-      let k : antimessages m e q2.outgoing ≡ antimessages m e q.outgoing = ap (antimessages m e) moved.outgoing_to in
-      let n : antimessages m e q2.unsent ≡ antimessages m e q.unsent = ap (antimessages m e) moved.unsent_to in
-      let k2 : antimessages m e p2.outgoing ≡ antimessages m e p.outgoing = ap (antimessages m e) moved.outgoing_from in
-      let n2 : antimessages m e p2.unsent ≡ antimessages m e p.unsent = ap (antimessages m e) moved.unsent_from in
-      omega arith
+  minus_stays e = grind (arith, antimessages-append, flat_map, antimessages-flat_map, total_map, total_set, set, between, minus_both, hand_minus)
 
   pub machine_moves : IsSameMachine m (assembled x ps) (assembled y ps2)
   machine_moves = record {

@@ -1,5 +1,5 @@
 -- What a worker may give back: what calls have kept, and what a visit leaves.
-use Rattle.std.proofs.Common.{◌≡◌, ℕ, suc, ◌+◌, ◌<◌, ◌≤◌, ◌==◌, true, List, [], ◌++◌, Option, None, Some, IfSome, get_or, length, map, min, slice_get, refl, ap, sym, ◌∙◌, subst, inl, inr, arith}
+use Rattle.std.proofs.Common.{rules, ◌≡◌, ℕ, suc, ◌+◌, ◌<◌, ◌≤◌, ◌==◌, true, List, [], ◌++◌, Option, None, Some, IfSome, get_or, map, min, slice_get, refl, ap, sym, ◌∙◌, subst, inl, inr, arith}
 use Rattle.std.proofs.lemmas.Bool.{cases_eq, cases_lt, eq-eqb}
 use Rattle.std.proofs.lemmas.List.{get_or-set_other, get_or-set_same, length-set}
 use Rattle.std.specs.List.{reduce}
@@ -9,7 +9,7 @@ use Rattle.tw_core.specs.Good.{IsGoodPart}
 use Rattle.tw_core.specs.Machine.{antimessages, messages, times_loose}
 use Rattle.tw_rule.proofs.Calls.{hand_is_loose, hand_is_own, in_hand_loose}
 use Rattle.tw_rule.proofs.Least.{bound_from, events_from, events_told, from_bound, mail_told, still_told, told_from}
-use Rattle.tw_rule.specs.Board.{Board, IsBoard, IsVisit, least_bound, least_report, report_of, times_among, workers}
+use Rattle.tw_rule.specs.Board.{Board, IsBoard, IsVisit, least_report, report_of, times_among, workers}
 use Rattle.tw_rule.specs.Place.{IsFrom, IsPlace, Keeps, Place, Tells, after_visit, in_hand, report_time, whole}
 use Rattle.tw_rule.specs.Rule.{MayGive, Stands}
 use Rattle.tw_sim.proofs.Counts.{times-append}
@@ -66,12 +66,7 @@ module _ {S E : Type 0} (m : Simulation S E) (law : IsLawful m) (who : ℕ → �
   -- a message in the hand is never refused as late, foreign or not its own
   pub welcome : (x : Board E) (p q : Place E) (k : ℕ) (s : Signed E) → IsBoard m x → Stands m who x p → Keeps m x.stop p q → slice_get q.mail k ≡ Some s
       → (q.bound ≤ m.time s.event) × (q.owns (m.dst s.event) ≡ true) × (m.suits s.event ≡ true)
-  welcome x p q k s board stands keeps there =
-      let loose = hand_is_loose m law q k s there in
-      let late = keeps.late x.bound (stands_from x p board stands) s.event loose in
-      let same = keeps.bound in
-      let old = stands.bound in
-      ((omega arith), hand_is_own m law x.stop q k s keeps.place there, keeps.place.good.suit s.event (omega arith))
+  welcome x p q k s board stands keeps there = grind (arith, hand_is_loose, stands_from, hand_is_own)
 
   -- ---- what a visit is asked
 
@@ -98,15 +93,7 @@ module _ {S E : Type 0} (m : Simulation S E) (law : IsLawful m) (who : ℕ → �
       (visit : IsVisit m who p.worker q.unsent report mail x y) where
     -- what lies on the board afterwards, or was handed out, lay there or was deposited
     passed_on : (e : E) → 0 < times_among m e y.mail + times_among m e mail → (x.bound ≤ m.time e) × (m.suits e ≡ true)
-    passed_on e h =
-        elim (cases_lt 0 (times_among m e x.mail)) [
-          | inl l ↦ (board.late e l, board.suit e l)
-          | inr ge ↦
-              let a = visit.messages e in
-              let b = visit.antimessages e in
-              let loose = in_hand_loose m q e (omega arith) in
-              (keeps.late x.bound (stands_from x p board stands) e loose, keeps.place.good.suit e (omega arith))
-        ]
+    passed_on e h = grind (arith, cases_lt, in_hand_loose, stands_from)
 
     abbrev told : Option ℕ
     told = least_report m report mail
@@ -118,55 +105,23 @@ module _ {S E : Type 0} (m : Simulation S E) (law : IsLawful m) (who : ℕ → �
     others v other = ap (λ rs. get_or rs v None) visit.reports ∙ get_or-set_other x.reports p.worker v told None other
 
     rises : x.bound ≤ y.bound
-    rises = rw visit.bound (from_bound m law x.bound y (let old = board.stop in let same = visit.stop in omega arith)
-        (λ v. elim (cases_eq v p.worker) [
-          | inl is ↦ subst (λ o. IfSome o (λ time. x.bound ≤ time)) (sym (ap (λ w. report_of w y) is ∙ mine))
-              (told_from m law x.bound report mail visit.late (λ e h. (passed_on e (omega arith)).0))
-          | inr other ↦ subst (λ o. IfSome o (λ time. x.bound ≤ time)) (sym (others v other)) (board.reported v)
-        ])
-        (λ e h. (passed_on e (omega arith)).0))
+    rises = grind (arith, from_bound, cases_eq, mine, told_from, passed_on, others)
 
     board_after : IsBoard m y
-    board_after =
-        let low : y.bound ≤ least_bound m y = (let same = visit.bound in omega arith) in
-        let all = bound_from m law y.bound y low in
-        record { stop = all.0; reported = all.1.0; late = all.1.1; suit = λ e h. (passed_on e (omega arith)).1 }
+    board_after = grind (arith, bound_from, passed_on)
 
     module _ (empty : q.outgoing ≡ []) (tells : Tells m report q) (bound : ℕ) (least : q.bound ≤ bound) (most : bound ≤ y.bound) where
       abbrev z : Place E
       z = after_visit mail bound q
 
       messages_after : (e : E) → messages m e (in_hand z) + messages m e q.unsent ≡ messages m e (in_hand q) + messages m e mail
-      messages_after e =
-          let a = messages-append m e ((q.mail ++ mail) ++ []) q.outgoing in
-          let b = messages-append m e (q.mail ++ mail) [] in
-          let c = messages-append m e q.mail mail in
-          let d = messages-append m e (q.mail ++ q.unsent) q.outgoing in
-          let f = messages-append m e q.mail q.unsent in
-          omega arith
+      messages_after e = grind (arith, messages-append)
 
       antimessages_after : (e : E) → antimessages m e (in_hand z) + antimessages m e q.unsent ≡ antimessages m e (in_hand q) + antimessages m e mail
-      antimessages_after e =
-          let a = antimessages-append m e ((q.mail ++ mail) ++ []) q.outgoing in
-          let b = antimessages-append m e (q.mail ++ mail) [] in
-          let c = antimessages-append m e q.mail mail in
-          let d = antimessages-append m e (q.mail ++ q.unsent) q.outgoing in
-          let f = antimessages-append m e q.mail q.unsent in
-          omega arith
+      antimessages_after e = grind (arith, antimessages-append)
 
       good_after : IsGoodPart m 0 (whole x.stop z)
-      good_after = record {
-        falling = keeps.place.good.falling;
-        home = keeps.place.good.home;
-        soon = keeps.place.good.soon;
-        late = λ e h. omega arith;
-        ahead = keeps.place.good.ahead;
-        alone = keeps.place.good.alone;
-        suit = λ e h. elim (cases_lt 0 (times_among m e mail)) [
-          | inl l ↦ (passed_on e (omega arith)).1
-          | inr ge ↦ keeps.place.good.suit e (let a = messages_after e in let b = antimessages_after e in omega arith)
-        ];
-      }
+      good_after = grind (arith, cases_lt, passed_on, messages_after, antimessages_after)
 
       reported_after : (e : E) → 0 < times_loose m (whole 0 z) e → IsSomeAnd (report_of p.worker y) (λ time. time ≤ m.time e)
       reported_after e h =
@@ -189,12 +144,7 @@ module _ {S E : Type 0} (m : Simulation S E) (law : IsLawful m) (who : ℕ → �
       place_after = record {
         good = good_after;
         history = keeps.place.history;
-        waiting = λ e h. elim (cases_lt 0 (times_among m e mail)) [
-          | inl l ↦
-              let there = law.receiver e (passed_on e (omega arith)).1 in
-              ap (λ f. f (m.dst e)) keeps.owns ∙ (stands.owns (m.dst e) there ∙ eq-eqb (who (m.dst e)) p.worker (visit.home e l))
-          | inr ge ↦ keeps.place.waiting e (let a = messages-append m e q.mail mail in let b = antimessages-append m e q.mail mail in omega arith)
-        ];
+        waiting = search (rules, cases_lt, passed_on, eq-eqb, messages-append, antimessages-append);
         held = keeps.place.held;
         done = λ r. (let old = keeps.place.done r in omega arith);
         late = λ e h. (let after = reported_from y.bound (report_of p.worker y) (m.time e) (board_after.reported p.worker) (reported_after e h) in omega arith);
@@ -202,28 +152,4 @@ module _ {S E : Type 0} (m : Simulation S E) (law : IsLawful m) (who : ℕ → �
       }
 
       pub may_visit : MayGive m who x p y z
-      may_visit = record {
-        worker = keeps.worker;
-        steps = record {
-          others = others;
-          workers = ap length visit.reports ∙ length-set x.reports p.worker told;
-          bound = rises;
-          stop = visit.stop;
-          board = board_after;
-        };
-        stands = record {
-          worker = (let a = keeps.worker in let b = stands.worker in let c : workers y ≡ workers x = ap length visit.reports ∙ length-set x.reports p.worker told in omega arith);
-          owns = (stands_still x p q stands keeps).owns;
-          place = subst (λ s. IsPlace m s z) (sym visit.stop) place_after;
-          reported = subst (λ w. (e : E) → 0 < times_loose m (whole 0 z) e → IsSomeAnd (report_of w y) (λ time. time ≤ m.time e)) (sym keeps.worker) reported_after;
-          bound = most;
-        };
-        moved = λ e. (
-            let same = keeps.surplus e in
-            let a = messages_after e in
-            let b = antimessages_after e in
-            let c = visit.messages e in
-            let d = visit.antimessages e in
-            omega arith);
-        done = keeps.done;
-      }
+      may_visit = grind (arith, others, length-set, rises, board_after, stands_still, place_after, reported_after, messages_after, antimessages_after)

@@ -1,3 +1,4 @@
+use Rattle.std.proofs.Common.{rules}
 use Rattle.tw_rule.proofs.Visits.{may_stay, may_visit}
 use Rattle.tw_rule.proofs.laws.calls_may_be_given.Goals as goal
 
@@ -5,5 +6,4 @@ pub returns-clause-stay : goal.returns-clause-stay
 returns-clause-stay c = λ start m law who x p q board stands keeps. may_stay m law who x p q board stands keeps
 
 pub returns-clause-visit : goal.returns-clause-visit
-returns-clause-visit c = λ start m law who x y p q report mail bound board stands keeps empty tells visit least most.
-    may_visit m law who x y p q report mail board stands keeps visit empty tells bound least most
+returns-clause-visit c = search (rules, may_visit)

@@ -1,17 +1,12 @@
-use Rattle.std.proofs.Common.{map, min, ◌++◌, ap, ◌∙◌}
-use Rattle.std.specs.List.{reduce}
-use Rattle.tw_rule.proofs.Least.{none_told}
+use Rattle.std.proofs.Common.{arith}
 use Rattle.tw_rule.proofs.Visits.{report_late, tells_all, unsent_late, unsent_suits}
-use Rattle.tw_rule.specs.Board.{least_report}
 use Rattle.tw_rule.proofs.laws.visits_are_welcome.Goals as goal
 
 pub returns-clause-tells : goal.returns-clause-tells
 returns-clause-tells c = λ start m law p. tells_all m law p
 
 pub returns-clause-empty : goal.returns-clause-empty
-returns-clause-empty c = λ start m p none.
-    let told = reduce min (map (λ e. m.time e) (p.pending ++ p.kept ++ p.held)) in
-    ap (λ xs. least_report m told xs) none ∙ none_told m told
+returns-clause-empty c = λ start m p none. grind arith
 
 pub returns-clause-report : goal.returns-clause-report
 returns-clause-report c = λ start m law who x p q board stands keeps. report_late m law who x p q board stands keeps
