@@ -3,9 +3,8 @@ use Rattle.std.specs.List.{list_all}
 use Rattle.tw_model.specs.declared.state.Row.{Row}
 use Rattle.tw_policy.specs.Left.{allows, covers, follows, is_covered, is_given, left_after, remaining}
 use Rattle.tw_policy.specs.Stable.{IsStableAssignment}
-use Rattle.std.proofs.Common.{◌≡◌, ℕ, suc, zero, ◌+◌, ◌<◌, ◌==◌, Bool, true, false, not, ◌&&◌, ◌||◌, List, [], ◌∷◌, ◌++◌, length, map, filter, get_or, set, Option, Some, None, refl, ap, sym, ◌∙◌, subst, inl, inr, if◌then◌else◌}
-use Rattle.std.specs.List.{filter_map, find, list_all, list_any, position_or_len, range_with_len, zip}
-use Rattle.std.specs.Option.{unwrap_or}
+use Rattle.std.proofs.Common.{arith, ◌≡◌, ℕ, suc, zero, ◌+◌, ◌<◌, ◌==◌, Bool, true, false, not, ◌&&◌, ◌||◌, List, [], ◌∷◌, ◌++◌, map, filter, get_or, set, Some, None, refl, ap, sym, ◌∙◌, subst, inl, inr, if◌then◌else◌}
+use Rattle.std.specs.List.{filter_map, find, list_all, list_any, position_or_len, zip}
 use Rattle.std.proofs.lemmas.Bool.{cases_Bool}
 use Rattle.tw_event.specs.declared.event.Body.{Body}
 use Rattle.tw_event.specs.declared.event.Body.TheVariants.{Start, Fail, Restore, Swap, Forbid, Allow, Update}
@@ -13,7 +12,7 @@ use Rattle.tw_event.specs.declared.event.Event.{Event}
 use Rattle.tw_event.specs.declared.event.PathNo.{PathNo}
 use Rattle.tw_model.specs.declared.net.Hop.{Hop}
 use Rattle.tw_model.specs.declared.net.Link.{Link}
-use Rattle.tw_model.specs.Net.{Net, begins_at, empty_path, hop_to, hops_of, joins, origin_path, path, paths_of, same_path}
+use Rattle.tw_model.specs.Net.{Net, empty_path, hop_to, hops_of, joins, origin_path, path, paths_of, same_path}
 use Rattle.tw_model.specs.PermittedPath.{PermittedPath}
 use Rattle.tw_model.specs.State.{State, bars, fresh_row, opening, slot}
 use Rattle.tw_model.specs.Case.{Case, IsCase, opening_events}
@@ -54,17 +53,7 @@ some_any test xs x found = let r = in_find test x xs found in any_from_in test x
 -- w is a neighbour where a link joins the two
 peers_linked : (links : List Link) (v : ℕ) (ws : List ℕ) → map (λ h. h.peer) (filter_map (hop_to links v) ws) ≡ filter (λ w. list_any (joins v w) links) ws
 peers_linked links v [] = refl
-peers_linked links v (w ∷ ws) = at (find (joins v w) links) refl (peers_linked links v ws) where
-  at : (o : Option Link) → find (joins v w) links ≡ o → map (λ h. h.peer) (filter_map (hop_to links v) ws) ≡ filter (λ x. list_any (joins v x) links) ws
-      → map (λ h. h.peer) (filter_map (hop_to links v) (w ∷ ws)) ≡ filter (λ x. list_any (joins v x) links) (w ∷ ws)
-  at None e more =
-      let none : list_any (joins v w) links ≡ false = none_any (joins v w) links e in
-      let mine : filter_map (hop_to links v) (w ∷ ws) ≡ filter_map (hop_to links v) ws = rw e refl in
-      ap (map (λ (h : Hop). h.peer)) mine ∙ rw none more
-  at (Some l) e more =
-      let some : list_any (joins v w) links ≡ true = some_any (joins v w) links l e in
-      let mine : map (λ (h : Hop). h.peer) (filter_map (hop_to links v) (w ∷ ws)) ≡ w ∷ map (λ h. h.peer) (filter_map (hop_to links v) ws) = rw e refl in
-      mine ∙ rw some (ap (λ xs. w ∷ xs) more)
+peers_linked links v (w ∷ ws) = grind (arith, filter, none_any, some_any, peers_linked links v ws)
 
 place_of_peer : (w : ℕ) (hs : List Hop) → position_or_len (λ h. h.peer == w) hs ≡ position_or_len (λ x. x == w) (map (λ h. h.peer) hs)
 place_of_peer w [] = refl
@@ -83,13 +72,7 @@ any_peers net v ribs q (h ∷ hs) (u ∷ us) = ap (λ b. leads_to net v ribs q (
 module _ (one two : Net) (alike : AreAlikeNets one two) where
   peers_same : (v : ℕ) → peers one v ≡ peers two v
   unfolding hops_of
-  peers_same v =
-      let same : (w : ℕ) → list_any (joins v w) one.links ≡ list_any (joins v w) two.links
-      = λ w. any_joins v w one.links ∙ (ap (list_any (λ e. (e.0 == v && e.1 == w) || (e.0 == w && e.1 == v))) alike.links ∙ sym (any_joins v w two.links)) in
-      peers_linked one.links v (range_with_len 0 one.nodes)
-      ∙ (filter_agree (λ w. list_any (joins v w) one.links) (λ w. list_any (joins v w) two.links) same (range_with_len 0 one.nodes)
-      ∙ (ap (λ n. filter (λ w. list_any (joins v w) two.links) (range_with_len 0 n)) alike.nodes
-      ∙ sym (peers_linked two.links v (range_with_len 0 two.nodes))))
+  peers_same v = grind (arith, any_joins, peers_linked, filter_agree, filter)
 
   pub path_same : (q : PathNo) → path one q ≡ path two q
   unfolding path
@@ -97,9 +80,7 @@ module _ (one two : Net) (alike : AreAlikeNets one two) where
 
   pub paths_of_same : (v : ℕ) → paths_of one v ≡ paths_of two v
   unfolding paths_of
-  paths_of_same v =
-      ap (λ ps. let all = [] ∷ (0 ∷ []) ∷ map (λ (p : PermittedPath). p.nodes) ps in
-      map (λ k. let q : PathNo = record { 0 = k } in q) (filter (λ k. begins_at (get_or all k []) v) (range_with_len 0 (length all)))) alike.permitted
+  paths_of_same v = grind arith
 
   bars_same : (v : ℕ) (barred : List Bool) (q : PathNo) → bars one v barred q ≡ bars two v barred q
   bars_same v barred q = ap (λ ps. get_or barred (position_or_len (λ p. p.0 == q.0) ps) false) (paths_of_same v)
@@ -136,19 +117,11 @@ module _ (one two : Net) (alike : AreAlikeNets one two) where
   by_peer_same v ribs q p = rw (path_same q, path_same (ribs p.0)) refl
 
   allowed_same : (v : ℕ) (ribs : ℕ → PathNo) (z : Stand) (q : PathNo) → allowed one v ribs z q ≡ allowed two v ribs z q
-  allowed_same v ribs z q =
-      let any : list_any (leads_to one v ribs q) (zip (hops_of one v) z.ups) ≡ list_any (leads_to two v ribs q) (zip (hops_of two v) z.ups)
-      = any_peers one v ribs q (hops_of one v) z.ups
-      ∙ (any_agree (by_peer one v ribs q) (by_peer two v ribs q) (zip (peers one v) z.ups) (λ p i. by_peer_same v ribs q p)
-      ∙ (ap (λ ps. list_any (by_peer two v ribs q) (zip ps z.ups)) (peers_same v) ∙ sym (any_peers two v ribs q (hops_of two v) z.ups))) in
-      ap (λ b. not b && list_any (leads_to one v ribs q) (zip (hops_of one v) z.ups)) (bars_same v z.barred q)
-      ∙ ap (λ b. not (bars two v z.barred q) && b) any
+  allowed_same v ribs z q = grind (arith, leads_to, any_peers, any_agree, by_peer_same, peers_same, not, bars_same)
 
   stable_by_same : (v : ℕ) (ribs : ℕ → PathNo) (z : Stand) → stable_by one v ribs z ≡ stable_by two v ribs z
   unfolding stable_by
-  stable_by_same v ribs z =
-      ap (λ o. if v == 0 then origin_path else unwrap_or o empty_path)
-      (find_agree (allowed one v ribs z) (allowed two v ribs z) (allowed_same v ribs z) z.order)
+  stable_by_same v ribs z = grind (arith, find_agree, allowed, allowed_same)
 
 -- ---- elimination by the numbers of neighbours, and whether their links are up
 
@@ -192,9 +165,7 @@ remaining_is net states left v better (q ∷ order) =
 module _ (case other : Case) (is : IsCase case) (other_is : IsCase other) (alike : AreAlike case other) where
   stand_along_same : (v : ℕ) (h : List Event) → stand_along case is v h ≡ stand_along other other_is v h
   stand_along_same v [] = opening_same case.net other.net alike.nets v
-  stand_along_same v (e ∷ h) =
-      stand_after_same case.net other.net alike.nets v e.body (stand_along case is v h)
-      ∙ ap (stand_after other.net v e.body) (stand_along_same v h)
+  stand_along_same v (e ∷ h) = grind (arith, stand_after_same, stand_along, stand_after, stand_along_same v h)
 
   standing_same : (v : ℕ) → stand (standing case v) ≡ stand (standing other v)
   standing_same v =
@@ -206,11 +177,7 @@ module _ (case other : Case) (is : IsCase case) (other_is : IsCase other) (alike
       ∙ sym (stands_along other other_is v (script_of other v) (λ e i. (in_script other other_is v e i).0))))
 
   stable_same : (ribs : ℕ → PathNo) (v : ℕ) → stable_path case.net ribs v (standing case v) ≡ stable_path other.net ribs v (standing other v)
-  stable_same ribs v =
-      stable_is case.net v ribs (standing case v)
-      ∙ (ap (stable_by case.net v ribs) (standing_same v)
-      ∙ (stable_by_same case.net other.net alike.nets v ribs (stand (standing other v))
-      ∙ sym (stable_is other.net v ribs (standing other v))))
+  stable_same ribs v = grind (arith, stable_is, stable_by, standing_same, stable_by_same, stand)
 
   pub may_same : (n v : ℕ) (q : PathNo) → MayUse other.net (standing other) n v q → MayUse case.net (standing case) n v q
   may_same zero v q may = tt
@@ -256,7 +223,4 @@ module _ (case other : Case) (is : IsCase case) (other_is : IsCase other) (alike
 
 -- two cases are alike either way round
 pub alike_back : (case other : Case) → AreAlike case other → AreAlike other case
-alike_back case other alike = record {
-  nets = record { nodes = sym alike.nets.nodes; links = sym alike.nets.links; permitted = sym alike.nets.permitted };
-  scenes = sym alike.scenes;
-}
+alike_back case other alike = grind arith

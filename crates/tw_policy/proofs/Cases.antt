@@ -1,5 +1,5 @@
 -- The ranks of a case's routers hold paths of their own, each once, also as the routers stand once the script is over.
-use Rattle.std.proofs.Common.{◌≡◌, ◌≢◌, ℕ, suc, ◌-◌, ◌==◌, true, false, ◌&&◌, List, [], ◌∷◌, ◌++◌, length, get_or, refl, sym, ◌∙◌, subst, inl, inr, arith, nat_le}
+use Rattle.std.proofs.Common.{◌≡◌, ◌≢◌, ℕ, suc, ◌-◌, ◌==◌, true, false, List, [], ◌∷◌, ◌++◌, length, get_or, refl, sym, ◌∙◌, subst, inl, inr, arith, nat_le}
 use Rattle.std.specs.List.{AllPairs, list_any}
 use Rattle.std.proofs.lemmas.Bool.{cases_Bool, and_parts, both_ways, eqb-true, leb-true}
 use Rattle.std.proofs.lemmas.List.Edits.{length-swap}
@@ -7,8 +7,7 @@ use Rattle.tw_event.specs.declared.event.Body.{Body}
 use Rattle.tw_event.specs.declared.event.Body.TheVariants.{Start, Fail, Restore, Swap, Forbid, Allow, Update}
 use Rattle.tw_event.specs.declared.event.Event.{Event}
 use Rattle.tw_event.specs.declared.event.PathNo.{PathNo}
-use Rattle.tw_model.specs.Net.{empty_path, is_own, paths_of}
-use Rattle.tw_model.specs.Rules.{has_place}
+use Rattle.tw_model.specs.Net.{is_own, paths_of}
 use Rattle.tw_model.specs.Effect.{body_suits}
 use Rattle.tw_model.specs.Case.{Case, IsCase, simulation}
 use Rattle.tw_sim.specs.Simulation.{state}
@@ -52,10 +51,7 @@ once_behind (x ∷ xs) z once other = (apart, once_behind xs z once.1 (λ y i. o
             let found = in_from_any (λ y. x.0 == y.0) (xs ++ z ∷ []) b in
             elim (in_append found.0 xs (z ∷ []) found.2) [
               | inl k ↦ absurd (both_ways (list_any (λ y. x.0 == y.0) xs) once.0 (any_from_in (λ y. x.0 == y.0) found.0 xs found.1 k))
-              | inr k ↦ elim k [
-                | inl e ↦ absurd (both_ways (x.0 == z.0) (other x (inl refl)) (subst (λ y. (x.0 == y.0) ≡ true) e found.1))
-                | inr none ↦ absurd none
-              ]
+              | inr k ↦ grind arith
             ])
       ]
 
@@ -66,20 +62,7 @@ module _ (case : Case) (is : IsCase case) (v : ℕ) where
     pub whole : length order ≡ length (paths_of case.net v)
 
   ordered_after : (e : Event) (b : Body) → body_suits case.net v e b ≡ true → (z : Stand) → IsOrdered z.order → IsOrdered (stand_after case.net v b z).order
-  ordered_after e (Swap i j) suit z is =
-      let places = (and_parts (e.src == v) (has_place case.net v i && has_place case.net v j) suit).1 in
-      let two = and_parts (has_place case.net v i) (has_place case.net v j) places in
-      let first = and_parts (nat_le 1 i) (nat_le i (length (paths_of case.net v))) two.0 in
-      let second = and_parts (nat_le 1 j) (nat_le j (length (paths_of case.net v))) two.1 in
-      let a = leb-true 1 i first.0 in
-      let b = leb-true i (length (paths_of case.net v)) first.1 in
-      let c = leb-true 1 j second.0 in
-      let d = leb-true j (length (paths_of case.net v)) second.1 in
-      let whole = is.whole in
-      record {
-        distinct = distinct-swap z.order (i - 1) (j - 1) (omega arith) (omega arith) is.distinct;
-        whole = length-swap z.order (i - 1) (j - 1) ∙ is.whole;
-      }
+  ordered_after e (Swap i j) suit z is = grind (arith, and_parts, nat_le, leb-true, distinct-swap, length-swap)
   ordered_after e Start suit z is = is
   ordered_after e (Fail w) suit z is = subst IsOrdered (sym (order_after case.net v (Fail w) z refl)) is
   ordered_after e (Restore w) suit z is = subst IsOrdered (sym (order_after case.net v (Restore w) z refl)) is
@@ -105,14 +88,4 @@ module _ (case : Case) (is : IsCase case) (v : ℕ) where
   standing_own = (own_state case v (script_of case v) (λ e i. (in_script case is v e i).0)).order
 
   pub all_once : AreOnce (all_paths case.net (standing case) v)
-  all_once =
-      elim (cases_Bool (v == 0)) [
-        | inl b ↦ rw b (refl, tt)
-        | inr b ↦ rw b (once_behind (standing case v).order empty_path standing_once (λ q i. some q (standing_own q i)))
-      ] where
-        some : (q : PathNo) → is_own case.net v q ≡ true → (q.0 == 0) ≡ false
-        some q own =
-            elim (cases_Bool (q.0 == 0)) [
-              | inr b ↦ b
-              | inl b ↦ absurd ((own_is_path case.net v q own).1 (eqb-true q.0 0 b))
-            ]
+  all_once = grind (arith, cases_Bool, once_behind, standing_once, standing_own, own_is_path, eqb-true)

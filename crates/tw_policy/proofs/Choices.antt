@@ -1,9 +1,8 @@
 -- What a stable path depends on.
-use Rattle.std.proofs.Common.{◌≡◌, ℕ, ◌<◌, ◌==◌, not, ◌&&◌, refl, ap, if◌then◌else◌}
+use Rattle.std.proofs.Common.{arith, ◌≡◌, ℕ, ◌<◌, not, ◌&&◌, refl, ap}
 use Rattle.std.specs.List.{zip}
-use Rattle.std.specs.Option.{unwrap_or}
 use Rattle.tw_event.specs.declared.event.PathNo.{PathNo}
-use Rattle.tw_model.specs.Net.{Net, empty_path, hops_of, origin_path}
+use Rattle.tw_model.specs.Net.{Net, hops_of}
 use Rattle.tw_model.specs.State.{State, bars}
 use Rattle.tw_model.specs.Quiet.{is_reached, reaches, stable_path}
 use Rattle.tw_sim.proofs.Members.{find_agree, in_zip}
@@ -20,6 +19,4 @@ reaches_agree net v s one two same q =
 
 pub stable_agree : (net : Net) (v : ℕ) (s : State) (one two : ℕ → PathNo) → ((w : ℕ) → w < net.nodes → one w ≡ two w)
     → stable_path net one v s ≡ stable_path net two v s
-stable_agree net v s one two same =
-    ap (λ o. if v == 0 then origin_path else unwrap_or o empty_path)
-    (find_agree (is_reached net one v s) (is_reached net two v s) (reaches_agree net v s one two same) s.order)
+stable_agree net v s one two same = grind (arith, find_agree, reaches_agree)

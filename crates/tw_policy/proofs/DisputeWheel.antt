@@ -37,10 +37,7 @@ module _ (net : Net) (states : ℕ → State) (place : PathNo → ℕ) (is : IsO
         behind (inr k) all = let below = in_from_all (λ z. place x < place z) order all q k in omega arith
 
   disputed : (a b : Pivot) → IsDisputed net states a b → place b.spoke < place a.spoke
-  disputed a b d =
-      let rank = no_worse a.rim a.spoke (states a.router).order (is.ranks a.router) d.ranked in
-      let rim = leads a.rim b.spoke d.leads in
-      omega arith
+  disputed a b d = grind (arith, no_worse, leads)
 
   ring : (a : Pivot) (others : List Pivot) (b : Pivot) → AreDisputed net states a (others ++ b ∷ []) → place b.spoke < place a.spoke
   ring a [] b are = disputed a b are.0

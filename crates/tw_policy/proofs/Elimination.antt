@@ -1,5 +1,5 @@
 -- What elimination leaves: every stable assignment, and where it leaves no choice exactly one.
-use Rattle.std.proofs.Common.{◌≡◌, ℕ, suc, zero, ◌<◌, refl, sym, ◌∙◌, inl, inr, nat_lt, if◌then◌else◌}
+use Rattle.std.proofs.Common.{arith, ◌≡◌, ℕ, suc, zero, ◌<◌, refl, sym, ◌∙◌, nat_lt, if◌then◌else◌}
 use Rattle.std.proofs.lemmas.Bool.{cases_Bool, ltb-true, lt-ltb}
 use Rattle.tw_event.specs.declared.event.PathNo.{PathNo}
 use Rattle.tw_model.specs.Net.{Net, empty_path}
@@ -25,13 +25,7 @@ module _ (net : Net) (states : ℕ → State) where
   -- what is stable at the routers is stable everywhere
   pub stable_everywhere : (ribs : ℕ → PathNo) → IsStableAssignment net states ribs → (v : ℕ)
       → everywhere ribs v ≡ stable_path net (everywhere ribs) v (states v)
-  stable_everywhere ribs stable v =
-      let same : stable_path net (everywhere ribs) v (states v) ≡ stable_path net ribs v (states v)
-      = stable_agree net v (states v) (everywhere ribs) ribs (everywhere_is ribs) in
-      elim (cases_Bool (nat_lt v net.nodes)) [
-        | inl b ↦ everywhere_is ribs v (ltb-true v net.nodes b) ∙ (stable v (ltb-true v net.nodes b) ∙ sym same)
-        | inr b ↦ (let none : everywhere ribs v ≡ stable_path net ribs v (states v) = rw b refl in none ∙ sym same)
-      ]
+  stable_everywhere ribs stable v = grind (arith, stable_agree, everywhere_is, cases_Bool, nat_lt, ltb-true)
 
   -- what is stable is never eliminated
   pub stable_remains : (ribs : ℕ → PathNo) → IsStableAssignment net states ribs → (n v : ℕ) → MayUse net states n v (everywhere ribs v)

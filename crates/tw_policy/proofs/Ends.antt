@@ -1,7 +1,7 @@
 -- A search ends: each step down leaves fewer paths in all.
-use Rattle.std.proofs.Common.{◌≡◌, ℕ, suc, zero, ◌<◌, ◌≤◌, ◌==◌, Bool, List, [], ◌∷◌, ◌++◌, length, filter, Option, Some, None, refl, sym, subst, inl, inr, arith, if◌then◌else◌}
+use Rattle.std.proofs.Common.{◌≡◌, ℕ, suc, zero, ◌<◌, ◌≤◌, ◌==◌, Bool, List, [], ◌∷◌, ◌++◌, length, filter, Option, Some, None, refl, inl, inr, arith, if◌then◌else◌}
 use Rattle.std.specs.List.{find, range_with_len}
-use Rattle.std.proofs.lemmas.Bool.{cases_Bool, eqb-true, eq-eqb, ltb-true}
+use Rattle.std.proofs.lemmas.Bool.{cases_Bool, eq-eqb, ltb-true}
 use Rattle.tw_event.specs.declared.event.PathNo.{PathNo}
 use Rattle.tw_model.specs.Net.{Net, origin_path}
 use Rattle.tw_model.specs.State.{State}
@@ -11,9 +11,7 @@ use Rattle.tw_policy.specs.Search.{each, has_choice, is_one_of, narrowed, only_a
 
 pub filter_short : (p : PathNo → Bool) (xs : List PathNo) → length (filter p xs) ≤ length xs
 filter_short p [] = omega arith
-filter_short p (x ∷ xs) =
-    let more = filter_short p xs in
-    elim (cases_Bool (p x)) [ inl b ↦ rw b (omega arith) | inr b ↦ rw b (omega arith) ]
+filter_short p (x ∷ xs) = grind (arith, cases_Bool, filter_short p xs)
 
 pub total_no_more : (one two : ℕ → List PathNo) → ((v : ℕ) → length (one v) ≤ length (two v)) → (vs : List ℕ) → total one vs ≤ total two vs
 total_no_more one two fewer [] = omega arith
@@ -21,20 +19,13 @@ total_no_more one two fewer (v ∷ vs) = let here = fewer v in let more = total_
 
 pub total_less : (one two : ℕ → List PathNo) → ((v : ℕ) → length (one v) ≤ length (two v)) → (v : ℕ) → length (one v) < length (two v) → (vs : List ℕ) → In v vs
     → total one vs < total two vs
-total_less one two fewer v less (w ∷ vs) (inl e) =
-    let here : length (one w) < length (two w) = subst (λ z. length (one z) < length (two z)) e less in
-    let more = total_no_more one two fewer vs in
-    omega arith
+total_less one two fewer v less (w ∷ vs) (inl e) = grind (arith, total_no_more)
 total_less one two fewer v less (w ∷ vs) (inr k) = let here = fewer w in let more = total_less one two fewer v less vs k in omega arith
 total_less one two fewer v less [] k = absurd k
 
 -- one path alone is fewer than a choice
 pub only_short : (left : ℕ → List PathNo) (v : ℕ) (q : PathNo) → 1 < length (left v) → (w : ℕ) → length (only_at left v q w) ≤ length (left w)
-only_short left v q choice w =
-    elim (cases_Bool (w == v)) [
-      | inl b ↦ (let there : 1 < length (left w) = subst (λ z. 1 < length (left z)) (sym (eqb-true w v b)) choice in rw b (omega arith))
-      | inr b ↦ rw b (omega arith)
-    ]
+only_short left v q choice w = grind arith
 
 pub only_shorter : (left : ℕ → List PathNo) (v : ℕ) (q : PathNo) → 1 < length (left v) → length (only_at left v q v) < length (left v)
 only_shorter left v q choice = rw (eq-eqb v v refl) choice

@@ -1,5 +1,5 @@
 -- The lists have no path that elimination does not leave, a round earlier.
-use Rattle.std.proofs.Common.{◌≡◌, ℕ, suc, zero, ◌<◌, ◌==◌, Bool, true, false, not, ◌&&◌, List, [], ◌∷◌, ◌++◌, Option, Some, None, refl, ap, sym, ◌∙◌, subst, inl, inr, if◌then◌else◌, append_assoc, append-nil}
+use Rattle.std.proofs.Common.{arith, ◌≡◌, ℕ, suc, zero, ◌<◌, ◌==◌, Bool, true, false, not, ◌&&◌, List, [], ◌∷◌, ◌++◌, Some, None, refl, ap, sym, ◌∙◌, subst, inl, inr, if◌then◌else◌, append_assoc, append-nil}
 use Rattle.std.specs.List.{find, list_all, list_any, zip}
 use Rattle.std.specs.Option.{unwrap_or}
 use Rattle.std.proofs.lemmas.Bool.{cases_Bool, both_ways, and_from, and_parts, eqb-true, eq-eqb, false≢true, not-true, not_from_false}
@@ -35,10 +35,7 @@ not_all test (x ∷ xs) h =
     ]
 
 found_or : (test : PathNo → Bool) (xs : List PathNo) (d : PathNo) → In d xs → In (unwrap_or (find test xs) d) xs
-found_or test xs d i = at (find test xs) refl where
-  at : (o : Option PathNo) → find test xs ≡ o → In (unwrap_or o d) xs
-  at None e = i
-  at (Some x) e = (in_find test x xs e).1
+found_or test xs d i = grind (arith, in_find)
 
 find_behind : (test : PathNo → Bool) (front : List PathNo) (q : PathNo) (back : List PathNo) → ((y : PathNo) → In y front → test y ≡ false) → test q ≡ true
     → find test (front ++ q ∷ back) ≡ Some q
@@ -71,22 +68,10 @@ module _ (net : Net) (is : IsNet net) (states : ℕ → State) (own : (v : ℕ) 
     test better q = is_given net states left v q && not (is_covered net states left v better)
 
     later : (better order : List PathNo) (x q : PathNo) → IsRemaining (better ++ x ∷ []) order q → IsRemaining better (x ∷ order) q
-    later better order x q more = record {
-      front = x ∷ more.front;
-      back = more.back;
-      stands = ap (λ ys. x ∷ ys) more.stands;
-      given = more.given;
-      uncovered = subst (λ ys. is_covered net states left v ys ≡ false) (append_assoc better (x ∷ []) more.front) more.uncovered;
-    }
+    later better order x q more = grind (arith, append_assoc)
 
     remains_by : (better order : List PathNo) (q : PathNo) → (q.0 == 0) ≡ false → In q (remaining net states left v better order) → IsRemaining better order q
-    remains_by better [] q nonzero i =
-        elim (cases_Bool (is_covered net states left v better)) [
-          | inl b ↦ absurd (rw b at i)
-          | inr b ↦ (
-              let one : In q (empty_path ∷ []) = rw b at i in
-              elim one [ inl e ↦ absurd (both_ways (q.0 == 0) nonzero (ap (λ z. z.0 == 0) e)) | inr none ↦ absurd none ])
-        ]
+    remains_by better [] q nonzero i = grind arith
     remains_by better (x ∷ order) q nonzero i =
         elim (cases_Bool (test better x)) [
           | inr b ↦ later better order x q (remains_by (better ++ x ∷ []) order q nonzero (rw b at i))
@@ -109,22 +94,13 @@ module _ (net : Net) (is : IsNet net) (states : ℕ → State) (own : (v : ℕ) 
     -- the empty path remains where nobody always gives one of the order
     nothing_by : (better order : List PathNo) (q : PathNo) → ((x : PathNo) → In x order → (x.0 == 0) ≡ false) → (q.0 == 0) ≡ true
         → In q (remaining net states left v better order) → is_covered net states left v (better ++ order) ≡ false
-    nothing_by better [] q nonzero none i =
-        elim (cases_Bool (is_covered net states left v better)) [
-          | inl b ↦ absurd (rw b at i)
-          | inr b ↦ subst (λ ys. is_covered net states left v ys ≡ false) (sym (append-nil better)) b
-        ]
+    nothing_by better [] q nonzero none i = grind (arith, cases_Bool, append-nil)
     nothing_by better (x ∷ order) q nonzero none i =
         let onward = λ (k : In q (remaining net states left v (better ++ x ∷ []) order)).
         subst (λ ys. is_covered net states left v ys ≡ false) (append_assoc better (x ∷ []) order) (nothing_by (better ++ x ∷ []) order q (λ y j. nonzero y (inr j)) none k) in
         elim (cases_Bool (test better x)) [
           | inr b ↦ onward (rw b at i)
-          | inl b ↦ (
-              let there : In q (x ∷ remaining net states left v (better ++ x ∷ []) order) = rw b at i in
-              elim there [
-                | inl e ↦ absurd (both_ways (x.0 == 0) (nonzero x (inl refl)) (subst (λ z. (z.0 == 0) ≡ true) e none))
-                | inr k ↦ onward k
-              ])
+          | inl b ↦ grind arith
         ]
 
     -- ---- a choice that gives none of the better ones
@@ -241,11 +217,7 @@ module _ (net : Net) (is : IsNet net) (states : ℕ → State) (own : (v : ℕ) 
         ]
 
     pub is_best : (v == 0) ≡ false → (q : PathNo) → In q (remaining net states left v [] (states v).order) → IsBest q
-    is_best other q i =
-        elim (cases_Bool (q.0 == 0)) [
-          | inl b ↦ best_of_none other q b (nothing_by [] (states v).order q nonzero b i)
-          | inr b ↦ best_of_given other q (remains_by [] (states v).order q b i)
-        ]
+    is_best other q i = grind (arith, cases_Bool, best_of_none, nothing_by, nonzero, best_of_given, remains_by)
 
   -- a path that the lists leave, elimination leaves
   pub left_may : (n v : ℕ) (q : PathNo) → In q (left_after net states n v) → MayUse net states n v q

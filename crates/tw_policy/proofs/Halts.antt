@@ -1,6 +1,6 @@
 -- Elimination comes to a halt: each round leaves fewer paths, or what it leaves is left for ever.
 use Rattle.std.proofs.Common.{◌≡◌, ℕ, suc, zero, ◌+◌, ◌<◌, ◌≤◌, ◌==◌, true, false, not, ◌&&◌, List, [], ◌∷◌, ◌++◌, length, refl, ap, sym, ◌∙◌, subst, ◌⊎◌, inl, inr, arith, nat_lt, if◌then◌else◌}
-use Rattle.std.specs.List.{list_all, list_any, range_with_len, zip}
+use Rattle.std.specs.List.{list_any, range_with_len, zip}
 use Rattle.std.proofs.lemmas.Bool.{cases_Bool, cases_lt, both_ways, eq-eqb, eqb-true, and_from, and_parts, ltb-false, ltb-true, not-true, not_from_false}
 use Rattle.tw_event.specs.declared.event.PathNo.{PathNo}
 use Rattle.tw_model.specs.declared.net.Hop.{Hop}
@@ -52,10 +52,7 @@ fewer_or_same less left within (v ∷ vs) =
       | inl fewer ↦ inl (omega arith)
       | inr same ↦ elim (cases_lt (length (less v)) (length (left v))) [
         | inl few ↦ (let more = same_total less left vs same in inl (omega arith))
-        | inr long ↦ inr (λ w i. elim i [
-          | inl e ↦ subst (λ z. less z ≡ left z) (sym e) (within_same (less v) (left v) (within v) (omega arith))
-          | inr k ↦ same w k
-        ])
+        | inr long ↦ grind (arith, within_same)
       ]
     ] where
       same_total : (less left : ℕ → List PathNo) (vs : List ℕ) → ((v : ℕ) → In v vs → less v ≡ left v) → total less vs ≡ total left vs
@@ -102,11 +99,7 @@ module _ (net : Net) (states : ℕ → State) where
         (and_from p.1.up (covers net states less v better w) parts.0 all) found.2
 
     uncovered_too : (better : List PathNo) → is_covered net states less v better ≡ false → is_covered net states left v better ≡ false
-    uncovered_too better h =
-        elim (cases_Bool (is_covered net states left v better)) [
-          | inr b ↦ b
-          | inl b ↦ absurd (both_ways (is_covered net states less v better) h (covered_too better b))
-        ]
+    uncovered_too better h = grind (arith, cases_Bool, both_ways, covered_too)
 
     remaining_within : (better order : List PathNo) → Within (remaining net states less v better order) (remaining net states left v better order)
     remaining_within better [] =
@@ -151,11 +144,7 @@ module _ (net : Net) (states : ℕ → State) where
 
   -- a round leaves nothing that the round before did not
   pub left_within : (n v : ℕ) → Within (left_after net states (suc n) v) (left_after net states n v)
-  left_within zero v =
-      elim (cases_Bool (v == 0)) [
-        | inl b ↦ rw b (within_self (origin_path ∷ []))
-        | inr b ↦ rw b (order_within (left_after net states zero) v [] (states v).order)
-      ]
+  left_within zero v = grind (arith, cases_Bool, within_self, order_within)
   left_within (suc n) v =
       elim (cases_Bool (v == 0)) [
         | inl b ↦ rw b (within_self (origin_path ∷ []))
@@ -170,25 +159,15 @@ module _ (net : Net) (states : ℕ → State) where
     there p i = same p.0.peer (has_peer_of net v p.0 (in_zip p (hops_of net v) (states v).rows i).0)
 
     given_same : (q : PathNo) → is_given net states one v q ≡ is_given net states two v q
-    given_same q =
-        any_agree (λ p. p.1.up && list_any (allows net states v q) (one p.0.peer)) (λ p. p.1.up && list_any (allows net states v q) (two p.0.peer))
-        (zip (hops_of net v) (states v).rows) (λ p i. ap (λ xs. p.1.up && list_any (allows net states v q) xs) (there p i))
+    given_same q = grind (arith, any_agree, there)
 
     covered_same : (better : List PathNo) → is_covered net states one v better ≡ is_covered net states two v better
-    covered_same better =
-        any_agree (λ p. p.1.up && covers net states one v better p.0.peer) (λ p. p.1.up && covers net states two v better p.0.peer)
-        (zip (hops_of net v) (states v).rows)
-        (λ p i. ap (λ xs. p.1.up && list_all (λ r. list_any (λ y. allows net states v y r) better) xs) (there p i))
+    covered_same better = grind (arith, any_agree, there)
 
     -- what a router has left depends on its neighbours alone
     pub remaining_same : (better order : List PathNo) → remaining net states one v better order ≡ remaining net states two v better order
     remaining_same better [] = ap (λ b. if b then [] else empty_path ∷ []) (covered_same better)
-    remaining_same better (q ∷ order) =
-        let more = remaining_same (better ++ q ∷ []) order in
-        let tests : (is_given net states one v q && not (is_covered net states one v better)) ≡ (is_given net states two v q && not (is_covered net states two v better))
-        = ap (λ b. b && not (is_covered net states one v better)) (given_same q) ∙ ap (λ b. is_given net states two v q && not b) (covered_same better) in
-        let mine = remaining net states one v (better ++ q ∷ []) order in
-        ap (λ b. if b then q ∷ mine else mine) tests ∙ ap (λ xs. if is_given net states two v q && not (is_covered net states two v better) then q ∷ xs else xs) more
+    remaining_same better (q ∷ order) = grind (arith, not, given_same, covered_same, remaining_same (better ++ q ∷ []) order)
 
   peer_below : (v w : ℕ) → has_peer net v w ≡ true → w < net.nodes
   peer_below v w there =
@@ -200,22 +179,16 @@ module _ (net : Net) (states : ℕ → State) where
   IsLast n = (v : ℕ) → v < net.nodes → left_after net states (suc n) v ≡ left_after net states n v
 
   same_after : (n v : ℕ) → IsLast n → left_after net states (suc (suc n)) v ≡ left_after net states (suc n) v
-  same_after n v last =
-      ap (λ xs. if v == 0 then origin_path ∷ [] else xs) (remaining_same (left_after net states (suc n)) (left_after net states n) v
-      (λ w there. last w (peer_below v w there)) [] (states v).order)
+  same_after n v last = grind (arith, remaining_same, peer_below, there)
 
   stays_last : (n k : ℕ) → IsLast n → IsLast (n + k)
-  stays_last n zero last = subst IsLast (sum_zero n) last where
-    sum_zero : (n : ℕ) → n ≡ n + 0
-    sum_zero n = omega arith
+  stays_last n zero last = grind arith
   stays_last n (suc k) last = subst IsLast (sum_suc n k) (λ v here. same_after (n + k) v (stays_last n k last)) where
     sum_suc : (n k : ℕ) → suc (n + k) ≡ n + suc k
     sum_suc n k = omega arith
 
   pub over : (n : ℕ) → IsLast n → (k v : ℕ) → v < net.nodes → left_after net states (n + k) v ≡ left_after net states n v
-  over n last zero v here = ap (λ m. left_after net states m v) (sum_zero n) where
-    sum_zero : (n : ℕ) → n + 0 ≡ n
-    sum_zero n = omega arith
+  over n last zero v here = grind arith
   over n last (suc k) v here = ap (λ m. left_after net states m v) (sum_suc n k) ∙ (stays_last n k last v here ∙ over n last k v here) where
     sum_suc : (n k : ℕ) → n + suc k ≡ suc (n + k)
     sum_suc n k = omega arith
@@ -273,11 +246,7 @@ module _ (net : Net) (states : ℕ → State) where
   in_one xs q i = any_from_in (λ x. q.0 == x.0) q xs (eq-eqb q.0 q.0 refl) i
 
   round_within : (less left : ℕ → List PathNo) → AreAmong less left → (v : ℕ) → Within (round_left net states less v) (round_left net states left v)
-  round_within less left among v =
-      elim (cases_Bool (v == 0)) [
-        | inl b ↦ rw b (within_self (origin_path ∷ []))
-        | inr b ↦ rw b (remaining_within less left (λ w q i. one_in (left w) q (among w q (in_one (less w) q i))) v [] (states v).order)
-      ]
+  round_within less left among v = grind (arith, cases_Bool, within_self, remaining_within, one_in, in_one)
 
   -- a round keeps what a halt has
   pub kept : (halted left : ℕ → List PathNo) → IsHalted net states halted → AreAmong halted left → AreAmong halted (round_left net states left)
@@ -300,9 +269,4 @@ module _ (net : Net) (states : ℕ → State) where
 
   -- two halts of the same paths are one
   pub same_halt : (one two : ℕ → List PathNo) → IsHalted net states one → IsHalted net states two → AreAmong one two → AreAmong two one → (v : ℕ) → one v ≡ two v
-  same_halt one two first second there back v =
-      let a = round_within one two there v in
-      let b = round_within two one back v in
-      let short = within_short (round_left net states one v) (round_left net states two v) a in
-      let long = within_short (round_left net states two v) (round_left net states one v) b in
-      first v ∙ (within_same (round_left net states one v) (round_left net states two v) a (omega arith) ∙ sym (second v))
+  same_halt one two first second there back v = grind (arith, round_within, there, within_short, within_same)

@@ -74,12 +74,7 @@ cut s (x ∷ xs) f =
       | inl b ↦ record {
         older = x ∷ xs;
         since = since_all s (x ∷ xs);
-        soon = λ e i. (
-            let here = ltb-true x.time s b in
-            elim i [
-              | inl same ↦ subst (λ z. z.time < s) (sym same) here
-              | inr k ↦ (let order = before_time e x (f.0 e k) in omega arith)
-            ]);
+        soon = λ e i. grind (arith, ltb-true, before_time);
       }
       | inr b ↦ (
           let more = cut s xs f.1 in
@@ -240,12 +235,7 @@ module _ (case : Case) (is : IsCase case) (start t : ℕ) (scripted : (e : Event
 
       is_from : (u : Event) (rib : PathNo) (r : Row) (l m : LinkState) → l ≡ m → l.session ≡ r.session → u.src ≡ w → u.body ≡ Update rib m.session → m.since < u.time
           → IsFrom w r.session l.since u
-      is_from u rib r l m same session src body late = record {
-        src = src;
-        path = rib;
-        body = body ∙ ap (Update rib) (sym (ap (λ z. z.session) same) ∙ session);
-        later = subst (λ z. z.since < u.time) (sym same) late;
-      }
+      is_from u rib r l m same session src body late = grind arith
 
       module _ (older : List Event) (old : Since s older (history case is t w)) (soon : (e : Event) → In e older → e.time < s) where
         abbrev last_path : PathNo

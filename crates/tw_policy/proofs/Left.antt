@@ -1,5 +1,5 @@
 -- The lists have all that elimination leaves.
-use Rattle.std.proofs.Common.{◌≡◌, ℕ, suc, zero, ◌<◌, ◌==◌, true, false, not, ◌&&◌, List, [], ◌∷◌, ◌++◌, length, filter, Some, refl, ap, sym, ◌∙◌, subst, inl, inr, arith}
+use Rattle.std.proofs.Common.{◌≡◌, ℕ, suc, zero, ◌<◌, ◌==◌, true, false, not, ◌&&◌, List, [], ◌∷◌, ◌++◌, length, filter, refl, ap, sym, ◌∙◌, subst, inl, inr, arith}
 use Rattle.std.specs.List.{find, list_any, zip}
 use Rattle.std.specs.Option.{unwrap_or}
 use Rattle.std.proofs.lemmas.Bool.{cases_Bool, both_ways, and_parts, and_from, eq-eqb}
@@ -7,11 +7,11 @@ use Rattle.tw_event.specs.declared.event.PathNo.{PathNo}
 use Rattle.tw_model.specs.declared.net.Hop.{Hop}
 use Rattle.tw_model.specs.declared.state.Row.{Row}
 use Rattle.tw_model.specs.Net.{Net, empty_path, hops_of}
-use Rattle.tw_model.specs.State.{State, bars}
-use Rattle.tw_model.specs.Quiet.{is_reached, reaches, stable_path}
+use Rattle.tw_model.specs.State.{State}
+use Rattle.tw_model.specs.Quiet.{is_reached, stable_path}
 use Rattle.tw_sim.proofs.Members.{In, any_from_in, in_append, in_from_any}
 use Rattle.tw_policy.specs.Elimination.{IsSolvedIn, MayUse}
-use Rattle.tw_policy.specs.Left.{allows, covers, follows, is_covered, is_given, left_after, remaining}
+use Rattle.tw_policy.specs.Left.{allows, is_covered, is_given, left_after, remaining}
 use Rattle.tw_policy.proofs.Lists.{all_in, found_in}
 
 module _ (net : Net) (states : ℕ → State) where
@@ -23,38 +23,15 @@ module _ (net : Net) (states : ℕ → State) where
     pub allowed : allows net states v q (ribs hop_row.0.peer) ≡ true
 
   pub reached_from : (v : ℕ) (ribs : ℕ → PathNo) (q : PathNo) → IsAllowed v ribs q → is_reached net ribs v (states v) q ≡ true
-  reached_from v ribs q is =
-      let p = is.hop_row in
-      let rows = zip (hops_of net v) (states v).rows in
-      let parts = and_parts (not (bars net v (states v).barred q)) (follows net states v q (ribs p.0.peer)) is.allowed in
-      and_from (not (bars net v (states v).barred q)) (list_any (reaches net v ribs q) rows) parts.0
-      (any_from_in (reaches net v ribs q) p rows (and_from p.1.up (follows net states v q (ribs p.0.peer)) is.up parts.1) is.there)
+  reached_from v ribs q is = grind (arith, and_parts, not, and_from, any_from_in)
 
   pub reached_by : (v : ℕ) (ribs : ℕ → PathNo) (q : PathNo) → is_reached net ribs v (states v) q ≡ true → IsAllowed v ribs q
-  reached_by v ribs q h =
-      let rows = zip (hops_of net v) (states v).rows in
-      let free = not (bars net v (states v).barred q) in
-      let parts = and_parts free (list_any (reaches net v ribs q) rows) h in
-      let found = in_from_any (reaches net v ribs q) rows parts.1 in
-      let p = found.0 in
-      let met = and_parts p.1.up (follows net states v q (ribs p.0.peer)) found.1 in
-      record { hop_row = p; there = found.2; up = met.0; allowed = and_from free (follows net states v q (ribs p.0.peer)) parts.0 met.1 }
+  reached_by v ribs q h = grind (arith, not, and_parts, in_from_any, and_from)
 
   module _ (left : ℕ → List PathNo) (ribs : ℕ → PathNo) (within : (w : ℕ) → In (ribs w) (left w)) (v : ℕ) where
     -- where none of these is reached, no neighbour always gives one
     uncovered : (better : List PathNo) → ((y : PathNo) → In y better → is_reached net ribs v (states v) y ≡ false) → is_covered net states left v better ≡ false
-    uncovered better never =
-        elim (cases_Bool (is_covered net states left v better)) [
-          | inr b ↦ b
-          | inl b ↦ (
-              let found = in_from_any (λ p. p.1.up && covers net states left v better p.0.peer) (zip (hops_of net v) (states v).rows) b in
-              let p = found.0 in
-              let parts = and_parts p.1.up (covers net states left v better p.0.peer) found.1 in
-              let one = in_from_any (λ y. allows net states v y (ribs p.0.peer)) better
-              (all_in (λ r. list_any (λ y. allows net states v y r) better) (ribs p.0.peer) (left p.0.peer) parts.1 (within p.0.peer)) in
-              let reached = reached_from v ribs one.0 (record { hop_row = p; there = found.2; up = parts.0; allowed = one.1 }) in
-              absurd (both_ways (is_reached net ribs v (states v) one.0) (never one.0 one.2) reached))
-        ]
+    uncovered better never = grind (arith, cases_Bool, in_from_any, and_parts, all_in, reached_from, both_ways)
 
     given : (q : PathNo) → is_reached net ribs v (states v) q ≡ true → is_given net states left v q ≡ true
     given q reached =
@@ -72,10 +49,7 @@ module _ (net : Net) (states : ℕ → State) where
     best_remains better (q ∷ order) never =
         let test = is_given net states left v q && not (is_covered net states left v better) in
         elim (cases_Bool (is_reached net ribs v (states v) q)) [
-          | inl b ↦ (
-              let kept : test ≡ true = rw (given q b, uncovered better never) refl in
-              let first : find (is_reached net ribs v (states v)) (q ∷ order) ≡ Some q = rw b refl in
-              subst (λ o. In (unwrap_or o empty_path) (remaining net states left v better (q ∷ order))) (sym first) (rw kept (inl refl)))
+          | inl b ↦ grind (arith, given, uncovered)
           | inr b ↦ (
               let more : In (unwrap_or (find (is_reached net ribs v (states v)) order) empty_path) (remaining net states left v (better ++ q ∷ []) order)
               = best_remains (better ++ q ∷ []) order (λ y k. elim (in_append y better (q ∷ []) k) [
@@ -106,9 +80,7 @@ module _ (net : Net) (states : ℕ → State) where
 
   -- what stands in a list of one path is that path
   pub alone_at : (n v : ℕ) (q : PathNo) → left_after net states n v ≡ q ∷ [] → (p : PathNo) → In p (left_after net states n v) → p ≡ q
-  alone_at n v q is p there =
-      let one : In p (q ∷ []) = subst (In p) is there in
-      elim one [ inl e ↦ e | inr none ↦ absurd none ]
+  alone_at n v q is p there = grind arith
 
   pub alone : (n : ℕ) → ((v : ℕ) → v < net.nodes → (q : PathNo) × (left_after net states n v ≡ q ∷ [])) → (v : ℕ) → v < net.nodes → (p q : PathNo)
       → In p (left_after net states n v) → In q (left_after net states n v) → p ≡ q
@@ -123,7 +95,5 @@ module _ (net : Net) (states : ℕ → State) where
 -- what stands in a list is counted there
 pub counted : (q : PathNo) (xs : List PathNo) → In q xs → 0 < length (filter (λ x. x.0 == q.0) xs)
 counted q (x ∷ xs) (inl e) = rw (eq-eqb x.0 q.0 (ap (λ z. z.0) (sym e))) (omega arith)
-counted q (x ∷ xs) (inr k) =
-    let more = counted q xs k in
-    elim (cases_Bool (x.0 == q.0)) [ inl b ↦ rw b (omega arith) | inr b ↦ rw b more ]
+counted q (x ∷ xs) (inr k) = grind (arith, cases_Bool, counted q xs k)
 counted q [] k = absurd k

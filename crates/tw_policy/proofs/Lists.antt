@@ -1,5 +1,5 @@
 -- Tests of lists that agree on what stands there.
-use Rattle.std.proofs.Common.{◌≡◌, Bool, true, false, List, [], ◌∷◌, ◌++◌, ℕ, Some, None, ◌||◌, refl, ap, sym, ◌∙◌, subst, inl, inr}
+use Rattle.std.proofs.Common.{arith, ◌≡◌, Bool, true, false, List, [], ◌∷◌, ◌++◌, ℕ, Some, None, ◌||◌, refl, ap, sym, ◌∙◌, subst, inl, inr}
 use Rattle.std.specs.List.{find, list_all, list_any}
 use Rattle.std.specs.Option.{unwrap_or}
 use Rattle.std.proofs.lemmas.Bool.{cases_Bool, and_from, and_parts}
@@ -20,13 +20,7 @@ all_in test x [] h k = absurd k
 -- what a find gives, or else what stands behind the list
 pub found_in : {X : Type 0} (test : X → Bool) (none : X) (xs : List X) → In (unwrap_or (find test xs) none) (xs ++ none ∷ [])
 found_in test none [] = inl refl
-found_in test none (x ∷ xs) =
-    elim (cases_Bool (test x)) [
-      | inl b ↦ (let first : find test (x ∷ xs) ≡ Some x = rw b refl in inl (ap (λ o. unwrap_or o none) first))
-      | inr b ↦ (
-          let later : find test (x ∷ xs) ≡ find test xs = rw b refl in
-          inr (subst (λ o. In (unwrap_or o none) (xs ++ none ∷ [])) (sym later) (found_in test none xs)))
-    ]
+found_in test none (x ∷ xs) = grind (arith, cases_Bool, found_in test none xs)
 
 pub all_from : {X : Type 0} (test : X → Bool) (xs : List X) → ((x : X) → In x xs → test x ≡ true) → list_all test xs ≡ true
 all_from test [] h = refl

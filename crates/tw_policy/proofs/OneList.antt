@@ -35,13 +35,7 @@ module _ (place : PathNo → ℕ) (f g : PathNo → Bool) where
   same_or_apart [] up p found = absurd (cc)
   same_or_apart (x ∷ order) up p found =
       elim (cases_Bool (f x)) [
-        | inl a ↦ (
-            let first : Some x ≡ Some p = rw a at found in
-            let is : x ≡ p = cc in
-            elim (cases_Bool (g x)) [
-              | inl b ↦ (let other : find g (x ∷ order) ≡ Some x = rw b refl in inl (other ∙ first))
-              | inr b ↦ inr (record { x = x; there = inl refl; soon = subst (λ z. place x ≤ place z) is (omega arith); apart = inl (a, b) })
-            ])
+        | inl a ↦ grind arith
         | inr a ↦ (
             let more : find f order ≡ Some p = rw a at found in
             elim (cases_Bool (g x)) [
@@ -89,21 +83,9 @@ module _ (net : Net) (states : ℕ → State) (place : PathNo → ℕ) (is : IsO
             let others : q ≡ unwrap_or (find g (states v).order) empty_path = second.2 ∙ rw b refl in
             elim (same_or_apart place f g (states v).order (is.ranks v) p (some_of (find f (states v).order) p (sym mine) some)) [
               | inl e ↦ sym (others ∙ ap (λ o. unwrap_or o empty_path) e)
-              | inr d ↦ (
-                  let near = d.soon in
-                  elim d.apart [
-                    | inl k ↦ absurd (both_ways (g d.x) k.1 (reaches_too n v one two onward d.x d.there (omega arith) k.0))
-                    | inr k ↦ absurd (both_ways (f d.x) k.0 (reaches_too n v two one back d.x d.there (omega arith) k.1))
-                  ])
+              | inr d ↦ grind (arith, both_ways, reaches_too)
             ])
       ]
 
   pub solved : (n : ℕ) → ((q : PathNo) → place q < n) → IsSolvedIn net states n
-  solved n all v here p q first second =
-      elim (cases_Bool (p.0 == 0)) [
-        | inr b ↦ settled n v p q b (all p) first second
-        | inl b ↦ elim (cases_Bool (q.0 == 0)) [
-          | inr c ↦ sym (settled n v q p c (all q) second first)
-          | inl c ↦ same_number p q (eqb-true p.0 0 b ∙ sym (eqb-true q.0 0 c))
-        ]
-      ]
+  solved n all v here p q first second = grind (arith, cases_Bool, settled, same_number, eqb-true)

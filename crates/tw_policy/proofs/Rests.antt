@@ -1,14 +1,14 @@
 -- Whatever the delays, a run keeps to the paths that elimination leaves; where it leaves no choice, the run comes to rest.
 use Rattle.std.proofs.Common.{◌≡◌, ℕ, suc, zero, ◌+◌, ◌<◌, ◌≤◌, ◌==◌, true, false, ◌&&◌, List, [], ◌∷◌, ◌++◌, refl, ap, sym, ◌∙◌, subst, inl, inr, arith, nat_lt, if◌then◌else◌}
-use Rattle.std.proofs.lemmas.Bool.{cases_Bool, both_ways, and_from, and_parts, false≢true, eq-eqb, ltb-true, ltb-false}
+use Rattle.std.proofs.lemmas.Bool.{cases_Bool, and_from, and_parts, false≢true, eq-eqb, ltb-true, ltb-false}
 use Rattle.tw_event.specs.declared.event.Body.{Body}
 use Rattle.tw_event.specs.declared.event.Body.TheVariants.{Start, Fail, Restore, Swap, Forbid, Allow, Update}
 use Rattle.tw_event.specs.declared.event.Event.{Event}
 use Rattle.tw_event.specs.declared.event.PathNo.{PathNo}
 use Rattle.tw_event.proofs.Order.{before_time, same_is, same_self}
 use Rattle.tw_model.specs.Net.{Net, empty_path}
-use Rattle.tw_model.specs.State.{State, best, has_peer, hop, row, slot}
-use Rattle.tw_model.specs.Effect.{body_suits, accepts, acts, effect, settle, with_heard}
+use Rattle.tw_model.specs.State.{State, has_peer, hop, row, slot}
+use Rattle.tw_model.specs.Effect.{body_suits, acts, effect}
 use Rattle.tw_model.specs.Case.{Case, IsCase, opening_events, simulation}
 use Rattle.tw_model.specs.Quiet.{IsQuiet, is_reached, stable_path}
 use Rattle.tw_sim.specs.Simulation.{only, sent, state, times}
@@ -33,28 +33,14 @@ use Rattle.tw_policy.specs.Standing.{standing}
 use Rattle.tw_policy.proofs.Stand.{IsWhole, is_scripted, stable_stand}
 use Rattle.tw_policy.proofs.Standing.{stands}
 use Rattle.tw_policy.proofs.Late as late
-use Rattle.tw_policy.proofs.Late.{Since, from_since, in_since, since_all, since_earlier, since_older}
+use Rattle.tw_policy.proofs.Late.{Since, from_since, since_all, since_earlier, since_older}
 
 pub after_start : (begin most n : ℕ) → begin ≤ after_rounds begin most n
 after_start begin most zero = omega arith
 after_start begin most (suc n) = let more = after_start begin most n in omega arith
 
--- a router that settles on the path that it uses sends nothing
-quiet_settle : (net : Net) (v t : ℕ) (s : State) → (settle net v t s).state.rib ≡ s.rib → (settle net v t s).sends ≡ []
-quiet_settle net v t s same =
-    elim (cases_Bool (s.rib.0 == (best net v s).0)) [
-      | inl b ↦ rw b refl
-      | inr b ↦ (
-          let changed : best net v s ≡ s.rib = rw b at same in
-          absurd (both_ways (s.rib.0 == (best net v s).0) b (eq-eqb s.rib.0 (best net v s).0 (ap (λ q. q.0) (sym changed)))))
-    ]
-
 quiet_acts : (net : Net) (v : ℕ) (s : State) (e : Event) (b : Body) → is_scripted b ≡ false → (acts net v s e b).state.rib ≡ s.rib → (acts net v s e b).sends ≡ []
-quiet_acts net v s e (Update q n) h same =
-    elim (cases_Bool (accepts s (slot net v e.src) n)) [
-      | inl c ↦ rw c (quiet_settle net v e.time (with_heard s (slot net v e.src) q) (rw c at same))
-      | inr c ↦ rw c refl
-    ]
+quiet_acts net v s e (Update q n) h same = grind arith
 quiet_acts net v s e Start h same = absurd (false≢true (sym h))
 quiet_acts net v s e (Fail w) h same = absurd (false≢true (sym h))
 quiet_acts net v s e (Restore w) h same = absurd (false≢true (sym h))
@@ -167,13 +153,7 @@ module _ (case : Case) (is : IsCase case) (begin : ℕ) (scripted : (e : Event) 
             subst (Keeps n w) (used.rib ∙ sym (ap (λ r. r.heard) same)) (more w used.h used.since)
 
         may : (w : ℕ) → Keeps n w (ribs w)
-        may w =
-            elim (cases_Bool (has_peer case.net v w && (row now (slot case.net v w)).up)) [
-              | inl b ↦ (
-                  let parts = and_parts (has_peer case.net v w) (row now (slot case.net v w)).up b in
-                  rw b (may_heard w parts.0 parts.1))
-              | inr b ↦ rw b (some_kept case.net (standing case) Keeps kept n w)
-            ]
+        may w = grind (arith, cases_Bool, and_parts, may_heard, some_kept)
 
         may_step : Keeps (suc n) v now.rib
         may_step = subst (Keeps (suc n) v) (sym (best_then v (after_rounds begin most (suc n)) h (after_start begin most (suc n)) since ribs heard)) (kept.more n v ribs may)

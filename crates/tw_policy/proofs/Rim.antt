@@ -12,13 +12,8 @@ filter_short p [] = omega arith
 filter_short p (x ∷ xs) = let more = filter_short p xs in elim (cases_Bool (p x)) [ inl b ↦ rw b (omega arith) | inr b ↦ rw b (omega arith) ]
 
 filter_shorter : (p : ℕ → Bool) (x : ℕ) (xs : List ℕ) → p x ≡ false → In x xs → length (filter p xs) < length xs
-filter_shorter p x (y ∷ xs) b (inl e) =
-    let none : p y ≡ false = subst (λ z. p z ≡ false) e b in
-    let more = filter_short p xs in
-    rw none (omega arith)
-filter_shorter p x (y ∷ xs) b (inr k) =
-    let more = filter_shorter p x xs b k in
-    elim (cases_Bool (p y)) [ inl c ↦ rw c (omega arith) | inr c ↦ rw c (omega arith) ]
+filter_shorter p x (y ∷ xs) b (inl e) = grind (arith, filter_short)
+filter_shorter p x (y ∷ xs) b (inr k) = grind (arith, cases_Bool, filter_shorter p x xs b k)
 filter_shorter p x [] b k = absurd k
 
 -- without a router that stands there they are fewer
@@ -98,10 +93,7 @@ module _ (net : Net) (states : ℕ → State) (routers : List ℕ) (rim : ℕ �
               (let less = without v unseen new in omega arith)
               (λ w here. elim (cases_eq w v) [
                 | inl e ↦ inr (pivot v s, in_right (pivot v s) ps (pivot v s ∷ []) (inl refl), sym e, ap rim (sym e))
-                | inr d ↦ elim (each w here) [
-                  | inl i ↦ inl (in_filtered (λ x. not (x == v)) w unseen (not_from_false (w == v) (ne_eqb w v d)) i)
-                  | inr seen ↦ inr (seen.0, in_left seen.0 ps (pivot v s ∷ []) seen.1, seen.2, seen.3)
-                ]
+                | inr d ↦ grind (arith, in_filtered, not, not_from_false, ne_eqb, in_left)
               ])
               g.is (lead_on ps (pivot v s) (pivot g.router g.spoke) lead (disputed v s is g))
         ]

@@ -1,6 +1,5 @@
 -- Where a script leaves the ranks as they are, each router ranks its paths as they were given.
-use Rattle.std.proofs.Common.{◌≡◌, ℕ, ◌-◌, ◌<◌, Bool, true, false, List, [], ◌∷◌, get_or, refl, ap, sym, ◌∙◌, subst, inl, inr}
-use Rattle.std.specs.List.{All}
+use Rattle.std.proofs.Common.{arith, ◌≡◌, ℕ, ◌-◌, Bool, true, false, List, [], ◌∷◌, get_or, refl, ap, sym, ◌∙◌, inl, inr}
 use Rattle.std.proofs.lemmas.Bool.{cases_Bool, false≢true}
 use Rattle.tw_event.specs.declared.event.Body.{Body}
 use Rattle.tw_event.specs.declared.event.Body.TheVariants.{Start, Fail, Restore, Swap, Forbid, Allow, Update}
@@ -8,13 +7,13 @@ use Rattle.tw_event.specs.declared.event.Event.{Event}
 use Rattle.tw_event.specs.declared.event.PathNo.{PathNo}
 use Rattle.tw_model.specs.declared.case.Scene.{Scene}
 use Rattle.tw_model.specs.declared.case.Scene.TheVariants as scene
-use Rattle.tw_model.specs.Net.{Net, path}
+use Rattle.tw_model.specs.Net.{Net}
 use Rattle.tw_model.specs.State.{opening, slot}
 use Rattle.tw_model.specs.Case.{Case, IsCase, opening_events, scene_events, simulation}
 use Rattle.tw_sim.specs.Simulation.{state}
 use Rattle.tw_sim.proofs.Members.{In, in_enumerate, in_from_all}
 use Rattle.tw_model.proofs.Openings.{opening_of}
-use Rattle.tw_policy.specs.OneList.{Ascends, IsOneList, KeepsRanks, exchanges}
+use Rattle.tw_policy.specs.OneList.{IsOneList, KeepsRanks, exchanges}
 use Rattle.tw_policy.specs.Standing.{script_of, standing}
 use Rattle.tw_policy.proofs.Stand.{Stand, stand, stand_after, stand_more}
 use Rattle.tw_policy.proofs.Standing.{in_script}
@@ -74,7 +73,4 @@ module _ (case : Case) (is : IsCase case) (keeps : KeepsRanks case) where
 
   -- one list of the paths as they were given is one list of the paths as the routers stand
   pub still_one_list : (place : PathNo → ℕ) → IsOneList case.net (opening case.net) place → IsOneList case.net (standing case) place
-  still_one_list place one = record {
-    ranks = λ v. subst (Ascends place) (sym (order_kept v)) (one.ranks v);
-    goes_on = λ v. subst (All (λ q. (r : PathNo) → path case.net q ≡ v ∷ path case.net r → place r < place q)) (sym (order_kept v)) (one.goes_on v);
-  }
+  still_one_list place one = grind (arith, order_kept)

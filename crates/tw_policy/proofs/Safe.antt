@@ -84,11 +84,7 @@ no_wheel_robust net no_wheel =
 -- one list by the ranks as the routers stand is one of every case whose routers come to rank their paths so
 pub list_stands : (case other : Case) → AreAlikeNets case.net other.net → RankAlike case other → (place : PathNo → ℕ) → IsOneList case.net (standing case) place
     → IsOneList other.net (standing other) place
-list_stands case other alike ranks place is = record {
-  ranks = λ v. subst (Ascends place) (ranks v) (is.ranks v);
-  goes_on = λ v. subst (All (λ q. (r : PathNo) → path other.net q ≡ v ∷ path other.net r → place r < place q)) (ranks v)
-      (λ k d within r nodes. is.goes_on v k d within r (path_same case.net other.net alike _ ∙ (nodes ∙ ap (λ p. v ∷ p) (sym (path_same case.net other.net alike r)))));
-}
+list_stands case other alike ranks place is = grind (arith, path_same)
 
 pub no_wheel_ranks : (case other : Case) → IsCase case → IsCase other → AreAlikeNets case.net other.net → RankAlike case other
     → ((one : Pivot) (others : List Pivot) → IsDisputeWheel case.net (standing case) one others → ⊥) → ComesToRest other

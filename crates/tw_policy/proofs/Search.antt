@@ -69,11 +69,7 @@ module _ (net : Net) (states : ℕ → State) where
               ]
 
     within_only : (left : ℕ → List PathNo) (v : ℕ) → ((w : ℕ) → In (ribs w) (left w)) → (w : ℕ) → In (ribs w) (only_at left v (ribs v) w)
-    within_only left v within w =
-        elim (cases_Bool (w == v)) [
-          | inl b ↦ rw b (inl (ap ribs (eqb-true w v b)))
-          | inr b ↦ rw b (within w)
-        ]
+    within_only left v within w = grind arith
 
     found_settled : (left : ℕ → List PathNo) → ((w : ℕ) → In (ribs w) (left w)) → find (has_choice left) routers ≡ None → IsFound (settled net states left)
     found_settled left within none =
@@ -168,16 +164,7 @@ module _ (net : Net) (states : ℕ → State) where
         elim one [ inl e ↦ e | inr none ↦ absurd none ]
 
     untried : (left : ℕ → List PathNo) (v : ℕ) (q : PathNo) → In q (left v) → (x : ℕ → PathNo) → IsWithin (only_at left v q) x → IsWithin left x
-    untried left v q i x is = record {
-      stable = is.stable;
-      there = λ w here. elim (cases_Bool (w == v)) [
-        | inl b ↦ (
-            let one : In (x w) (q ∷ []) = rw b at (is.there w here) in
-            let home : In q (left w) = subst (λ r. In q (left r)) (sym (eqb-true w v b)) i in
-            elim one [ inl e ↦ subst (λ z. In z (left w)) (sym e) home | inr none ↦ absurd none ])
-        | inr b ↦ rw b at (is.there w here)
-      ];
-    }
+    untried left v q i x is = grind arith
 
     within_split : (left : ℕ → List PathNo) (o : Option ℕ) (xs : List (ℕ → PathNo)) → split net states (search net states n) left o ≡ Some xs
         → (x : ℕ → PathNo) → In x xs → IsWithin left x
@@ -185,10 +172,7 @@ module _ (net : Net) (states : ℕ → State) where
     within_split left (Some v) xs h x i = let r = within_each left v (left v) xs h x i in untried left v r.0 r.1 x r.2
 
   within_wider : (left : ℕ → List PathNo) (x : ℕ → PathNo) → IsWithin (narrowed net states left) x → IsWithin left x
-  within_wider left x is = record {
-    stable = is.stable;
-    there = λ v here. (in_filter (is_one_of (if v == 0 then origin_path ∷ [] else remaining net states left v [] (states v).order)) (x v) (left v) (is.there v here)).1;
-  }
+  within_wider left x is = grind (arith, in_filter)
 
   -- what a search finds is stable, and within its lists
   pub found_within : (n : ℕ) (left : ℕ → List PathNo) (xs : List (ℕ → PathNo)) → search net states n left ≡ Some xs → (x : ℕ → PathNo) → In x xs → IsWithin left x
@@ -251,12 +235,7 @@ module _ (net : Net) (states : ℕ → State) where
 
     apart_split : (left : ℕ → List PathNo) → ((w : ℕ) → AreOnce (left w)) → (o : Option ℕ) → find (has_choice left) routers ≡ o → (xs : List (ℕ → PathNo))
         → split net states (search net states n) left o ≡ Some xs → AreApart xs
-    apart_split left once None none xs h =
-        let is : settled net states left ≡ xs = cc in
-        subst AreApart is (elim (cases_Bool (list_all (has_any left) routers && is_stable net states (first_of left))) [
-          | inl b ↦ rw b ((λ y i. absurd i), tt)
-          | inr b ↦ rw b tt
-        ])
+    apart_split left once None none xs h = grind arith
     apart_split left once (Some v) some xs h =
         let r = in_range v 0 net.nodes (in_find (has_choice left) v routers some).1 in
         apart_each left once v (omega arith) (left v) (once v) xs h

@@ -1,12 +1,12 @@
 -- How a router stands, the paths that it uses and heard aside: its ranks, what is barred, which links are up. Only scripted events
 -- change it.
-use Rattle.std.proofs.Common.{◌≡◌, ℕ, ◌+◌, ◌-◌, ◌==◌, Bool, true, false, not, ◌&&◌, ◌||◌, List, [], ◌∷◌, map, filter, get_or, set, refl, ap, sym, ◌∙◌, inl, inr, if◌then◌else◌}
+use Rattle.std.proofs.Common.{arith, ◌≡◌, ℕ, ◌-◌, ◌==◌, Bool, true, false, not, ◌&&◌, ◌||◌, List, [], ◌∷◌, map, filter, get_or, set, refl, ap, sym, ◌∙◌, inl, inr, if◌then◌else◌}
 use Rattle.std.specs.List.{find, list_any, swap, zip}
 use Rattle.std.specs.Option.{unwrap_or}
 use Rattle.std.proofs.Math.ListN.{get_or-map}
 use Rattle.std.proofs.Math.Seq.{map-set_same}
 use Rattle.std.proofs.lemmas.List.{map-set}
-use Rattle.std.proofs.lemmas.Bool.{cases_Bool, false≢true}
+use Rattle.std.proofs.lemmas.Bool.{cases_Bool}
 use Rattle.tw_event.specs.declared.event.Body.{Body}
 use Rattle.tw_event.specs.declared.event.Body.TheVariants.{Start, Fail, Restore, Swap, Forbid, Allow, Update}
 use Rattle.tw_event.specs.declared.event.Event.{Event}
@@ -14,10 +14,10 @@ use Rattle.tw_event.specs.declared.event.PathNo.{PathNo}
 use Rattle.tw_model.specs.declared.net.Hop.{Hop}
 use Rattle.tw_model.specs.declared.state.Row.{Row}
 use Rattle.tw_model.specs.Net.{Net, empty_path, hops_of, origin_path, path, same_path}
-use Rattle.tw_model.specs.State.{State, bars, best, is_barred, no_row, opening, row, slot}
-use Rattle.tw_model.specs.Effect.{accepts, acts, settle, with_bar, with_failed_link, with_heard, with_swap}
+use Rattle.tw_model.specs.State.{State, bars, best, no_row, opening, row, slot}
+use Rattle.tw_model.specs.Effect.{acts, settle, with_failed_link, with_swap}
 use Rattle.tw_model.specs.Case.{Case, IsCase, opening_events, simulation}
-use Rattle.tw_model.specs.Quiet.{is_reached, reaches, stable_path}
+use Rattle.tw_model.specs.Quiet.{reaches, stable_path}
 use Rattle.tw_sim.specs.Simulation.{state}
 use Rattle.tw_sim.proofs.Members.{In, find_agree, in_filter, in_filtered}
 use Rattle.tw_model.proofs.LinkHeard.{Falls, state_home}
@@ -66,58 +66,20 @@ with_ups s us = record { order = s.order; barred = s.barred; ups = us }
 stand_fail : (net : Net) (v t : ℕ) (s : State) (k : ℕ)
     → stand (if (row s k).up then settle net v t (with_failed_link s k) else record { state = s; sends = [] }).state
     ≡ (let z = stand s in if get_or z.ups k true then record z { ups = set z.ups k false } else z)
-stand_fail net v t s k =
-    let at = up_at s k in
-    elim (cases_Bool (row s k).up) [
-      | inl c ↦ rw (at, c) (stand_settle net v t (with_failed_link s k)
-          ∙ ap (with_ups s) (map-set (λ (r : Row). r.up) s.rows k (record (row s k) { up = false; heard = empty_path })))
-      | inr c ↦ rw (at, c) refl
-    ]
+stand_fail net v t s k = grind (arith, up_at, cases_Bool, stand_settle, map-set)
 
 stand_restore : (net : Net) (v : ℕ) (s : State) (w : ℕ) (e : Event)
     → stand (acts net v s e (Restore w)).state ≡ stand_after net v (Restore w) (stand s)
-stand_restore net v s w e =
-    let k = slot net v w in
-    let at = up_at s k in
-    elim (cases_Bool (row s k).up) [
-      | inl c ↦ rw (at, c) refl
-      | inr c ↦ rw (at, c)
-          (ap (with_ups s)
-          (map-set (λ (r : Row). r.up) s.rows k (record (row s k) { up = true; session = (row s k).session + 1 })))
-    ]
+stand_restore net v s w e = grind (arith, up_at, cases_Bool, map-set)
 
 stand_acts : (net : Net) (v : ℕ) (s : State) (e : Event) (b : Body) → stand (acts net v s e b).state ≡ stand_after net v b (stand s)
 stand_acts net v s e Start = stand_settle net v e.time s
 stand_acts net v s e (Fail w) = stand_fail net v e.time s (slot net v w)
 stand_acts net v s e (Restore w) = stand_restore net v s w e
 stand_acts net v s e (Swap i j) = stand_settle net v e.time (with_swap s i j)
-stand_acts net v s e (Forbid k) =
-    elim (cases_Bool (is_barred s k)) [
-      | inl c ↦ rw c refl
-      | inr c ↦ rw c (stand_settle net v e.time (with_bar s k true))
-    ]
-stand_acts net v s e (Allow k) =
-    elim (cases_Bool (is_barred s k)) [
-      | inl c ↦ rw c (stand_settle net v e.time (with_bar s k false))
-      | inr c ↦ rw c refl
-    ]
-stand_acts net v s e (Update q n) =
-    let k = slot net v e.src in
-    elim (cases_Bool (accepts s k n)) [
-      | inl c ↦ rw c (stand_settle net v e.time (with_heard s k q)
-          ∙ ap (with_ups s)
-          (map-set_same (λ (r : Row). r.up) s.rows k (record (row s k) { heard = q }) no_row refl))
-      | inr c ↦ rw c refl
-    ]
-
-unscripted : (net : Net) (v : ℕ) (z : Stand) (b : Body) → is_scripted b ≡ false → stand_after net v b z ≡ z
-unscripted net v z Start h = absurd (false≢true (sym h))
-unscripted net v z (Fail w) h = absurd (false≢true (sym h))
-unscripted net v z (Restore w) h = absurd (false≢true (sym h))
-unscripted net v z (Swap i j) h = absurd (false≢true (sym h))
-unscripted net v z (Forbid k) h = absurd (false≢true (sym h))
-unscripted net v z (Allow k) h = absurd (false≢true (sym h))
-unscripted net v z (Update q n) h = refl
+stand_acts net v s e (Forbid k) = grind arith
+stand_acts net v s e (Allow k) = grind arith
+stand_acts net v s e (Update q n) = grind (arith, cases_Bool, stand_settle, map-set_same)
 
 -- ---- along a history
 
@@ -141,9 +103,7 @@ module _ (case : Case) (is : IsCase case) (v : ℕ) where
       let here = stand_more e h (home e (inl refl)) ∙ ap (stand_after case.net v e.body) more in
       elim (cases_Bool (is_scripted e.body)) [
         | inl b ↦ (let kept : scripted_in (e ∷ h) ≡ e ∷ scripted_in h = rw b refl in here ∙ ap stand_along (sym kept))
-        | inr b ↦ (
-            let dropped : scripted_in (e ∷ h) ≡ scripted_in h = rw b refl in
-            here ∙ (unscripted case.net v (stand_along (scripted_in h)) e.body b ∙ ap stand_along (sym dropped)))
+        | inr b ↦ grind arith
       ]
 
   -- a history that has all of its router's scripted events
@@ -154,9 +114,7 @@ module _ (case : Case) (is : IsCase case) (v : ℕ) where
     pub scripted : (e : Event) → In e h → is_scripted e.body ≡ true → In e (opening_events case.scenes)
 
   scripted_too : (h k : List Event) → IsWhole h → IsWhole k → (e : Event) → In e (scripted_in h) → In e (scripted_in k)
-  scripted_too h k mine others e i =
-      let f = in_filter (λ x. is_scripted x.body) e h i in
-      in_filtered (λ x. is_scripted x.body) e k f.0 (others.opened e (mine.scripted e f.1 f.0) (mine.home e f.1))
+  scripted_too h k mine others e i = grind (arith, in_filter, in_filtered)
 
   -- with all of its scripted events handled, a router stands as it does after every other such history
   pub same_stand : (h k : List Event) → IsWhole h → IsWhole k → stand (state (simulation case) v h) ≡ stand (state (simulation case) v k)
@@ -188,10 +146,7 @@ stable_by net v ribs z = if v == 0 then origin_path else unwrap_or (find (allowe
 
 pub stable_is : (net : Net) (v : ℕ) (ribs : ℕ → PathNo) (s : State) → stable_path net ribs v s ≡ stable_by net v ribs (stand s)
 unfolding stable_by
-stable_is net v ribs s =
-    ap (λ o. if v == 0 then origin_path else unwrap_or o empty_path)
-    (find_agree (is_reached net ribs v s) (allowed net v ribs (stand s))
-    (λ q. ap (λ b. not (bars net v s.barred q) && b) (any_ups net v ribs q (hops_of net v) s.rows)) s.order)
+stable_is net v ribs s = grind (arith, find_agree, not, any_ups)
 
 -- what is best by what the others use depends on how the router stands alone
 pub stable_stand : (net : Net) (v : ℕ) (ribs : ℕ → PathNo) (s z : State) → stand s ≡ stand z → stable_path net ribs v s ≡ stable_path net ribs v z

@@ -55,9 +55,7 @@ module _ (case : Case) (is : IsCase case) where
 
   times_filter : (p : Event → Bool) (e : Event) (xs : List Event) → times (simulation case) e (filter p xs) ≤ times (simulation case) e xs
   times_filter p e [] = omega arith
-  times_filter p e (x ∷ xs) =
-      let more = times_filter p e xs in
-      elim (cases_Bool (p x)) [ inl b ↦ rw b (omega arith) | inr b ↦ rw b (omega arith) ]
+  times_filter p e (x ∷ xs) = grind (arith, cases_Bool, times_filter p e xs)
 
   -- the scripted events of v, in the order given
   abbrev mine : ℕ → List Event

@@ -1,7 +1,7 @@
 -- Where elimination comes to a halt with a choice left, there is a dispute wheel of paths that are left.
 use Rattle.std.proofs.Common.{◌≡◌, ℕ, ◌<◌, ◌==◌, Bool, true, false, not, ◌&&◌, List, [], ◌∷◌, ◌++◌, length, get_or, refl, ap, sym, ◌∙◌, subst, inl, inr, arith, nat_lt}
 use Rattle.std.specs.List.{list_any, range_with_len, zip}
-use Rattle.std.proofs.lemmas.Bool.{cases_Bool, both_ways, and_parts, and_from, eqb-true, eq-eqb, ltb-true, ltb-false, not-true}
+use Rattle.std.proofs.lemmas.Bool.{cases_Bool, both_ways, and_parts, and_from, eq-eqb, ltb-true, ltb-false, not-true}
 use Rattle.tw_event.specs.declared.event.PathNo.{PathNo}
 use Rattle.tw_model.specs.Net.{Net, empty_path, hops_of, path, same_path}
 use Rattle.tw_model.specs.State.{State, bars}
@@ -37,13 +37,7 @@ module _ (net : Net) (states : ℕ → State) (left : ℕ → List PathNo) where
 
   -- what remains stands in the order, or is the empty path
   pub in_order : (v : ℕ) (better order : List PathNo) (s : PathNo) → (s.0 == 0) ≡ false → In s (remaining net states left v better order) → In s order
-  in_order v better [] s some i =
-      elim (cases_Bool (is_covered net states left v better)) [
-        | inl b ↦ absurd (rw b at i)
-        | inr b ↦ (
-            let one : In s (empty_path ∷ []) = rw b at i in
-            elim one [ inl e ↦ absurd (both_ways (s.0 == 0) some (ap (λ z. z.0 == 0) e)) | inr none ↦ absurd none ])
-      ]
+  in_order v better [] s some i = grind arith
   in_order v better (x ∷ order) s some i =
       elim (cases_Bool (test v better x)) [
         | inl b ↦ (
@@ -59,18 +53,10 @@ module _ (net : Net) (states : ℕ → State) (left : ℕ → List PathNo) where
     pub uncovered : is_covered net states left v all ≡ false
 
   is_open : (v : ℕ) (better order : List PathNo) → 0 < length (remaining net states left v better order) → IsOpen v better
-  is_open v better [] some =
-      elim (cases_Bool (is_covered net states left v better)) [
-        | inl b ↦ (let none : 0 < 0 = rw b at some in absurd (omega arith))
-        | inr b ↦ record { all = better; has = λ y i. i; uncovered = b }
-      ]
+  is_open v better [] some = grind arith
   is_open v better (x ∷ order) some =
       elim (cases_Bool (test v better x)) [
-        | inl b ↦ record {
-          all = better;
-          has = λ y i. i;
-          uncovered = not-true (is_covered net states left v better) (and_parts (is_given net states left v x) (not (is_covered net states left v better)) b).1;
-        }
+        | inl b ↦ grind arith
         | inr b ↦ (
             let more = is_open v (better ++ x ∷ []) order (rw b at some) in
             record { all = more.all; has = λ y i. more.has y (in_left y better (x ∷ []) i); uncovered = more.uncovered })
@@ -83,14 +69,7 @@ module _ (net : Net) (states : ℕ → State) (left : ℕ → List PathNo) where
     pub open_after : IsOpen v (q ∷ [])
 
   is_first : (v : ℕ) (better order : List PathNo) (q : PathNo) (others : List PathNo) → remaining net states left v better order ≡ q ∷ others → 0 < length others → IsFirst v order q
-  is_first v better [] q others is some =
-      elim (cases_Bool (is_covered net states left v better)) [
-        | inl b ↦ (let none : [] ≡ q ∷ others = rw b at is in absurd (cc))
-        | inr b ↦ (
-            let one : empty_path ∷ [] ≡ q ∷ others = rw b at is in
-            let none : [] ≡ others = cc in
-            absurd (omega (arith, ap length none)))
-      ]
+  is_first v better [] q others is some = grind arith
   is_first v better (x ∷ order) q others is some =
       elim (cases_Bool (test v better x)) [
         | inl b ↦ (
@@ -104,9 +83,7 @@ module _ (net : Net) (states : ℕ → State) (left : ℕ → List PathNo) where
               open_after = record { all = more.all; has = λ y i. more.has y (in_right y better (x ∷ []) i); uncovered = more.uncovered };
             } in
             subst (IsFirst v (x ∷ order)) same found)
-        | inr b ↦ (
-            let f = is_first v (better ++ x ∷ []) order q others (rw b at is) some in
-            record { there = inr f.there; given = f.given; open_after = f.open_after })
+        | inr b ↦ grind (arith, is_first v (better ++ x ∷ []) order q others (rw b at is) some)
       ]
 
   -- and none that remains stands before it
@@ -117,10 +94,7 @@ module _ (net : Net) (states : ℕ → State) (left : ℕ → List PathNo) where
       elim (cases_Bool (q.0 == x.0)) [
         | inl c ↦ rw c (among s (x ∷ order) (in_order v better (x ∷ order) s some i))
         | inr c ↦ rw c (elim (cases_Bool (test v better x)) [
-          | inl b ↦ (
-              let split : x ∷ remaining net states left v (better ++ x ∷ []) order ≡ q ∷ others = rw b at is in
-              let same : x ≡ q = cc in
-              absurd (both_ways (q.0 == x.0) c (eq-eqb q.0 x.0 (ap (λ z. z.0) (sym same)))))
+          | inl b ↦ grind arith
           | inr b ↦ none_before v (better ++ x ∷ []) order q others s (rw b at is) some (rw b at i)
         ])
       ]
@@ -134,11 +108,7 @@ module _ (net : Net) (states : ℕ → State) (left : ℕ → List PathNo) where
     best_left v = get_or (left v) 0 empty_path
 
     pub not_origin : (v : ℕ) → 1 < length (left v) → (v == 0) ≡ false
-    not_origin v choice =
-        elim (cases_Bool (v == 0)) [
-          | inr b ↦ b
-          | inl b ↦ (let few : length (left v) ≡ 1 = ap (λ z. length (left z)) (eqb-true v 0 b) ∙ ap length (halt 0) in absurd (omega arith))
-        ]
+    not_origin v choice = grind arith
 
     -- a router with a choice, and one of its paths
     pub record IsSpoke (v : ℕ) (s : PathNo) : Type 0 where
@@ -148,12 +118,7 @@ module _ (net : Net) (states : ℕ → State) (left : ℕ → List PathNo) where
       pub some : (s.0 == 0) ≡ false
 
     pub ranked : (v : ℕ) (s : PathNo) → IsSpoke v s → is_no_worse (best_left v) s (states v).order ≡ true
-    ranked v s is =
-        let parts = two_parts (left v) is.choice in
-        let here = halted v (not_origin v is.choice) in
-        let first : best_left v ≡ parts.0 = ap (λ xs. get_or xs 0 empty_path) parts.2 in
-        subst (λ q. is_no_worse q s (states v).order ≡ true) (sym first)
-        (none_before v [] (states v).order parts.0 parts.1 s (sym here ∙ parts.2) is.some (subst (In s) here is.there))
+    ranked v s is = grind (arith, two_parts, halted, not_origin, none_before)
 
     -- a neighbour with a choice that gives a router its best path
     pub record Giver (v : ℕ) : Type 0 where

@@ -20,11 +20,7 @@ any_more : {X : Type 0} (f g : X → Bool) (xs : List X) → ((x : X) → f x �
 any_more f g xs more h = let found = in_from_any f xs h in any_from_in g found.0 xs (more found.0 found.1) found.2
 
 pub none_in : {X : Type 0} (f : X → Bool) (x : X) (xs : List X) → list_any f xs ≡ false → In x xs → f x ≡ false
-none_in f x xs none i =
-    elim (cases_Bool (f x)) [
-      | inr b ↦ b
-      | inl b ↦ absurd (both_ways (list_any f xs) none (any_from_in f x xs b i))
-    ]
+none_in f x xs none i = grind (arith, cases_Bool, both_ways, any_from_in)
 
 -- the paths of an order before this one
 abbrev before : PathNo → List PathNo → List PathNo
@@ -33,12 +29,7 @@ before q (x ∷ xs) = if q.0 == x.0 then [] else x ∷ before q xs
 
 -- what stands before a path of an order in which none stands twice stands before it by this
 in_before : (front : List PathNo) (x : PathNo) (rest : List PathNo) (q : PathNo) → AreOnce (front ++ x ∷ rest) → In q rest → In x (before q (front ++ x ∷ rest))
-in_before [] x rest q once i =
-    let apart = none_in (λ y. x.0 == y.0) q rest once.0 i in
-    elim (cases_Bool (q.0 == x.0)) [
-      | inr b ↦ rw b (inl refl)
-      | inl b ↦ absurd (both_ways (x.0 == q.0) apart (eq-eqb x.0 q.0 (sym (eqb-true q.0 x.0 b))))
-    ]
+in_before [] x rest q once i = grind (arith, none_in, cases_Bool, both_ways, eq-eqb, eqb-true)
 in_before (f ∷ front) x rest q once i =
     let apart = none_in (λ y. f.0 == y.0) q (front ++ x ∷ rest) once.0 (in_right q front (x ∷ rest) (inr i)) in
     elim (cases_Bool (q.0 == f.0)) [
@@ -51,10 +42,7 @@ none_before : (test : PathNo → Bool) (order : List PathNo) (p : PathNo) → fi
 none_before test [] p found = refl
 none_before test (x ∷ order) p found =
     elim (cases_Bool (test x)) [
-      | inl b ↦ (
-          let first : Some x ≡ Some p = rw b at found in
-          let same : p ≡ x = cc in
-          rw (eq-eqb p.0 x.0 (ap (λ z. z.0) same)) refl)
+      | inl b ↦ grind arith
       | inr b ↦ elim (cases_Bool (p.0 == x.0)) [
         | inl c ↦ rw c refl
         | inr c ↦ rw (c, b) (none_before test order p (rw b at found))
@@ -71,10 +59,7 @@ first_no_worse test (x ∷ order) p s found passes i =
     elim (cases_Bool (p.0 == x.0)) [
       | inl c ↦ rw c (among s (x ∷ order) i)
       | inr c ↦ rw c (elim (cases_Bool (test x)) [
-        | inl b ↦ (
-            let first : Some x ≡ Some p = rw b at found in
-            let same : p ≡ x = cc in
-            absurd (both_ways (p.0 == x.0) c (eq-eqb p.0 x.0 (ap (λ z. z.0) same))))
+        | inl b ↦ grind arith
         | inr b ↦ elim i [
           | inl e ↦ absurd (both_ways (test x) b (subst (λ z. test z ≡ true) e passes))
           | inr k ↦ first_no_worse test order p s (rw b at found) passes k
@@ -90,29 +75,7 @@ count test (x ∷ xs) = (if test x then 1 else 0) + count test xs
 fewer_or_same : (less more : PathNo → Bool) → ((x : PathNo) → less x ≡ true → more x ≡ true) → (xs : List PathNo)
     → (count less xs < count more xs) ⊎ ((count less xs ≤ count more xs) × ((x : PathNo) → In x xs → more x ≡ true → less x ≡ true))
 fewer_or_same less more too [] = inr (omega arith, λ x i. absurd i)
-fewer_or_same less more too (x ∷ xs) =
-    elim (fewer_or_same less more too xs) [
-      | inl fewer ↦ elim (cases_Bool (less x)) [
-        | inl b ↦ rw (b, too x b) (inl (omega arith))
-        | inr b ↦ elim (cases_Bool (more x)) [ inl c ↦ rw (b, c) (inl (omega arith)) | inr c ↦ rw (b, c) (inl (omega arith)) ]
-      ]
-      | inr same ↦ (
-          let few = same.0 in
-          elim (cases_Bool (less x)) [
-            | inl b ↦ rw (b, too x b) (inr (omega arith, here b same.1))
-            | inr b ↦ elim (cases_Bool (more x)) [
-              | inl c ↦ rw (b, c) (inl (omega arith))
-              | inr c ↦ rw (b, c) (inr (omega arith, there c same.1))
-            ]
-          ])
-    ] where
-      here : less x ≡ true → ((y : PathNo) → In y xs → more y ≡ true → less y ≡ true) → (y : PathNo) → In y (x ∷ xs) → more y ≡ true → less y ≡ true
-      here b others y (inl e) h = subst (λ z. less z ≡ true) (sym e) b
-      here b others y (inr k) h = others y k h
-
-      there : more x ≡ false → ((y : PathNo) → In y xs → more y ≡ true → less y ≡ true) → (y : PathNo) → In y (x ∷ xs) → more y ≡ true → less y ≡ true
-      there c others y (inl e) h = absurd (both_ways (more x) c (subst (λ z. more z ≡ true) e h))
-      there c others y (inr k) h = others y k h
+fewer_or_same less more too (x ∷ xs) = grind (arith, cases_Bool, both_ways, fewer_or_same less more too xs)
 
 -- ---- paths that can't be placed yet
 
@@ -244,25 +207,15 @@ module _ (net : Net) (states : ℕ → State) (own : (v : ℕ) (q : PathNo) → 
 
     waited_few : (k : ℕ) (q : PathNo) → waited k q ≤ k
     waited_few zero q = omega arith
-    waited_few (suc k) q =
-        let more = waited_few k q in
-        elim (cases_Bool (waits k q)) [ inl b ↦ rw b (omega arith) | inr b ↦ rw b (omega arith) ]
+    waited_few (suc k) q = grind (arith, cases_Bool, waited_few k q)
 
     waited_longer : (p q : PathNo) → ((k : ℕ) → waits k p ≡ true → waits (suc k) q ≡ true) → (k : ℕ) → 1 + waited k p ≤ waited (suc k) q
     waited_longer p q holds zero = omega arith
-    waited_longer p q holds (suc k) =
-        let more = waited_longer p q holds k in
-        elim (cases_Bool (waits k p)) [
-          | inl b ↦ (let too = holds k b in rw (b, too) (omega arith))
-          | inr b ↦ elim (cases_Bool (waits (suc k) q)) [ inl c ↦ rw (b, c) (omega arith) | inr c ↦ rw (b, c) (omega arith) ]
-        ]
+    waited_longer p q holds (suc k) = grind (arith, cases_Bool, waited_longer p q holds k)
 
     -- a path that another one waits for is placed before it
     placed : (v w : ℕ) (p q : PathNo) → In p (states v).order → In q (states w).order → ((k : ℕ) → waits k p ≡ true → waits (suc k) q ≡ true) → place_of p < place_of q
-    placed v w p q i j holds =
-        let longer : 1 + waited n p ≤ waited (suc n) q = waited_longer p q holds n in
-        let last : waited (suc n) p ≡ waited n p = rw (free v p i) (omega arith) in
-        rw (ranked_at v p i, ranked_at w q j) (omega arith)
+    placed v w p q i j holds = grind (arith, waited_longer, ranked_at)
 
     place_positive : (w : ℕ) (q : PathNo) → In q (states w).order → 0 < place_of q
     place_positive w q j = rw (ranked_at w q j) (positive n) where
@@ -287,10 +240,7 @@ module _ (net : Net) (states : ℕ → State) (own : (v : ℕ) (q : PathNo) → 
     goes_on : (v : ℕ) (q : PathNo) → In q (states v).order → (r : PathNo) → path net q ≡ v ∷ path net r → place_of r < place_of q
     goes_on v q i r nodes =
         elim (cases_Bool (is_ranked r)) [
-          | inr b ↦ (
-              let none : place_of r ≡ 0 = rw b refl in
-              let some = place_positive v q i in
-              omega arith)
+          | inr b ↦ grind (arith, place_positive)
           | inl b ↦ (
               let there = among_in r (ranks r) b in
               let with_it : goes_with q r ≡ true
@@ -308,9 +258,7 @@ module _ (net : Net) (states : ℕ → State) (own : (v : ℕ) (q : PathNo) → 
     }
 
     place_few : (q : PathNo) → place_of q < suc (suc n)
-    place_few q =
-        let few = waited_few (suc n) q in
-        elim (cases_Bool (is_ranked q)) [ inl b ↦ rw b (omega arith) | inr b ↦ rw b (omega arith) ]
+    place_few q = grind (arith, waited_few, cases_Bool)
 
   -- without a dispute wheel all paths stand in one list
   pub one_list : ((one : Pivot) (others : List Pivot) → IsDisputeWheel net states one others → ⊥)
