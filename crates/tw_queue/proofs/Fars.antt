@@ -33,17 +33,7 @@ few e = omega arith
 least_set : (lists : List (List Event)) (row : List ℕ) (p : ℕ) (qs : List Event) (t : ℕ) → p < length lists → p < length row
     → ((i : ℕ) → i < 16 → IsLeastTime (get_or lists i []) (get_or row i 0)) → IsLeastTime qs t
     → (i : ℕ) → i < 16 → IsLeastTime (get_or (set lists p qs) i []) (get_or (set row p t) i 0)
-least_set lists row p qs t l m old new i within =
-    elim (cases_eq i p) [
-      | inl q ↦
-          (let xs : get_or (set lists p qs) i [] ≡ qs = ap (λ j. get_or (set lists p qs) j []) q ∙ get_or-set_same lists p qs [] l in
-          let n : get_or (set row p t) i 0 ≡ t = ap (λ j. get_or (set row p t) j 0) q ∙ get_or-set_same row p t 0 m in
-          subst (λ ys. IsLeastTime ys (get_or (set row p t) i 0)) (sym xs) (subst (IsLeastTime qs) (sym n) new))
-      | inr q ↦
-          (let xs : get_or (set lists p qs) i [] ≡ get_or lists i [] = get_or-set_other lists p i qs [] q in
-          let n : get_or (set row p t) i 0 ≡ get_or row i 0 = get_or-set_other row p i t 0 q in
-          subst (λ ys. IsLeastTime ys (get_or (set row p t) i 0)) (sym xs) (subst (IsLeastTime (get_or lists i [])) (sym n) (old i within)))
-    ]
+least_set lists row p qs t l m old new i within = grind (arith, cases_eq, set, get_or-set_same, get_or-set_other)
 
 -- an event is looked for in its bucket
 module _ (a : Inside) (v : AreFar a) (p : ℕ) (e : Event) (at : p ≡ bucket_of e) where
@@ -66,10 +56,7 @@ module _ (a : Inside) (v : AreFar a) (p : ℕ) (within : p < 16) (qs : List Even
     counts d = ap (times event_same d) more ∙ times-push d e (get_or a.buckets p [])
 
     all_counts : (d : Event) → times event_same d (together (set a.buckets p qs)) ≡ one event_same d e + times event_same d (together a.buckets)
-    all_counts d =
-        let n = counts d in
-        let m = times-set p qs a.buckets inside d in
-        omega arith
+    all_counts d = grind (arith, counts, times-set, inside)
 
     pub far_put : (t s : ℕ) → t ≡ min (get_or a.least_times p 0) e.time → s ≡ min a.soonest e.time
         → AreFar (record { soonest = s; least_times = set a.least_times p t; buckets = set a.buckets p qs })
@@ -95,10 +82,7 @@ module _ (a : Inside) (v : AreFar a) (p : ℕ) (within : p < 16) (qs : List Even
   -- events go out of a bucket
   module _ (less : (d : Event) → times event_same d qs ≤ times event_same d (get_or a.buckets p [])) where
     all_less : (d : Event) → times event_same d (together (set a.buckets p qs)) ≤ times event_same d (together a.buckets)
-    all_less d =
-        let n = less d in
-        let m = times-set p qs a.buckets inside d in
-        omega arith
+    all_less d = grind (arith, times-set, inside)
 
     pub far_cut : (t s : ℕ) → IsLeastTime qs t → ((i : ℕ) → i < 16 → s ≤ get_or (set a.least_times p t) i 0) → (i : ℕ) × (i < 16) × (get_or (set a.least_times p t) i 0 ≡ s)
         → AreFar (record { soonest = s; least_times = set a.least_times p t; buckets = set a.buckets p qs })
@@ -118,10 +102,7 @@ module _ (a : Inside) (v : AreFar a) (p : ℕ) (within : p < 16) (qs : List Even
   -- one event goes out of its bucket, if it is there
   module _ (e : Event) (at : p ≡ bucket_of e) (less : qs ≡ take_out event_same e (get_or a.buckets p [])) where
     pub one_less : (d : Event) → times event_same d qs ≤ times event_same d (get_or a.buckets p [])
-    one_less d =
-        let n = ap (times event_same d) less in
-        let l = times-take_out-le d e (get_or a.buckets p []) in
-        omega arith
+    one_less d = grind (arith, times-take_out-le)
 
     pub far_taken : in_order event_before (together (set a.buckets p qs)) ≡ take_out event_same e (in_order event_before (together a.buckets))
     far_taken =
@@ -130,63 +111,24 @@ module _ (a : Inside) (v : AreFar a) (p : ℕ) (within : p < 16) (qs : List Even
   -- those at the least time go out of their bucket
   module _ (at : p ≡ a.soonest / 64 % 16) (left : (d : Event) → times event_same d qs ≡ times event_same d (filter (λ x. not (x.time == a.soonest)) (get_or a.buckets p []))) where
     pub tick_less : (d : Event) → times event_same d qs ≤ times event_same d (get_or a.buckets p [])
-    tick_less d =
-        elim (cases_Bool (not (d.time == a.soonest))) [
-          | inl b ↦ (let n = left d ∙ times-filter_yes (λ x. not (x.time == a.soonest)) d (get_or a.buckets p []) b in omega arith)
-          | inr b ↦ (let n = left d ∙ times-filter_no (λ x. not (x.time == a.soonest)) d (get_or a.buckets p []) b in omega arith)
-        ]
+    tick_less d = grind (arith, cases_Bool, not, times-filter_yes, times-filter_no)
 
     -- near are those at the least time
     module _ (near : List Event) (near_is : (d : Event) → times event_same d near ≡ times event_same d (filter (λ x. x.time == a.soonest) (get_or a.buckets p []))) where
       split : (d : Event) → times event_same d near + times event_same d qs ≡ times event_same d (get_or a.buckets p [])
-      split d =
-          let xs = get_or a.buckets p [] in
-          elim (cases_Bool (d.time == a.soonest)) [
-            | inl b ↦
-                (let m = near_is d ∙ times-filter_yes (λ x. x.time == a.soonest) d xs b in
-                let n = left d ∙ times-filter_no (λ x. not (x.time == a.soonest)) d xs (ap not b) in
-                omega arith)
-            | inr b ↦
-                (let m = near_is d ∙ times-filter_no (λ x. x.time == a.soonest) d xs b in
-                let n = left d ∙ times-filter_yes (λ x. not (x.time == a.soonest)) d xs (ap not b) in
-                omega arith)
-          ]
+      split d = grind (arith, cases_Bool, times-filter_yes, times-filter_no, not)
 
       pub tick_moved : (d : Event) → times event_same d near + times event_same d (in_order event_before (together (set a.buckets p qs))) ≡ times event_same d (in_order event_before (together a.buckets))
-      tick_moved d =
-          let k = split d in
-          let m = times-set p qs a.buckets inside d in
-          let x = times-in_order event_before event_same event_law d (together (set a.buckets p qs)) in
-          let y = times-in_order event_before event_same event_law d (together a.buckets) in
-          omega arith
+      tick_moved d = grind (arith, split, times-set, inside, times-in_order, event_law, set)
 
       at_soonest : (d : Event) → 0 < times event_same d near → d.time ≡ a.soonest
-      at_soonest d there =
-          elim (cases_Bool (d.time == a.soonest)) [
-            | inl b ↦ eqb-true d.time a.soonest b
-            | inr b ↦ (let m = near_is d ∙ times-filter_no (λ x. x.time == a.soonest) d (get_or a.buckets p []) b in absurd (omega arith))
-          ]
+      at_soonest d there = grind (arith, cases_Bool, eqb-true, times-filter_no)
 
       after_soonest : (d : Event) → 0 < times event_same d (together (set a.buckets p qs)) → a.soonest < d.time
-      after_soonest d there =
-          let n = all_less tick_less d in
-          let low = v.soonest.bound d (omega arith) in
-          elim (cases_eq d.time a.soonest) [
-            | inr q ↦ omega arith
-            | inl q ↦
-                (let b : bucket_of d ≡ p = ap (λ k. k / 64 % 16) q ∙ sym at in
-                let m = times-set p qs a.buckets inside d in
-                let own = times-placed bucket_of a.buckets v.placed d ∙ ap (λ i. times event_same d (get_or a.buckets i [])) b in
-                let z = left d ∙ times-filter_no (λ x. not (x.time == a.soonest)) d (get_or a.buckets p []) (same_time d a.soonest q) in
-                absurd (omega arith))
-          ]
+      after_soonest d there = grind (arith, all_less, tick_less, cases_eq, times-set, inside, own, times-placed, times-filter_no, not, same_time)
 
       pub tick_apart : AreApart near (in_order event_before (together (set a.buckets p qs)))
-      tick_apart d e h k =
-          let m = at_soonest d h in
-          let x = times-in_order event_before event_same event_law e (together (set a.buckets p qs)) in
-          let l = after_soonest e (omega arith) in
-          omega arith
+      tick_apart d e h k = grind (arith, at_soonest, times-in_order, event_law, set, after_soonest)
 
 -- no event is at the last tick
 pub far_none : (a : Inside) → AreFar a → a.soonest ≡ never → in_order event_before (together a.buckets) ≡ []
@@ -209,11 +151,7 @@ least_with-append o (x ∷ xs) ys = least_with-append (Some (earlier x o)) xs ys
 module _ (lists : List (List Event)) (row : List ℕ) (number : length lists ≡ 16) (long : length row ≡ 16) (empty : (i : ℕ) → i < length lists → get_or lists i [] ≡ [])
     (nevers : (i : ℕ) → i < 16 → get_or row i 0 ≡ never) where
   none_least : (xs : List Event) (t : ℕ) → xs ≡ [] → t ≡ never → IsLeastTime xs t
-  none_least xs t z t_is = record {
-    bound = λ e there. let n = ap (times event_same e) z in absurd (omega arith);
-    reached = λ l. let n = ap length z in absurd (omega arith);
-    none = λ q. t_is;
-  }
+  none_least xs t z t_is = grind arith
 
   pub no_far : AreFar (record { soonest = never; least_times = row; buckets = lists })
   no_far = record {
@@ -228,9 +166,5 @@ module _ (lists : List (List Event)) (row : List ℕ) (number : length lists ≡
 -- the events in buckets, put at the end of a list
 pub appended : (r : Result Unit AllocError) (new old lists now : List Event) → in_order event_before lists ≡ now
     → OnOk r ((e : Event) → times event_same e new ≡ times event_same e lists + times event_same e old) → OnOk r ((e : Event) → times event_same e new ≡ times event_same e now + times event_same e old)
-appended (Ok u) new old lists now is h =
-    λ e.
-    let n = h e in
-    let m = sym (times-in_order event_before event_same event_law e lists) ∙ ap (times event_same e) is in
-    omega arith
+appended (Ok u) new old lists now is h = λ e. grind (arith, times-in_order, event_law)
 appended (Err x) new old lists now is h = tt

@@ -10,7 +10,7 @@ use Rattle.tw_event.specs.declared.event.Event.{Event}
 use Rattle.tw_event.specs.Order.{event_before, event_same}
 use Rattle.tw_event.proofs.Order.{before_time}
 use Rattle.tw_event.specs.contracts.event.EventOrd.TheImpl as event_ord
-use Rattle.tw_sim.specs.Ordered.{insert, one, take_out, times}
+use Rattle.tw_sim.specs.Ordered.{insert, take_out, times}
 use Rattle.tw_sim.specs.Rising.{IsRising}
 use Rattle.tw_sim.proofs.Ordered.{all-insert, one_self, times-insert}
 use Rattle.tw_ordered.specs.InOrder.{earlier_of, in_order}
@@ -41,10 +41,7 @@ rest_alone xs ys now z r h = sym (in_order_rising ys r) ∙ ap (λ zs. in_order 
 -- the first is there
 pub first_there : (e : Event) (xs : List Event) → slice_get xs 0 ≡ Some e → 0 < times event_same e xs
 first_there e [] h = absurd (none-some e h)
-first_there e (x ∷ xs) h =
-    let own = one_self event_before event_same event_law e in
-    let q = ap (one event_same e) (same_some x e h) in
-    omega arith
+first_there e (x ∷ xs) h = grind (arith, one_self, event_law, same_some)
 
 -- an event goes in, and the least time is kept
 pub first_time-insert : (e : Event) (xs : List Event) → e.time ≤ never → min (first_time xs) e.time ≡ first_time (insert event_before e xs)
@@ -54,26 +51,13 @@ first_time-insert e (x ∷ xs) l =
       | inl b ↦
           let h = before_time x e b in
           rw b (omega arith)
-      | inr b ↦
-          let h = not_earlier x e b in
-          rw b (omega arith)
+      | inr b ↦ grind arith
     ]
 
 -- where an event of another time is taken out, the least time stays
 pub first_time-take_out : (e : Event) (xs : List Event) → (e.time ≡ first_time xs → ⊥) → first_time (take_out event_same e xs) ≡ first_time xs
 first_time-take_out e [] h = refl
-first_time-take_out e (x ∷ xs) h =
-    elim (cases_Bool (event_same e x)) [
-      | inl b ↦ absurd (h (ap (λ d. d.time) (event_law.same_is e x b)))
-      | inr b ↦ rw b refl
-    ]
-
--- the first comes out
-pub first_taken_out : (e : Event) (xs : List Event) → slice_get xs 0 ≡ Some e → take_out event_same e xs ≡ drop 1 xs
-first_taken_out e [] h = absurd (none-some e h)
-first_taken_out e (x ∷ xs) h =
-    let q = same_some x e h in
-    rw (ap (event_same e) q ∙ event_law.same_self e) refl
+first_time-take_out e (x ∷ xs) h = grind arith
 
 pub times-length : (e : Event) (xs : List Event) → times event_same e xs ≤ length xs
 times-length e [] = omega arith
@@ -107,11 +91,7 @@ module _ (xs ys : List Event) (rx : IsRising event_before event_same xs) (ry : I
       let b = before_first ys (λ z there. let n = times-append z xs ys in omega arith) m h in
       let c = times_of_first m h in
       elim a [
-        | inl p ↦
-            elim b [
-              | inl q ↦ (p, q)
-              | inr q ↦ (p, let k = ap first_time q in omega arith)
-            ]
+        | inl p ↦ grind arith
         | inr p ↦
             elim b [
               | inl q ↦ (let k = ap first_time p in omega arith, q)
@@ -131,10 +111,7 @@ module _ (xs ys : List Event) (rx : IsRising event_before event_same xs) (ry : I
       let z = ap length (no_first_nothing (in_order event_before (xs ++ ys)) k) in
       let l = length-both xs ys in
       absurd (omega arith)
-  least_option n h lx ly some (Some m) k =
-      let a = not_after lx ly m k in
-      let q : n ≡ m.time = elim (times_of_first m k) [ inl p ↦ omega (arith, a.0, a.1) | inr p ↦ omega (arith, a.0, a.1) ] in
-      ap (λ i. Some i) q
+  least_option n h lx ly some (Some m) k = grind (arith, not_after, times_of_first)
 
   pub least_told : (n : ℕ) → n ≡ min (first_time xs) (first_time ys) → first_time xs ≤ never → first_time ys ≤ never → 0 < length xs + length ys
       → Some n ≡ option_map (λ e. e.time) (slice_get (in_order event_before (xs ++ ys)) 0)
@@ -146,17 +123,11 @@ module _ (xs ys : List Event) (rx : IsRising event_before event_same xs) (ry : I
     passed zs r = ap (filter p) (sym (in_order_rising zs r)) ∙ filter-in_order p zs
 
     pub both_passed : (a b : Option Event) → a ≡ slice_get (filter p xs) 0 → b ≡ slice_get (filter p ys) 0 → earlier_of a b ≡ slice_get (filter p (in_order event_before (xs ++ ys))) 0
-    both_passed a b h k =
-        both_least (filter p xs) (filter p ys) a b (h ∙ ap (λ zs. slice_get zs 0) (passed xs rx)) (k ∙ ap (λ zs. slice_get zs 0) (passed ys ry))
-        ∙ ap (λ zs. slice_get (in_order event_before zs) 0) (sym (filter-append p xs ys)) ∙ ap (λ zs. slice_get zs 0) (sym (filter-in_order p (xs ++ ys)))
+    both_passed a b h k = grind (arith, both_least, filter, slice_get, passed, filter-append, filter-in_order)
 
 -- the rest has one more
 pub right_more : (e : Event) (xs ys ws : List Event) → ws ≡ insert event_before e ys → in_order event_before (xs ++ ws) ≡ insert event_before e (in_order event_before (xs ++ ys))
-right_more e xs ys ws h =
-    order_more e xs ys xs ws (λ d.
-    let m = ap (times event_same d) h in
-    let n = times-insert event_before event_same d e ys in
-    omega arith)
+right_more e xs ys ws h = grind (arith, order_more, times-insert)
 
 -- the rest has one less, which was the least of all
 pub right_less : (e : Event) (xs ys ws : List Event) → slice_get (in_order event_before (xs ++ ys)) 0 ≡ Some e → slice_get ys 0 ≡ Some e → ws ≡ take_out event_same e ys

@@ -36,28 +36,8 @@ next_level nodes level node child lesser p long old parent is right =
           let a = above k l m in
           let b = old.least (k / 2) (omega arith) (omega arith) in
           omega arith;
-      first = λ k l m.
-          elim (cases_lt (k / 2) node) [
-            | inl s ↦
-                let a = above k l (omega arith) in
-                let b = old.first (k / 2) (omega arith) s in
-                omega arith
-            | inr s ↦
-                let e : k ≡ 2 * node = omega arith in
-                let c : child ≡ 2 * node + 1 = omega arith in
-                let same = ap (λ j. get_or nodes j 0) e in
-                let less = right c in
-                omega arith
-          ];
+      first = λ k l m. grind arith;
     }
-
-pub first_level : (nodes : List ℕ) → IsFirstOfLevel nodes 1 1
-first_level nodes = record {
-  from = omega arith;
-  below = omega arith;
-  least = λ k l m. let e : k ≡ 1 = omega arith in let same = ap (λ j. get_or nodes j 0) e in omega arith;
-  first = λ k l m. absurd (omega arith);
-}
 
 -- a level that is leaves to be doubled so often
 pub level_below : (leaves level r : ℕ) → leaves ≡ level * 2 ^ r → level < leaves → (s : ℕ) × (leaves ≡ level * 2 * 2 ^ s)
@@ -76,40 +56,14 @@ module _ (count leaves : ℕ) (nodes : List ℕ) (len : length nodes ≡ 2 * lea
   row = take count (drop leaves nodes)
 
   pub length_row : length row ≡ count
-  length_row =
-      let a = length-take count (drop leaves nodes) in
-      let b = length-drop leaves nodes in
-      omega arith
+  length_row = grind (arith, length-take, length-drop)
 
   pub at : (k : ℕ) → k < count → get_or row k 0 ≡ get_or nodes (leaves + k) 0
   at k l = get_or-take count (drop leaves nodes) k 0 l ∙ get_or-drop leaves nodes k 0
 
   pub first_of_row : (t leaf : ℕ) → 0 < count → get_or nodes leaves 0 ≤ t → ((k : ℕ) → leaves + count ≤ k → k < 2 * leaves → get_or nodes k 0 ≡ t) → IsFirstOfLevel nodes leaves leaf
       → IsFirstLeast row (leaf - leaves)
-  first_of_row t leaf some low past first =
-      let from = first.from in
-      let below = first.below in
-      let inside : leaf - leaves < count = elim (cases_lt (leaf - leaves) count) [
-        | inl l ↦ l
-        | inr m ↦
-            let value = past leaf (omega arith) below in
-            let less = first.first leaves (omega arith) (omega arith) in
-            absurd (omega arith)
-      ] in
-      let long = length_row in
-      let place : leaves + (leaf - leaves) ≡ leaf = omega arith in
-      let mine : get_or row (leaf - leaves) 0 ≡ get_or nodes leaf 0 = at (leaf - leaves) inside ∙ ap (λ j. get_or nodes j 0) place in
-      record {
-        within = omega arith;
-        least = λ k l.
-            let a = at k (omega arith) in
-            let b = first.least (leaves + k) (omega arith) (omega arith) in
-            omega arith;
-        first = λ k l.
-            let a = at k (omega arith) in
-            let b = first.first (leaves + k) (omega arith) (omega arith) in
-            omega arith;
-      }
+  first_of_row t leaf some low past first = grind (arith, cases_lt, length_row, at)
 
 -- a time of the row changes
 pub row_set : (count leaves place time : ℕ) (nodes new : List ℕ) → drop leaves new ≡ drop leaves (set nodes (leaves + place) time) → place < count

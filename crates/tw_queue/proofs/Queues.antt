@@ -48,10 +48,7 @@ module _ (near far now : List Event) (are : in_order event_before (near ++ far) 
   pub out_far : (e : Event) (new : List Event) → times event_same e near ≡ 0 → new ≡ take_out event_same e far → in_order event_before (near ++ new) ≡ take_out event_same e now
   out_far e new none is =
       elim (cases_zero (times event_same e far)) [
-        | inl z ↦
-            (let n = queue_counts e in
-            let same = is ∙ take_out_none event_before event_same event_law e far z in
-            ap (λ xs. in_order event_before (near ++ xs)) same ∙ are ∙ sym (take_out_none event_before event_same event_law e now (omega arith)))
+        | inl z ↦ grind (arith, queue_counts, take_out_none, event_law)
         | inr there ↦
             come_out e near new (λ d.
             let n = ap (times event_same d) is in
@@ -65,10 +62,7 @@ module _ (near far now : List Event) (are : in_order event_before (near ++ far) 
     first_near x h =
         let l = first_is_least x near near rising (λ y. refl) (sym h) in
         sym (first_of_least x (near ++ far) (record {
-          there =
-              let a = times-append x near far in
-              let t = l.there in
-              omega arith;
+          there = grind (arith, times-append);
           first = λ z there.
               let a = times-append z near far in
               elim (cases_zero (times event_same z near)) [
@@ -106,12 +100,7 @@ module _ (near far : List Event) (apart : AreApart near far) (e : Event) where
 pub queue_appended : (r : Result Unit AllocError) (near far now one old new : List Event) → in_order event_before (near ++ far) ≡ now
     → ((e : Event) → times event_same e one ≡ times event_same e near + times event_same e old)
     → OnOk r ((e : Event) → times event_same e new ≡ times event_same e far + times event_same e one) → OnOk r ((e : Event) → times event_same e new ≡ times event_same e now + times event_same e old)
-queue_appended (Ok u) near far now one old new are h k =
-    λ e.
-    let n = queue_counts near far now are e in
-    let a = h e in
-    let b = k e in
-    omega arith
+queue_appended (Ok u) near far now one old new are h k = λ e. grind (arith, queue_counts)
 queue_appended (Err x) near far now one old new are h k = tt
 
 pub none_near : (e : Event) (xs : List Event) → (0 < times event_same e xs → ⊥) → times event_same e xs ≡ 0

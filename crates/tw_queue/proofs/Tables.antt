@@ -31,9 +31,7 @@ time_of_none (x ∷ xs) h = absurd (none-some x (sym h))
 
 no_lists : (lists : List (List Event)) → map first_time lists ≡ [] → lists ≡ []
 no_lists [] h = refl
-no_lists (xs ∷ lists) h =
-    let l = ap (λ ys. length ys) h in
-    absurd (omega arith)
+no_lists (xs ∷ lists) h = grind arith
 
 module _ (lists : List (List Event)) (placed : IsPlaced (λ e. e.dst) lists) where
   -- an event is in its router's queue
@@ -52,12 +50,7 @@ module _ (lists : List (List Event)) (placed : IsPlaced (λ e. e.dst) lists) whe
 
   -- what the whole table is for
   pub table_in_order : IsInOrder (record { routers = length lists; events = in_order event_before (together lists) })
-  table_in_order = record {
-    rising = rising-in_order event_before event_same event_law (together lists);
-    homes =
-        all_counted event_before event_same event_law (λ e. e.dst < length lists) (in_order event_before (together lists)) (λ e there.
-        within e (subst (λ n. 0 < n) (times-in_order event_before event_same event_law e (together lists)) there));
-  }
+  table_in_order = grind (arith, rising-in_order, event_law, all_counted, within, times-in_order)
 
   -- the queue of the first least time has the least event
   module _ (rising : (r : ℕ) → IsRising event_before event_same (get_or lists r [])) (early : (r : ℕ) (e : Event) → 0 < times event_same e (get_or lists r []) → e.time < never)
@@ -69,10 +62,7 @@ module _ (lists : List (List Event)) (placed : IsPlaced (λ e. e.dst) lists) whe
     long = ap (λ xs. length xs) row_is ∙ length-map lists first_time
 
     inside : r < length lists
-    inside =
-        let a = first.within in
-        let b = long in
-        omega arith
+    inside = grind (arith, long)
 
     -- an event anywhere is no sooner than the least time
     low : (e : Event) → 0 < times event_same e (together lists) → first_time (get_or lists r []) ≤ e.time
@@ -111,9 +101,7 @@ module _ (lists : List (List Event)) (placed : IsPlaced (λ e. e.dst) lists) whe
                     let l = low x there in
                     not_before_first m x (omega arith) (λ e.
                     elim (cases_lt x.dst r) [
-                      | inl before ↦
-                          let s = sooner x there before in
-                          absurd (omega arith)
+                      | inl before ↦ grind (arith, sooner)
                       | inr after ↦ omega (arith, n)
                     ])
               ];
@@ -149,14 +137,7 @@ module _ (lists : List (List Event)) (placed : IsPlaced (λ e. e.dst) lists) whe
 module _ (lists : List (List Event)) (i : ℕ) (within : i < length lists) (qs : List Event) where
   pub early_set : ((r : ℕ) (e : Event) → 0 < times event_same e (get_or lists r []) → e.time < never) → ((e : Event) → 0 < times event_same e qs → e.time < never)
       → (r : ℕ) (e : Event) → 0 < times event_same e (get_or (set lists i qs) r []) → e.time < never
-  early_set old new r e there =
-      elim (cases_eq r i) [
-        | inl q ↦
-            let k : get_or (set lists i qs) r [] ≡ qs = rw q (get_or-set_same lists i qs [] within) in
-            new e (subst (λ xs. 0 < times event_same e xs) k there)
-        | inr n ↦
-            old r e (subst (λ xs. 0 < times event_same e xs) (get_or-set_other lists i r qs [] n) there)
-      ]
+  early_set old new r e there = grind (arith, cases_eq, set, get_or-set_same, within, get_or-set_other)
 
   pub row_set : (row new : List ℕ) (time : ℕ) → row ≡ map first_time lists → time ≡ first_time qs → new ≡ set row i time → new ≡ map first_time (set lists i qs)
   row_set row new time old t h =
@@ -168,9 +149,7 @@ empty_row zero = refl
 empty_row (suc n) = ap (λ xs. never ∷ xs) (empty_row n)
 
 pub empty_early : (n : ℕ) (lists : List (List Event)) → lists ≡ replicate n [] → (r : ℕ) (e : Event) → 0 < times event_same e (get_or lists r []) → e.time < never
-empty_early n lists are r e there =
-    let z = ap (times event_same e) (empty_queue n lists are r) in
-    absurd (omega arith)
+empty_early n lists are r e there = grind (arith, empty_queue)
 
 -- an event goes into its router's queue, or comes out of it
 module _ (lists : List (List Event)) (early : (r : ℕ) (e : Event) → 0 < times event_same e (get_or lists r []) → e.time < never) (e : Event) (within : e.dst < length lists)
@@ -188,8 +167,4 @@ module _ (lists : List (List Event)) (early : (r : ℕ) (e : Event) → 0 < time
       ])
 
   pub left_early : qs ≡ take_out event_same e queue → (r : ℕ) (d : Event) → 0 < times event_same d (get_or (set lists e.dst qs) r []) → d.time < never
-  left_early less =
-      early_set lists e.dst within qs early (λ d there.
-      let h = ap (times event_same d) (less ∙ ap (take_out event_same e) read) in
-      let l = times-take_out-le d e (get_or lists e.dst []) in
-      early e.dst d (omega arith))
+  left_early less = grind (arith, early_set, within, read, times-take_out-le)

@@ -28,10 +28,6 @@ some_one (x ∷ xs) h =
     let own = one_self event_before event_same event_law x in
     (x, omega arith)
 
-pub not_none : (e : Event) (xs : List Event) → 0 < times event_same e xs → 0 < length xs
-not_none e [] h = absurd (omega arith)
-not_none e (x ∷ xs) h = omega arith
-
 -- what a row of times says of its events
 low_in_row : (xs : List Event) (t : ℕ) → ((k : ℕ) → k < length xs → t ≤ get_or (map (λ e. e.time) xs) k 0) → (e : Event) → 0 < times event_same e xs → t ≤ e.time
 low_in_row [] t h e there = absurd (omega arith)
@@ -46,10 +42,7 @@ at_place [] k h = absurd (omega arith)
 at_place (x ∷ xs) zero h =
     let own = one_self event_before event_same event_law x in
     (x, omega arith, refl)
-at_place (x ∷ xs) (suc k) h =
-    let r = at_place xs k (omega arith) in
-    let l = r.1 in
-    (r.0, omega arith, r.2)
+at_place (x ∷ xs) (suc k) h = grind (arith, at_place xs k (omega arith))
 
 long_row : (xs : List Event) → length (map (λ e. e.time) xs) ≡ length xs
 long_row [] = refl
@@ -64,10 +57,7 @@ least_of_row xs row t row_is low there =
     record {
       bound = low_in_row xs t (λ k l. all k 0 (omega arith));
       reached = λ l. (r.0, r.1, r.2 ∙ sym (get_or_read (map (λ e. e.time) xs) own.0 t own.1 (sym own.2) 0));
-      none = λ z.
-          let empty = ap length z in
-          let l = own.1 in
-          absurd (omega arith);
+      none = λ z. grind arith;
     }
 
 -- an event more
@@ -90,12 +80,7 @@ least_put xs qs t s e h early counts s_is =
                   | inl z ↦
                       (let k = h.none (no_length xs z) in
                       absurd (omega arith))
-                  | inr some ↦
-                      (let r = h.reached some in
-                      let n = counts r.0 in
-                      let there = r.1 in
-                      let at = r.2 in
-                      (r.0, omega arith, omega arith))
+                  | inr some ↦ grind arith
                 ]
             | inr ge ↦ (e, mine, omega arith)
           ];
@@ -111,10 +96,7 @@ module _ (key : Event → ℕ) (lists : List (List Event)) (placed : IsPlaced ke
   in_list e there = subst (λ n. 0 < n) (times-placed key lists placed e) there
 
   pub out_list : (i : ℕ) (e : Event) → 0 < times event_same e (get_or lists i []) → 0 < times event_same e (together lists)
-  out_list i e there =
-      let at : key e ≡ i = placed i e there in
-      let own : 0 < times event_same e (get_or lists (key e) []) = subst (λ k. 0 < times event_same e (get_or lists k [])) (sym at) there in
-      subst (λ n. 0 < n) (sym (times-placed key lists placed e)) own
+  out_list i e there = grind (arith, times-placed)
 
   pub least_of_lists : (t : ℕ) → ((i : ℕ) → i < 16 → t ≤ get_or row i 0) → (i : ℕ) × (i < 16) × (get_or row i 0 ≡ t) → IsLeastTime (together lists) t
   least_of_lists t low at =
@@ -128,18 +110,7 @@ module _ (key : Event → ℕ) (lists : List (List Event)) (placed : IsPlaced ke
       omega arith in
       record {
         bound = bound;
-        reached = λ l.
-            elim (cases_zero (length (get_or lists i []))) [
-              | inl z ↦
-                  (let d = some_one (together lists) l in
-                  let k = own.none (no_length (get_or lists i []) z) in
-                  let b = bound d.0 d.1 in
-                  let c = early d.0 d.1 in
-                  absurd (omega arith))
-              | inr some ↦
-                  (let r = own.reached some in
-                  (r.0, out_list i r.0 r.1, r.2 ∙ value))
-            ];
+        reached = λ l. grind (arith, cases_zero, some_one, no_length, out_list);
         none = λ z.
             let all : get_or lists i [] ≡ [] =
             nothing (get_or lists i []) (λ e. none (times event_same e (get_or lists i [])) (λ there.
@@ -156,11 +127,7 @@ suc_more i = omega arith
 pub kept_from : (t i : ℕ) (xs : List Event) → i < length xs → (x : Event) (e : Event)
     → times event_same e (filter (λ d. d.time == t) (drop i xs)) ≡ times event_same e (filter (λ d. d.time == t) (get_or xs i x ∷ [])) + times event_same e (filter (λ d. d.time == t) (drop (i + 1) xs))
 kept_from t i [] l x e = absurd (omega arith)
-kept_from t zero (y ∷ xs) l x e =
-    elim (cases_Bool (y.time == t)) [
-      | inl b ↦ rw b (omega arith)
-      | inr b ↦ rw b (omega arith)
-    ]
+kept_from t zero (y ∷ xs) l x e = grind arith
 kept_from t (suc i) (y ∷ xs) l x e =
     kept_from t i xs (omega arith) x e
     ∙ ap (λ n. times event_same e (filter (λ d. d.time == t) (get_or xs i x ∷ [])) + times event_same e (filter (λ d. d.time == t) (drop n (y ∷ xs)))) (suc_more i)
@@ -169,9 +136,7 @@ kept_from t (suc i) (y ∷ xs) l x e =
 pub copied_on : (t i : ℕ) (xs old new : List Event) → i < length xs → (x e : Event)
     → times event_same e new ≡ times event_same e (filter (λ d. d.time == t) (get_or xs i x ∷ [])) + times event_same e old
     → times event_same e new + times event_same e (filter (λ d. d.time == t) (drop (i + 1) xs)) ≡ times event_same e old + times event_same e (filter (λ d. d.time == t) (drop i xs))
-copied_on t i xs old new l x e h =
-    let k = kept_from t i xs l x e in
-    omega arith
+copied_on t i xs old new l x e h = grind (arith, kept_from)
 
 pub inserted_counts : (e x : Event) (old new : List Event) → new ≡ insert event_before x old → times event_same e new ≡ one event_same e x + times event_same e old
 inserted_counts e x old new h = ap (times event_same e) h ∙ times-insert event_before event_same e x old
@@ -180,17 +145,10 @@ inserted_counts e x old new h = ap (times event_same e) h ∙ times-insert event
 pub one_kept : (t : ℕ) (x : Event) → x.time ≡ t → (e : Event) → times event_same e (filter (λ d. d.time == t) (x ∷ [])) ≡ one event_same e x
 one_kept t x b e = rw (eq-eqb x.time t b) (omega arith)
 
-pub one_left : (t : ℕ) (x : Event) → (x.time ≡ t → ⊥) → (e : Event) → times event_same e (filter (λ d. d.time == t) (x ∷ [])) ≡ 0
-one_left t x b e = rw (ne_eqb x.time t b) refl
-
 -- what is put into a queue, if it did not fail
 pub put_if_ok : (r : Result Unit AllocError) (t : ℕ) (x : Event) (old new : List Event) → x.time ≡ t → OnOk r (new ≡ insert event_before x old)
     → OnTrue (is_ok r) ((e : Event) → times event_same e new ≡ times event_same e (filter (λ d. d.time == t) (x ∷ [])) + times event_same e old)
-put_if_ok (Ok u) t x old new b h =
-    λ e.
-    let n = inserted_counts e x old new h in
-    let k = one_kept t x b e in
-    omega arith
+put_if_ok (Ok u) t x old new b h = λ e. grind (arith, inserted_counts, one_kept)
 put_if_ok (Err f) t x old new b h = tt
 
 -- an event is taken out of its place, and the last one takes it
@@ -201,12 +159,7 @@ module _ (xs : List Event) (i : ℕ) (within : i < length xs) (x : Event) where
   map_take (suc n) (y ∷ ys) = ap (λ r. y.time ∷ r) (map_take n ys)
 
   pub row_swapped : (r : ℕ) → swap_remove (map (λ e. e.time) xs) i r ≡ map (λ e. e.time) (swap_remove xs i x)
-  row_swapped r =
-      let n = length xs - 1 in
-      let last = get_or-map (λ e. e.time) xs n x r (omega arith) in
-      let long = ap (λ m. m - 1) (long_row xs) in
-      ap (λ m. take m (set (map (λ e. e.time) xs) i (get_or (map (λ e. e.time) xs) m r))) long ∙ ap (λ v. take n (set (map (λ e. e.time) xs) i v)) last
-      ∙ ap (take n) (sym (map-set (λ e. e.time) xs i (get_or xs n x))) ∙ sym (map_take n (set xs i (get_or xs n x)))
+  row_swapped r = grind (arith, get_or-map, long_row, set, map-set, map_take)
 
   module _ (is : x ≡ get_or xs i x) where
     swap_counts : (e : Event) → times event_same e xs ≡ one event_same e x + times event_same e (swap_remove xs i x)
@@ -216,21 +169,7 @@ module _ (xs : List Event) (i : ℕ) (within : i < length xs) (x : Event) where
 
     -- those at other times stay
     pub left_swapped : (t : ℕ) → x.time ≡ t → (e : Event) → times event_same e (filter (λ d. not (d.time == t)) (swap_remove xs i x)) ≡ times event_same e (filter (λ d. not (d.time == t)) xs)
-    left_swapped t b e =
-        elim (cases_Bool (not (e.time == t))) [
-          | inl c ↦
-              (let k = times-filter_yes (λ d. not (d.time == t)) e xs c in
-              let m = times-filter_yes (λ d. not (d.time == t)) e (swap_remove xs i x) c in
-              let n = swap_counts e in
-              elim (one_cases event_before event_same event_law e x) [
-                | inl z ↦ omega arith
-                | inr q ↦ absurd (false≢true (sym (ap not (eq-eqb e.time t (ap (λ d. d.time) q ∙ b))) ∙ c))
-              ])
-          | inr c ↦
-              (let k = times-filter_no (λ d. not (d.time == t)) e xs c in
-              let m = times-filter_no (λ d. not (d.time == t)) e (swap_remove xs i x) c in
-              omega arith)
-        ]
+    left_swapped t b e = grind (arith, cases_Bool, not, times-filter_yes, swap_counts, one_cases, event_law, false≢true, eq-eqb, times-filter_no)
 
 -- none is at the time
 pub none_at : (t : ℕ) (xs : List Event) → ((k : ℕ) → k < length xs → get_or (map (λ e. e.time) xs) k 0 ≡ t → ⊥) → filter (λ d. not (d.time == t)) xs ≡ xs
@@ -240,7 +179,4 @@ none_at t (x ∷ xs) h =
 
 -- the time of the event at a place, as the row has it
 pub stamped : (xs : List Event) (row : List ℕ) → row ≡ map (λ e. e.time) xs → (i : ℕ) → i < length xs → (x : Event) → x ≡ get_or xs i x → (v : ℕ) → v ≡ get_or row i v → x.time ≡ v
-stamped xs row alike i l x is v v_is =
-    let long = ap (λ r. length r) alike ∙ long_row xs in
-    let a = get_or_read row i v (omega arith) v_is 0 in
-    ap (λ e. e.time) is ∙ sym (get_or-map (λ e. e.time) xs i x 0 l) ∙ ap (λ r. get_or r i 0) (sym alike) ∙ sym a
+stamped xs row alike i l x is v v_is = grind (arith, long_row, get_or_read, get_or-map)

@@ -1,7 +1,7 @@
 -- The table and the spare list together are a queue, and its least event.
-use Rattle.std.proofs.Common.{◌≡◌, ◌<◌, cond, ℕ, false, List}
-use Rattle.std.proofs.Common.{[], ◌∷◌, IfSome, None, Option, Some, slice_get, ap, sym, ◌∙◌, subst}
-use Rattle.std.proofs.lemmas.Option.{none-some, same_Some}
+use Rattle.std.proofs.Common.{arith, ◌≡◌, ◌<◌, ℕ, false, List}
+use Rattle.std.proofs.Common.{[], ◌∷◌, IfSome, None, Option, Some, slice_get, ap, sym, ◌∙◌}
+use Rattle.std.proofs.lemmas.Option.{none-some}
 use Rattle.tw_sim.proofs.Counts.{none}
 use Rattle.tw_event.specs.declared.event.Event.{Event}
 use Rattle.tw_event.specs.Order.{event_before, event_same}
@@ -19,18 +19,12 @@ all-insert_all P (x ∷ xs) ys h k = all-insert_all P xs (insert event_before x 
 -- the whole is a queue
 pub whole_queue : (routers room : ℕ) (t : Table) (xs : List Event) → t.routers ≡ routers → IsInOrder t → AreFor routers xs
     → IsQueue (record { routers = routers; events = insert_all event_before xs t.events; room = room })
-whole_queue routers room t xs n order h = record {
-  rising = rising-insert_all event_before event_same event_law xs t.events order.rising;
-  homes = all-insert_all (λ e. e.dst < routers) xs t.events h (subst (λ m. AreFor m t.events) n order.homes);
-}
+whole_queue routers room t xs n order h = grind (arith, rising-insert_all, event_law, all-insert_all)
 
 -- where another event than the least is taken out, the least stays
 pub unmoved : (e least : Event) (o : Option Event) (xs zs : List Event) → o ≡ Some least → event_same e least ≡ false → o ≡ slice_get xs 0 → zs ≡ take_out event_same e xs → o ≡ slice_get zs 0
 unmoved e least o [] zs some other before left = absurd (none-some least (sym before ∙ some))
-unmoved e least o (x ∷ xs) zs some other before left =
-    let is : x ≡ least = same_Some x least (sym before ∙ some) in
-    let stays : take_out event_same e (x ∷ xs) ≡ x ∷ take_out event_same e xs = ap (λ b. cond b xs (x ∷ take_out event_same e xs)) (ap (event_same e) is ∙ other) in
-    before ∙ ap (λ ys. slice_get ys 0) (sym (left ∙ stays))
+unmoved e least o (x ∷ xs) zs some other before left = grind arith
 
 -- of nothing, nothing is left
 pub none_left : (e : Event) (o : Option Event) (xs zs : List Event) → o ≡ None → o ≡ slice_get xs 0 → zs ≡ take_out event_same e xs → None ≡ slice_get zs 0

@@ -1,4 +1,4 @@
-use Rattle.std.proofs.Common.{ap, sym, ◌∙◌}
+use Rattle.std.proofs.Common.{arith, ap, ◌∙◌}
 use Rattle.tw_event.proofs.Order.{event_eq}
 use Rattle.tw_event.specs.Order.{event_before}
 use Rattle.tw_sim.specs.Ordered.{insert_all}
@@ -16,6 +16,4 @@ returns-then-eq c = λ events before left.
     c.least_of.ensures ∙ ap (λ o. least_with o c.args.spare.now) c.least.ensures ∙ least_whole c.args.spare.now c.args.table.now.events
 
 pub returns-else-eq : goal.returns-else-eq
-returns-else-eq c = λ events before left.
-    unmoved c.args.event.now c.in_ok-least.least c.args.first events (insert_all event_before c.args.spare.now c.args.table.now.events) c.in_ok-least.was
-    (sym (event_eq c.args.event.now c.in_ok-least.least) ∙ sym c.eq.ensures ∙ c.if-eq.false) before left
+returns-else-eq c = λ events before left. grind (arith, unmoved, event_eq)

@@ -1,5 +1,4 @@
-use Rattle.std.proofs.Common.{subst, arith}
-use Rattle.tw_queue.specs.Least.{IsFirstOfLevel}
+use Rattle.std.proofs.Common.{arith}
 use Rattle.tw_queue.proofs.Leaves.{level_below, level_end, next_level, twice_fits}
 use Rattle.tw_queue.proofs.least_times.first_leaf.Goals as goal
 
@@ -17,6 +16,4 @@ loop-level-preserved c =
     )
 
 pub returns : goal.returns
-returns c =
-    let old = c.loop-level.invariant in
-    subst (λ level. IsFirstOfLevel c.args.nodes.now level c.loop-level.node) (level_end c.args.leaves c.loop-level.level old.1.0 old.1.1 c.loop-level-test.false) old.2
+returns c = grind (arith, level_end)

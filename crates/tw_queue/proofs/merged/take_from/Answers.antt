@@ -9,22 +9,13 @@ use Rattle.tw_ordered.proofs.Spares.{length_left, missing}
 use Rattle.tw_queue.proofs.merged.take_from.Goals as goal
 
 pub returns-then-remove-clause-found : goal.returns-then-remove-clause-found
-returns-then-remove-clause-found c =
-    let n = times_both c.args.event.now c.args.calendar.now c.args.rest.now.events c.args.calendar.now c.args.rest.now.events in
-    let h = c.remove.ensures.found.0 c.if-remove.true in
-    (λ u. omega arith, λ l. refl)
+returns-then-remove-clause-found c = grind (arith, times_both)
 
 pub returns-then-remove-clause-events : goal.returns-then-remove-clause-events
-returns-then-remove-clause-events c =
-    let r = c.remove.ensures in
-    left_taken c.args.event.now c.args.calendar.now c.args.rest.now.events c.remove.new.self c.args.rest.now.events (r.found.0 c.if-remove.true) r.events
+returns-then-remove-clause-events c = grind (arith, left_taken)
 
 pub returns-then-remove-clause-len : goal.returns-then-remove-clause-len
-returns-then-remove-clause-len c =
-    let r = c.remove.ensures in
-    let a = ap (λ xs. length xs) r.events in
-    let b = length-take_out event_before event_same event_law c.args.event.now c.args.calendar.now (r.found.0 c.if-remove.true) in
-    omega arith
+returns-then-remove-clause-len c = grind (arith, length-take_out, event_law)
 
 pub returns-then-remove-clause-homes : goal.returns-then-remove-clause-homes
 returns-then-remove-clause-homes c h =
@@ -41,11 +32,7 @@ stays : (c : goal.After-remove_from) → c.remove.new.self ≡ c.args.calendar.n
 stays c = c.remove.ensures.events ∙ take_out_none event_before event_same event_law c.args.event.now c.args.calendar.now (absent c)
 
 pub returns-clause-found : goal.returns-clause-found
-returns-clause-found c =
-    let n = times_both c.args.event.now c.args.calendar.now c.args.rest.now.events c.args.calendar.now c.args.rest.now.events in
-    let z = absent c in
-    let f = c.remove_from.ensures.found in
-    (λ u. let h = f.0 u in omega arith, λ l. f.1 (omega arith))
+returns-clause-found c = grind (arith, times_both, absent)
 
 pub returns-clause-events : goal.returns-clause-events
 returns-clause-events c =

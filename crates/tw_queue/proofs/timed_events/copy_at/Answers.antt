@@ -1,11 +1,9 @@
 use Rattle.std.proofs.Common.{arith}
-use Rattle.tw_queue.proofs.Times.{one_left, put_if_ok}
+use Rattle.tw_queue.proofs.Times.{put_if_ok}
 use Rattle.tw_queue.proofs.timed_events.copy_at.Goals as goal
 
 pub returns-then-event-time : goal.returns-then-event-time
-returns-then-event-time c e =
-    let z = one_left c.args.time c.args.event.now c.if-event-time.true e in
-    omega arith
+returns-then-event-time c e = grind arith
 
 pub returns : goal.returns
 returns c =

@@ -1,4 +1,4 @@
-use Rattle.std.proofs.Common.{◌≡◌, ◌==◌, ◌<◌, filter, get_or, length, map, not, refl, ap, sym, ◌∙◌, inl, inr, arith}
+use Rattle.std.proofs.Common.{◌≡◌, ◌==◌, ◌<◌, filter, get_or, length, map, not, refl, ap, sym, ◌∙◌, arith}
 use Rattle.std.specs.List.{swap_remove}
 use Rattle.std.proofs.lemmas.List.{get_or_read, length-map}
 use Rattle.std.proofs.lemmas.Bool.{cases_eq}
@@ -11,37 +11,16 @@ pub loop-place-init : goal.loop-place-init
 loop-place-init c = (c.requires, omega arith, λ k l. absurd (omega arith), λ e. refl)
 
 pub swap_remove-requires-then-index-time : goal.swap_remove-requires-then-index-time
-swap_remove-requires-then-index-time c =
-    let long = ap (λ xs. length xs) c.loop-place.invariant.0 ∙ length-map c.loop-place.events.items (λ e. e.time) in
-    let row = c.loop-place.row.ok.0 in
-    let events = c.loop-place.events.ok.0 in
-    let n = c.len.ensures in
-    let l = c.loop-place-test.true in
-    omega arith
+swap_remove-requires-then-index-time c = grind (arith, length-map)
 
 within : (c : goal.After-swap_remove-then-index-time) → c.loop-place.place < length c.loop-place.events.items
-within c =
-    let events = c.loop-place.events.ok.0 in
-    let l = c.swap_remove-then-index-time.ensures.len in
-    let long = ap (λ xs. length xs) c.loop-place.invariant.0 ∙ length-map c.loop-place.events.items (λ e. e.time) in
-    let row = c.loop-place.row.ok.0 in
-    let n = c.len.ensures in
-    let m = c.loop-place-test.true in
-    omega arith
+within c = grind (arith, length-map)
 
 stamp : (c : goal.After-swap_remove-then-index-time) → c.swap_remove-then-index-time.result.time ≡ c.args.time
-stamp c =
-    stamped c.loop-place.events.items c.loop-place.row.items c.loop-place.invariant.0 c.loop-place.place (within c) c.swap_remove-then-index-time.result c.swap_remove-then-index-time.ensures.value
-    c.index.result.now c.index.ensures ∙ c.if-index-time.true
+stamp c = grind (arith, stamped, within)
 
 pub loop-place-smaller-then-index-time : goal.loop-place-smaller-then-index-time
-loop-place-smaller-then-index-time c =
-    let row = c.loop-place.row.ok.0 in
-    let new = c.swap_remove.new.self.ok.0 in
-    let l = c.swap_remove.ensures.len in
-    let n = c.len.ensures in
-    let m = c.loop-place-test.true in
-    omega arith
+loop-place-smaller-then-index-time c = grind arith
 
 pub loop-place-preserved-then-index-time : goal.loop-place-preserved-then-index-time
 loop-place-preserved-then-index-time c =
@@ -69,33 +48,10 @@ loop-place-preserved-then-index-time c =
     )
 
 pub loop-place-smaller : goal.loop-place-smaller
-loop-place-smaller c =
-    let row = c.loop-place.row.ok.0 in
-    let n = c.len.ensures in
-    let m = c.loop-place-test.true in
-    omega arith
+loop-place-smaller c = grind arith
 
 pub loop-place-preserved : goal.loop-place-preserved
-loop-place-preserved c =
-    let old = c.loop-place.invariant in (
-      old.0,
-      (let long = ap (λ xs. length xs) old.0 ∙ length-map c.loop-place.events.items (λ e. e.time) in
-          let row = c.loop-place.row.ok.0 in
-          let n = c.len.ensures in
-          let m = c.loop-place-test.true in
-          omega arith),
-      (λ k l q.
-          elim (cases_eq k c.loop-place.place) [
-            | inl same ↦
-                (let row = c.loop-place.row.ok.0 in
-                let n = c.len.ensures in
-                let m = c.loop-place-test.true in
-                let a = get_or_read c.loop-place.row.items c.loop-place.place c.index.result.now (omega arith) c.index.ensures 0 in
-                c.if-index-time.false (a ∙ ap (λ j. get_or c.loop-place.row.items j 0) (sym same) ∙ q))
-            | inr other ↦ old.2 k (omega (arith, other)) q
-          ]),
-      old.3,
-    )
+loop-place-preserved c = grind (arith, length-map, cases_eq, get_or_read)
 
 pub returns-clause-alike : goal.returns-clause-alike
 returns-clause-alike c = c.loop-place.invariant.0

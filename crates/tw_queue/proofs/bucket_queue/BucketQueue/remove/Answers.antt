@@ -1,4 +1,4 @@
-use Rattle.std.proofs.Common.{◌≡◌, ◌<◌, ap, sym, ◌∙◌, refl, subst, arith}
+use Rattle.std.proofs.Common.{◌≡◌, ap, sym, ◌∙◌, refl, arith}
 use Rattle.std.proofs.lemmas.Bool.{false≢true}
 use Rattle.tw_event.specs.Order.{event_before, event_same}
 use Rattle.tw_sim.specs.Ordered.{times}
@@ -18,33 +18,20 @@ same : (c : goal.After-remove_far) → c.remove.new.self ≡ c.self.inside.near
 same c = c.if-not-remove.ensures.events ∙ take_out_none event_before event_same event_law c.args.event.now c.self.inside.near (absent c)
 
 pub invariant_of-self : goal.invariant_of-self
-invariant_of-self c d e there other =
-    let n = ap (times event_same e) c.remove_far.ensures.events in
-    let l = times-take_out-le e c.args.event.now (in_buckets c.self.inside.far) in
-    c.self.invariant d e (subst (λ xs. 0 < times event_same d xs) (same c) there) (omega arith)
+invariant_of-self c d e there other = grind (arith, times-take_out-le, same)
 
 pub returns-then-not-remove-clause-found : goal.returns-then-not-remove-clause-found
-returns-then-not-remove-clause-found c =
-    let n = queue_counts c.self.inside.near (in_buckets c.self.inside.far) c.args.self.now c.self.view_is c.args.event.now in
-    let z = absent c in
-    let found = c.remove_far.ensures.found in
-    (λ u. let l = found.0 u in omega arith, λ l. found.1 (omega arith))
+returns-then-not-remove-clause-found c = grind (arith, queue_counts, absent)
 
 pub returns-then-not-remove-clause-events : goal.returns-then-not-remove-clause-events
 returns-then-not-remove-clause-events c =
     rw (same c) (out_far c.self.inside.near (in_buckets c.self.inside.far) c.args.self.now c.self.view_is c.args.event.now (in_buckets c.remove_far.new.far) (absent c) c.remove_far.ensures.events)
 
 pub invariant_of-self-else-len-eq0 : goal.invariant_of-self-else-len-eq0
-invariant_of-self-else-len-eq0 c d e there other =
-    let n = ap (times event_same d) c.if-not-remove.ensures.events in
-    let l = times-take_out-le d c.args.event.now c.self.inside.near in
-    c.self.invariant d e (omega arith) other
+invariant_of-self-else-len-eq0 c d e there other = grind (arith, times-take_out-le)
 
 pub returns-then-len-eq0-clause-found : goal.returns-then-len-eq0-clause-found
-returns-then-len-eq0-clause-found c =
-    let n = queue_counts c.self.inside.near (in_buckets c.self.inside.far) c.args.self.now c.self.view_is c.args.event.now in
-    let l = c.if-not-remove.ensures.found.0 refl in
-    (λ u. omega arith, λ m. refl)
+returns-then-len-eq0-clause-found c = grind (arith, queue_counts)
 
 pub returns-then-len-eq0-clause-events : goal.returns-then-len-eq0-clause-events
 returns-then-len-eq0-clause-events c =
@@ -59,10 +46,7 @@ returns-then-len-eq0-clause-events c =
     omega arith)
 
 pub returns-else-len-eq0-clause-found : goal.returns-else-len-eq0-clause-found
-returns-else-len-eq0-clause-found c =
-    let n = queue_counts c.self.inside.near (in_buckets c.self.inside.far) c.args.self.now c.self.view_is c.args.event.now in
-    let l = c.if-not-remove.ensures.found.0 refl in
-    (λ u. omega arith, λ m. refl)
+returns-else-len-eq0-clause-found c = grind (arith, queue_counts)
 
 pub returns-else-len-eq0-clause-events : goal.returns-else-len-eq0-clause-events
 returns-else-len-eq0-clause-events c =

@@ -1,5 +1,4 @@
-use Rattle.std.proofs.Common.{length, ap, sym, subst, ◌∙◌}
-use Rattle.tw_event.specs.Order.{event_before}
+use Rattle.std.proofs.Common.{arith, subst}
 use Rattle.tw_sim.proofs.Ordered.{length-insert_all}
 use Rattle.tw_queue.specs.ByRouter.{room_of}
 use Rattle.tw_ordered.specs.Queue.{IsQueue}
@@ -7,9 +6,7 @@ use Rattle.tw_queue.proofs.Wholes.{whole_queue}
 use Rattle.tw_queue.proofs.by_router.ByRouter.len.Goals as goal
 
 pub returns-clause-len : goal.returns-clause-len
-returns-clause-len c =
-    let a = c.self.inside in
-    c.self.invariant.len ∙ sym (length-insert_all event_before a.spare.items a.table.events) ∙ ap (λ q. length q.events) c.self.view_is
+returns-clause-len c = grind (arith, length-insert_all)
 
 pub returns-clause-queue : goal.returns-clause-queue
 returns-clause-queue c =

@@ -1,4 +1,4 @@
-use Rattle.std.proofs.Common.{◌≡◌, [], filter, ◌==◌, not, ap, sym, ◌∙◌, get_or, arith}
+use Rattle.std.proofs.Common.{◌≡◌, [], filter, ◌==◌, not, ap, ◌∙◌, get_or, arith}
 use Rattle.std.proofs.lemmas.List.{get_or_read}
 use Rattle.tw_event.specs.Order.{event_same}
 use Rattle.tw_sim.specs.Ordered.{times}
@@ -7,10 +7,7 @@ use Rattle.tw_queue.proofs.far.FarEvents.move_tick.Goals as goal
 
 -- what the bucket had
 had : (c : goal.After-self-1) → get_or c.self.inside.buckets c.bucket_of-place.result c.index-self-place.result ≡ get_or c.self.inside.buckets c.bucket_of-place.result []
-had c =
-    let at = c.bucket_of-place.ensures in
-    let n = c.self.invariant.number in
-    sym c.index-self-place.is ∙ get_or_read c.self.inside.buckets c.bucket_of-place.result c.index-self-place.result (omega arith) c.index-self-place.is []
+had c = grind (arith, get_or_read)
 
 left : (c : goal.After-self-1) → (d : _) → times event_same d c.drop_tick.new.self ≡ times event_same d (filter (λ x. not (x.time == c.self.inside.soonest)) (get_or c.self.inside.buckets c.bucket_of-place.result []))
 left c d = c.drop_tick.ensures d ∙ ap (λ xs. times event_same d (filter (λ x. not (x.time == c.self.inside.soonest)) xs)) (had c)
@@ -25,18 +22,10 @@ invariant_of-self-2 c =
     row.ensures.bound row.ensures.reached
 
 near : (c : goal.After-self-1) → (d : _) → times event_same d c.copy_tick.new.queue ≡ times event_same d (filter (λ x. x.time == c.self.inside.soonest) (get_or c.self.inside.buckets c.bucket_of-place.result []))
-near c d =
-    let n = c.if-not-copy_tick.ensures d in
-    let z = ap (times event_same d) c.requires in
-    let h = ap (λ xs. times event_same d (filter (λ x. x.time == c.self.inside.soonest) xs)) (had c) in
-    omega arith
+near c d = grind (arith, filter, had)
 
 pub returns-clause-all : goal.returns-clause-all
-returns-clause-all c d =
-    let at = c.bucket_of-place.ensures in
-    tick_moved c.self.inside c.self.invariant c.bucket_of-place.result (omega arith) c.drop_tick.new.self at (left c) c.copy_tick.new.queue (near c) d ∙ ap (times event_same d) c.self.view_is
+returns-clause-all c d = grind (arith, tick_moved, left, near)
 
 pub returns-clause-apart : goal.returns-clause-apart
-returns-clause-apart c =
-    let at = c.bucket_of-place.ensures in
-    tick_apart c.self.inside c.self.invariant c.bucket_of-place.result (omega arith) c.drop_tick.new.self at (left c) c.copy_tick.new.queue (near c)
+returns-clause-apart c = grind (arith, tick_apart, left, near)

@@ -1,4 +1,4 @@
-use Rattle.std.proofs.Common.{◌≡◌, ◌<◌, ℕ, [], length, get_or, refl, rules, arith}
+use Rattle.std.proofs.Common.{◌≡◌, ◌<◌, ℕ, [], length, get_or, refl, arith}
 use Rattle.std.proofs.lemmas.List.{get_or-replicate}
 use Rattle.tw_ordered.specs.Times.{never}
 use Rattle.tw_queue.proofs.Fars.{no_far}
@@ -6,12 +6,7 @@ use Rattle.tw_ordered.proofs.Lists.{in_order_none}
 use Rattle.tw_queue.proofs.far.FarEvents.new.Goals as goal
 
 empty : (c : goal.After-from_fn) → (i : ℕ) → i < length c.from_fn.result → get_or c.from_fn.result i [] ≡ []
-empty c i l =
-    let items = c.from_fn.ensures.items in
-    let long = items.long in
-    let called = items.at i [] (omega arith) in
-    let k = called.2 in
-    search rules
+empty c i l = grind arith
 
 pub invariant_of-result : goal.invariant_of-result
 invariant_of-result c = no_far c.from_fn.result _ c.from_fn.ensures.items.long refl (empty c) (λ i l. get_or-replicate 16 i never 0 l)

@@ -1,16 +1,13 @@
-use Rattle.std.proofs.Common.{◌≡◌, [], ap, sym, ◌∙◌, get_or, subst, ◌↔◌, IsTrue, ◌<◌, arith}
+use Rattle.std.proofs.Common.{◌≡◌, [], ap, ◌∙◌, get_or, arith}
 use Rattle.std.proofs.lemmas.List.{get_or_read}
 use Rattle.tw_event.specs.Order.{event_same}
-use Rattle.tw_sim.specs.Ordered.{take_out, times}
+use Rattle.tw_sim.specs.Ordered.{take_out}
 use Rattle.tw_queue.proofs.Fars.{far_cut, far_found, far_taken, one_less}
 use Rattle.tw_queue.proofs.far.FarEvents.remove.Goals as goal
 
 -- what the bucket had
 had : (c : goal.After-self-1) → get_or c.self.inside.buckets c.bucket_of-place.result c.index-self-place.result ≡ get_or c.self.inside.buckets c.bucket_of-place.result []
-had c =
-    let at = c.bucket_of-place.ensures in
-    let n = c.self.invariant.number in
-    sym c.index-self-place.is ∙ get_or_read c.self.inside.buckets c.bucket_of-place.result c.index-self-place.result (omega arith) c.index-self-place.is []
+had c = grind (arith, get_or_read)
 
 less : (c : goal.After-self-1) → c.remove-removed.new.self ≡ take_out event_same c.args.event.now (get_or c.self.inside.buckets c.bucket_of-place.result [])
 less c = c.remove-removed.ensures.events ∙ ap (take_out event_same c.args.event.now) (had c)
@@ -25,13 +22,7 @@ invariant_of-self c =
     c.least_time-least.ensures row.ensures.bound row.ensures.reached
 
 pub returns-clause-found : goal.returns-clause-found
-returns-clause-found c =
-    let at = c.bucket_of-place.ensures in
-    let e = c.args.event.now in
-    subst (λ n. IsTrue c.remove-removed.result ↔ (0 < n)) (ap (times event_same e) (had c) ∙ far_found c.self.inside c.self.invariant c.bucket_of-place.result e at ∙ ap (times event_same e) c.self.view_is)
-    c.remove-removed.ensures.found
+returns-clause-found c = grind (arith, had, far_found)
 
 pub returns-clause-events : goal.returns-clause-events
-returns-clause-events c =
-    let at = c.bucket_of-place.ensures in
-    far_taken c.self.inside c.self.invariant c.bucket_of-place.result (omega arith) c.remove-removed.new.self c.args.event.now at (less c) ∙ ap (take_out event_same c.args.event.now) c.self.view_is
+returns-clause-events c = grind (arith, far_taken, less)

@@ -8,12 +8,7 @@ use Rattle.tw_queue.proofs.Leaves.{length_row, row_set, same_from}
 use Rattle.tw_queue.proofs.least_times.LeastTimes.set.Goals as goal
 
 within : (c : goal.After-self-2-1) → c.args.place < c.self.inside.count
-within c =
-    let a = c.self.inside in
-    let v = c.self.invariant in
-    let long = ap (λ xs. length xs) c.self.view_is in
-    let row = length_row a.count a.leaves a.nodes.items v.len v.count in
-    omega (arith, c.requires)
+within c = grind (arith, length_row)
 
 -- the nodes with the leaf changed, and the nodes as they are then
 abbrev changed : goal.After-self-2-1 → List ℕ
@@ -45,12 +40,7 @@ leaf_as_set : (c : goal.After-self-2-1) (k : ℕ) → c.self.inside.leaves ≤ k
 leaf_as_set c k l = same_from c.self.inside.leaves (mended c) (changed c) (leaves_same c) k l
 
 len : (c : goal.After-self-2-1) → length (mended c) ≡ 2 * c.self.inside.leaves
-len c =
-    let old = c.self.invariant.len in
-    let set_long = length-set c.self.inside.nodes.items (c.self.inside.leaves + c.args.place) c.args.time in
-    let same = rw c.deref_mut.ensures.value at c.mend_above.ensures.len in
-    let all = ap (λ xs. length xs) (mended_is c) in
-    omega arith
+len c = grind (arith, length-set, mended_is)
 
 latest : (c : goal.After-self-2-1) (k : ℕ) → c.self.inside.leaves ≤ k → get_or (mended c) k 0 ≤ never
 latest c k l =
@@ -64,10 +54,7 @@ latest c k l =
       | inl e ↦
           let same = ap (λ j. get_or (changed c) j 0) e ∙ get_or-set_same nodes leaf c.args.time 0 (omega arith) in
           omega (arith, c.ranges.time.fits)
-      | inr n ↦
-          let other = get_or-set_other nodes leaf k c.args.time 0 n in
-          let old = c.self.invariant.latest k l in
-          omega arith
+      | inr n ↦ grind (arith, get_or-set_other)
     ]
 
 past : (c : goal.After-self-2-1) (k : ℕ) → c.self.inside.leaves + c.self.inside.count ≤ k → k < 2 * c.self.inside.leaves → get_or (mended c) k 0 ≡ never

@@ -1,5 +1,5 @@
-use Rattle.std.proofs.Common.{◌≡◌, ◌<◌, ◌≤◌, ◌++◌, Some, slice_get, ap, sym, subst, ◌∙◌}
-use Rattle.std.specs.Bool.{OnFalse, OnTrue}
+use Rattle.std.proofs.Common.{arith, ◌≡◌, ◌≤◌, Some, slice_get, ap, subst, ◌∙◌}
+use Rattle.std.specs.Bool.{OnFalse}
 use Rattle.tw_event.specs.declared.event.Event.{Event}
 use Rattle.tw_queue.specs.Pending.{room_of}
 use Rattle.tw_ordered.specs.Queue.{IsQueue}
@@ -12,10 +12,7 @@ pub returns-clause-some : goal.returns-clause-some
 returns-clause-some c = on_true c.copy_before.result (λ some. some ∙ ap (λ q. slice_get q.events 0) c.self.view_is) c.copy_before.ensures.some
 
 pub returns-clause-home : goal.returns-clause-home
-returns-clause-home c =
-    let a = c.self.inside in
-    subst (λ q. OnTrue c.copy_before.result (c.copy_before.new.event.dst < q.routers)) c.self.view_is
-    (on_true c.copy_before.result (λ some. home_first a.rest.routers (a.calendar ++ a.rest.events) c.copy_before.new.event (all_both a.rest.routers a.calendar a.rest.events c.self.invariant.homes c.len.ensures.queue.homes) (sym some)) c.copy_before.ensures.some)
+returns-clause-home c = grind (arith, on_true, home_first, all_both)
 
 pub returns-clause-none : goal.returns-clause-none
 returns-clause-none c = subst (λ q. OnFalse c.copy_before.result ((e : Event) → slice_get q.events 0 ≡ Some e → c.args.limit ≤ e.time)) c.self.view_is c.copy_before.ensures.none

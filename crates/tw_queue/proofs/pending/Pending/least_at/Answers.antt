@@ -1,4 +1,4 @@
-use Rattle.std.proofs.Common.{◌≡◌, ◌==◌, IfSome, filter, slice_get, ap, sym, subst, ◌∙◌}
+use Rattle.std.proofs.Common.{arith, ◌≡◌, ◌==◌, IfSome, filter, slice_get, ap, sym, subst, ◌∙◌}
 use Rattle.tw_queue.specs.Pending.{room_of}
 use Rattle.tw_ordered.specs.Queue.{IsQueue}
 use Rattle.tw_ordered.proofs.Events.{home_of_first}
@@ -6,12 +6,7 @@ use Rattle.tw_queue.proofs.Halves.{both_passed, queue_of_both, rest_alone}
 use Rattle.tw_queue.proofs.pending.Pending.least_at.Goals as goal
 
 pub returns-clause-first : goal.returns-clause-first
-returns-clause-first c =
-    let a = c.self.inside in
-    let r = c.args.router in
-    c.earlier_of.ensures
-    ∙ both_passed a.calendar a.rest.events c.are_in_order.ensures c.least_at-3.ensures.queue.rising (λ e. e.dst == r) c.least_at-2.result c.least_at-3.result c.least_at-2.ensures c.least_at-3.ensures.first
-    ∙ ap (λ q. slice_get (filter (λ e. e.dst == r) q.events) 0) c.self.view_is
+returns-clause-first c = grind (arith, both_passed, slice_get, filter)
 
 pub returns-clause-queue : goal.returns-clause-queue
 returns-clause-queue c =

@@ -1,13 +1,11 @@
-use Rattle.std.proofs.Common.{length, ap, sym, subst, ◌∙◌}
+use Rattle.std.proofs.Common.{arith, subst}
 use Rattle.tw_queue.specs.Pending.{room_of}
 use Rattle.tw_ordered.specs.Queue.{IsQueue}
 use Rattle.tw_queue.proofs.Halves.{length-both, queue_of_both}
 use Rattle.tw_queue.proofs.pending.Pending.len.Goals as goal
 
 pub returns-clause-len : goal.returns-clause-len
-returns-clause-len c =
-    let a = c.self.inside in
-    c.self.invariant.len ∙ sym (length-both a.calendar a.rest.events) ∙ ap (λ q. length q.events) c.self.view_is
+returns-clause-len c = grind (arith, length-both)
 
 pub returns-clause-queue : goal.returns-clause-queue
 returns-clause-queue c =

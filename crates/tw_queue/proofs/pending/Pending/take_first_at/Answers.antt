@@ -1,4 +1,4 @@
-use Rattle.std.proofs.Common.{◌≡◌, ◌<◌, ◌==◌, Some, slice_get, ap, sym, ◌∙◌}
+use Rattle.std.proofs.Common.{arith, ◌≡◌, ◌==◌, Some, slice_get, ap, sym, ◌∙◌}
 use Rattle.tw_ordered.specs.Queue.{for_others, for_router}
 use Rattle.tw_ordered.proofs.Released.{all_first, first_out, others_stay}
 use Rattle.tw_queue.proofs.pending.Pending.take_first_at.Goals as goal
@@ -7,9 +7,7 @@ first_is : (c : goal.After-remove_one) → slice_get (for_router c.args.router c
 first_is c = sym c.least_at.ensures.first ∙ c.in_ok-first.was
 
 pub returns-clause-own : goal.returns-clause-own
-returns-clause-own c =
-    let r = c.args.router in
-    ap (for_router r) c.remove_one.ensures.events ∙ first_out (λ e. e.dst == r) c.in_ok-first.first c.args.self.now.events (first_is c)
+returns-clause-own c = grind (arith, first_out, first_is)
 
 pub returns-clause-others : goal.returns-clause-others
 returns-clause-others c =
@@ -17,6 +15,4 @@ returns-clause-others c =
     ap (for_others r) c.remove_one.ensures.events ∙ others_stay (λ e. e.dst == r) c.in_ok-first.first c.args.self.now.events (first_is c)
 
 pub returns-clause-home : goal.returns-clause-home
-returns-clause-home c =
-    let q = c.args.self.now in
-    all_first (λ e. e.dst == c.args.router) (λ e. e.dst < q.routers) c.in_ok-first.first q.events c.least_at.ensures.queue.homes (first_is c)
+returns-clause-home c = grind (arith, all_first, first_is)

@@ -16,9 +16,7 @@ absent c =
     ap (λ t. times event_same e t.events) (sym c.self.view_is) ∙ not_in_lists (λ d. d.dst) a.queues.items c.self.invariant.placed e (omega (arith, a.queues.ok.0, c.len.ensures, c.if-router-len.true))
 
 pub returns-then-router-len-clause-found : goal.returns-then-router-len-clause-found
-returns-then-router-len-clause-found c =
-    let h = absent c in
-    (λ u. absurd (false≢true u), λ l. absurd (omega arith))
+returns-then-router-len-clause-found c = grind (arith, absent, false≢true)
 
 pub returns-then-router-len-clause-events : goal.returns-then-router-len-clause-events
 returns-then-router-len-clause-events c =

@@ -1,16 +1,14 @@
-use Rattle.std.proofs.Common.{◌<◌, map, position, refl, remove, ap, sym, ◌∙◌, subst, arith}
+use Rattle.std.proofs.Common.{◌<◌, position, refl, remove, ap, sym, ◌∙◌, subst, arith}
 use Rattle.std.proofs.lemmas.Bool.{false≢true}
 use Rattle.tw_event.specs.Order.{event_before, event_same}
-use Rattle.tw_sim.specs.Ordered.{take_out, times}
+use Rattle.tw_sim.specs.Ordered.{times}
 use Rattle.tw_ordered.proofs.Events.{event_law}
 use Rattle.tw_ordered.proofs.Ordered.{take_out_none}
 use Rattle.tw_ordered.proofs.Places.{equals, map-remove, nowhere, taken_at, there}
 use Rattle.tw_queue.proofs.timed_events.TimedEvents.remove.Goals as goal
 
 pub invariant_of-self : goal.invariant_of-self
-invariant_of-self c =
-    let i = c.in-Some.place in
-    c.remove.ensures.items ∙ ap (λ row. remove row i) c.self.invariant ∙ map-remove (λ e. e.time) c.self.inside.events.items i ∙ ap (map (λ e. e.time)) (sym c.remove-in-Some.ensures.items)
+invariant_of-self c = grind (arith, remove, map-remove)
 
 pub returns-in-Some-clause-found : goal.returns-in-Some-clause-found
 returns-in-Some-clause-found c =
@@ -19,10 +17,7 @@ returns-in-Some-clause-found c =
     (λ u. subst (λ xs. 0 < times event_same e xs) c.self.view_is (there e c.self.inside.events.items c.in-Some.place p), λ u. refl)
 
 pub returns-in-Some-clause-events : goal.returns-in-Some-clause-events
-returns-in-Some-clause-events c =
-    let e = c.args.event.now in
-    let p = ap (position (equals e)) (sym c.deref.ensures.value) ∙ sym c.place_of.ensures ∙ c.in-Some.is in
-    c.remove-in-Some.ensures.items ∙ sym (taken_at e c.self.inside.events.items c.in-Some.place p) ∙ ap (take_out event_same e) c.self.view_is
+returns-in-Some-clause-events c = grind (arith, position, equals, taken_at)
 
 pub returns-in-None-clause-found : goal.returns-in-None-clause-found
 returns-in-None-clause-found c =
