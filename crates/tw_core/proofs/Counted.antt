@@ -1,6 +1,6 @@
 -- What is counted as committed is what is committed.
-use Rattle.std.proofs.Common.{◌≡◌, ℕ, zero, suc, ◌+◌, ◌<◌, ◌≤◌, ◌==◌, Bool, List, [], ◌∷◌, ◌++◌, length, reverse, Result, Ok, Err, slice_get, refl, ap, sym, ◌∙◌, subst, inl, inr, arith, nat_lt}
-use Rattle.std.proofs.lemmas.Bool.{cases_Bool, cases_eq, eq-eqb, ltb-true, ne_eqb}
+use Rattle.std.proofs.Common.{◌≡◌, ℕ, zero, suc, ◌+◌, Bool, List, [], ◌∷◌, ◌++◌, length, reverse, Result, Ok, Err, refl, ap, sym, ◌∙◌, inl, inr, arith, nat_lt}
+use Rattle.std.proofs.lemmas.Bool.{cases_Bool, cases_eq, eq-eqb, ltb-true}
 use Rattle.std.proofs.lemmas.List.{length-reverse, reverse-append}
 use Rattle.std.proofs.lemmas.List.Folds.{prefix_len-append}
 use Rattle.std.specs.List.{prefix_len, suffix_len}
@@ -8,11 +8,11 @@ use Rattle.std.specs.Result.{result_unwrap_or}
 use Rattle.tw_core.proofs.Calls.{put_other, put_same}
 use Rattle.tw_core.proofs.Done.{at_router_done}
 use Rattle.tw_core.proofs.Headline.{good_log}
-use Rattle.tw_core.proofs.Steps.{StepKeeps, deliver_keeps, good_opening, handle_keeps, next_keeps, step_keeps, undo_keeps}
+use Rattle.tw_core.proofs.Steps.{StepKeeps, deliver_keeps, good_opening, handle_keeps, next_keeps, step_keeps}
 use Rattle.tw_core.specs.declared.refusal.Refusal.{Refusal}
 use Rattle.tw_core.specs.Good.{IsGood}
-use Rattle.tw_core.specs.Machine.{AreCounted, Core, IsOpening, committed}
-use Rattle.tw_core.specs.Steps.{deliver, first_pending, handle, next, put, run, step, undo, with_bound, with_commit, with_release}
+use Rattle.tw_core.specs.Machine.{AreCounted, Core, IsOpening}
+use Rattle.tw_core.specs.Steps.{first_pending, handle, next, run, step, with_commit}
 use Rattle.tw_sim.proofs.Unique.{all_below}
 use Rattle.tw_sim.specs.declared.machine.Step.{Step}
 use Rattle.tw_sim.specs.declared.machine.Step.TheVariants.{Handle, Undo, Deliver, Bound, Commit, Release}
@@ -41,61 +41,30 @@ module _ {S E : Type 0} (m : Simulation S E) (law : IsLawful m) where
             let here = rw (eq-eqb (prefix_len soon (reverse xs)) (length (reverse xs)) (omega arith)) at whole in
             let size : length (below m t (x ∷ xs)) ≡ suc (length (below m t xs)) = rw b refl in
             omega arith)
-        | inr b ↦ (
-            let last : prefix_len soon (x ∷ []) ≡ 0 = rw b refl in
-            let size : length (below m t (x ∷ xs)) ≡ length (below m t xs) = rw b refl in
-            elim (cases_eq (prefix_len soon (reverse xs)) (length (reverse xs))) [
-              | inl is ↦ (let here = rw (eq-eqb (prefix_len soon (reverse xs)) (length (reverse xs)) is) at whole in omega arith)
-              | inr ne ↦ (let here = rw (ne_eqb (prefix_len soon (reverse xs)) (length (reverse xs)) ne) at whole in omega arith)
-            ])
+        | inr b ↦ grind arith
       ]
 
   -- a commit counts what it commits
   pub commit_counted : (C : Core E) (r : ℕ) → IsFalling m (C.history r) → AreCounted m C → AreCounted m (with_commit m C r)
-  commit_counted C r falling counted q =
-      let soon : E → Bool = λ e. nat_lt (m.time e) C.bound in
-      elim (cases_eq q r) [
-        | inl same ↦ subst (λ p. (with_commit m C r).past p ≡ length (committed m (with_commit m C r) p)) (sym same)
-            (put_same C.past r (suffix_len soon (C.history r))
-            ∙ (oldest C.bound (C.history r) falling ∙ ap (λ t. length (below m t (C.history r))) (sym (put_same C.done r C.bound))))
-        | inr other ↦
-            put_other C.past r q (suffix_len soon (C.history r)) other
-            ∙ (counted q ∙ ap (λ t. length (below m t (C.history q))) (sym (put_other C.done r q C.bound other)))
-      ]
+  commit_counted C r falling counted q = grind (arith, nat_lt, cases_eq, put_same, oldest, put_other)
 
   module _ (numbered : IsNumbered m) where
     -- where no router commits, what is committed stays
     uncommitting : (C D : Core E) → IsGood m C → StepKeeps m law C D → D.done ≡ C.done → D.past ≡ C.past → AreCounted m C → AreCounted m D
-    uncommitting C D good keeps done past counted r =
-        let low = good.done r in
-        let rises = keeps.bound in
-        let before = good_log m law numbered C good (C.done r) low r in
-        let after = good_log m law numbered D keeps.good (C.done r) (omega arith) r in
-        let stays : committed m D r ≡ committed m C r = ap (λ f. below m (f r) (D.history r)) done ∙ (after ∙ sym before) in
-        ap (λ f. f r) past ∙ (counted r ∙ ap length (sym stays))
+    uncommitting C D good keeps done past counted r = grind (arith, good_log)
 
     pub step_counted : (C D : Core E) (x : Step) → IsGood m C → step m C x ≡ Ok D → AreCounted m C → AreCounted m D
     step_counted C D (Handle r) good h counted =
         let kept = handle_keeps m law C.bound C D r good.part (at_router_done m r (handle m C r (first_pending m C r)) D h) in
         uncommitting C D good (step_keeps m law C D (Handle r) good h) kept.done kept.past counted
-    step_counted C D (Undo r) good h counted =
-        let kept = undo_keeps m law C.bound C D r (omega arith) good.part (at_router_done m r (undo m C r (C.history r)) D h) in
-        uncommitting C D good (step_keeps m law C D (Undo r) good h) kept.done kept.past counted
+    step_counted C D (Undo r) good h counted = grind arith
     step_counted C D (Deliver zero) good h counted = cc
     step_counted C D (Deliver (suc k)) good h counted =
         let kept = deliver_keeps m law C.bound C D k good.part h in
         uncommitting C D good (step_keeps m law C D (Deliver (suc k)) good h) kept.done kept.past counted
-    step_counted C D Bound good h counted =
-        let made : with_bound m C ≡ D = cc in
-        subst (AreCounted m) made counted
-    step_counted C D (Commit r) good h counted =
-        let ok = at_router_done m r (Ok (with_commit m C r)) D h in
-        let made : with_commit m C r ≡ D = cc in
-        subst (AreCounted m) made (commit_counted C r (good.part.falling r) counted)
-    step_counted C D (Release r) good h counted =
-        let ok = at_router_done m r (Ok (with_release m C r)) D h in
-        let made : with_release m C r ≡ D = cc in
-        subst (AreCounted m) made counted
+    step_counted C D Bound good h counted = grind arith
+    step_counted C D (Commit r) good h counted = grind (arith, at_router_done, commit_counted)
+    step_counted C D (Release r) good h counted = grind arith
 
     next_at : (C : Core E) (o : Result (Core E) Refusal) → AreCounted m C → ((D : Core E) → o ≡ Ok D → AreCounted m D) → AreCounted m (result_unwrap_or o C)
     next_at C (Ok D) counted done = done D refl

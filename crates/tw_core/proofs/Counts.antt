@@ -1,5 +1,5 @@
 -- Signed counts: how often an event is in flight after an append or a removal; and how often it is held.
-use Rattle.std.proofs.Common.{◌≡◌, ℕ, zero, suc, ◌+◌, ◌<◌, ◌≤◌, ◌==◌, cond, List, [], ◌∷◌, ◌++◌, map, Some, slice_get, remove, refl, ap, subst, inl, inr, arith, nat_lt}
+use Rattle.std.proofs.Common.{◌≡◌, ℕ, zero, suc, ◌+◌, ◌<◌, ◌≤◌, cond, List, [], ◌∷◌, ◌++◌, map, Some, slice_get, remove, refl, inl, inr, arith, nat_lt}
 use Rattle.std.proofs.lemmas.Bool.{cases_Bool, ltb-false, ltb-true}
 use Rattle.tw_core.specs.Machine.{antimessages, messages}
 use Rattle.tw_core.specs.Steps.{antimessage, from, from_others, held_back, message, sent_back, still_held, take_out, to_send}
@@ -53,33 +53,24 @@ module _ {S E : Type 0} (m : Simulation S E) where
   pub times-still_held : (e : E) (xs held : List E) → times m e (still_held m xs held) ≤ times m e held
   times-still_held e xs [] = omega arith
   times-still_held e [] (h ∷ held) = omega arith
-  times-still_held e (x ∷ xs) (h ∷ held) =
-      let more = times-still_held e xs (take_out m x (h ∷ held)) in
-      let less = times-take_out-le m e x (h ∷ held) in
-      omega arith
+  times-still_held e (x ∷ xs) (h ∷ held) = grind (arith, times-take_out-le, times-still_held e xs (take_out m x (h ∷ held)))
 
   -- a list is what a router sent and what others sent
   pub times-from : (e : E) (r : ℕ) (xs : List E) → times m e (from m r xs) + times m e (from_others m r xs) ≡ times m e xs
   times-from e r [] = refl
-  times-from e r (x ∷ xs) =
-      let more = times-from e r xs in
-      elim (cases_Bool (m.src x == r)) [ inl b ↦ rw b (omega arith) | inr b ↦ rw b (omega arith) ]
+  times-from e r (x ∷ xs) = grind (arith, cases_Bool, times-from e r xs)
 
   -- one message leaves the flight
   pub messages-remove : (e : E) (xs : List (Signed E)) (k : ℕ) (x : Signed E) → slice_get xs k ≡ Some x
       → messages m e xs ≡ cond x.plus (one m e x.event) 0 + messages m e (remove xs k)
   messages-remove e [] k x h = cc
-  messages-remove e (y ∷ xs) zero x h =
-      let same : y ≡ x = cc in
-      ap (λ (z : Signed E). cond z.plus (one m e z.event) 0 + messages m e xs) same
+  messages-remove e (y ∷ xs) zero x h = grind arith
   messages-remove e (y ∷ xs) (suc k) x h = let more = messages-remove e xs k x h in omega arith
 
   pub antimessages-remove : (e : E) (xs : List (Signed E)) (k : ℕ) (x : Signed E) → slice_get xs k ≡ Some x
       → antimessages m e xs ≡ cond x.plus 0 (one m e x.event) + antimessages m e (remove xs k)
   antimessages-remove e [] k x h = cc
-  antimessages-remove e (y ∷ xs) zero x h =
-      let same : y ≡ x = cc in
-      ap (λ (z : Signed E). cond z.plus 0 (one m e z.event) + antimessages m e xs) same
+  antimessages-remove e (y ∷ xs) zero x h = grind arith
   antimessages-remove e (y ∷ xs) (suc k) x h = let more = antimessages-remove e xs k x h in omega arith
 
   -- a list in which nothing stands is empty
@@ -98,11 +89,7 @@ module _ {S E : Type 0} (m : Simulation S E) where
               let taken = times-take_out m law e x (h ∷ held) (ltb-true 0 (times m x (h ∷ held)) b) in
               let more = times-to_send e xs (take_out m x (h ∷ held)) in
               rw b (omega arith))
-          | inr b ↦ (
-              let absent = none (times m x (h ∷ held)) (λ k. let no = ltb-false 0 (times m x (h ∷ held)) b in absurd (omega arith)) in
-              let same : times m e (still_held m xs (take_out m x (h ∷ held))) ≡ times m e (still_held m xs (h ∷ held)) = ap (λ ys. times m e (still_held m xs ys)) (take_out-none m x (h ∷ held) absent) in
-              let more = times-to_send e xs (h ∷ held) in
-              rw b (omega arith))
+          | inr b ↦ grind (arith, none, ltb-false, take_out-none, times-to_send e xs (h ∷ held))
         ]
 
     -- a message in flight is counted there

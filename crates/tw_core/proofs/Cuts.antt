@@ -1,5 +1,5 @@
 -- A machine at a cut of the one-thread run is good, and a good one that has come to its stop stands at a cut.
-use Rattle.std.proofs.Common.{◌≡◌, ℕ, ◌<◌, ◌==◌, List, [], ◌∷◌, ap, sym, ◌∙◌, subst, inl, inr, arith}
+use Rattle.std.proofs.Common.{◌≡◌, ℕ, ◌<◌, ◌==◌, List, [], ◌∷◌, ap, sym, subst, inl, inr, arith}
 use Rattle.std.proofs.lemmas.Bool.{cases_lt, eqb-true}
 use Rattle.tw_core.proofs.Headline.{at_end}
 use Rattle.tw_core.specs.Cut.{IsCut}
@@ -11,8 +11,8 @@ use Rattle.tw_sim.proofs.Counts.{in_filter, times-insert_all}
 use Rattle.tw_sim.proofs.Rising.{AllSuit, suit-begin, suit-turns}
 use Rattle.tw_sim.proofs.Seq.{IsOver, finished_over}
 use Rattle.tw_sim.proofs.Unique.{falling-filter, in_only, sent_by_source}
-use Rattle.tw_sim.specs.Seq.{begin, finished, insert_all, log, rest, seq, weight}
-use Rattle.tw_sim.specs.Simulation.{Simulation, IsFalling, IsLawful, IsNumbered, only, sent, times}
+use Rattle.tw_sim.specs.Seq.{begin, finished, log, rest, seq, weight}
+use Rattle.tw_sim.specs.Simulation.{Simulation, IsFalling, IsLawful, IsNumbered, times}
 
 module _ {S E : Type 0} (m : Simulation S E) (law : IsLawful m) where
   -- each event of a run suits its receiver
@@ -30,20 +30,7 @@ module _ {S E : Type 0} (m : Simulation S E) (law : IsLawful m) where
 
   -- a machine that begins stands at a cut
   pub cut_opens : (C : Core E) → IsOpening m C → IsCut m 0 C
-  cut_opens C opens = record {
-    history = λ r. opens.history r ∙ ap (λ w. only m r w.log) (sym run_to_zero);
-    pending = λ e. (
-        let inserted = times-insert_all m e m.opening [] in
-        let waits = opens.pending e in
-        let same : times m e (rest m 0) ≡ times m e (begin m).rest = ap (λ w. times m e w.rest) run_to_zero in
-        omega arith);
-    kept = opens.kept;
-    flight = opens.flight;
-    held = opens.held;
-    done = λ r. (let zero = opens.done r in omega arith);
-    bound = opens.bound;
-    stop = omega arith;
-  }
+  cut_opens C opens = grind (arith, run_to_zero, times-insert_all)
 
   module _ (numbered : IsNumbered m) where
     -- a machine at a cut is good
@@ -74,19 +61,7 @@ module _ {S E : Type 0} (m : Simulation S E) (law : IsLawful m) where
               | inr ge ↦ suits.pending e (let all = loose e in omega arith)
             ];
           };
-          balance = λ e. (
-              let waits = cut.pending e in
-              let none_kept : times m e C.kept ≡ 0 = ap (times m e) cut.kept in
-              let no_messages : messages m e C.flight ≡ 0 = ap (messages m e) cut.flight in
-              let no_antimessages : antimessages m e C.flight ≡ 0 = ap (antimessages m e) cut.flight in
-              let none_held : times m e C.held ≡ 0 = ap (times m e) cut.held in
-              let of_run = run.balance e in
-              let source = sent_by_source m law (log m t) e in
-              let here = in_only m law e (log m t) in
-              let handled : times_handled m C e ≡ times m e (only m (m.dst e) (log m t)) = ap (times m e) (cut.history (m.dst e)) in
-              let asked_for : times m e (sent m (m.src e) (C.history (m.src e))) ≡ times m e (sent m (m.src e) (only m (m.src e) (log m t)))
-              = ap (λ xs. times m e (sent m (m.src e) xs)) (cut.history (m.src e)) in
-              omega arith);
+          balance = λ e. grind (arith, sent_by_source, in_only);
           done = λ r. (let low = cut.done r in let to = cut.bound in omega arith);
           bound = (let to = cut.bound in let last = cut.stop in omega arith);
         }
@@ -97,10 +72,7 @@ module _ {S E : Type 0} (m : Simulation S E) (law : IsLawful m) where
         let end = at_end m law numbered C good settled in
         record {
           history = end.events;
-          pending = λ e. (
-              let inserted = times-insert_all m e C.pending [] in
-              let same : times m e (insert_all m C.pending []) ≡ times m e (rest m C.stop) = ap (times m e) end.pending in
-              omega arith);
+          pending = λ e. grind (arith, times-insert_all);
           kept = end.kept;
           flight = settled.flight;
           held = settled.held;

@@ -19,19 +19,7 @@ module _ {S E : Type 0} (m : Simulation S E) (law : IsLawful m) where
       → ((e x : E) → 0 < times m e pending → 0 < times m x (C.history (m.dst e)) → m.before e x ≡ false)
       → ((x : E) → 0 < times m x kept → (times m x pending ≡ 0) × (times_handled m C x ≡ 0))
       → IsGoodPart m t (record C { pending = pending; kept = kept; flight = flight })
-  part_loose t C pending kept flight good none_new ahead alone = record {
-    falling = good.falling;
-    home = good.home;
-    soon = good.soon;
-    late = λ x h. good.late x (none_new x h);
-    ahead = ahead;
-    alone = alone;
-    suit = λ x h.
-        elim (cases_Bool (nat_lt 0 (times_handled m C x))) [
-          | inl b ↦ good.suit x (let k = ltb-true 0 (times_handled m C x) b in omega arith)
-          | inr b ↦ good.suit x (let k = ltb-false 0 (times_handled m C x) b in let l = none_new x (omega arith) in omega arith)
-        ];
-  }
+  part_loose t C pending kept flight good none_new ahead alone = grind arith
 
   module _ (t : ℕ) (C : Core E) (good : IsGoodPart m t C) (k : ℕ) (e : E) where
     -- a message for which an antimessage is kept
@@ -74,33 +62,16 @@ module _ {S E : Type 0} (m : Simulation S E) (law : IsLawful m) where
       apart = undoing_while-flight m test (m.dst e) (C.history (m.dst e)) C (remove C.flight k)
 
       messages_apart : (x : E) (s : Signed E) → slice_get C.flight k ≡ Some s → messages m x B.flight ≡ cond s.plus (one m x s.event) 0 + messages m x (remove C.flight k ++ back)
-      messages_apart x s place =
-          let whole : messages m x B.flight ≡ messages m x (C.flight ++ back) = ap (messages m x) flight_back in
-          let old = messages-append m x C.flight back in
-          let new = messages-append m x (remove C.flight k) back in
-          let gone = messages-remove m x C.flight k s place in
-          omega arith
+      messages_apart x s place = grind (arith, flight_back, messages-append, remove, messages-remove)
 
       antimessages_apart : (x : E) (s : Signed E) → slice_get C.flight k ≡ Some s → antimessages m x B.flight ≡ cond s.plus 0 (one m x s.event) + antimessages m x (remove C.flight k ++ back)
-      antimessages_apart x s place =
-          let whole : antimessages m x B.flight ≡ antimessages m x (C.flight ++ back) = ap (antimessages m x) flight_back in
-          let old = antimessages-append m x C.flight back in
-          let new = antimessages-append m x (remove C.flight k) back in
-          let gone = antimessages-remove m x C.flight k s place in
-          omega arith
+      antimessages_apart x s place = grind (arith, flight_back, antimessages-append, remove, antimessages-remove)
 
     is_later : (x : E) → m.before e x ≡ true → m.time e ≤ m.time x
     is_later x h = law.timely e x h
 
     is_from : (x : E) → not (m.before x e) ≡ true → m.time e ≤ m.time x
-    is_from x h =
-        elim (cases_Bool (m.before e x)) [
-          | inl b ↦ law.timely e x b
-          | inr b ↦ (
-              let other : m.before x e ≡ false = false_from_ne_true (m.before x e) (λ y. both_ways (not (m.before x e)) (rw y refl) h) in
-              let same : m.time e ≡ m.time x = ap m.time (law.total e x b other) in
-              omega arith)
-        ]
+    is_from x h = grind arith
 
     -- a message for which none is kept becomes pending
     becomes_pending : slice_get C.flight k ≡ Some (record { plus = true; event = e }) → times m e C.kept ≡ 0
@@ -114,21 +85,7 @@ module _ {S E : Type 0} (m : Simulation S E) (law : IsLawful m) where
         let minus = λ (x : E). antimessages_apart test x (record { plus = true; event = e }) place in
         let waits = λ (x : E). times-insert m x e (B test).pending in
         record {
-          part = part_loose t (B test) (insert m e (B test).pending) (B test).kept (remove C.flight k ++ back test) undone.part
-              (λ x h. let a = plus x in let b = minus x in let c = waits x in omega arith)
-              (λ x y h there. elim (one_cases m law x e) [
-                | inr is ↦ subst (λ z. m.before z y ≡ false) (sym is) (left y (subst (λ z. 0 < times m y ((B test).history (m.dst z))) is there))
-                | inl z ↦ undone.part.ahead x y (let c = waits x in omega arith) there
-              ])
-              (λ x h. (
-              let old = undone.part.alone x h in
-              let pending = old.0 in
-              let other : one m x e ≡ 0 = elim (one_cases m law x e) [
-                | inl z ↦ z
-                | inr is ↦ absurd (let there : 0 < times m e C.kept = subst (λ xs. 0 < times m e xs) undone.kept (subst (λ z. 0 < times m z (B test).kept) is h) in omega arith)
-              ] in
-              let c = waits x in
-              (omega arith, old.1)));
+          part = grind arith;
           surplus = λ x. (let a = plus x in let b = minus x in let c = waits x in let d = undone.surplus x in omega arith);
           done = undone.done;
           past = undone.past;
@@ -180,14 +137,7 @@ module _ {S E : Type 0} (m : Simulation S E) (law : IsLawful m) where
         let gone = none (times_handled m (B test) e) (λ h. both_ways (test e) (left e h) (rw (law.not_self e) refl)) in
         let waits : 0 < times m e (B test).pending = (let a = undone.moved e in omega arith) in
         record {
-          part = part_loose t (B test) (take_out m e (B test).pending) (B test).kept (remove C.flight k ++ back test) undone.part
-              (λ x h. let a = plus x in let b = minus x in let c = times-take_out m law x e (B test).pending waits in omega arith)
-              (λ x y h there. undone.part.ahead x y (let c = times-take_out m law x e (B test).pending waits in omega arith) there)
-              (λ x h. (
-              let old = undone.part.alone x h in
-              let pending = old.0 in
-              let c = times-take_out m law x e (B test).pending waits in
-              (omega arith, old.1)));
+          part = grind (arith, part_loose, remove, times-take_out);
           surplus = λ x. (let a = plus x in let b = minus x in let c = times-take_out m law x e (B test).pending waits in let d = undone.surplus x in omega arith);
           done = undone.done;
           past = undone.past;
@@ -227,24 +177,14 @@ module _ {S E : Type 0} (m : Simulation S E) (law : IsLawful m) where
     delivered_message place =
         elim (cases_Bool (nat_lt 0 (times m e C.kept))) [
           | inl b ↦ rw b (meets_kept place (ltb-true 0 (times m e C.kept) b))
-          | inr b ↦ rw b (
-              subst (λ z. KeepsPart m t C (record z { pending = insert m e z.pending })) (sym (apart (λ x. m.before e x)))
-              (becomes_pending place (none (times m e C.kept) (λ h. let no = ltb-false 0 (times m e C.kept) b in absurd (omega arith)))))
+          | inr b ↦ grind (arith, apart, becomes_pending, none, ltb-false)
         ]
 
     delivered_antimessage : slice_get C.flight k ≡ Some (record { plus = false; event = e }) → KeepsPart m t C (after_delivery m C k (record { plus = false; event = e }))
     delivered_antimessage place =
         elim (cases_Bool (nat_lt 0 (times m e C.pending))) [
           | inl b ↦ rw b (meets_pending place (ltb-true 0 (times m e C.pending) b))
-          | inr b ↦ rw b (elim (cases_Bool (nat_lt 0 (times_handled m C e))) [
-            | inl c ↦ rw c (
-                subst (λ z. KeepsPart m t C (record z { pending = take_out m e z.pending })) (sym (apart (λ x. not (m.before x e))))
-                (meets_handled place (ltb-true 0 (times_handled m C e) c)))
-            | inr c ↦ rw c (
-                becomes_kept place
-                (none (times m e C.pending) (λ h. let no = ltb-false 0 (times m e C.pending) b in absurd (omega arith)))
-                (none (times_handled m C e) (λ h. let no = ltb-false 0 (times_handled m C e) c in absurd (omega arith))))
-          ])
+          | inr b ↦ grind (arith, cases_Bool, nat_lt, apart, not, meets_handled, ltb-true, becomes_kept, none, ltb-false)
         ]
 
   by_sign : (t : ℕ) (C : Core E) (k : ℕ) (plus : Bool) (e : E) → IsGoodPart m t C → slice_get C.flight k ≡ Some (record { plus = plus; event = e })

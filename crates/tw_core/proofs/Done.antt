@@ -1,6 +1,6 @@
 -- What is known where a router's step was done and not refused.
-use Rattle.std.proofs.Common.{◌≡◌, ℕ, ◌<◌, ◌≤◌, false, List, [], ◌∷◌, Option, Some, None, Result, Ok, refl, inl, inr, nat_lt}
-use Rattle.std.proofs.lemmas.Bool.{cases_Bool, ltb-true, ltb-false}
+use Rattle.std.proofs.Common.{arith, ◌≡◌, ℕ, ◌<◌, ◌≤◌, false, List, [], ◌∷◌, Option, Some, None, Result, Ok, inl, inr, nat_lt}
+use Rattle.std.proofs.lemmas.Bool.{cases_Bool}
 use Rattle.tw_core.specs.declared.refusal.Refusal.{Refusal}
 use Rattle.tw_core.specs.Machine.{Core, count_ahead}
 use Rattle.tw_core.specs.Steps.{after_handling, after_undoing, at_router, handle, is_newest, undo}
@@ -20,22 +20,7 @@ module _ {S E : Type 0} (m : Simulation S E) where
   -- where handling was not refused
   pub handle_done : (C D : Core E) (r : ℕ) (first : Option E) → handle m C r first ≡ Ok D → HasHandled C D r first
   handle_done C D r None h = cc
-  handle_done C D r (Some e) h =
-      elim (cases_Bool (nat_lt (m.time e) C.stop)) [
-        | inr b ↦ (let k = rw b at h in cc)
-        | inl b ↦ elim (cases_Bool (is_newest m e (C.history r))) [
-          | inl c ↦ (let k = rw (b, c) at h in cc)
-          | inr c ↦ elim (cases_Bool (nat_lt (count_ahead C r) (C.room r))) [
-            | inr d ↦ (let k = rw (b, c, d) at h in cc)
-            | inl d ↦ elim (cases_Bool (m.full (state m r (C.history r)) e)) [
-              | inl f ↦ (let k = rw (b, c, d, f) at h in cc)
-              | inr f ↦ (
-                  let k = rw (b, c, d, f) at h in
-                  record { event = e; found = refl; soon = ltb-true (m.time e) C.stop b; new = c; room = ltb-true (count_ahead C r) (C.room r) d; counters = f; made = cc })
-            ]
-          ]
-        ]
-      ]
+  handle_done C D r (Some e) h = grind arith
 
   -- r has undone this event
   pub record HasUndone (C D : Core E) (r : ℕ) (history : List E) : Type 0 where
@@ -49,23 +34,7 @@ module _ {S E : Type 0} (m : Simulation S E) where
   -- where undoing was not refused
   pub undo_done : (C D : Core E) (r : ℕ) (history : List E) → undo m C r history ≡ Ok D → HasUndone C D r history
   undo_done C D r [] h = cc
-  undo_done C D r (e ∷ older) h =
-      elim (cases_Bool (nat_lt (m.time e) (C.done r))) [
-        | inl b ↦ (let k = rw b at h in cc)
-        | inr b ↦ elim (cases_Bool (nat_lt (m.time e) C.bound)) [
-          | inl c ↦ (let k = rw (b, c) at h in cc)
-          | inr c ↦ (
-              let k = rw (b, c) at h in
-              record {
-                event = e;
-                older = older;
-                newest = refl;
-                uncommitted = ltb-false (m.time e) (C.done r) b;
-                late = ltb-false (m.time e) C.bound c;
-                made = cc;
-              })
-        ]
-      ]
+  undo_done C D r (e ∷ older) h = grind arith
 
   -- the router is there
   pub at_router_done : (r : ℕ) (outcome : Result (Core E) Refusal) (D : Core E) → at_router m r outcome ≡ Ok D → outcome ≡ Ok D

@@ -1,16 +1,16 @@
 -- A machine that takes back at once what undone events had sent never holds anything.
-use Rattle.std.proofs.Common.{◌≡◌, ℕ, zero, suc, Bool, true, false, not, List, [], ◌∷◌, Option, None, Some, Result, Ok, Err, remove, slice_get, refl, ap, ◌∙◌, subst, inl, inr, nat_lt}
+use Rattle.std.proofs.Common.{arith, ◌≡◌, ℕ, zero, suc, Bool, true, false, not, List, [], ◌∷◌, Option, None, Some, Result, Ok, Err, remove, slice_get, refl, subst, inl, inr, nat_lt}
 use Rattle.std.proofs.lemmas.Bool.{cases_Bool}
 use Rattle.std.specs.Result.{result_unwrap_or}
-use Rattle.tw_core.proofs.Done.{at_router_done, handle_done, undo_done}
+use Rattle.tw_core.proofs.Done.{at_router_done}
 use Rattle.tw_core.specs.declared.refusal.Refusal.{Refusal}
 use Rattle.tw_core.specs.Machine.{Core}
-use Rattle.tw_core.specs.Steps.{after_arrival, after_delivery, after_handling, after_undoing, after_undoing_while, deliver, first_pending, from_others, handle, held_back, next, run, step, still_held, undo, with_bound, with_commit, with_release}
+use Rattle.tw_core.specs.Steps.{after_arrival, after_delivery, after_undoing, after_undoing_while, deliver, first_pending, handle, next, run, step, undo}
 use Rattle.tw_sim.specs.declared.machine.Cancel.TheVariants.{Aggressive}
 use Rattle.tw_sim.specs.declared.machine.Signed.{Signed}
 use Rattle.tw_sim.specs.declared.machine.Step.{Step}
 use Rattle.tw_sim.specs.declared.machine.Step.TheVariants.{Handle, Undo, Deliver, Bound, Commit, Release}
-use Rattle.tw_sim.specs.Simulation.{Simulation, state, times}
+use Rattle.tw_sim.specs.Simulation.{Simulation}
 
 module _ {S E : Type 0} (m : Simulation S E) where
   -- the machine takes back in the same way as before, and where that is at once and nothing was held, nothing is
@@ -22,15 +22,10 @@ module _ {S E : Type 0} (m : Simulation S E) where
   same C = record { cancel = refl; held = λ eager none. none }
 
   both : (A B C : Core E) → IsAsEager A B → IsAsEager B C → IsAsEager A C
-  both A B C first second = record {
-    cancel = second.cancel ∙ first.cancel;
-    held = λ eager none. second.held (first.cancel ∙ eager) (first.held eager none);
-  }
+  both A B C first second = grind arith
 
   undoing : (C : Core E) (r : ℕ) (e : E) (older : List E) → IsAsEager C (after_undoing m C r e older)
-  undoing C r e older =
-      let back = m.sends (state m r older) e in
-      record { cancel = refl; held = λ eager none. ap (λ c. held_back m c back C.held) eager ∙ none }
+  undoing C r e older = grind arith
 
   undoing_while : (test : E → Bool) (r : ℕ) (xs : List E) (C : Core E) → IsAsEager C (after_undoing_while m test r xs C)
   undoing_while test r [] C = same C
@@ -43,21 +38,8 @@ module _ {S E : Type 0} (m : Simulation S E) where
 
   -- whatever arrives
   arrival : (C : Core E) (plus : Bool) (e : E) → IsAsEager C (after_arrival m C (record { plus = plus; event = e }))
-  arrival C true e =
-      let back = undoing_while (λ x. m.before e x) (m.dst e) (C.history (m.dst e)) C in
-      elim (cases_Bool (nat_lt 0 (times m e C.kept))) [
-        | inl b ↦ rw b (record { cancel = refl; held = λ eager none. none })
-        | inr b ↦ rw b (record { cancel = back.cancel; held = back.held })
-      ]
-  arrival C false e =
-      let back = undoing_while (λ x. not (m.before x e)) (m.dst e) (C.history (m.dst e)) C in
-      elim (cases_Bool (nat_lt 0 (times m e C.pending))) [
-        | inl b ↦ rw b (record { cancel = refl; held = λ eager none. none })
-        | inr b ↦ rw b (elim (cases_Bool (nat_lt 0 (times m e (C.history (m.dst e))))) [
-          | inl c ↦ rw c (record { cancel = back.cancel; held = back.held })
-          | inr c ↦ rw c (record { cancel = refl; held = λ eager none. none })
-        ])
-      ]
+  arrival C true e = grind (arith, undoing_while, cases_Bool, nat_lt)
+  arrival C false e = grind (arith, undoing_while, not, cases_Bool, nat_lt)
 
   delivery : (C D : Core E) (k : ℕ) (o : Option (Signed E)) → deliver m C k o ≡ Ok D → IsAsEager C D
   delivery C D k None h = cc
@@ -67,32 +49,19 @@ module _ {S E : Type 0} (m : Simulation S E) where
       subst (IsAsEager C) made (record { cancel = arrived.cancel; held = arrived.held })
 
   handling : (C D : Core E) (r : ℕ) → handle m C r (first_pending m C r) ≡ Ok D → IsAsEager C D
-  handling C D r h =
-      let done = handle_done m C D r (first_pending m C r) h in
-      let out = m.sends (state m r (C.history r)) done.event in
-      subst (IsAsEager C) done.made (record { cancel = refl; held = λ eager none. ap (still_held m out) none })
+  handling C D r h = grind arith
 
   undone : (C D : Core E) (r : ℕ) → undo m C r (C.history r) ≡ Ok D → IsAsEager C D
-  undone C D r h =
-      let done = undo_done m C D r (C.history r) h in
-      subst (IsAsEager C) done.made (undoing C r done.event done.older)
+  undone C D r h = grind arith
 
   step_eager : (C D : Core E) (x : Step) → step m C x ≡ Ok D → IsAsEager C D
   step_eager C D (Handle r) h = handling C D r (at_router_done m r (handle m C r (first_pending m C r)) D h)
   step_eager C D (Undo r) h = undone C D r (at_router_done m r (undo m C r (C.history r)) D h)
   step_eager C D (Deliver zero) h = cc
   step_eager C D (Deliver (suc k)) h = delivery C D k (slice_get C.flight k) h
-  step_eager C D Bound h =
-      let made : with_bound m C ≡ D = cc in
-      subst (IsAsEager C) made (record { cancel = refl; held = λ eager none. none })
-  step_eager C D (Commit r) h =
-      let ok = at_router_done m r (Ok (with_commit m C r)) D h in
-      let made : with_commit m C r ≡ D = cc in
-      subst (IsAsEager C) made (record { cancel = refl; held = λ eager none. none })
-  step_eager C D (Release r) h =
-      let ok = at_router_done m r (Ok (with_release m C r)) D h in
-      let made : with_release m C r ≡ D = cc in
-      subst (IsAsEager C) made (record { cancel = refl; held = λ eager none. ap (from_others m r) none })
+  step_eager C D Bound h = grind arith
+  step_eager C D (Commit r) h = grind arith
+  step_eager C D (Release r) h = grind arith
 
   next_at : (C : Core E) (o : Result (Core E) Refusal) → ((D : Core E) → o ≡ Ok D → IsAsEager C D) → IsAsEager C (result_unwrap_or o C)
   next_at C (Ok D) done = done D refl

@@ -1,10 +1,10 @@
 -- A good state is the one-thread run, as far as it is committed and as far as its bound.
-use Rattle.std.proofs.Common.{◌≡◌, ℕ, ◌<◌, ◌≤◌, Bool, List, [], ap, sym, ◌∙◌, arith, nat_lt}
+use Rattle.std.proofs.Common.{◌≡◌, ℕ, ◌<◌, ◌≤◌, List, [], ap, sym, ◌∙◌, arith, nat_lt}
 use Rattle.std.proofs.lemmas.Bool.{ltb-true, lt-ltb}
 use Rattle.tw_core.proofs.Counts.{none_there}
 use Rattle.tw_core.proofs.Steps.{good_opening, run_keeps}
 use Rattle.tw_core.specs.Good.{IsGood, due}
-use Rattle.tw_core.specs.Machine.{Core, IsOpening, antimessages, messages, times_handled, times_loose}
+use Rattle.tw_core.specs.Machine.{Core, IsOpening, messages, times_handled}
 use Rattle.tw_core.specs.Run.{IsAtEnd, IsSeq, IsSettled}
 use Rattle.tw_core.specs.Steps.{run}
 use Rattle.tw_sim.proofs.Closed.{asked_once, histories_are_log, log_closed, running_seq}
@@ -12,38 +12,17 @@ use Rattle.tw_sim.proofs.Counts.{in_filter, none, times-filter-yes, times-insert
 use Rattle.tw_sim.proofs.Rising.{rising-insert_all, same_rising}
 use Rattle.tw_sim.proofs.Unique.{all_below, falling-filter, in_only, same_falling, sent_before, sent_by_source}
 use Rattle.tw_sim.specs.declared.machine.Step.{Step}
-use Rattle.tw_sim.specs.Seq.{insert_all, log, rest}
-use Rattle.tw_sim.specs.Simulation.{Simulation, AreClosed, IsLawful, IsNumbered, below, only, sent, state, times}
+use Rattle.tw_sim.specs.Seq.{log}
+use Rattle.tw_sim.specs.Simulation.{Simulation, AreClosed, IsLawful, IsNumbered, below, only, state, times}
 
 module _ {S E : Type 0} (m : Simulation S E) (law : IsLawful m) where
   -- below the bound all that was asked for is handled, and nothing else
   asked : (C : Core E) → IsGood m C → (e : E) → m.time e < C.bound → times_handled m C e ≡ due m C e
-  asked C good e h =
-      let none_loose = none (times_loose m C e) (λ k. let late = good.part.late e k in absurd (omega arith)) in
-      let balance = good.balance e in
-      omega arith
+  asked C good e h = grind arith
 
   -- up to each time to the bound, the histories are closed
   pub good_closed : (C : Core E) → IsGood m C → (t : ℕ) → t ≤ C.bound → AreClosed m t (λ r. below m t (C.history r))
-  good_closed C good t le =
-      let test : E → Bool = λ x. nat_lt (m.time x) t in
-      record {
-        falling = λ r. falling-filter m law test (C.history r) (good.part.falling r);
-        home = λ r e h. good.part.home r e (in_filter m law test e (C.history r) h).1;
-        soon = λ r e h. ltb-true (m.time e) t (in_filter m law test e (C.history r) h).0;
-        sent_in = λ e h. (
-            let there = in_filter m law test e (C.history (m.dst e)) h in
-            let soon = ltb-true (m.time e) t there.0 in
-            let handled = there.1 in
-            let all = asked C good e (omega arith) in
-            let cut = sent_before m law (m.src e) t (C.history (m.src e)) (good.part.falling (m.src e)) e (omega arith) in
-            omega arith);
-        all_in = λ e soon h. (
-            let all = asked C good e (omega arith) in
-            let cut = sent_before m law (m.src e) t (C.history (m.src e)) (good.part.falling (m.src e)) e (omega arith) in
-            let there = times-filter-yes m law test e (C.history (m.dst e)) (lt-ltb (m.time e) t soon) in
-            omega arith);
-      }
+  good_closed C good t le = grind (arith, nat_lt, falling-filter, in_filter, ltb-true, asked, sent_before, times-filter-yes, lt-ltb)
 
   -- where nothing is in flight, nothing is kept
   pub none_kept : (C : Core E) → IsGood m C → C.flight ≡ [] → C.kept ≡ []
@@ -96,25 +75,7 @@ module _ {S E : Type 0} (m : Simulation S E) (law : IsLawful m) where
 
     -- the bound could be the stop
     good_to_stop : (C : Core E) → IsGood m C → IsSettled m C → IsGood m (record C { bound = C.stop })
-    good_to_stop C good settled = record {
-      part = record {
-        falling = good.part.falling;
-        home = good.part.home;
-        soon = good.part.soon;
-        late = λ e h. settled.pending e (
-            let no_kept : times m e C.kept ≡ 0 = ap (times m e) (none_kept C good settled.flight) in
-            let no_messages : messages m e C.flight ≡ 0 = ap (messages m e) settled.flight in
-            let no_antimessages : antimessages m e C.flight ≡ 0 = ap (antimessages m e) settled.flight in
-            let none_held : times m e C.held ≡ 0 = ap (times m e) settled.held in
-            omega arith);
-        ahead = good.part.ahead;
-        alone = good.part.alone;
-        suit = good.part.suit;
-      };
-      balance = good.balance;
-      done = λ r. (let old = good.done r in let last = good.bound in omega arith);
-      bound = omega arith;
-    }
+    good_to_stop C good settled = grind arith
 
     -- where nothing is in flight and nothing waits before the stop, the state is that at the end of the run
     pub at_end : (C : Core E) → IsGood m C → IsSettled m C → IsAtEnd m C
@@ -126,20 +87,7 @@ module _ {S E : Type 0} (m : Simulation S E) (law : IsLawful m) where
           kept = none_kept C good settled.flight;
           events = whole;
           states = λ r. ap (state m r) (whole r);
-          pending = same_rising m law (insert_all m C.pending []) (rest m C.stop) (rising-insert_all m law C.pending [] tt) running.rising (λ e.
-              let inserted = times-insert_all m e C.pending [] in
-              let no_kept : times m e C.kept ≡ 0 = ap (times m e) (none_kept C good settled.flight) in
-              let no_messages : messages m e C.flight ≡ 0 = ap (messages m e) settled.flight in
-              let no_antimessages : antimessages m e C.flight ≡ 0 = ap (antimessages m e) settled.flight in
-              let none_held : times m e C.held ≡ 0 = ap (times m e) settled.held in
-              let balance = good.balance e in
-              let of_run = running.balance e in
-              let source = sent_by_source m law (log m C.stop) e in
-              let here = in_only m law e (log m C.stop) in
-              let handled : times_handled m C e ≡ times m e (only m (m.dst e) (log m C.stop)) = ap (times m e) (whole (m.dst e)) in
-              let asked_for : times m e (sent m (m.src e) (C.history (m.src e))) ≡ times m e (sent m (m.src e) (only m (m.src e) (log m C.stop)))
-              = ap (λ xs. times m e (sent m (m.src e) xs)) (whole (m.src e)) in
-              omega arith);
+          pending = grind (arith, same_rising, rising-insert_all, times-insert_all, none_kept, sent_by_source, in_only);
         }
 
     -- an event is asked for once at most

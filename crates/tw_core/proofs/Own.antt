@@ -1,5 +1,5 @@
 -- What a call leaves at some routers is for these alone.
-use Rattle.std.proofs.Common.{◌≡◌, ℕ, ◌+◌, ◌<◌, ◌==◌, Bool, not, true, false, List, [], ◌∷◌, Ok, refl, sym, ◌∙◌, subst, inl, inr, arith, nat_lt}
+use Rattle.std.proofs.Common.{◌≡◌, ℕ, ◌+◌, ◌<◌, ◌==◌, Bool, not, true, false, List, [], ◌∷◌, Ok, refl, sym, subst, inl, inr, arith, nat_lt}
 use Rattle.std.proofs.lemmas.Bool.{cases_Bool, cases_eq, eqb-true, ltb-false, ltb-true}
 use Rattle.tw_core.proofs.Calls.{put_other, put_same}
 use Rattle.tw_core.proofs.Counts.{times-from, times-held_back, times-still_held}
@@ -12,7 +12,7 @@ use Rattle.tw_sim.proofs.Counts.{in_filter, in_head, one_cases, times-insert, ti
 use Rattle.tw_sim.proofs.Least.{least_is}
 use Rattle.tw_sim.specs.declared.machine.Signed.{Signed}
 use Rattle.tw_sim.specs.Seq.{insert}
-use Rattle.tw_sim.specs.Simulation.{Simulation, IsLawful, only, state, times}
+use Rattle.tw_sim.specs.Simulation.{Simulation, IsLawful, only, times}
 
 module _ {S E : Type 0} (m : Simulation S E) (law : IsLawful m) (owns : ℕ → Bool) where
   -- other things wait, but for the same routers
@@ -21,24 +21,13 @@ module _ {S E : Type 0} (m : Simulation S E) (law : IsLawful m) (owns : ℕ → 
   own_waiting C pending kept own mine = record { history = own.history; waiting = mine; held = own.held }
 
   more_waits : (C : Core E) (e : E) → IsOwn m owns C → owns (m.dst e) ≡ true → (x : E) → 0 < times m x (insert m e C.pending) + times m x C.kept → owns (m.dst x) ≡ true
-  more_waits C e own mine x h =
-      elim (one_cases m law x e) [
-        | inr is ↦ subst (λ z. owns (m.dst z) ≡ true) (sym is) mine
-        | inl z ↦ own.waiting x (let k = times-insert m x e C.pending in omega arith)
-      ]
+  more_waits C e own mine x h = grind (arith, one_cases, times-insert)
 
   less_waits : (C : Core E) (e : E) → IsOwn m owns C → (x : E) → 0 < times m x (take_out m e C.pending) + times m x C.kept → owns (m.dst x) ≡ true
   less_waits C e own x h = own.waiting x (let k = times-take_out-le m x e C.pending in omega arith)
 
   own_handling : (C : Core E) (e : E) → IsOwn m owns C → 0 < times m e C.pending → IsOwn m owns (after_handling m C (m.dst e) e)
-  own_handling C e own there = record {
-    history = λ r x h. elim (cases_eq r (m.dst e)) [
-      | inl same ↦ subst (λ q. owns q ≡ true) (sym same) (own.waiting e (omega arith))
-      | inr other ↦ own.history r x (subst (λ xs. 0 < times m x xs) (put_other C.history (m.dst e) r (e ∷ C.history (m.dst e)) other) h)
-    ];
-    waiting = less_waits C e own;
-    held = λ x h. own.held x (let k = times-still_held m x (m.sends (state m (m.dst e) (C.history (m.dst e))) e) C.held in omega arith);
-  }
+  own_handling C e own there = grind (arith, cases_eq, put_other, less_waits, times-still_held)
 
   -- handling
   pub own_handle : (C D : Core E) (r : ℕ) → IsOwn m owns C → handle m C r (first_pending m C r) ≡ Ok D → IsOwn m owns D
@@ -57,13 +46,7 @@ module _ {S E : Type 0} (m : Simulation S E) (law : IsLawful m) (owns : ℕ → 
           | inr other ↦ own.history q x (subst (λ xs. 0 < times m x xs) (put_other C.history r q older other) h)
         ];
         waiting = more_waits C e own (subst (λ p. owns p ≡ true) (sym home) mine);
-        held = λ x h.
-            let back = m.sends (state m r older) e in
-            let all = times-held_back m x C.cancel back C.held in
-            elim (cases_Bool (nat_lt 0 (times m x back))) [
-              | inl b ↦ subst (λ p. owns p ≡ true) (sym (law.sender (state m r older) e x (ltb-true 0 (times m x back) b) ∙ home)) mine
-              | inr b ↦ own.held x (let no = ltb-false 0 (times m x back) b in omega arith)
-            ];
+        held = λ x h. grind (arith, times-held_back, cases_Bool, nat_lt, ltb-true, ltb-false);
       }
 
   own_while : (r : ℕ) (test : E → Bool) (xs : List E) (C : Core E) → C.history r ≡ xs → ((y : E) → 0 < times m y xs → m.dst y ≡ r) → IsOwn m owns C
@@ -92,28 +75,8 @@ module _ {S E : Type 0} (m : Simulation S E) (law : IsLawful m) (owns : ℕ → 
   own_back t C e test good own = own_while (m.dst e) test (C.history (m.dst e)) C refl (good.home (m.dst e)) own
 
   by_sign : (t : ℕ) (C : Core E) (plus : Bool) (e : E) → IsGoodPart m t C → IsOwn m owns C → owns (m.dst e) ≡ true → IsOwn m owns (after_arrival m C (record { plus = plus; event = e }))
-  by_sign t C true e good own mine =
-      elim (cases_Bool (nat_lt 0 (times m e C.kept))) [
-        | inl b ↦ rw b (own_waiting C C.pending (take_out m e C.kept) own (λ x h. own.waiting x (let k = times-take_out-le m x e C.kept in omega arith)))
-        | inr b ↦ rw b (
-            let back = own_back t C e (λ x. m.before e x) good own in
-            let B = after_undoing_while m (λ x. m.before e x) (m.dst e) (C.history (m.dst e)) C in
-            own_waiting B (insert m e B.pending) B.kept back (more_waits B e back mine))
-      ]
-  by_sign t C false e good own mine =
-      elim (cases_Bool (nat_lt 0 (times m e C.pending))) [
-        | inl b ↦ rw b (own_waiting C (take_out m e C.pending) C.kept own (less_waits C e own))
-        | inr b ↦ rw b (elim (cases_Bool (nat_lt 0 (times m e (C.history (m.dst e))))) [
-          | inl c ↦ rw c (
-              let back = own_back t C e (λ x. not (m.before x e)) good own in
-              let B = after_undoing_while m (λ x. not (m.before x e)) (m.dst e) (C.history (m.dst e)) C in
-              own_waiting B (take_out m e B.pending) B.kept back (less_waits B e back))
-          | inr c ↦ rw c (own_waiting C C.pending (insert m e C.kept) own (λ x h. elim (one_cases m law x e) [
-            | inr is ↦ subst (λ z. owns (m.dst z) ≡ true) (sym is) mine
-            | inl z ↦ own.waiting x (let k = times-insert m x e C.kept in omega arith)
-          ]))
-        ])
-      ]
+  by_sign t C true e good own mine = grind (arith, cases_Bool, nat_lt, own_waiting, times-take_out-le, own_back, more_waits)
+  by_sign t C false e good own mine = grind (arith, cases_Bool, nat_lt, own_waiting, less_waits, own_back, not, one_cases, times-insert)
 
   -- the arrival of a message for one of them
   pub own_arrival : (t : ℕ) (C : Core E) (x : Signed E) → IsGoodPart m t C → IsOwn m owns C → owns (m.dst x.event) ≡ true → IsOwn m owns (after_arrival m C x)

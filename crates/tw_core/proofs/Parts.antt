@@ -29,29 +29,7 @@ module _ {S E : Type 0} (m : Simulation S E) where
   -- one part that owns every router is the whole
   pub whole_adds_up : (C : Core E) → IsGood m C
       → AddUp m (record { mail = C.flight; bound = C.bound; stop = C.stop }) (record { owns = λ r. true; core = record C { flight = [] } } ∷ [])
-  whole_adds_up C good = record {
-    once = λ r l. refl;
-    each = (
-      record {
-        good = record {
-          falling = good.falling;
-          home = good.home;
-          soon = good.soon;
-          late = λ e h. good.late e (omega arith);
-          ahead = good.ahead;
-          alone = good.alone;
-          suit = λ e h. good.suit e (omega arith);
-        };
-        done = good.done;
-        own = record { history = λ r e h. refl; waiting = λ e h. refl; held = λ e h. refl };
-      },
-      tt,
-    );
-    bound = good.bound;
-    late = λ e h. good.late e (omega arith);
-    suit = λ e h. good.suit e (omega arith);
-    balance = λ e. (let old = good.balance e in omega arith);
-  }
+  whole_adds_up C good = grind arith
 
   module _ (law : IsLawful m) where
     -- who sent anything has handled something
@@ -73,22 +51,12 @@ module _ {S E : Type 0} (m : Simulation S E) where
 
       -- a router for which something was handled is there
       there : (p : Part E) (r : ℕ) (y : E) → IsPart m shared p → 0 < times m y (p.core.history r) → (p.owns r ≡ true) × (r < m.routers)
-      there p r y is h =
-          let home = is.good.home r y h in
-          let at_home : 0 < times m y (p.core.history (m.dst y)) = subst (λ q. 0 < times m y (p.core.history q)) (sym home) h in
-          let receiver = law.receiver y (is.good.suit y (omega arith)) in
-          (is.own.history r y h, (omega arith))
+      there p r y is h = grind arith
 
       -- ---- sums
 
       owned_total : (r : ℕ) (f : Part E → ℕ) → AllByRecursion (IsOwners r f) parts → total f parts ≡ option_map_or f (owner r parts) 0
-      owned_total r f only =
-          elim (cases_lt r m.routers) [
-            | inl l ↦ owned r f parts (sums.once r l) (all_map (IsOwners r f) (λ p. 0 < f p → p.owns r ≡ true) (λ p h k. (h k).0) parts only)
-            | inr ge ↦
-                let zero = all_map (IsOwners r f) (λ p. f p ≡ 0) (λ p h. none (f p) (λ k. let l = (h k).1 in omega arith)) parts only in
-                total_zero f parts zero ∙ sym (found_zero f (λ p. p.owns r) parts zero)
-          ]
+      owned_total r f only = grind (arith, cases_lt, owned, all_map, none, total_zero, found_zero)
 
       handled_total : (e : E) → total (λ p. times_handled m p.core e) parts ≡ times_handled m A e
       handled_total e =
@@ -117,9 +85,7 @@ module _ {S E : Type 0} (m : Simulation S E) where
           messages-append m e shared.mail (flat_map (λ p. p.core.flight) parts) ∙ ap (λ n. messages m e shared.mail + n) (messages-flat_map e (λ p. p.core.flight) parts)
 
       antimessages_total : (e : E) → antimessages m e A.flight ≡ antimessages m e shared.mail + total (λ p. antimessages m e p.core.flight) parts
-      antimessages_total e =
-          antimessages-append m e shared.mail (flat_map (λ p. p.core.flight) parts)
-          ∙ ap (λ n. antimessages m e shared.mail + n) (antimessages-flat_map e (λ p. p.core.flight) parts)
+      antimessages_total e = grind (arith, antimessages-append, flat_map, antimessages-flat_map)
 
       loose_total : (e : E) → times_loose m A e ≡ messages m e shared.mail + antimessages m e shared.mail + total (λ p. times_loose m p.core e) parts
       loose_total e =
@@ -221,11 +187,7 @@ module _ {S E : Type 0} (m : Simulation S E) where
                     (let no = ltb-false 0 (times_loose m A e) b in let all = handled_total e in omega arith)
               ];
         };
-        balance = λ e. (
-            let there_all = there_total e in
-            let wanted_all = wanted_total e in
-            let sum = sums.balance e in
-            omega arith);
+        balance = λ e. grind (arith, there_total, wanted_total);
         done = λ r. from_owner r (λ C. C.done r) 0 (λ n. n ≤ shared.bound) (omega arith) parts (each (λ p. p.core.done r ≤ shared.bound) (λ p is. is.done r));
         bound = sums.bound;
       }

@@ -1,12 +1,12 @@
 -- What undoing the newest events of a history keeps, as long as they pass a test.
 use Rattle.std.proofs.Common.{◌≡◌, ℕ, ◌+◌, ◌<◌, ◌≤◌, Bool, cond, true, false, List, [], ◌∷◌, ◌++◌, append_assoc, append-nil, refl, ap, sym, ◌∙◌, subst, inl, inr, arith}
-use Rattle.std.proofs.lemmas.Bool.{cases_Bool, both_ways, false_from_ne_true}
+use Rattle.std.proofs.lemmas.Bool.{cases_Bool}
 use Rattle.tw_core.proofs.Calls.{moved_undoing, part_undoing, put_same, surplus_undoing}
 use Rattle.tw_core.specs.Good.{IsGoodPart}
 use Rattle.tw_core.specs.Machine.{Core, times_handled}
 use Rattle.tw_core.specs.Parts.{KeepsPart}
 use Rattle.tw_core.specs.Steps.{after_undoing, after_undoing_while, sent_back}
-use Rattle.tw_sim.proofs.Counts.{in_cons, in_head}
+use Rattle.tw_sim.proofs.Counts.{in_head}
 use Rattle.tw_sim.specs.declared.machine.Cancel.{Cancel}
 use Rattle.tw_sim.specs.declared.machine.Signed.{Signed}
 use Rattle.tw_sim.specs.Simulation.{Simulation, IsFalling, IsLawful, state, times}
@@ -41,19 +41,7 @@ module _ {S E : Type 0} (m : Simulation S E) where
 
   module _ (law : IsLawful m) where
     back_more : (t : ℕ) (A B C : Core E) → IsBack t A B → IsBack t B C → IsBack t A C
-    back_more t A B C first second = record {
-      keeps = record {
-        part = second.part;
-        surplus = λ x. (let a = first.surplus x in let b = second.surplus x in omega arith);
-        done = second.done ∙ first.done;
-        past = second.past ∙ first.past;
-        bound = second.bound ∙ first.bound;
-        stop = second.stop ∙ first.stop;
-        cancel = second.cancel ∙ first.cancel;
-      };
-      moved = λ x. second.moved x ∙ first.moved x;
-      kept = second.kept ∙ first.kept;
-    }
+    back_more t A B C first second = grind arith
 
     -- undoing the newest one
     pub back_one : (t r : ℕ) (C : Core E) (e : E) (older : List E) → C.history r ≡ e ∷ older → t ≤ m.time e → IsGoodPart m t C → IsBack t C (after_undoing m C r e older)
@@ -61,15 +49,7 @@ module _ {S E : Type 0} (m : Simulation S E) where
         let home : m.dst e ≡ r = good.home r e (subst (λ xs. 0 < times m e xs) (sym newest) (in_head m law e older)) in
         subst (λ q. C.history q ≡ e ∷ older → IsBack t C (after_undoing m C q e older)) home
         (λ here. record {
-          keeps = record {
-            part = part_undoing m law C e older here t late good;
-            surplus = surplus_undoing m law C e older here;
-            done = refl;
-            past = refl;
-            bound = refl;
-            stop = refl;
-            cancel = refl;
-          };
+          keeps = grind (arith, part_undoing, surplus_undoing);
           moved = λ x. moved_undoing m law C e older here x;
           kept = refl;
         })
@@ -98,10 +78,5 @@ module _ {S E : Type 0} (m : Simulation S E) where
     left_fails r test up (e ∷ older) C here falling x h =
         elim (cases_Bool (test e)) [
           | inl b ↦ left_fails r test up older (after_undoing m C r e older) (put_same C.history r older) falling.1 x (rw b at h)
-          | inr b ↦ (
-              let there : 0 < times m x (e ∷ older) = subst (λ ys. 0 < times m x ys) here (rw b at h) in
-              elim (in_cons m law x e older there) [
-                | inl is ↦ subst (λ z. test z ≡ false) (sym is) b
-                | inr old ↦ false_from_ne_true (test x) (λ k. both_ways (test e) b (up e x (falling.0 x old) k))
-              ])
+          | inr b ↦ grind arith
         ]
