@@ -1,5 +1,5 @@
 -- When a run is over, both ends of a link have handled the same failures and repairs of it, in the same order.
-use Rattle.std.proofs.Common.{◌≡◌, ℕ, ◌==◌, Bool, true, false, List, [], ◌∷◌, map, filter, refl, ap, sym, ◌∙◌, subst, inl, inr}
+use Rattle.std.proofs.Common.{arith, ◌≡◌, ℕ, ◌==◌, Bool, true, false, List, [], ◌∷◌, map, filter, refl, ap, sym, ◌∙◌, subst, inl, inr}
 use Rattle.std.specs.List.{enumerate_from}
 use Rattle.std.specs.Ordering.{is_lt}
 use Rattle.std.specs.declared.cmp.Ordering.TheVariants.{Equal}
@@ -12,7 +12,7 @@ use Rattle.tw_event.proofs.Order.{same_is, same_self}
 use Rattle.tw_model.specs.declared.case.Scene.{Scene}
 use Rattle.tw_model.specs.declared.case.Scene.TheVariants as scene
 use Rattle.tw_sim.specs.Simulation.{IsFalling}
-use Rattle.tw_model.specs.Case.{Case, IsCase, opening_event, opening_events, scene_events, simulation}
+use Rattle.tw_model.specs.Case.{Case, IsCase, opening_events, scene_events, simulation}
 use Rattle.tw_sim.proofs.Members.{In, in_filter, in_filtered, in_flat_mapped, in_map, in_mapped, in_times, times_in}
 use Rattle.tw_model.proofs.Openings.{opening_of}
 use Rattle.tw_sim.proofs.Unique.{same_falling}
@@ -59,11 +59,7 @@ other_after w t (Update q n) l h = refl
 
 link_marks : (w : ℕ) (h : List Event) → link_along w h ≡ link_along w (marks w h)
 link_marks w [] = refl
-link_marks w (e ∷ h) =
-    elim (cases_Bool (about w e.body)) [
-      | inl b ↦ rw b (ap (link_after w e.time e.body) (link_marks w h))
-      | inr b ↦ rw b (other_after w e.time e.body (link_along w h) b ∙ link_marks w h)
-    ]
+link_marks w (e ∷ h) = grind (arith, cases_Bool, link_after, other_after, link_along, link_marks w h)
 
 turned_after : (v w t : ℕ) (b : Body) (l : LinkState) → about v b ≡ true → link_after v t b l ≡ link_after w t (turn_to w b) l
 turned_after v w t Start l h = cc
@@ -114,47 +110,17 @@ turned_about v w (Update q n) h = h
 
 -- at the other end they come in the same order
 mirror_cmp : (v w : ℕ) (x y : Event) → IsMark w v x → IsMark w v y → event_cmp (mirror v w x) (mirror v w y) ≡ event_cmp x y
-mirror_cmp v w x y m n =
-    let dst = same_cmp x.dst y.dst (m.dst ∙ sym n.dst) in
-    let src = same_cmp x.src y.src (m.src ∙ sym n.src) in
-    let body = about_cmp v x.body y.body m.about n.about in
-    let turned = about_cmp w (turn_to w x.body) (turn_to w y.body) (turned_about v w x.body m.about) (turned_about v w y.body n.about) in
-    rw (dst, src, body, turned, same_cmp v v refl, turned_class w x.body, turned_class w y.body) refl
-
-turned_back : (v w : ℕ) (b : Body) → about v b ≡ true → turn_to v (turn_to w b) ≡ b
-turned_back v w (Fail x) h = ap Fail (sym (eqb-true x v h))
-turned_back v w (Restore x) h = ap Restore (sym (eqb-true x v h))
-turned_back v w Start h = refl
-turned_back v w (Swap i j) h = refl
-turned_back v w (Forbid k) h = refl
-turned_back v w (Allow k) h = refl
-turned_back v w (Update q n) h = refl
+mirror_cmp v w x y m n = grind (arith, same_cmp, about_cmp, turned_about, turned_class)
 
 mirror_back : (v w : ℕ) (e : Event) → IsMark w v e → mirror w v (mirror v w e) ≡ e
-mirror_back v w e m =
-    let body = turned_back v w e.body m.about in
-    let dst = m.dst in
-    let src = m.src in
-    λ i. record { time = e.time; dst = sym dst i; src = sym src i; seq = e.seq; body = body i }
+mirror_back v w e m = grind arith
 
 -- a scenario line about a link opens with an event at each end
 mirror_scene : (v w n : ℕ) (s : Scene) (e : Event) → In e (scene_events n s) → IsMark w v e → In (mirror v w e) (scene_events n s)
-mirror_scene v w n (scene.Fail t a b) e (inl is) m =
-    let here : a ≡ w = sym (ap (λ z. z.dst) is) ∙ m.dst in
-    let there : b ≡ v = eqb-true b v (subst (λ z. about v z.body ≡ true) is m.about) in
-    inr (inl (ap (mirror v w) is ∙ (λ i. opening_event n t (sym there i) (Fail (sym here i)))))
-mirror_scene v w n (scene.Fail t a b) e (inr (inl is)) m =
-    let here : b ≡ w = sym (ap (λ z. z.dst) is) ∙ m.dst in
-    let there : a ≡ v = eqb-true a v (subst (λ z. about v z.body ≡ true) is m.about) in
-    inl (ap (mirror v w) is ∙ (λ i. opening_event n t (sym there i) (Fail (sym here i))))
-mirror_scene v w n (scene.Restore t a b) e (inl is) m =
-    let here : a ≡ w = sym (ap (λ z. z.dst) is) ∙ m.dst in
-    let there : b ≡ v = eqb-true b v (subst (λ z. about v z.body ≡ true) is m.about) in
-    inr (inl (ap (mirror v w) is ∙ (λ i. opening_event n t (sym there i) (Restore (sym here i)))))
-mirror_scene v w n (scene.Restore t a b) e (inr (inl is)) m =
-    let here : b ≡ w = sym (ap (λ z. z.dst) is) ∙ m.dst in
-    let there : a ≡ v = eqb-true a v (subst (λ z. about v z.body ≡ true) is m.about) in
-    inl (ap (mirror v w) is ∙ (λ i. opening_event n t (sym there i) (Restore (sym here i))))
+mirror_scene v w n (scene.Fail t a b) e (inl is) m = grind arith
+mirror_scene v w n (scene.Fail t a b) e (inr (inl is)) m = grind arith
+mirror_scene v w n (scene.Restore t a b) e (inl is) m = grind arith
+mirror_scene v w n (scene.Restore t a b) e (inr (inl is)) m = grind arith
 mirror_scene v w n (scene.Swap t x i j) e (inl is) m =
     absurd (false≢true (subst (λ z. about v z.body ≡ true) is m.about))
 mirror_scene v w n (scene.Forbid t x k) e (inl is) m =
@@ -192,11 +158,7 @@ module _ (case : Case) (is : IsCase case) where
 
   pub falls-filter : (p : Event → Bool) (xs : List Event) → Falls xs → Falls (filter p xs)
   falls-filter p [] f = tt
-  falls-filter p (x ∷ xs) f =
-      elim (cases_Bool (p x)) [
-        | inl b ↦ rw b ((λ e k. f.0 e (in_filter p e xs k).1), falls-filter p xs f.1)
-        | inr b ↦ rw b (falls-filter p xs f.1)
-      ]
+  falls-filter p (x ∷ xs) f = grind (arith, cases_Bool, in_filter, falls-filter p xs f.1)
 
   falls-mirror : (v w : ℕ) (xs : List Event) → ((e : Event) → In e xs → IsMark w v e) → Falls xs → Falls (map (mirror v w) xs)
   falls-mirror v w [] all f = tt
@@ -222,11 +184,7 @@ module _ (case : Case) (is : IsCase case) where
       ]
 
   mark_of : (r x : ℕ) (h : List Event) → HasOpened r h → (e : Event) → In e (marks x h) → IsMark r x e × In e (opening_events case.scenes)
-  mark_of r x h has e k =
-      let f = in_filter (λ z. about x z.body) e h k in
-      let home = has.home e f.1 in
-      let o = has.links e x f.1 f.0 in
-      (record { dst = home; src = opening_source e x f.0 o ∙ home; about = f.0 }, o)
+  mark_of r x h has e k = grind (arith, in_filter, opening_source)
 
   mirrored : (v w : ℕ) (here there : List Event) → HasOpened v here → HasOpened w there → (e : Event) → In e (marks v there) → In (mirror v w e) (marks w here)
   mirrored v w here there has_here has_there e k =

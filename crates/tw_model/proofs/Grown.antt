@@ -6,10 +6,10 @@ use Rattle.tw_model.specs.declared.case.Scene.{Scene}
 use Rattle.tw_model.specs.declared.limits.TheConstants.{LATEST_VERSION}
 use Rattle.tw_model.specs.declared.net.Link.{Link}
 use Rattle.tw_model.specs.declared.rule.Rule.TheVariants.{PathNoLink}
-use Rattle.tw_model.specs.Case.{Case, IsCase, bare_case}
+use Rattle.tw_model.specs.Case.{IsCase, bare_case}
 use Rattle.tw_model.specs.PermittedPath.{PermittedPath}
 use Rattle.tw_model.specs.Net.{Net, joins}
-use Rattle.tw_model.specs.Rules.{IsNet, LinksFollow, PathsFollow, ScenesFollow, case_fault, is_linked, leaves_links, path_breaks, path_fault, link_fault, nodes_fault, scene_fault}
+use Rattle.tw_model.specs.Rules.{IsNet, LinksFollow, PathsFollow, ScenesFollow, is_linked, leaves_links, path_breaks, path_fault, link_fault, nodes_fault, scene_fault}
 use Rattle.tw_model.proofs.Unbroken.{none_broken}
 
 -- a net without links and paths keeps the rules where its number of routers does
@@ -46,11 +46,7 @@ paths_follow_more nodes links before (p ∷ paths) l h =
     (path_fault_more (record { nodes = nodes; links = links; permitted = before }) l p h.0, paths_follow_more nodes links (before ++ p ∷ []) paths l h.1)
 
 pub net_with_link : (net : Net) (l : Link) → IsNet net → link_fault net l ≡ None → IsNet (record net { links = net.links ++ l ∷ [] })
-net_with_link net l h next = record {
-  nodes = h.nodes;
-  links = links_follow_more net.nodes [] net.links l h.links next;
-  permitted = paths_follow_more net.nodes net.links [] net.permitted l h.permitted;
-}
+net_with_link net l h next = grind (arith, links_follow_more, paths_follow_more)
 
 -- ---- one more path
 
@@ -60,11 +56,7 @@ paths_follow_push net before [] p h next = (rw append-nil at next, tt)
 paths_follow_push net before (q ∷ paths) p h next = (h.0, paths_follow_push net (before ++ q ∷ []) paths p h.1 (rw (append_assoc before (q ∷ []) paths) next))
 
 pub net_with_path : (net : Net) (p : PermittedPath) → IsNet net → path_fault net p ≡ None → IsNet (record net { permitted = net.permitted ++ p ∷ [] })
-net_with_path net p h next = record {
-  nodes = h.nodes;
-  links = h.links;
-  permitted = paths_follow_push net [] net.permitted p h.permitted next;
-}
+net_with_path net p h next = grind (arith, paths_follow_push)
 
 -- ---- one more scenario line
 
@@ -82,6 +74,3 @@ pub case_with_scene : {version : ℕ} (net : Net) (scenes : List Scene) (s : Sce
 case_with_scene net scenes s h next = record { net = h.net; scenes = scenes_follow_push net 0 (length scenes) scenes s (omega arith) h.scenes next; version = refl }
 
 -- ---- another version
-
-pub case_in_version : (version : ℕ) (case : Case) → IsCase case → case_fault version case.net case.scenes ≡ None → IsCase (record case { version = version })
-case_in_version version case h fits = record { net = h.net; scenes = h.scenes; version = fits }

@@ -7,7 +7,6 @@ use Rattle.tw_event.specs.declared.event.Body.TheVariants.{Start, Fail, Restore,
 use Rattle.tw_event.specs.declared.event.Event.{Event}
 use Rattle.tw_event.specs.declared.event.PathNo.{PathNo}
 use Rattle.tw_event.specs.Order.{event_before}
-use Rattle.tw_event.proofs.Order.{before_time}
 use Rattle.tw_model.specs.declared.net.Hop.{Hop}
 use Rattle.tw_model.specs.declared.state.Row.{Row}
 use Rattle.tw_model.specs.Net.{empty_path, hops_of}
@@ -88,12 +87,8 @@ module _ (w : ℕ) (e : Event) (r : Row) (l : LinkState) where
   change_body same (Swap i j) is = not_update (Swap i j) is (λ q n d. cc)
   change_body same (Forbid k) is = not_update (Forbid k) is (λ q n d. cc)
   change_body same (Allow k) is = not_update (Allow k) is (λ q n d. cc)
-  change_body same (Fail x) is =
-      subst (λ up. Change w e r l (row_after w e.src (Fail x) r) (if x == w then (if up then record l { up = false } else l) else l)) (sym same)
-      (change_fail x is (x == w) r.up refl refl)
-  change_body same (Restore x) is =
-      subst (λ up. Change w e r l (row_after w e.src (Restore x) r) (if x == w then (if up then l else record { up = true; session = l.session + 1; since = e.time }) else l)) (sym same)
-      (change_restore x is (x == w) r.up refl refl)
+  change_body same (Fail x) is = grind (arith, row_after, change_fail)
+  change_body same (Restore x) is = grind (arith, row_after, change_restore)
   change_body same (Update q n) is = change_update q n is (e.src == w) (r.up && r.session == n) refl refl
 
 pub change : (w : ℕ) (e : Event) (r : Row) (l : LinkState) → l.up ≡ r.up → Change w e r l (row_after w e.src e.body r) (link_after w e.time e.body l)
@@ -113,9 +108,7 @@ agree_after w e r l r2 l2 (nothing no_taken) a = a
 
 pub agree_along : (w : ℕ) (h : List Event) → Agree (row_along w h) (link_along w h)
 agree_along w [] = record { up = refl; session = refl; heard = λ c. refl }
-agree_along w (e ∷ h) =
-    let a = agree_along w h in
-    agree_after w e (row_along w h) (link_along w h) (row_along w (e ∷ h)) (link_along w (e ∷ h)) (change w e (row_along w h) (link_along w h) a.up) a
+agree_along w (e ∷ h) = grind (arith, agree_after, change, agree_along w h)
 
 pub change_along : (w : ℕ) (e : Event) (h : List Event) → Change w e (row_along w h) (link_along w h) (row_along w (e ∷ h)) (link_along w (e ∷ h))
 change_along w e h = change w e (row_along w h) (link_along w h) (agree_along w h).up
@@ -155,13 +148,7 @@ heard_after : (w : ℕ) (e : Event) (h : List Event) → ((x : Event) → In x h
     → Change w e r l r2 l2 → (r.up ≡ false → r.heard ≡ empty_path) → (r.up ≡ true → IsHeard w h r l) → r2.up ≡ true → IsHeard w (e ∷ h) r2 l2
 heard_after w e h first r l r2 l2 (taken q s b u) empty old up =
     some e (inl refl) s b (λ x i f. elim i [ inl is ↦ inl is | inr i ↦ inr (first x i) ])
-heard_after w e h first r l r2 l2 (raised b d) empty old up =
-    silent
-    (λ x i f. elim i [
-      | inl is ↦ (let no_update : Restore w ≡ Update f.path (r.session + 1) = sym b ∙ (ap (λ z. z.body) (sym is) ∙ f.body) in cc)
-      | inr i ↦ (let order = before_time x e (first x i) in let later = f.later in absurd (omega arith))
-    ])
-    (empty d)
+heard_after w e h first r l r2 l2 (raised b d) empty old up = grind arith
 heard_after w e h first r l r2 l2 (lowered b u) empty old up = absurd (false≢true up)
 heard_after w e h first r l r2 l2 (nothing no_taken) empty old up =
     heard_more w e h r l (λ f. no_taken f.path f.src f.body up) (old up)

@@ -1,12 +1,12 @@
 -- Along a router's history: its newest update to a neighbour has the path and the session that the router has now.
 use Rattle.std.proofs.Common.{◌≡◌, ℕ, ◌+◌, ◌<◌, ◌≤◌, true, List, [], ◌∷◌, length, refl, ap, sym, ◌∙◌, subst, ◌⊎◌, inl, inr, arith}
 use Rattle.std.specs.Ordering.{nat_cmp}
-use Rattle.std.specs.declared.cmp.Ordering.TheVariants.{Less, Equal}
-use Rattle.std.proofs.lemmas.Bool.{cases_lt, false≢true, both_ways, eq-eqb, ltb-true, lt-ltb, le-ltb}
+use Rattle.std.specs.declared.cmp.Ordering.TheVariants.{Equal}
+use Rattle.std.proofs.lemmas.Bool.{false≢true, both_ways, eq-eqb, ltb-true, le-ltb}
 use Rattle.tw_event.specs.declared.event.Body.TheVariants.{Update}
 use Rattle.tw_event.specs.declared.event.Event.{Event}
 use Rattle.tw_event.specs.declared.event.PathNo.{PathNo}
-use Rattle.tw_event.specs.Order.{class_of, event_before, place_of}
+use Rattle.tw_event.specs.Order.{event_before}
 use Rattle.tw_event.proofs.Order.{before_time}
 use Rattle.tw_model.specs.declared.state.Row.{Row}
 use Rattle.tw_model.specs.Net.{Net, empty_path, hops_of}
@@ -23,25 +23,10 @@ use Rattle.tw_model.proofs.LinkTold.{IsTold, Tell, tell_effect, told, untold}
 pub same_cmp : (m n : ℕ) → m ≡ n → nat_cmp m n ≡ Equal
 same_cmp m n e = rw (le-ltb m n (omega arith), eq-eqb m n e) refl
 
-pub less_cmp : (m n : ℕ) → m < n → nat_cmp m n ≡ Less
-less_cmp m n h = rw (lt-ltb m n h) refl
-
 -- of two updates from one router to another the earlier sent comes first, unless it arrives later
 before_update : (x y : Event) (q p : PathNo) (n m : ℕ) → x.body ≡ Update q n → y.body ≡ Update p m → x.time ≤ y.time → x.dst ≡ y.dst → x.src ≡ y.src → x.seq < y.seq
     → event_before x y ≡ true
-before_update x y q p n m xb yb time dst src seq =
-    elim (cases_lt x.time y.time) [
-      | inl l ↦ rw (less_cmp x.time y.time l) refl
-      | inr l ↦ (
-          let classes : place_of (class_of x.body) ≡ place_of (class_of y.body) = ap (λ b. place_of (class_of b)) xb ∙ sym (ap (λ b. place_of (class_of b)) yb) in
-          rw (
-            same_cmp x.time y.time (omega arith),
-            same_cmp x.dst y.dst dst,
-            same_cmp (place_of (class_of x.body)) (place_of (class_of y.body)) classes,
-            same_cmp x.src y.src src,
-            less_cmp x.seq y.seq seq,
-          ) refl)
-    ]
+before_update x y q p n m xb yb time dst src seq = grind arith
 
 -- the events of one router, newest first, each suits it
 pub record IsHistory (net : Net) (a : ℕ) (h : List Event) : Type 0 where
@@ -80,10 +65,7 @@ module _ (case : Case) (is : IsCase case) (a b : ℕ) (there : has_peer case.net
   was_told : (t : ℕ) (e : Event) (h : List Event) → IsHistory case.net a (e ∷ h) → e.time ≤ t → (before after : State) (sends : List Event)
       → Tell case.net a b there e.time before after sends → (x : Event) → In x sends → x.dst ≡ b
       → (x.src ≡ a) × (x.time ≤ t + delay) × ((q : PathNo) × (n : ℕ) × (x.body ≡ Update q n))
-  was_told t e h his soon before after sends (told u i is only) x k d =
-      let same = only x k d in
-      let time : x.time ≡ e.time + (hop case.net a (slot case.net a b)).delay = ap (λ z. z.time) same ∙ is.time in
-      (ap (λ z. z.src) same ∙ is.src, omega arith, (after.rib, (row after (slot case.net a b)).session, ap (λ z. z.body) same ∙ is.body))
+  was_told t e h his soon before after sends (told u i is only) x k d = grind arith
   was_told t e h his soon before after sends (untold none kept) x k d = absurd (none x k d)
 
   pub was_sent : (t : ℕ) (h : List Event) → IsHistory case.net a h → ((e : Event) → In e h → e.time ≤ t) → (x : Event) → In x (sent (simulation case) a h) → x.dst ≡ b → WasSent t h x

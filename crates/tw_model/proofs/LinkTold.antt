@@ -1,7 +1,7 @@
 -- What a router told one neighbour: the newest update to it has the path that the router now uses.
 use Rattle.std.proofs.Common.{◌≡◌, ℕ, suc, zero, ◌+◌, ◌<◌, ◌≤◌, ◌==◌, Bool, true, false, List, [], ◌∷◌, length, filter, get_or, refl, ap, sym, ◌∙◌, subst, ◌⊎◌, inl, inr, arith}
 use Rattle.std.specs.List.{enumerate_from, position_or_len, zip}
-use Rattle.std.proofs.lemmas.Bool.{cases_Bool, cases_eq, both_ways, and_parts, eq-eqb, ne_eqb, ltb-true}
+use Rattle.std.proofs.lemmas.Bool.{cases_Bool, cases_eq, both_ways, and_parts, ne_eqb, ltb-true}
 use Rattle.std.proofs.Math.Numerals.{one-add}
 use Rattle.tw_event.specs.declared.event.Body.{Body}
 use Rattle.tw_event.specs.declared.event.Body.TheVariants.{Start, Fail, Restore, Swap, Forbid, Allow, Update}
@@ -57,9 +57,7 @@ pub zip_row : (hs : List Hop) (rs : List Row) → Rises hs → (p : Hop × Row) 
     → (p.0 ≡ get_or hs (position_or_len (λ h. h.peer == p.0.peer) hs) no_hop) × (p.1 ≡ get_or rs (position_or_len (λ h. h.peer == p.0.peer) hs) no_row)
 zip_row [] rs r p i = absurd i
 zip_row (h ∷ hs) [] r p i = absurd i
-zip_row (h ∷ hs) (x ∷ rs) r p (inl e) =
-    let peer : h.peer == p.0.peer ≡ true = eq-eqb h.peer p.0.peer (sym (ap (λ z. z.0.peer) e)) in
-    rw peer (ap (λ z. z.0) e, ap (λ z. z.1) e)
+zip_row (h ∷ hs) (x ∷ rs) r p (inl e) = grind arith
 zip_row (h ∷ hs) (x ∷ rs) r p (inr i) =
     let less = r.0 p.0 (in_zip p hs rs i).0 in
     let peer : h.peer == p.0.peer ≡ false = ne_eqb h.peer p.0.peer (λ e. absurd (omega arith)) in
@@ -135,18 +133,12 @@ module _ (net : Net) (a b : ℕ) (there : has_peer net a b ≡ true) where
   -- a row that is down after a change was not put up by it
   fail_up : (s : State) → length s.rows ≡ length (hops_of net a) → (x : ℕ) → (x ≡ b) ⊎ (x ≡ b → ⊥)
       → (row (with_failed_link s (slot net a x)) (slot net a b)).up ≡ true → (row s (slot net a b)).up ≡ true
-  fail_up s full x (inl is) u =
-      let down : (row (with_failed_link s (slot net a x)) (slot net a b)).up ≡ false
-      = subst (λ y. (row (with_failed_link s (slot net a y)) (slot net a b)).up ≡ false) (sym is) (ap (λ r. r.up) (row_same net a b there s _ full)) in
-      absurd (both_ways _ down u)
+  fail_up s full x (inl is) u = grind (arith, row_same, both_ways)
   fail_up s full x (inr d) u = sym (ap (λ r. r.up) (row_other net a b there s x _ d)) ∙ u
 
   hear_up : (s : State) (q : PathNo) → length s.rows ≡ length (hops_of net a) → (x : ℕ) → (x ≡ b) ⊎ (x ≡ b → ⊥)
       → (row (with_heard s (slot net a x) q) (slot net a b)).up ≡ true → (row s (slot net a b)).up ≡ true
-  hear_up s q full x (inl is) u =
-      let same : (row (with_heard s (slot net a x) q) (slot net a b)).up ≡ (row s (slot net a b)).up
-      = subst (λ y. (row (with_heard s (slot net a y) q) (slot net a b)).up ≡ (row s (slot net a b)).up) (sym is) (ap (λ r. r.up) (row_same net a b there s _ full)) in
-      sym same ∙ u
+  hear_up s q full x (inl is) u = grind (arith, row_same)
   hear_up s q full x (inr d) u = sym (ap (λ r. r.up) (row_other net a b there s x _ d)) ∙ u
 
   tell_quiet : (t : ℕ) (s : State) → Tell t s s []

@@ -3,25 +3,23 @@ use Rattle.std.proofs.Common.{◌≡◌, ℕ, suc, zero, ◌+◌, ◌<◌, ◌�
 use Rattle.std.specs.List.{cons_option, position_or_len, filter_map, find, range_with_len}
 use Rattle.std.specs.Option.{option_map}
 use Rattle.std.proofs.lemmas.List.Sums.{passes_at_first}
-use Rattle.std.proofs.lemmas.Bool.{cases_Bool, both_ways, and_parts, or_parts, or_cases, not-false, ltb-true, leb-true, leb-false, eqb-true, eqb-false, eq-eqb, ne_eqb, lt-ltb, or_left, or_right, false_from_ne_true}
+use Rattle.std.proofs.lemmas.Bool.{cases_Bool, both_ways, and_parts, or_parts, or_cases, not-false, ltb-true, leb-true, leb-false, eqb-true, eqb-false, eq-eqb, ne_eqb, lt-ltb, false_from_ne_true}
 use Rattle.std.proofs.Math.Bool.{or_comm}
 use Rattle.std.proofs.lemmas.List.{length-append}
 use Rattle.std.proofs.lemmas.List.Elements.{filter-append}
 use Rattle.tw_model.specs.declared.net.Hop.{Hop}
 use Rattle.tw_model.specs.declared.net.Link.{Link}
 use Rattle.tw_model.specs.declared.rule.Rule.{Rule}
-use Rattle.tw_model.specs.declared.rule.Rule.TheVariants.{Range, SelfLink, Delay, TooMany}
+use Rattle.tw_model.specs.declared.rule.Rule.TheVariants.{Range, SelfLink, Delay}
 use Rattle.tw_model.specs.Net.{Net, delay_from, joins, hop_to, hops_of}
 use Rattle.tw_model.specs.State.{has_peer, hop, no_hop, slot}
-use Rattle.tw_model.specs.Rules.{IsNet, LinksFollow, degree, is_linked, is_within, link_breaks, link_fault, nodes_break, nodes_fault}
+use Rattle.tw_model.specs.Rules.{IsNet, LinksFollow, degree, is_linked, is_within, link_breaks, link_fault, nodes_fault}
 use Rattle.tw_model.proofs.Unbroken.{none_broken}
 use Rattle.tw_sim.proofs.Members.{In, in_find, in_filter_map, in_filter_mapped, in_get_or, in_range, place_within, range_has, find_agree, find_some}
 
 -- a number of routers that keeps the rules
 pub nodes_within : (n : ℕ) → nodes_fault n ≡ None → (1 ≤ n) × (n ≤ 1024)
-nodes_within n h =
-    let both = and_parts (nat_le 1 n) (nat_le n 1024) (not-false (nat_le 1 n && nat_le n 1024) (none_broken (nodes_break n) h Range)) in
-    (leb-true 1 n both.0, leb-true n 1024 both.1)
+nodes_within n h = grind arith
 
 -- a link that keeps the rules
 pub record IsLink (nodes : ℕ) (l : Link) : Type 0 where
@@ -73,19 +71,7 @@ pub record AreJoined (net : Net) (v w : ℕ) : Type 0 where
   pub apart : v ≡ w → ⊥
 
 pub joined_by : (net : Net) (v w : ℕ) (l : Link) → IsLink net.nodes l → joins v w l ≡ true → AreJoined net v w
-joined_by net v w l is h =
-    elim (or_cases (l.first == v && l.second == w) (l.first == w && l.second == v) h) [
-      | inl k ↦ (
-          let p = and_parts (l.first == v) (l.second == w) k in
-          let a = eqb-true l.first v p.0 in
-          let b = eqb-true l.second w p.1 in
-          record { here = subst (λ n. n < net.nodes) a is.first; there = subst (λ n. n < net.nodes) b is.second; apart = λ e. is.apart (a ∙ e ∙ sym b) })
-      | inr k ↦ (
-          let p = and_parts (l.first == w) (l.second == v) k in
-          let a = eqb-true l.first w p.0 in
-          let b = eqb-true l.second v p.1 in
-          record { here = subst (λ n. n < net.nodes) b is.second; there = subst (λ n. n < net.nodes) a is.first; apart = λ e. is.apart (a ∙ sym e ∙ sym b) })
-    ]
+joined_by net v w l is h = grind arith
 
 -- whichever end sends, a message takes 1 to 1,000,000 ticks
 delay_within : (nodes v : ℕ) (l : Link) → IsLink nodes l → (1 ≤ delay_from v l) × (delay_from v l ≤ 1000000)
@@ -123,13 +109,7 @@ pub record IsNeighbour (net : Net) (v : ℕ) (h : Hop) : Type 0 where
   pub most : h.delay ≤ 1000000
 
 pub neighbour : (net : Net) → IsNet net → (v : ℕ) (h : Hop) → In h (hops_of net v) → IsNeighbour net v h
-neighbour net is v h k =
-    let a = hop_of net v h k in
-    let l = is_link_of net is a.0 a.1.given in
-    let j = joined_by net v h.peer a.0 l a.1.between in
-    let d = a.1.delay in
-    let within = delay_within net.nodes v a.0 l in
-    record { here = j.here; there = j.there; apart = j.apart; least = subst (λ n. 1 ≤ n) (sym d) within.0; most = subst (λ n. n ≤ 1000000) (sym d) within.1 }
+neighbour net is v h k = grind (arith, hop_of, is_link_of, joined_by, delay_within)
 
 -- routers that a link joins are neighbours
 pub hop_between : (net : Net) (v w : ℕ) → w < net.nodes → is_linked net.links v w ≡ true → (h : Hop) × In h (hops_of net v) × (h.peer ≡ w)
@@ -244,26 +224,11 @@ touches : ℕ → Link → Bool
 touches v l = l.first == v || l.second == v
 
 other_end : (v w : ℕ) (l : Link) → joins v w l ≡ true → w ≡ cond (l.first == v) l.second l.first
-other_end v w l h =
-    elim (or_cases (l.first == v && l.second == w) (l.first == w && l.second == v) h) [
-      | inl k ↦ (let p = and_parts (l.first == v) (l.second == w) k in rw p.0 (sym (eqb-true l.second w p.1)))
-      | inr k ↦ (
-          let p = and_parts (l.first == w) (l.second == v) k in
-          let a = eqb-true l.first w p.0 in
-          let b = eqb-true l.second v p.1 in
-          elim (cases_Bool (l.first == v)) [
-            | inl t ↦ rw t (let c = eqb-true l.first v t in sym a ∙ c ∙ sym b)
-            | inr t ↦ rw t (sym a)
-          ])
-    ]
+other_end v w l h = grind arith
 
 joins_touches : (v w : ℕ) (l : Link) → joins v w l ≡ true → touches v l ≡ true
 unfolding touches
-joins_touches v w l h =
-    elim (or_cases (l.first == v && l.second == w) (l.first == w && l.second == v) h) [
-      | inl k ↦ or_left (l.first == v) (l.second == v) (and_parts (l.first == v) (l.second == w) k).0
-      | inr k ↦ or_right (l.first == v) (l.second == v) (and_parts (l.first == w) (l.second == v) k).1
-    ]
+joins_touches v w l h = grind arith
 
 link_gives : (v a n : ℕ) (l : Link) → length (filter (λ w. joins v w l) (range_with_len a n)) ≤ cond (touches v l) 1 0
 link_gives v a n l =
@@ -275,19 +240,7 @@ link_gives v a n l =
 hops_split : (l : Link) (links : List Link) (v : ℕ) (ws : List ℕ)
     → length (filter_map (hop_to (l ∷ links) v) ws) ≤ length (filter (λ w. joins v w l) ws) + length (filter_map (hop_to links v) ws)
 hops_split l links v [] = omega arith
-hops_split l links v (w ∷ ws) =
-    let more = hops_split l links v ws in
-    elim (cases_Bool (joins v w l)) [
-      | inl b ↦ rw b (let k = longer (hop_to links v w) (filter_map (hop_to links v) ws) in omega arith)
-      | inr b ↦ rw b (same (hop_to links v w) (filter_map (hop_to (l ∷ links) v) ws) (filter_map (hop_to links v) ws) (length (filter (λ w. joins v w l) ws)) more)
-    ] where
-      longer : (o : Option Hop) (hs : List Hop) → length hs ≤ length (cons_option o hs)
-      longer None hs = omega arith
-      longer (Some h) hs = omega arith
-
-      same : (o : Option Hop) (xs ys : List Hop) (n : ℕ) → length xs ≤ n + length ys → length (cons_option o xs) ≤ n + length (cons_option o ys)
-      same None xs ys n h = h
-      same (Some x) xs ys n h = omega arith
+hops_split l links v (w ∷ ws) = grind (arith, cases_Bool, filter, hops_split l links v ws)
 
 no_hops : (v : ℕ) (ws : List ℕ) → length (filter_map (hop_to [] v) ws) ≡ 0
 no_hops v [] = refl
@@ -296,35 +249,14 @@ no_hops v (w ∷ ws) = no_hops v ws
 degree_hops : (links : List Link) (v n : ℕ) → length (filter_map (hop_to links v) (range_with_len 0 n)) ≤ degree links v
 unfolding touches
 degree_hops [] v n = let none = no_hops v (range_with_len 0 n) in omega arith
-degree_hops (l ∷ links) v n =
-    let more = degree_hops links v n in
-    let split = hops_split l links v (range_with_len 0 n) in
-    let one = link_gives v 0 n l in
-    elim (cases_Bool (touches v l)) [ inl b ↦ rw b (let k = rw b at one in omega arith) | inr b ↦ rw b (let k = rw b at one in omega arith) ]
+degree_hops (l ∷ links) v n = grind (arith, hops_split, link_gives, cases_Bool, touches, degree_hops links v n)
 
 degree_more : (net : Net) (x : Link) → link_fault net x ≡ None → ((v : ℕ) → degree net.links v ≤ 64) → (v : ℕ) → degree (net.links ++ x ∷ []) v ≤ 64
-degree_more net x fault h v =
-    let room = or_parts (nat_le 64 (degree net.links x.first)) (nat_le 64 (degree net.links x.second)) (none_broken (link_breaks net x) fault TooMany) in
-    let first = leb-false 64 (degree net.links x.first) room.0 in
-    let second = leb-false 64 (degree net.links x.second) room.1 in
-    let touched = λ (l : Link). l.first == v || l.second == v in
-    let whole : length (filter touched (net.links ++ x ∷ [])) ≡ length (filter touched net.links) + length (filter touched (x ∷ []))
-    = ap length (filter-append touched net.links (x ∷ [])) ∙ length-append (filter touched net.links) (filter touched (x ∷ [])) in
-    elim (cases_Bool (touched x)) [
-      | inr b ↦ (let one : length (filter touched (x ∷ [])) ≡ 0 = rw b refl in let old = h v in omega arith)
-      | inl b ↦ (
-          let one : length (filter touched (x ∷ [])) ≡ 1 = rw b refl in
-          elim (or_cases (x.first == v) (x.second == v) b) [
-            | inl e ↦ (let k : degree net.links v < 64 = subst (λ w. degree net.links w < 64) (eqb-true x.first v e) first in omega arith)
-            | inr e ↦ (let k : degree net.links v < 64 = subst (λ w. degree net.links w < 64) (eqb-true x.second v e) second in omega arith)
-          ])
-    ]
+degree_more net x fault h v = grind (arith, or_parts, nat_le, none_broken, leb-false, filter, filter-append, length-append, cases_Bool, or_cases, eqb-true)
 
 degree_few : (net : Net) (links : List Link) → ((v : ℕ) → degree net.links v ≤ 64) → LinksFollow net links → (v : ℕ) → degree (net.links ++ links) v ≤ 64
 degree_few net [] h f v = rw append-nil (h v)
-degree_few net (x ∷ links) h f v =
-    let next = degree_few (record net { links = net.links ++ x ∷ [] }) links (degree_more net x f.0 h) f.1 v in
-    subst (λ l. degree l v ≤ 64) (append_assoc net.links (x ∷ []) links) next
+degree_few net (x ∷ links) h f v = grind (arith, degree_more, append_assoc, degree_few (record net { links = net.links ++ x ∷ [] }) links (degree_more net x f.0 h) f.1 v)
 
 -- a router has at most 64 neighbours
 pub hops_few : (net : Net) → IsNet net → (v : ℕ) → length (hops_of net v) ≤ 64

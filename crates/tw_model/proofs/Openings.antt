@@ -83,13 +83,7 @@ is_opening net n (scene.Restore t a b) f x (inl e) =
     subst (IsOpening net n) (sym e) (record { seq = refl; src = refl; body = λ q k c. cc; suit = both_suit a (has_peer net a b) f.there })
 is_opening net n (scene.Restore t a b) f x (inr (inl e)) =
     subst (IsOpening net n) (sym e) (record { seq = refl; src = refl; body = λ q k c. cc; suit = both_suit b (has_peer net b a) f.back })
-is_opening net n (scene.Swap t v i j) f x (inl e) =
-    subst (IsOpening net n) (sym e) (record {
-      seq = refl;
-      src = refl;
-      body = λ q k c. cc;
-      suit = both_suit v (has_place net v i && has_place net v j) (and_from (has_place net v i) (has_place net v j) f.1 f.2);
-    })
+is_opening net n (scene.Swap t v i j) f x (inl e) = grind arith
 is_opening net n (scene.Forbid t v k) f x (inl e) =
     subst (IsOpening net n) (sym e) (record { seq = refl; src = refl; body = λ q l c. cc; suit = both_suit v (has_line net v k) f.1 })
 is_opening net n (scene.Allow t v k) f x (inl e) =
@@ -146,12 +140,7 @@ module _ (case : Case) (is : IsCase case) where
   -- events of lines from n on have numbers from n on, and stand once
   scenes_number : (n : ℕ) (scenes : List Scene) → ((s : Scene) → In s scenes → SceneFits case.net s) → (x : Event)
       → In x (flat_map (λ l. scene_events l.0 l.1) (enumerate_from n scenes)) → n ≤ x.seq
-  scenes_number n scenes fit x h =
-      let l = in_flat_map (λ l. scene_events l.0 l.1) x (enumerate_from n scenes) h in
-      let k = in_enumerate l.0 n scenes l.2 in
-      let o = is_opening case.net l.0.0 l.0.1 (fit l.0.1 k.2) x l.1 in
-      let number = o.seq in
-      omega arith
+  scenes_number n scenes fit x h = grind (arith, in_flat_map, in_enumerate, is_opening)
 
   never : (x : Event) (xs : List Event) → (In x xs → ⊥) → times (simulation case) x xs ≡ 0
   never x xs h = none (times (simulation case) x xs) (λ k. h (in_times (simulation case) same_is x xs k))

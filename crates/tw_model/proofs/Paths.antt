@@ -5,7 +5,7 @@ use Rattle.std.specs.Bool.{Decides}
 use Rattle.std.specs.List.{All, AllPairs, filter, list_any, range_with_len, swap}
 use Rattle.std.proofs.lemmas.Bool.{cases_lt, both_ways, and_parts, and_from, or_cases, or_parts, not-false, eqb-true, eqb-false, eq-eqb}
 use Rattle.std.proofs.lemmas.Cmp.{nat_list_eq_equiv}
-use Rattle.std.proofs.lemmas.Bool.Decides.{Decides-eqb, same_from_decides}
+use Rattle.std.proofs.lemmas.Bool.Decides.{same_from_decides}
 use Rattle.std.proofs.lemmas.List.{get_or-map, get_or_past, length-map}
 use Rattle.std.proofs.lemmas.List.FromFn.{get_or-range_with_len, length-range_with_len}
 use Rattle.std.proofs.lemmas.List.Kept.{AllPairs-from_increasing, IsStrictlyIncreasing-filter}
@@ -88,24 +88,7 @@ permitted_apart net (x ∷ paths) h = (
 )
 
 paths_apart : (net : Net) → IsNet net → AreApart (paths net)
-paths_apart net is = (
-  (λ q k same. elim k [
-    | inl e ↦ (let no : [] ≡ 0 ∷ [] = same ∙ e in cc)
-    | inr more ↦ (
-        let p = in_map (λ l. l.nodes) q net.permitted more in
-        let l = has_owner_of net is p.0 p.2 in
-        let b : begins_at [] p.0.owner ≡ true = subst (λ n. begins_at n p.0.owner ≡ true) (sym (same ∙ p.1)) l.begins in
-        cc)
-  ]),
-  (
-    (λ q more same.
-        let p = in_map (λ l. l.nodes) q net.permitted more in
-        let l = has_owner_of net is p.0 p.2 in
-        let b : begins_at (0 ∷ []) p.0.owner ≡ true = subst (λ n. begins_at n p.0.owner ≡ true) (sym (same ∙ p.1)) l.begins in
-        l.owner (sym (eqb-true 0 p.0.owner b))),
-    permitted_apart (record { nodes = net.nodes; links = net.links; permitted = [] }) net.permitted is.permitted,
-  ),
-)
+paths_apart net is = grind (arith, in_map, has_owner_of, eqb-true, permitted_apart)
 
 apart_places : (ps : List (List ℕ)) → AreApart ps → (i j : ℕ) → i < length ps → j < length ps → get_or ps i [] ≡ get_or ps j [] → i ≡ j
 apart_places [] a i j l m e = absurd (omega arith)
@@ -155,11 +138,7 @@ own_is_path net v q h = (
 )
 
 pub permitted_is_path : (net : Net) (v : ℕ) (q : PathNo) → is_permitted net v q ≡ true → IsPath net q
-permitted_is_path net v q h =
-    elim (or_cases (q.0 == 0) (is_own net v q) h) [
-      | inl none ↦ (let zero_is = eqb-true q.0 0 none in omega arith)
-      | inr own ↦ (own_is_path net v q own).0
-    ]
+permitted_is_path net v q h = grind (arith, or_cases, eqb-true, own_is_path)
 
 -- the paths of v are those that begin at v
 pub in_paths_of : (net : Net) (v : ℕ) (q : PathNo) → In q (paths_of net v) ↔ (IsPath net q × (is_own net v q ≡ true))
@@ -182,11 +161,7 @@ paths_own net v = all_from_in (λ q. is_own net v q ≡ true) (paths_of net v) (
 -- ---- orders without repeats
 
 rising-range : (a n : ℕ) → IsStrictlyIncreasing (range_with_len a n)
-rising-range a n k within =
-    let long = length-range_with_len a n in
-    let one = get_or-range_with_len a n k 0 (omega arith) in
-    let next = get_or-range_with_len a n (k + 1) 0 (omega arith) in
-    omega arith
+rising-range a n k within = grind (arith, length-range_with_len, get_or-range_with_len)
 
 abbrev numbered : ℕ → PathNo
 numbered k = record { 0 = k }
@@ -209,9 +184,7 @@ paths_of-distinct net v =
     distinct-numbers (filter begins all) (AllPairs-from_increasing (filter begins all) (IsStrictlyIncreasing-filter begins all (rising-range 0 (length (paths net)))))
 
 same_number : (p q : PathNo) → Decides (p.0 == q.0) (p ≡ q)
-same_number p q =
-    let d = Decides-eqb p.0 q.0 in
-    ((λ h. ap (λ k. record { 0 = k }) (d.0 h)), (λ e. d.1 (ap (λ (x : PathNo). x.0) e)))
+same_number p q = grind arith
 
 number_flips : (p q : PathNo) → (p.0 == q.0) ≡ (q.0 == p.0)
 number_flips p q =

@@ -61,10 +61,7 @@ best_stable net v s ribs full heard_is =
           let there = has_peer_of net v p.0 (in_zip p (hops_of net v) s.rows i).0 in
           elim (cases_Bool p.1.up) [
             | inr b ↦ rw b refl
-            | inl b ↦ (
-                let heard : p.1.heard ≡ ribs p.0.peer
-                = ap (λ r. r.heard) z.1 ∙ heard_is p.0.peer there (sym (ap (λ r. r.up) z.1) ∙ b) in
-                rw heard refl)
+            | inl b ↦ grind arith
           ]
 
 -- the path of an update
@@ -75,9 +72,7 @@ path_of b = empty_path
 -- an update has one path
 pub path_in : (b : Body) (q p : PathNo) (n k : ℕ) → b ≡ Update q n → b ≡ Update p k → q ≡ p
 unfolding path_of
-path_in b q p n k one two =
-    let bodies : Update q n ≡ Update p k = sym one ∙ two in
-    ap path_of bodies
+path_in b q p n k one two = grind arith
 
 -- a router sends updates, from itself
 pub sent_update : (case : Case) → IsCase case → (a : ℕ) (h : List Event) → ((e : Event) → In e h → e.dst ≡ a) → (x : Event) → In x (sent (simulation case) a h)
@@ -173,12 +168,7 @@ module _ (case : Case) (is : IsCase case) (t : ℕ) where
         in_history v u (sent_handled u (subst (λ r. In u (sent (simulation case) r (history r))) (sym src) j)) dst
 
     is_from : (w : ℕ) (u : Event) (rib : PathNo) (r : Row) (l m : LinkState) → l ≡ m → l.session ≡ r.session → u.src ≡ w → u.body ≡ Update rib m.session → m.since < u.time → IsFrom w r.session l.since u
-    is_from w u rib r l m same session src told since = record {
-      src = src;
-      path = rib;
-      body = told ∙ ap (Update rib) (sym (ap (λ z. z.session) same) ∙ session);
-      later = subst (λ z. z.since < u.time) (sym same) since;
-    }
+    is_from w u rib r l m same session src told since = grind arith
 
     -- what v heard from w, over a link that both know alike, is what w uses
     heard_is : (v w : ℕ) → (back : has_peer case.net w v ≡ true) → (r : Row) (l m : LinkState) → l ≡ m → l.session ≡ r.session

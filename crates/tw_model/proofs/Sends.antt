@@ -1,5 +1,5 @@
 -- What an event at a router sends: later than itself, from its router, numbered, each once, at most 64, to neighbours.
-use Rattle.std.proofs.Common.{◌≡◌, ℕ, ◌+◌, ◌<◌, ◌≤◌, ◌==◌, true, false, List, [], ◌∷◌, length, map, ap, inl, inr, arith, nat_lt}
+use Rattle.std.proofs.Common.{◌≡◌, ℕ, ◌+◌, ◌<◌, ◌≤◌, true, false, List, [], ◌∷◌, length, map, ap, inl, inr, arith, nat_lt}
 use Rattle.std.specs.List.{enumerate_from, zip}
 use Rattle.std.proofs.lemmas.Bool.{cases_Bool, ltb-true, ltb-false}
 use Rattle.std.proofs.lemmas.List.{length-map}
@@ -14,7 +14,7 @@ use Rattle.tw_model.specs.declared.net.Hop.{Hop}
 use Rattle.tw_model.specs.declared.state.Row.{Row}
 use Rattle.tw_model.specs.Net.{hops_of}
 use Rattle.tw_model.specs.Rules.{IsNet}
-use Rattle.tw_model.specs.State.{State, best, hop, is_barred, no_hop, row, slot}
+use Rattle.tw_model.specs.State.{State, hop, is_barred, no_hop, row, slot}
 use Rattle.tw_model.specs.Effect.{Reaction, acts, accepts, with_dropped, effect, with_bar, with_failed_link, with_heard, without_sends, with_repaired_link, settle, with_swap, tell, update_to, updates, ups}
 use Rattle.tw_sim.specs.Simulation.{one, times}
 use Rattle.tw_model.specs.Case.{Case, simulation}
@@ -83,26 +83,10 @@ module _ (case : Case) where
   zip_few (h ∷ hs) (r ∷ rs) = let k = zip_few hs rs in omega arith
 
   few_updates : (v t : ℕ) (q : PathNo) (n : ℕ) (s : State) → IsNet case.net → length (updates case.net v t q n s) ≤ 64
-  few_updates v t q n s is =
-      let a = length-map (enumerate_from n (ups case.net v s)) (λ e. update_to v t q e.0 e.1.0 e.1.1) in
-      let b = length-enumerate_from n (ups case.net v s) in
-      let c = length-filter (λ p. p.1.up) (zip (hops_of case.net v) s.rows) in
-      let few = count_by-le-length (λ p. p.1.up) (zip (hops_of case.net v) s.rows) in
-      let d = zip_few (hops_of case.net v) s.rows in
-      let e = hops_few case.net is v in
-      omega arith
+  few_updates v t q n s is = grind (arith, length-map, length-enumerate_from, length-filter, count_by-le-length, zip_few, hops_few)
 
   tells_settle : (v t : ℕ) (s : State) → IsNet case.net → Tells v t s.counters.sent (settle case.net v t s)
-  tells_settle v t s is =
-      elim (cases_Bool (s.rib.0 == (best case.net v s).0)) [
-        | inl b ↦ rw b (tells_quiet v t s)
-        | inr b ↦ rw b (record {
-          sent = λ x h. sent_updates v t (best case.net v s) s is x h;
-          rising = omega arith;
-          few = few_updates v t (best case.net v s) s.counters.sent s is;
-          once = λ x. numbered_once v t (best case.net v s) s.counters.sent (ups case.net v s) x;
-        })
-      ]
+  tells_settle v t s is = grind (arith, cases_Bool, tells_quiet, sent_updates, few_updates, numbered_once)
 
   hop_least : (v k : ℕ) → IsNet case.net → 1 ≤ (hop case.net v k).delay
   hop_least v k is =

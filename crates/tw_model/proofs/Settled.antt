@@ -1,16 +1,15 @@
 -- A router uses the best path that its neighbours offer, the origin once it has started.
-use Rattle.std.proofs.Common.{◌≡◌, ℕ, suc, zero, ◌+◌, ◌==◌, Bool, true, false, not, ◌&&◌, ◌||◌, List, [], ◌∷◌, map, get_or, set, None, refl, ap, sym, ◌∙◌, subst, inl, inr, if◌then◌else◌}
+use Rattle.std.proofs.Common.{arith, ◌≡◌, ℕ, suc, zero, ◌+◌, ◌==◌, Bool, true, false, not, ◌||◌, List, [], ◌∷◌, map, get_or, set, None, refl, ap, sym, ◌∙◌, subst, inl, inr}
 use Rattle.std.specs.List.{find, list_any}
-use Rattle.std.specs.Option.{unwrap_or}
-use Rattle.std.proofs.lemmas.Bool.{cases_Bool, and_parts, and_right, eqb-true, ne_eqb}
+use Rattle.std.proofs.lemmas.Bool.{cases_Bool, and_parts, and_right, ne_eqb}
 use Rattle.tw_event.specs.declared.event.Body.{Body}
 use Rattle.tw_event.specs.declared.event.Body.TheVariants.{Start, Fail, Restore, Swap, Forbid, Allow, Update}
 use Rattle.tw_event.specs.declared.event.Event.{Event}
 use Rattle.tw_event.specs.declared.event.PathNo.{PathNo}
 use Rattle.tw_model.specs.declared.net.Hop.{Hop}
 use Rattle.tw_model.specs.declared.state.Row.{Row}
-use Rattle.tw_model.specs.Net.{Net, empty_path, hops_of, origin_path, paths_of}
-use Rattle.tw_model.specs.State.{State, bars, best, fresh_row, has_peer, is_barred, is_choice, no_row, offers, opening, row, slot}
+use Rattle.tw_model.specs.Net.{Net, empty_path}
+use Rattle.tw_model.specs.State.{State, best, fresh_row, has_peer, is_barred, is_choice, offers, opening, row, slot}
 use Rattle.tw_model.specs.Effect.{acts, accepts, body_suits, effect, with_bar, with_failed_link, with_heard, with_repaired_link, settle, with_swap}
 use Rattle.tw_sim.specs.Simulation.{state}
 use Rattle.tw_model.specs.Case.{Case, opening_event, simulation}
@@ -18,16 +17,9 @@ use Rattle.tw_sim.proofs.Members.{In, find_agree}
 use Rattle.tw_model.proofs.LinkHeard.{agree_along, row_state, state_home}
 use Rattle.tw_model.proofs.LinkLast.{IsHistory, older_history}
 
-same_number : (p q : PathNo) → (p.0 == q.0) ≡ true → p ≡ q
-same_number p q h = let e = eqb-true p.0 q.0 h in λ i. record { 0 = e i }
-
 -- after settling, a router uses the best path
 settle_best : (net : Net) (v t : ℕ) (s : State) → (settle net v t s).state.rib ≡ best net v (settle net v t s).state
-settle_best net v t s =
-    elim (cases_Bool (s.rib.0 == (best net v s).0)) [
-      | inl b ↦ rw b (same_number s.rib (best net v s) b)
-      | inr b ↦ rw b refl
-    ]
+settle_best net v t s = grind arith
 
 -- a write of what passes where it stood leaves whether any passes
 any_set : {X : Type 0} (p : X → Bool) (xs : List X) (k : ℕ) (y d : X) → p y ≡ p (get_or xs k d) → list_any p (set xs k y) ≡ list_any p xs
@@ -42,14 +34,10 @@ restored_offers net v q r down none = rw (down, none) refl
 
 -- nor does it open a choice
 restored_choice : (net : Net) (v k : ℕ) (s : State) → (row s k).up ≡ false → (row s k).heard ≡ empty_path → (q : PathNo) → is_choice net v (with_repaired_link s k) q ≡ is_choice net v s q
-restored_choice net v k s down none q =
-    ap (λ b. not (bars net v s.barred q) && b)
-    (any_set (offers net v q) s.rows k (record (row s k) { up = true; session = (row s k).session + 1 }) no_row (restored_offers net v q (row s k) down none))
+restored_choice net v k s down none q = grind (arith, not, any_set, restored_offers)
 
 restored_best : (net : Net) (v k : ℕ) (s : State) → (row s k).up ≡ false → (row s k).heard ≡ empty_path → best net v (with_repaired_link s k) ≡ best net v s
-restored_best net v k s down none =
-    ap (λ o. if v == 0 then origin_path else unwrap_or o empty_path)
-    (find_agree (is_choice net v (with_repaired_link s k)) (is_choice net v s) (restored_choice net v k s down none) s.order)
+restored_best net v k s down none = grind (arith, find_agree, restored_choice)
 
 -- either the router has settled, or nothing that matters has changed
 data Settles (net : Net) (v : ℕ) (b : Body) (s after : State) : Type 0 where
@@ -88,10 +76,7 @@ settles_acts net v s e (Update q n) none =
 
 settles_effect : (net : Net) (v : ℕ) (s : State) (e : Event) → ((w : ℕ) → e.body ≡ Restore w → (row s (slot net v w)).up ≡ false → (row s (slot net v w)).heard ≡ empty_path)
     → Settles net v e.body s (effect net v s e).state
-settles_effect net v s e none = as_counted (acts net v s e e.body).state (settles_acts net v s e e.body none) where
-  as_counted : (z : State) → Settles net v e.body s z → Settles net v e.body s (record z { counters = record z.counters { handled = z.counters.handled + 1 } })
-  as_counted z (settled h) = settled h
-  as_counted z (kept r b d) = kept r b d
+settles_effect net v s e none = grind (arith, settles_acts)
 
 -- ---- along a history
 
@@ -104,9 +89,7 @@ find_none p [] h = refl
 find_none p (x ∷ xs) h = rw (h x) (find_none p xs h)
 
 opening_best : (net : Net) (v : ℕ) → (v ≡ 0 → ⊥) → empty_path ≡ best net v (opening net v)
-opening_best net v other =
-    rw (ne_eqb v 0 other) (sym (ap (λ o. unwrap_or o empty_path) (find_none (is_choice net v (opening net v)) (paths_of net v)
-    (λ q. and_right (not (bars net v (opening net v).barred q)) (list_any (offers net v q) (opening net v).rows) (none_offered net v q (hops_of net v))))))
+opening_best net v other = grind (arith, ne_eqb, find_none, and_right, not, none_offered)
 
 abbrev pub start : Event
 start = opening_event 0 0 0 Start

@@ -1,5 +1,5 @@
 -- What a router knows and sends is permitted: its path is its own or empty, and an update goes to a neighbour of its sender.
-use Rattle.std.proofs.Common.{◌≡◌, ℕ, ◌==◌, Bool, true, false, List, [], ◌∷◌, length, Option, Some, None, refl, ap, sym, subst, inl, inr, nat_le}
+use Rattle.std.proofs.Common.{arith, ◌≡◌, ℕ, ◌==◌, Bool, true, false, List, [], ◌∷◌, length, Option, Some, None, refl, ap, sym, subst, inl, inr, nat_le}
 use Rattle.std.specs.List.{enumerate_from, find, zip}
 use Rattle.std.specs.Option.{unwrap_or}
 use Rattle.std.proofs.lemmas.Bool.{cases_Bool, and_parts, and_from, or_right, eqb-true, eq-eqb, ltb-true}
@@ -10,7 +10,7 @@ use Rattle.tw_event.specs.declared.event.PathNo.{PathNo}
 use Rattle.tw_model.specs.declared.net.Hop.{Hop}
 use Rattle.tw_model.specs.Net.{Net, hops_of, is_own, is_permitted, empty_path}
 use Rattle.tw_model.specs.Rules.{IsNet}
-use Rattle.tw_model.specs.State.{State, best, has_peer, hop, is_barred, is_choice, row, slot, opening}
+use Rattle.tw_model.specs.State.{State, best, has_peer, hop, is_barred, row, slot, opening}
 use Rattle.tw_model.specs.Effect.{acts, accepts, body_suits, effect, with_bar, with_failed_link, fits, with_heard, settle, suits, with_swap, update_to, ups}
 use Rattle.tw_sim.specs.Simulation.{state}
 use Rattle.tw_model.specs.Case.{Case, simulation}
@@ -33,18 +33,10 @@ permitted_found net v order p own None e = refl
 permitted_found net v order p own (Some q) e = or_right (q.0 == 0) (is_own net v q) (own q (in_find p q order e).1)
 
 pub best_permitted : (net : Net) (v : ℕ) (s : State) → ((q : PathNo) → In q s.order → is_own net v q ≡ true) → is_permitted net v (best net v s) ≡ true
-best_permitted net v s own =
-    elim (cases_Bool (v == 0)) [
-      | inl b ↦ rw b (rw (path_origin net) (eq-eqb 0 v (sym (eqb-true v 0 b))))
-      | inr b ↦ rw b (permitted_found net v s.order (is_choice net v s) own (find (is_choice net v s) s.order) refl)
-    ]
+best_permitted net v s own = grind (arith, cases_Bool, path_origin, eq-eqb, eqb-true, permitted_found)
 
 own_settle : (net : Net) (v t : ℕ) (s : State) → IsOwnState net v s → IsOwnState net v (settle net v t s).state
-own_settle net v t s is =
-    elim (cases_Bool (s.rib.0 == (best net v s).0)) [
-      | inl b ↦ rw b is
-      | inr b ↦ rw b (record { rib = best_permitted net v s is.order; order = is.order })
-    ]
+own_settle net v t s is = grind (arith, cases_Bool, best_permitted)
 
 own_acts : (net : Net) (v : ℕ) (s : State) (e : Event) (b : Body) → IsOwnState net v s → IsOwnState net v (acts net v s e b).state
 own_acts net v s e Start is = own_settle net v e.time s is
@@ -53,11 +45,7 @@ own_acts net v s e (Fail w) is =
       | inl c ↦ rw c (own_settle net v e.time (with_failed_link s (slot net v w)) (record { rib = is.rib; order = is.order }))
       | inr c ↦ rw c is
     ]
-own_acts net v s e (Restore w) is =
-    elim (cases_Bool (row s (slot net v w)).up) [
-      | inl c ↦ rw c is
-      | inr c ↦ rw c (record { rib = is.rib; order = is.order })
-    ]
+own_acts net v s e (Restore w) is = grind arith
 own_acts net v s e (Swap i j) is =
     own_settle net v e.time (with_swap s i j) (record { rib = is.rib; order = λ q h. is.order q (in_swap q s.order _ _ h) })
 own_acts net v s e (Forbid k) is =
@@ -77,9 +65,7 @@ own_acts net v s e (Update q n) is =
     ]
 
 pub own_effect : (net : Net) (v : ℕ) (s : State) (e : Event) → IsOwnState net v s → IsOwnState net v (effect net v s e).state
-own_effect net v s e is =
-    let a = own_acts net v s e e.body is in
-    record { rib = a.rib; order = a.order }
+own_effect net v s e is = grind (arith, own_acts)
 
 pub own_opening : (net : Net) (v : ℕ) → IsOwnState net v (opening net v)
 own_opening net v = record { rib = refl; order = λ q h. ((in_paths_of net v q).0 h).1 }
@@ -161,12 +147,4 @@ to_effect net v s e suit is x h = to_acts net v s e e.body suit is x h
 
 -- and suits its receiver
 pub neighbour_suits : (net : Net) → IsNet net → (v : ℕ) (x : Event) → IsToNeighbour net v x → suits net x.dst x ≡ true
-neighbour_suits net is v x to =
-    let h = to.hop.0 in
-    let q = to.body.0 in
-    let n = to.body.1 in
-    let back : has_peer net h.peer v ≡ true = has_peer_back net is v h.peer (has_peer_of net v h to.hop.1) in
-    let peer : has_peer net x.dst x.src ≡ true = subst (λ d. has_peer net d x.src ≡ true) (sym to.hop.2) (subst (λ s. has_peer net h.peer s ≡ true) (sym to.src) back) in
-    let own : is_permitted net x.src q ≡ true = subst (λ s. is_permitted net s q ≡ true) (sym to.src) to.body.3 in
-    and_from (x.dst == x.dst) (body_suits net x.dst x x.body) (eq-eqb x.dst x.dst refl)
-    (subst (λ b. body_suits net x.dst x b ≡ true) (sym to.body.2) (and_from (has_peer net x.dst x.src) (is_permitted net x.src q) peer own))
+neighbour_suits net is v x to = grind (arith, has_peer_back, has_peer_of, and_from, eq-eqb)

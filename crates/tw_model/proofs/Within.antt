@@ -1,39 +1,26 @@
 -- In a net that keeps the rules, an event that suits a router suits one of the net's.
-use Rattle.std.proofs.Common.{◌≡◌, ℕ, suc, zero, ◌<◌, ◌≤◌, ◌==◌, Bool, true, false, not, ◌&&◌, ◌||◌, List, [], ◌∷◌, ◌++◌, length, map, get_or, refl, ap, inl, inr, arith, nat_lt, nat_le, filter}
-use Rattle.std.specs.List.{range_with_len, list_all}
-use Rattle.std.proofs.lemmas.Bool.{cases_lt, eqb-true, ltb-true, ne_eqb, both_ways, and_parts, or_parts, not-false, and_left, and_right, lt-leb, false_from_ne_true}
+use Rattle.std.proofs.Common.{◌≡◌, ℕ, suc, zero, ◌<◌, ◌≤◌, ◌==◌, Bool, true, false, not, ◌&&◌, List, [], ◌∷◌, ◌++◌, length, map, get_or, refl, ap, arith, nat_le, filter}
+use Rattle.std.specs.List.{range_with_len}
+use Rattle.std.proofs.lemmas.Bool.{cases_lt, ltb-true, ne_eqb, both_ways, and_parts, and_left, and_right, lt-leb, false_from_ne_true}
 use Rattle.tw_event.specs.declared.event.Body.{Body}
 use Rattle.tw_event.specs.declared.event.Body.TheVariants.{Start, Fail, Restore, Swap, Forbid, Allow, Update}
 use Rattle.tw_event.specs.declared.event.Event.{Event}
 use Rattle.tw_model.specs.declared.net.Link.{Link}
-use Rattle.tw_model.specs.declared.rule.Rule.TheVariants.{Range, PathOwner}
 use Rattle.tw_model.specs.PermittedPath.{PermittedPath}
 use Rattle.tw_model.specs.Net.{Net, begins_at, hops_of, is_permitted, paths, paths_of}
-use Rattle.tw_model.specs.Rules.{IsNet, PathsFollow, has_line, has_place, path_breaks}
+use Rattle.tw_model.specs.Rules.{IsNet, PathsFollow, has_line, has_place}
 use Rattle.tw_model.specs.State.{has_peer, hop, slot}
 use Rattle.tw_model.specs.Effect.{body_suits, suits}
 use Rattle.tw_model.proofs.Nets.{hop_in_hops, neighbour, nodes_within}
-use Rattle.tw_model.proofs.Unbroken.{none_broken}
 
 filter-none : {A : Type 0} (p : A → Bool) (xs : List A) → ((x : A) → p x ≡ false) → filter p xs ≡ []
 filter-none p [] h = refl
 filter-none p (x ∷ xs) h = rw (h x) (filter-none p xs h)
 
-begins_only : (p : List ℕ) (u v : ℕ) → begins_at p u ≡ true → u < v → begins_at p v ≡ false
-begins_only [] u v h lt = refl
-begins_only (x ∷ p) u v h lt = ne_eqb x v (λ e. let k = eqb-true x u h in omega arith)
-
 none_begins : (nodes : ℕ) (links : List Link) (before paths : List PermittedPath) (k v : ℕ) → nodes ≤ v
     → PathsFollow (record { nodes = nodes; links = links; permitted = before }) paths → begins_at (get_or (map (λ l. l.nodes) paths) k []) v ≡ false
 none_begins nodes links before [] k v out h = refl
-none_begins nodes links before (p ∷ paths) zero v out h =
-    let net : Net = record { nodes = nodes; links = links; permitted = before } in
-    let range : not (nat_lt p.owner nodes && list_all (λ x. nat_lt x nodes) p.nodes) ≡ false = none_broken (path_breaks net p) h.0 Range in
-    let owned : (p.owner == 0 || not (begins_at p.nodes p.owner)) ≡ false = none_broken (path_breaks net p) h.0 PathOwner in
-    let below = ltb-true p.owner nodes (and_parts (nat_lt p.owner nodes) (list_all (λ x. nat_lt x nodes) p.nodes)
-    (not-false (nat_lt p.owner nodes && list_all (λ x. nat_lt x nodes) p.nodes) range)).0 in
-    let begins = not-false (begins_at p.nodes p.owner) (or_parts (p.owner == 0) (not (begins_at p.nodes p.owner)) owned).1 in
-    begins_only p.nodes p.owner v begins (omega arith)
+none_begins nodes links before (p ∷ paths) zero v out h = grind arith
 none_begins nodes links before (p ∷ paths) (suc k) v out h = none_begins nodes links (before ++ p ∷ []) paths k v out h.1
 
 no_path : (net : Net) (k v : ℕ) → IsNet net → net.nodes ≤ v → begins_at (get_or (paths net) k []) v ≡ false
@@ -55,11 +42,7 @@ no_peer net v w h out =
     absurd (omega arith)))
 
 no_place : (net : Net) (v i : ℕ) → IsNet net → net.nodes ≤ v → has_place net v i ≡ false
-no_place net v i h out =
-    rw (no_paths net v h out) (elim (cases_lt i 1) [
-      | inl lt ↦ and_left (nat_le 1 i) (nat_le i 0) (lt-leb 1 i lt)
-      | inr some ↦ and_right (nat_le 1 i) (nat_le i 0) (lt-leb i 0 some)
-    ])
+no_place net v i h out = grind (arith, no_paths, cases_lt, and_left, nat_le, lt-leb, and_right)
 
 suits_no : (net : Net) (v : ℕ) (e : Event) (b : Body) → IsNet net → net.nodes ≤ v → body_suits net v e b ≡ false
 suits_no net v e Start h out = let some = (nodes_within net.nodes h.nodes).0 in let no : (v == 0) ≡ false = ne_eqb v 0 (λ z. omega arith) in rw no (and_right (e.src == v) false refl)
@@ -72,8 +55,4 @@ suits_no net v e (Update q n) h out = and_left (has_peer net v e.src) (is_permit
 
 -- an event that suits a router suits one of the net's
 pub suits_within : (net : Net) (v : ℕ) (e : Event) → IsNet net → suits net v e ≡ true → v < net.nodes
-suits_within net v e h s =
-    elim (cases_lt v net.nodes) [
-      | inl lt ↦ lt
-      | inr out ↦ absurd (both_ways (body_suits net v e e.body) (suits_no net v e e.body h out) (and_parts (e.dst == v) (body_suits net v e e.body) s).1)
-    ]
+suits_within net v e h s = grind (arith, cases_lt, both_ways, suits_no, and_parts)
